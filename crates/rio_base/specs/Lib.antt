@@ -1,0 +1,4 @@
+pub mod Counts
+pub mod Streams
+pub mod MemStreams
+pub mod Pieces
