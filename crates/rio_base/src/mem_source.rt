@@ -70,6 +70,7 @@ impl Source for MemSource {
         ensures bound { IfOk result (λ n. n ≤ length into.new) }
         ensures bytes { IfOk result (λ n. ⟦<MemSource as Source>⟧.left self.old ≡ prepended (take n into.new) (⟦<MemSource as Source>⟧.left self.new)) }
         ensures end { result ≡ Ok 0 → 0 < length into.new → IsSpent (⟦<MemSource as Source>⟧.left self.new) }
+        ensures steady { OnOk result (self.new.faults ≡ self.old.faults) }
         ensures err { OnErr result (⟦<MemSource as Source>⟧.left self.new ≡ ⟦<MemSource as Source>⟧.left self.old) }
         ensures cause { HasCause result self.old.faults self.new.faults }
         ensures certain { self.old.failing ≡ [] → IsOk result }

@@ -20,6 +20,7 @@ pub trait Sink {
         ensures bound { IfOk result (λ n. n ≤ length from.now) }
         ensures bytes { IfOk result (λ n. written self.new ≡ appended (written self.old) (take n from.now)) }
         ensures nothing { result ≡ Ok 0 → 0 < length from.now → Rose (faults self.old) (faults self.new) }
+        ensures steady { IfOk result (λ n. 0 < n → faults self.new ≡ faults self.old) }
         ensures err { OnErr result (written self.new ≡ written self.old) }
         ensures cause { HasCause result (faults self.old) (faults self.new) };
 }

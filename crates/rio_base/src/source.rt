@@ -1,6 +1,6 @@
 //! Where input comes from.
 
-ghost use Rattle.std.specs.Prelude.{◌≡◌, ◌<◌, ◌≤◌, ℕ, List, Option, Result, Ok, IfOk, OnErr, length, take};
+ghost use Rattle.std.specs.Prelude.{◌≡◌, ◌<◌, ◌≤◌, ℕ, List, Option, Result, Ok, IfOk, OnOk, OnErr, length, take};
 ghost use Rattle.rio_base.specs.Counts.{HasCause};
 ghost use Rattle.rio_base.specs.Streams.{prepended, IsSpent};
 
@@ -20,6 +20,7 @@ pub trait Source {
         ensures bound { IfOk result (λ n. n ≤ length into.new) }
         ensures bytes { IfOk result (λ n. left self.old ≡ prepended (take n into.new) (left self.new)) }
         ensures end { result ≡ Ok 0 → 0 < length into.new → IsSpent (left self.new) }
+        ensures steady { OnOk result (faults self.new ≡ faults self.old) }
         ensures err { OnErr result (left self.new ≡ left self.old) }
         ensures cause { HasCause result (faults self.old) (faults self.new) };
 }

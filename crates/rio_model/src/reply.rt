@@ -1,0 +1,31 @@
+//! What a request is answered.
+
+use rio_base::{Ino, InoList, NameList, Octets};
+
+/// The reply to a request.
+#[derive(Debug, Drop)]
+pub enum Reply {
+    /// Done.
+    Ok,
+    /// Done, with an inode number, a count of bytes or a place.
+    Number(u64),
+    /// Bytes that were read.
+    Bytes(Octets),
+    /// What stands at a path.
+    Stat {
+        /// Its inode.
+        ino: Ino,
+        /// 1 for a directory, 2 for a file, 3 for a region.
+        kind: u8,
+        /// Its size in bytes.
+        size: u64,
+    },
+    /// Names, in byte order.
+    Names(NameList),
+    /// Inode numbers.
+    Inos(InoList),
+    /// Refused, by this number. Never 30.
+    Err(u8),
+    /// A device fault, after so many bytes.
+    Fault(u64),
+}
