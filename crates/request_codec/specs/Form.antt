@@ -1,5 +1,5 @@
 -- The grammar of request lines. A line has one of these forms or is no request.
-use Rattle.std.specs.Prelude.{◌≡◌, ◌<◌, ◌≤◌, ◌+◌, ◌*◌, ◌^◌, ℕ, List, [], ◌∷◌, ◌++◌, length, slice_index, codes, Option, Some, None}
+use Rattle.std.specs.Prelude.{◌≡◌, ◌<◌, ◌≤◌, ◌+◌, ◌*◌, ◌^◌, ℕ, List, ◌∷◌, ◌++◌, length, slice_index, codes, Option, Some, None}
 use Rattle.std.specs.Fmt.{decimal}
 use Rattle.hex.specs.Hex.{hex_digit_value}
 use Rattle.rio_model.specs.declared.request.Request.{Request}

@@ -1,3 +1,5 @@
 pub mod Form
 pub mod Lines
+pub mod Reading
 pub mod Text
+pub mod Gathered

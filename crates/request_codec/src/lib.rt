@@ -1,6 +1,8 @@
 //! Request lines and reply lines: what each line asks for, and how each reply is written.
 #![tactic(auto)]
 
+mod gathered;
 mod lines;
+mod piece;
 
-pub use lines::{LineFail, NextLine};
+pub use lines::{INPUT_LIMIT, LineFail, LineReader, NextLine};

@@ -1,7 +1,20 @@
 //! Lines of an input, read in large pieces.
 
-use rio_base::Octets;
+ghost use Rattle.std.specs.Prelude.{◌≡◌, ◌≤◌, ◌^◌, true, false, [], Ok, IfOk, IfErr, OnOk, IsErrOf};
+ghost use Rattle.request_codec.specs.declared.lines.NextLine.TheVariants.{End};
+ghost use Rattle.rio_base.specs.Counts.{Rose};
+ghost use Rattle.rio_base.specs.Streams.{IsSpent};
+ghost use Rattle.request_codec.specs.Lines.{Fails, Gives, Refills};
+
+use crate::gathered::{Gathered, gather};
+use crate::piece::Piece;
+use rio_base::{Octets, Source};
+use std::alloc::{AllocError, Global};
+use std::marker::Model;
 use thiserror::Error;
+
+/// How many bytes of input are taken at most: 2^40, or 1,099,511,627,776.
+pub const INPUT_LIMIT: u64 = 1 << 40;
 
 /// What comes next in the input.
 #[derive(Debug, Drop)]
@@ -26,4 +39,125 @@ pub enum LineFail {
     /// There was no memory for the line.
     #[error("out of memory")]
     Memory,
+}
+
+impl From<AllocError> for LineFail {
+    ghost use Rattle.std.specs.Prelude.{◌≡◌};
+    ghost use Rattle.request_codec.specs.declared.lines.LineFail.TheVariants.{Memory};
+
+    ghost from_gives = { λ _ fail. fail ≡ Memory };
+
+    fn from(_e: AllocError) -> LineFail {
+        LineFail::Memory
+    }
+}
+
+/// Gives the lines of a source one by one, reading it in pieces of 128 KiB. Contracts see the bytes that it holds and
+/// how many it took.
+#[derive(Drop)]
+pub struct LineReader {
+    alloc: Global,
+    piece: Piece,
+    taken: u64,
+    ended: bool,
+}
+
+impl Model for LineReader {
+    ghost use Rattle.request_codec.specs.Reading.{Reading};
+    ghost use Rattle.std.specs.Prelude.{◌≡◌, true, []};
+
+    ghost Value = { Reading };
+
+    ghost view = { λ a. record { held = a.piece; taken = a.taken; ended = a.ended } };
+
+    ghost invariant = { λ a. a.ended ≡ true → a.piece ≡ [] };
+}
+
+impl LineReader {
+    /// A reader that has taken nothing yet.
+    pub fn new(alloc: Global) -> Result<LineReader, AllocError>
+        ensures { IfOk result (λ reader. reader ≡ record { held = []; taken = 0; ended = false }) }
+    {
+        let piece = Piece::new(alloc)?;
+        Ok(LineReader {
+            alloc,
+            piece,
+            taken: 0,
+            ended: false,
+        })
+    }
+
+    /// The next line of the input, which must not have gone past its limit. Once the input has ended it isn't read
+    /// again. A failure of the source or of memory loses what was gathered of the line.
+    pub fn next_line<S: Source>(&mut self, source: &mut S) -> Result<NextLine, LineFail>
+        requires within { self.old.taken ≤ 2 ^ 40 }
+        requires spent { self.old.ended ≡ true → IsSpent (S.left source.old) }
+        ensures line { IfOk result (λ next. Gives self.old (S.left source.old) next self.new (S.left source.new)) }
+        ensures err { IfErr result (λ fail. Fails self.old (S.left source.old) fail self.new (S.left source.new)) }
+        ensures within { OnOk result (self.new.taken ≤ 2 ^ 40) }
+        ensures spent { self.old.ended ≡ true → (result ≡ Ok End) × (S.left source.new ≡ S.left source.old) }
+        ensures later { S.faults source.old ≤ S.faults source.new }
+        ensures cause { IsErrOf result LineFail.Fault → Rose (S.faults source.old) (S.faults source.new) }
+    {
+        if self.ended {
+            return Ok(NextLine::End);
+        }
+        let mut line = Gathered::new(self.alloc);
+        loop {
+            if gather(&mut self.piece, &mut line)? {
+                return Ok(line.finish());
+            }
+            if !self.refill(source)? {
+                return Ok(line.finish_last());
+            }
+        }
+    }
+
+    /// Reads the next piece, where nothing is held, and answers whether there was one.
+    fn refill<S: Source>(&mut self, source: &mut S) -> Result<bool, LineFail>
+        requires empty { self.old.held ≡ [] }
+        requires unended { self.old.ended ≡ false }
+        requires within { self.old.taken ≤ 2 ^ 40 }
+        ensures more { IfOk result (λ more. Refills self.old (S.left source.old) more self.new (S.left source.new)) }
+        ensures err { IfErr result (λ fail. Fails self.old (S.left source.old) fail self.new (S.left source.new)) }
+        ensures later { S.faults source.old ≤ S.faults source.new }
+        ensures cause { IsErrOf result LineFail.Fault → Rose (S.faults source.old) (S.faults source.new) }
+    {
+        if self.taken >= INPUT_LIMIT {
+            return self.look_past(source);
+        }
+        let most = (INPUT_LIMIT - self.taken) as usize;
+        match self.piece.fill(source, most) {
+            Ok(count) => {
+                self.taken += count as u64;
+                self.ended = count == 0;
+                Ok(count > 0)
+            }
+            Err(_) => Err(LineFail::Fault),
+        }
+    }
+
+    /// Looks for a byte past the limit: there is none at the end of the input.
+    fn look_past<S: Source>(&mut self, source: &mut S) -> Result<bool, LineFail>
+        requires empty { self.old.held ≡ [] }
+        requires unended { self.old.ended ≡ false }
+        requires full { self.old.taken ≡ 2 ^ 40 }
+        ensures more { IfOk result (λ more. Refills self.old (S.left source.old) more self.new (S.left source.new)) }
+        ensures err { IfErr result (λ fail. Fails self.old (S.left source.old) fail self.new (S.left source.new)) }
+        ensures later { S.faults source.old ≤ S.faults source.new }
+        ensures cause { IsErrOf result LineFail.Fault → Rose (S.faults source.old) (S.faults source.new) }
+    {
+        match self.piece.fill(source, 1) {
+            Ok(0) => {
+                self.ended = true;
+                Ok(false)
+            }
+            Ok(count) => {
+                self.piece.skip(count);
+                self.taken += count as u64;
+                Err(LineFail::Limit)
+            }
+            Err(_) => Err(LineFail::Fault),
+        }
+    }
 }

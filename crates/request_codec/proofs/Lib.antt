@@ -1,0 +1,4 @@
+pub mod Held
+pub mod LineEnds
+pub mod Gathering
+pub mod Passing
