@@ -1,6 +1,6 @@
 -- What a request answers, and the state after it. Each request refuses for the first reason that holds, in the order
 -- written here, and then leaves the state as it was.
-use Rattle.std.specs.Prelude.{◌≡◌, ◌+◌, ◌-◌, ◌*◌, ◌==◌, nat_le, ℕ, Bool, true, false, not, List, [], ◌∷◌, ◌++◌, length, map, filter, take, drop, slice_index_or, Option, Some, None, is_some, is_none, Result, Ok, Err, if◌then◌else◌, find}
+use Rattle.std.specs.Prelude.{◌-◌, ◌==◌, ℕ, List, [], ◌∷◌, ◌++◌, length, map, filter, take, drop, slice_index_or, Option, Some, None, is_none, Result, Ok, Err, if◌then◌else◌, find}
 use Rattle.std.specs.List.{range_with_len}
 use Rattle.std.specs.FinMap.{get, insert, keys, contains_key}
 use Rattle.rio_model.specs.declared.node.Node.{Node}

@@ -1,9 +1,9 @@
 -- Names and paths, and what stands at a path.
-use Rattle.std.specs.Prelude.{◌≡◌, ◌≢◌, ◌≤◌, ℕ, Bool, true, false, List, [], ◌∷◌, ◌++◌, length, All, drop, codes, Option, Some, None, Result, Ok, Err, if◌then◌else◌}
+use Rattle.std.specs.Prelude.{◌≢◌, ◌≤◌, ℕ, Bool, true, false, List, [], ◌∷◌, length, All, drop, codes, Option, Some, None, Result, Ok, Err, if◌then◌else◌}
 use Rattle.std.specs.FinMap.{get}
 use Rattle.rio_base.specs.Pieces.{pieces}
 use Rattle.rio_model.specs.declared.node.Node.{Node}
-use Rattle.rio_model.specs.declared.node.Node.TheVariants.{Dir, File, Region}
+use Rattle.rio_model.specs.declared.node.Node.TheVariants.{Dir}
 use Rattle.rio_model.specs.declared.state.State.{State}
 
 -- a byte that may stand in a name: 0x21 to 0x7e, but no slash

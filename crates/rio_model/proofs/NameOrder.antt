@@ -1,0 +1,64 @@
+-- The order of names is total and ties only equal keys, so what the laws of finite maps say holds of names.
+use Rattle.std.proofs.Common.{◌≡◌, ◌≢◌, ◌==◌, ◌&&◌, ℕ, true, false, cond, List, refl, sym, ap, ◌∙◌, arith}
+use Rattle.std.specs.Prelude.{Some, None}
+use Rattle.std.specs.declared.cmp.Ordering.{Ordering}
+use Rattle.std.specs.declared.cmp.Ordering.TheVariants.{Less, Equal, Greater}
+use Rattle.std.specs.Ordering.{nat_cmp, eq_by_cmp, is_eq}
+use Rattle.std.specs.Str.{bytes_eq}
+use Rattle.std.specs.Cmp.{IsTotalOrder, nat_cmp_total, tied_then}
+use Rattle.std.specs.Cmp.Lexicographic.{slice_cmp, nat_list_cmp_total}
+use Rattle.std.specs.FinMap.{get, insert, from_entries, find, entries, put, get-insert, get-remove, get-from_entries, entries-insert, same_map, remove}
+use Rattle.std.proofs.lemmas.Bool.Decides.{nat_tests}
+use Rattle.std.proofs.lemmas.Cmp.{on_total, then_total, tied_itself}
+use Rattle.std.proofs.lemmas.Map.Lookups.{exact_pairs, exact_unsigned, exact_bytes}
+use Rattle.std.proofs.lemmas.Map.Text.{is_eq-slice_cmp}
+use Rattle.rio_model.specs.Names.{NameKey, Names, name_cmp}
+
+pub name_total : IsTotalOrder name_cmp
+name_total = then_total (on_total (λ (k : NameKey). k.0) nat_cmp_total) (on_total (λ (k : NameKey). k.1) nat_list_cmp_total)
+
+-- only equal keys tie
+pub name_exact : (a b : NameKey) → name_cmp a b ≡ Equal → a ≡ b
+name_exact a b e = exact_pairs nat_cmp (slice_cmp nat_cmp) exact_unsigned exact_bytes a b e
+
+pub nat_tied : (x y : ℕ) → is_eq (nat_cmp x y) ≡ (x == y)
+nat_tied x y = grind (arith, nat_tests)
+
+-- keys tie as a program compares them
+pub name_tied : (a b : NameKey) → eq_by_cmp name_cmp a b ≡ ((a.0 == b.0) && bytes_eq a.1 b.1)
+name_tied a b = sym (tied_then (nat_cmp a.0 b.0) (slice_cmp nat_cmp a.1 b.1)) ∙ rw (nat_tied a.0 b.0, is_eq-slice_cmp a.1 b.1) refl
+
+pub name_itself : (k : NameKey) → eq_by_cmp name_cmp k k ≡ true
+name_itself k = ap is_eq (tied_itself name_total k)
+
+not_equal : (r : Ordering) → r ≢ Equal → is_eq r ≡ false
+not_equal Less n = refl
+not_equal Equal n = absurd (n refl)
+not_equal Greater n = refl
+
+pub name_apart : (a b : NameKey) → a ≢ b → eq_by_cmp name_cmp a b ≡ false
+name_apart a b n = not_equal _ (λ e. n (name_exact a b e))
+
+pub name_get-insert : (m : Names) (k : NameKey) (v : ℕ) (q : NameKey) → get (insert m k v) q ≡ cond (eq_by_cmp name_cmp q k) (Some v) (get m q)
+name_get-insert = get-insert name_total
+
+pub name_get-remove : (m : Names) (k q : NameKey) → get (remove m k) q ≡ cond (eq_by_cmp name_cmp q k) None (get m q)
+name_get-remove = get-remove name_total
+
+pub name_get-from_entries : (es : List (NameKey × ℕ)) (q : NameKey) → get (from_entries {R = name_cmp} es) q ≡ find name_cmp q es
+name_get-from_entries = get-from_entries name_total
+
+pub name_entries-insert : (m : Names) (k : NameKey) (v : ℕ) → entries (insert m k v) ≡ put name_cmp k v (entries m)
+name_entries-insert = entries-insert name_total
+
+pub name_get_same : (m : Names) (k : NameKey) (v : ℕ) → get (insert m k v) k ≡ Some v
+name_get_same m k v = name_get-insert m k v k ∙ ap (λ b. cond b (Some v) (get m k)) (name_itself k)
+
+pub name_get_other : (m : Names) (k : NameKey) (v : ℕ) (q : NameKey) → q ≢ k → get (insert m k v) q ≡ get m q
+name_get_other m k v q n = name_get-insert m k v q ∙ ap (λ b. cond b (Some v) (get m q)) (name_apart q k n)
+
+-- two maps of names that answer alike are equal
+pub same_names : (m n : Names) → ((q : NameKey) → get m q ≡ get n q) → m ≡ n
+same_names = same_map name_total name_exact
+
+pub ruleset name_gets = (name_get-insert, name_get-remove, name_get-from_entries, name_itself)
