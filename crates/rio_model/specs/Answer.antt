@@ -29,9 +29,13 @@ answered s reply = record { next = s; reply = Some reply }
 abbrev pub least_free : State → Option ℕ
 least_free s = find (λ i. is_none (get s.nodes i)) (range_with_len 1 s.shape.inodes)
 
+-- the names among these keys that stand in a directory, in the order of the keys
+abbrev pub names_below : List NameKey → ℕ → List (List ℕ)
+names_below names dir = map (λ key. key.1) (filter (λ (key : NameKey). key.0 == dir) names)
+
 -- the names in a directory, in byte order
 abbrev pub names_in : State → ℕ → List (List ℕ)
-names_in s dir = map (λ key. key.1) (filter (λ (key : NameKey). key.0 == dir) (keys s.names))
+names_in s dir = names_below (keys s.names) dir
 
 -- a file's bytes with these over them from its start on, the rest kept
 abbrev pub overwritten : List ℕ → List ℕ → List ℕ

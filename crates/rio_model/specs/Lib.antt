@@ -1,6 +1,7 @@
+pub mod Answer
+pub mod Codes
+pub mod Fresh
 pub mod Names
 pub mod Nodes
-pub mod Answer
-pub mod Fresh
 pub mod Paths
 pub mod Run

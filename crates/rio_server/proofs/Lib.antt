@@ -1,0 +1,6 @@
+pub mod Names
+pub mod Files
+pub mod Added
+pub mod Steps
+pub mod TableSteps
+pub mod Listed

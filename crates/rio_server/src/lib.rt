@@ -1,0 +1,4 @@
+//! Serving: requests answered one after another, and whole runs of the program.
+#![tactic(auto)]
+
+mod table;
