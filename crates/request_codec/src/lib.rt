@@ -1,6 +1,10 @@
 //! Request lines and reply lines: what each line asks for, and how each reply is written.
 #![tactic(auto)]
 
+mod hex_text;
 mod lines;
+mod pen;
+mod reply_text;
 
 pub use lines::{LineFail, NextLine};
+pub use reply_text::{write_reply, write_text};
