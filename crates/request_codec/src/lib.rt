@@ -2,7 +2,11 @@
 #![tactic(auto)]
 
 mod gathered;
+mod hex_text;
 mod lines;
+mod pen;
 mod piece;
+mod reply_text;
 
 pub use lines::{INPUT_LIMIT, LineFail, LineReader, NextLine};
+pub use reply_text::{write_reply, write_text};

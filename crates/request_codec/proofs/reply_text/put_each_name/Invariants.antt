@@ -1,0 +1,13 @@
+use Rattle.std.proofs.Common.{flat_map, length, take, ◌≤◌}
+use Rattle.request_codec.specs.Sending.{Sent}
+use Rattle.request_codec.specs.Text.{listed_name}
+use Rattle.request_codec.proofs.reply_text.put_each_name.Given as goal
+
+abbrev pub invariant-names : goal.invariant-names
+invariant-names g l =
+    let written = g.K.Sink.written in
+    let faults = g.K.Sink.faults in
+    record {
+      few : l.name-index ≤ length l.names;
+      sent : Sent (written l.fn.sink) (faults l.fn.sink) l.fn.pen (flat_map listed_name (take l.name-index l.names)) (written l.sink) (faults l.sink) l.pen;
+    }
