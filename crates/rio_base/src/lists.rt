@@ -3,6 +3,7 @@
 ghost use Rattle.std.specs.Prelude.{◌≡◌};
 
 use crate::places::{Block, Ino};
+use std::alloc::AllocError;
 use std::marker::Model;
 
 /// Bytes, as those of a path, a file or a line.
@@ -43,6 +44,15 @@ impl From<Vec<u8>> for Octets {
     }
 }
 
+impl Clone for Octets {
+    ghost is_clone = { λ old new. new ≡ old };
+
+    fn clone(&self) -> Result<Octets, AllocError> {
+        let bytes = self.bytes.clone()?;
+        Ok(Octets { bytes })
+    }
+}
+
 /// Words of memory or of a region, each 8 bytes.
 #[derive(Debug, Drop)]
 pub struct Words {
@@ -78,6 +88,15 @@ impl From<Vec<u64>> for Words {
 
     fn from(words: Vec<u64>) -> Words {
         Words { words }
+    }
+}
+
+impl Clone for Words {
+    ghost is_clone = { λ old new. new ≡ old };
+
+    fn clone(&self) -> Result<Words, AllocError> {
+        let words = self.words.clone()?;
+        Ok(Words { words })
     }
 }
 
@@ -235,6 +254,15 @@ impl From<Vec<(u32, u32)>> for HeapList {
     }
 }
 
+impl Clone for HeapList {
+    ghost is_clone = { λ old new. new ≡ old };
+
+    fn clone(&self) -> Result<HeapList, AllocError> {
+        let blocks = self.blocks.clone()?;
+        Ok(HeapList { blocks })
+    }
+}
+
 /// Ranges of a region's words: the first word of each, and how many words it has.
 #[derive(Debug, Drop)]
 pub struct RangeList {
@@ -270,5 +298,14 @@ impl From<Vec<(u32, u32)>> for RangeList {
 
     fn from(ranges: Vec<(u32, u32)>) -> RangeList {
         RangeList { ranges }
+    }
+}
+
+impl Clone for RangeList {
+    ghost is_clone = { λ old new. new ≡ old };
+
+    fn clone(&self) -> Result<RangeList, AllocError> {
+        let ranges = self.ranges.clone()?;
+        Ok(RangeList { ranges })
     }
 }

@@ -1,1 +1,4 @@
 pub mod NameOrder
+pub mod PathPieces
+pub mod Listing
+pub mod FreeInodes

@@ -1,5 +1,5 @@
 -- The order of names is total and ties only equal keys, so what the laws of finite maps say holds of names.
-use Rattle.std.proofs.Common.{◌≡◌, ◌≢◌, ◌==◌, ◌&&◌, ℕ, true, false, cond, List, refl, sym, ap, ◌∙◌, arith}
+use Rattle.std.proofs.Common.{◌≡◌, ◌≢◌, ◌==◌, ◌&&◌, ℕ, Bool, true, false, cond, List, refl, sym, ap, ◌∙◌, arith}
 use Rattle.std.specs.Prelude.{Some, None}
 use Rattle.std.specs.declared.cmp.Ordering.{Ordering}
 use Rattle.std.specs.declared.cmp.Ordering.TheVariants.{Less, Equal, Greater}
@@ -8,7 +8,7 @@ use Rattle.std.specs.Str.{bytes_eq}
 use Rattle.std.specs.Cmp.{IsTotalOrder, nat_cmp_total, tied_then}
 use Rattle.std.specs.Cmp.Lexicographic.{slice_cmp, nat_list_cmp_total}
 use Rattle.std.specs.FinMap.{get, insert, from_entries, find, entries, put, get-insert, get-remove, get-from_entries, entries-insert, same_map, remove}
-use Rattle.std.proofs.lemmas.Bool.Decides.{nat_tests}
+use Rattle.std.proofs.lemmas.Bool.Decides.{nat_tests, Decides-eqb}
 use Rattle.std.proofs.lemmas.Cmp.{on_total, then_total, tied_itself}
 use Rattle.std.proofs.lemmas.Map.Lookups.{exact_pairs, exact_unsigned, exact_bytes}
 use Rattle.std.proofs.lemmas.Map.Text.{is_eq-slice_cmp}
@@ -27,6 +27,10 @@ nat_tied x y = grind (arith, nat_tests)
 -- keys tie as a program compares them
 pub name_tied : (a b : NameKey) → eq_by_cmp name_cmp a b ≡ ((a.0 == b.0) && bytes_eq a.1 b.1)
 name_tied a b = sym (tied_then (nat_cmp a.0 b.0) (slice_cmp nat_cmp a.1 b.1)) ∙ rw (nat_tied a.0 b.0, is_eq-slice_cmp a.1 b.1) refl
+
+-- the same of two names in one directory
+pub name_tied_in : (d e : ℕ) (a b : List ℕ) (r : Bool) → d ≡ e → r ≡ bytes_eq a b → r ≡ eq_by_cmp name_cmp (d, a) (e, b)
+name_tied_in d e a b r same is = is ∙ sym (name_tied (d, a) (e, b) ∙ ap (λ t. t && bytes_eq a b) ((Decides-eqb d e).1 same))
 
 pub name_itself : (k : NameKey) → eq_by_cmp name_cmp k k ≡ true
 name_itself k = ap is_eq (tied_itself name_total k)

@@ -10,19 +10,16 @@ use Rattle.rio_model.specs.declared.request.Request.{Request}
 use Rattle.rio_model.specs.declared.request.Request.TheVariants.{Create, Write, Read, List as ListOf}
 use Rattle.rio_model.specs.declared.reply.Reply.{Reply}
 use Rattle.rio_model.specs.declared.reply.Reply.TheVariants.{Number, Bytes, Names as NamesOf, Err as Refused}
+use Rattle.rio_model.specs.declared.plain.Answered.{Answered}
 use Rattle.rio_model.specs.Names.{NameKey}
 use Rattle.rio_model.specs.Paths.{names_of, walk, walk_to_dir}
 
-pub record Outcome : Type 0 where
-  pub next : State
-  pub reply : Option Reply
-
 -- refused by this number: nothing changes
-abbrev pub refused : State → ℕ → Outcome
+abbrev pub refused : State → ℕ → Answered
 refused s number = record { next = s; reply = Some (Refused number) }
 
 -- answered, and the state after it
-abbrev pub answered : State → Reply → Outcome
+abbrev pub answered : State → Reply → Answered
 answered s reply = record { next = s; reply = Some reply }
 
 -- the least inode from 1 to I that no node has
@@ -53,12 +50,12 @@ abbrev pub with_node : State → ℕ → Node → State
 with_node s i node = record s { nodes = insert s.nodes i node }
 
 -- 12 where no inode is free, else the least one is taken
-abbrev pub make_at : State → ℕ → List ℕ → Node → Option ℕ → Outcome
+abbrev pub make_at : State → ℕ → List ℕ → Node → Option ℕ → Answered
 make_at s dir name node None = refused s 12
 make_at s dir name node (Some i) = answered (with_new s dir name i node) (Number i)
 
 -- a new node under the last name: 2 and 4 of the directory that is to hold it, then 3 where the name is there
-abbrev pub make_in : State → Result ℕ ℕ → List ℕ → Node → Outcome
+abbrev pub make_in : State → Result ℕ ℕ → List ℕ → Node → Answered
 make_in s (Err number) name node = refused s number
 make_in s (Ok dir) name node = if contains_key s.names (dir, name) then refused s 3 else make_at s dir name node (least_free s)
 
@@ -69,40 +66,46 @@ abbrev pub last_of : List (List ℕ) → List ℕ
 last_of names = slice_index_or names (length names - 1) []
 
 -- `/` is there already
-abbrev pub make : State → List (List ℕ) → Node → Outcome
+abbrev pub make : State → List (List ℕ) → Node → Answered
 make s [] node = refused s 3
 make s (name ∷ names) node = make_in s (walk_to_dir s (front_of (name ∷ names))) (last_of (name ∷ names)) node
 
 -- what a request on a file's bytes comes to: 5 at a directory, 7 at a region
-abbrev pub on_file : State → Option Node → (List ℕ → Outcome) → Outcome
+abbrev pub on_file : State → Option Node → (List ℕ → Answered) → Answered
 on_file s (Some (File bytes)) go = go bytes
 on_file s (Some Dir) go = refused s 5
 on_file s (Some (Region r)) go = refused s 7
 on_file s None go = refused s 2
 
 -- what a request comes to at the inode that a walk ended at
-abbrev pub at_inode : State → Result ℕ ℕ → (ℕ → Outcome) → Outcome
+abbrev pub at_inode : State → Result ℕ ℕ → (ℕ → Answered) → Answered
 at_inode s (Ok i) go = go i
 at_inode s (Err number) go = refused s number
 
-abbrev pub create : State → List ℕ → Outcome
+abbrev pub create : State → List ℕ → Answered
 create s path = make s (names_of path) (File [])
 
--- the number of bytes written
-abbrev pub write_at_start : State → List ℕ → List ℕ → Outcome
-write_at_start s path bytes =
-    at_inode s (walk s 1 (names_of path)) (λ i. on_file s (get s.nodes i) (λ old.
-    answered (with_node s i (File (overwritten old bytes))) (Number (length bytes))))
+-- the number of bytes written over the first ones of a file
+abbrev pub write_inode : State → List ℕ → ℕ → Answered
+write_inode s bytes i = on_file s (get s.nodes i) (λ old. answered (with_node s i (File (overwritten old bytes))) (Number (length bytes)))
 
-abbrev pub read : State → List ℕ → ℕ → ℕ → Outcome
-read s path off len =
-    at_inode s (walk s 1 (names_of path)) (λ i. on_file s (get s.nodes i) (λ bytes. answered s (Bytes (bytes_from bytes off len))))
+abbrev pub write_at_start : State → List ℕ → List ℕ → Answered
+write_at_start s path bytes = at_inode s (walk s 1 (names_of path)) (write_inode s bytes)
 
-abbrev pub list : State → List ℕ → Outcome
-list s path = at_inode s (walk_to_dir s (names_of path)) (λ dir. answered s (NamesOf (names_in s dir)))
+abbrev pub read_inode : State → ℕ → ℕ → ℕ → Answered
+read_inode s off len i = on_file s (get s.nodes i) (λ bytes. answered s (Bytes (bytes_from bytes off len)))
+
+abbrev pub read : State → List ℕ → ℕ → ℕ → Answered
+read s path off len = at_inode s (walk s 1 (names_of path)) (read_inode s off len)
+
+abbrev pub list_dir : State → ℕ → Answered
+list_dir s dir = answered s (NamesOf (names_in s dir))
+
+abbrev pub list : State → List ℕ → Answered
+list s path = at_inode s (walk_to_dir s (names_of path)) (list_dir s)
 
 -- requests that are not served yet are refused as bad ones
-abbrev pub answer_of : State → Request → Outcome
+abbrev pub answer_of : State → Request → Answered
 answer_of s (Create path) = create s path
 answer_of s (Write path off bytes) = if off == 0 then write_at_start s path bytes else refused s 1
 answer_of s (Read path off len) = read s path off len

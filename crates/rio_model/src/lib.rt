@@ -2,6 +2,7 @@
 #![tactic(auto)]
 
 mod node;
+mod plain;
 mod reply;
 mod request;
 mod rows;
@@ -9,6 +10,7 @@ mod state;
 mod txn;
 
 pub use node::{Node, RegionNode};
+pub use plain::{Answered, answer};
 pub use reply::Reply;
 pub use request::Request;
 pub use rows::{NameRow, NameRows, NodeRow, NodeRows};

@@ -1,6 +1,9 @@
 //! What an inode stands for.
 
+ghost use Rattle.std.specs.Prelude.{◌≡◌};
+
 use rio_base::{HeapList, Octets, Words};
+use std::alloc::AllocError;
 
 /// A directory, a file or a region.
 #[derive(Debug, Drop)]
@@ -22,4 +25,31 @@ pub struct RegionNode {
     pub undo: u32,
     /// The blocks of its heap in use, in units of 64 bytes.
     pub blocks: HeapList,
+}
+
+impl Clone for RegionNode {
+    ghost is_clone = { λ old new. new ≡ old };
+
+    fn clone(&self) -> Result<RegionNode, AllocError> {
+        let words = self.words.clone()?;
+        let blocks = self.blocks.clone()?;
+        let undo = self.undo;
+        Ok(RegionNode {
+            words,
+            undo,
+            blocks,
+        })
+    }
+}
+
+impl Clone for Node {
+    ghost is_clone = { λ old new. new ≡ old };
+
+    fn clone(&self) -> Result<Node, AllocError> {
+        match self {
+            Node::Dir => Ok(Node::Dir),
+            Node::File(bytes) => Ok(Node::File(bytes.clone()?)),
+            Node::Region(region) => Ok(Node::Region(region.clone()?)),
+        }
+    }
 }

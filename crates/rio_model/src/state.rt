@@ -1,8 +1,11 @@
 //! The state that requests change.
 
+ghost use Rattle.std.specs.Prelude.{◌≡◌};
+
 use crate::rows::{NameRows, NodeRows};
 use crate::txn::TxnList;
 use rio_base::VolumeShape;
+use std::alloc::AllocError;
 
 /// All that a file server holds, without blocks, frames or pages.
 #[derive(Debug, Drop)]
@@ -19,4 +22,22 @@ pub struct State {
     pub pages: u32,
     /// How many of them, the last ones, are scratch.
     pub scratch: u32,
+}
+
+impl Clone for State {
+    ghost is_clone = { λ old new. new ≡ old };
+
+    fn clone(&self) -> Result<State, AllocError> {
+        let names = self.names.clone()?;
+        let nodes = self.nodes.clone()?;
+        let txns = self.txns.clone()?;
+        Ok(State {
+            names,
+            nodes,
+            txns,
+            shape: self.shape,
+            pages: self.pages,
+            scratch: self.scratch,
+        })
+    }
 }

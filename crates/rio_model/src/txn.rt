@@ -3,6 +3,7 @@
 ghost use Rattle.std.specs.Prelude.{◌≡◌};
 
 use rio_base::{HeapList, Ino, RangeList, Words};
+use std::alloc::AllocError;
 use std::marker::Model;
 
 /// An open transaction on a region.
@@ -58,5 +59,32 @@ impl From<Vec<Txn>> for TxnList {
 
     fn from(txns: Vec<Txn>) -> TxnList {
         TxnList { txns }
+    }
+}
+
+impl Clone for Txn {
+    ghost is_clone = { λ old new. new ≡ old };
+
+    fn clone(&self) -> Result<Txn, AllocError> {
+        let before = self.before.clone()?;
+        let before_blocks = self.before_blocks.clone()?;
+        let ranges = self.ranges.clone()?;
+        Ok(Txn {
+            ino: self.ino,
+            before,
+            before_blocks,
+            ranges,
+            used: self.used,
+            doomed: self.doomed,
+        })
+    }
+}
+
+impl Clone for TxnList {
+    ghost is_clone = { λ old new. new ≡ old };
+
+    fn clone(&self) -> Result<TxnList, AllocError> {
+        let txns = self.txns.clone()?;
+        Ok(TxnList { txns })
     }
 }

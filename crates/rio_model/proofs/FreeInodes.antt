@@ -1,0 +1,15 @@
+-- The inodes that are left to look at.
+use Rattle.std.proofs.Common.{◌≡◌, ◌<◌, ◌+◌, ◌-◌, ℕ, suc, Bool, true, false, cond, ◌∷◌, ap, ◌∙◌, arith}
+use Rattle.std.specs.Prelude.{Some, find}
+use Rattle.std.specs.List.{range_with_len}
+
+range_more : (a b n : ℕ) → b < n → range_with_len a (n - b) ≡ a ∷ range_with_len (a + 1) (n - (b + 1))
+range_more a b n below = let e : n - b ≡ suc (n - (b + 1)) = omega arith in ap (range_with_len a) e
+
+-- one of them is passed
+pub find-passed : (p : ℕ → Bool) (a b n : ℕ) → b < n → p a ≡ false → find p (range_with_len a (n - b)) ≡ find p (range_with_len (a + 1) (n - (b + 1)))
+find-passed p a b n below taken = ap (find p) (range_more a b n below) ∙ ap (λ t. cond t (Some a) (find p (range_with_len (a + 1) (n - (b + 1))))) taken
+
+-- one of them is found
+pub find-found : (p : ℕ → Bool) (a b n : ℕ) → b < n → p a ≡ true → find p (range_with_len a (n - b)) ≡ Some a
+find-found p a b n below here = ap (find p) (range_more a b n below) ∙ ap (λ t. cond t (Some a) (find p (range_with_len (a + 1) (n - (b + 1))))) here

@@ -1,0 +1,7 @@
+use Rattle.std.proofs.Common.{ap, ◌∙◌}
+use Rattle.std.specs.FinMap.{get, get-from_entries}
+use Rattle.std.specs.Cmp.{nat_cmp_total}
+use Rattle.rio_model.proofs.rows.NodeRows.get.Goals as goal
+
+pub loop-row-init : goal.loop-row-init
+loop-row-init c = ap (λ m. get m c.args.ino.0) c.as_slice-row-items.ensures ∙ get-from_entries nat_cmp_total _ _

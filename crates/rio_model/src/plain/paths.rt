@@ -1,0 +1,78 @@
+//! Names of paths, and what stands at them.
+
+ghost use Rattle.std.specs.Prelude.{◌≡◌, IfOk, MatchResult, Ok as Good, Err as Bad};
+ghost use Rattle.std.specs.FinMap.{get};
+ghost use Rattle.rio_base.specs.Pieces.{pieces as pieces_of};
+ghost use Rattle.rio_model.specs.Paths.{names_of as defined_names, is_dir as is_dir_of, walk as walk_of, walk_to_dir as walk_to_dir_of};
+
+use crate::node::Node;
+use crate::state::State;
+use rio_base::{Ino, Octets};
+use std::alloc::{AllocError, Global};
+use std::mem;
+
+/// The names of a path.
+pub fn names_of(alloc: Global, path: &[u8]) -> Result<Vec<Octets>, AllocError>
+    ensures { IfOk result (λ names. names.items ≡ defined_names path.now) }
+{
+    match path {
+        [] => Ok(Vec::new(alloc)),
+        [_, rest @ ..] => pieces(alloc, rest),
+    }
+}
+
+/// The pieces between slashes.
+fn pieces(alloc: Global, bytes: &[u8]) -> Result<Vec<Octets>, AllocError>
+    ensures { IfOk result (λ names. names.items ≡ pieces_of 47 bytes.now) }
+{
+    let mut names = Vec::new(alloc);
+    let mut name = Vec::new(alloc);
+    for byte in bytes {
+        if *byte == b'/' {
+            names.push(Octets::from(mem::replace(&mut name, Vec::new(alloc))))?;
+        } else {
+            name.push(*byte)?;
+        }
+    }
+    if !name.is_empty() {
+        names.push(Octets::from(name))?;
+    }
+    Ok(names)
+}
+
+/// Whether an inode is a directory.
+fn is_dir(s: &State, at: Ino) -> bool
+    ensures { result ≡ is_dir_of (get s.now.nodes at.0) }
+{
+    match s.nodes.get(at) {
+        Some(Node::Dir) => true,
+        _ => false,
+    }
+}
+
+/// The inode at the end of these names, or a refusal.
+pub fn walk(s: &State, names: &[Octets]) -> Result<Ino, u8>
+    ensures { MatchResult result (λ i. walk_of s.now 1 names.now ≡ Good i.0) (λ number. walk_of s.now 1 names.now ≡ Bad number) }
+{
+    let mut at = Ino(1);
+    for name in names {
+        if !is_dir(s, at) {
+            return Err(4);
+        }
+        match s.names.get(at, name.as_slice()) {
+            Some(next) => at = next,
+            None => return Err(2),
+        }
+    }
+    Ok(at)
+}
+
+/// The directory at the end of these names, or a refusal.
+pub fn walk_to_dir(s: &State, names: &[Octets]) -> Result<Ino, u8>
+    ensures { MatchResult result (λ i. walk_to_dir_of s.now names.now ≡ Good i.0) (λ number. walk_to_dir_of s.now names.now ≡ Bad number) }
+{
+    match walk(s, names) {
+        Ok(at) => { if is_dir(s, at) { Ok(at) } else { Err(4) } }
+        Err(number) => Err(number),
+    }
+}
