@@ -1,0 +1,77 @@
+-- One served run: what was read, what was replied, and where it ended.
+use Rattle.std.specs.Prelude.{◌≡◌, ◌≢◌, ◌+◌, ◌≤◌, ◌^◌, ℕ, List, [], ◌∷◌, ◌++◌, length, take, flat_map, codes, Option, ◌⊎◌}
+use Rattle.rio_base.specs.Streams.{appended, prepended, IsSpent}
+use Rattle.rio_model.specs.declared.reply.Reply.{Reply}
+use Rattle.rio_model.specs.declared.request.Request.{Request}
+use Rattle.rio_model.specs.declared.state.State.{State}
+use Rattle.rio_model.specs.Run.{Run}
+use Rattle.request_codec.specs.Form.{Means}
+use Rattle.request_codec.specs.Lines.{HasNoEnd, ended, lines}
+use Rattle.request_codec.specs.Text.{text_of}
+use Rattle.rio_server.specs.declared.serve.ServeEnd.{ServeEnd}
+use Rattle.rio_server.specs.declared.serve.ServeEnd.TheVariants.{End, SourceFault, SinkFault, InputLimit, Memory}
+
+-- what each line means, line by line
+abbrev pub EachMeans : List (List ℕ) → List (Option Request) → Type 0
+EachMeans [] [] = Unit {0}
+EachMeans (line ∷ lines) (request ∷ requests) = Means line request × EachMeans lines requests
+EachMeans [] (request ∷ requests) = ⊥
+EachMeans (line ∷ lines) [] = ⊥
+
+-- from s, these lines have these replies, and t is the state after them
+pub record Replied (s : State) (answered : List (List ℕ)) (replies : List Reply) (t : State) : Type 0 where
+  pub requests : List (Option Request)
+  pub meaning : EachMeans answered requests
+  pub run : Run s requests replies t
+
+-- the lines with their ends
+abbrev pub ended_lines : List (List ℕ) → List ℕ
+ended_lines answered = flat_map ended answered
+
+-- these are the first lines of what was taken. A last piece that no line end ends is one of them only where nothing
+-- is left.
+pub record AreFirst (taken : List ℕ) (left : Option (List ℕ)) (answered : List (List ℕ)) : Type 0 where
+  pub more : List (List ℕ)
+  pub front : lines taken ≡ answered ++ more
+  pub whole : ((rest : List ℕ) × (taken ≡ ended_lines answered ++ rest)) ⊎ IsSpent left
+
+-- these are all lines that a line end ends
+abbrev pub AreEnded : List ℕ → List (List ℕ) → Type 0
+AreEnded taken answered = (rest : List ℕ) × HasNoEnd rest × (taken ≡ ended_lines answered ++ rest)
+
+-- the replies' texts, one after another
+abbrev pub texts : List Reply → List ℕ
+texts replies = flat_map text_of replies
+
+-- what was written: every reply's text, except that the sink may have refused the last one and taken a front of it
+abbrev pub IsCut : List Reply → List ℕ → Type 0
+IsCut replies out = (front : List Reply) × (last : Reply) × (k : ℕ) × (replies ≡ front ++ last ∷ []) × (k ≤ length (text_of last)) × (out ≡ texts front ++ take k (text_of last))
+
+-- where the run ended
+abbrev pub Finishes : ServeEnd → List ℕ → Option (List ℕ) → List (List ℕ) → List Reply → List ℕ → Type 0
+-- the input was read to its end, and every line of it has its reply
+Finishes End taken left answered replies out = IsSpent left × (lines taken ≡ answered) × (length taken ≤ 2 ^ 40) × (out ≡ texts replies)
+-- the source failed, or one byte more came than is taken: every line that has its end has its reply
+Finishes SourceFault taken left answered replies out = AreEnded taken answered × (out ≡ texts replies)
+Finishes InputLimit taken left answered replies out = (length taken ≡ 2 ^ 40 + 1) × AreEnded (take (2 ^ 40) taken) answered × (out ≡ texts replies)
+-- there was no memory for a line
+Finishes Memory taken left answered replies out = out ≡ texts replies
+-- the sink refused a reply
+Finishes SinkFault taken left answered replies out = IsCut replies out
+
+-- A run from s that took these bytes and wrote `out`.
+pub record ServeRun (s : State) (taken : List ℕ) (left : Option (List ℕ)) (end : ServeEnd) (out : List ℕ) : Type 0 where
+  pub answered : List (List ℕ)
+  pub replies : List Reply
+  pub after : State
+  pub first : AreFirst taken left answered
+  pub replied : Replied s answered replies after
+  pub finish : Finishes end taken left answered replies out
+
+-- The same, by what the source has left and what the sink has taken, before and after.
+pub record Serves (s : State) (end : ServeEnd) (left left_after written written_after : Option (List ℕ)) : Type 0 where
+  pub taken : List ℕ
+  pub out : List ℕ
+  pub gave : left ≡ prepended taken left_after
+  pub run : ServeRun s taken left_after end out
+  pub wrote : written_after ≡ appended written out
