@@ -1,5 +1,5 @@
 -- The order of names is total and ties only equal keys, so what the laws of finite maps say holds of names.
-use Rattle.std.proofs.Common.{◌≡◌, ◌≢◌, ◌==◌, ◌&&◌, ℕ, Bool, true, false, cond, List, refl, sym, ap, ◌∙◌, arith}
+use Rattle.std.proofs.Common.{◌≡◌, ◌≢◌, ◌==◌, ◌&&◌, ℕ, Bool, true, false, cond, List, [], ◌∷◌, ◌++◌, refl, sym, ap, ◌∙◌, arith}
 use Rattle.std.specs.Prelude.{Some, None}
 use Rattle.std.specs.declared.cmp.Ordering.{Ordering}
 use Rattle.std.specs.declared.cmp.Ordering.TheVariants.{Less, Equal, Greater}
@@ -7,7 +7,7 @@ use Rattle.std.specs.Ordering.{nat_cmp, eq_by_cmp, is_eq}
 use Rattle.std.specs.Str.{bytes_eq}
 use Rattle.std.specs.Cmp.{IsTotalOrder, nat_cmp_total, tied_then}
 use Rattle.std.specs.Cmp.Lexicographic.{slice_cmp, nat_list_cmp_total}
-use Rattle.std.specs.FinMap.{get, insert, from_entries, find, entries, put, get-insert, get-remove, get-from_entries, entries-insert, same_map, remove}
+use Rattle.std.specs.FinMap.{get, insert, from_entries, find, entries, put, get-insert, get-remove, get-from_entries, entries-insert, same_map, remove, from_entries_push}
 use Rattle.std.proofs.lemmas.Bool.Decides.{nat_tests, Decides-eqb}
 use Rattle.std.proofs.lemmas.Cmp.{on_total, then_total, tied_itself}
 use Rattle.std.proofs.lemmas.Map.Lookups.{exact_pairs, exact_unsigned, exact_bytes}
@@ -64,5 +64,9 @@ name_get_other m k v q n = name_get-insert m k v q ∙ ap (λ b. cond b (Some v)
 -- two maps of names that answer alike are equal
 pub same_names : (m n : Names) → ((q : NameKey) → get m q ≡ get n q) → m ≡ n
 same_names = same_map name_total name_exact
+
+-- to push a name that is new is to insert it
+pub names_push : (es : List (NameKey × ℕ)) (k : NameKey) (v : ℕ) → find name_cmp k es ≡ None → from_entries {R = name_cmp} (es ++ (k, v) ∷ []) ≡ insert (from_entries es) k v
+names_push = from_entries_push name_total name_exact
 
 pub ruleset name_gets = (name_get-insert, name_get-remove, name_get-from_entries, name_itself)

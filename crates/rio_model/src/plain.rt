@@ -7,6 +7,8 @@ mod contents;
 mod create;
 mod list;
 mod paths;
+#[cfg(test)]
+mod tests;
 
 use crate::reply::Reply;
 use crate::request::Request;

@@ -1,0 +1,16 @@
+-- The laws of finite maps at nodes.
+use Rattle.std.proofs.Common.{◌≡◌, ℕ, List, [], ◌∷◌, ◌++◌}
+use Rattle.std.specs.Prelude.{None}
+use Rattle.std.specs.Ordering.{nat_cmp}
+use Rattle.std.specs.Cmp.{nat_cmp_total}
+use Rattle.std.specs.FinMap.{get, insert, from_entries, find, same_map, from_entries_push, nat_cmp-IsAntisymmetric}
+use Rattle.rio_model.specs.Nodes.{Nodes}
+use Rattle.rio_model.specs.declared.node.Node.{Node}
+
+-- two maps of nodes that answer alike are equal
+pub same_nodes : (m n : Nodes) → ((i : ℕ) → get m i ≡ get n i) → m ≡ n
+same_nodes = same_map nat_cmp_total nat_cmp-IsAntisymmetric
+
+-- to push a node whose inode is new is to insert it
+pub nodes_push : (es : List (ℕ × Node)) (i : ℕ) (node : Node) → find nat_cmp i es ≡ None → from_entries {R = nat_cmp} (es ++ (i, node) ∷ []) ≡ insert (from_entries es) i node
+nodes_push = from_entries_push nat_cmp_total nat_cmp-IsAntisymmetric
