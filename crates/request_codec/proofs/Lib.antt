@@ -2,6 +2,8 @@ pub mod Digits
 pub mod Gathering
 pub mod Held
 pub mod LineEnds
+pub mod Meanings
+pub mod Parts
 pub mod Passing
 pub mod Sendings
 pub mod Texts

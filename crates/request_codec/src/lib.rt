@@ -10,3 +10,9 @@ mod reply_text;
 
 pub use lines::{INPUT_LIMIT, LineFail, LineReader, NextLine};
 pub use reply_text::{write_reply, write_text};
+mod hex_digits;
+mod lines;
+mod parse;
+
+pub use lines::{LineFail, NextLine};
+pub use parse::{long_lines_mean_nothing, one_meaning, parse_line};
