@@ -1,9 +1,9 @@
 //! Request lines and reply lines: what each line asks for, and how each reply is written.
 #![tactic(auto)]
 
+mod gather;
 mod hex_text;
 mod lines;
-mod pen;
 mod reply_text;
 
 pub use lines::{LineFail, NextLine};
