@@ -1,10 +1,10 @@
 -- Hexadecimal digits of a list, piece after piece.
-use Rattle.std.proofs.Common.{◌≡◌, ℕ, ◌+◌, ◌-◌, ◌/◌, ◌%◌, ◌≤◌, List, [], ◌∷◌, ◌++◌, slice_index, take, drop, Option, refl, sym, ap, ◌∙◌, arith, subst}
-use Rattle.std.proofs.lemmas.List.{take-append-drop}
+use Rattle.std.proofs.Common.{◌≡◌, ℕ, ◌+◌, ◌-◌, ◌/◌, ◌%◌, ◌≤◌, ◌*◌, List, [], ◌∷◌, ◌++◌, length, slice_index, take, drop, Option, refl, sym, ap, ◌∙◌, arith, subst, length-drop}
+use Rattle.std.proofs.lemmas.List.{take-append-drop, length-take-le}
 use Rattle.std.proofs.Math.Seq.{take-add}
 use Rattle.hex.specs.Hex.{encode_with, encode_lower, lower_digits}
 use Rattle.request_codec.specs.Sending.{Sent, IsCutOff}
-use Rattle.request_codec.proofs.Sendings.{sent_none, sent_held, sent_sent, sent_cut, cut_more}
+use Rattle.request_codec.proofs.Sendings.{sent_none, held_more, sent_sent, sent_cut, cut_more}
 
 encode_append : (t xs ys : List ℕ) → encode_with t (xs ++ ys) ≡ encode_with t xs ++ encode_with t ys
 unfolding encode_with
@@ -21,13 +21,14 @@ unfolding encode_with
 encoded_none = sent_none
 
 -- one more piece is held
-pub encoded_more : {a : Option (List ℕ)} {f : ℕ} {h : List ℕ} {b : Option (List ℕ)} {f1 : ℕ} {h1 : List ℕ} {c : Option (List ℕ)} {f2 : ℕ} {h2 h3 : List ℕ} (bytes : List ℕ) (i j : ℕ) → i ≤ j → Sent a f h (encode_lower (take i bytes)) b f1 h1 → Sent b f1 h1 [] c f2 h2 → h3 ≡ h2 ++ encode_lower (take (j - i) (drop i bytes)) → Sent a f h (encode_lower (take j bytes)) c f2 h3
-encoded_more {a} {f} {h} {b} {f1} {h1} {c} {f2} {h2} {h3} bytes i j up s t held =
+pub encoded_more : {a : Option (List ℕ)} {f : ℕ} {h : List ℕ} {b : Option (List ℕ)} {f1 : ℕ} {h1 : List ℕ} {c : Option (List ℕ)} {f2 : ℕ} {h2 : List ℕ} (bytes : List ℕ) (i j m : ℕ) (room : List ℕ) → i ≤ j → j ≤ length bytes → Sent a f h (encode_lower (take i bytes)) b f1 h1 → Sent b f1 h1 [] c f2 h2 → take (m + 2 * length (take (j - i) (drop i bytes))) room ≡ h2 ++ encode_lower (take (j - i) (drop i bytes)) → Sent a f h (encode_lower (take j bytes)) c f2 (take (m + 2 * (j - i)) room)
+encoded_more {a} {f} {h} {b} {f1} {h1} {c} {f2} {h2} bytes i j m room up within s t held =
     let piece : List ℕ = take (j - i) (drop i bytes) in
+    let size : length piece ≡ j - i = length-take-le (j - i) (drop i bytes) (omega (arith, length-drop i bytes)) in
+    let held : take (m + 2 * (j - i)) room ≡ h2 ++ encode_lower piece = ap (λ (k : ℕ). take (m + 2 * k) room) (sym size) ∙ held in
     let whole : encode_lower (take i bytes) ++ ([] ++ encode_lower piece) ≡ encode_lower (take j bytes) = sym (encode_append lower_digits (take i bytes) piece) ∙ ap encode_lower (sym (take_in_two i j bytes up)) in
-    let P : List ℕ → Type 0 = λ text. Sent a f h text c f2 h3 in
-    let Q : List ℕ → Type 0 = λ more. Sent b f1 h1 (encode_lower piece) c f2 more in
-    subst P whole (sent_sent s (subst Q (sym held) (sent_held (encode_lower piece) t)))
+    let P : List ℕ → Type 0 = λ text. Sent a f h text c f2 (take (m + 2 * (j - i)) room) in
+    subst P whole (sent_sent s (held_more (encode_lower piece) t held))
 
 -- the digits that were to follow are cut off
 pub encoded_cut : {a : Option (List ℕ)} {f : ℕ} {h : List ℕ} {b : Option (List ℕ)} {f1 : ℕ} {h1 : List ℕ} {c : Option (List ℕ)} {f2 : ℕ} (bytes : List ℕ) (i : ℕ) → Sent a f h (encode_lower (take i bytes)) b f1 h1 → IsCutOff b f1 h1 [] c f2 → IsCutOff a f h (encode_lower bytes) c f2

@@ -5,7 +5,7 @@ use Rattle.std.proofs.lemmas.List.{append_assoc, append-nil, take-append-drop, d
 use Rattle.std.proofs.lemmas.Result.{on_ok_weaker, on_err_weaker}
 use Rattle.rio_base.specs.Counts.{HasCause, Rose}
 use Rattle.rio_base.specs.Streams.{appended}
-use Rattle.request_codec.specs.Sending.{Took, Sent, IsCutOff, Sends}
+use Rattle.request_codec.specs.Sending.{Took, Sent, IsCutOff, Sends, Puts}
 
 appended_more : (a : Option (List ℕ)) (xs ys : List ℕ) → appended (appended a xs) ys ≡ appended a (xs ++ ys)
 appended_more None xs ys = refl
@@ -129,12 +129,6 @@ sent_flushed s = record { took = rw append-nil s.took; steady = s.steady }
 pub cut_flushed : {a : Option (List ℕ)} {f : ℕ} {h : List ℕ} {b : Option (List ℕ)} {f1 : ℕ} → IsCutOff a f [] h b f1 → IsCutOff a f h [] b f1
 cut_flushed k = record { lost = k.lost; took = rw append-nil k.took; later = k.later; rose = k.rose }
 
--- a text that is sent past a pen that holds nothing
-pub sent_past : {T E : Type 0} {r : Result T E} {a : Option (List ℕ)} {f : ℕ} {h : List ℕ} {b : Option (List ℕ)} {f1 : ℕ} {h1 y : List ℕ} {c : Option (List ℕ)} {f2 : ℕ} → Sent a f h [] b f1 h1 → h1 ≡ [] → Sends r b f1 [] y c f2 [] → Sends r a f h y c f2 h1
-sent_past {r = r} {b = b} {f1 = f1} {y = y} {c = c} {f2 = f2} s empty t =
-    let P : List ℕ → Type 0 = λ held. Sends r b f1 held y c f2 held in
-    sent_then s (subst P (sym empty) t)
-
 -- ---- what a text's sender says to its callers
 
 sent_whole : {a : Option (List ℕ)} {f : ℕ} {text : List ℕ} {b : Option (List ℕ)} {f1 : ℕ} → Sent a f [] text b f1 [] → b ≡ appended a text
@@ -170,26 +164,34 @@ cut_as {a} {f} {h} {b = b} {f1 = f1} same k =
     let P : List ℕ → Type 0 = λ text. IsCutOff a f h text b f1 in
     subst P same k
 
--- ---- a whole line, from a pen that holds nothing
+-- ---- what is held is the front of a room
 
-pub cut_from : {a : Option (List ℕ)} {f : ℕ} {h x : List ℕ} {b : Option (List ℕ)} {f1 : ℕ} → h ≡ [] → IsCutOff a f h x b f1 → IsCutOff a f [] x b f1
-cut_from {a} {f} {x = x} {b = b} {f1 = f1} empty k =
-    let P : List ℕ → Type 0 = λ held. IsCutOff a f held x b f1 in
-    subst P empty k
+pub puts_then : {E : Type 0} {r : Result ℕ E} {a : Option (List ℕ)} {f : ℕ} {h x : List ℕ} {b : Option (List ℕ)} {f1 : ℕ} {h1 y : List ℕ} {c : Option (List ℕ)} {f2 : ℕ} {room : List ℕ} → Sent a f h x b f1 h1 → Puts r b f1 h1 y c f2 room → Puts r a f h (x ++ y) c f2 room
+puts_then {r = Ok n} s p = record { ok = record { fits = p.ok.fits; sent = sent_sent s p.ok.sent }; err = tt }
+puts_then {r = Err _} s p = record { ok = tt; err = sent_cut s p.err }
 
-sent_from : {a : Option (List ℕ)} {f : ℕ} {h x : List ℕ} {b : Option (List ℕ)} {f1 : ℕ} {h1 : List ℕ} → h ≡ [] → Sent a f h x b f1 h1 → Sent a f [] x b f1 h1
-sent_from {a} {f} {x = x} {b = b} {f1 = f1} {h1 = h1} empty s =
-    let P : List ℕ → Type 0 = λ held. Sent a f held x b f1 h1 in
-    subst P empty s
+-- a call that was cut off answers an Err
+pub puts_cut : {E : Type 0} {r : Result ℕ E} {a : Option (List ℕ)} {f : ℕ} {h text : List ℕ} {c : Option (List ℕ)} {f2 : ℕ} {room : List ℕ} → IsErr r → IsCutOff a f h text c f2 → Puts r a f h text c f2 room
+puts_cut {r = Ok _} bad k = cc bad
+puts_cut {r = Err _} bad k = record { ok = tt; err = k }
 
-sends_empty : {T E : Type 0} (r : Result T E) (a : Option (List ℕ)) (f : ℕ) (h x : List ℕ) (b : Option (List ℕ)) (f1 : ℕ) (h1 : List ℕ) → Sends r a f h x b f1 h1 → OnOk r (h1 ≡ []) → Sends r a f h x b f1 []
-sends_empty (Ok _) a f h x b f1 h1 s empty =
-    let P : List ℕ → Type 0 = λ held. Sent a f h x b f1 held in
-    record { ok = subst P empty s.ok; err = tt }
-sends_empty (Err _) a f h x b f1 h1 s empty = record { ok = tt; err = s.err }
+pub puts_as : {E : Type 0} {r : Result ℕ E} {a : Option (List ℕ)} {f : ℕ} {h x y : List ℕ} {b : Option (List ℕ)} {f1 : ℕ} {room : List ℕ} → x ≡ y → Puts r a f h x b f1 room → Puts r a f h y b f1 room
+puts_as {r = r} {a = a} {f = f} {h = h} {b = b} {f1 = f1} {room = room} same p =
+    let P : List ℕ → Type 0 = λ text. Puts r a f h text b f1 room in
+    subst P same p
+
+-- nothing was written, and these bytes are held too
+pub held_more : {a : Option (List ℕ)} {f : ℕ} {h x : List ℕ} {b : Option (List ℕ)} {f1 : ℕ} {h1 h2 : List ℕ} (y : List ℕ) → Sent a f h x b f1 h1 → h2 ≡ h1 ++ y → Sent a f h (x ++ y) b f1 h2
+held_more {a} {f} {h} {x} {b} {f1} y s is =
+    let P : List ℕ → Type 0 = λ held. Sent a f h (x ++ y) b f1 held in
+    subst P (sym is) (sent_held y s)
 
 -- a body, its end, and then what is still held
-pub line_sent : {T E : Type 0} {r : Result T E} {a : Option (List ℕ)} {f : ℕ} {h x : List ℕ} {b : Option (List ℕ)} {f1 : ℕ} {h1 y : List ℕ} {c : Option (List ℕ)} {f2 : ℕ} {h2 : List ℕ} {d : Option (List ℕ)} {f3 : ℕ} {h3 : List ℕ} → h ≡ [] → Sent a f h x b f1 h1 → Sent b f1 h1 y c f2 h2 → Sends r c f2 h2 [] d f3 h3 → OnOk r (h3 ≡ []) → Sends r a f [] (x ++ y) d f3 []
-line_sent {r = r} {a = a} {f = f} {x = x} {y = y} {d = d} {f3 = f3} {h3 = h3} start body end rest empty =
-    let whole : Sends r a f [] (x ++ y) d f3 h3 = sends_as (append-nil (x ++ y)) (sent_then (sent_sent (sent_from start body) end) rest) in
-    sends_empty r a f [] (x ++ y) d f3 h3 whole empty
+pub line_sent : {T E : Type 0} {r : Result T E} {a : Option (List ℕ)} {f : ℕ} {x : List ℕ} {b : Option (List ℕ)} {f1 : ℕ} {h1 y : List ℕ} {c : Option (List ℕ)} {f2 : ℕ} {h2 : List ℕ} {d : Option (List ℕ)} {f3 : ℕ} → Sent a f [] x b f1 h1 → Sent b f1 h1 y c f2 h2 → Sends r c f2 [] h2 d f3 [] → Sends r a f [] (x ++ y) d f3 []
+line_sent {r = r} {x = x} {y = y} {c = c} {f2 = f2} {h2 = h2} {d = d} {f3 = f3} body end rest =
+    let left : Sends r c f2 h2 [] d f3 [] = record { ok = on_ok_weaker r (λ u. sent_flushed u) rest.ok; err = on_err_weaker r (λ k. cut_flushed k) rest.err } in
+    sends_as (append-nil (x ++ y)) (sent_then (sent_sent body end) left)
+
+-- what was held is sent, and then a text past it
+pub sent_last : {a : Option (List ℕ)} {f : ℕ} {h : List ℕ} {b : Option (List ℕ)} {f1 : ℕ} {y : List ℕ} {c : Option (List ℕ)} {f2 : ℕ} → Sent a f [] h b f1 [] → Sent b f1 [] y c f2 [] → Sent a f h y c f2 []
+sent_last s t = sent_sent (sent_flushed s) t

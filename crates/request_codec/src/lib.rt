@@ -6,6 +6,9 @@ mod hex_text;
 mod lines;
 mod pen;
 mod piece;
+mod gather;
+mod hex_text;
+mod lines;
 mod reply_text;
 
 pub use lines::{INPUT_LIMIT, LineFail, LineReader, NextLine};

@@ -4,13 +4,17 @@ ghost use Rattle.std.specs.Prelude.{◌≡◌, ◌≤◌, ◌++◌, ◌∷◌, [
 ghost use Rattle.hex.specs.Hex.{encode_lower};
 ghost use Rattle.rio_base.specs.Counts.{HasCause};
 ghost use Rattle.rio_base.specs.Streams.{appended};
-ghost use Rattle.request_codec.specs.Sending.{Sends};
+ghost use Rattle.request_codec.specs.Sending.{Puts, Sends};
 ghost use Rattle.rio_model.specs.declared.reply.Reply.TheVariants.{Stat};
 ghost use Rattle.request_codec.specs.Text.{body_of, kind_name, listed_ino, listed_name, text_of};
 
-use crate::pen::{Pen, send};
+use crate::gather::{put, put_hex, put_number, send};
 use rio_base::{Failed, Ino, Octets, Sink};
 use rio_model::Reply;
+
+/// What the room for a text is made of. A row that isn't the same byte throughout is copied by a few stores, where one
+/// byte in 4,096 places is a call.
+const BLANK: [u8; 64] = *b"0123456789abcdef0123456789abcdef0123456789abcdef0123456789abcdef";
 
 /// Writes a whole text, in as many calls as the sink wants. It takes no memory.
 pub fn write_text<K: Sink>(text: &[u8], sink: &mut K) -> Result<(), Failed>
@@ -36,34 +40,37 @@ pub fn write_reply<K: Sink>(reply: &Reply, sink: &mut K) -> Result<(), Failed>
 fn send_line<K: Sink>(reply: &Reply, sink: &mut K) -> Result<(), Failed>
     ensures { Sends result (K.written sink.old) (K.faults sink.old) [] (text_of reply.now) (K.written sink.new) (K.faults sink.new) [] }
 {
-    let mut pen = Pen::new();
-    put_body(reply, &mut pen, sink)?;
-    pen.put(b"\n", sink)?;
-    pen.flush(sink)
+    let mut rows = [BLANK; 64];
+    let room = rows.as_flattened_mut();
+    let body = put_body(reply, room, sink)?;
+    let line = put(b"\n", room, body, sink)?;
+    send(&room[..line], sink)
 }
 
 /// Puts a reply's line without its end.
-fn put_body<K: Sink>(reply: &Reply, pen: &mut Pen, sink: &mut K) -> Result<(), Failed>
-    ensures { Sends result (K.written sink.old) (K.faults sink.old) pen.old (body_of reply.now) (K.written sink.new) (K.faults sink.new) pen.new }
+fn put_body<K: Sink>(reply: &Reply, room: &mut [u8], sink: &mut K) -> Result<usize, Failed>
+    requires { 2 ≤ length room.old }
+    ensures { Puts result (K.written sink.old) (K.faults sink.old) [] (body_of reply.now) (K.written sink.new) (K.faults sink.new) room.new }
 {
     match reply {
-        Reply::Ok => pen.put(b"ok", sink),
-        Reply::Number(n) => pen.put_number(b"ok ", *n, sink),
-        Reply::Bytes(bytes) => put_bytes(bytes.as_slice(), pen, sink),
-        Reply::Stat { ino, kind, size } => put_stat(*ino, *kind, *size, pen, sink),
-        Reply::Names(names) => put_names(names.as_slice(), pen, sink),
-        Reply::Inos(inos) => put_inos(inos.as_slice(), pen, sink),
-        Reply::Err(number) => pen.put_number(b"err ", u64::from(*number), sink),
-        Reply::Fault(done) => pen.put_number(b"err 30 ", *done, sink),
+        Reply::Ok => put(b"ok", room, 0, sink),
+        Reply::Number(n) => put_number(b"ok ", *n, room, 0, sink),
+        Reply::Bytes(bytes) => put_bytes(bytes.as_slice(), room, sink),
+        Reply::Stat { ino, kind, size } => put_stat(*ino, *kind, *size, room, sink),
+        Reply::Names(names) => put_names(names.as_slice(), room, sink),
+        Reply::Inos(inos) => put_inos(inos.as_slice(), room, sink),
+        Reply::Err(number) => put_number(b"err ", u64::from(*number), room, 0, sink),
+        Reply::Fault(done) => put_number(b"err 30 ", *done, room, 0, sink),
     }
 }
 
 /// Puts bytes that were read.
-fn put_bytes<K: Sink>(bytes: &[u8], pen: &mut Pen, sink: &mut K) -> Result<(), Failed>
-    ensures { Sends result (K.written sink.old) (K.faults sink.old) pen.old (codes "ok " ++ encode_lower bytes.now) (K.written sink.new) (K.faults sink.new) pen.new }
+fn put_bytes<K: Sink>(bytes: &[u8], room: &mut [u8], sink: &mut K) -> Result<usize, Failed>
+    requires { 2 ≤ length room.old }
+    ensures { Puts result (K.written sink.old) (K.faults sink.old) [] (codes "ok " ++ encode_lower bytes.now) (K.written sink.new) (K.faults sink.new) room.new }
 {
-    pen.put(b"ok ", sink)?;
-    pen.put_hex(bytes, sink)
+    let held = put(b"ok ", room, 0, sink)?;
+    put_hex(bytes, room, held, sink)
 }
 
 /// The name of a kind between two spaces.
@@ -82,55 +89,75 @@ fn put_stat<K: Sink>(
     ino: Ino,
     kind: u8,
     size: u64,
-    pen: &mut Pen,
+    room: &mut [u8],
     sink: &mut K,
-) -> Result<(), Failed>
-    ensures { Sends result (K.written sink.old) (K.faults sink.old) pen.old (body_of (Stat ino kind size)) (K.written sink.new) (K.faults sink.new) pen.new }
+) -> Result<usize, Failed>
+    ensures { Puts result (K.written sink.old) (K.faults sink.old) [] (body_of (Stat ino kind size)) (K.written sink.new) (K.faults sink.new) room.new }
 {
-    pen.put_number(b"ok ", u64::from(ino.0), sink)?;
-    pen.put_number(kind_word(kind), size, sink)
+    let held = put_number(b"ok ", u64::from(ino.0), room, 0, sink)?;
+    put_number(kind_word(kind), size, room, held, sink)
 }
 
 /// Puts a count and names.
-fn put_names<K: Sink>(names: &[Octets], pen: &mut Pen, sink: &mut K) -> Result<(), Failed>
-    ensures { Sends result (K.written sink.old) (K.faults sink.old) pen.old (codes "ok " ++ decimal (length names.now) ++ flat_map listed_name names.now) (K.written sink.new) (K.faults sink.new) pen.new }
+fn put_names<K: Sink>(names: &[Octets], room: &mut [u8], sink: &mut K) -> Result<usize, Failed>
+    ensures { Puts result (K.written sink.old) (K.faults sink.old) [] (codes "ok " ++ decimal (length names.now) ++ flat_map listed_name names.now) (K.written sink.new) (K.faults sink.new) room.new }
 {
-    pen.put_number(b"ok ", names.len() as u64, sink)?;
-    put_each_name(names, pen, sink)
+    let held = put_number(b"ok ", names.len() as u64, room, 0, sink)?;
+    put_each_name(names, room, held, sink)
 }
 
 /// Puts names, each behind a space.
-fn put_each_name<K: Sink>(names: &[Octets], pen: &mut Pen, sink: &mut K) -> Result<(), Failed>
-    ensures { Sends result (K.written sink.old) (K.faults sink.old) pen.old (flat_map listed_name names.now) (K.written sink.new) (K.faults sink.new) pen.new }
+fn put_each_name<K: Sink>(
+    names: &[Octets],
+    room: &mut [u8],
+    held: usize,
+    sink: &mut K,
+) -> Result<usize, Failed>
+    requires { held ≤ length room.old }
+    ensures { Puts result (K.written sink.old) (K.faults sink.old) (take held room.old) (flat_map listed_name names.now) (K.written sink.new) (K.faults sink.new) room.new }
 {
+    let mut held = held;
     'names: for name in names {
-        put_name(name.as_slice(), pen, sink)?;
+        held = put_name(name.as_slice(), room, held, sink)?;
     }
-    Ok(())
+    Ok(held)
 }
 
 /// Puts a name behind a space.
-fn put_name<K: Sink>(name: &[u8], pen: &mut Pen, sink: &mut K) -> Result<(), Failed>
-    ensures { Sends result (K.written sink.old) (K.faults sink.old) pen.old (listed_name name.now) (K.written sink.new) (K.faults sink.new) pen.new }
+fn put_name<K: Sink>(
+    name: &[u8],
+    room: &mut [u8],
+    held: usize,
+    sink: &mut K,
+) -> Result<usize, Failed>
+    requires { held ≤ length room.old }
+    ensures { Puts result (K.written sink.old) (K.faults sink.old) (take held room.old) (listed_name name.now) (K.written sink.new) (K.faults sink.new) room.new }
 {
-    pen.put(b" ", sink)?;
-    pen.put(name, sink)
+    let held = put(b" ", room, held, sink)?;
+    put(name, room, held, sink)
 }
 
 /// Puts a count and inode numbers.
-fn put_inos<K: Sink>(inos: &[Ino], pen: &mut Pen, sink: &mut K) -> Result<(), Failed>
-    ensures { Sends result (K.written sink.old) (K.faults sink.old) pen.old (codes "ok " ++ decimal (length inos.now) ++ flat_map listed_ino inos.now) (K.written sink.new) (K.faults sink.new) pen.new }
+fn put_inos<K: Sink>(inos: &[Ino], room: &mut [u8], sink: &mut K) -> Result<usize, Failed>
+    ensures { Puts result (K.written sink.old) (K.faults sink.old) [] (codes "ok " ++ decimal (length inos.now) ++ flat_map listed_ino inos.now) (K.written sink.new) (K.faults sink.new) room.new }
 {
-    pen.put_number(b"ok ", inos.len() as u64, sink)?;
-    put_each_ino(inos, pen, sink)
+    let held = put_number(b"ok ", inos.len() as u64, room, 0, sink)?;
+    put_each_ino(inos, room, held, sink)
 }
 
 /// Puts inode numbers, each behind a space.
-fn put_each_ino<K: Sink>(inos: &[Ino], pen: &mut Pen, sink: &mut K) -> Result<(), Failed>
-    ensures { Sends result (K.written sink.old) (K.faults sink.old) pen.old (flat_map listed_ino inos.now) (K.written sink.new) (K.faults sink.new) pen.new }
+fn put_each_ino<K: Sink>(
+    inos: &[Ino],
+    room: &mut [u8],
+    held: usize,
+    sink: &mut K,
+) -> Result<usize, Failed>
+    requires { held ≤ length room.old }
+    ensures { Puts result (K.written sink.old) (K.faults sink.old) (take held room.old) (flat_map listed_ino inos.now) (K.written sink.new) (K.faults sink.new) room.new }
 {
+    let mut held = held;
     'inodes: for ino in inos {
-        pen.put_number(b" ", u64::from(ino.0), sink)?;
+        held = put_number(b" ", u64::from(ino.0), room, held, sink)?;
     }
-    Ok(())
+    Ok(held)
 }

@@ -9,5 +9,6 @@ invariant-inodes g l =
     let faults = g.K.Sink.faults in
     record {
       few : l.ino-index ≤ length l.inos;
-      sent : Sent (written l.fn.sink) (faults l.fn.sink) l.fn.pen (flat_map listed_ino (take l.ino-index l.inos)) (written l.sink) (faults l.sink) l.pen;
+      fits : l.held ≤ length l.room;
+      sent : Sent (written l.fn.sink) (faults l.fn.sink) (take l.fn.held l.fn.room) (flat_map listed_ino (take l.ino-index l.inos)) (written l.sink) (faults l.sink) (take l.held l.room);
     }

@@ -9,5 +9,6 @@ invariant-names g l =
     let faults = g.K.Sink.faults in
     record {
       few : l.name-index ≤ length l.names;
-      sent : Sent (written l.fn.sink) (faults l.fn.sink) l.fn.pen (flat_map listed_name (take l.name-index l.names)) (written l.sink) (faults l.sink) l.pen;
+      fits : l.held ≤ length l.room;
+      sent : Sent (written l.fn.sink) (faults l.fn.sink) (take l.fn.held l.fn.room) (flat_map listed_name (take l.name-index l.names)) (written l.sink) (faults l.sink) (take l.held l.room);
     }

@@ -1,7 +1,7 @@
 use Rattle.std.proofs.Common.{length, ◌-◌, ◌≤◌, take}
 use Rattle.hex.specs.Hex.{encode_lower}
 use Rattle.request_codec.specs.Sending.{Sent}
-use Rattle.request_codec.proofs.pen.Pen.put_hex.Given as goal
+use Rattle.request_codec.proofs.gather.put_hex.Given as goal
 
 abbrev pub invariant-chunks : goal.invariant-chunks
 invariant-chunks g l =
@@ -9,7 +9,8 @@ invariant-chunks g l =
     let faults = g.K.Sink.faults in
     record {
       few : l.done ≤ length l.bytes;
-      sent : Sent (written l.fn.sink) (faults l.fn.sink) l.fn.self (encode_lower (take l.done l.bytes)) (written l.sink) (faults l.sink) l.self;
+      fits : l.held ≤ length l.room;
+      sent : Sent (written l.fn.sink) (faults l.fn.sink) (take l.fn.held l.fn.room) (encode_lower (take l.done l.bytes)) (written l.sink) (faults l.sink) (take l.held l.room);
     }
 
 abbrev pub decreases-chunks : goal.decreases-chunks
