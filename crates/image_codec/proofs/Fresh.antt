@@ -1,9 +1,9 @@
 -- What is written into a list of zeros.
-use Rattle.std.proofs.Common.{◌≡◌, ◌==◌, if◌then◌else◌, ◌<◌, ◌≤◌, ℕ, zero, suc, ◌+◌, ◌-◌, ◌*◌, ◌/◌, ◌%◌, ◌^◌, min, List, [], ◌∷◌, ◌++◌, length, take, drop, set, map, replicate, get_or, slice_index, slice_set, refl, sym, ap, ◌∙◌, subst, inl, inr, arith, nat_lt, nat_le, ◌&&◌}
+use Rattle.std.proofs.Common.{◌≡◌, ◌==◌, if◌then◌else◌, ◌<◌, ◌≤◌, ℕ, zero, suc, ◌+◌, ◌-◌, ◌*◌, ◌/◌, ◌%◌, min, List, length, set, map, replicate, get_or, slice_index, refl, sym, ap, ◌∙◌, inl, inr, arith, nat_lt, nat_le, ◌&&◌}
 use Rattle.std.proofs.lemmas.Bool.{cases_eq, cases_lt}
 use Rattle.std.proofs.lemmas.Nat.Bits.{bit_at_ones, bit_at_ones_above}
 use Rattle.std.specs.Int.{bit_at}
-use Rattle.std.proofs.lemmas.List.{take_more_set, get_or-set_same, get_or-set_other, get_or-replicate, length-set, length-replicate}
+use Rattle.std.proofs.lemmas.List.{get_or-set_same, get_or-set_other, get_or-replicate, length-set, length-replicate}
 use Rattle.std.proofs.lemmas.List.FromFn.{fill_by_all, get_or-map-range_with_len}
 use Rattle.std.proofs.lemmas.Bool.Decides.{nat_tests}
 use Rattle.std.specs.List.{range_with_len}
@@ -59,7 +59,7 @@ fresh_entry items n frames scratch k zeros =
 -- the words of a fresh volume, by block and word
 volume_at : (f : ℕ → ℕ) (marked : List ℕ) (magic blocks inodes b w i : ℕ) → i ≡ 512 * b + w → w < 512 → 1024 < length marked → get_or marked i 0 ≡ (if nat_le 512 i && nat_lt i 1024 then f (i - 512) else 0)
     → get_or (set (set (set (set (set marked 0 magic) 1 1) 2 blocks) 3 inodes) 1024 1) i 0
-      ≡ (if b == 0 then (if w == 0 then magic else if w == 1 then 1 else if w == 2 then blocks else if w == 3 then inodes else 0) else if b == 1 then f w else if b == 2 then (if w == 0 then 1 else 0) else 0)
+    ≡ (if b == 0 then (if w == 0 then magic else if w == 1 then 1 else if w == 2 then blocks else if w == 3 then inodes else 0) else if b == 1 then f w else if b == 2 then (if w == 0 then 1 else 0) else 0)
 volume_at f marked magic blocks inodes zero w i place lt long was =
     let e : i ≡ w = omega arith in
     let zeros : get_or marked i 0 ≡ 0 = grind (arith, nat_tests, was) in
@@ -84,8 +84,8 @@ fresh_volume_is zeros marked blocks inodes none room same is =
     let size : length marked ≡ 512 * blocks = same ∙ ap length none ∙ length-replicate (512 * blocks) 0 in
     let long : length (set (set (set (set (set marked 0 volume_magic) 1 1) 2 blocks) 3 inodes) 1024 1) ≡ 512 * blocks = simp length-set size in
     fill_by_all (λ i. fresh_volume_word blocks inodes (i / 512) (i % 512)) (set (set (set (set (set marked 0 volume_magic) 1 1) 2 blocks) 3 inodes) 1024 1) (512 * blocks) 0 long
-      (λ i lt. volume_at (bitmap_word (reserved_blocks inodes)) marked volume_magic blocks inodes (i / 512) (i % 512) i (omega arith) (omega arith) (omega arith)
-        (is i ∙ ap (λ (z : ℕ). if nat_le 512 i && nat_lt i 1024 then bitmap_word (reserved_blocks inodes) (i - 512) else z) (ap (λ (xs : List ℕ). get_or xs i 0) none ∙ zero_at (512 * blocks) i)))
+    (λ i lt. volume_at (bitmap_word (reserved_blocks inodes)) marked volume_magic blocks inodes (i / 512) (i % 512) i (omega arith) (omega arith) (omega arith)
+    (is i ∙ ap (λ (z : ℕ). if nat_le 512 i && nat_lt i 1024 then bitmap_word (reserved_blocks inodes) (i - 512) else z) (ap (λ (xs : List ℕ). get_or xs i 0) none ∙ zero_at (512 * blocks) i)))
 
 -- the bits of a bitmap of used blocks
 bit_of : (count q t : ℕ) → t < 64 → bit_at (bitmap_word count q) t ≡ (if nat_lt (64 * q + t) count then 1 else 0)
@@ -107,9 +107,9 @@ marked_in words blocks inodes b is room lt =
     let block : i / 512 ≡ 1 = omega arith in
     let word : i % 512 ≡ b / 64 = omega arith in
     let read : slice_index words i ≡ fresh_volume_word blocks inodes (i / 512) (i % 512) =
-        ap (λ (ws : List ℕ). slice_index ws i) is ∙ get_or-map-range_with_len (λ j. fresh_volume_word blocks inodes (j / 512) (j % 512)) 0 (512 * blocks) i i 0 (omega arith) (omega arith) in
+    ap (λ (ws : List ℕ). slice_index ws i) is ∙ get_or-map-range_with_len (λ j. fresh_volume_word blocks inodes (j / 512) (j % 512)) 0 (512 * blocks) i i 0 (omega arith) (omega arith) in
     let value : fresh_volume_word blocks inodes (i / 512) (i % 512) ≡ bitmap_word (reserved_blocks inodes) (b / 64) =
-        ap (λ (c : ℕ). fresh_volume_word blocks inodes c (i % 512)) block ∙ ap (bitmap_word (reserved_blocks inodes)) word in
+    ap (λ (c : ℕ). fresh_volume_word blocks inodes c (i % 512)) block ∙ ap (bitmap_word (reserved_blocks inodes)) word in
     let whole : 64 * (b / 64) + b % 64 ≡ b = omega arith in
     ap (λ (v : ℕ). bit_at v (b % 64)) (read ∙ value) ∙ bit_of (reserved_blocks inodes) (b / 64) (b % 64) (omega arith)
     ∙ ap (λ (n : ℕ). if nat_lt n (reserved_blocks inodes) then 1 else 0) whole

@@ -1,5 +1,5 @@
 -- The rules of the header, of bytes and of their words.
-use Rattle.std.proofs.Common.{◌≡◌, ◌≢◌, ◌<◌, ◌≤◌, ◌↔◌, ℕ, ◌+◌, ◌*◌, ◌^◌, All, List, length, take, drop, ◌-◌, slice_index, refl, sym, ap, ◌∙◌, subst, arith, Result, Ok, Err, MatchResult}
+use Rattle.std.proofs.Common.{◌≡◌, ◌≢◌, ◌<◌, ◌≤◌, ℕ, ◌*◌, ◌^◌, All, List, length, take, drop, ◌-◌, slice_index, refl, sym, ap, ◌∙◌, subst, arith}
 use Rattle.byteorder.specs.Endian.{little_number}
 use Rattle.std.proofs.lemmas.List.{take_rest}
 use Rattle.std.proofs.lemmas.List.Elements.{recursion_from_All}
@@ -42,7 +42,8 @@ image_from bytes words long at keeps =
       long = subst IsImageLength long keeps.long;
       magic = w0 ∙ keeps.magic;
       version = w1 ∙ keeps.version;
-      geometry = rw (w2, w3, ← long) keeps.geometry }
+      geometry = rw (w2, w3, ← long) keeps.geometry;
+    }
 
 -- and the other way round
 pub keeps_from : (bytes words : List ℕ) → length bytes ≡ 8 * length words → ((k : ℕ) → k < length words → word_at bytes k ≡ slice_index words k) → IsImage words → KeepsRules bytes
@@ -56,7 +57,8 @@ keeps_from bytes words long at image =
       long = subst IsImageLength (sym long) image.long;
       magic = w0 ∙ image.magic;
       version = w1 ∙ image.version;
-      geometry = rw (w2, w3, long) image.geometry }
+      geometry = rw (w2, w3, long) image.geometry;
+    }
 
 -- the words of an image have bytes that keep the rules, so no rule's fault is told of them
 pub only_err : (bytes words : List ℕ) (fault : ImageFault) → fault ≢ Memory → FailsFirst bytes fault → All (λ w. w < 2 ^ 64) words → bytes ≡ bytes_of words → IsImage words → fault ≡ Memory

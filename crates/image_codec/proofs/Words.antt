@@ -1,12 +1,12 @@
 -- Words and their bytes: each is read back as it was written.
-use Rattle.std.proofs.Common.{◌≡◌, ◌<◌, ◌≤◌, ℕ, zero, suc, ◌+◌, ◌*◌, ◌^◌, List, [], ◌∷◌, ◌++◌, length, take, drop, get_or, slice_index, refl, sym, ap, ◌∙◌, subst, inl, inr, arith, length-append, length-drop}
+use Rattle.std.proofs.Common.{◌≡◌, ◌<◌, ◌≤◌, ℕ, zero, suc, ◌+◌, ◌*◌, ◌^◌, List, [], ◌∷◌, ◌++◌, length, take, drop, get_or, slice_index, refl, sym, ap, ◌∙◌, inl, inr, arith, length-append, length-drop}
 use Rattle.std.proofs.lemmas.List.{take-append-drop, drop-drop, drop_at, length-take-le, nil_from_length, ext_get_or, get_or-take, get_or-drop, get_or_past, length-take}
 use Rattle.std.proofs.lemmas.Bool.{cases_lt}
 use Rattle.std.proofs.lemmas.Nat.{le_bytes_8}
 use Rattle.std.specs.Int.{w64, from_le_bytes}
-use Rattle.std.specs.List.{flat_map, AllByRecursion}
+use Rattle.std.specs.List.{AllByRecursion}
 use Rattle.byteorder.specs.Endian.{little_bytes, little_number}
-use Rattle.byteorder.specs.Numbers.{little_from-take, little_number-reads_back, length-bytes_low_first}
+use Rattle.byteorder.specs.Numbers.{little_from-take, little_number-reads_back}
 use Rattle.image_codec.specs.Bytes.{bytes_of, word_at}
 
 -- a front of bytes is bytes
@@ -34,9 +34,9 @@ bytes_read src (d ∷ dst) long fits read =
     let short : length rest ≡ 8 * length dst = omega (arith, length-drop 8 src) in
     let each : (i : ℕ) → get_or rest i 0 < 256 = λ i. omega (arith, get_or-drop 8 src i 0, fits (8 + i)) in
     let next : (k : ℕ) → k < length dst → slice_index dst k ≡ little_number 8 (drop (8 * k) rest) = λ k lt.
-        let place : 8 + 8 * k ≡ 8 * (suc k) = omega arith in
-        let at : drop (8 * k) rest ≡ drop (8 * (suc k)) src = drop-drop (8 * k) 8 src ∙ ap (λ (n : ℕ). drop n src) place in
-        read (suc k) (omega arith) ∙ ap (little_number 8) (sym at) in
+    let place : 8 + 8 * k ≡ 8 * (suc k) = omega arith in
+    let at : drop (8 * k) rest ≡ drop (8 * (suc k)) src = drop-drop (8 * k) 8 src ∙ ap (λ (n : ℕ). drop n src) place in
+    read (suc k) (omega arith) ∙ ap (little_number 8) (sym at) in
     let first : take 8 src ≡ little_bytes 8 d = sym (number_bytes src (omega arith) fits) ∙ ap (little_bytes 8) (sym here) in
     sym (take-append-drop 8 src) ∙ ap (λ (xs : List ℕ). xs ++ rest) first ∙ ap (λ (xs : List ℕ). little_bytes 8 d ++ xs) (bytes_read rest dst short each next)
 
@@ -53,7 +53,7 @@ word_at-bytes_of (w ∷ words) (suc k) fits lt =
     let place : 8 * (suc k) ≡ 8 + 8 * k = omega arith in
     let all : List ℕ = little_bytes 8 w ++ bytes_of words in
     let at : drop (8 * (suc k)) all ≡ drop (8 * k) (bytes_of words) =
-        ap (λ (n : ℕ). drop n all) place ∙ sym (drop-drop (8 * k) 8 all) ∙ ap (drop (8 * k)) (drop_at (little_bytes 8 w) (bytes_of words) 8 refl) in
+    ap (λ (n : ℕ). drop n all) place ∙ sym (drop-drop (8 * k) 8 all) ∙ ap (drop (8 * k)) (drop_at (little_bytes 8 w) (bytes_of words) 8 refl) in
     ap (little_number 8) at ∙ word_at-bytes_of words k fits.1 (omega arith)
 
 -- words of the same bytes are the same

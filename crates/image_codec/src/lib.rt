@@ -4,8 +4,12 @@
 
 mod fault;
 mod image;
+mod laws;
+#[cfg(test)]
+mod tests;
 mod volume;
 
 pub use fault::ImageFault;
 pub use image::{fill_image, fresh_image, read_image, write_image};
+pub use laws::write_and_read;
 pub use volume::fresh_volume;

@@ -3,6 +3,8 @@
 
 mod failures;
 mod host;
+#[cfg(test)]
+mod host_tests;
 mod lists;
 mod mem_host;
 mod mem_sink;
