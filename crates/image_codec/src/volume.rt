@@ -1,0 +1,66 @@
+//! The fresh volume.
+
+ghost use Rattle.std.specs.Prelude.{◌≡◌, ◌<◌, ◌≤◌, ℕ, ◌+◌, ◌-◌, ◌*◌, ◌/◌, ◌%◌, length, replicate, slice_index, nat_lt, nat_le, ◌&&◌, if◌then◌else◌, IfOk};
+ghost use Rattle.std.specs.Int.{bit_at};
+ghost use Rattle.image_codec.specs.Volume.{IsVolumeShape, bitmap_word, fresh_volume_words, reserved_blocks};
+
+use rio_base::VolumeShape;
+use std::alloc::{AllocError, Global};
+
+/// The magic of a volume, the text `RIOVOLUM` as a word.
+const VOLUME_MAGIC: u64 = 0x4d55_4c4f_564f_4952;
+
+/// The version of the volume's layout.
+const VOLUME_VERSION: u64 = 1;
+
+/// The kind of an inode that is a directory.
+const KIND_DIRECTORY: u64 = 1;
+
+/// Words of a block.
+const BLOCK_WORDS: usize = 512;
+
+/// Word `at` of a bitmap whose first `count` blocks are used.
+fn used_word(count: u32, at: usize) -> u64
+    requires { at < 512 }
+    ensures { result ≡ bitmap_word count at }
+{
+    let used = count.saturating_sub(64 * at as u32);
+    if used < 64 { (1 << used) - 1 } else { u64::MAX }
+}
+
+/// Marks the first `count` blocks used in the bitmap of a volume, which is its block 1. No other word changes.
+fn mark_front(words: &mut [u64], count: u32)
+    requires { 1024 ≤ length words.old }
+    ensures { (i : ℕ) → slice_index words.new i ≡ (if nat_le 512 i && nat_lt i 1024 then bitmap_word count (i - 512) else slice_index words.old i) }
+{
+    for at in 0..BLOCK_WORDS {
+        words[BLOCK_WORDS + at] = used_word(count, at);
+    }
+}
+
+/// Writes a fresh volume over zeros.
+fn write_volume(words: &mut [u64], shape: &VolumeShape)
+    requires shape { IsVolumeShape shape.now }
+    requires zeros { words.old ≡ replicate (512 * shape.now.blocks) 0 }
+    ensures { words.new ≡ fresh_volume_words shape.now.blocks shape.now.inodes }
+{
+    mark_front(words, 2 + shape.inodes / 32);
+    words[0] = VOLUME_MAGIC;
+    words[1] = VOLUME_VERSION;
+    words[2] = shape.blocks as u64;
+    words[3] = shape.inodes as u64;
+    words[2 * BLOCK_WORDS] = KIND_DIRECTORY;
+}
+
+/// The words of a volume that has nothing but an empty root directory: the superblock, a bitmap with the reserved blocks
+/// marked used, inode 1, and zeros. The inodes are from 32 to 32,768, a multiple of 32, and the blocks from one more than
+/// the reserved ones to 32,768.
+pub fn fresh_volume(alloc: Global, shape: &VolumeShape) -> Result<Vec<u64>, AllocError>
+    requires { IsVolumeShape shape.now }
+    ensures value { IfOk result (λ words. words.items ≡ fresh_volume_words shape.now.blocks shape.now.inodes) }
+    ensures marked { IfOk result (λ words. (b : ℕ) → b < 32768 → bit_at (slice_index words.items (512 + b / 64)) (b % 64) ≡ (if nat_lt b (reserved_blocks shape.now.inodes) then 1 else 0)) }
+{
+    let mut words = vec![in alloc; 0u64; BLOCK_WORDS * shape.blocks as usize]?;
+    write_volume(&mut words, shape);
+    Ok(words)
+}
