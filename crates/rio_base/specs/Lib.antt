@@ -2,3 +2,9 @@ pub mod Counts
 pub mod Streams
 pub mod MemStreams
 pub mod Pieces
+pub mod Blocks
+pub mod Volume
+pub mod Regions
+pub mod Rules
+pub mod ListVolumes
+pub mod ListRegions

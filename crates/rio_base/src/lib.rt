@@ -1,18 +1,28 @@
 //! What every crate of rio stands on: the plain types, and the traits of the outside world.
 #![tactic(auto)]
 
+mod blocks;
 mod failures;
+mod list_region;
+mod list_volume;
 mod lists;
 mod mem_sink;
 mod mem_source;
 mod places;
+mod region_words;
 mod sink;
 mod source;
+mod volume;
 
+pub use blocks::Blocks;
 pub use failures::{DiskFail, Failed, Stopped, VolFail};
+pub use list_region::ListRegion;
+pub use list_volume::ListVolume;
 pub use lists::{BlockList, HeapList, InoList, NameList, Octets, RangeList, Words};
 pub use mem_sink::MemSink;
 pub use mem_source::MemSource;
 pub use places::{Block, Ino, Page, PageName, VolumeShape, WordAt};
+pub use region_words::RegionWords;
 pub use sink::Sink;
 pub use source::Source;
+pub use volume::Volume;
