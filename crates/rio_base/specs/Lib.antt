@@ -8,3 +8,4 @@ pub mod Regions
 pub mod Rules
 pub mod ListVolumes
 pub mod ListRegions
+pub mod Shapes

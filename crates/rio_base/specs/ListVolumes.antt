@@ -80,13 +80,13 @@ marks_in_update : (updating : Bool) (mark : Bool) → updating ≡ true → (upd
 marks_in_update true mark u e = e
 marks_in_update false mark u e = absurd (true_false (sym u))
 
-marks_outside : (updating : Bool) (mark : Bool) → updating ≡ false → (updating && mark) ≡ false
-marks_outside true mark u = absurd (true_false u)
-marks_outside false mark u = refl
+marks_updating : (updating : Bool) (mark : Bool) → (updating && mark) ≡ true → updating ≡ true
+marks_updating true mark e = refl
+marks_updating false mark e = absurd (true_false (sym e))
 
 pub list_settled : (v : ListVolume) → ListSound v → Settled (list_seen v) (list_kept v)
 list_settled v s = record {
   idle = λ u. record { stands = λ b l w. ap (λ (words : List ℕ). flat words b w) (s.idle u) };
   in_update = λ u. record { untouched = λ b t w. s.in_update u b (marks_in_update v.updating _ u t) w };
-  none = λ u b. marks_outside v.updating _ u;
+  touched = λ b e. marks_updating v.updating _ e;
 }

@@ -111,7 +111,8 @@ pub record Open (s : Seen) (k : Kept) : Type 0 where
 pub record Settled (s : Seen) (k : Kept) : Type 0 where
   pub idle : k.updating ≡ false → Idle s k
   pub in_update : k.updating ≡ true → Open s k
-  pub none : k.updating ≡ false → (b : ℕ) → k.touched b ≡ false
+  -- blocks are touched in an update alone
+  pub touched : (b : ℕ) → k.touched b ≡ true → k.updating ≡ true
 
 -- ---- calls
 

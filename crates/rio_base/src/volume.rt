@@ -96,7 +96,6 @@ pub trait Volume: Blocks {
     fn edit(&mut self, b: Block, w: u16, v: u64) -> Result<(), Stopped>
         requires sound { Self.sound self.old }
         requires place { IsPlace (Self.seen self.old) b.0 w }
-        requires in_update { (kept self.old).updating ≡ true }
         requires touched { (kept self.old).touched b.0 ≡ true }
         ensures ok { OnOk result ((Self.seen self.new).words ≡ put (Self.seen self.old).words b.0 w v) }
         ensures either { OldOrPut (Self.seen self.old).words (Self.seen self.new).words b.0 w v }
