@@ -6,7 +6,7 @@ use Rattle.rio_base.specs.declared.places.PageName.{PageName}
 use Rattle.rio_base.specs.declared.places.VolumeShape.{VolumeShape}
 use Rattle.rio_base.specs.declared.failures.VolFail.{VolFail}
 use Rattle.rio_base.specs.declared.failures.VolFail.TheVariants.{Fault, Stopped}
-use Rattle.rio_base.specs.Blocks.{Seen, Health, FailCause, Ends, HaltCause, Halts, SamePage, CanName, Caches, Looks}
+use Rattle.rio_base.specs.Blocks.{Seen, Health, FailCause, Ends, HaltCause, Halts, SamePage, CanName, Caches, Drops, Looks}
 use Rattle.rio_base.specs.Shapes.{IsShape, HasShape, reserved}
 
 pub rose_later : (a b c : ℕ) → a ≤ b → Rose b c → Rose a c
@@ -48,6 +48,21 @@ still_unnamed shape s t b h count k = record {
   count = count ∙ h.count;
   unnamed = λ c within cached. unnamed_at shape s t b c h k within cached (cases_eq c b);
 }
+
+nameless : (s t : Seen) (b : ℕ) → CanName s b None → ((s.cached b ≡ true) × (t.names b ≡ s.names b)) ⊎ (t.names b ≡ None) → SamePage (t.names b) None
+nameless s t b h (inl kept) = subst (λ name. SamePage name None) (sym kept.1) (h.agrees kept.0)
+nameless s t b h (inr none) = subst (λ name. SamePage name None) (sym none) tt
+
+nameless_at : (s t : Seen) (a b : ℕ) → CanName s b None → Caches s t a None → t.cached b ≡ true → (b ≡ a) ⊎ (b ≢ a) → SamePage (t.names b) None
+nameless_at s t a b h k cached (inr away) = nameless s t b h (inl (k.others b away cached))
+nameless_at s t a b h k cached (inl same) = nameless s t b h (subst (λ x. (t.cached x ≡ true → ((s.cached x ≡ true) × (t.names x ≡ s.names x)) ⊎ (t.names x ≡ None))) (sym same) k.named cached)
+
+-- a block that may be asked for as metadata still may, after another was cached as metadata, or some were dropped
+pub still_metadata : (s t : Seen) (a b : ℕ) → CanName s b None → Caches s t a None → CanName t b None
+still_metadata s t a b h k = record { in_range = tt; agrees = λ cached. nameless_at s t a b h k cached (cases_eq b a) }
+
+pub dropped_metadata : (s t : Seen) (b : ℕ) → CanName s b None → Drops s t → CanName t b None
+dropped_metadata s t b h k = record { in_range = tt; agrees = λ cached. nameless s t b h (inl (k.kept b cached)) }
 
 -- ---- one block under one name, several times
 

@@ -13,6 +13,8 @@ mod region_words;
 mod sink;
 mod source;
 mod volume;
+#[cfg(test)]
+mod volume_tests;
 
 pub use blocks::Blocks;
 pub use failures::{DiskFail, Failed, Stopped, VolFail};

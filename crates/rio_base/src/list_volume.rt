@@ -118,7 +118,7 @@ impl ListVolume {
         requires { ListSound self.old }
         ensures { IsRestarted stop_after self.old self.new }
     {
-        self.words.copy_from_slice(&self.standing);
+        self.words.copy_from_slice(self.standing.as_slice());
         self.updating = false;
         self.stopped = false;
         self.left = stop_after;
