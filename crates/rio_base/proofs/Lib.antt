@@ -1,2 +1,4 @@
+pub mod Clears
 pub mod Copies
+pub mod Ends
 pub mod Files

@@ -1,6 +1,13 @@
+pub mod Blocks
 pub mod Counts
-pub mod Streams
+pub mod Hosts
+pub mod ListRegions
+pub mod ListVolumes
+pub mod MemHosts
 pub mod MemStreams
 pub mod Pieces
-pub mod Hosts
-pub mod MemHosts
+pub mod Regions
+pub mod Rules
+pub mod Shapes
+pub mod Streams
+pub mod Volume

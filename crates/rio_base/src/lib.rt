@@ -1,24 +1,36 @@
 //! What every crate of rio stands on: the plain types, and the traits of the outside world.
 #![tactic(auto)]
 
+mod blocks;
 mod failures;
 mod host;
 #[cfg(test)]
 mod host_tests;
+mod list_region;
+mod list_volume;
 mod lists;
 mod mem_host;
 mod mem_sink;
 mod mem_source;
 mod places;
+mod region_words;
 mod sink;
 mod source;
+mod volume;
+#[cfg(test)]
+mod volume_tests;
 
+pub use blocks::Blocks;
 pub use failures::{DiskFail, Failed, Stopped, VolFail};
 pub use host::Host;
+pub use list_region::ListRegion;
+pub use list_volume::ListVolume;
 pub use lists::{BlockList, HeapList, InoList, NameList, Octets, RangeList, Words};
 pub use mem_host::MemHost;
 pub use mem_sink::MemSink;
 pub use mem_source::MemSource;
 pub use places::{Block, Ino, Page, PageName, VolumeShape, WordAt};
+pub use region_words::RegionWords;
 pub use sink::Sink;
 pub use source::Source;
+pub use volume::Volume;

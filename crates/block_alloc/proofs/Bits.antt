@@ -1,0 +1,87 @@
+-- The bits of a word: how many are 1, and the lowest of them.
+use Rattle.std.proofs.Common.{◌≡◌, ◌≢◌, ℕ, zero, suc, ◌+◌, ◌-◌, ◌*◌, ◌/◌, ◌%◌, ◌^◌, ◌<◌, ◌≤◌, min, Bool, true, false, cond, List, [], ◌∷◌, ◌++◌, length, refl, sym, ap, ◌∙◌, arith, ◌==◌, nat_lt, ◌&&◌, if◌then◌else◌, ◌⊎◌, inl, inr, bit_and, pow-suc, subst}
+use Rattle.std.specs.Prelude.{count_ones}
+use Rattle.std.specs.Int.{bit_at, Width, w64, bit_not, trailing_zeros}
+use Rattle.std.specs.List.{filter, range_with_len}
+use Rattle.std.proofs.lemmas.Nat.{ones_cat}
+use Rattle.std.proofs.lemmas.Nat.Bits.{bit_at_lowest, bit_at-suc, bit_at-zero, bit_at_and, bit_at_not, bit_at_ones, bit_at_ones_above, bit_at-lt, bit_at-trailing_zeros, bit_at_clear_same, bit_at_clear_other}
+use Rattle.std.proofs.lemmas.Bool.Decides.{nat_tests}
+use Rattle.std.proofs.lemmas.Bool.{cases_order}
+use Rattle.rio_base.specs.Blocks.{BlockWords}
+use Rattle.block_alloc.specs.Bitmap.{is_free, used_bit}
+use Rattle.block_alloc.specs.Words.{counts, FreeBits, set_bits}
+use Rattle.block_alloc.proofs.Ranges.{Agrees, filter_same, filter_none, filter_split}
+
+-- the bits of x are the test p, from place s on
+pub record Shows (x : ℕ) (p : ℕ → Bool) (s n : ℕ) : Type 0 where
+  pub fits : x < 2 ^ n
+  pub each : (i : ℕ) → i < n → bit_at x i ≡ cond (p (s + i)) 1 0
+
+low_ones : (r : ℕ) → r < 2 → count_ones r ≡ r
+unfolding lib.Count.ones
+low_ones zero h = refl
+low_ones (suc zero) h = refl
+low_ones (suc (suc r)) h = absurd (omega arith)
+
+half_ones : (x : ℕ) → count_ones x ≡ count_ones (x / 2) + x % 2
+half_ones x =
+    let whole : x ≡ x / 2 * 2 ^ 1 + x % 2 = omega arith in
+    let low : count_ones (x % 2) ≡ x % 2 = low_ones (x % 2) (omega arith) in
+    ap count_ones whole ∙ ones_cat 1 (x / 2) (x % 2) (omega arith) ∙ ap (λ k. count_ones (x / 2) + k) low
+
+half_fits : (x n : ℕ) → x < 2 ^ suc n → x / 2 < 2 ^ n
+half_fits x n h = let twice : 2 ^ suc n ≡ 2 ^ n * 2 = pow-suc 2 n in omega (arith, twice, h)
+
+counted : (b : Bool) (s : ℕ) (xs : List ℕ) → length xs + cond b 1 0 ≡ length (cond b (s ∷ xs) xs)
+counted true s xs = omega arith
+counted false s xs = omega arith
+
+shows_rest : (x : ℕ) (p : ℕ → Bool) (s n : ℕ) → Shows x p s (suc n) → Shows (x / 2) p (s + 1) n
+shows_rest x p s n h = record {
+  fits = half_fits x n h.fits;
+  each = λ i within.
+      let place : s + suc i ≡ (s + 1) + i = omega arith in
+      sym (bit_at-suc x i) ∙ h.each (suc i) (omega arith) ∙ ap (λ j. cond (p j) 1 0) place;
+}
+
+pub count_shown : (n x s : ℕ) (p : ℕ → Bool) → Shows x p s n → count_ones x ≡ length (filter p (range_with_len s n))
+count_shown zero x s p h =
+    let none : x ≡ 0 = omega (arith, h.fits) in
+    ap count_ones none ∙ low_ones 0 (omega arith)
+count_shown (suc n) x s p h =
+    let place : s + 0 ≡ s = omega arith in
+    let first : x % 2 ≡ cond (p s) 1 0 = sym (bit_at_lowest x) ∙ h.each 0 (omega arith) ∙ ap (λ j. cond (p j) 1 0) place in
+    half_ones x ∙ ap (λ k. k + x % 2) (count_shown n (x / 2) (s + 1) p (shows_rest x p s n h)) ∙ ap (λ k. length (filter p (range_with_len (s + 1) n)) + k) first ∙ counted (p s) s (filter p (range_with_len (s + 1) n))
+
+-- ---- a word of the bitmap
+
+inside : (u b n : ℕ) → u < 2 → b < n → min (1 - u) 1 ≡ cond (nat_lt b n && (u == 0)) 1 0
+inside u b n small within = grind (arith, nat_tests)
+
+outside : (u b n : ℕ) → n ≤ b → min (1 - u) 0 ≡ cond (nat_lt b n && (u == 0)) 1 0
+outside u b n past = grind (arith, nat_tests)
+
+masked : (used k i : ℕ) → used < 2 ^ 64 → i < 64 → bit_at (bit_and (bit_not w64 used) (2 ^ k - 1)) i ≡ min (1 - bit_at used i) (bit_at (2 ^ k - 1) i)
+masked used k i fits within = bit_at_and (bit_not w64 used) (2 ^ k - 1) i ∙ ap (λ a. min a (bit_at (2 ^ k - 1) i)) (bit_at_not w64 used i fits within)
+
+free_bit : (used blocks w i : ℕ) → used < 2 ^ 64 → i < 64 → (64 * w + i < blocks) ⊎ (blocks ≤ 64 * w + i) → bit_at (bit_and (bit_not w64 used) (2 ^ min (blocks - 64 * w) 64 - 1)) i ≡ cond (nat_lt (64 * w + i) blocks && (bit_at used i == 0)) 1 0
+free_bit used blocks w i fits within (inl below) =
+    masked used (min (blocks - 64 * w) 64) i fits within ∙ ap (λ a. min (1 - bit_at used i) a) (bit_at_ones (min (blocks - 64 * w) 64) i (omega arith)) ∙ inside (bit_at used i) (64 * w + i) blocks (bit_at-lt used i) below
+free_bit used blocks w i fits within (inr past) =
+    masked used (min (blocks - 64 * w) 64) i fits within ∙ ap (λ a. min (1 - bit_at used i) a) (bit_at_ones_above (min (blocks - 64 * w) 64) i (omega arith)) ∙ outside (bit_at used i) (64 * w + i) blocks past
+
+below_or_past : (a b : ℕ) → (a ≡ b) ⊎ ((a < b) ⊎ (b < a)) → (a < b) ⊎ (b ≤ a)
+below_or_past a b (inl e) = inr (omega arith)
+below_or_past a b (inr (inl l)) = inl l
+below_or_past a b (inr (inr g)) = inr (omega arith)
+
+pub free_word : (words : BlockWords) (used blocks w : ℕ) → used < 2 ^ 64 → used ≡ words 1 w → FreeBits words blocks w (bit_and (bit_not w64 used) (2 ^ min (blocks - 64 * w) 64 - 1))
+free_word words used blocks w fits is = record {
+  each = λ i within.
+      let word : w ≡ (64 * w + i) / 64 = omega arith in
+      let place : i ≡ (64 * w + i) % 64 = omega arith in
+      free_bit used blocks w i fits within (below_or_past (64 * w + i) blocks (cases_order (64 * w + i) blocks)) ∙ ap (λ a. cond (nat_lt (64 * w + i) blocks && (bit_at a i == 0)) 1 0) (is ∙ ap (words 1) word) ∙ ap (λ a. cond (nat_lt (64 * w + i) blocks && (bit_at (words 1 ((64 * w + i) / 64)) a == 0)) 1 0) place;
+}
+
+pub free_masked : (words : BlockWords) (used mask blocks w : ℕ) → used < 2 ^ 64 → used ≡ words 1 w → mask ≡ 2 ^ min (blocks - 64 * w) 64 - 1 → FreeBits words blocks w (bit_and (bit_not w64 used) mask)
+free_masked words used mask blocks w fits is masked = subst (λ m. FreeBits words blocks w (bit_and (bit_not w64 used) m)) (sym masked) (free_word words used blocks w fits is)

@@ -1,0 +1,26 @@
+use Rattle.std.proofs.Common.{◌≡◌, ℕ, ◌-◌, ◌*◌, ◌≤◌, length, take}
+use Rattle.std.specs.Prelude.{None}
+use Rattle.rio_base.specs.Blocks.{Looks, Caches}
+use Rattle.rio_base.specs.Shapes.{HasShape}
+use Rattle.block_alloc.specs.Bitmap.{numbers}
+use Rattle.block_alloc.proofs.Free.{free_before}
+use Rattle.block_alloc.proofs.taking.take.Given as goal
+
+abbrev pub invariant-loop-w : goal.invariant-loop-w
+invariant-loop-w g l =
+    let seen = g.V.Blocks.seen in
+    let health = g.V.Blocks.health in
+    record {
+      within : l.w ≤ l.words;
+      found : numbers l.found.items ≡ take l.n (free_before (seen l.fn.v).words l.shape.blocks l.w);
+      sound : g.V.Blocks.sound l.v;
+      looks : Looks (seen l.fn.v) (seen l.v);
+      shape : HasShape l.shape (seen l.v);
+      caches : Caches (seen l.fn.v) (seen l.v) 1 None;
+      passes : g.V.Blocks.passes l.fn.v l.v;
+      later : (health l.fn.v).faults ≤ (health l.v).faults;
+      running : (health l.v).stopped ≡ (health l.fn.v).stopped;
+    }
+
+abbrev pub decreases-loop-w : goal.decreases-loop-w
+decreases-loop-w g l = l.words - l.w

@@ -1,0 +1,28 @@
+-- The region in memory: a list of words, with no machine below.
+use Rattle.std.specs.Prelude.{◌≡◌, ℕ, List, slice_index_or, length, replicate, Option, is_some, false, true}
+use Rattle.rio_base.specs.declared.list_region.ListRegion.{ListRegion}
+use Rattle.rio_base.specs.Blocks.{Health}
+use Rattle.rio_base.specs.Volume.{Below}
+use Rattle.rio_base.specs.Regions.{RegionContent}
+use Rattle.rio_base.specs.ListVolumes.{list_causes}
+use Rattle.std.specs.Prelude.{None}
+
+abbrev pub region_content : ListRegion → RegionContent
+region_content r at = slice_index_or r.words.items at 0
+
+abbrev pub region_health : ListRegion → Health
+region_health r = record { faults = 0; stopped = r.stopped }
+
+abbrev pub region_below : ListRegion → Below
+region_below r = record { roomy = true; home = None; writes = 0; around = None; causes = list_causes (is_some r.left) }
+
+pub record RegionReady (r : ListRegion) : Type 0 where
+  pub fits : length r.words.items ≡ r.count
+
+-- a new region: zeros, not stopped
+pub record IsNewRegion (words : ℕ) (stop_after : Option ℕ) (r : ListRegion) : Type 0 where
+  pub ready : RegionReady r
+  pub count : r.count ≡ words
+  pub zeros : r.words.items ≡ replicate words 0
+  pub running : r.stopped ≡ false
+  pub left : r.left ≡ stop_after

@@ -1,0 +1,22 @@
+-- The sizes of a volume, and what of it is reserved.
+use Rattle.std.specs.Prelude.{◌≡◌, ℕ, ◌+◌, ◌/◌, ◌%◌, ◌<◌, ◌≤◌, true, None}
+use Rattle.rio_base.specs.declared.places.VolumeShape.{VolumeShape}
+use Rattle.rio_base.specs.Blocks.{Seen}
+
+-- sizes that a volume may have
+pub record IsShape (shape : VolumeShape) : Type 0 where
+  pub inodes_from : 32 ≤ shape.inodes
+  pub inodes_to : shape.inodes ≤ 32768
+  pub inode_blocks : shape.inodes % 32 ≡ 0
+  pub blocks_from : 3 + shape.inodes / 32 ≤ shape.blocks
+  pub blocks_to : shape.blocks ≤ 32768
+
+-- superblock, bitmap and inodes: so many blocks from block 0 on
+abbrev pub reserved : VolumeShape → ℕ
+reserved shape = 2 + shape.inodes / 32
+
+-- the volume has this shape, and no cached page of a reserved block bears a name
+pub record HasShape (shape : VolumeShape) (s : Seen) : Type 0 where
+  pub sizes : IsShape shape
+  pub count : s.count ≡ shape.blocks
+  pub unnamed : (b : ℕ) → b < reserved shape → s.cached b ≡ true → s.names b ≡ None

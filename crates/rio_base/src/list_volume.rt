@@ -1,0 +1,249 @@
+//! A volume in memory, for tests.
+
+ghost use Rattle.std.specs.Prelude.{◌≡◌, ℕ, ◌+◌, ◌*◌, ◌<◌, ◌≤◌, ◌⊎◌, true, false, if◌then◌else◌, length, slice_set, IfOk};
+ghost use Rattle.rio_base.specs.Blocks.{Halts};
+ghost use Rattle.rio_base.specs.Volume.{Goes, cleared};
+ghost use Rattle.rio_base.specs.ListVolumes.{flat, zeroed, mark_of, list_health, list_below, ListSound, IsNew, IsRestarted};
+
+use crate::blocks::Blocks;
+use crate::failures::{Stopped, VolFail};
+use crate::places::{Block, PageName};
+use crate::volume::Volume;
+use std::alloc::{AllocError, Global};
+
+/// Words in a block.
+const BLOCK_WORDS: usize = 512;
+
+/// A volume that lies in memory: a list of blocks, and a list of those that stand. It has no disk and caches nothing,
+/// so that it never answers `Fault`. It can be told to stop.
+#[derive(Drop)]
+pub struct ListVolume {
+    count: u32,
+    words: Vec<u64>,
+    standing: Vec<u64>,
+    loose: Vec<bool>,
+    touched: Vec<bool>,
+    touches: u32,
+    updating: bool,
+    left: Option<u64>,
+    stopped: bool,
+}
+
+/// Makes a block zero where the blocks lie one after the other.
+fn clear_block(words: &mut [u64], b: Block)
+    requires { 512 * b.0 + 512 ≤ length words.old }
+    ensures { words.new ≡ zeroed words.old b.0 }
+{
+    let from = ListVolume::place(b, 0);
+    words[from..from + BLOCK_WORDS].fill(0);
+}
+
+/// Makes a block zero in a list of blocks.
+#[tactic(auto, using(crate::proofs::Clears::flat_zeroed, crate::proofs::Clears::length_zeroed))]
+fn clear_listed(words: &mut Vec<u64>, b: Block)
+    requires { 512 * b.0 + 512 ≤ length words.old.items }
+    ensures items { words.new.items ≡ zeroed words.old.items b.0 }
+    ensures words { flat words.new.items ≡ cleared (flat words.old.items) b.0 }
+    ensures len { length words.new.items ≡ length words.old.items }
+{
+    clear_block(words, b);
+}
+
+impl ListVolume {
+    /// A volume of `blocks` blocks of zeros. Each call but [`Blocks::word`] is one step; with `stop_after` the call
+    /// that would be one step more answers `Stopped` and changes nothing, and so does each call after it.
+    pub fn new(
+        alloc: Global,
+        blocks: u32,
+        stop_after: Option<u64>,
+    ) -> Result<ListVolume, AllocError>
+        ensures { IfOk result (IsNew blocks stop_after) }
+    {
+        let words = BLOCK_WORDS * blocks as usize;
+        Ok(ListVolume {
+            count: blocks,
+            words: vec![in alloc; 0; words]?,
+            standing: vec![in alloc; 0; words]?,
+            loose: vec![in alloc; false; blocks as usize]?,
+            touched: vec![in alloc; false; blocks as usize]?,
+            touches: 0,
+            updating: false,
+            left: stop_after,
+            stopped: false,
+        })
+    }
+
+    /// The place of a word in the lists.
+    fn place(b: Block, w: u16) -> usize
+        requires { w < 512 }
+        ensures { result ≡ 512 * b.0 + w }
+    {
+        BLOCK_WORDS * b.0 as usize + w as usize
+    }
+
+    /// Makes one step, if there is one left.
+    fn step(&mut self) -> Result<(), Stopped>
+        ensures same { self.new ≡ record self.old { left = self.new.left; stopped = self.new.stopped } }
+        ensures goes { Goes (list_health self.old) (list_below self.old) (list_health self.new) (list_below self.new) }
+        ensures ends { Halts (list_health self.old) (list_health self.new) result }
+    {
+        if self.stopped {
+            return Err(Stopped);
+        }
+        match self.left {
+            None => Ok(()),
+            Some(0) => {
+                self.stopped = true;
+                Err(Stopped)
+            }
+            Some(steps) => {
+                self.left = Some(steps - 1);
+                Ok(())
+            }
+        }
+    }
+
+    /// What stands of a word, `w` below 512.
+    pub fn standing(&self, b: Block, w: u16) -> u64
+        requires sound { ListSound self.now }
+        requires block { b.0 < self.now.count }
+        requires word { w < 512 }
+        ensures { result ≡ flat self.now.standing.items b.0 w }
+    {
+        self.standing[ListVolume::place(b, w)]
+    }
+
+    /// Goes on as a warm reboot would: what stands is what reads, no update is open, and steps are counted anew.
+    pub fn restart(&mut self, stop_after: Option<u64>)
+        requires { ListSound self.old }
+        ensures { IsRestarted stop_after self.old self.new }
+    {
+        self.words.copy_from_slice(self.standing.as_slice());
+        self.updating = false;
+        self.stopped = false;
+        self.left = stop_after;
+    }
+
+    /// Marks a block as touched.
+    fn mark(&mut self, b: Block)
+        requires within { b.0 < length self.old.touched.items }
+        requires room { (mark_of self.old.touched.items b.0 ≡ true) ⊎ (self.old.touches < 16) }
+        ensures same { self.new ≡ record self.old { touched = self.new.touched; touches = self.new.touches } }
+        ensures marked { self.new.touched.items ≡ slice_set self.old.touched.items b.0 true }
+        ensures touches { self.new.touches ≡ (if mark_of self.old.touched.items b.0 then self.old.touches else self.old.touches + 1) }
+    {
+        if !self.touched[b.0 as usize] {
+            self.touches += 1;
+        }
+        self.touched[b.0 as usize] = true;
+    }
+}
+
+impl Blocks for ListVolume {
+    ghost use Rattle.rio_base.specs.Rules.{passes_same, passes_on};
+    ghost use Rattle.rio_base.specs.Volume.{Passes};
+    ghost use Rattle.rio_base.specs.ListVolumes.{list_seen, list_health, list_below, list_kept, ListSound, fits};
+
+    ghost seen = { list_seen };
+
+    ghost health = { list_health };
+
+    ghost sound = { ListSound };
+
+    ghost sure = { λ v b. Unit {0} };
+
+    ghost passes = { λ x y. Passes (list_health x) (list_below x) (list_kept x) (list_health y) (list_below y) (list_kept y) };
+
+    ghost passes_refl = { λ x. passes_same _ _ _ };
+
+    ghost passes_trans = { λ x y z. passes_on _ _ _ _ _ _ _ _ _ };
+
+    ghost names_fit = { λ x s. fits x };
+
+    fn volume_blocks(&self) -> u32 {
+        self.count
+    }
+
+    fn word(&mut self, b: Block, name: Option<PageName>, w: u16) -> Result<u64, VolFail> {
+        if self.stopped {
+            return Err(VolFail::Stopped);
+        }
+        Ok(self.words[ListVolume::place(b, w)])
+    }
+}
+
+impl Volume for ListVolume {
+    ghost use Rattle.rio_base.specs.ListVolumes.{list_below, list_kept, list_settled};
+
+    ghost below = { list_below };
+
+    ghost kept = { list_kept };
+
+    ghost settled = { list_settled };
+
+    ghost touched_sure = { λ x b t. tt };
+
+    ghost passes_keeps = { λ x y h. h };
+
+    #[tactic(auto, using(crate::proofs::Clears::same_but_cleared))]
+    fn fresh(&mut self, b: Block, name: Option<PageName>) -> Result<(), VolFail> {
+        self.step()?;
+        clear_listed(&mut self.words, b);
+        clear_listed(&mut self.standing, b);
+        self.loose[b.0 as usize] = false;
+        Ok(())
+    }
+
+    fn store(&mut self, b: Block, name: Option<PageName>, w: u16, v: u64) -> Result<(), VolFail> {
+        self.step()?;
+        let at = ListVolume::place(b, w);
+        self.words[at] = v;
+        self.standing[at] = v;
+        Ok(())
+    }
+
+    fn begin(&mut self) -> Result<(), Stopped> {
+        self.step()?;
+        self.touched.fill(false);
+        self.touches = 0;
+        self.updating = true;
+        Ok(())
+    }
+
+    fn touch(&mut self, b: Block) -> Result<(), VolFail> {
+        self.step()?;
+        self.mark(b);
+        Ok(())
+    }
+
+    fn edit(&mut self, b: Block, w: u16, v: u64) -> Result<(), Stopped> {
+        self.step()?;
+        self.words[ListVolume::place(b, w)] = v;
+        Ok(())
+    }
+
+    fn commit(&mut self) -> Result<(), Stopped> {
+        self.step()?;
+        self.standing.copy_from_slice(&self.words);
+        self.updating = false;
+        Ok(())
+    }
+
+    fn rollback(&mut self) -> Result<(), Stopped> {
+        self.step()?;
+        self.words.copy_from_slice(&self.standing);
+        self.updating = false;
+        Ok(())
+    }
+
+    fn forget(&mut self, b: Block) -> Result<(), Stopped> {
+        self.step()?;
+        self.loose[b.0 as usize] = true;
+        Ok(())
+    }
+
+    fn flush(&mut self, k: u64) -> Result<u32, VolFail> {
+        self.step()?;
+        Ok(0)
+    }
+}
