@@ -7,3 +7,4 @@ pub mod Parts
 pub mod Passing
 pub mod Sendings
 pub mod Texts
+pub mod EncodedParts

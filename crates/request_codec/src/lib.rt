@@ -2,20 +2,16 @@
 #![tactic(auto)]
 
 mod gathered;
-mod hex_text;
-mod lines;
-mod pen;
-mod piece;
-mod gather;
-mod hex_text;
-mod lines;
-mod reply_text;
-
-pub use lines::{INPUT_LIMIT, LineFail, LineReader, NextLine};
-pub use reply_text::{write_reply, write_text};
 mod hex_digits;
+mod hex_text;
 mod lines;
 mod parse;
+mod piece;
+#[cfg(test)]
+mod reply_tests;
+mod reply_text;
+mod text_room;
 
-pub use lines::{LineFail, NextLine};
+pub use lines::{INPUT_LIMIT, LineFail, LineReader, NextLine};
 pub use parse::{long_lines_mean_nothing, one_meaning, parse_line};
+pub use reply_text::{write_reply, write_text};

@@ -1,10 +1,10 @@
 //! Lines of an input, read in large pieces.
 
-ghost use Rattle.std.specs.Prelude.{◌≡◌, ◌≤◌, ◌^◌, true, false, [], Ok, IfOk, IfErr, OnOk, IsErrOf};
+ghost use Rattle.std.specs.Prelude.{◌≡◌, ◌≤◌, ◌^◌, true, false, [], Ok, IfOk, IfErr, OnErr, OnOk, IsErrOf};
 ghost use Rattle.request_codec.specs.declared.lines.NextLine.TheVariants.{End};
 ghost use Rattle.rio_base.specs.Counts.{Rose};
 ghost use Rattle.rio_base.specs.Streams.{IsSpent};
-ghost use Rattle.request_codec.specs.Lines.{Fails, Gives, Refills};
+ghost use Rattle.request_codec.specs.Lines.{Fails, Gives, HasEnded, Refills};
 
 use crate::gathered::{Gathered, gather};
 use crate::piece::Piece;
@@ -95,6 +95,7 @@ impl LineReader {
         ensures line { IfOk result (λ next. Gives self.old (S.left source.old) next self.new (S.left source.new)) }
         ensures err { IfErr result (λ fail. Fails self.old (S.left source.old) fail self.new (S.left source.new)) }
         ensures within { OnOk result (self.new.taken ≤ 2 ^ 40) }
+        ensures closed { self.new.ended ≡ true → HasEnded self.new (S.left source.new) }
         ensures spent { self.old.ended ≡ true → (result ≡ Ok End) × (S.left source.new ≡ S.left source.old) }
         ensures later { S.faults source.old ≤ S.faults source.new }
         ensures cause { IsErrOf result LineFail.Fault → Rose (S.faults source.old) (S.faults source.new) }
@@ -120,6 +121,7 @@ impl LineReader {
         requires within { self.old.taken ≤ 2 ^ 40 }
         ensures more { IfOk result (λ more. Refills self.old (S.left source.old) more self.new (S.left source.new)) }
         ensures err { IfErr result (λ fail. Fails self.old (S.left source.old) fail self.new (S.left source.new)) }
+        ensures unended { OnErr result (self.new.ended ≡ false) }
         ensures later { S.faults source.old ≤ S.faults source.new }
         ensures cause { IsErrOf result LineFail.Fault → Rose (S.faults source.old) (S.faults source.new) }
     {
@@ -144,6 +146,7 @@ impl LineReader {
         requires full { self.old.taken ≡ 2 ^ 40 }
         ensures more { IfOk result (λ more. Refills self.old (S.left source.old) more self.new (S.left source.new)) }
         ensures err { IfErr result (λ fail. Fails self.old (S.left source.old) fail self.new (S.left source.new)) }
+        ensures unended { OnErr result (self.new.ended ≡ false) }
         ensures later { S.faults source.old ≤ S.faults source.new }
         ensures cause { IsErrOf result LineFail.Fault → Rose (S.faults source.old) (S.faults source.new) }
     {

@@ -8,7 +8,7 @@ ghost use Rattle.request_codec.specs.Sending.{Puts, Sends};
 ghost use Rattle.rio_model.specs.declared.reply.Reply.TheVariants.{Stat};
 ghost use Rattle.request_codec.specs.Text.{body_of, kind_name, listed_ino, listed_name, text_of};
 
-use crate::gather::{put, put_hex, put_number, send};
+use crate::text_room::{put, put_hex, put_number, send};
 use rio_base::{Failed, Ino, Octets, Sink};
 use rio_model::Reply;
 

@@ -4,3 +4,4 @@ pub mod Added
 pub mod Steps
 pub mod TableSteps
 pub mod Listed
+pub mod Running

@@ -14,7 +14,7 @@ use Rattle.rio_model.specs.declared.request.Request.TheVariants.{Create, Write, 
 use Rattle.rio_model.specs.declared.reply.Reply.{Reply}
 use Rattle.rio_model.specs.declared.reply.Reply.TheVariants.{Number, Bytes, Names as NamesOf, Err as Refused}
 use Rattle.rio_model.specs.Paths.{IsName, IsNameByte, names_of, walk, walk_to_dir, is_dir, from_found, as_dir}
-use Rattle.rio_model.specs.Answer.{Outcome, answer_of, answered, at_inode, bytes_from, create, least_free, make, make_at, make_in, names_in, on_file, overwritten, read, refused, with_new, with_node, write_at_start}
+use Rattle.rio_model.specs.Answer.{answer_of, answered, at_inode, bytes_from, create, least_free, make, make_at, make_in, names_in, on_file, overwritten, read, refused, with_new, with_node, write_at_start}
 use Rattle.rio_model.specs.Run.{Step, Answers, LacksMemory}
 use Rattle.request_codec.specs.Form.{IsInRoot}
 

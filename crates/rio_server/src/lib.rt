@@ -1,5 +1,6 @@
 //! Serving: requests answered one after another, and whole runs of the program.
 #![tactic(auto)]
 
+mod ends;
 mod serve;
 mod table;

@@ -1,6 +1,6 @@
 use Rattle.std.proofs.Common.{arith}
 use Rattle.request_codec.proofs.Sendings.{cut_flushed, cut_more, puts_cut, sent_cut, sent_flushed, sent_last}
-use Rattle.request_codec.proofs.gather.put.Goals as goal
+use Rattle.request_codec.proofs.text_room.put.Goals as goal
 
 pub returns-in_err-send : goal.returns-in_err-send
 returns-in_err-send g c = puts_cut c.from_residual.ensures.0 (cut_more _ (cut_flushed c.in_err-send.ensures.err))

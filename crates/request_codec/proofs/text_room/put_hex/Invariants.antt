@@ -1,7 +1,7 @@
 use Rattle.std.proofs.Common.{length, ◌-◌, ◌≤◌, take}
 use Rattle.hex.specs.Hex.{encode_lower}
 use Rattle.request_codec.specs.Sending.{Sent}
-use Rattle.request_codec.proofs.gather.put_hex.Given as goal
+use Rattle.request_codec.proofs.text_room.put_hex.Given as goal
 
 abbrev pub invariant-chunks : goal.invariant-chunks
 invariant-chunks g l =

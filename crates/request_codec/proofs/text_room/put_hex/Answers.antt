@@ -1,7 +1,7 @@
 use Rattle.std.proofs.Common.{arith}
-use Rattle.request_codec.proofs.Digits.{encoded_cut, encoded_more, encoded_none}
+use Rattle.request_codec.proofs.EncodedParts.{encoded_cut, encoded_more, encoded_none}
 use Rattle.request_codec.proofs.Sendings.{puts_cut}
-use Rattle.request_codec.proofs.gather.put_hex.Goals as goal
+use Rattle.request_codec.proofs.text_room.put_hex.Goals as goal
 
 pub chunks-init : goal.chunks-init
 chunks-init g c = record { few = omega arith; fits = omega arith; sent = encoded_none }

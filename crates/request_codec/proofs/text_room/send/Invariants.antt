@@ -1,6 +1,6 @@
 use Rattle.std.proofs.Common.{length, ◌-◌, ◌≤◌, [], drop}
 use Rattle.request_codec.specs.Sending.{Sent}
-use Rattle.request_codec.proofs.gather.send.Given as goal
+use Rattle.request_codec.proofs.text_room.send.Given as goal
 
 abbrev pub invariant-calls : goal.invariant-calls
 invariant-calls g l =

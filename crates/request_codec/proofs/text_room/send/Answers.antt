@@ -1,6 +1,6 @@
 use Rattle.std.proofs.Common.{arith}
 use Rattle.request_codec.proofs.Sendings.{fits_left, sent_piece}
-use Rattle.request_codec.proofs.gather.send.Goals as goal
+use Rattle.request_codec.proofs.text_room.send.Goals as goal
 
 pub calls-preserved : goal.calls-preserved
 calls-preserved g c =
