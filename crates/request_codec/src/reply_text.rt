@@ -12,10 +12,6 @@ use crate::gather::{put, put_hex, put_number, send};
 use rio_base::{Failed, Ino, Octets, Sink};
 use rio_model::Reply;
 
-/// What the room for a text is made of. A row that isn't the same byte throughout is copied by a few stores, where one
-/// byte in 4,096 places is a call.
-const BLANK: [u8; 64] = *b"0123456789abcdef0123456789abcdef0123456789abcdef0123456789abcdef";
-
 /// Writes a whole text, in as many calls as the sink wants. It takes no memory.
 pub fn write_text<K: Sink>(text: &[u8], sink: &mut K) -> Result<(), Failed>
     ensures ok { OnOk result (K.written sink.new ≡ appended (K.written sink.old) text.now) }
@@ -40,10 +36,9 @@ pub fn write_reply<K: Sink>(reply: &Reply, sink: &mut K) -> Result<(), Failed>
 fn send_line<K: Sink>(reply: &Reply, sink: &mut K) -> Result<(), Failed>
     ensures { Sends result (K.written sink.old) (K.faults sink.old) [] (text_of reply.now) (K.written sink.new) (K.faults sink.new) [] }
 {
-    let mut rows = [BLANK; 64];
-    let room = rows.as_flattened_mut();
-    let body = put_body(reply, room, sink)?;
-    let line = put(b"\n", room, body, sink)?;
+    let mut room = [0; 4096];
+    let body = put_body(reply, &mut room, sink)?;
+    let line = put(b"\n", &mut room, body, sink)?;
     send(&room[..line], sink)
 }
 
