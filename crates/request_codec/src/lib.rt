@@ -4,6 +4,8 @@
 mod gather;
 mod hex_text;
 mod lines;
+#[cfg(test)]
+mod reply_tests;
 mod reply_text;
 
 pub use lines::{LineFail, NextLine};
