@@ -12,10 +12,6 @@ use crate::text_room::{put, put_hex, put_number, send};
 use rio_base::{Failed, Ino, Octets, Sink};
 use rio_model::Reply;
 
-/// What the room for a text is made of. A row that isn't the same byte throughout is copied by a few stores, where one
-/// byte in 4,096 places is a call.
-const BLANK: [u8; 64] = *b"0123456789abcdef0123456789abcdef0123456789abcdef0123456789abcdef";
-
 /// Writes a whole text, in as many calls as the sink wants. It takes no memory.
 pub fn write_text<K: Sink>(text: &[u8], sink: &mut K) -> Result<(), Failed>
     ensures ok { OnOk result (K.written sink.new ≡ appended (K.written sink.old) text.now) }
@@ -26,6 +22,9 @@ pub fn write_text<K: Sink>(text: &[u8], sink: &mut K) -> Result<(), Failed>
     send(text, sink)
 }
 
+/// How large a room holds any reply of up to 1 KiB of data, and most others: 4,096 bytes.
+pub const ROOM_BYTES: usize = 4096;
+
 /// Writes a reply as its line. A text of up to 4,096 bytes is given to the sink whole. It takes no memory.
 pub fn write_reply<K: Sink>(reply: &Reply, sink: &mut K) -> Result<(), Failed>
     ensures ok { OnOk result (K.written sink.new ≡ appended (K.written sink.old) (text_of reply.now)) }
@@ -33,15 +32,31 @@ pub fn write_reply<K: Sink>(reply: &Reply, sink: &mut K) -> Result<(), Failed>
     ensures steady { OnOk result (K.faults sink.new ≡ K.faults sink.old) }
     ensures cause { HasCause result (K.faults sink.old) (K.faults sink.new) }
 {
-    send_line(reply, sink)
+    let mut room = [0; ROOM_BYTES];
+    send_line(reply, &mut room, sink)
+}
+
+/// The same by way of a room that the caller keeps, which may hold anything: so a short reply costs little. A text
+/// that fits the room is given to the sink whole.
+pub fn write_reply_in<K: Sink>(
+    reply: &Reply,
+    room: &mut [u8],
+    sink: &mut K,
+) -> Result<(), Failed>
+    requires { 2 ≤ length room.old }
+    ensures ok { OnOk result (K.written sink.new ≡ appended (K.written sink.old) (text_of reply.now)) }
+    ensures cut { OnErr result ((k : ℕ) × (k ≤ length (text_of reply.now)) × (K.written sink.new ≡ appended (K.written sink.old) (take k (text_of reply.now)))) }
+    ensures steady { OnOk result (K.faults sink.new ≡ K.faults sink.old) }
+    ensures cause { HasCause result (K.faults sink.old) (K.faults sink.new) }
+{
+    send_line(reply, room, sink)
 }
 
 /// Sends a reply's line.
-fn send_line<K: Sink>(reply: &Reply, sink: &mut K) -> Result<(), Failed>
+fn send_line<K: Sink>(reply: &Reply, room: &mut [u8], sink: &mut K) -> Result<(), Failed>
+    requires { 2 ≤ length room.old }
     ensures { Sends result (K.written sink.old) (K.faults sink.old) [] (text_of reply.now) (K.written sink.new) (K.faults sink.new) [] }
 {
-    let mut rows = [BLANK; 64];
-    let room = rows.as_flattened_mut();
     let body = put_body(reply, room, sink)?;
     let line = put(b"\n", room, body, sink)?;
     send(&room[..line], sink)
