@@ -18,7 +18,8 @@ use Rattle.request_codec.specs.Lines.{Fails, Gives, HasEnded, HasNoEnd, Passes, 
 use Rattle.request_codec.specs.Text.{text_of}
 use Rattle.rio_server.specs.declared.ends.ServeEnd.{ServeEnd}
 use Rattle.rio_server.specs.declared.ends.ServeEnd.TheVariants.{End, SourceFault, SinkFault, InputLimit, Memory}
-use Rattle.rio_server.specs.ServeRun.{Answers, AreEnded, AreFirst, EachMeans, Finishes, IsCut, IsLineOf, Replied, ServeRun, Serves, ServesLine, ended_lines, failed_end, texts}
+use Rattle.rio_server.specs.ServeRun.{Answers, AreEnded, AreFirst, EachMeans, Finishes, IsCut, Replied, ServeRun, Serves, ended_lines, texts}
+use Rattle.rio_server.specs.Asking.{AsksFor, LacksLine, Stops}
 use Rattle.rio_server.proofs.Steps.{pieces-one}
 
 appended-nil : (told : Option (List ℕ)) → told ≡ appended told []
@@ -145,3 +146,168 @@ fed_more s t u start mid reader left told now answered replies line reply h unen
       whole = whole_more;
       cover = inr (p.2.told, ap (λ zs. lines (zs ++ line)) is ∙ lines_first answered line h.whole ∙ ap (λ zs. answered ++ zs) (pieces-one 10 line takes.whole p.1));
       replied = replied-more s t u answered replies line reply h.replied a }
+
+-- what the source gave is what was passed over and what is held
+given_is : (start reader : Reading) (left now : Option (List ℕ)) (eaten : List ℕ) (p : Passes start left eaten reader now) → start.held ≡ [] → p.given ≡ eaten ++ reader.held
+given_is start reader left now eaten p fresh = ap (λ zs. zs ++ p.given) (sym fresh) ∙ p.split
+
+-- where every answered line has its end
+first_ended : (given rest : List ℕ) (now : Option (List ℕ)) (answered : List (List ℕ)) → AllWhole answered → given ≡ ended_lines answered ++ rest → AreFirst given now answered
+first_ended given rest now answered whole is = record { more = lines rest; front = ap lines is ∙ lines_first answered rest whole; whole = inl (rest, is) }
+
+-- the answered lines are the first ones
+first_of : (s t : State) (start reader : Reading) (left now : Option (List ℕ)) (answered : List (List ℕ)) (replies : List Reply) (h : Fed s t start left reader now answered replies) → start.held ≡ [] → (reader.ended ≡ true → HasEnded reader now) → AreFirst h.passed.given now answered
+first_of s t start reader left now answered replies h fresh closed = by_cover h.cover
+  where
+    by_cover : (h.fed ≡ ended_lines answered) ⊎ ((reader.ended ≡ true) × (lines h.fed ≡ answered)) → AreFirst h.passed.given now answered
+    by_cover (inl is) = first_ended h.passed.given reader.held now answered h.whole (given_is start reader left now h.fed h.passed fresh ∙ ap (λ zs. zs ++ reader.held) is)
+    by_cover (inr both) =
+        let over = closed both.0 in
+        let all : h.passed.given ≡ h.fed = given_is start reader left now h.fed h.passed fresh ∙ ap (λ zs. h.fed ++ zs) over.empty ∙ append-nil h.fed in
+        record { more = []; front = ap lines all ∙ both.1 ∙ sym (append-nil answered); whole = inr over.spent }
+
+-- every answered line has its end, where the reader has not come to the end of the input
+ended_cover : (s t : State) (start mid : Reading) (left told : Option (List ℕ)) (answered : List (List ℕ)) (replies : List Reply) (h : Fed s t start left mid told answered replies) → mid.ended ≡ false → h.fed ≡ ended_lines answered
+ended_cover s t start mid left told answered replies h unended = by_cover h.cover
+  where
+    by_cover : (h.fed ≡ ended_lines answered) ⊎ ((mid.ended ≡ true) × (lines h.fed ≡ answered)) → h.fed ≡ ended_lines answered
+    by_cover (inl is) = is
+    by_cover (inr both) = absurd (let e = both.0 in cc (unended, e))
+
+-- what was given, where the reader then passed over part of a line
+given_part : (s t : State) (start mid reader : Reading) (left told now : Option (List ℕ)) (answered : List (List ℕ)) (replies : List Reply) (h : Fed s t start left mid told answered replies) → mid.ended ≡ false → start.held ≡ [] → (part : List ℕ) (p : Passes start left (h.fed ++ part) reader now) → p.given ≡ ended_lines answered ++ (part ++ reader.held)
+given_part s t start mid reader left told now answered replies h unended fresh part p =
+    given_is start reader left now (h.fed ++ part) p fresh
+    ∙ ap (λ zs. (zs ++ part) ++ reader.held) (ended_cover s t start mid left told answered replies h unended)
+    ∙ append_assoc (ended_lines answered) part reader.held
+
+-- the run ends here: nothing more is answered
+stop_here : (s t : State) (start mid reader : Reading) (left told now written written_mid written_now : Option (List ℕ)) → start.held ≡ [] → (took : Took s t start left mid told written written_mid) → mid.ended ≡ false → (part : List ℕ) → (p : Passes mid told part reader now) → (end : ServeEnd)
+    → ((given : List ℕ) → given ≡ ended_lines took.answered ++ (part ++ reader.held) → reader.taken ≡ start.taken + length given → Finishes end given now took.answered took.replies (texts took.replies))
+    → written_now ≡ written_mid → Serves s end left now written written_now
+stop_here s t start mid reader left told now written written_mid written_now fresh took unended part p end finish same =
+    let h = took.so_far in
+    let over = passes_trans start mid reader left told now h.fed part h.passed p in
+    let given = given_part s t start mid reader left told now took.answered took.replies h unended fresh part over in
+    record {
+      taken = over.given;
+      out = texts took.replies;
+      gave = over.gave;
+      run = record {
+        answered = took.answered;
+        replies = took.replies;
+        after = t;
+        first = first_ended over.given (part ++ reader.held) now took.answered h.whole given;
+        replied = h.replied;
+        finish = finish over.given given over.count };
+      wrote = same ∙ took.wrote }
+
+-- where serving ends, where no next line was given
+abbrev failed_end : LineFail → ServeEnd
+failed_end Fault = SourceFault
+failed_end Limit = InputLimit
+failed_end NoMemory = Memory
+
+-- no next line was given
+fail_end : (s t : State) (start mid reader : Reading) (left told now written written_now : Option (List ℕ)) (fail : LineFail) → start.held ≡ [] → start.taken ≡ 0 → Took s t start left mid told written written_now → mid.ended ≡ false → Fails mid told fail reader now → Serves s (failed_end fail) left now written written_now
+fail_end s t start mid reader left told now written written_now Fault fresh none took unended (part, takes, empty, within) =
+    stop_here s t start mid reader left told now written written_now written_now fresh took unended part takes.passed SourceFault
+      (λ given is count. ((part, takes.whole, is ∙ ap (λ zs. ended_lines took.answered ++ (part ++ zs)) empty ∙ ap (λ zs. ended_lines took.answered ++ zs) (append-nil part)), refl)) refl
+fail_end s t start mid reader left told now written written_now NoMemory fresh none took unended (part, takes, within) =
+    stop_here s t start mid reader left told now written written_now written_now fresh took unended part takes.passed Memory (λ given is count. refl) refl
+fail_end s t start mid reader left told now written written_now Limit fresh none took unended over =
+    stop_here s t start mid reader left told now written written_now written_now fresh took unended (over.part ++ over.extra ∷ []) over.passed InputLimit
+      (λ given is count.
+        let total : length given ≡ 2 ^ 40 + 1 = let c = count in let n = none in let tk = over.taken in omega arith in
+        let whole : given ≡ (ended_lines took.answered ++ over.part) ++ (over.extra ∷ []) =
+              is ∙ ap (λ zs. ended_lines took.answered ++ ((over.part ++ over.extra ∷ []) ++ zs)) over.empty
+              ∙ ap (λ zs. ended_lines took.answered ++ zs) (append-nil (over.part ++ over.extra ∷ []))
+              ∙ sym (append_assoc (ended_lines took.answered) over.part (over.extra ∷ [])) in
+        let size : length (ended_lines took.answered ++ over.part) ≡ 2 ^ 40 =
+              let e = ap length whole in let f = length-append (ended_lines took.answered ++ over.part) (over.extra ∷ []) in omega arith in
+        (total, (over.part, over.whole, ap (take (2 ^ 40)) whole ∙ take_at (ended_lines took.answered ++ over.part) (over.extra ∷ []) (2 ^ 40) size), refl)) refl
+
+-- the input was read to its end
+input_end : (s t : State) (start mid reader : Reading) (left told now written written_now : Option (List ℕ)) → start.held ≡ [] → start.taken ≡ 0 → reader.taken ≤ 2 ^ 40 → Took s t start left mid told written written_now → Gives mid told NoLine reader now → Serves s End left now written written_now
+input_end s t start mid reader left told now written written_now fresh none within took (passed, over) =
+    let h = took.so_far in
+    let p = passes_trans start mid reader left told now h.fed [] h.passed passed in
+    let all : p.given ≡ h.fed = given_is start reader left now (h.fed ++ []) p fresh ∙ ap (λ zs. (h.fed ++ []) ++ zs) over.empty ∙ append-nil (h.fed ++ []) ∙ append-nil h.fed in
+    let every : lines p.given ≡ took.answered = ap lines all ∙ by_cover h.cover in
+    record {
+      taken = p.given;
+      out = texts took.replies;
+      gave = p.gave;
+      run = record {
+        answered = took.answered;
+        replies = took.replies;
+        after = t;
+        first = record { more = []; front = every ∙ sym (append-nil took.answered); whole = inr over.spent };
+        replied = h.replied;
+        finish = (over.spent, every, (let c = p.count in let n = none in omega arith), refl) };
+      wrote = took.wrote }
+  where
+    by_cover : (took.so_far.fed ≡ ended_lines took.answered) ⊎ ((mid.ended ≡ true) × (lines took.so_far.fed ≡ took.answered)) → lines took.so_far.fed ≡ took.answered
+    by_cover (inl is) = ap lines (is ∙ sym (append-nil (ended_lines took.answered))) ∙ lines_first took.answered [] took.so_far.whole ∙ append-nil took.answered
+    by_cover (inr both) = both.1
+
+-- there was no memory for the reader itself
+pub no_start : (s : State) (left written : Option (List ℕ)) → Serves s Memory left left written written
+no_start s left written = record {
+  taken = [];
+  out = [];
+  gave = prepended-nil left;
+  run = record { answered = []; replies = []; after = s; first = record { more = []; front = refl; whole = inl ([], refl) }; replied = record { requests = []; meaning = tt; run = refl }; finish = refl };
+  wrote = appended-nil written }
+
+-- one line more was answered and its reply written
+pub took_more : (s t u : State) (start mid reader : Reading) (left told now written written_mid written_now : Option (List ℕ)) (request : Option Request) (reply : Reply) → Took s t start left mid told written written_mid → AsksFor mid told request reader now → Step t request reply u → written_now ≡ appended written_mid (text_of reply) → Took s u start left reader now written written_now
+took_more s t u start mid reader left told now written written_mid written_now request reply took asks step wrote = record {
+  answered = took.answered ++ asks.line ∷ [];
+  replies = took.replies ++ reply ∷ [];
+  so_far = fed_more s t u start mid reader left told now took.answered took.replies asks.line reply took.so_far asks.unended asks.takes (request, asks.means, step);
+  wrote = wrote ∙ ap (λ (w : Option (List ℕ)). appended w (text_of reply)) took.wrote ∙ appended-append written (texts took.replies) (text_of reply) ∙ ap (appended written) (sym (texts-more took.replies reply));
+  closed = asks.closed }
+
+-- the sink refused a reply
+pub sink_end : (s t u : State) (start mid reader : Reading) (left told now written written_mid written_now : Option (List ℕ)) (request : Option Request) (reply : Reply) → start.held ≡ [] → Took s t start left mid told written written_mid → AsksFor mid told request reader now → Step t request reply u → ((k : ℕ) × (k ≤ length (text_of reply)) × (written_now ≡ appended written_mid (take k (text_of reply)))) → Serves s SinkFault left now written written_now
+sink_end s t u start mid reader left told now written written_mid written_now request reply fresh took asks step (k, few, wrote) =
+    let h = fed_more s t u start mid reader left told now took.answered took.replies asks.line reply took.so_far asks.unended asks.takes (request, asks.means, step) in
+    record {
+      taken = h.passed.given;
+      out = texts took.replies ++ take k (text_of reply);
+      gave = h.passed.gave;
+      run = record {
+        answered = took.answered ++ asks.line ∷ [];
+        replies = took.replies ++ reply ∷ [];
+        after = u;
+        first = first_of s u start reader left now (took.answered ++ asks.line ∷ []) (took.replies ++ reply ∷ []) h fresh asks.closed;
+        replied = h.replied;
+        finish = (took.replies, reply, k, refl, few, refl) };
+      wrote = wrote ∙ ap (λ (w : Option (List ℕ)). appended w (take k (text_of reply))) took.wrote ∙ appended-append written (texts took.replies) (take k (text_of reply)) }
+
+-- no line came
+pub stop_end : (s t : State) (start mid reader : Reading) (left told now written written_now : Option (List ℕ)) (end : ServeEnd) → start.held ≡ [] → start.taken ≡ 0 → Took s t start left mid told written written_now → Stops mid told end reader now → Serves s end left now written written_now
+stop_end s t start mid reader left told now written written_now End fresh none took stops = input_end s t start mid reader left told now written written_now fresh none stops.1 took stops.0
+stop_end s t start mid reader left told now written written_now SourceFault fresh none took stops = fail_end s t start mid reader left told now written written_now Fault fresh none took stops.1 stops.0
+stop_end s t start mid reader left told now written written_now InputLimit fresh none took stops = fail_end s t start mid reader left told now written written_now Limit fresh none took stops.1 stops.0
+stop_end s t start mid reader left told now written written_now Memory fresh none took stops =
+    stop_here s t start mid reader left told now written written_now written_now fresh took stops.unended stops.part stops.passed Memory (λ given is count. refl) refl
+stop_end s t start mid reader left told now written written_now SinkFault fresh none took stops = absurd stops
+
+eaten_falls : (mid reader : Reading) (told now : Option (List ℕ)) (eaten : List ℕ) → Passes mid told eaten reader now → 0 < length eaten → reader.taken ≤ 2 ^ 40 → (2 ^ 40 - reader.taken) + length reader.held < (2 ^ 40 - mid.taken) + length mid.held
+eaten_falls mid reader told now eaten p some within =
+    let count = p.count in
+    let sizes : length mid.held + length p.given ≡ length eaten + length reader.held = sym (length-append mid.held p.given) ∙ ap length p.split ∙ length-append eaten reader.held in
+    omega arith
+
+-- each line makes what is left of the input, as far as it is taken, less
+pub budget_falls : (mid reader : Reading) (told now : Option (List ℕ)) (line : List ℕ) → TakesLine mid told line reader now → reader.taken ≤ 2 ^ 40 → (2 ^ 40 - reader.taken) + length reader.held < (2 ^ 40 - mid.taken) + length mid.held
+budget_falls mid reader told now line takes within = by_case takes.passed
+  where
+    some : (xs : List ℕ) → xs ≢ [] → 0 < length xs
+    some [] n = absurd (n refl)
+    some (x ∷ xs) n = omega arith
+    by_case : Passes mid told (ended line) reader now ⊎ (Passes mid told line reader now × (line ≢ []) × HasEnded reader now) → (2 ^ 40 - reader.taken) + length reader.held < (2 ^ 40 - mid.taken) + length mid.held
+    by_case (inl p) = eaten_falls mid reader told now (ended line) p (omega (arith, length-append line (10 ∷ []))) within
+    by_case (inr p) = eaten_falls mid reader told now line p.0 (some line p.1) within

@@ -1,3 +1,4 @@
 pub mod Table
 pub mod Served
 pub mod ServeRun
+pub mod Asking

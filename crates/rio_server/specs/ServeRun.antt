@@ -1,14 +1,10 @@
 -- One served run: what was read, what was replied, and where it ended.
-use Rattle.std.specs.Prelude.{◌≡◌, ◌≢◌, ◌+◌, ◌≤◌, ◌^◌, ℕ, List, [], ◌∷◌, ◌++◌, length, take, flat_map, codes, Option, ◌⊎◌, ◌<◌, Result, Ok, Err}
+use Rattle.std.specs.Prelude.{◌≡◌, ◌≢◌, ◌+◌, ◌≤◌, ◌^◌, ℕ, List, [], ◌∷◌, ◌++◌, length, take, flat_map, codes, Option, ◌⊎◌}
 use Rattle.rio_base.specs.Streams.{appended, prepended, IsSpent}
 use Rattle.rio_model.specs.declared.reply.Reply.{Reply}
 use Rattle.rio_model.specs.declared.request.Request.{Request}
 use Rattle.rio_model.specs.declared.state.State.{State}
 use Rattle.rio_model.specs.Run.{Run, Step}
-use Rattle.request_codec.specs.declared.lines.NextLine.{NextLine}
-use Rattle.request_codec.specs.declared.lines.NextLine.TheVariants.{Line, TooLong, End as NoLine}
-use Rattle.request_codec.specs.declared.lines.LineFail.{LineFail}
-use Rattle.request_codec.specs.declared.lines.LineFail.TheVariants.{Fault, Limit, Memory as NoMemory}
 use Rattle.request_codec.specs.Form.{Means}
 use Rattle.request_codec.specs.Lines.{HasNoEnd, ended, lines}
 use Rattle.request_codec.specs.Text.{text_of}
@@ -80,25 +76,6 @@ pub record Serves (s : State) (end : ServeEnd) (left left_after written written_
   pub run : ServeRun s taken left_after end out
   pub wrote : written_after ≡ appended written out
 
--- the reader gave this line
-abbrev pub IsLineOf : List ℕ → NextLine → Type 0
-IsLineOf line (Line bytes) = line ≡ bytes
-IsLineOf line TooLong = 4194304 < length line
-IsLineOf line NoLine = ⊥
-
--- where serving ends, where no next line was given
-abbrev pub failed_end : LineFail → ServeEnd
-failed_end Fault = SourceFault
-failed_end Limit = InputLimit
-failed_end NoMemory = Memory
-
 -- the line's reply, and the state after it
 abbrev pub Answers : State → List ℕ → Reply → State → Type 0
 Answers s line reply t = (request : Option Request) × Means line request × Step s request reply t
-
--- The line was answered and its reply written whole, or the sink refused it, or there was no memory for it.
-abbrev pub ServesLine : State → List ℕ → Result (Unit {0}) ServeEnd → State → Option (List ℕ) → Option (List ℕ) → Type 0
-ServesLine s line (Ok u) t written written_after = (reply : Reply) × Answers s line reply t × (written_after ≡ appended written (text_of reply))
-ServesLine s line (Err SinkFault) t written written_after = (reply : Reply) × Answers s line reply t × (k : ℕ) × (k ≤ length (text_of reply)) × (written_after ≡ appended written (take k (text_of reply)))
-ServesLine s line (Err Memory) t written written_after = (t ≡ s) × (written_after ≡ written)
-ServesLine s line (Err _) t written written_after = ⊥

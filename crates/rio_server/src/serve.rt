@@ -1,16 +1,21 @@
 //! Serving request lines until the input ends.
 
-ghost use Rattle.std.specs.Prelude.{◌≡◌, ◌≢◌, ◌≤◌, ℕ, List, Option, Some, Err, IfOk, IfSome};
-ghost use Rattle.rio_base.specs.Counts.{Rose};
+ghost use Rattle.std.specs.Prelude.{◌≡◌, ◌≢◌, ◌≤◌, ◌^◌, ℕ, true, false, List, [], IfOk, IfErr, IfSome, IsErrOf, OnErr, OnOk, length, take};
+ghost use Rattle.rio_base.specs.Counts.{HasCause, Rose};
+ghost use Rattle.rio_base.specs.Streams.{appended, IsSpent};
 ghost use Rattle.request_codec.specs.Form.{Means};
+ghost use Rattle.request_codec.specs.Text.{text_of};
 ghost use Rattle.rio_model.specs.Run.{Step};
+ghost use Rattle.rio_server.specs.Asking.{AsksFor, Stops};
 ghost use Rattle.rio_server.specs.Served.{IsServed};
-ghost use Rattle.rio_server.specs.ServeRun.{IsLineOf, Serves, ServesLine, failed_end};
+ghost use Rattle.rio_server.specs.ServeRun.{Serves};
 
 use std::alloc::{AllocError, Global};
 
-use request_codec::{LineFail, LineReader, NextLine, long_lines_mean_nothing, parse_line, write_reply};
-use rio_base::{Sink, Source};
+use request_codec::{
+    LineFail, LineReader, NextLine, ROOM_BYTES, long_lines_mean_nothing, parse_line, write_reply_in,
+};
+use rio_base::{Failed, Octets, Sink, Source};
 use rio_model::{Reply, Request};
 
 use crate::ends::ServeEnd;
@@ -32,73 +37,105 @@ pub fn serve<S: Source, K: Sink>(
     let Ok(mut reader) = LineReader::new(alloc) else {
         return ServeEnd::Memory;
     };
+    match make_room(alloc) {
+        Ok(mut room) => serve_lines(alloc, table, &mut reader, room.as_mut_slice(), source, sink),
+        Err(_) => ServeEnd::Memory,
+    }
+}
+
+/// Where replies are gathered, so that each reaches the sink in one call.
+fn make_room(alloc: Global) -> Result<Vec<u8>, AllocError>
+    ensures { IfOk result (λ room. length room.items ≡ 4096) }
+{
+    vec![in alloc; 0u8; ROOM_BYTES]
+}
+
+/// Serves lines, by way of a reader that has taken nothing yet.
+fn serve_lines<S: Source, K: Sink>(
+    alloc: Global,
+    table: &mut Table,
+    reader: &mut LineReader,
+    room: &mut [u8],
+    source: &mut S,
+    sink: &mut K,
+) -> ServeEnd
+    requires fresh { reader.old ≡ record { held = []; taken = 0; ended = false } }
+    requires wide { 2 ≤ length room.old }
+    ensures run { Serves table.old result (S.left source.old) (S.left source.new) (K.written sink.old) (K.written sink.new) }
+    ensures source_fault { result ≡ ServeEnd.SourceFault → Rose (S.faults source.old) (S.faults source.new) }
+    ensures sink_fault { result ≡ ServeEnd.SinkFault → Rose (K.faults sink.old) (K.faults sink.new) }
+    ensures steady { result ≢ ServeEnd.SinkFault → K.faults sink.new ≡ K.faults sink.old }
+    ensures later { S.faults source.old ≤ S.faults source.new }
+{
     loop {
-        match reader.next_line(source) {
-            Ok(NextLine::End) => return ServeEnd::End,
-            Ok(next) => {
-                if let Err(end) = serve_line(alloc, table, &next, sink) {
-                    return end;
-                }
-            }
-            Err(fail) => return end_of(fail),
+        let request = match ask(alloc, reader, source) {
+            Ok(request) => request,
+            Err(end) => return end,
+        };
+        let reply = reply_to(table, request);
+        match send(reply, room, sink) {
+            Ok(()) => {}
+            Err(_) => return ServeEnd::SinkFault,
         }
     }
 }
 
-/// Where serving ends, where no next line was given.
-fn end_of(fail: LineFail) -> ServeEnd
-    ensures { result ≡ failed_end fail }
-{
-    match fail {
-        LineFail::Fault => ServeEnd::SourceFault,
-        LineFail::Limit => ServeEnd::InputLimit,
-        LineFail::Memory => ServeEnd::Memory,
-    }
-}
-
-/// Answers one line and writes its reply.
-fn serve_line<K: Sink>(
+/// What the next line asks for, or `None` where it is no request; or why no line comes.
+fn ask<S: Source>(
     alloc: Global,
-    table: &mut Table,
-    next: &NextLine,
-    sink: &mut K,
-) -> Result<(), ServeEnd>
-    ensures line { (line : List ℕ) → IsLineOf line next.now → ServesLine table.old line result table.new (K.written sink.old) (K.written sink.new) }
-    ensures fault { result ≡ Err ServeEnd.SinkFault → Rose (K.faults sink.old) (K.faults sink.new) }
-    ensures steady { result ≢ Err ServeEnd.SinkFault → K.faults sink.new ≡ K.faults sink.old }
+    reader: &mut LineReader,
+    source: &mut S,
+) -> Result<Option<Request>, ServeEnd>
+    requires within { reader.old.taken ≤ 2 ^ 40 }
+    requires spent { reader.old.ended ≡ true → IsSpent (S.left source.old) }
+    ensures line { IfOk result (λ request. AsksFor reader.old (S.left source.old) request reader.new (S.left source.new)) }
+    ensures end { IfErr result (λ end. Stops reader.old (S.left source.old) end reader.new (S.left source.new)) }
+    ensures later { S.faults source.old ≤ S.faults source.new }
+    ensures cause { IsErrOf result ServeEnd.SourceFault → Rose (S.faults source.old) (S.faults source.new) }
 {
-    let Ok(request) = request_of(alloc, next) else {
-        return Err(ServeEnd::Memory);
-    };
-    let reply = reply_to(table, &request);
-    match write_reply(&reply, sink) {
-        Ok(()) => Ok(()),
-        Err(_) => Err(ServeEnd::SinkFault),
+    match reader.next_line(source) {
+        Ok(NextLine::Line(line)) => meaning_of(alloc, line),
+        Ok(NextLine::TooLong) => {
+            long_lines_mean_nothing();
+            Ok(None)
+        }
+        Ok(NextLine::End) => Err(ServeEnd::End),
+        Err(LineFail::Fault) => Err(ServeEnd::SourceFault),
+        Err(LineFail::Limit) => Err(ServeEnd::InputLimit),
+        Err(LineFail::Memory) => Err(ServeEnd::Memory),
     }
 }
 
 /// What a line asks for, or that it is no request.
-fn request_of(alloc: Global, next: &NextLine) -> Result<Option<Request>, AllocError>
-    ensures meaning { IfOk result (λ request. (line : List ℕ) → IsLineOf line next.now → Means line request) }
+fn meaning_of(alloc: Global, line: Octets) -> Result<Option<Request>, ServeEnd>
+    ensures meaning { IfOk result (Means line) }
     ensures served { IfOk result (λ request. IfSome request IsServed) }
+    ensures memory { IfErr result (λ end. end ≡ ServeEnd.Memory) }
 {
-    match next {
-        NextLine::Line(line) => parse_line(alloc, line.as_slice()),
-        NextLine::TooLong => {
-            long_lines_mean_nothing();
-            Ok(None)
-        }
-        NextLine::End => Ok(None),
+    match parse_line(alloc, line.as_slice()) {
+        Ok(request) => Ok(request),
+        Err(_) => Err(ServeEnd::Memory),
     }
 }
 
 /// The reply to a request, or to a line that is none.
-fn reply_to(table: &mut Table, request: &Option<Request>) -> Reply
-    requires { IfSome request.now IsServed }
-    ensures { Step table.old request.now result table.new }
+fn reply_to(table: &mut Table, request: Option<Request>) -> Reply
+    requires { IfSome request IsServed }
+    ensures { Step table.old request result table.new }
 {
-    match request {
+    match &request {
         Some(request) => table.answer(request),
         None => Reply::Err(1),
     }
+}
+
+/// Writes a reply.
+fn send<K: Sink>(reply: Reply, room: &mut [u8], sink: &mut K) -> Result<(), Failed>
+    requires { 2 ≤ length room.old }
+    ensures ok { OnOk result (K.written sink.new ≡ appended (K.written sink.old) (text_of reply)) }
+    ensures cut { OnErr result ((k : ℕ) × (k ≤ length (text_of reply)) × (K.written sink.new ≡ appended (K.written sink.old) (take k (text_of reply)))) }
+    ensures steady { OnOk result (K.faults sink.new ≡ K.faults sink.old) }
+    ensures cause { HasCause result (K.faults sink.old) (K.faults sink.new) }
+{
+    write_reply_in(&reply, room, sink)
 }
