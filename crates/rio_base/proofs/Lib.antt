@@ -1,3 +1,4 @@
 pub mod Copies
 pub mod Clears
 pub mod Ends
+pub mod Faults

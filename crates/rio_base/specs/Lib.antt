@@ -9,3 +9,4 @@ pub mod Rules
 pub mod ListVolumes
 pub mod ListRegions
 pub mod Shapes
+pub mod FaultyVolumes

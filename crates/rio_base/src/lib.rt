@@ -3,6 +3,7 @@
 
 mod blocks;
 mod failures;
+mod faulty_volume;
 mod list_region;
 mod list_volume;
 mod lists;
@@ -18,6 +19,7 @@ mod volume_tests;
 
 pub use blocks::Blocks;
 pub use failures::{DiskFail, Failed, Stopped, VolFail};
+pub use faulty_volume::FaultyVolume;
 pub use list_region::ListRegion;
 pub use list_volume::ListVolume;
 pub use lists::{BlockList, HeapList, InoList, NameList, Octets, RangeList, Words};
