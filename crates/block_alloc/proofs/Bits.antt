@@ -1,16 +1,14 @@
 -- The bits of a word: how many are 1, and the lowest of them.
-use Rattle.std.proofs.Common.{◌≡◌, ◌≢◌, ℕ, zero, suc, ◌+◌, ◌-◌, ◌*◌, ◌/◌, ◌%◌, ◌^◌, ◌<◌, ◌≤◌, min, Bool, true, false, cond, List, [], ◌∷◌, ◌++◌, length, refl, sym, ap, ◌∙◌, arith, ◌==◌, nat_lt, ◌&&◌, if◌then◌else◌, ◌⊎◌, inl, inr, bit_and, pow-suc, subst}
+use Rattle.std.proofs.Common.{◌≡◌, ℕ, zero, suc, ◌+◌, ◌-◌, ◌*◌, ◌/◌, ◌%◌, ◌^◌, ◌<◌, ◌≤◌, min, Bool, true, false, cond, List, ◌∷◌, length, refl, sym, ap, ◌∙◌, arith, ◌==◌, nat_lt, ◌&&◌, ◌⊎◌, inl, inr, bit_and, pow-suc, subst}
 use Rattle.std.specs.Prelude.{count_ones}
-use Rattle.std.specs.Int.{bit_at, Width, w64, bit_not, trailing_zeros}
+use Rattle.std.specs.Int.{bit_at, w64, bit_not}
 use Rattle.std.specs.List.{filter, range_with_len}
 use Rattle.std.proofs.lemmas.Nat.{ones_cat}
-use Rattle.std.proofs.lemmas.Nat.Bits.{bit_at_lowest, bit_at-suc, bit_at-zero, bit_at_and, bit_at_not, bit_at_ones, bit_at_ones_above, bit_at-lt, bit_at-trailing_zeros, bit_at_clear_same, bit_at_clear_other}
+use Rattle.std.proofs.lemmas.Nat.Bits.{bit_at_lowest, bit_at-suc, bit_at_and, bit_at_not, bit_at_ones, bit_at_ones_above, bit_at-lt}
 use Rattle.std.proofs.lemmas.Bool.Decides.{nat_tests}
 use Rattle.std.proofs.lemmas.Bool.{cases_order}
 use Rattle.rio_base.specs.Blocks.{BlockWords}
-use Rattle.block_alloc.specs.Bitmap.{is_free, used_bit}
-use Rattle.block_alloc.specs.Words.{counts, FreeBits, set_bits}
-use Rattle.block_alloc.proofs.Ranges.{Agrees, filter_same, filter_none, filter_split}
+use Rattle.block_alloc.specs.Words.{counts, FreeBits}
 
 -- the bits of x are the test p, from place s on
 pub record Shows (x : ℕ) (p : ℕ → Bool) (s n : ℕ) : Type 0 where
@@ -75,12 +73,17 @@ below_or_past a b (inl e) = inr (omega arith)
 below_or_past a b (inr (inl l)) = inl l
 below_or_past a b (inr (inr g)) = inr (omega arith)
 
+word_place : (words : BlockWords) (used blocks w i : ℕ) → used ≡ words 1 w → i < 64 → ◌≡◌ {A = ℕ} (cond (nat_lt (64 * w + i) blocks && (bit_at used i == 0)) 1 0) (cond (counts words blocks (64 * w + i)) 1 0)
+word_place words used blocks w i is within =
+    let word : w ≡ (64 * w + i) / 64 = omega arith in
+    let place : i ≡ (64 * w + i) % 64 = omega arith in
+    let read : used ≡ words 1 ((64 * w + i) / 64) = is ∙ ap (words 1) word in
+    let bit : bit_at used i ≡ bit_at (words 1 ((64 * w + i) / 64)) ((64 * w + i) % 64) = ap (λ a. bit_at a i) read ∙ ap (bit_at (words 1 ((64 * w + i) / 64))) place in
+    ap (λ a. cond (nat_lt (64 * w + i) blocks && (a == 0)) 1 0) bit
+
 pub free_word : (words : BlockWords) (used blocks w : ℕ) → used < 2 ^ 64 → used ≡ words 1 w → FreeBits words blocks w (bit_and (bit_not w64 used) (2 ^ min (blocks - 64 * w) 64 - 1))
 free_word words used blocks w fits is = record {
-  each = λ i within.
-      let word : w ≡ (64 * w + i) / 64 = omega arith in
-      let place : i ≡ (64 * w + i) % 64 = omega arith in
-      free_bit used blocks w i fits within (below_or_past (64 * w + i) blocks (cases_order (64 * w + i) blocks)) ∙ ap (λ a. cond (nat_lt (64 * w + i) blocks && (bit_at a i == 0)) 1 0) (is ∙ ap (words 1) word) ∙ ap (λ a. cond (nat_lt (64 * w + i) blocks && (bit_at (words 1 ((64 * w + i) / 64)) a == 0)) 1 0) place;
+  each = λ i within. free_bit used blocks w i fits within (below_or_past (64 * w + i) blocks (cases_order (64 * w + i) blocks)) ∙ word_place words used blocks w i is within;
 }
 
 pub free_masked : (words : BlockWords) (used mask blocks w : ℕ) → used < 2 ^ 64 → used ≡ words 1 w → mask ≡ 2 ^ min (blocks - 64 * w) 64 - 1 → FreeBits words blocks w (bit_and (bit_not w64 used) mask)

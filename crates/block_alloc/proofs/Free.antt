@@ -1,5 +1,5 @@
 -- The free blocks, word by word of the bitmap.
-use Rattle.std.proofs.Common.{◌≡◌, ◌≢◌, ℕ, zero, suc, ◌+◌, ◌-◌, ◌*◌, ◌/◌, ◌%◌, ◌^◌, ◌<◌, ◌≤◌, min, Bool, true, false, cond, List, [], ◌∷◌, ◌++◌, length, length-append, length-take, append_assoc, take, map, refl, sym, ap, subst, ◌∙◌, arith, ◌==◌, nat_lt, ◌&&◌, bit_and, ◌⊎◌, inl, inr}
+use Rattle.std.proofs.Common.{◌≡◌, ◌≢◌, ℕ, zero, suc, ◌+◌, ◌-◌, ◌*◌, ◌%◌, ◌^◌, ◌<◌, ◌≤◌, min, Bool, true, false, cond, List, [], ◌∷◌, ◌++◌, length, length-append, length-take, append_assoc, take, refl, sym, ap, subst, ◌∙◌, arith, ◌==◌, nat_lt, ◌&&◌, bit_and}
 use Rattle.std.specs.Prelude.{count_ones}
 use Rattle.std.specs.Int.{bit_at, w64, bit_not, trailing_zeros}
 use Rattle.std.specs.List.{filter, range_with_len}
@@ -12,7 +12,7 @@ use Rattle.std.proofs.lemmas.Nat.Bits.{bit_at-zero, bit_at-trailing_zeros, bit_a
 use Rattle.rio_base.specs.Blocks.{BlockWords}
 use Rattle.block_alloc.specs.Bitmap.{is_free, free_blocks, numbers}
 use Rattle.block_alloc.specs.Words.{counts, FreeBits, set_bits}
-use Rattle.block_alloc.proofs.Ranges.{Agrees, filter_same, filter_none, filter_split, take_both}
+use Rattle.block_alloc.proofs.Ranges.{filter_same, filter_none, filter_split, take_both}
 use Rattle.block_alloc.proofs.Bits.{Shows, count_shown}
 
 -- the free blocks among the first 64 * w places of the bitmap

@@ -1,5 +1,5 @@
 -- One bit of the bitmap, set by a store of its word.
-use Rattle.std.proofs.Common.{◌≡◌, ◌≢◌, ℕ, ◌+◌, ◌*◌, ◌/◌, ◌%◌, ◌^◌, ◌<◌, Bool, refl, sym, ap, ◌∙◌, arith, ◌==◌, ◌⊎◌, inl, inr, subst, bit_and, bit_or}
+use Rattle.std.proofs.Common.{◌≡◌, ◌≢◌, ℕ, ◌*◌, ◌/◌, ◌%◌, ◌^◌, ◌<◌, sym, ap, ◌∙◌, arith, ◌⊎◌, inl, inr, subst, bit_and, bit_or}
 use Rattle.std.specs.Prelude.{Result, Ok, Err, OnOk}
 use Rattle.std.specs.Int.{bit_at, bit_not, w64}
 use Rattle.std.proofs.lemmas.Nat.Bits.{bit_at_set_same, bit_at_set_other, bit_at_clear_same, bit_at_clear_other}
@@ -7,7 +7,7 @@ use Rattle.std.proofs.lemmas.Bool.{cases_eq}
 use Rattle.std.proofs.lemmas.Bool.Decides.{nat_tests}
 use Rattle.rio_base.specs.Blocks.{BlockWords}
 use Rattle.rio_base.specs.Volume.{put, OldOrPut}
-use Rattle.block_alloc.specs.Bitmap.{used_bit, SetsBit, IsSetOrSame}
+use Rattle.block_alloc.specs.Bitmap.{SetsBit, IsSetOrSame}
 
 pub put_same : (f : BlockWords) (b w v : ℕ) → put f b w v b w ≡ v
 put_same f b w v = grind (arith, nat_tests)

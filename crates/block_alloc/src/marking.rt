@@ -1,8 +1,8 @@
 //! One block marked used or free, in an open update.
 
-ghost use Rattle.std.specs.Prelude.{◌≡◌, ℕ, ◌<◌, ◌/◌, true, None, IfOk, OnOk, IsErrOf};
+ghost use Rattle.std.specs.Prelude.{◌≡◌, ◌<◌, true, None, IfOk, OnOk};
 ghost use Rattle.rio_base.specs.Blocks.{Looks, Caches, Halts};
-ghost use Rattle.rio_base.specs.Volume.{Firm, Goes, SameUpdate, OldOrPut};
+ghost use Rattle.rio_base.specs.Volume.{Firm, Goes, SameUpdate};
 ghost use Rattle.rio_base.specs.Shapes.{IsShape, HasShape};
 ghost use Rattle.block_alloc.specs.Bitmap.{SetsBit, IsSetOrSame};
 

@@ -1,6 +1,6 @@
 //! The lowest free blocks.
 
-ghost use Rattle.std.specs.Prelude.{◌≡◌, ℕ, ◌-◌, ◌*◌, ◌<◌, ◌≤◌, ◌++◌, None, IfOk, OnOk, IsErrOf, length, take};
+ghost use Rattle.std.specs.Prelude.{◌≡◌, ◌-◌, ◌<◌, ◌≤◌, ◌++◌, None, IfOk, OnOk, IsErrOf, length, take};
 ghost use Rattle.rio_base.specs.Blocks.{Looks, Caches};
 ghost use Rattle.rio_base.specs.Shapes.{HasShape};
 ghost use Rattle.block_alloc.specs.Bitmap.{free_blocks, numbers, TakeEnds, handed};

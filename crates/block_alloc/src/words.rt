@@ -1,6 +1,6 @@
 //! The bitmap by whole words of 64 blocks.
 
-ghost use Rattle.std.specs.Prelude.{◌≡◌, ℕ, ◌+◌, ◌-◌, ◌*◌, ◌^◌, ◌<◌, ◌≤◌, min, None, IfOk};
+ghost use Rattle.std.specs.Prelude.{◌≡◌, ◌-◌, ◌*◌, ◌^◌, ◌<◌, min, None, IfOk};
 ghost use Rattle.rio_base.specs.Blocks.{Looks, Caches, Ends};
 ghost use Rattle.rio_base.specs.Shapes.{HasShape};
 ghost use Rattle.block_alloc.specs.Words.{FreeBits};

@@ -1,5 +1,5 @@
 -- A block of zeros put over its place in a list of blocks.
-use Rattle.std.proofs.Common.{◌≡◌, ◌≢◌, ℕ, ◌+◌, ◌-◌, ◌*◌, ◌<◌, ◌≤◌, Bool, true, false, nat_lt, ◌==◌, List, slice_index_or, ◌++◌, take, drop, replicate, length, length-drop, length-append, refl, subst, arith, ap, ◌∙◌, sym, if◌then◌else◌}
+use Rattle.std.proofs.Common.{◌≡◌, ◌≢◌, ℕ, ◌+◌, ◌-◌, ◌*◌, ◌<◌, ◌≤◌, List, slice_index_or, ◌++◌, take, drop, replicate, length, length-drop, length-append, refl, subst, arith, ap, ◌∙◌, sym}
 use Rattle.std.proofs.lemmas.Bool.Decides.{nat_tests}
 use Rattle.std.proofs.lemmas.List.{get_or_append_left, get_or-append_right, get_or-take, get_or-drop, get_or-replicate, take_at, length-take-le, length-take, length-replicate}
 use borrow.Rule.Slice.PartMut.{put_mid}

@@ -1,13 +1,13 @@
 -- How a call ends, told from its last part.
-use Rattle.std.proofs.Common.{◌≡◌, ◌≢◌, ℕ, ◌<◌, ◌≤◌, Option, None, Some, Result, Ok, Err, true, false, Bool, le_trans, ◌∙◌, sym, subst, inl, inr, refl, arith, ◌⊎◌}
+use Rattle.std.proofs.Common.{◌≡◌, ◌≢◌, ℕ, ◌<◌, ◌≤◌, Option, None, Result, Ok, Err, true, le_trans, ◌∙◌, sym, subst, inl, inr, refl, arith, ◌⊎◌}
 use Rattle.std.proofs.lemmas.Bool.{cases_eq}
 use Rattle.rio_base.specs.Counts.{Rose}
 use Rattle.rio_base.specs.declared.places.PageName.{PageName}
 use Rattle.rio_base.specs.declared.places.VolumeShape.{VolumeShape}
 use Rattle.rio_base.specs.declared.failures.VolFail.{VolFail}
 use Rattle.rio_base.specs.declared.failures.VolFail.TheVariants.{Fault, Stopped}
-use Rattle.rio_base.specs.Blocks.{Seen, Health, FailCause, Ends, HaltCause, Halts, SamePage, CanName, Caches, Drops, Looks}
-use Rattle.rio_base.specs.Shapes.{IsShape, HasShape, reserved}
+use Rattle.rio_base.specs.Blocks.{Seen, Health, FailCause, Ends, SamePage, CanName, Caches, Drops}
+use Rattle.rio_base.specs.Shapes.{HasShape, reserved}
 
 pub rose_later : (a b c : ℕ) → a ≤ b → Rose b c → Rose a c
 rose_later a b c h (inl k) = inl (omega arith)

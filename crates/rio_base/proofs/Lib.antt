@@ -1,4 +1,5 @@
 pub mod Clears
 pub mod Copies
 pub mod Ends
+pub mod Faults
 pub mod Files

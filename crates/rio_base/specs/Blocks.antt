@@ -1,6 +1,5 @@
 -- What a reader of a volume sees: its blocks, which of them are cached and under which names, and how its calls end.
-use Rattle.std.specs.Prelude.{◌≡◌, ◌≢◌, ℕ, ◌<◌, ◌≤◌, ◌^◌, Bool, true, false, ◌⊎◌, List, Option, Some, None, Result, Ok, Err, max}
-use Rattle.rio_base.specs.declared.places.Ino.{Ino}
+use Rattle.std.specs.Prelude.{◌≡◌, ◌≢◌, ℕ, ◌<◌, ◌≤◌, Bool, true, false, ◌⊎◌, List, Option, Some, None, Result, Ok, Err}
 use Rattle.rio_base.specs.declared.places.PageName.{PageName}
 use Rattle.rio_base.specs.declared.failures.VolFail.{VolFail}
 use Rattle.rio_base.specs.declared.failures.VolFail.TheVariants.{Fault, Stopped}

@@ -1,5 +1,6 @@
 pub mod Blocks
 pub mod Counts
+pub mod FaultyVolumes
 pub mod Hosts
 pub mod ListRegions
 pub mod ListVolumes

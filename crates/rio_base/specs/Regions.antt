@@ -1,5 +1,5 @@
 -- The words of one region's file.
-use Rattle.std.specs.Prelude.{◌≡◌, ℕ, Bool, ◌==◌, if◌then◌else◌, ◌⊎◌}
+use Rattle.std.specs.Prelude.{◌≡◌, ℕ, ◌==◌, if◌then◌else◌, ◌⊎◌}
 
 abbrev pub RegionContent : Type 0
 RegionContent = ℕ → ℕ

@@ -1,8 +1,8 @@
 -- The rules of every call compose.
-use Rattle.std.specs.Prelude.{◌≡◌, ℕ, ◌/◌, ◌≤◌, Bool, true, false, ◌⊎◌, Option, Some, None, refl}
+use Rattle.std.specs.Prelude.{◌≡◌, ℕ, ◌/◌, Bool, true, false, ◌⊎◌, Option, Some, None, refl}
 use Rattle.std.proofs.Common.{le_trans, le_refl, ◌∙◌, sym, subst, inl, inr}
 use Rattle.rio_base.specs.Blocks.{Seen, Health, Causes, Looks, Drops}
-use Rattle.rio_base.specs.Volume.{Below, Kept, StopCause, Runs, Quiet, Goes, Firm, Passes}
+use Rattle.rio_base.specs.Volume.{Below, Kept, StopCause, Runs, Goes, Firm, Passes}
 
 -- ---- what is only read
 

@@ -1,6 +1,6 @@
 //! What a reader of a volume is given: the words of its blocks.
 
-ghost use Rattle.std.specs.Prelude.{◌≡◌, ℕ, Option, IfOk, IsErrOf};
+ghost use Rattle.std.specs.Prelude.{◌≡◌, ℕ, IfOk, IsErrOf};
 ghost use Rattle.rio_base.specs.Blocks.{Seen, Health, NamesFit, CanName, IsPlace, Looks, Caches, Ends};
 
 use crate::failures::VolFail;

@@ -3,6 +3,7 @@
 
 mod blocks;
 mod failures;
+mod faulty_volume;
 mod host;
 #[cfg(test)]
 mod host_tests;
@@ -22,6 +23,7 @@ mod volume_tests;
 
 pub use blocks::Blocks;
 pub use failures::{DiskFail, Failed, Stopped, VolFail};
+pub use faulty_volume::FaultyVolume;
 pub use host::Host;
 pub use list_region::ListRegion;
 pub use list_volume::ListVolume;

@@ -1,9 +1,9 @@
 //! A volume in memory, for tests.
 
-ghost use Rattle.std.specs.Prelude.{◌≡◌, ℕ, ◌+◌, ◌*◌, ◌<◌, ◌≤◌, ◌⊎◌, true, false, if◌then◌else◌, length, slice_set, IfOk};
+ghost use Rattle.std.specs.Prelude.{◌≡◌, ◌+◌, ◌*◌, ◌<◌, ◌≤◌, ◌⊎◌, true, if◌then◌else◌, length, slice_set, IfOk};
 ghost use Rattle.rio_base.specs.Blocks.{Halts};
 ghost use Rattle.rio_base.specs.Volume.{Goes, cleared};
-ghost use Rattle.rio_base.specs.ListVolumes.{flat, zeroed, mark_of, list_health, list_below, ListSound, IsNew, IsRestarted};
+ghost use Rattle.rio_base.specs.ListVolumes.{flat, zeroed, mark_of, list_health, list_below, ListSound, IsNew, IsRestarted, list_kept};
 
 use crate::blocks::Blocks;
 use crate::failures::{Stopped, VolFail};
@@ -111,6 +111,15 @@ impl ListVolume {
         ensures { result ≡ flat self.now.standing.items b.0 w }
     {
         self.standing[ListVolume::place(b, w)]
+    }
+
+    /// Whether block `b` is touched in the open update.
+    pub(crate) fn is_touched(&self, b: Block) -> bool
+        requires sound { ListSound self.now }
+        requires block { b.0 < self.now.count }
+        ensures { result ≡ (list_kept self.now).touched b.0 }
+    {
+        self.updating && self.touched[b.0 as usize]
     }
 
     /// Goes on as a warm reboot would: what stands is what reads, no update is open, and steps are counted anew.

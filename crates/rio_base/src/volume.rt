@@ -1,8 +1,8 @@
 //! A cached volume: blocks that read and blocks that stand, single stores, and updates of several blocks at once.
 
-ghost use Rattle.std.specs.Prelude.{◌≡◌, ◌≢◌, ℕ, ◌<◌, ◌≤◌, ◌⊎◌, true, false, Option, None, IfOk, OnOk, OnErr, IsErrOf};
+ghost use Rattle.std.specs.Prelude.{◌≡◌, ℕ, ◌<◌, ◌≤◌, true, false, None, IfOk, OnOk, IsErrOf};
 ghost use Rattle.rio_base.specs.Blocks.{CanName, IsPlace, Looks, Caches, Drops, Ends, Halts};
-ghost use Rattle.rio_base.specs.Volume.{Below, Kept, Passes, Settled, put, cleared, SameBut, Firm, FirmBut, CachesStored, stored_name, Runs, Goes, Quiet, SameUpdate, Begun, HasRoom, Touches, OldOrNew, OldOrPut};
+ghost use Rattle.rio_base.specs.Volume.{Below, Kept, Passes, Settled, put, cleared, SameBut, Firm, FirmBut, CachesStored, stored_name, Runs, Goes, SameUpdate, Begun, HasRoom, Touches, OldOrNew, OldOrPut};
 
 use crate::blocks::Blocks;
 use crate::failures::{Stopped, VolFail};

@@ -1,6 +1,6 @@
 //! Tests of a volume in memory, by an update of two blocks that is stopped at each step.
 
-ghost use Rattle.std.specs.Prelude.{◌≡◌, ◌<◌, false, None, OnOk, IfOk, length};
+ghost use Rattle.std.specs.Prelude.{◌≡◌, ◌<◌, false, None, OnOk};
 ghost use Rattle.rio_base.specs.Blocks.{CanName};
 ghost use Rattle.rio_base.specs.Volume.{put, OldOrNew, Goes};
 

@@ -1,4 +1,4 @@
-use Rattle.std.proofs.Common.{arith, ap, ◌∙◌, ◌+◌, ◌≤◌, length, le_trans}
+use Rattle.std.proofs.Common.{arith, ap, ◌∙◌, length, le_trans}
 use Rattle.rio_base.specs.Rules.{looks_trans}
 use Rattle.rio_base.proofs.Ends.{caches_trans}
 use Rattle.block_alloc.proofs.Free.{count_more, count_fits, whole}

@@ -1,4 +1,4 @@
-use Rattle.std.proofs.Common.{◌≡◌, ℕ, ◌-◌, ◌++◌, length, take}
+use Rattle.std.proofs.Common.{◌≡◌, ◌-◌, ◌++◌, length, take}
 use Rattle.std.specs.Vec.{vec_len}
 use Rattle.block_alloc.specs.Bitmap.{numbers}
 use Rattle.block_alloc.specs.Words.{set_bits}

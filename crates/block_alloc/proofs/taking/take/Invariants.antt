@@ -1,4 +1,4 @@
-use Rattle.std.proofs.Common.{◌≡◌, ℕ, ◌-◌, ◌*◌, ◌≤◌, length, take}
+use Rattle.std.proofs.Common.{◌≡◌, ◌-◌, ◌≤◌, take}
 use Rattle.std.specs.Prelude.{None}
 use Rattle.rio_base.specs.Blocks.{Looks, Caches}
 use Rattle.rio_base.specs.Shapes.{HasShape}
