@@ -2,3 +2,4 @@ pub mod Table
 pub mod Served
 pub mod ServeRun
 pub mod Asking
+pub mod Command

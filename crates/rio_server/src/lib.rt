@@ -2,5 +2,8 @@
 #![tactic(auto)]
 
 mod ends;
+mod program;
 mod serve;
 mod table;
+
+pub use program::run;

@@ -33,6 +33,7 @@ pub fn serve<S: Source, K: Sink>(
     ensures sink_fault { result ≡ ServeEnd.SinkFault → Rose (K.faults sink.old) (K.faults sink.new) }
     ensures steady { result ≢ ServeEnd.SinkFault → K.faults sink.new ≡ K.faults sink.old }
     ensures later { S.faults source.old ≤ S.faults source.new }
+    ensures sink_later { K.faults sink.old ≤ K.faults sink.new }
 {
     let Ok(mut reader) = LineReader::new(alloc) else {
         return ServeEnd::Memory;
@@ -66,6 +67,7 @@ fn serve_lines<S: Source, K: Sink>(
     ensures sink_fault { result ≡ ServeEnd.SinkFault → Rose (K.faults sink.old) (K.faults sink.new) }
     ensures steady { result ≢ ServeEnd.SinkFault → K.faults sink.new ≡ K.faults sink.old }
     ensures later { S.faults source.old ≤ S.faults source.new }
+    ensures sink_later { K.faults sink.old ≤ K.faults sink.new }
 {
     loop {
         let request = match ask(alloc, reader, source) {

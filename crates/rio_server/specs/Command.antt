@@ -1,0 +1,50 @@
+-- The words of a command, and how a run of the program ends.
+use Rattle.std.specs.Prelude.{◌≡◌, ◌≢◌, ◌≤◌, ℕ, List, [], ◌∷◌, ◌++◌, length, take, map, codes, slice_index, Option, ◌⊎◌, String}
+use Rattle.std.specs.String.{string_bytes}
+use Rattle.std.specs.Global.{Global}
+use Rattle.rio_base.specs.Streams.{appended}
+use Rattle.rio_model.specs.declared.state.State.{State}
+use Rattle.rio_server.specs.declared.ends.ServeEnd.{ServeEnd}
+use Rattle.rio_server.specs.declared.ends.ServeEnd.TheVariants.{End, SourceFault, SinkFault, InputLimit, Memory}
+use Rattle.rio_server.specs.ServeRun.{Serves}
+
+-- a file's name: a word that isn't empty and doesn't begin with `-`
+pub record IsFileName (name : List ℕ) : Type 0 where
+  pub some : name ≢ []
+  pub no_option : slice_index name 0 ≢ 45
+
+-- `serve IMAGE DISK`
+abbrev pub IsServe : List (String Global) → Type 0
+IsServe words = (image disk : List ℕ) × (map string_bytes words ≡ codes "serve" ∷ image ∷ disk ∷ []) × IsFileName image × IsFileName disk
+
+abbrev pub usage_line : List ℕ
+usage_line = codes "usage: rio format, serve, registry, check, drill\n"
+
+-- the status of each end
+abbrev pub status_of : ServeEnd → ℕ
+status_of End = 0
+status_of Memory = 6
+status_of SourceFault = 8
+status_of SinkFault = 9
+status_of InputLimit = 11
+
+-- the last line that is written at each end, if any
+abbrev pub last_line : ServeEnd → List ℕ
+last_line End = []
+last_line Memory = codes "out of memory\n"
+last_line SourceFault = codes "source fault\n"
+last_line SinkFault = []
+last_line InputLimit = codes "input limit\n"
+
+-- a line was written whole, or, only where the sink's count rose, a front of it
+abbrev pub WritesLine : Type 0 → Option (List ℕ) → List ℕ → Option (List ℕ) → Type 0
+WritesLine rose written line written_after = (written_after ≡ appended written line)
+    ⊎ (rose × (k : ℕ) × (k ≤ length line) × (written_after ≡ appended written (take k line)))
+
+-- The run served from state s and ended with this status: the replies were written, and then the last line.
+pub record RunServes (s : State) (status : ℕ) (rose : Type 0) (left left_after written written_after : Option (List ℕ)) : Type 0 where
+  pub end : ServeEnd
+  pub status_is : status ≡ status_of end
+  pub replied : Option (List ℕ)
+  pub serves : Serves s end left left_after written replied
+  pub last : WritesLine rose replied (last_line end) written_after
