@@ -2,7 +2,6 @@
 use Rattle.std.specs.Prelude.{ℕ, Bool, List, refl}
 use Rattle.std.specs.FinMap as map
 use Rattle.std.specs.Coded.{Coded, code_by, coded×, coded_ℕ, coded_bool, coded_list}
-use Rattle.rio_base.specs.declared.places.Ino.{Ino}
 use Rattle.rio_base.specs.declared.places.VolumeShape.{VolumeShape}
 use Rattle.rio_model.specs.declared.txn.Txn.{Txn}
 use Rattle.rio_model.specs.declared.state.State.{State}

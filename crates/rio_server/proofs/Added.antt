@@ -4,7 +4,6 @@ use Rattle.std.specs.Prelude.{All}
 use Rattle.std.specs.Global.{Vec}
 use Rattle.std.specs.BTreeMap.{insert_entry}
 use Rattle.std.specs.FinMap.{insert}
-use Rattle.rio_model.specs.declared.node.Node.{Node}
 use Rattle.rio_model.specs.declared.node.Node.TheVariants.{File}
 use Rattle.rio_model.specs.declared.state.State.{State}
 use Rattle.rio_model.specs.Names.{Names}
@@ -20,9 +19,9 @@ state_with names nodes = record { names = names; nodes = nodes; txns = []; shape
 pub added : (entries after : List (Vec ℕ × ℕ)) (files more : List (Vec ℕ)) (key : Vec ℕ) (name : List ℕ) (i : ℕ) (f : Vec ℕ) → after ≡ insert_entry key_cmp entries key i → key.items ≡ name → i ≡ length files + 2 → more ≡ files ++ f ∷ [] → f.items ≡ [] → state_of after more ≡ with_new (state_of entries files) 1 name (length files + 2) (File [])
 added entries after files more key name i f inserted named number pushed empty =
     let names : root_names after ≡ insert (root_names entries) (1, name) (length files + 2) =
-          ap root_names inserted ∙ insert-root entries key i ∙ ap (λ (n : List ℕ). insert (root_names entries) (1, n) i) named ∙ ap (insert (root_names entries) (1, name)) number in
+    ap root_names inserted ∙ insert-root entries key i ∙ ap (λ (n : List ℕ). insert (root_names entries) (1, n) i) named ∙ ap (insert (root_names entries) (1, name)) number in
     let nodes : file_nodes more ≡ insert (file_nodes files) (length files + 2) (File []) =
-          ap file_nodes pushed ∙ push-file files f ∙ ap (λ (bytes : List ℕ). insert (file_nodes files) (length files + 2) (File bytes)) empty in
+    ap file_nodes pushed ∙ push-file files f ∙ ap (λ (bytes : List ℕ). insert (file_nodes files) (length files + 2) (File bytes)) empty in
     λ j. state_with (names j) (nodes j)
 
 weaker : (a b : ℕ) (es : List (Vec ℕ × ℕ)) → a ≤ b → All (λ e. (2 ≤ e.1) × (e.1 < a)) es → All (λ e. (2 ≤ e.1) × (e.1 < b)) es

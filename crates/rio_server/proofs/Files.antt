@@ -1,7 +1,6 @@
 -- The files of a table: a file more, and a file changed, are those of the state.
-use Rattle.std.proofs.Common.{◌≡◌, ◌≢◌, ℕ, zero, suc, ◌+◌, ◌<◌, ◌≤◌, ◌==◌, Bool, true, false, cond, List, [], ◌∷◌, ◌++◌, length, slice_index_or, slice_set, refl, sym, ap, subst, ◌∙◌, arith, add-one, add-zero}
-use Rattle.std.specs.Prelude.{Option, Some, None, is_none}
-use Rattle.std.specs.List.{range_with_len, find as find_in}
+use Rattle.std.proofs.Common.{◌≡◌, ◌≢◌, ℕ, zero, suc, ◌+◌, ◌<◌, ◌≤◌, ◌==◌, true, false, cond, List, [], ◌∷◌, ◌++◌, length, slice_index_or, slice_set, refl, sym, ap, ◌∙◌, arith, add-zero}
+use Rattle.std.specs.Prelude.{Option, Some, None}
 use Rattle.std.specs.Global.{Vec}
 use Rattle.std.specs.Ordering.{nat_cmp, eq_by_cmp}
 use Rattle.std.specs.Cmp.{nat_cmp_total}
@@ -70,7 +69,7 @@ push-file files f =
   where
     none : find nat_cmp (2 + length files) ((1, Dir) ∷ file_entries 2 files) ≡ None
     none = ap (λ b. cond b (Some Dir) (find nat_cmp (2 + length files) (file_entries 2 files))) (tests_false (2 + length files) 1 (omega arith))
-      ∙ find-file files 2 (length files) ∙ node_at-past files (length files) (omega arith)
+        ∙ find-file files 2 (length files) ∙ node_at-past files (length files) (omega arith)
 
 node_at-set : (files : List (Vec ℕ)) (k : ℕ) (f : Vec ℕ) (j : ℕ) → k < length files → node_at (slice_set files k f) j ≡ cond (j == k) (Some (File f.items)) (node_at files j)
 node_at-set [] k f j h = absurd (omega arith)
@@ -103,6 +102,7 @@ set-file files k f h = same_map nat_cmp_total nat_cmp-IsAntisymmetric _ _ (λ q.
   where
     other : (q : ℕ) → q ≢ k + 2 → get (file_nodes files) q ≡ cond (eq_by_cmp nat_cmp q (k + 2)) (Some (File f.items)) (get (file_nodes files) q)
     other q n = sym (ap (λ b. cond b (Some (File f.items)) (get (file_nodes files) q)) (tests_false q (k + 2) n))
+
     at : (q : ℕ) → Place q → get (file_nodes (slice_set files k f)) q ≡ cond (eq_by_cmp nat_cmp q (k + 2)) (Some (File f.items)) (get (file_nodes files) q)
     at q (none e) = ap (get (file_nodes (slice_set files k f))) e ∙ get-none (slice_set files k f) ∙ sym (get-none files) ∙ ap (get (file_nodes files)) (sym e) ∙ other q (λ w. absurd (omega arith))
     at q (root e) = ap (get (file_nodes (slice_set files k f))) e ∙ get-root (slice_set files k f) ∙ sym (get-root files) ∙ ap (get (file_nodes files)) (sym e) ∙ other q (λ w. absurd (omega arith))

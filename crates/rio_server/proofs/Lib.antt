@@ -5,4 +5,4 @@ pub mod Steps
 pub mod TableSteps
 pub mod Listed
 pub mod Running
-pub mod Ending
+pub mod ServeWords

@@ -4,7 +4,7 @@ use Rattle.std.specs.Global.{Vec}
 use Rattle.std.specs.List.{AllByRecursion}
 use Rattle.std.specs.List.Sorted.{IsStrictlySortedBy}
 use Rattle.std.specs.declared.cmp.Ordering.TheVariants.{Less}
-use Rattle.std.specs.FinMap.{entries, from_entries, keys, put, entries-insert, empty, len-entries, len-empty}
+use Rattle.std.specs.FinMap.{entries, keys, put, entries-insert, empty, len-entries, len-empty}
 use Rattle.rio_model.specs.Names.{NameKey, name_cmp}
 use Rattle.rio_model.specs.Answer.{names_below}
 use Rattle.rio_model.proofs.NameOrder.{name_total}

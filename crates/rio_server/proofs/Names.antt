@@ -1,6 +1,6 @@
 -- The names of a table: a look-up and an insertion in the tree are those in the state.
-use Rattle.std.proofs.Common.{◌≡◌, ℕ, ◌+◌, ◌<◌, ◌≤◌, Bool, true, false, cond, List, [], ◌∷◌, ◌++◌, length, map, refl, sym, ap, subst, ◌∙◌, arith}
-use Rattle.std.specs.Prelude.{Option, Some, None, IfSome, All}
+use Rattle.std.proofs.Common.{◌≡◌, ℕ, Bool, true, false, cond, List, [], ◌∷◌, map, refl, sym, ap, subst, ◌∙◌}
+use Rattle.std.specs.Prelude.{Option, Some, IfSome, All}
 use Rattle.std.specs.List.{AllByRecursion}
 use Rattle.std.proofs.lemmas.List.Elements.{recursion_from_All, All-from_recursion}
 use Rattle.std.specs.Global.{Vec}
@@ -8,10 +8,10 @@ use Rattle.std.specs.declared.cmp.Ordering.{Ordering}
 use Rattle.std.specs.declared.cmp.Ordering.TheVariants.{Less, Equal, Greater}
 use Rattle.std.specs.Ordering.{nat_cmp, eq_by_cmp, is_eq, match_ordering}
 use Rattle.std.specs.Cmp.Lexicographic.{slice_cmp}
-use Rattle.std.specs.FinMap.{get, insert, from_entries, find, get-insert, get-from_entries}
+use Rattle.std.specs.FinMap.{get, insert, find, get-insert, get-from_entries}
 use Rattle.std.specs.BTreeMap.{insert_entry, is_at}
 use Rattle.std.specs.Map.{lookup}
-use Rattle.rio_model.specs.Names.{NameKey, Names, name_cmp}
+use Rattle.rio_model.specs.Names.{NameKey, name_cmp}
 use Rattle.rio_model.proofs.NameOrder.{name_total, name_exact, same_names}
 use Rattle.std.proofs.lemmas.Cmp.{tied_itself}
 use Rattle.rio_server.specs.Table.{root_entry, root_names}

@@ -1,25 +1,24 @@
 -- How a served run goes on, line by line, and what it is at each of its ends.
-use Rattle.std.proofs.Common.{◌≡◌, ◌≢◌, ℕ, zero, suc, ◌+◌, ◌-◌, ◌<◌, ◌≤◌, ◌^◌, ◌==◌, Bool, true, false, cond, List, [], ◌∷◌, ◌++◌, length, take, flat_map, refl, sym, ap, subst, ◌∙◌, inl, inr, arith, length-append, append_assoc}
-use Rattle.std.specs.Prelude.{Option, Some, None, ◌⊎◌, Result, Ok, Err}
+use Rattle.std.proofs.Common.{◌≡◌, ◌≢◌, ℕ, ◌+◌, ◌-◌, ◌<◌, ◌≤◌, ◌^◌, true, false, cond, List, [], ◌∷◌, ◌++◌, length, take, refl, sym, ap, subst, ◌∙◌, inl, inr, arith, length-append, append_assoc}
+use Rattle.std.specs.Prelude.{Option, Some, None, ◌⊎◌}
 use Rattle.std.proofs.lemmas.List.{append-nil, take_at}
-use Rattle.rio_base.specs.Pieces.{Lacks, onto, pieces}
-use Rattle.rio_base.specs.Streams.{appended, prepended, IsSpent}
+use Rattle.rio_base.specs.Pieces.{onto, pieces}
+use Rattle.rio_base.specs.Streams.{appended, prepended}
 use Rattle.rio_model.specs.declared.reply.Reply.{Reply}
 use Rattle.rio_model.specs.declared.request.Request.{Request}
 use Rattle.rio_model.specs.declared.state.State.{State}
 use Rattle.rio_model.specs.Run.{Run, Step}
 use Rattle.request_codec.specs.Form.{Means}
-use Rattle.request_codec.specs.declared.lines.NextLine.{NextLine}
-use Rattle.request_codec.specs.declared.lines.NextLine.TheVariants.{Line, TooLong, End as NoLine}
+use Rattle.request_codec.specs.declared.lines.NextLine.TheVariants.{End as NoLine}
 use Rattle.request_codec.specs.declared.lines.LineFail.{LineFail}
 use Rattle.request_codec.specs.declared.lines.LineFail.TheVariants.{Fault, Limit, Memory as NoMemory}
 use Rattle.request_codec.specs.Reading.{Reading}
-use Rattle.request_codec.specs.Lines.{Fails, Gives, HasEnded, HasNoEnd, Passes, RunsOver, TakesLine, TakesPart, ended, lines}
+use Rattle.request_codec.specs.Lines.{Fails, Gives, HasEnded, HasNoEnd, Passes, TakesLine, ended, lines}
 use Rattle.request_codec.specs.Text.{text_of}
 use Rattle.rio_server.specs.declared.ends.ServeEnd.{ServeEnd}
 use Rattle.rio_server.specs.declared.ends.ServeEnd.TheVariants.{End, SourceFault, SinkFault, InputLimit, Memory}
-use Rattle.rio_server.specs.ServeRun.{Answers, AreEnded, AreFirst, EachMeans, Finishes, IsCut, Replied, ServeRun, Serves, ended_lines, texts}
-use Rattle.rio_server.specs.Asking.{AsksFor, LacksLine, Stops}
+use Rattle.rio_server.specs.ServeRun.{Answers, AreFirst, EachMeans, Finishes, Replied, Serves, ended_lines, texts}
+use Rattle.rio_server.specs.Asking.{AsksFor, Stops}
 use Rattle.rio_server.proofs.Steps.{pieces-one}
 
 appended-nil : (told : Option (List ℕ)) → told ≡ appended told []
@@ -43,7 +42,8 @@ passes_trans a b c left mid now xs ys p q = record {
   given = p.given ++ q.given;
   gave = p.gave ∙ ap (prepended p.given) q.gave ∙ sym (prepended-append p.given q.given now);
   split = sym (append_assoc a.held p.given q.given) ∙ ap (λ zs. zs ++ q.given) p.split ∙ append_assoc xs b.held q.given ∙ ap (λ zs. xs ++ zs) q.split ∙ sym (append_assoc xs ys c.held);
-  count = let pc = p.count in let qc = q.count in omega (arith, length-append p.given q.given) }
+  count = let pc = p.count in let qc = q.count in omega (arith, length-append p.given q.given);
+}
 
 -- a line with its end, and what follows
 line_first : (line more : List ℕ) → HasNoEnd line → lines (ended line ++ more) ≡ line ∷ lines more
@@ -91,7 +91,8 @@ replied-more : (s t u : State) (answered : List (List ℕ)) (replies : List Repl
 replied-more s t u answered replies line reply h a = record {
   requests = h.requests ++ a.0 ∷ [];
   meaning = each_means-more answered h.requests line a.0 h.meaning a.1;
-  run = run-more s t u h.requests replies a.0 reply h.run a.2 }
+  run = run-more s t u h.requests replies a.0 reply h.run a.2;
+}
 
 -- The run so far: what the reader passed over are the answered lines, each with its end but for a last one where the
 -- input has ended.
@@ -118,9 +119,11 @@ took_start s start left written unended = record {
     passed = record { given = []; gave = prepended-nil left; split = append-nil start.held; count = let e : start.taken ≡ start.taken + 0 = omega arith in e };
     whole = tt;
     cover = inl refl;
-    replied = record { requests = []; meaning = tt; run = refl } };
+    replied = record { requests = []; meaning = tt; run = refl };
+  };
   wrote = appended-nil written;
-  closed = λ told. absurd (false_is_true (sym unended ∙ told)) }
+  closed = λ told. absurd (false_is_true (sym unended ∙ told));
+}
   where
     false_is_true : false ≡ true → ⊥
     false_is_true e = cc
@@ -132,6 +135,7 @@ fed_more s t u start mid reader left told now answered replies line reply h unen
   where
     whole_more : AllWhole (answered ++ line ∷ [])
     whole_more = all_whole-more answered line h.whole takes.whole
+
     by_cover : (h.fed ≡ ended_lines answered) ⊎ ((mid.ended ≡ true) × (lines h.fed ≡ answered)) → Passes mid told (ended line) reader now ⊎ (Passes mid told line reader now × (line ≢ []) × HasEnded reader now) → Fed s u start left reader now (answered ++ line ∷ []) (replies ++ reply ∷ [])
     by_cover (inr closed) p = absurd (let e = closed.0 in cc (unended, e))
     by_cover (inl is) (inl p) = record {
@@ -139,13 +143,15 @@ fed_more s t u start mid reader left told now answered replies line reply h unen
       passed = passes_trans start mid reader left told now h.fed (ended line) h.passed p;
       whole = whole_more;
       cover = inl (ap (λ zs. zs ++ ended line) is ∙ sym (ended_lines-more answered line));
-      replied = replied-more s t u answered replies line reply h.replied a }
+      replied = replied-more s t u answered replies line reply h.replied a;
+    }
     by_cover (inl is) (inr p) = record {
       fed = h.fed ++ line;
       passed = passes_trans start mid reader left told now h.fed line h.passed p.0;
       whole = whole_more;
       cover = inr (p.2.told, ap (λ zs. lines (zs ++ line)) is ∙ lines_first answered line h.whole ∙ ap (λ zs. answered ++ zs) (pieces-one 10 line takes.whole p.1));
-      replied = replied-more s t u answered replies line reply h.replied a }
+      replied = replied-more s t u answered replies line reply h.replied a;
+    }
 
 -- what the source gave is what was passed over and what is held
 given_is : (start reader : Reading) (left now : Option (List ℕ)) (eaten : List ℕ) (p : Passes start left eaten reader now) → start.held ≡ [] → p.given ≡ eaten ++ reader.held
@@ -199,8 +205,10 @@ stop_here s t start mid reader left told now written written_mid written_now fre
         after = t;
         first = first_ended over.given (part ++ reader.held) now took.answered h.whole given;
         replied = h.replied;
-        finish = finish over.given given over.count };
-      wrote = same ∙ took.wrote }
+        finish = finish over.given given over.count;
+      };
+      wrote = same ∙ took.wrote;
+    }
 
 -- where serving ends, where no next line was given
 abbrev failed_end : LineFail → ServeEnd
@@ -212,20 +220,20 @@ failed_end NoMemory = Memory
 fail_end : (s t : State) (start mid reader : Reading) (left told now written written_now : Option (List ℕ)) (fail : LineFail) → start.held ≡ [] → start.taken ≡ 0 → Took s t start left mid told written written_now → mid.ended ≡ false → Fails mid told fail reader now → Serves s (failed_end fail) left now written written_now
 fail_end s t start mid reader left told now written written_now Fault fresh none took unended (part, takes, empty, within) =
     stop_here s t start mid reader left told now written written_now written_now fresh took unended part takes.passed SourceFault
-      (λ given is count. ((part, takes.whole, is ∙ ap (λ zs. ended_lines took.answered ++ (part ++ zs)) empty ∙ ap (λ zs. ended_lines took.answered ++ zs) (append-nil part)), refl)) refl
+    (λ given is count. ((part, takes.whole, is ∙ ap (λ zs. ended_lines took.answered ++ (part ++ zs)) empty ∙ ap (λ zs. ended_lines took.answered ++ zs) (append-nil part)), refl)) refl
 fail_end s t start mid reader left told now written written_now NoMemory fresh none took unended (part, takes, within) =
     stop_here s t start mid reader left told now written written_now written_now fresh took unended part takes.passed Memory (λ given is count. refl) refl
 fail_end s t start mid reader left told now written written_now Limit fresh none took unended over =
     stop_here s t start mid reader left told now written written_now written_now fresh took unended (over.part ++ over.extra ∷ []) over.passed InputLimit
-      (λ given is count.
-        let total : length given ≡ 2 ^ 40 + 1 = let c = count in let n = none in let tk = over.taken in omega arith in
-        let whole : given ≡ (ended_lines took.answered ++ over.part) ++ (over.extra ∷ []) =
-              is ∙ ap (λ zs. ended_lines took.answered ++ ((over.part ++ over.extra ∷ []) ++ zs)) over.empty
-              ∙ ap (λ zs. ended_lines took.answered ++ zs) (append-nil (over.part ++ over.extra ∷ []))
-              ∙ sym (append_assoc (ended_lines took.answered) over.part (over.extra ∷ [])) in
-        let size : length (ended_lines took.answered ++ over.part) ≡ 2 ^ 40 =
-              let e = ap length whole in let f = length-append (ended_lines took.answered ++ over.part) (over.extra ∷ []) in omega arith in
-        (total, (over.part, over.whole, ap (take (2 ^ 40)) whole ∙ take_at (ended_lines took.answered ++ over.part) (over.extra ∷ []) (2 ^ 40) size), refl)) refl
+    (λ given is count.
+    let total : length given ≡ 2 ^ 40 + 1 = let c = count in let n = none in let tk = over.taken in omega arith in
+    let whole : given ≡ (ended_lines took.answered ++ over.part) ++ (over.extra ∷ []) =
+    is ∙ ap (λ zs. ended_lines took.answered ++ ((over.part ++ over.extra ∷ []) ++ zs)) over.empty
+    ∙ ap (λ zs. ended_lines took.answered ++ zs) (append-nil (over.part ++ over.extra ∷ []))
+    ∙ sym (append_assoc (ended_lines took.answered) over.part (over.extra ∷ [])) in
+    let size : length (ended_lines took.answered ++ over.part) ≡ 2 ^ 40 =
+    let e = ap length whole in let f = length-append (ended_lines took.answered ++ over.part) (over.extra ∷ []) in omega arith in
+    (total, (over.part, over.whole, ap (take (2 ^ 40)) whole ∙ take_at (ended_lines took.answered ++ over.part) (over.extra ∷ []) (2 ^ 40) size), refl)) refl
 
 -- the input was read to its end
 input_end : (s t : State) (start mid reader : Reading) (left told now written written_now : Option (List ℕ)) → start.held ≡ [] → start.taken ≡ 0 → reader.taken ≤ 2 ^ 40 → Took s t start left mid told written written_now → Gives mid told NoLine reader now → Serves s End left now written written_now
@@ -244,8 +252,10 @@ input_end s t start mid reader left told now written written_now fresh none with
         after = t;
         first = record { more = []; front = every ∙ sym (append-nil took.answered); whole = inr over.spent };
         replied = h.replied;
-        finish = (over.spent, every, (let c = p.count in let n = none in omega arith), refl) };
-      wrote = took.wrote }
+        finish = (over.spent, every, (let c = p.count in let n = none in omega arith), refl);
+      };
+      wrote = took.wrote;
+    }
   where
     by_cover : (took.so_far.fed ≡ ended_lines took.answered) ⊎ ((mid.ended ≡ true) × (lines took.so_far.fed ≡ took.answered)) → lines took.so_far.fed ≡ took.answered
     by_cover (inl is) = ap lines (is ∙ sym (append-nil (ended_lines took.answered))) ∙ lines_first took.answered [] took.so_far.whole ∙ append-nil took.answered
@@ -258,7 +268,8 @@ no_start s left written = record {
   out = [];
   gave = prepended-nil left;
   run = record { answered = []; replies = []; after = s; first = record { more = []; front = refl; whole = inl ([], refl) }; replied = record { requests = []; meaning = tt; run = refl }; finish = refl };
-  wrote = appended-nil written }
+  wrote = appended-nil written;
+}
 
 -- one line more was answered and its reply written
 pub took_more : (s t u : State) (start mid reader : Reading) (left told now written written_mid written_now : Option (List ℕ)) (request : Option Request) (reply : Reply) → Took s t start left mid told written written_mid → AsksFor mid told request reader now → Step t request reply u → written_now ≡ appended written_mid (text_of reply) → Took s u start left reader now written written_now
@@ -267,7 +278,8 @@ took_more s t u start mid reader left told now written written_mid written_now r
   replies = took.replies ++ reply ∷ [];
   so_far = fed_more s t u start mid reader left told now took.answered took.replies asks.line reply took.so_far asks.unended asks.takes (request, asks.means, step);
   wrote = wrote ∙ ap (λ (w : Option (List ℕ)). appended w (text_of reply)) took.wrote ∙ appended-append written (texts took.replies) (text_of reply) ∙ ap (appended written) (sym (texts-more took.replies reply));
-  closed = asks.closed }
+  closed = asks.closed;
+}
 
 -- the sink refused a reply
 pub sink_end : (s t u : State) (start mid reader : Reading) (left told now written written_mid written_now : Option (List ℕ)) (request : Option Request) (reply : Reply) → start.held ≡ [] → Took s t start left mid told written written_mid → AsksFor mid told request reader now → Step t request reply u → ((k : ℕ) × (k ≤ length (text_of reply)) × (written_now ≡ appended written_mid (take k (text_of reply)))) → Serves s SinkFault left now written written_now
@@ -283,8 +295,10 @@ sink_end s t u start mid reader left told now written written_mid written_now re
         after = u;
         first = first_of s u start reader left now (took.answered ++ asks.line ∷ []) (took.replies ++ reply ∷ []) h fresh asks.closed;
         replied = h.replied;
-        finish = (took.replies, reply, k, refl, few, refl) };
-      wrote = wrote ∙ ap (λ (w : Option (List ℕ)). appended w (take k (text_of reply))) took.wrote ∙ appended-append written (texts took.replies) (take k (text_of reply)) }
+        finish = (took.replies, reply, k, refl, few, refl);
+      };
+      wrote = wrote ∙ ap (λ (w : Option (List ℕ)). appended w (take k (text_of reply))) took.wrote ∙ appended-append written (texts took.replies) (take k (text_of reply));
+    }
 
 -- no line came
 pub stop_end : (s t : State) (start mid reader : Reading) (left told now written written_now : Option (List ℕ)) (end : ServeEnd) → start.held ≡ [] → start.taken ≡ 0 → Took s t start left mid told written written_now → Stops mid told end reader now → Serves s end left now written written_now
@@ -308,6 +322,7 @@ budget_falls mid reader told now line takes within = by_case takes.passed
     some : (xs : List ℕ) → xs ≢ [] → 0 < length xs
     some [] n = absurd (n refl)
     some (x ∷ xs) n = omega arith
+
     by_case : Passes mid told (ended line) reader now ⊎ (Passes mid told line reader now × (line ≢ []) × HasEnded reader now) → (2 ^ 40 - reader.taken) + length reader.held < (2 ^ 40 - mid.taken) + length mid.held
     by_case (inl p) = eaten_falls mid reader told now (ended line) p (omega (arith, length-append line (10 ∷ []))) within
     by_case (inr p) = eaten_falls mid reader told now line p.0 (some line p.1) within

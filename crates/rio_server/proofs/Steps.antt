@@ -1,21 +1,19 @@
 -- What the definition answers on the root directory and the files in it.
-use Rattle.std.proofs.Common.{◌≡◌, ◌≢◌, ℕ, zero, suc, ◌+◌, ◌-◌, ◌<◌, ◌≤◌, ◌==◌, Bool, true, false, cond, List, [], ◌∷◌, ◌++◌, length, refl, sym, ap, subst, ◌∙◌, inl, inr, arith}
-use Rattle.std.specs.Prelude.{Option, Some, None, is_some, is_none, All, ◌⊎◌, Result, Ok, Err}
-use Rattle.std.specs.List.{range_with_len, find as find_in, AllByRecursion}
+use Rattle.std.proofs.Common.{◌≡◌, ◌≢◌, ℕ, ◌==◌, false, cond, List, [], ◌∷◌, length, refl, sym, ap, subst, ◌∙◌, inl, inr, arith}
+use Rattle.std.specs.Prelude.{Option, Some, None, is_some, Result, Ok, Err}
+use Rattle.std.specs.List.{AllByRecursion}
 use Rattle.std.proofs.lemmas.List.Elements.{recursion_from_All}
 use Rattle.std.proofs.lemmas.Bool.Decides.{nat_tests}
-use Rattle.std.specs.FinMap.{get, contains_key}
+use Rattle.std.specs.FinMap.{get}
 use Rattle.rio_base.specs.Pieces.{Lacks, onto, pieces}
 use Rattle.rio_model.specs.declared.node.Node.{Node}
-use Rattle.rio_model.specs.declared.node.Node.TheVariants.{Dir, File, Region}
+use Rattle.rio_model.specs.declared.node.Node.TheVariants.{Dir, File}
 use Rattle.rio_model.specs.declared.state.State.{State}
-use Rattle.rio_model.specs.declared.request.Request.{Request}
 use Rattle.rio_model.specs.declared.request.Request.TheVariants.{Create, Write, Read, List as ListOf}
-use Rattle.rio_model.specs.declared.reply.Reply.{Reply}
 use Rattle.rio_model.specs.declared.reply.Reply.TheVariants.{Number, Bytes, Names as NamesOf, Err as Refused}
-use Rattle.rio_model.specs.Paths.{IsName, IsNameByte, names_of, walk, walk_to_dir, is_dir, from_found, as_dir}
-use Rattle.rio_model.specs.Answer.{answer_of, answered, at_inode, bytes_from, create, least_free, make, make_at, make_in, names_in, on_file, overwritten, read, refused, with_new, with_node, write_at_start}
-use Rattle.rio_model.specs.Run.{Step, Answers, LacksMemory}
+use Rattle.rio_model.specs.Paths.{IsName, IsNameByte, names_of, walk, walk_to_dir, is_dir, from_found}
+use Rattle.rio_model.specs.Answer.{answered, at_inode, bytes_from, create, least_free, make, make_at, make_in, names_in, on_file, overwritten, refused, with_new, with_node}
+use Rattle.rio_model.specs.Run.{Step}
 use Rattle.request_codec.specs.Form.{IsInRoot}
 
 -- bytes without the separator are one piece

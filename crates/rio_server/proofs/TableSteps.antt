@@ -1,5 +1,5 @@
 -- What a table answers is what the definition answers on the state that it stands for.
-use Rattle.std.proofs.Common.{◌≡◌, ◌≢◌, ℕ, zero, suc, ◌+◌, ◌-◌, ◌<◌, ◌≤◌, Bool, true, false, List, [], ◌∷◌, length, slice_index_or, slice_set, refl, sym, ap, subst, ◌∙◌, arith}
+use Rattle.std.proofs.Common.{◌≡◌, ℕ, zero, suc, ◌+◌, ◌<◌, ◌≤◌, Bool, true, false, List, [], ◌∷◌, length, slice_index_or, slice_set, refl, sym, ap, subst, ◌∙◌, arith}
 use Rattle.std.specs.Prelude.{Option, Some, None, is_some, is_none, Result, Ok, Err, is_ok, OnOk, OnErr}
 use Rattle.std.specs.List.{range_with_len, find as find_in}
 use Rattle.std.specs.Global.{Vec}
@@ -9,10 +9,10 @@ use Rattle.rio_model.specs.declared.node.Node.TheVariants.{Dir, File}
 use Rattle.rio_model.specs.declared.state.State.{State}
 use Rattle.rio_model.specs.declared.request.Request.TheVariants.{Create, Write, Read, List as ListOf}
 use Rattle.rio_model.specs.declared.reply.Reply.TheVariants.{Number, Bytes, Names as NamesOf, Err as Refused}
-use Rattle.rio_model.specs.Answer.{bytes_from, least_free, names_below, overwritten, with_new, with_node}
+use Rattle.rio_model.specs.Answer.{bytes_from, least_free, names_below, overwritten, with_new}
 use Rattle.rio_model.specs.Run.{Step}
 use Rattle.request_codec.specs.Form.{IsInRoot}
-use Rattle.rio_server.specs.Table.{AreInodesOf, file_entries, root_names, state_of}
+use Rattle.rio_server.specs.Table.{file_entries, root_names, state_of}
 use Rattle.rio_server.proofs.Added.{state_with}
 use Rattle.rio_server.proofs.Files.{file_nodes, node_at, get-file, get-root, node_at-past, node_at-within, set-file}
 use Rattle.rio_server.proofs.Steps.{create_exists, create_full, create_made, list_done, names_in_root, read_done, read_missing, write_done, write_lacks, write_missing}
@@ -71,13 +71,13 @@ exists_step names files s path name (Some i) same root is at some =
 pub full_step : (names : List (Vec ℕ × ℕ)) (files : List (Vec ℕ)) (s : State) (path name : List ℕ) (o : Option ℕ) → state_of names files ≡ s → IsInRoot path → path ≡ 47 ∷ name → o ≡ get (root_names names) (1, name) → is_some o ≡ false → 63 ≤ length files → Step s (Some (Create path)) (Refused 12) s
 full_step names files s path name o same root is at none full =
     subst (λ (u : State). Step u (Some (Create path)) (Refused 12) u) same
-      (create_full (state_of names files) path name (names_in_root path name root is) (get-root files) (sym at ∙ not_some o none) (least_free-none names files full))
+    (create_full (state_of names files) path name (names_in_root path name root is) (get-root files) (sym at ∙ not_some o none) (least_free-none names files full))
 
 -- the least free inode is taken
 pub made_step : (names : List (Vec ℕ × ℕ)) (files : List (Vec ℕ)) (s t : State) (path name : List ℕ) (o : Option ℕ) (n : ℕ) → state_of names files ≡ s → IsInRoot path → path ≡ 47 ∷ name → o ≡ get (root_names names) (1, name) → is_some o ≡ false → length files < 63 → n ≡ length files + 2 → t ≡ with_new (state_of names files) 1 name (length files + 2) (File []) → Step s (Some (Create path)) (Number n) t
 made_step names files s t path name o n same root is at none room number after =
     subst (λ (u : State). Step u (Some (Create path)) (Number n) t) same
-      (create_made (state_of names files) t path name (length files + 2) n (names_in_root path name root is) (get-root files) (sym at ∙ not_some o none) (least_free-some names files room) number after)
+    (create_made (state_of names files) t path name (length files + 2) n (names_in_root path name root is) (get-root files) (sym at ∙ not_some o none) (least_free-some names files room) number after)
 
 pub write_missing_step : (names : List (Vec ℕ × ℕ)) (files : List (Vec ℕ)) (s : State) (path name bytes : List ℕ) → state_of names files ≡ s → IsInRoot path → path ≡ 47 ∷ name → get (root_names names) (1, name) ≡ None → Step s (Some (Write path 0 bytes)) (Refused 2) s
 write_missing_step names files s path name bytes same root is at =
@@ -90,10 +90,10 @@ file_is files place f h at = get-file files place ∙ node_at-within files place
 pub write_step : (names : List (Vec ℕ × ℕ)) (files after : List (Vec ℕ)) (s : State) (path name bytes : List ℕ) (place : ℕ) (old new : Vec ℕ) → state_of names files ≡ s → IsInRoot path → path ≡ 47 ∷ name → place < length files → get (root_names names) (1, name) ≡ Some (place + 2) → old ≡ slice_index_or files place old → new.items ≡ overwritten old.items bytes → after ≡ slice_set files place new → Step s (Some (Write path 0 bytes)) (Number (length bytes)) (state_of names after)
 write_step names files after s path name bytes place old new same root is h at was written set =
     let nodes : file_nodes after ≡ insert (file_nodes files) (place + 2) (File (overwritten old.items bytes)) =
-          ap file_nodes set ∙ set-file files place new h ∙ ap (λ (xs : List ℕ). insert (file_nodes files) (place + 2) (File xs)) written in
+    ap file_nodes set ∙ set-file files place new h ∙ ap (λ (xs : List ℕ). insert (file_nodes files) (place + 2) (File xs)) written in
     subst (λ (u : State). Step u (Some (Write path 0 bytes)) (Number (length bytes)) (state_of names after)) same
-      (write_done (state_of names files) (state_of names after) path name bytes old.items (place + 2) (names_in_root path name root is) (get-root files) at (file_is files place old h was)
-        (λ j. state_with (root_names names) (nodes j)))
+    (write_done (state_of names files) (state_of names after) path name bytes old.items (place + 2) (names_in_root path name root is) (get-root files) at (file_is files place old h was)
+    (λ j. state_with (root_names names) (nodes j)))
 
 same_files : (files : List (Vec ℕ)) (i place : ℕ) (old new : Vec ℕ) → place < length files → old ≡ slice_index_or files place old → new.items ≡ old.items → file_entries i (slice_set files place new) ≡ file_entries i files
 same_files [] i place old new h was same = absurd (omega arith)
@@ -113,7 +113,7 @@ read_missing_step names files s path name off len same root is at =
 pub read_step : (names : List (Vec ℕ × ℕ)) (files : List (Vec ℕ)) (s : State) (path name given : List ℕ) (off len place : ℕ) (file : Vec ℕ) → state_of names files ≡ s → IsInRoot path → path ≡ 47 ∷ name → place < length files → get (root_names names) (1, name) ≡ Some (place + 2) → file ≡ slice_index_or files place file → given ≡ bytes_from file.items off len → Step s (Some (Read path off len)) (Bytes given) s
 read_step names files s path name given off len place file same root is h at was part =
     subst (λ (u : State). Step u (Some (Read path off len)) (Bytes given) u) same
-      (read_done (state_of names files) path name file.items given off len (place + 2) (names_in_root path name root is) (get-root files) at (file_is files place file h was) part)
+    (read_done (state_of names files) path name file.items given off len (place + 2) (names_in_root path name root is) (get-root files) at (file_is files place file h was) part)
 
 pub list_step : (names : List (Vec ℕ × ℕ)) (files : List (Vec ℕ)) (s : State) (listed : List (List ℕ)) → state_of names files ≡ s → listed ≡ names_below (keys (root_names names)) 1 → Step s (Some (ListOf (47 ∷ []))) (NamesOf listed) s
 list_step names files s listed same is =

@@ -1,5 +1,5 @@
 -- The words of a command, and how a run of the program ends.
-use Rattle.std.specs.Prelude.{◌≡◌, ◌≢◌, ◌≤◌, ℕ, List, [], ◌∷◌, ◌++◌, length, take, map, codes, slice_index, Option, ◌⊎◌, String}
+use Rattle.std.specs.Prelude.{◌≡◌, ◌≢◌, ◌≤◌, ℕ, List, [], ◌∷◌, length, take, map, codes, slice_index, Option, ◌⊎◌, String}
 use Rattle.std.specs.String.{string_bytes}
 use Rattle.std.specs.Global.{Global}
 use Rattle.rio_base.specs.Streams.{appended}

@@ -1,5 +1,5 @@
 -- One served run: what was read, what was replied, and where it ended.
-use Rattle.std.specs.Prelude.{◌≡◌, ◌≢◌, ◌+◌, ◌≤◌, ◌^◌, ℕ, List, [], ◌∷◌, ◌++◌, length, take, flat_map, codes, Option, ◌⊎◌}
+use Rattle.std.specs.Prelude.{◌≡◌, ◌+◌, ◌≤◌, ◌^◌, ℕ, List, [], ◌∷◌, ◌++◌, length, take, flat_map, Option, ◌⊎◌}
 use Rattle.rio_base.specs.Streams.{appended, prepended, IsSpent}
 use Rattle.rio_model.specs.declared.reply.Reply.{Reply}
 use Rattle.rio_model.specs.declared.request.Request.{Request}

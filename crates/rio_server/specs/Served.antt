@@ -1,5 +1,5 @@
 -- What the table answers: requests on the root directory, and on files in it from their start on.
-use Rattle.std.specs.Prelude.{◌≡◌, ◌∷◌, [], ℕ}
+use Rattle.std.specs.Prelude.{◌≡◌, ◌∷◌, []}
 use Rattle.rio_model.specs.declared.request.Request.{Request}
 use Rattle.rio_model.specs.declared.request.Request.TheVariants.{Create, Write, Read, List as ListOf}
 use Rattle.request_codec.specs.Form.{IsInRoot}

@@ -1,5 +1,5 @@
 -- The state that a table of files stands for.
-use Rattle.std.specs.Prelude.{◌≡◌, ◌+◌, ◌<◌, ◌≤◌, ℕ, List, [], ◌∷◌, length, map, All}
+use Rattle.std.specs.Prelude.{◌+◌, ◌<◌, ◌≤◌, ℕ, List, [], ◌∷◌, length, map, All}
 use Rattle.std.specs.Global.{Vec}
 use Rattle.std.specs.FinMap.{from_entries}
 use Rattle.rio_base.specs.declared.places.VolumeShape.{VolumeShape}
@@ -36,7 +36,8 @@ state_of names files = record {
   txns = [];
   shape = served_shape;
   pages = 83;
-  scratch = 1 }
+  scratch = 1;
+}
 
 -- each name has one of the inodes from 2 on
 abbrev pub AreInodesOf : List (Vec ℕ × ℕ) → List (Vec ℕ) → Type 0

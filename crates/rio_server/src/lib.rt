@@ -5,5 +5,7 @@ mod ends;
 mod program;
 mod serve;
 mod table;
+#[cfg(test)]
+mod tests;
 
 pub use program::run;

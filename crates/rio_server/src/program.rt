@@ -6,14 +6,12 @@ ghost use Rattle.rio_base.specs.Counts.{Rose};
 ghost use Rattle.rio_server.specs.Command.{IsFileName, IsServe, RunServes, WritesLine, last_line, status_of, usage_line};
 ghost use Rattle.rio_server.specs.Table.{served_fresh};
 
-use std::alloc::Global;
-
-use request_codec::write_text;
-use rio_base::{Sink, Source};
-
 use crate::ends::ServeEnd;
 use crate::serve::serve;
 use crate::table::Table;
+use request_codec::write_text;
+use rio_base::{Sink, Source};
+use std::alloc::Global;
 
 /// What is printed where the words are no command.
 const USAGE: &[u8; 49] = b"usage: rio format, serve, registry, check, drill\n";

@@ -10,16 +10,14 @@ ghost use Rattle.rio_server.specs.Asking.{AsksFor, Stops};
 ghost use Rattle.rio_server.specs.Served.{IsServed};
 ghost use Rattle.rio_server.specs.ServeRun.{Serves};
 
-use std::alloc::{AllocError, Global};
-
+use crate::ends::ServeEnd;
+use crate::table::Table;
 use request_codec::{
     LineFail, LineReader, NextLine, ROOM_BYTES, long_lines_mean_nothing, parse_line, write_reply_in,
 };
 use rio_base::{Failed, Octets, Sink, Source};
 use rio_model::{Reply, Request};
-
-use crate::ends::ServeEnd;
-use crate::table::Table;
+use std::alloc::{AllocError, Global};
 
 /// Serves lines until the input ends, each reply written before the next line is asked for.
 pub fn serve<S: Source, K: Sink>(

@@ -8,12 +8,11 @@ ghost use Rattle.rio_model.specs.declared.node.Node.TheVariants.{File};
 ghost use Rattle.request_codec.specs.Form.{IsInRoot};
 ghost use Rattle.rio_server.specs.Table.{root_names, state_of, AreInodesOf};
 
+use rio_base::{NameList, Octets};
+use rio_model::{Reply, Request};
 use std::alloc::{AllocError, Global};
 use std::collections::BTreeMap;
 use std::marker::Model;
-
-use rio_base::{NameList, Octets};
-use rio_model::{Reply, Request};
 
 /// How many files there is room for: one for each inode but the root directory's.
 const MAX_FILES: usize = 63;
@@ -66,7 +65,11 @@ impl Table {
     {
         match request {
             Request::Create { path } => self.create(path.as_slice()),
-            Request::Write { path, off: _, bytes } => self.write(path.as_slice(), bytes.as_slice()),
+            Request::Write {
+                path,
+                off: _,
+                bytes,
+            } => self.write(path.as_slice(), bytes.as_slice()),
             Request::Read { path, off, len } => self.read(path.as_slice(), *off, *len),
             Request::List { path: _ } => self.list(),
             _ => unreachable!(),

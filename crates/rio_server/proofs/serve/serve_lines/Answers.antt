@@ -8,7 +8,8 @@ loop-request-init g c = record {
   took = took_start _ _ _ _ (ap (λ (r : Reading). r.ended) c.requires.fresh);
   within = let e = ap (λ (r : Reading). r.taken) c.requires.fresh in omega arith;
   later = omega arith;
-  steady = refl }
+  steady = refl;
+}
 
 pub returns-in-Err-clause-run : goal.returns-in-Err-clause-run
 returns-in-Err-clause-run g c =
@@ -27,4 +28,5 @@ loop-request-preserved g c = record {
   took = took_more _ _ _ _ _ _ _ _ _ _ _ _ _ _ c.loop-request.invariant.took c.in-Ok.ensures.line c.reply_to-reply.ensures c.in-Ok-send.ensures.ok;
   within = c.in-Ok.ensures.line.within;
   later = omega (arith, c.in-Ok.ensures.later);
-  steady = c.in-Ok-send.ensures.steady ∙ c.loop-request.invariant.steady }
+  steady = c.in-Ok-send.ensures.steady ∙ c.loop-request.invariant.steady;
+}
