@@ -4,24 +4,23 @@
 
 mod streams;
 
+use crate::streams::{InputSource, OutputSink};
+use rio_server::{end_without_memory, run};
 use std::alloc::Global;
 use std::process::ExitCode;
 use std::rt::Env;
 use std::{env, io};
 
-use rio_server::run;
-
-use crate::streams::{InputSource, OutputSink};
-
 fn main(rt: HostRuntime) -> ExitCode {
     let mut source = InputSource::new(rt.stdin());
     let mut sink = OutputSink::new(rt.stdout());
-    let words = match words_of(&rt, rt.alloc()) {
-        Ok(words) => words,
-        // A word that isn't UTF-8 is no word of a command, and nor is none.
-        Err(_) => Vec::new(rt.alloc()),
+    let status = match words_of(&rt, rt.alloc()) {
+        Ok(words) => run(rt.alloc(), &words, &mut source, &mut sink),
+        Err(fail) if fail.kind() == io::ErrorKind::OutOfMemory => end_without_memory(&mut sink),
+        // A word that isn't UTF-8 stands in no command, and no words are none either.
+        Err(_) => run(rt.alloc(), &Vec::new(rt.alloc()), &mut source, &mut sink),
     };
-    ExitCode::from(run(rt.alloc(), &words, &mut source, &mut sink))
+    ExitCode::from(status)
 }
 
 /// The words after the program's name.

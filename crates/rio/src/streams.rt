@@ -2,9 +2,8 @@
 
 ghost use Rattle.std.specs.Prelude.{None};
 
-use std::io::{Read, Write};
-
 use rio_base::{Failed, Sink, Source};
+use std::io::{Read, Write};
 
 /// What a reader gives, as a source.
 #[derive(Drop)]

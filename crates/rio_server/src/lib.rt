@@ -8,4 +8,4 @@ mod table;
 #[cfg(test)]
 mod tests;
 
-pub use program::run;
+pub use program::{end_without_memory, run};

@@ -64,6 +64,14 @@ pub fn run<S: Source, K: Sink>(
     conclude(end, sink)
 }
 
+/// Ends a run whose words found no memory: status 6.
+pub fn end_without_memory<K: Sink>(sink: &mut K) -> u8
+    ensures status { result ≡ 6 }
+    ensures told { WritesLine (Rose (K.faults sink.old) (K.faults sink.new)) (K.written sink.old) (last_line ServeEnd.Memory) (K.written sink.new) }
+{
+    conclude(ServeEnd::Memory, sink)
+}
+
 /// Whether the words are `serve IMAGE DISK`.
 fn is_serve(words: &[String]) -> bool
     ensures { IsTrue result ↔ IsServe words.now }

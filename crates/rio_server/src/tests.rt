@@ -180,3 +180,26 @@ fn other_words_are_usage(rt: HostRuntime) -> Result<(), Fail> {
     }
     Ok(())
 }
+
+#[test]
+fn a_reply_that_fits_its_room_is_one_call(rt: HostRuntime) -> Result<(), Fail> {
+    let alloc = rt.alloc();
+    let words = words_of(alloc, &["serve", "image", "disk"])?;
+    // 2,046 bytes make a line of 4,096: `ok `, two digits for each, and the line end.
+    for (size, status) in [(2046usize, 0u8), (2047, 9)] {
+        let mut input = String::from_str(alloc, "create /f\nwrite /f 0 ")?;
+        for _ in 0..size {
+            input.push_str("5a")?;
+        }
+        input.push_str("\nread /f 0 4096\n")?;
+        let mut source = MemSource::new(alloc, input.as_bytes(), 4096)?;
+        let mut sink = MemSink::new(alloc);
+        sink.fail_call(4)?;
+        assert_eq!(rt;
+            run(alloc, &words, &mut source, &mut sink),
+            status,
+            "{size} bytes"
+        );
+    }
+    Ok(())
+}
