@@ -157,8 +157,9 @@ fn is_name_byte(b: u8) -> bool
     b'!' <= b && b <= b'~' && b != b'/'
 }
 
-/// The number that these digits write.
-fn number_of(digits: &[u8]) -> Option<u64>
+/// The number that these digits write. They are 1 to 18 decimal digits, and none but 0 itself begins with 0. `None` is the
+/// answer to all others.
+pub fn number_of(digits: &[u8]) -> Option<u64>
     ensures { MatchOption result ((n : ℕ) → IsNumber digits.now n → ⊥) (λ n. IsNumber digits.now n) }
 {
     let Ok(text) = str::from_utf8(digits) else {

@@ -2,8 +2,12 @@
 //! standard output.
 #![tactic(auto)]
 
+mod os_host;
+#[cfg(test)]
+mod os_host_tests;
 mod streams;
 
+use crate::os_host::OsHost;
 use crate::streams::{InputSource, OutputSink};
 use rio_server::{end_without_memory, run};
 use std::alloc::Global;
@@ -14,11 +18,20 @@ use std::{env, io};
 fn main(rt: HostRuntime) -> ExitCode {
     let mut source = InputSource::new(rt.stdin());
     let mut sink = OutputSink::new(rt.stdout());
-    let status = match words_of(&rt, rt.alloc()) {
-        Ok(words) => run(rt.alloc(), &words, &mut source, &mut sink),
-        Err(fail) if fail.kind() == io::ErrorKind::OutOfMemory => end_without_memory(&mut sink),
+    let host = OsHost::new(rt.alloc(), &rt);
+    let (status, _) = match words_of(&rt, rt.alloc()) {
+        Ok(words) => run(rt.alloc(), &words, &mut source, &mut sink, host),
+        Err(fail) if fail.kind() == io::ErrorKind::OutOfMemory => {
+            (end_without_memory(&mut sink), host)
+        }
         // A word that isn't UTF-8 stands in no command, and no words are none either.
-        Err(_) => run(rt.alloc(), &Vec::new(rt.alloc()), &mut source, &mut sink),
+        Err(_) => run(
+            rt.alloc(),
+            &Vec::new(rt.alloc()),
+            &mut source,
+            &mut sink,
+            host,
+        ),
     };
     ExitCode::from(status)
 }

@@ -6,3 +6,5 @@ pub mod TableSteps
 pub mod Listed
 pub mod Running
 pub mod ServeWords
+pub mod FormatWords
+pub mod Formatting

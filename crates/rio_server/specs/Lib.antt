@@ -3,3 +3,4 @@ pub mod Served
 pub mod ServeRun
 pub mod Asking
 pub mod Command
+pub mod Format

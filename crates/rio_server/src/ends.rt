@@ -14,3 +14,16 @@ pub enum ServeEnd {
     /// There was no memory for a line.
     Memory,
 }
+
+/// How formatting ended.
+#[derive(Clone, Copy, Debug, PartialEq, Eq)]
+pub enum FormatEnd {
+    /// Both files are written.
+    Formatted,
+    /// The volume's file could not be replaced.
+    DiskFault,
+    /// The memory image's file could not be replaced.
+    ImageFault,
+    /// There was no memory for the pair.
+    Memory,
+}

@@ -2,7 +2,7 @@
 //! described by, or counted by hand.
 
 use crate::run;
-use rio_base::{MemSink, MemSource};
+use rio_base::{MemHost, MemSink, MemSource};
 use std::alloc::{AllocError, Global};
 use std::test::Fail;
 
@@ -21,12 +21,18 @@ fn words_of(alloc: Global, words: &[&str]) -> Result<Vec<String>, AllocError> {
     Ok(list)
 }
 
+/// The status of a run over a host without files.
+fn status_of(alloc: Global, words: &Vec<String>, source: &mut MemSource, sink: &mut MemSink) -> u8 {
+    let (status, _) = run(alloc, words, source, sink, MemHost::new(alloc));
+    status
+}
+
 /// Serves an input that comes in pieces of `most` bytes.
 fn served(alloc: Global, input: &[u8], most: usize) -> Result<Ran, AllocError> {
     let words = words_of(alloc, &["serve", "image", "disk"])?;
     let mut source = MemSource::new(alloc, input, most.max(1))?;
     let mut sink = MemSink::new(alloc);
-    let status = run(alloc, &words, &mut source, &mut sink);
+    let status = status_of(alloc, &words, &mut source, &mut sink);
     let text = Vec::from_slice(alloc, sink.bytes().as_slice())?;
     Ok(Ran { status, text })
 }
@@ -132,7 +138,7 @@ fn a_source_that_fails_ends_the_run(rt: HostRuntime) -> Result<(), Fail> {
         let mut source = MemSource::new(alloc, THREE.as_slice(), 10)?;
         source.fail_call(n)?;
         let mut sink = MemSink::new(alloc);
-        let status = run(alloc, &words, &mut source, &mut sink);
+        let status = status_of(alloc, &words, &mut source, &mut sink);
         assert_eq!(rt; status, if n < 5 { 8 } else { 0 }, "at call {n}");
         assert_eq!(rt; sink.bytes().as_slice(), text.as_bytes(), "at call {n}");
     }
@@ -149,7 +155,7 @@ fn a_sink_that_fails_ends_the_run(rt: HostRuntime) -> Result<(), Fail> {
         let mut source = MemSource::new(alloc, THREE.as_slice(), 4096)?;
         let mut sink = MemSink::new(alloc);
         sink.fail_call(n)?;
-        let status = run(alloc, &words, &mut source, &mut sink);
+        let status = status_of(alloc, &words, &mut source, &mut sink);
         assert_eq!(rt; status, if n < 4 { 9 } else { 0 }, "at call {n}");
         assert_eq!(rt; sink.bytes().as_slice(), text.as_bytes(), "at call {n}");
     }
@@ -172,7 +178,7 @@ fn other_words_are_usage(rt: HostRuntime) -> Result<(), Fail> {
         let words = words_of(alloc, command)?;
         let mut source = MemSource::new(alloc, b"create /f\n", 4096)?;
         let mut sink = MemSink::new(alloc);
-        assert_eq!(rt; run(alloc, &words, &mut source, &mut sink), 2);
+        assert_eq!(rt; status_of(alloc, &words, &mut source, &mut sink), 2);
         assert_eq!(rt;
             sink.bytes().as_slice(),
             b"usage: rio format, serve, registry, check, drill\n".as_slice()
@@ -196,7 +202,7 @@ fn a_reply_that_fits_its_room_is_one_call(rt: HostRuntime) -> Result<(), Fail> {
         let mut sink = MemSink::new(alloc);
         sink.fail_call(4)?;
         assert_eq!(rt;
-            run(alloc, &words, &mut source, &mut sink),
+            status_of(alloc, &words, &mut source, &mut sink),
             status,
             "{size} bytes"
         );

@@ -1,0 +1,108 @@
+-- The words of `format`.
+use Rattle.std.proofs.Common.{◌≡◌, ◌≢◌, ℕ, ◌<◌, ◌≤◌, List, [], ◌∷◌, length, map, slice_index_or, refl, sym, ap, subst, ◌∙◌, arith}
+use Rattle.std.proofs.lemmas.Fmt.{decimal_injective}
+use Rattle.std.specs.Prelude.{codes, String}
+use Rattle.std.specs.String.{string_bytes}
+use Rattle.std.specs.Global.{Global}
+use Rattle.request_codec.specs.Form.{IsNumber}
+use Rattle.rio_server.specs.declared.format_words.FormatSizes.{FormatSizes}
+use Rattle.rio_server.specs.Command.{IsFileName}
+use Rattle.rio_server.specs.Format.{AreRanged, AreSizes, IsFormat}
+
+pub eleven : (words : List (String Global)) (a b c d e f g h i j k : String Global) → 11 ≤ length words → length words < 12
+    → a ≡ slice_index_or words 0 a → b ≡ slice_index_or words 1 b → c ≡ slice_index_or words 2 c → d ≡ slice_index_or words 3 d
+    → e ≡ slice_index_or words 4 e → f ≡ slice_index_or words 5 f → g ≡ slice_index_or words 6 g → h ≡ slice_index_or words 7 h
+    → i ≡ slice_index_or words 8 i → j ≡ slice_index_or words 9 j → k ≡ slice_index_or words 10 k
+    → words ≡ a ∷ b ∷ c ∷ d ∷ e ∷ f ∷ g ∷ h ∷ i ∷ j ∷ k ∷ []
+eleven (a' ∷ b' ∷ c' ∷ d' ∷ e' ∷ f' ∷ g' ∷ h' ∷ i' ∷ j' ∷ k' ∷ []) a b c d e f g h i j k low high p0 p1 p2 p3 p4 p5 p6 p7 p8 p9 p10 = cc
+eleven (a' ∷ b' ∷ c' ∷ d' ∷ e' ∷ f' ∷ g' ∷ h' ∷ i' ∷ j' ∷ k' ∷ l' ∷ words) a b c d e f g h i j k low high p0 p1 p2 p3 p4 p5 p6 p7 p8 p9 p10 = absurd (omega arith)
+eleven [] a b c d e f g h i j k low high p0 p1 p2 p3 p4 p5 p6 p7 p8 p9 p10 = absurd (omega arith)
+eleven (a' ∷ []) a b c d e f g h i j k low high p0 p1 p2 p3 p4 p5 p6 p7 p8 p9 p10 = absurd (omega arith)
+eleven (a' ∷ b' ∷ []) a b c d e f g h i j k low high p0 p1 p2 p3 p4 p5 p6 p7 p8 p9 p10 = absurd (omega arith)
+eleven (a' ∷ b' ∷ c' ∷ []) a b c d e f g h i j k low high p0 p1 p2 p3 p4 p5 p6 p7 p8 p9 p10 = absurd (omega arith)
+eleven (a' ∷ b' ∷ c' ∷ d' ∷ []) a b c d e f g h i j k low high p0 p1 p2 p3 p4 p5 p6 p7 p8 p9 p10 = absurd (omega arith)
+eleven (a' ∷ b' ∷ c' ∷ d' ∷ e' ∷ []) a b c d e f g h i j k low high p0 p1 p2 p3 p4 p5 p6 p7 p8 p9 p10 = absurd (omega arith)
+eleven (a' ∷ b' ∷ c' ∷ d' ∷ e' ∷ f' ∷ []) a b c d e f g h i j k low high p0 p1 p2 p3 p4 p5 p6 p7 p8 p9 p10 = absurd (omega arith)
+eleven (a' ∷ b' ∷ c' ∷ d' ∷ e' ∷ f' ∷ g' ∷ []) a b c d e f g h i j k low high p0 p1 p2 p3 p4 p5 p6 p7 p8 p9 p10 = absurd (omega arith)
+eleven (a' ∷ b' ∷ c' ∷ d' ∷ e' ∷ f' ∷ g' ∷ h' ∷ []) a b c d e f g h i j k low high p0 p1 p2 p3 p4 p5 p6 p7 p8 p9 p10 = absurd (omega arith)
+eleven (a' ∷ b' ∷ c' ∷ d' ∷ e' ∷ f' ∷ g' ∷ h' ∷ i' ∷ []) a b c d e f g h i j k low high p0 p1 p2 p3 p4 p5 p6 p7 p8 p9 p10 = absurd (omega arith)
+eleven (a' ∷ b' ∷ c' ∷ d' ∷ e' ∷ f' ∷ g' ∷ h' ∷ i' ∷ j' ∷ []) a b c d e f g h i j k low high p0 p1 p2 p3 p4 p5 p6 p7 p8 p9 p10 = absurd (omega arith)
+
+-- what the options of a `format` are
+pub record HasOptions (frames_key frames blocks_key blocks inodes_key inodes scratch_key scratch : List ℕ) (sizes : FormatSizes) : Type 0 where
+  pub frames_name : frames_key ≡ codes "--frames"
+  pub blocks_name : blocks_key ≡ codes "--blocks"
+  pub inodes_name : inodes_key ≡ codes "--inodes"
+  pub scratch_name : scratch_key ≡ codes "--scratch"
+  pub numbers : AreSizes frames blocks inodes scratch sizes
+
+equal_at : (n : ℕ) (xs ys : List (List ℕ)) → xs ≡ ys → slice_index_or xs n [] ≡ slice_index_or ys n []
+equal_at n xs ys e = ap (λ (l : List (List ℕ)). slice_index_or l n []) e
+
+pub options_of : (words : List (String Global)) (a b c d e f g h i j k : String Global) → words ≡ a ∷ b ∷ c ∷ d ∷ e ∷ f ∷ g ∷ h ∷ i ∷ j ∷ k ∷ []
+    → (image disk : List ℕ) (sizes : FormatSizes) → IsFormat words image disk sizes
+    → HasOptions (string_bytes d) (string_bytes e) (string_bytes f) (string_bytes g) (string_bytes h) (string_bytes i) (string_bytes j) (string_bytes k) sizes
+options_of words a b c d e f g h i j k are image disk sizes is =
+    let same = sym (ap (map string_bytes) are) ∙ is.are in
+    record {
+      frames_name = equal_at 3 _ _ same;
+      blocks_name = equal_at 5 _ _ same;
+      inodes_name = equal_at 7 _ _ same;
+      scratch_name = equal_at 9 _ _ same;
+      numbers =
+          (subst (λ (n : List ℕ). AreSizes (string_bytes e) (string_bytes g) (string_bytes i) n sizes) (sym (equal_at 10 _ _ same))
+          (subst (λ (n : List ℕ). AreSizes (string_bytes e) (string_bytes g) n is.scratch sizes) (sym (equal_at 8 _ _ same))
+          (subst (λ (n : List ℕ). AreSizes (string_bytes e) n is.inodes is.scratch sizes) (sym (equal_at 6 _ _ same))
+          (subst (λ (n : List ℕ). AreSizes n is.blocks is.inodes is.scratch sizes) (sym (equal_at 4 _ _ same)) is.numbers))));
+    }
+
+-- the words of a `format`, from all that was found of them
+pub format_words : (words : List (String Global)) (a b c d e f g h i j k : String Global) → words ≡ a ∷ b ∷ c ∷ d ∷ e ∷ f ∷ g ∷ h ∷ i ∷ j ∷ k ∷ []
+    → string_bytes a ≡ codes "format"
+    → IsFileName (string_bytes b) × IsFileName (string_bytes c) × (string_bytes b ≢ string_bytes c)
+    → string_bytes d ≡ codes "--frames" → string_bytes f ≡ codes "--blocks" → string_bytes h ≡ codes "--inodes" → string_bytes j ≡ codes "--scratch"
+    → (sizes : FormatSizes) → AreSizes (string_bytes e) (string_bytes g) (string_bytes i) (string_bytes k) sizes
+    → IsFormat words (string_bytes b) (string_bytes c) sizes
+format_words words a b c d e f g h i j k are command names frames blocks inodes scratch sizes numbers = record {
+  frames = string_bytes e;
+  blocks = string_bytes g;
+  inodes = string_bytes i;
+  scratch = string_bytes k;
+  are = ap (map string_bytes) are ∙ options command frames blocks inodes scratch;
+  image_name = names.0;
+  disk_name = names.1;
+  two = names.2;
+  numbers = numbers;
+}
+  where
+    options : {a' d' f' h' j' x y z u v : List ℕ} → a' ≡ x → d' ≡ y → f' ≡ z → h' ≡ u → j' ≡ v
+        → a' ∷ string_bytes b ∷ string_bytes c ∷ d' ∷ string_bytes e ∷ f' ∷ string_bytes g ∷ h' ∷ string_bytes i ∷ j' ∷ string_bytes k ∷ []
+        ≡ x ∷ string_bytes b ∷ string_bytes c ∷ y ∷ string_bytes e ∷ z ∷ string_bytes g ∷ u ∷ string_bytes i ∷ v ∷ string_bytes k ∷ []
+    options p q r s t = cc
+
+-- the numbers of a `format`, as sizes in range
+pub ranged : (frames blocks inodes scratch : List ℕ) (f b i c : ℕ) (sizes : FormatSizes)
+    → IsNumber frames f → IsNumber blocks b → IsNumber inodes i → IsNumber scratch c → AreRanged f b i c sizes → AreSizes frames blocks inodes scratch sizes
+ranged frames blocks inodes scratch f b i c sizes pf pb pi pc are = record {
+  frames_number = subst (IsNumber frames) (sym are.frames_are) pf;
+  blocks_number = subst (IsNumber blocks) (sym are.blocks_are) pb;
+  inodes_number = subst (IsNumber inodes) (sym are.inodes_are) pi;
+  scratch_number = subst (IsNumber scratch) (sym are.scratch_is) pc;
+  of_image = are.of_image;
+  of_volume = are.of_volume;
+}
+
+one_number : (digits : List ℕ) (m n : ℕ) → IsNumber digits m → IsNumber digits n → m ≡ n
+one_number digits m n h k = decimal_injective m n (omega (arith, h.1)) (omega (arith, k.1)) (sym h.0 ∙ k.0)
+
+-- sizes of these numbers are sizes of what the digits were read as
+pub unranged : (frames blocks inodes scratch : List ℕ) (f b i c : ℕ) (sizes : FormatSizes)
+    → IsNumber frames f → IsNumber blocks b → IsNumber inodes i → IsNumber scratch c → AreSizes frames blocks inodes scratch sizes → AreRanged f b i c sizes
+unranged frames blocks inodes scratch f b i c sizes pf pb pi pc are = record {
+  frames_are = one_number frames _ _ are.frames_number pf;
+  blocks_are = one_number blocks _ _ are.blocks_number pb;
+  inodes_are = one_number inodes _ _ are.inodes_number pi;
+  scratch_is = one_number scratch _ _ are.scratch_number pc;
+  of_image = are.of_image;
+  of_volume = are.of_volume;
+}
