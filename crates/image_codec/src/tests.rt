@@ -75,7 +75,7 @@ fn images_at_the_ends_of_the_ranges_are_read_back(rt: HostRuntime) -> Result<(),
 #[test]
 fn the_first_rule_that_fails_is_told(rt: HostRuntime) -> Result<(), Fail> {
     const WHOLE: usize = 51 * 4096;
-    let table: [(usize, &[(usize, u8)], Option<ImageFault>); 17] = [
+    let table: [(usize, &[(usize, u8)], Option<ImageFault>); 19] = [
         (WHOLE, &[], None),
         (WHOLE, &[(32, 7), (4096, 9)], None),
         (0, &[], Some(ImageFault::BadLength)),
@@ -90,6 +90,8 @@ fn the_first_rule_that_fails_is_told(rt: HostRuntime) -> Result<(), Fail> {
         (WHOLE, &[(24, 0)], Some(ImageFault::BadGeometry)),
         (WHOLE + 4096, &[], Some(ImageFault::BadGeometry)),
         (WHOLE - 1, &[(0, b'r')], Some(ImageFault::BadLength)),
+        (WHOLE - 1, &[(8, 2)], Some(ImageFault::BadLength)),
+        (WHOLE - 4096, &[(16, 31)], Some(ImageFault::BadLength)),
         (WHOLE, &[(7, b'e'), (8, 0)], Some(ImageFault::BadMagic)),
         (WHOLE, &[(7, b'e'), (24, 65)], Some(ImageFault::BadMagic)),
         (WHOLE + 4096, &[(8, 2)], Some(ImageFault::BadVersion)),

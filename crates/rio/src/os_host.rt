@@ -9,8 +9,8 @@ use std::fs::{self, OpenFile, OpenOptions};
 use std::io::{self, ErrorKind, Read, Seek, SeekFrom, Write};
 use std::rt::Files;
 
-/// How many names are tried for a new file beside an old one.
-const TRIES: u32 = 100;
+/// How many names are tried for a new file beside an old one. A run that is killed leaves one of them behind.
+const TRIES: u32 = 1_000_000;
 
 /// A host over real files. It tells no content, and counts each call that failed.
 #[derive(Drop)]
@@ -134,6 +134,9 @@ fn replace_file<R: Files>(
     name: &String,
     from: &[u8],
 ) -> io::Result<R::File> {
+    if is_no_file(files, name) {
+        return Err(io::Error::from(ErrorKind::InvalidInput));
+    }
     let folder = folder_of(name);
     let opened = fs::open(files, folder)?;
     let (beside, file) = new_file(alloc, files, folder)?;
@@ -146,6 +149,14 @@ fn replace_file<R: Files>(
         return Err(error);
     }
     Ok(opened)
+}
+
+/// Whether there is something of this name that is no file: a folder, a pipe, a device.
+fn is_no_file<R: Files>(files: &R, name: &String) -> bool {
+    match files.metadata(name.as_str()) {
+        Ok(metadata) => !metadata.is_file(),
+        Err(_) => false,
+    }
 }
 
 /// The folder of a file, as a path.

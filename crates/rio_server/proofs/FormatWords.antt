@@ -1,5 +1,5 @@
 -- The words of `format`.
-use Rattle.std.proofs.Common.{◌≡◌, ◌≢◌, ℕ, ◌<◌, ◌≤◌, List, [], ◌∷◌, length, map, slice_index_or, refl, sym, ap, subst, ◌∙◌, arith}
+use Rattle.std.proofs.Common.{◌≡◌, ◌≢◌, ℕ, ◌<◌, ◌≤◌, List, [], ◌∷◌, length, map, slice_index_or, sym, ap, subst, ◌∙◌, arith}
 use Rattle.std.proofs.lemmas.Fmt.{decimal_injective}
 use Rattle.std.specs.Prelude.{codes, String}
 use Rattle.std.specs.String.{string_bytes}
@@ -106,3 +106,34 @@ unranged frames blocks inodes scratch f b i c sizes pf pb pi pc are = record {
   of_image = are.of_image;
   of_volume = are.of_volume;
 }
+
+sizes_with : (frames scratch version blocks inodes : ℕ) → FormatSizes
+sizes_with frames scratch version blocks inodes = record { frames = frames; scratch = scratch; shape = record { version = version; blocks = blocks; inodes = inodes } }
+
+same_sizes : (f g c d v w b e i j : ℕ) → f ≡ g → c ≡ d → v ≡ w → b ≡ e → i ≡ j → sizes_with f c v b i ≡ sizes_with g d w e j
+same_sizes f g c d v w b e i j pf pc pv pb pi = cc
+
+one_sizes : (s t : FormatSizes) → s.frames ≡ t.frames → s.scratch ≡ t.scratch → s.shape.version ≡ t.shape.version → s.shape.blocks ≡ t.shape.blocks → s.shape.inodes ≡ t.shape.inodes → s ≡ t
+unfolding sizes_with
+one_sizes s t f c v b i = same_sizes s.frames t.frames s.scratch t.scratch s.shape.version t.shape.version s.shape.blocks t.shape.blocks s.shape.inodes t.shape.inodes f c v b i
+
+-- the same digits are the same sizes
+one_numbering : (frames blocks inodes scratch : List ℕ) (s t : FormatSizes) → AreSizes frames blocks inodes scratch s → AreSizes frames blocks inodes scratch t → s ≡ t
+one_numbering frames blocks inodes scratch s t h k =
+    one_sizes s t (one_number frames _ _ h.frames_number k.frames_number) (one_number scratch _ _ h.scratch_number k.scratch_number) (h.of_volume.version ∙ sym k.of_volume.version)
+    (one_number blocks _ _ h.blocks_number k.blocks_number) (one_number inodes _ _ h.inodes_number k.inodes_number)
+
+-- words are a `format` in one way
+pub one_format : (words : List (String Global)) (image disk image' disk' : List ℕ) (s t : FormatSizes) → IsFormat words image disk s → IsFormat words image' disk' t
+    → (image ≡ image') × (disk ≡ disk') × (s ≡ t)
+one_format words image disk image' disk' s t h k =
+    let same = sym h.are ∙ k.are in (
+      equal_at 1 _ _ same,
+      equal_at 2 _ _ same,
+      one_numbering k.frames k.blocks k.inodes k.scratch s t
+          (subst (λ (n : List ℕ). AreSizes k.frames k.blocks k.inodes n s) (equal_at 10 _ _ same)
+          (subst (λ (n : List ℕ). AreSizes k.frames k.blocks n h.scratch s) (equal_at 8 _ _ same)
+          (subst (λ (n : List ℕ). AreSizes k.frames n h.inodes h.scratch s) (equal_at 6 _ _ same)
+          (subst (λ (n : List ℕ). AreSizes n h.blocks h.inodes h.scratch s) (equal_at 4 _ _ same) h.numbers))))
+          k.numbers,
+    )

@@ -1,5 +1,5 @@
 -- How formatting ends, and what words are no command.
-use Rattle.std.proofs.Common.{◌≡◌, ℕ, List, ap, subst, sym, ◌∙◌, Bool, false, IsTrue, ◌↔◌, Option, inl, inr}
+use Rattle.std.proofs.Common.{◌≡◌, ℕ, List, ap, subst, ◌∙◌, Bool, false, IsTrue, ◌↔◌, Option, inl, inr}
 use Rattle.std.specs.Prelude.{String}
 use Rattle.std.specs.Global.{Global}
 use Rattle.rio_base.specs.Hosts.{Files}
@@ -7,7 +7,7 @@ use Rattle.rio_server.specs.declared.ends.FormatEnd.{FormatEnd}
 use Rattle.rio_server.specs.declared.format.FreshPair.{FreshPair}
 use Rattle.rio_server.specs.declared.format_words.FormatSizes.{FormatSizes}
 use Rattle.rio_server.specs.Command.{IsServe, WritesLine}
-use Rattle.rio_server.specs.Format.{Formats, IsCommand, IsFormat, IsPrepared, disk_bytes, files_after, format_line, format_status, image_bytes}
+use Rattle.rio_server.specs.Format.{Formats, IsCommand, IsFormat, IsPrepared, files_after, format_line, format_status, image_bytes}
 
 pub formats_at : (end : FormatEnd) (image disk : List ℕ) (sizes : FormatSizes) (pair : FreshPair) (status : ℕ) (rose : Type 0)
     (files files_now : Option Files) (written written_now : Option (List ℕ)) (line : List ℕ)

@@ -90,14 +90,6 @@ pub record Formats (image disk : List ℕ) (sizes : FormatSizes) (status : ℕ) 
   pub left : files_now ≡ files_after end image disk (image_bytes sizes) (disk_bytes sizes) files
   pub told : WritesLine rose written (format_line end image disk sizes) written_now
 
--- the words are those of `format`, and a run of it came to this
-pub record RunFormats (words : List (String Global)) (status : ℕ) (rose : Type 0) (files files_now : Option Files) (written written_now : Option (List ℕ)) : Type 0 where
-  pub image : List ℕ
-  pub disk : List ℕ
-  pub sizes : FormatSizes
-  pub is : IsFormat words image disk sizes
-  pub formats : Formats image disk sizes status rose files files_now written written_now
-
 -- the words are one of the commands
 abbrev pub IsCommand : List (String Global) → Type 0
 IsCommand words = IsServe words ⊎ ((image disk : List ℕ) × (sizes : FormatSizes) × IsFormat words image disk sizes)

@@ -5,7 +5,7 @@ ghost use Rattle.std.specs.String.{string_bytes};
 ghost use Rattle.rio_base.specs.Counts.{Rose};
 ghost use Rattle.rio_server.specs.Command.{IsServe, RunServes, WritesLine, last_line, status_of, usage_line};
 ghost use Rattle.rio_server.specs.declared.format_words.FormatSizes.{FormatSizes};
-ghost use Rattle.rio_server.specs.Format.{IsCommand, IsFormat, RunFormats};
+ghost use Rattle.rio_server.specs.Format.{Formats, IsCommand, IsFormat};
 ghost use Rattle.rio_server.specs.Table.{served_fresh};
 
 use crate::ends::ServeEnd;
@@ -56,7 +56,7 @@ pub fn run<S: Source, K: Sink, H: Host>(
     ensures unread { (IsServe words.now.items → ⊥) → S.left source.new ≡ S.left source.old }
 
     // `format` leaves a fresh pair, or tells what could not be had.
-    ensures formatted { (image disk : List ℕ) (sizes : FormatSizes) → IsFormat words.now.items image disk sizes → RunFormats words.now.items result.0 (Rose (K.faults sink.old) (K.faults sink.new)) (H.files host) (H.files result.1) (K.written sink.old) (K.written sink.new) }
+    ensures formatted { (image disk : List ℕ) (sizes : FormatSizes) → IsFormat words.now.items image disk sizes → Formats image disk sizes result.0 (Rose (K.faults sink.old) (K.faults sink.new)) (H.files host) (H.files result.1) (K.written sink.old) (K.written sink.new) }
 
     // The cause of each status.
     ensures host_fault { result.0 ≡ 7 → Rose (H.faults host) (H.faults result.1) }

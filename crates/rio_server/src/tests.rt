@@ -1,7 +1,7 @@
 //! Whole runs over a source and a sink in memory. Expected texts are those of the rows that the behaviour was first
 //! described by, or counted by hand.
 
-use crate::run;
+use crate::{end_without_memory, run};
 use rio_base::{MemHost, MemSink, MemSource};
 use std::alloc::{AllocError, Global};
 use std::test::Fail;
@@ -207,5 +207,13 @@ fn a_reply_that_fits_its_room_is_one_call(rt: HostRuntime) -> Result<(), Fail> {
             "{size} bytes"
         );
     }
+    Ok(())
+}
+
+#[test]
+fn words_without_memory_end_with_their_line(rt: HostRuntime) -> Result<(), Fail> {
+    let mut sink = MemSink::new(rt.alloc());
+    assert_eq!(rt; end_without_memory(&mut sink), 6);
+    assert_eq!(rt; sink.bytes().as_slice(), b"out of memory\n".as_slice());
     Ok(())
 }
