@@ -7,7 +7,8 @@ use Rattle.std.proofs.lemmas.List.{get_or-set_same, get_or-set_other, get_or-rep
 use Rattle.std.proofs.lemmas.List.FromFn.{fill_by_all, get_or-map-range_with_len}
 use Rattle.std.proofs.lemmas.Bool.Decides.{nat_tests}
 use Rattle.std.specs.List.{range_with_len}
-use Rattle.image_codec.specs.Image.{entry_at, fresh_image_word, fresh_image_words, image_magic, image_pages}
+use Rattle.image_codec.specs.Image.{fresh_image_word, fresh_image_words, image_magic}
+use Rattle.rio_base.specs.Image.{entry_at, image_pages, registry_pages}
 use Rattle.image_codec.specs.Volume.{bitmap_word, fresh_volume_word, fresh_volume_words, reserved_blocks, volume_magic}
 
 -- a list of words with a part marked, from first on
@@ -47,13 +48,22 @@ fresh_header items n frames scratch zeros count =
     ∙ fill_by_all (fresh_image_word frames scratch) (written (replicate n 0)) n 0 long (λ k lt. header_in_zeros n image_magic frames scratch four k lt)
     ∙ ap (λ (m : ℕ). map (fresh_image_word frames scratch) (range_with_len 0 m)) count
 
+pub registry_pages_are : (frames : ℕ) → (frames + 101) / 102 ≡ registry_pages frames
+unfolding registry_pages
+registry_pages_are frames = refl
+
+-- an entry lies behind the header
+behind_header : (k : ℕ) → 4 ≤ entry_at k
+unfolding entry_at
+behind_header k = omega arith
+
 -- no word behind the header's first four is written
 header_only : (n magic frames scratch i : ℕ) → 4 ≤ i → get_or (set (set (set (set (replicate n 0) 0 magic) 1 1) 2 frames) 3 scratch) i 0 ≡ 0
 header_only n magic frames scratch i behind = grind (arith, get_or-set_other, zero_at)
 
 pub fresh_entry : (items : List ℕ) (n frames scratch k : ℕ) → items ≡ replicate n 0 → slice_index (set (set (set (set items 0 image_magic) 1 1) 2 frames) 3 scratch) (entry_at k) ≡ 0
 fresh_entry items n frames scratch k zeros =
-    let behind : 4 ≤ entry_at k = omega arith in
+    let behind : 4 ≤ entry_at k = behind_header k in
     ap (λ (xs : List ℕ). slice_index (set (set (set (set xs 0 image_magic) 1 1) 2 frames) 3 scratch) (entry_at k)) zeros ∙ header_only n image_magic frames scratch (entry_at k) behind
 
 -- the words of a fresh volume, by block and word

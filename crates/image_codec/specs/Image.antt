@@ -1,7 +1,8 @@
--- The memory image: where its pages lie, what its header's rules are, and what is in a fresh one.
-use Rattle.std.specs.Prelude.{◌≡◌, ◌==◌, ◌≤◌, ℕ, ◌+◌, ◌*◌, ◌/◌, ◌%◌, List, length, map, slice_index, if◌then◌else◌, codes}
+-- The memory image: what its header's rules are, and what is in a fresh one.
+use Rattle.std.specs.Prelude.{◌≡◌, ◌==◌, ◌≤◌, ℕ, ◌*◌, ◌%◌, List, length, map, slice_index, if◌then◌else◌, codes}
 use Rattle.std.specs.List.{range_with_len}
 use Rattle.byteorder.specs.Endian.{little_number}
+use Rattle.rio_base.specs.Image.{AreImageSizes, image_pages}
 use Rattle.image_codec.specs.Bytes.{word_at}
 use Rattle.image_codec.specs.declared.fault.ImageFault.{ImageFault}
 use Rattle.image_codec.specs.declared.fault.ImageFault.TheVariants.{BadLength, BadMagic, BadVersion, BadGeometry, Memory}
@@ -9,21 +10,6 @@ use Rattle.image_codec.specs.declared.fault.ImageFault.TheVariants.{BadLength, B
 -- the word whose bytes are the text RIOCACHE
 abbrev pub image_magic : ℕ
 image_magic = little_number 8 (codes "RIOCACHE")
-
--- a registry page has 102 entries
-abbrev pub registry_pages : ℕ → ℕ
-registry_pages frames = (frames + 101) / 102
-
--- the header, the registry, 16 shadow pages, the frames and the scratch pages
-abbrev pub image_pages : ℕ → ℕ → ℕ
-image_pages frames scratch = 17 + registry_pages frames + frames + scratch
-
--- the sizes that an image can have
-pub record AreImageSizes (frames scratch : ℕ) : Type 0 where
-  pub least_frames : 32 ≤ frames
-  pub most_frames : frames ≤ 8192
-  pub least_scratch : 1 ≤ scratch
-  pub most_scratch : scratch ≤ 64
 
 -- rule 1: whole pages, from 51 to 8,354
 pub record IsImageLength (size : ℕ) : Type 0 where
@@ -59,10 +45,6 @@ FailsFirst bytes BadGeometry =
     IsImageLength (length bytes) × (word_at bytes 0 ≡ image_magic) × (word_at bytes 1 ≡ 1)
     × (¬ HasGeometry (word_at bytes 2) (word_at bytes 3) (length bytes))
 FailsFirst bytes Memory = KeepsRules bytes
-
--- the place of the first word of registry entry k
-abbrev pub entry_at : ℕ → ℕ
-entry_at k = 512 * (1 + k / 102) + 5 * (k % 102)
 
 -- word w of a fresh image: the header has the magic, the version and the sizes. The gate, the registry and all pages are 0
 abbrev pub fresh_image_word : ℕ → ℕ → ℕ → ℕ

@@ -2,7 +2,8 @@
 
 ghost use Rattle.std.specs.Prelude.{◌≡◌, ◌≢◌, ◌<◌, ◌≤◌, ◌↔◌, ℕ, ◌+◌, ◌*◌, ◌%◌, ◌^◌, length, slice_index, IfOk, IsTrue, List, Err, MatchResult, All};
 ghost use Rattle.image_codec.specs.Bytes.{bytes_of, word_at};
-ghost use Rattle.image_codec.specs.Image.{AreImageSizes, FailsFirst, HasGeometry, IsImage, IsImageLength, KeepsRules, entry_at, fresh_image_words, image_magic, image_pages};
+ghost use Rattle.image_codec.specs.Image.{FailsFirst, HasGeometry, IsImage, IsImageLength, KeepsRules, fresh_image_words, image_magic};
+ghost use Rattle.rio_base.specs.Image.{AreImageSizes, entry_at, image_pages};
 ghost use Rattle.image_codec.specs.declared.fault.ImageFault.{ImageFault as Fault};
 
 use crate::fault::ImageFault;
@@ -22,10 +23,13 @@ const PAGE_BYTES: u64 = 4096;
 const PAGE_WORDS: u64 = 512;
 
 /// The pages of an image with so many frames and scratch pages.
+#[tactic(auto, using(crate::proofs::Fresh::registry_pages_are))]
 fn pages_of(frames: u64, scratch: u64) -> u64
     requires frames { frames ≤ 8192 }
     requires scratch { scratch ≤ 64 }
-    ensures { result ≡ image_pages frames scratch }
+    ensures pages { result ≡ image_pages frames scratch }
+    ensures least { AreImageSizes frames scratch → 51 ≤ result }
+    ensures most { result ≤ 8354 }
 {
     17 + (frames + 101) / 102 + frames + scratch
 }

@@ -1,7 +1,7 @@
 //! What no clause says: the bytes as they stand in a file, and that each call succeeds.
 
 ghost use Rattle.std.specs.Prelude.{IfOk, length, ◌≤◌};
-ghost use Rattle.image_codec.specs.Image.{AreImageSizes};
+ghost use Rattle.rio_base.specs.Image.{AreImageSizes};
 ghost use Rattle.image_codec.specs.Volume.{IsVolumeShape};
 
 use crate::{ImageFault, fill_image, fresh_image, fresh_volume, read_image, write_image};

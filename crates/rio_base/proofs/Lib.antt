@@ -3,3 +3,4 @@ pub mod Copies
 pub mod Ends
 pub mod Faults
 pub mod Files
+pub mod PageCopies

@@ -1,11 +1,16 @@
 pub mod Blocks
 pub mod Counts
+pub mod Disks
 pub mod FaultyVolumes
 pub mod Hosts
+pub mod Image
 pub mod ListRegions
 pub mod ListVolumes
+pub mod Machine
+pub mod MachineRules
 pub mod MemHosts
 pub mod MemStreams
+pub mod Memory
 pub mod Pieces
 pub mod Regions
 pub mod Rules

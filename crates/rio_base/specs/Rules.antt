@@ -27,7 +27,7 @@ is_none : Option ℕ → Type 0
 is_none None = Unit {0}
 is_none (Some a) = ⊥
 
-none_some : (a : ℕ) (o : Option ℕ) → o ≡ None → o ≡ Some a → ⊥
+pub none_some : (a : ℕ) (o : Option ℕ) → o ≡ None → o ≡ Some a → ⊥
 unfolding is_none
 none_some a o n s = subst is_none (sym n ∙ s) tt
 

@@ -2,6 +2,7 @@
 #![tactic(auto)]
 
 mod blocks;
+mod disk_blocks;
 mod failures;
 mod faulty_volume;
 mod host;
@@ -10,9 +11,11 @@ mod host_tests;
 mod list_region;
 mod list_volume;
 mod lists;
+mod machine;
 mod mem_host;
 mod mem_sink;
 mod mem_source;
+mod mem_words;
 mod places;
 mod region_words;
 mod sink;
@@ -20,19 +23,24 @@ mod source;
 mod volume;
 #[cfg(test)]
 mod volume_tests;
+mod wild;
 
 pub use blocks::Blocks;
+pub use disk_blocks::DiskBlocks;
 pub use failures::{DiskFail, Failed, Stopped, VolFail};
 pub use faulty_volume::FaultyVolume;
 pub use host::Host;
 pub use list_region::ListRegion;
 pub use list_volume::ListVolume;
 pub use lists::{BlockList, HeapList, InoList, NameList, Octets, RangeList, Words};
+pub use machine::Machine;
 pub use mem_host::MemHost;
 pub use mem_sink::MemSink;
 pub use mem_source::MemSource;
+pub use mem_words::MemWords;
 pub use places::{Block, Ino, Page, PageName, VolumeShape, WordAt};
 pub use region_words::RegionWords;
 pub use sink::Sink;
 pub use source::Source;
 pub use volume::Volume;
+pub use wild::Wild;

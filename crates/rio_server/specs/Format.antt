@@ -6,7 +6,8 @@ use Rattle.std.specs.Global.{Global}
 use Rattle.rio_base.specs.Hosts.{Files, with_file}
 use Rattle.request_codec.specs.Form.{IsNumber}
 use Rattle.image_codec.specs.Bytes.{bytes_of}
-use Rattle.image_codec.specs.Image.{AreImageSizes, fresh_image_words, image_pages}
+use Rattle.image_codec.specs.Image.{fresh_image_words}
+use Rattle.rio_base.specs.Image.{AreImageSizes, image_pages}
 use Rattle.image_codec.specs.Volume.{IsVolumeShape, fresh_volume_words}
 use Rattle.rio_server.specs.declared.ends.FormatEnd.{FormatEnd}
 use Rattle.rio_server.specs.declared.ends.FormatEnd.TheVariants.{Formatted, DiskFault, ImageFault, Memory}

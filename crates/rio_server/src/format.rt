@@ -2,7 +2,7 @@
 
 ghost use Rattle.std.specs.Prelude.{◌≡◌, ◌≤◌, ℕ, IfOk, String as StringOf, List};
 ghost use Rattle.std.specs.String.{string_bytes};
-ghost use Rattle.image_codec.specs.Image.{AreImageSizes, image_pages};
+ghost use Rattle.rio_base.specs.Image.{AreImageSizes, image_pages};
 ghost use Rattle.image_codec.specs.Volume.{IsVolumeShape};
 ghost use Rattle.rio_base.specs.Counts.{Rose};
 ghost use Rattle.rio_server.specs.Format.{Formats, IsPrepared, files_after, format_status, format_line, image_bytes, disk_bytes, host_fault_line};

@@ -2,7 +2,7 @@
 
 ghost use Rattle.std.specs.Prelude.{◌≡◌, ◌≤◌, ◌↔◌, ◌+◌, ◌/◌, ◌%◌, ℕ, IsTrue, List, MatchOption};
 ghost use Rattle.std.specs.String.{string_bytes};
-ghost use Rattle.image_codec.specs.Image.{AreImageSizes};
+ghost use Rattle.rio_base.specs.Image.{AreImageSizes};
 ghost use Rattle.image_codec.specs.Volume.{IsVolumeShape};
 ghost use Rattle.request_codec.specs.Form.{IsNumber};
 ghost use Rattle.rio_base.specs.declared.places.VolumeShape.{VolumeShape as Shape};
