@@ -1,0 +1,8 @@
+//! Physical memory as a list of words, which never fails.
+#![tactic(auto)]
+
+mod list_mem;
+#[cfg(test)]
+mod list_mem_tests;
+
+pub use list_mem::ListMem;

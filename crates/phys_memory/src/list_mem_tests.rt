@@ -1,0 +1,53 @@
+//! Tests of the words in memory.
+
+use crate::ListMem;
+use rio_base::{MemWords, Page, WordAt};
+use std::test::Fail;
+
+#[test]
+fn new_memory_is_zeros(rt: HostRuntime) -> Result<(), Fail> {
+    let mem = ListMem::new(rt.alloc(), 2)?;
+    assert_eq!(rt; mem.len(), 1024);
+    assert_eq!(rt; mem.load(WordAt(1023)), 0);
+    Ok(())
+}
+
+#[test]
+fn stored_word_alone_changes(rt: HostRuntime) -> Result<(), Fail> {
+    let mut mem = ListMem::new(rt.alloc(), 1)?;
+    mem.store(WordAt(7), 99);
+    assert_eq!(rt; mem.load(WordAt(6)), 0);
+    assert_eq!(rt; mem.load(WordAt(7)), 99);
+    assert_eq!(rt; mem.load(WordAt(8)), 0);
+    Ok(())
+}
+
+#[test]
+fn words_are_taken_over_and_given_back(rt: HostRuntime) -> Result<(), Fail> {
+    let mem = ListMem::from_words(vec![in rt.alloc(); 3, 1, 4]?);
+    assert_eq!(rt; mem.len(), 3);
+    assert_eq!(rt; mem.into_words().as_slice(), [3, 1, 4].as_slice());
+    Ok(())
+}
+
+#[test]
+fn words_are_copied_to_the_front_and_to_the_back(rt: HostRuntime) -> Result<(), Fail> {
+    let mut mem = ListMem::from_words(vec![in rt.alloc(); 1, 2, 3, 4, 5, 6]?);
+    mem.copy_words(WordAt(0), WordAt(3), 2);
+    mem.copy_words(WordAt(4), WordAt(1), 2);
+    assert_eq!(rt; mem.into_words().as_slice(), [1, 2, 6, 1, 2, 6].as_slice());
+    Ok(())
+}
+
+#[test]
+fn second_page_is_lent(rt: HostRuntime) -> Result<(), Fail> {
+    let mut mem = ListMem::new(rt.alloc(), 2)?;
+    mem.store(WordAt(511), 1);
+    mem.store(WordAt(512), 2);
+    mem.store(WordAt(1023), 3);
+    let page = mem.frame(Page(1));
+    assert_eq!(rt; page.len(), 512);
+    assert_eq!(rt; page[0], 2);
+    assert_eq!(rt; page[511], 3);
+    Ok(())
+}
