@@ -1,0 +1,61 @@
+//! One page of a machine, open to stores.
+
+ghost use Rattle.std.specs.Prelude.{◌≡◌, ◌<◌, ◌+◌, ◌*◌, true, Some, None, OnOk, OnErr, IsErr, length, slice_set};
+ghost use Rattle.rio_base.specs.Disks.{raised};
+ghost use Rattle.rio_base.specs.Machine.{Falls, Lasts, StepEnds};
+
+use rio_base::{Machine, Page, Stopped, WordAt};
+
+/// One page of a machine, open to stores. No other page is open meanwhile, and none but this one changes by it.
+///
+/// It must be closed, by [`Window::close`]. It is not `Drop`, and must stay so: the compiler then refuses each way out on
+/// which a window is let go, an early `?` too, and no page is left open by mistake.
+pub struct Window<'m, M> {
+    machine: &'m mut M,
+    page: Page,
+}
+
+impl<'m, M: Machine> Window<'m, M> {
+    /// Opens a protected page to stores. No other may be open. It is no step, and a stopped machine does it too.
+    pub fn open(machine: &'m mut M, p: Page) -> Window<'m, M>
+        requires closed { (M.contents machine.old).open_page ≡ None }
+        requires protected { 512 * p.0 < length (M.contents machine.old).words }
+        ensures same_reference { result.machine.ghost_name ≡ machine.entry.ghost_name }
+        ensures page { result.page ≡ p }
+        ensures contents { M.contents result.machine.now ≡ record (M.contents machine.old) { open_page = Some p.0 } }
+        ensures run { M.run result.machine.now ≡ M.run machine.old }
+    {
+        machine.open_page(p);
+        Window { machine, page: p }
+    }
+
+    /// Stores word `w` of the page, `w` below 512: one step. `Stopped` leaves the old word, and comes only where the
+    /// machine is stopped afterwards.
+    pub fn put(&mut self, w: u16, v: u64) -> Result<(), Stopped>
+        requires within { w < 512 }
+        requires page { (M.contents self.old.machine.now).open_page ≡ Some self.old.page.0 }
+        ensures same_reference { self.new.machine.ghost_name ≡ self.old.machine.ghost_name }
+        ensures page { self.new.page ≡ self.old.page }
+        ensures stored { OnOk result (M.contents self.new.machine.now ≡ record (M.contents self.old.machine.now) { words = slice_set (M.contents self.old.machine.now).words (512 * self.old.page.0 + w) v }) }
+        ensures same { OnErr result (M.contents self.new.machine.now ≡ M.contents self.old.machine.now) }
+        ensures counted { OnOk result ((M.run self.new.machine.now).steps ≡ raised (M.run self.old.machine.now).steps 1) }
+        ensures uncounted { OnErr result ((M.run self.new.machine.now).steps ≡ (M.run self.old.machine.now).steps) }
+        ensures lasts { Lasts (M.contents self.old.machine.now) (M.contents self.new.machine.now) }
+        ensures falls { Falls (Some self.old.page.0) (M.run self.old.machine.now) (M.run self.new.machine.now) }
+        ensures halted { (M.run self.old.machine.now).stopped ≡ true → IsErr result }
+        ensures ends { StepEnds (M.run self.old.machine.now) (M.run self.new.machine.now) (IsErr result) }
+    {
+        let at = WordAt(512 * self.page.0 + u32::from(w));
+        self.machine.store(at, v)
+    }
+
+    /// Closes the page. It is no step, and a stopped machine does it too.
+    pub fn close(self)
+        requires page { (M.contents self.machine.now).open_page ≡ Some self.page.0 }
+        ensures contents { M.contents self.exit.0.now ≡ record (M.contents self.entry.machine.now) { open_page = None } }
+        ensures run { M.run self.exit.0.now ≡ M.run self.entry.machine.now }
+    {
+        let Window { machine, page: _ } = self;
+        machine.close_page();
+    }
+}
