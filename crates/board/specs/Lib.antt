@@ -1,0 +1,4 @@
+pub mod BoardLaws
+pub mod BoardWords
+pub mod Boards
+pub mod Guards

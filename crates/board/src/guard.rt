@@ -1,0 +1,150 @@
+//! The guard of a board: which page takes stores, how many steps are made, and what stops them.
+
+ghost use Rattle.std.specs.Prelude.{◌≡◌, ◌≢◌, ◌<◌, ◌≤◌, ◌*◌, ◌+◌, ◌/◌, ◌-◌, ◌↔◌, true, false, Some, None, IfOk, IfSome, IsErr, IsNone, OnOk, OnErr, if◌then◌else◌};
+ghost use Rattle.std.specs.Option.{option_map};
+ghost use Rattle.rio_base.specs.Disks.{raised};
+ghost use Rattle.board.specs.Guards.{Halted, Halts, HasFallen, IsDue, IsOver, Lands, Proceeds, Traps, after_store, one_later, page_of};
+
+use rio_base::{Page, Stopped, Wild, WordAt};
+
+/// Words in a page.
+const PAGE_WORDS: u32 = 512;
+
+/// A wild store that is armed.
+#[derive(Clone, Copy)]
+pub(crate) struct Armed {
+    /// How many steps are made before it falls.
+    pub(crate) left: u64,
+    /// Where it falls.
+    pub(crate) at: WordAt,
+    /// What it stores.
+    pub(crate) value: u64,
+}
+
+/// What a board knows beside its words and its disk.
+#[derive(Clone, Copy)]
+pub(crate) struct Guard {
+    /// The page that takes stores.
+    pub(crate) open_page: Option<Page>,
+    /// How many steps are made before the board stops, if it does.
+    pub(crate) stop_after: Option<u64>,
+    /// How many steps were made, up to the largest `u64`.
+    pub(crate) steps: u64,
+    /// How many wild stores fell on the open page, up to the largest `u64`.
+    pub(crate) spared: u64,
+    /// No step is made any more.
+    pub(crate) stopped: bool,
+    /// The wild store that is armed.
+    pub(crate) armed: Option<Armed>,
+    /// Where a wild store trapped.
+    pub(crate) trapped: Option<WordAt>,
+}
+
+impl Guard {
+    /// A guard with no page open and no step made.
+    pub(crate) fn new(stop_after: Option<u64>) -> Guard
+        ensures { result ≡ record { open_page = None; stop_after = stop_after; steps = 0; spared = 0; stopped = false; armed = None; trapped = None } }
+    {
+        Guard {
+            open_page: None,
+            stop_after,
+            steps: 0,
+            spared: 0,
+            stopped: false,
+            armed: None,
+            trapped: None,
+        }
+    }
+
+    /// A wild store now, where the first `size` words are protected. Where it is `Changed`, the word of scratch is for
+    /// the caller to change.
+    pub(crate) fn wild(&mut self, size: u32, at: WordAt) -> Wild
+        ensures lands { Lands self.old size at.0 result }
+        ensures after { self.new ≡ after_store result at self.old }
+    {
+        if self.open_page == Some(Page(at.0 / PAGE_WORDS)) {
+            self.spared = self.spared.saturating_add(1);
+            return Wild::Spared;
+        }
+        if at.0 < size {
+            self.stopped = true;
+            self.trapped = Some(at);
+            return Wild::Trapped;
+        }
+        Wild::Changed
+    }
+
+    /// Refuses a step of a stopped board, and stops one whose steps are used up.
+    fn check(&mut self) -> Result<(), Stopped>
+        ensures over { IsErr result ↔ IsOver self.old }
+        ensures ok { OnOk result (self.new ≡ self.old) }
+        ensures err { OnErr result (self.new ≡ record self.old { stopped = true }) }
+    {
+        if self.stopped {
+            return Err(Stopped);
+        }
+        match self.stop_after {
+            Some(most) if most <= self.steps => {
+                self.stopped = true;
+                Err(Stopped)
+            }
+            _ => Ok(()),
+        }
+    }
+
+    /// The armed store that is due, which is armed no more.
+    fn take_due(&mut self) -> Option<Armed>
+        ensures due { IfSome result (λ a. IsDue self.old a × (self.new ≡ record self.old { armed = None })) }
+        ensures none { IsNone result → ((a : _) → IsDue self.old a → ⊥) × (self.new ≡ self.old) }
+    {
+        match self.armed {
+            Some(armed) if armed.left == 0 => {
+                self.armed = None;
+                Some(armed)
+            }
+            _ => None,
+        }
+    }
+
+    /// Lets the armed store fall, if it is due. Where it falls on a word of scratch, it is handed back.
+    fn fall(&mut self, size: u32) -> Result<Option<Armed>, Stopped>
+        ensures ok { IfOk result (λ fallen. HasFallen size fallen self.old self.new) }
+        ensures err { OnErr result (Traps size self.old self.new) }
+    {
+        let Some(armed) = self.take_due() else {
+            return Ok(None);
+        };
+        match self.wild(size, armed.at) {
+            Wild::Changed => Ok(Some(armed)),
+            Wild::Spared => Ok(None),
+            Wild::Trapped => Err(Stopped),
+        }
+    }
+
+    /// Counts a step.
+    fn count(&mut self)
+        ensures { self.new ≡ record self.old { steps = raised self.old.steps 1; armed = one_later self.old.armed } }
+    {
+        self.steps = self.steps.saturating_add(1);
+        if let Some(armed) = self.armed {
+            self.armed = Some(Armed {
+                left: armed.left.saturating_sub(1),
+                at: armed.at,
+                value: armed.value,
+            });
+        }
+    }
+
+    /// Begins a step, where the first `size` words are protected. An armed store that is due falls before it; where it
+    /// falls on a word of scratch, it is handed back for the caller to make.
+    pub(crate) fn begin(&mut self, size: u32) -> Result<Option<Armed>, Stopped>
+        ensures halts { IsErr result ↔ Halts self.old size }
+        ensures ok { IfOk result (λ fallen. Proceeds size fallen self.old self.new) }
+        ensures err { OnErr result (Halted size self.old self.new) }
+    {
+        self.check()?;
+        let fallen = self.fall(size)?;
+        self.count();
+        Ok(fallen)
+    }
+}
