@@ -4,4 +4,5 @@ pub mod Fresh
 pub mod Names
 pub mod Nodes
 pub mod Paths
+pub mod Registry
 pub mod Run

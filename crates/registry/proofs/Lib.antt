@@ -1,0 +1,5 @@
+pub mod Changes
+pub mod Flags
+pub mod ImageRules
+pub mod Places
+pub mod TestImages
