@@ -11,7 +11,7 @@ use itoa::Buffer;
 use rio_base::{Failed, Sink};
 
 /// Writes a whole text, in as many calls as the sink wants.
-pub(crate) fn send<K: Sink>(text: &[u8], sink: &mut K) -> Result<(), Failed>
+pub fn send<K: Sink>(text: &[u8], sink: &mut K) -> Result<(), Failed>
     ensures { Sends result (K.written sink.old) (K.faults sink.old) [] text.now (K.written sink.new) (K.faults sink.new) [] }
 {
     let mut done = 0;
@@ -63,7 +63,7 @@ fn make_room<K: Sink>(
 }
 
 /// Puts bytes behind those that are held. Where they do not fit, it writes.
-pub(crate) fn put<K: Sink>(
+pub fn put<K: Sink>(
     bytes: &[u8],
     room: &mut [u8],
     held: usize,
@@ -83,7 +83,7 @@ pub(crate) fn put<K: Sink>(
 }
 
 /// Puts a word and a number behind what is held.
-pub(crate) fn put_number<K: Sink>(
+pub fn put_number<K: Sink>(
     word: &[u8],
     n: u64,
     room: &mut [u8],

@@ -7,7 +7,9 @@ use Rattle.rio_server.specs.declared.ends.FormatEnd.{FormatEnd}
 use Rattle.rio_server.specs.declared.format.FreshPair.{FreshPair}
 use Rattle.rio_server.specs.declared.format_words.FormatSizes.{FormatSizes}
 use Rattle.rio_server.specs.Command.{IsServe, WritesLine}
-use Rattle.rio_server.specs.Format.{Formats, IsCommand, IsFormat, IsPrepared, files_after, format_line, format_status, image_bytes}
+use Rattle.rio_server.specs.Commands.{IsCommand}
+use Rattle.rio_server.specs.Registry.{IsRegistry}
+use Rattle.rio_server.specs.Format.{Formats, IsFormat, IsPrepared, files_after, format_line, format_status, image_bytes}
 
 pub formats_at : (end : FormatEnd) (image disk : List ℕ) (sizes : FormatSizes) (pair : FreshPair) (status : ℕ) (rose : Type 0)
     (files files_now : Option Files) (written written_now : Option (List ℕ)) (line : List ℕ)
@@ -25,9 +27,10 @@ formats_at end image disk sizes pair status rose files files_now written written
 }
 
 pub no_command : (words : List (String Global)) (serves : Bool) → serves ≡ false → (IsTrue serves ↔ IsServe words)
-    → ((image disk : List ℕ) (sizes : FormatSizes) → IsFormat words image disk sizes → ⊥) → IsCommand words → ⊥
-no_command words serves is by unformed (inl serve) = absurd (cannot serves is (by.1 serve))
+    → ((image disk : List ℕ) (sizes : FormatSizes) → IsFormat words image disk sizes → ⊥) → ((image : List ℕ) → IsRegistry words image → ⊥) → IsCommand words → ⊥
+no_command words serves is by unformed unlisted (inl serve) = absurd (cannot serves is (by.1 serve))
   where
     cannot : (b : Bool) → b ≡ false → IsTrue b → ⊥
     cannot b e t = cc
-no_command words serves is by unformed (inr format) = unformed format.0 format.1 format.2 format.3
+no_command words serves is by unformed unlisted (inr (inl format)) = unformed format.0 format.1 format.2 format.3
+no_command words serves is by unformed unlisted (inr (inr listing)) = unlisted listing.0 listing.1

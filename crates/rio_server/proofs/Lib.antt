@@ -8,3 +8,8 @@ pub mod Running
 pub mod ServeWords
 pub mod FormatWords
 pub mod Formatting
+pub mod RegistryWords
+pub mod ImageFile
+pub mod Telling
+pub mod Entries
+pub mod Listings

@@ -1,5 +1,5 @@
 -- The words of `format`, and what a run of it leaves.
-use Rattle.std.specs.Prelude.{◌≡◌, ◌≢◌, ℕ, List, [], ◌∷◌, ◌++◌, map, codes, Option, ◌⊎◌, String}
+use Rattle.std.specs.Prelude.{◌≡◌, ◌≢◌, ℕ, List, [], ◌∷◌, ◌++◌, map, codes, Option, String}
 use Rattle.std.specs.Fmt.{decimal}
 use Rattle.std.specs.String.{string_bytes}
 use Rattle.std.specs.Global.{Global}
@@ -13,7 +13,7 @@ use Rattle.rio_server.specs.declared.ends.FormatEnd.{FormatEnd}
 use Rattle.rio_server.specs.declared.ends.FormatEnd.TheVariants.{Formatted, DiskFault, ImageFault, Memory}
 use Rattle.rio_server.specs.declared.format.FreshPair.{FreshPair}
 use Rattle.rio_server.specs.declared.format_words.FormatSizes.{FormatSizes}
-use Rattle.rio_server.specs.Command.{IsFileName, IsServe, WritesLine}
+use Rattle.rio_server.specs.Command.{IsFileName, WritesLine}
 
 -- these numbers, as sizes that a fresh pair can have
 pub record AreRanged (frames blocks inodes scratch : ℕ) (sizes : FormatSizes) : Type 0 where
@@ -90,7 +90,3 @@ pub record Formats (image disk : List ℕ) (sizes : FormatSizes) (status : ℕ) 
   pub status_is : status ≡ format_status end
   pub left : files_now ≡ files_after end image disk (image_bytes sizes) (disk_bytes sizes) files
   pub told : WritesLine rose written (format_line end image disk sizes) written_now
-
--- the words are one of the commands
-abbrev pub IsCommand : List (String Global) → Type 0
-IsCommand words = IsServe words ⊎ ((image disk : List ℕ) × (sizes : FormatSizes) × IsFormat words image disk sizes)

@@ -4,3 +4,5 @@ pub mod ServeRun
 pub mod Asking
 pub mod Command
 pub mod Format
+pub mod Registry
+pub mod Commands

@@ -7,8 +7,16 @@ mod format;
 #[cfg(test)]
 mod format_tests;
 mod format_words;
+mod image_board;
+mod image_file;
 mod last_line;
 mod program;
+mod registry_command;
+mod registry_lines;
+mod registry_listing;
+#[cfg(test)]
+mod registry_tests;
+mod registry_words;
 mod serve;
 mod table;
 #[cfg(test)]

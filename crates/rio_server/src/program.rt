@@ -5,7 +5,9 @@ ghost use Rattle.std.specs.String.{string_bytes};
 ghost use Rattle.rio_base.specs.Counts.{Rose};
 ghost use Rattle.rio_server.specs.Command.{IsServe, RunServes, WritesLine, last_line, status_of, usage_line};
 ghost use Rattle.rio_server.specs.declared.format_words.FormatSizes.{FormatSizes};
-ghost use Rattle.rio_server.specs.Format.{Formats, IsCommand, IsFormat};
+ghost use Rattle.rio_server.specs.Commands.{IsCommand};
+ghost use Rattle.rio_server.specs.Format.{Formats, IsFormat};
+ghost use Rattle.rio_server.specs.Registry.{IsAbsent, IsRegistry, Lists};
 ghost use Rattle.rio_server.specs.Table.{served_fresh};
 
 use crate::ends::ServeEnd;
@@ -13,6 +15,8 @@ use crate::file_name::is_file_name;
 use crate::format::format;
 use crate::format_words::format_of;
 use crate::last_line::say;
+use crate::registry_command::show_registry;
+use crate::registry_words::registry_of;
 use crate::serve::serve;
 use crate::table::Table;
 use rio_base::{Host, Sink, Source};
@@ -29,14 +33,18 @@ const USAGE: &[u8; 49] = b"usage: rio format, serve, registry, check, drill\n";
 /// `format IMAGE DISK --frames F --blocks B --inodes I --scratch C` writes a fresh memory image and a fresh volume as
 /// these two files of the host, DISK first.
 ///
+/// `registry IMAGE` writes the sizes and the gate of a memory image to the sink, and a line for each valid entry of its
+/// registry. It changes no file.
+///
 /// | Status | It comes where |
 /// |---|---|
-/// | 0 | the input was read to its end and every reply was written, or both files are written |
+/// | 0 | the input was read to its end and every reply was written, or both files are written, or the registry is listed |
 /// | 2 | the words are no command |
+/// | 3 | the image breaks a rule |
 /// | 6 | there was no memory to go on |
-/// | 7 | a file could not be replaced |
+/// | 7 | a file could not be replaced or read, or there is no image |
 /// | 8 | the source failed |
-/// | 9 | the sink refused a reply |
+/// | 9 | the sink refused a reply or a line of the listing |
 /// | 11 | more than 1,099,511,627,776 bytes of input came |
 pub fn run<S: Source, K: Sink, H: Host>(
     alloc: Global,
@@ -58,26 +66,41 @@ pub fn run<S: Source, K: Sink, H: Host>(
     // `format` leaves a fresh pair, or tells what could not be had.
     ensures formatted { (image disk : List ℕ) (sizes : FormatSizes) → IsFormat words.now.items image disk sizes → Formats image disk sizes result.0 (Rose (K.faults sink.old) (K.faults sink.new)) (H.files host) (H.files result.1) (K.written sink.old) (K.written sink.new) }
 
+    // `registry` lists the image's registry, or tells why there is none, and changes no file.
+    ensures listed { (image : List ℕ) → IsRegistry words.now.items image → Lists image result.0 (Rose (H.faults host) (H.faults result.1)) (Rose (K.faults sink.old) (K.faults sink.new)) (H.files host) (K.written sink.old) (K.written sink.new) }
+    ensures looked { (image : List ℕ) → IsRegistry words.now.items image → H.files result.1 ≡ H.files host }
+
     // The cause of each status.
-    ensures host_fault { result.0 ≡ 7 → Rose (H.faults host) (H.faults result.1) }
+    ensures host_fault { result.0 ≡ 7 → Rose (H.faults host) (H.faults result.1) ⊎ ((image : List ℕ) × IsRegistry words.now.items image × IsAbsent (H.files host) image) }
+    ensures format_fault { (image disk : List ℕ) (sizes : FormatSizes) → IsFormat words.now.items image disk sizes → result.0 ≡ 7 → Rose (H.faults host) (H.faults result.1) }
     ensures source_fault { result.0 ≡ 8 → Rose (S.faults source.old) (S.faults source.new) }
     ensures sink_fault { result.0 ≡ 9 → Rose (K.faults sink.old) (K.faults sink.new) }
     ensures steady { IsServe words.now.items → result.0 ≡ 0 → K.faults sink.new ≡ K.faults sink.old }
+    ensures steady_listing { (image : List ℕ) → IsRegistry words.now.items image → result.0 ≡ 0 → K.faults sink.new ≡ K.faults sink.old }
     ensures limit { (input : List ℕ) → S.left source.old ≡ Some input → result.0 ≡ 11 → 2 ^ 40 < length input }
     ensures over { IsServe words.now.items → (input : List ℕ) → S.left source.old ≡ Some input → 2 ^ 40 < length input → result.0 ≢ 0 }
 
     // Without a cause a served run ends with 0, or for want of memory.
     ensures complete { IsServe words.now.items → (input : List ℕ) → S.left source.old ≡ Some input → length input ≤ 2 ^ 40
         → (Rose (S.faults source.old) (S.faults source.new) → ⊥) → (Rose (K.faults sink.old) (K.faults sink.new) → ⊥) → (result.0 ≡ 0) ⊎ (result.0 ≡ 6) }
+
+    // Without a cause `registry` lists, or refuses the image, or finds no memory or no file.
+    ensures complete_listing { (image : List ℕ) → IsRegistry words.now.items image
+        → (Rose (H.faults host) (H.faults result.1) → ⊥) → (Rose (K.faults sink.old) (K.faults sink.new) → ⊥)
+        → (result.0 ≡ 0) ⊎ (result.0 ≡ 3) ⊎ (result.0 ≡ 6) ⊎ ((result.0 ≡ 7) × IsAbsent (H.files host) image) }
 {
     if is_serve(words.as_slice()) {
         return (serve_from_root(alloc, source, sink), host);
     }
-    let Some(format_words) = format_of(words.as_slice()) else {
+    let mut host = host;
+    if let Some(format_words) = format_of(words.as_slice()) {
+        let status = format(alloc, &format_words, sink, &mut host);
+        return (status, host);
+    }
+    let Some(image) = registry_of(words.as_slice()) else {
         return (say(USAGE, 2, sink), host);
     };
-    let mut host = host;
-    let status = format(alloc, &format_words, sink, &mut host);
+    let status = show_registry(alloc, image, sink, &mut host);
     (status, host)
 }
 
