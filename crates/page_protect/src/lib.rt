@@ -3,6 +3,8 @@
 
 mod closed_page;
 mod window;
+#[cfg(test)]
+mod window_tests;
 
 pub use closed_page::put_word;
 pub use window::Window;
