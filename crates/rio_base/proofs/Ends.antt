@@ -1,17 +1,13 @@
 -- How a call ends, told from its last part.
-use Rattle.std.proofs.Common.{◌≡◌, ◌≢◌, ℕ, ◌<◌, ◌≤◌, Option, None, Result, Ok, Err, true, le_trans, ◌∙◌, sym, subst, inl, inr, refl, arith, ◌⊎◌}
+use Rattle.std.proofs.Common.{◌≡◌, ◌≢◌, ℕ, ◌<◌, ◌≤◌, Option, None, Result, Ok, Err, true, le_trans, ◌∙◌, sym, subst, inl, inr, refl, ◌⊎◌}
 use Rattle.std.proofs.lemmas.Bool.{cases_eq}
-use Rattle.rio_base.specs.Counts.{Rose}
 use Rattle.rio_base.specs.declared.places.PageName.{PageName}
 use Rattle.rio_base.specs.declared.places.VolumeShape.{VolumeShape}
 use Rattle.rio_base.specs.declared.failures.VolFail.{VolFail}
 use Rattle.rio_base.specs.declared.failures.VolFail.TheVariants.{Fault, Stopped}
 use Rattle.rio_base.specs.Blocks.{Seen, Health, FailCause, Ends, SamePage, CanName, Caches, Drops}
+use Rattle.rio_base.specs.Rules.{rose_later}
 use Rattle.rio_base.specs.Shapes.{HasShape, reserved}
-
-pub rose_later : (a b c : ℕ) → a ≤ b → Rose b c → Rose a c
-rose_later a b c h (inl k) = inl (omega arith)
-rose_later a b c h (inr k) = inr k
 
 -- a part that ended well, and then a failure
 pub cause_later : {T : Type 0} (s t u : Health) (answer : Result T VolFail) → s.faults ≤ t.faults → t.stopped ≡ s.stopped → FailCause t u answer → FailCause s u answer

@@ -26,7 +26,7 @@ pub halts_counted : {T E : Type 0} (m n : ℕ) (s t : Bool) (answer : Result T E
 halts_counted m n s t answer later h = record { later = later; stays = h.stays; cause = halt_counted m n s t answer h.cause }
 
 pub runs_counted : (m n : ℕ) (s t : Bool) (old new : Below) → m ≤ n → Runs (record { faults = 0; stopped = s }) old (record { faults = 0; stopped = t }) new → Runs (record { faults = m; stopped = s }) old (record { faults = n; stopped = t }) new
-runs_counted m n s t old new later h = record { later = later; stays = h.stays; written = h.written; roomy = h.roomy; around = h.around; stop_set = h.stop_set; protected = h.protected; armed = h.armed; cause = h.cause }
+runs_counted m n s t old new later h = record { later = later; stays = h.stays; written = h.written; roomy = h.roomy; around = h.around; stop_set = h.stop_set; protected = h.protected; armed = h.armed; cause = h.cause; memory = h.memory; limit = h.limit }
 
 pub goes_counted : (m n : ℕ) (s t : Bool) (old new : Below) → m ≤ n → Goes (record { faults = 0; stopped = s }) old (record { faults = 0; stopped = t }) new → Goes (record { faults = m; stopped = s }) old (record { faults = n; stopped = t }) new
 goes_counted m n s t old new later h = record { runs = runs_counted m n s t old new later h.runs; quiet = h.quiet }

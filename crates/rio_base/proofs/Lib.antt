@@ -1,6 +1,10 @@
+pub mod BlockRuns
 pub mod Clears
 pub mod Copies
 pub mod Ends
 pub mod Faults
 pub mod Files
 pub mod PageCopies
+pub mod RegionRuns
+pub mod VolumeRuns
+pub mod WordRuns

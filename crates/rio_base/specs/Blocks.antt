@@ -1,8 +1,10 @@
 -- What a reader of a volume sees: its blocks, which of them are cached and under which names, and how its calls end.
-use Rattle.std.specs.Prelude.{◌≡◌, ◌≢◌, ℕ, ◌<◌, ◌≤◌, Bool, true, false, ◌⊎◌, List, Option, Some, None, Result, Ok, Err}
+use Rattle.std.specs.Prelude.{◌≡◌, ◌≢◌, ℕ, ◌+◌, ◌<◌, ◌≤◌, slice_index, Bool, true, false, ◌⊎◌, List, Option, Some, None, Result, Ok, Err}
 use Rattle.rio_base.specs.declared.places.PageName.{PageName}
 use Rattle.rio_base.specs.declared.failures.VolFail.{VolFail}
 use Rattle.rio_base.specs.declared.failures.VolFail.TheVariants.{Fault, Stopped}
+use Rattle.rio_base.specs.declared.failures.RunFail.{RunFail}
+use Rattle.rio_base.specs.declared.failures.RunFail.TheVariants.{Fault as RunFault, Stopped as RunStopped}
 use Rattle.rio_base.specs.Counts.{Rose}
 
 -- the words of all blocks: block, then word of the block
@@ -81,6 +83,15 @@ pub record CanName (s : Seen) (b : ℕ) (name : Option PageName) : Type 0 where
   pub in_range : InRange name
   pub agrees : s.cached b ≡ true → SamePage (s.names b) name
 
+-- n words of a block from word w on
+pub record IsSpan (s : Seen) (b w n : ℕ) : Type 0 where
+  pub block : b < s.count
+  pub within : w + n ≤ 512
+
+-- the first n of these are the words of block b from word w on
+pub record IsRun (f : BlockWords) (b w n : ℕ) (words : List ℕ) : Type 0 where
+  pub each : (i : ℕ) → i < n → slice_index words i ≡ f b (w + i)
+
 -- a word of a block
 pub record IsPlace (s : Seen) (b w : ℕ) : Type 0 where
   pub block : b < s.count
@@ -130,3 +141,23 @@ pub record Halts {T E : Type 0} (s t : Health) (answer : Result T E) : Type 0 wh
   pub later : s.faults ≤ t.faults
   pub stays : s.stopped ≡ true → t.stopped ≡ true
   pub cause : HaltCause s t answer
+
+-- the answer of a run of stores, as that of a single one
+abbrev pub as_word : {T : Type 0} → Result T RunFail → Result T VolFail
+as_word (Ok x) = Ok x
+as_word (Err (RunFault n)) = Err Fault
+as_word (Err RunStopped) = Err Stopped
+
+-- where a run of stores ended with a fault, this is so of the count of words that were stored
+abbrev pub FaultAt : {T : Type 0} → Result T RunFail → (ℕ → Type 0) → Type 0
+FaultAt (Err (RunFault n)) p = p n
+FaultAt _ p = Unit {0}
+
+-- the same by what the answer says: `fault` is that it tells a fault, `stop` that it tells a stop. So it serves each
+-- error type
+pub record EndsBy (s t : Health) (fault stop : Type 0) : Type 0 where
+  pub later : s.faults ≤ t.faults
+  pub stays : s.stopped ≡ true → t.stopped ≡ true
+  pub cause : fault → Rose s.faults t.faults
+  pub told : stop → t.stopped ≡ true
+  pub runs : (stop → ⊥) → t.stopped ≡ s.stopped

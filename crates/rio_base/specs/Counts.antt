@@ -9,3 +9,7 @@ Rose before after = (before < after) ⊎ (2 ^ 64 ≤ after + 1)
 pub record HasCause {T E : Type 0} (answer : Result T E) (before after : ℕ) : Type 0 where
   pub later : before ≤ after
   pub cause : MatchResult answer (λ _. Unit {0}) (λ _. Rose before after)
+
+-- the count rose at least n times, or stands at the largest u64
+abbrev pub RoseBy : ℕ → ℕ → ℕ → Type 0
+RoseBy n before after = (before + n ≤ after) ⊎ (2 ^ 64 ≤ after + 1)

@@ -48,6 +48,10 @@ abbrev pub WritesDisk : {E : Type 0} → Result (Unit {0}) E → ℕ → List �
 WritesDisk answer b words old new =
     MatchResult answer (λ _. new ≡ with_written old b words new.faults) (λ _. (torn : List ℕ) × (length torn ≡ 512) × (new ≡ with_written old b torn new.faults))
 
+-- the disk after a write of block b was cut off: it may have been on its way
+abbrev pub with_torn : DiskContents → ℕ → DiskContents
+with_torn d b = record d { pending = slice_set d.pending b true }
+
 -- nothing is pending
 abbrev pub with_synced : DiskContents → FaultCount → DiskContents
 with_synced d faults = record d { pending = replicate (length d.blocks) false; faults = faults }

@@ -1,6 +1,6 @@
 -- The memory image: where its pages lie. A word is 8 bytes, a page 512 words. The pages are the header, the registry, 16
 -- shadow pages, the frames and the scratch pages, in this order.
-use Rattle.std.specs.Prelude.{◌≤◌, ℕ, ◌+◌, ◌*◌, ◌/◌, ◌%◌}
+use Rattle.std.specs.Prelude.{◌≡◌, ◌≤◌, ℕ, List, [], ◌∷◌, slice_index, codes, ◌+◌, ◌*◌, ◌/◌, ◌%◌}
 
 -- a registry page has 102 entries
 unfoldable pub registry_pages : ℕ → ℕ
@@ -19,3 +19,17 @@ pub record AreImageSizes (frames scratch : ℕ) : Type 0 where
 -- the place of the first word of registry entry k
 unfoldable pub entry_at : ℕ → ℕ
 entry_at k = 512 * (1 + k / 102) + 5 * (k % 102)
+
+-- the word whose 8 bytes are this text, the first byte lowest
+abbrev pub text_word : List ℕ → ℕ
+text_word [] = 0
+text_word (byte ∷ text) = byte + 256 * text_word text
+
+-- the word whose bytes are the text RIOCACHE
+abbrev pub image_magic : ℕ
+image_magic = text_word (codes "RIOCACHE")
+
+-- an image's first two words
+pub record HasHeader (words : List ℕ) : Type 0 where
+  pub magic : slice_index words 0 ≡ image_magic
+  pub version : slice_index words 1 ≡ 1

@@ -1,9 +1,14 @@
+pub mod Bitmap
+pub mod BlockSets
 pub mod Blocks
 pub mod Counts
 pub mod Disks
+pub mod FailingCalls
+pub mod Failures
 pub mod FaultyVolumes
 pub mod Hosts
 pub mod Image
+pub mod Layout
 pub mod ListRegions
 pub mod ListVolumes
 pub mod Machine
@@ -12,6 +17,7 @@ pub mod MemHosts
 pub mod MemStreams
 pub mod Memory
 pub mod Pieces
+pub mod RegionRules
 pub mod Regions
 pub mod Rules
 pub mod Shapes

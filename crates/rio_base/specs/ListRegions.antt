@@ -1,5 +1,5 @@
 -- The region in memory: a list of words, with no machine below.
-use Rattle.std.specs.Prelude.{◌≡◌, ℕ, slice_index_or, length, replicate, Option, is_some, false, true}
+use Rattle.std.specs.Prelude.{◌≡◌, ◌<◌, ◌^◌, ℕ, slice_index_or, length, replicate, Option, is_some, false, true}
 use Rattle.rio_base.specs.declared.list_region.ListRegion.{ListRegion}
 use Rattle.rio_base.specs.Blocks.{Health}
 use Rattle.rio_base.specs.Volume.{Below}
@@ -14,10 +14,11 @@ abbrev pub region_health : ListRegion → Health
 region_health r = record { faults = 0; stopped = r.stopped }
 
 abbrev pub region_below : ListRegion → Below
-region_below r = record { roomy = true; home = None; writes = 0; around = None; causes = list_causes (is_some r.left) }
+region_below r = record { roomy = true; home = None; writes = 0; around = None; causes = list_causes (is_some r.left); memory = record { protected = 0; scratch = 0 }; limit = None }
 
 pub record RegionReady (r : ListRegion) : Type 0 where
   pub fits : length r.words.items ≡ r.count
+  pub small : r.count < 2 ^ 32
 
 -- a new region: zeros, not stopped
 pub record IsNewRegion (words : ℕ) (stop_after : Option ℕ) (r : ListRegion) : Type 0 where

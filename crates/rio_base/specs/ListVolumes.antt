@@ -1,6 +1,6 @@
 -- The volume in memory: how its blocks lie in one list of words, and what it keeps true.
 use Rattle.std.specs.Prelude.{◌≡◌, ℕ, ◌+◌, ◌*◌, Bool, true, false, ◌&&◌, nat_lt, if◌then◌else◌, List, slice_index_or, ◌++◌, take, drop, replicate, length, Option, None, is_some, refl}
-use Rattle.std.proofs.Common.{ap, sym}
+use Rattle.std.proofs.Common.{ap, sym, ◌∙◌}
 use Rattle.rio_base.specs.Rules.{true_false}
 use Rattle.rio_base.specs.declared.list_volume.ListVolume.{ListVolume}
 use Rattle.rio_base.specs.Blocks.{BlockWords, Causes, Seen, Health, NamesFit}
@@ -28,7 +28,7 @@ abbrev pub list_causes : Bool → Causes
 list_causes stop_set = record { stop_set = stop_set; armed = None; trapped = None; protected = λ p. false }
 
 abbrev pub list_below : ListVolume → Below
-list_below v = record { roomy = true; home = None; writes = 0; around = None; causes = list_causes (is_some v.left) }
+list_below v = record { roomy = true; home = None; writes = 0; around = None; causes = list_causes (is_some v.left); memory = record { protected = 0; scratch = 0 }; limit = None }
 
 abbrev pub list_kept : ListVolume → Kept
 list_kept v = record {
@@ -90,3 +90,6 @@ list_settled v s = record {
   in_update = λ u. record { untouched = λ b t w. s.in_update u b (marks_in_update v.updating _ u t) w };
   touched = λ b e. marks_updating v.updating _ e;
 }
+
+pub touched_on : (v w : ListVolume) (b : ℕ) → (list_kept w).touched ≡ (list_kept v).touched → (list_kept v).touched b ≡ true → (list_kept w).touched b ≡ true
+touched_on v w b same e = ap (λ (t : ℕ → Bool). t b) same ∙ e

@@ -1,8 +1,11 @@
 -- The rules of every call compose.
-use Rattle.std.specs.Prelude.{◌≡◌, ℕ, ◌/◌, Bool, true, false, ◌⊎◌, Option, Some, None, refl}
-use Rattle.std.proofs.Common.{le_trans, le_refl, ◌∙◌, sym, subst, inl, inr}
-use Rattle.rio_base.specs.Blocks.{Seen, Health, Causes, Looks, Drops}
-use Rattle.rio_base.specs.Volume.{Below, Kept, StopCause, Runs, Goes, Firm, Passes}
+use Rattle.std.specs.Prelude.{◌≡◌, ℕ, ◌+◌, ◌≤◌, ◌/◌, Bool, true, false, ◌⊎◌, Option, Some, None, Result, Ok, Err, IsErr, IsErrOf, refl}
+use Rattle.std.proofs.Common.{le_trans, le_refl, ◌∙◌, sym, subst, inl, inr, arith}
+use Rattle.rio_base.specs.declared.failures.VolFail.{VolFail}
+use Rattle.rio_base.specs.declared.failures.VolFail.TheVariants.{Fault, Stopped}
+use Rattle.rio_base.specs.Counts.{Rose, RoseBy}
+use Rattle.rio_base.specs.Blocks.{Seen, Health, Causes, Looks, Drops, Ends, EndsBy, Halts}
+use Rattle.rio_base.specs.Volume.{Below, Kept, LimitLasts, StopCause, Runs, Goes, Firm, Passes}
 
 -- ---- what is only read
 
@@ -73,6 +76,12 @@ armed_trans a b c _ (inr k) = inr k
 
 -- ---- rules of every call
 
+pub limit_refl : (o : Option ℕ) → LimitLasts o o
+limit_refl o = record { limit = λ most e. (most, e, le_refl most) }
+
+pub limit_trans : (a b c : Option ℕ) → LimitLasts a b → LimitLasts b c → LimitLasts a c
+limit_trans a b c h k = record { limit = λ most e. let one = h.limit most e in let two = k.limit one.0 one.1 in (two.0, two.1, le_trans two.2 one.2) }
+
 pub runs_trans : (s : Health) (old : Below) (t : Health) (mid : Below) (u : Health) (new : Below) → Runs s old t mid → Runs t mid u new → Runs s old u new
 runs_trans s old t mid u new h k = record {
   later = le_trans h.later k.later;
@@ -84,6 +93,8 @@ runs_trans s old t mid u new h k = record {
   protected = k.protected ∙ h.protected;
   armed = armed_trans _ _ _ h.armed k.armed;
   cause = cause_trans old.causes mid.causes new.causes s.stopped t.stopped u.stopped h.protected h.armed h.stop_set h.stays k.stays h.cause k.cause;
+  memory = k.memory ∙ h.memory;
+  limit = limit_trans old.limit mid.limit new.limit h.limit k.limit;
 }
 
 pub cause_refl : (c : Causes) (a : Bool) → StopCause c c a a
@@ -92,7 +103,7 @@ cause_refl c false = refl
 
 pub goes_refl : (s : Health) (old : Below) → Goes s old s old
 goes_refl s old = record {
-  runs = record { later = le_refl s.faults; stays = λ e. e; written = le_refl old.writes; roomy = refl; around = refl; stop_set = refl; protected = refl; armed = inl refl; cause = cause_refl old.causes s.stopped };
+  runs = record { later = le_refl s.faults; stays = λ e. e; written = le_refl old.writes; roomy = refl; around = refl; stop_set = refl; protected = refl; armed = inl refl; cause = cause_refl old.causes s.stopped; memory = refl; limit = limit_refl old.limit };
   quiet = record { home = λ r. refl; writes = λ r. refl };
 }
 
@@ -125,3 +136,65 @@ passes_on s old k t mid l u new m h i = record {
   touched = i.touched ∙ h.touched;
   touches = i.touches ∙ h.touches;
 }
+
+-- ---- how calls end
+
+pub rose_later : (a b c : ℕ) → a ≤ b → Rose b c → Rose a c
+rose_later a b c h (inl k) = inl (omega arith)
+rose_later a b c h (inr k) = inr k
+
+-- calls that ended well, and then one that ends so
+pub ends_by_after : (s t u : Health) (fault stop : Type 0) → s.faults ≤ t.faults → t.stopped ≡ s.stopped → EndsBy t u fault stop → EndsBy s u fault stop
+ends_by_after s t u fault stop later same h = record {
+  later = le_trans later h.later;
+  stays = λ e. h.stays (same ∙ e);
+  cause = λ f. rose_later s.faults t.faults u.faults later (h.cause f);
+  told = h.told;
+  runs = λ n. h.runs n ∙ same;
+}
+
+-- calls that ended well
+pub ends_by_well : (s t : Health) (fault stop : Type 0) → s.faults ≤ t.faults → t.stopped ≡ s.stopped → (fault → ⊥) → (stop → ⊥) → EndsBy s t fault stop
+ends_by_well s t fault stop later same no_fault no_stop = record {
+  later = later;
+  stays = λ e. same ∙ e;
+  cause = λ f. absurd (no_fault f);
+  told = λ p. absurd (no_stop p);
+  runs = λ n. same;
+}
+
+-- the same call, by what another answer says of it
+pub ends_by_as : (s t : Health) (fault stop fault_as stop_as : Type 0) → (fault_as → fault) → (stop_as → stop) → (stop → stop_as) → EndsBy s t fault stop → EndsBy s t fault_as stop_as
+ends_by_as s t fault stop fault_as stop_as f g h e = record {
+  later = e.later;
+  stays = e.stays;
+  cause = λ a. e.cause (f a);
+  told = λ a. e.told (g a);
+  runs = λ n. e.runs (λ p. n (h p));
+}
+
+-- a call of a volume
+pub ends_by : {T : Type 0} (s t : Health) (answer : Result T VolFail) → Ends s t answer → EndsBy s t (IsErrOf answer Fault) (IsErrOf answer Stopped)
+ends_by s t (Ok x) h = record { later = h.later; stays = h.stays; cause = λ f. cc; told = λ p. cc; runs = λ n. h.cause }
+ends_by s t (Err Fault) h = record { later = h.later; stays = h.stays; cause = λ f. h.cause.0; told = λ p. cc; runs = λ n. h.cause.1 }
+ends_by s t (Err Stopped) h = record { later = h.later; stays = h.stays; cause = λ f. cc; told = λ p. h.cause; runs = λ n. absurd (n refl) }
+
+-- a call whose one failure is the stop
+pub halts_by : {T E : Type 0} (s t : Health) (answer : Result T E) → Halts s t answer → EndsBy s t ⊥ (IsErr answer)
+halts_by s t (Ok x) h = record { later = h.later; stays = h.stays; cause = λ f. absurd f; told = λ p. cc; runs = λ n. h.cause }
+halts_by s t (Err e) h = record { later = h.later; stays = h.stays; cause = λ f. absurd f; told = λ p. h.cause; runs = λ n. absurd (n cc) }
+
+-- ---- how often a count rose
+
+pub rose_by_none : (a b : ℕ) → a ≤ b → RoseBy 0 a b
+rose_by_none a b h = inl (omega arith)
+
+pub rose_by_more : (n a b c : ℕ) → RoseBy n a b → Rose b c → RoseBy (n + 1) a c
+rose_by_more n a b c (inl h) (inl k) = inl (omega arith)
+rose_by_more n a b c (inl h) (inr k) = inr k
+rose_by_more n a b c (inr h) (inl k) = inr (omega arith)
+rose_by_more n a b c (inr h) (inr k) = inr k
+
+pub rose_by_later : (n a b c : ℕ) → RoseBy n a b → b ≤ c → RoseBy n a c
+rose_by_later n a b c (inl h) k = inl (omega arith)
+rose_by_later n a b c (inr h) k = inr (omega arith)

@@ -1,7 +1,16 @@
 -- What a volume keeps beside the blocks that read: what stands after a stop, the open update, and the machine below.
-use Rattle.std.specs.Prelude.{◌≡◌, ◌≢◌, ℕ, ◌+◌, ◌/◌, ◌<◌, ◌≤◌, Bool, true, false, ◌==◌, ◌&&◌, ◌||◌, if◌then◌else◌, ◌⊎◌, Option, Some, None, max}
+use Rattle.std.specs.Prelude.{◌≡◌, ◌≢◌, ℕ, ◌+◌, ◌/◌, ◌<◌, ◌≤◌, Bool, true, false, ◌-◌, List, slice_index, nat_lt, not, ◌==◌, ◌&&◌, ◌||◌, if◌then◌else◌, ◌⊎◌, Option, Some, None, max}
 use Rattle.rio_base.specs.declared.places.PageName.{PageName}
 use Rattle.rio_base.specs.Blocks.{BlockWords, Home, Around, Causes, Seen, Health}
+
+-- how many words of memory are protected, and how many lie behind them
+pub record MemorySizes : Type 0 where
+  pub protected : ℕ
+  pub scratch : ℕ
+
+-- how far a count of faults can rise, where it is told, doesn't rise
+pub record LimitLasts (old new : Option ℕ) : Type 0 where
+  pub limit : (most : ℕ) → old ≡ Some most → (next : ℕ) × (new ≡ Some next) × (next ≤ most)
 
 pub record Below : Type 0 where
   -- at least as many frames as blocks: nothing has to be written back to make room
@@ -12,6 +21,9 @@ pub record Below : Type 0 where
   pub writes : ℕ
   pub around : Option Around
   pub causes : Causes
+  pub memory : MemorySizes
+  -- how far the count of faults can rise, where it is told
+  pub limit : Option ℕ
 
 pub record Kept : Type 0 where
   -- what a warm reboot finds
@@ -29,6 +41,10 @@ pub record Kept : Type 0 where
 -- one word changed
 abbrev pub put : BlockWords → ℕ → ℕ → ℕ → BlockWords
 put f b w v c x = if (c == b) && (x == w) then v else f c x
+
+-- n words changed, from word w on, to the first n of these
+abbrev pub put_run : BlockWords → ℕ → ℕ → ℕ → List ℕ → BlockWords
+put_run f b w n words c x = if (c == b) && (not (nat_lt x w) && nat_lt x (w + n)) then slice_index words (x - w) else f c x
 
 -- one block all zeros
 abbrev pub cleared : BlockWords → ℕ → BlockWords
@@ -87,6 +103,8 @@ pub record Runs (s : Health) (old : Below) (t : Health) (new : Below) : Type 0 w
   pub protected : new.causes.protected ≡ old.causes.protected
   pub armed : (new.causes.armed ≡ old.causes.armed) ⊎ (new.causes.armed ≡ None)
   pub cause : StopCause old.causes new.causes s.stopped t.stopped
+  pub memory : new.memory ≡ old.memory
+  pub limit : LimitLasts old.limit new.limit
 
 -- where there is a frame for each block, nothing is written to the disk
 pub record Quiet (old new : Below) : Type 0 where
@@ -158,3 +176,11 @@ OldOrNew before old new = (new ≡ before) ⊎ (new ≡ old)
 -- one word is the old or the new one, and no other changes
 abbrev pub OldOrPut : BlockWords → BlockWords → ℕ → ℕ → ℕ → Type 0
 OldOrPut old new b w v = (new ≡ old) ⊎ (new ≡ put old b w v)
+
+-- a front of a run of words is stored, and no other word changes
+abbrev pub OldOrRun : BlockWords → BlockWords → ℕ → ℕ → List ℕ → ℕ → Type 0
+OldOrRun old new b w words most = (n : ℕ) × (n ≤ most) × (new ≡ put_run old b w n words)
+
+-- a page's name after a run of stores: its own, widened, or the given one
+abbrev pub RunName : Bool → Option PageName → Option PageName → Option PageName → Type 0
+RunName cached own given now = (now ≡ stored_name cached own given) ⊎ (now ≡ given)

@@ -1,7 +1,7 @@
 //! What a reader of a volume is given: the words of its blocks.
 
-ghost use Rattle.std.specs.Prelude.{◌≡◌, ℕ, IfOk, IsErrOf};
-ghost use Rattle.rio_base.specs.Blocks.{Seen, Health, NamesFit, CanName, IsPlace, Looks, Caches, Ends};
+ghost use Rattle.std.specs.Prelude.{◌≡◌, ◌<◌, ℕ, IfOk, IfSome, OnOk, IsErrOf, length};
+ghost use Rattle.rio_base.specs.Blocks.{Seen, Health, NamesFit, CanName, IsPlace, IsRun, IsSpan, Looks, Caches, Ends};
 
 use crate::failures::VolFail;
 use crate::places::{Block, PageName};
@@ -41,6 +41,46 @@ pub trait Blocks {
         ensures ends { Ends (health self.old) (health self.new) result }
         ensures sure { IsErrOf result VolFail.Fault → sure self.old b.0 → ⊥ }
         ensures sound { sound self.new };
+
+    /// Reads a run of words of block `b`, from word `w` on, as many as `into` has: as [`Blocks::word`] of each of them.
+    /// After a failure `into` may hold anything.
+    #[tactic(auto, using(crate::proofs::Ends::caches_refl, crate::proofs::Ends::caches_trans, crate::proofs::BlockRuns::ends_on))]
+    fn read_run(
+        &mut self,
+        b: Block,
+        name: Option<PageName>,
+        w: u16,
+        into: &mut [u64],
+    ) -> Result<(), VolFail>
+        requires sound { sound self.old }
+        requires place { IsSpan (seen self.old) b.0 w (length into.old) }
+        requires name { CanName (seen self.old) b.0 name }
+        ensures words { OnOk result (IsRun (seen self.old).words b.0 w (length into.old) into.new) }
+        ensures len { length into.new ≡ length into.old }
+        ensures looks { Looks (seen self.old) (seen self.new) }
+        ensures caches { Caches (seen self.old) (seen self.new) b.0 name }
+        ensures passes { passes self.old self.new }
+        ensures ends { Ends (health self.old) (health self.new) result }
+        ensures sure { IsErrOf result VolFail.Fault → sure self.old b.0 → ⊥ }
+        ensures sound { sound self.new }
+    {
+        for i in 0..into.len() {
+            into[i] = self.word(b, name, w + i as u16)?;
+        }
+        Ok(())
+    }
+
+    /// Lends the 512 words of block `b` where they lie in memory, as those of a page that was read just before do.
+    fn page(&self, b: Block) -> Option<&[u64]>
+        requires sound { sound self.now }
+        requires block { b.0 < (seen self.now).count }
+        ensures words { IfSome result (λ words. IsRun (seen self.now).words b.0 0 512 words.now) }
+        ensures len { IfSome result (λ words. length words.now ≡ 512) }
+    {
+        None
+    }
+
+    ghost sure_stays: { (x y : Self) (b : ℕ) → passes x y → sure x b → sure y b };
 
     ghost passes_refl: { (x : Self) → passes x x };
 

@@ -1,7 +1,7 @@
 //! The blocks of a disk.
 
 ghost use Rattle.std.specs.Prelude.{◌≡◌, ◌<◌, ◌≤◌, ◌^◌, ℕ, Some, OnOk, OnErr, length};
-ghost use Rattle.rio_base.specs.Disks.{DiskContents, HasFaultCause, WritesDisk, block_at, with_synced};
+ghost use Rattle.rio_base.specs.Disks.{DiskContents, HasFaultCause, WritesDisk, block_at, with_synced, with_torn};
 
 use crate::failures::Failed;
 use crate::places::Block;
@@ -32,6 +32,12 @@ pub trait DiskBlocks {
         requires words { length from.now ≡ 512 }
         ensures writes { WritesDisk result b.0 from.now (contents self.old) (contents self.new) }
         ensures cause { HasFaultCause result (contents self.old).faults (contents self.new).faults };
+
+    /// Says that a stop cut a write of a block off: the block is pending, and reads as before. It is no call to the
+    /// device, and is not counted.
+    fn tear(&mut self, b: Block)
+        requires block { b.0 < length (contents self.old).blocks }
+        ensures { contents self.new ≡ with_torn (contents self.old) b.0 };
 
     /// Brings all that was written to the device: nothing is pending after it. `Failed` leaves all as it was.
     fn sync(&mut self) -> Result<(), Failed>

@@ -1,5 +1,8 @@
 //! The ways in which a call to the outside world fails.
 
+ghost use Rattle.std.specs.Prelude.{◌≡◌};
+ghost use Rattle.rio_base.specs.Failures.{vol_fail};
+
 use thiserror::Error;
 
 /// The outside refused this call. It counts each such refusal.
@@ -29,6 +32,28 @@ pub enum VolFail {
     /// The disk below refused a call.
     #[error("the disk failed")]
     Fault,
+    /// The machine below is stopped.
+    #[error("the machine is stopped")]
+    Stopped,
+}
+
+impl From<DiskFail> for VolFail {
+    ghost from_gives = { λ fail made. made ≡ vol_fail fail };
+
+    fn from(fail: DiskFail) -> VolFail {
+        match fail {
+            DiskFail::Fault => VolFail::Fault,
+            DiskFail::Stopped => VolFail::Stopped,
+        }
+    }
+}
+
+/// Why a run of stores was cut off.
+#[derive(Clone, Copy, Debug, PartialEq, Eq, Error)]
+pub enum RunFail {
+    /// The disk below refused a call, after so many words of the run were stored.
+    #[error("the disk failed after {0} words")]
+    Fault(u32),
     /// The machine below is stopped.
     #[error("the machine is stopped")]
     Stopped,

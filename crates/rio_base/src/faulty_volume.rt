@@ -51,7 +51,7 @@ impl FaultyVolume {
 impl Blocks for FaultyVolume {
     ghost use Rattle.rio_base.specs.Rules.{passes_same, passes_on};
     ghost use Rattle.rio_base.specs.Volume.{Passes};
-    ghost use Rattle.rio_base.specs.ListVolumes.{list_seen, list_below, list_kept, ListSound, fits};
+    ghost use Rattle.rio_base.specs.ListVolumes.{list_seen, list_below, list_kept, ListSound, fits, touched_on};
     ghost use Rattle.rio_base.specs.FaultyVolumes.{faulty_health};
 
     ghost seen = { λ v. list_seen v.inner };
@@ -63,6 +63,8 @@ impl Blocks for FaultyVolume {
     ghost sure = { λ v b. (list_kept v.inner).touched b ≡ true };
 
     ghost passes = { λ x y. Passes (faulty_health x) (list_below x.inner) (list_kept x.inner) (faulty_health y) (list_below y.inner) (list_kept y.inner) };
+
+    ghost sure_stays = { λ x y b h s. touched_on x.inner y.inner b h.touched s };
 
     ghost passes_refl = { λ x. passes_same _ _ _ };
 

@@ -70,6 +70,8 @@ impl RegionWords for ListRegion {
 
     ghost below = { region_below };
 
+    ghost small = { λ x ready. ready.small };
+
     ghost rest_refl = { λ x. tt };
 
     ghost rest_trans = { λ x y z h k. tt };

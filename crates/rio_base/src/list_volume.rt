@@ -163,6 +163,8 @@ impl Blocks for ListVolume {
 
     ghost passes = { λ x y. Passes (list_health x) (list_below x) (list_kept x) (list_health y) (list_below y) (list_kept y) };
 
+    ghost sure_stays = { λ x y b h s. tt };
+
     ghost passes_refl = { λ x. passes_same _ _ _ };
 
     ghost passes_trans = { λ x y z. passes_on _ _ _ _ _ _ _ _ _ };

@@ -4,7 +4,7 @@ ghost use Rattle.std.specs.Prelude.{◌≡◌, ◌≢◌, ◌<◌, ◌≤◌, �
 ghost use Rattle.std.specs.Option.{option_map};
 ghost use Rattle.rio_base.specs.Disks.{block_at, raised};
 ghost use Rattle.rio_base.specs.Machine.{Contents, Copied, Falls, FaultCause, Lasts, Meets, Running, StepEnds, WritesBlock, after_wild};
-ghost use Rattle.rio_base.specs.Memory.{page_at};
+ghost use Rattle.rio_base.specs.Memory.{FrontStored, page_at};
 
 use crate::failures::{DiskFail, Stopped};
 use crate::places::{Block, Page, WordAt};
@@ -41,6 +41,12 @@ pub trait Machine {
         requires { at.0 < length (contents self.now).words + length (run self.now).scratch }
         ensures word { result ≡ slice_index ((contents self.now).words ++ (run self.now).scratch) at.0 }
         ensures protected { at.0 < length (contents self.now).words → result ≡ slice_index (contents self.now).words at.0 };
+
+    /// Lends the 512 words of a page.
+    fn frame(&self, p: Page) -> &[u64]
+        requires page { 512 * p.0 < length (contents self.now).words + length (run self.now).scratch }
+        ensures words { result.now ≡ page_at ((contents self.now).words ++ (run self.now).scratch) p.0 }
+        ensures protected { 512 * p.0 < length (contents self.now).words → result.now ≡ page_at (contents self.now).words p.0 };
 
     /// The place of the wild store that trapped, if one did.
     fn trapped(&self) -> Option<WordAt>
@@ -91,6 +97,28 @@ pub trait Machine {
         for i in 0..512 {
             let word = self.load(WordAt(512 * from.0 + i));
             self.store(WordAt(512 * to.0 + i), word)?;
+        }
+        Ok(())
+    }
+
+    /// Stores a run of words of the open page, from place `at` on in rising order: one step each. `Stopped` leaves a
+    /// front of them stored.
+    #[tactic(auto, using(crate::specs::MachineRules::steps_refl, crate::specs::MachineRules::steps_trans, crate::specs::MachineRules::ends_after, crate::specs::MachineRules::falls_refl, crate::specs::MachineRules::falls_trans))]
+    fn store_run(&mut self, at: WordAt, from: &[u64]) -> Result<(), Stopped>
+        requires page { (contents self.old).open_page ≡ Some (at.0 / 512) }
+        requires within { at.0 % 512 + length from.now ≤ 512 }
+        ensures stored { OnOk result (FrontStored at.0 (length from.now) from.now (contents self.old).words (contents self.new).words) }
+        ensures counted { OnOk result ((run self.new).steps ≡ raised (run self.old).steps (length from.now)) }
+        ensures front { OnErr result ((n : ℕ) × (n < length from.now) × FrontStored at.0 n from.now (contents self.old).words (contents self.new).words × ((run self.new).steps ≡ raised (run self.old).steps n)) }
+        ensures rest { contents self.new ≡ record (contents self.old) { words = (contents self.new).words } }
+        ensures frozen { (run self.old).stopped ≡ true → contents self.new ≡ contents self.old }
+        ensures lasts { Lasts (contents self.old) (contents self.new) }
+        ensures falls { Falls (contents self.old).open_page (run self.old) (run self.new) }
+        ensures halted { (run self.old).stopped ≡ true → 0 < length from.now → IsErr result }
+        ensures ends { StepEnds (run self.old) (run self.new) (IsErr result) }
+    {
+        for i in 0..from.len() {
+            self.store(WordAt(at.0 + i as u32), from[i])?;
         }
         Ok(())
     }

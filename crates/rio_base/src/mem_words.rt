@@ -1,7 +1,7 @@
 //! Words in memory.
 
 ghost use Rattle.std.specs.Prelude.{◌≡◌, ◌<◌, ◌≤◌, ◌+◌, ◌*◌, ◌^◌, ℕ, List, length, slice_index, slice_set};
-ghost use Rattle.rio_base.specs.Memory.{AreApart, copied_words, page_at};
+ghost use Rattle.rio_base.specs.Memory.{AreApart, FrontStored, copied_words, page_at};
 
 use crate::places::{Page, WordAt};
 
@@ -23,6 +23,16 @@ pub trait MemWords {
     fn store(&mut self, at: WordAt, v: u64)
         requires { at.0 < length (words self.old) }
         ensures { words self.new ≡ slice_set (words self.old) at.0 v };
+
+    /// Changes a run of words, from a place on.
+    fn store_run(&mut self, at: WordAt, from: &[u64])
+        requires { at.0 + length from.now ≤ length (words self.old) }
+        ensures { FrontStored at.0 (length from.now) from.now (words self.old) (words self.new) }
+    {
+        for i in 0..from.len() {
+            self.store(WordAt(at.0 + i as u32), from[i]);
+        }
+    }
 
     /// Lends the 512 words of a page.
     fn frame(&self, p: Page) -> &[u64]

@@ -1,13 +1,13 @@
 //! The words of one region's file, in place on a volume.
 
-ghost use Rattle.std.specs.Prelude.{◌≡◌, ℕ, ◌<◌, IfOk, OnOk, IsErrOf};
-ghost use Rattle.rio_base.specs.Blocks.{Health, Ends};
-ghost use Rattle.rio_base.specs.Volume.{Below, Goes};
-ghost use Rattle.rio_base.specs.Regions.{RegionContent, put_word, OldOrPutWord};
+ghost use Rattle.std.specs.Prelude.{◌≡◌, ◌<◌, ◌≤◌, ◌+◌, ◌^◌, ℕ, IfOk, OnOk, IsErrOf, length};
+ghost use Rattle.rio_base.specs.Blocks.{Ends, FaultAt, Health, as_word};
+ghost use Rattle.rio_base.specs.Volume.{Below};
+ghost use Rattle.rio_base.specs.Regions.{AreWords, OldOrPutWord, OldOrPutWords, RegionContent, Stays, put_word, put_words};
 
-use crate::failures::VolFail;
+use crate::failures::{RunFail, VolFail};
 
-/// One region's words, counted from 0, which are read and stored one at a time. No call takes memory.
+/// One region's words, counted from 0, which are read and stored in place. No call takes memory.
 pub trait RegionWords {
     /// How many words there are.
     ghost count: { Self → ℕ };
@@ -38,11 +38,27 @@ pub trait RegionWords {
         requires place { at < count self.old }
         ensures value { IfOk result (λ v. v ≡ words self.old at) }
         ensures words { words self.new ≡ words self.old }
-        ensures count { count self.new ≡ count self.old }
-        ensures rest { keeps_rest self.old self.new }
-        ensures ready { ready self.new }
-        ensures goes { Goes (health self.old) (below self.old) (health self.new) (below self.new) }
+        ensures stays { Stays keeps_rest ready count health below self.old self.new }
         ensures ends { Ends (health self.old) (health self.new) result };
+
+    /// Reads a run of words, from `at` on, as many as `into` has: as [`RegionWords::word`] of each of them. After a
+    /// failure `into` may hold anything.
+    fn read_run(&mut self, at: u32, into: &mut [u64]) -> Result<(), VolFail>
+        requires ready { ready self.old }
+        requires place { at + length into.old ≤ count self.old }
+        ensures value { OnOk result (AreWords (words self.old) at (length into.old) into.new) }
+        ensures len { length into.new ≡ length into.old }
+        ensures words { words self.new ≡ words self.old }
+        ensures stays { Stays keeps_rest ready count health below self.old self.new }
+        ensures ends { Ends (health self.old) (health self.new) result }
+    {
+        let size = self.len();
+        prove!(at as usize + into.len() <= size as usize);
+        for i in 0..into.len() {
+            into[i] = self.word(at + i as u32)?;
+        }
+        Ok(())
+    }
 
     /// Stores the word at `at`, which is below [`RegionWords::len`]. `Fault` changes nothing; `Stopped` leaves the old
     /// or the new word.
@@ -52,11 +68,33 @@ pub trait RegionWords {
         ensures ok { OnOk result (words self.new ≡ put_word (words self.old) at v) }
         ensures fault { IsErrOf result VolFail.Fault → words self.new ≡ words self.old }
         ensures either { OldOrPutWord (words self.old) (words self.new) at v }
-        ensures count { count self.new ≡ count self.old }
-        ensures rest { keeps_rest self.old self.new }
-        ensures ready { ready self.new }
-        ensures goes { Goes (health self.old) (below self.old) (health self.new) (below self.new) }
+        ensures stays { Stays keeps_rest ready count health below self.old self.new }
         ensures ends { Ends (health self.old) (health self.new) result };
+
+    /// Stores a run of words, from `at` on in rising order: as [`RegionWords::set`] of each of them. `Fault` says how
+    /// many were stored; `Stopped` leaves a front of them.
+    fn set_run(&mut self, at: u32, from: &[u64]) -> Result<(), RunFail>
+        requires ready { ready self.old }
+        requires place { at + length from.now ≤ count self.old }
+        ensures ok { OnOk result (words self.new ≡ put_words (words self.old) at (length from.now) from.now) }
+        ensures fault { FaultAt result (λ n. (n < length from.now) × (words self.new ≡ put_words (words self.old) at n from.now)) }
+        ensures front { OldOrPutWords (words self.old) (words self.new) at from.now (length from.now) }
+        ensures stays { Stays keeps_rest ready count health below self.old self.new }
+        ensures ends { Ends (health self.old) (health self.new) (as_word result) }
+    {
+        let size = self.len();
+        prove!(at as usize + from.len() <= size as usize);
+        for i in 0..from.len() {
+            match self.set(at + i as u32, from[i]) {
+                Ok(()) => {}
+                Err(VolFail::Fault) => return Err(RunFail::Fault(i as u32)),
+                Err(VolFail::Stopped) => return Err(RunFail::Stopped),
+            }
+        }
+        Ok(())
+    }
+
+    ghost small: { (x : Self) → ready x → count x < 2 ^ 32 };
 
     ghost rest_refl: { (x : Self) → keeps_rest x x };
 

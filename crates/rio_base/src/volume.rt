@@ -1,11 +1,11 @@
 //! A cached volume: blocks that read and blocks that stand, single stores, and updates of several blocks at once.
 
-ghost use Rattle.std.specs.Prelude.{◌≡◌, ℕ, ◌<◌, ◌≤◌, true, false, None, IfOk, OnOk, IsErrOf};
-ghost use Rattle.rio_base.specs.Blocks.{CanName, IsPlace, Looks, Caches, Drops, Ends, Halts};
-ghost use Rattle.rio_base.specs.Volume.{Below, Kept, Passes, Settled, put, cleared, SameBut, Firm, FirmBut, CachesStored, stored_name, Runs, Goes, SameUpdate, Begun, HasRoom, Touches, OldOrNew, OldOrPut};
+ghost use Rattle.std.specs.Prelude.{◌≡◌, ℕ, ◌<◌, ◌≤◌, true, false, None, ◌⊎◌, IfOk, OnOk, IsErrOf, length};
+ghost use Rattle.rio_base.specs.Blocks.{CanName, FaultAt, IsPlace, IsSpan, as_word, Looks, Caches, Drops, Ends, Halts};
+ghost use Rattle.rio_base.specs.Volume.{Below, Kept, Passes, Settled, put, cleared, SameBut, Firm, FirmBut, CachesStored, stored_name, Runs, Goes, SameUpdate, Begun, HasRoom, Touches, OldOrNew, OldOrPut, OldOrRun, RunName, put_run};
 
 use crate::blocks::Blocks;
-use crate::failures::{Stopped, VolFail};
+use crate::failures::{RunFail, Stopped, VolFail};
 use crate::places::{Block, PageName};
 
 /// A volume that is read and changed through a cache. A stop may come at any call; what stands then is what a warm
@@ -41,14 +41,15 @@ pub trait Volume: Blocks {
         ensures ends { Ends (Self.health self.old) (Self.health self.new) result }
         ensures sound { Self.sound self.new };
 
-    /// Stores a word of a block outside an update. `Fault` changes nothing; `Stopped` leaves the old or the new word.
+    /// Stores a word of a block outside an update. `Fault` changes no word and no name; `Stopped` leaves the old or the
+    /// new word.
     fn store(&mut self, b: Block, name: Option<PageName>, w: u16, v: u64) -> Result<(), VolFail>
         requires sound { Self.sound self.old }
         requires place { IsPlace (Self.seen self.old) b.0 w }
         requires name { CanName (Self.seen self.old) b.0 name }
         requires idle { (kept self.old).updating ≡ false }
         ensures ok { OnOk result ((Self.seen self.new).words ≡ put (Self.seen self.old).words b.0 w v) }
-        ensures fault { IsErrOf result VolFail.Fault → ((Self.seen self.new).words ≡ (Self.seen self.old).words) × ((kept self.new).standing ≡ (kept self.old).standing) }
+        ensures fault { IsErrOf result VolFail.Fault → ((Self.seen self.new).words ≡ (Self.seen self.old).words) × ((kept self.new).standing ≡ (kept self.old).standing) × Drops (Self.seen self.old) (Self.seen self.new) }
         ensures either { OldOrPut (Self.seen self.old).words (Self.seen self.new).words b.0 w v }
         ensures standing { SameBut b.0 (kept self.old).standing (kept self.new).standing }
         ensures firm { Firm (kept self.old) (kept self.new) }
@@ -59,6 +60,43 @@ pub trait Volume: Blocks {
         ensures goes { Goes (Self.health self.old) (below self.old) (Self.health self.new) (below self.new) }
         ensures ends { Ends (Self.health self.old) (Self.health self.new) result }
         ensures sound { Self.sound self.new };
+
+    /// Stores a run of words of a block, from word `w` on in rising order, outside an update: as [`Volume::store`] of
+    /// each of them. `Fault` says how many were stored; `Stopped` leaves a front of them.
+    #[tactic(auto, using(crate::specs::Rules::goes_trans, crate::proofs::VolumeRuns::same_refl))]
+    fn store_run(
+        &mut self,
+        b: Block,
+        name: Option<PageName>,
+        w: u16,
+        from: &[u64],
+    ) -> Result<(), RunFail>
+        requires sound { Self.sound self.old }
+        requires place { IsSpan (Self.seen self.old) b.0 w (length from.now) }
+        requires name { CanName (Self.seen self.old) b.0 name }
+        requires idle { (kept self.old).updating ≡ false }
+        ensures ok { OnOk result ((Self.seen self.new).words ≡ put_run (Self.seen self.old).words b.0 w (length from.now) from.now) }
+        ensures fault { FaultAt result (λ n. (n < length from.now) × ((Self.seen self.new).words ≡ put_run (Self.seen self.old).words b.0 w n from.now)) }
+        ensures front { OldOrRun (Self.seen self.old).words (Self.seen self.new).words b.0 w from.now (length from.now) }
+        ensures standing { SameBut b.0 (kept self.old).standing (kept self.new).standing }
+        ensures firm { Firm (kept self.old) (kept self.new) }
+        ensures count { (Self.seen self.new).count ≡ (Self.seen self.old).count }
+        ensures caches { CachesStored (Self.seen self.old) (Self.seen self.new) b.0 name }
+        ensures named { OnOk result (0 < length from.now → (Self.seen self.new).cached b.0 ≡ true → RunName ((Self.seen self.old).cached b.0) ((Self.seen self.old).names b.0) name ((Self.seen self.new).names b.0)) }
+        ensures idle { (kept self.new).updating ≡ false }
+        ensures goes { Goes (Self.health self.old) (below self.old) (Self.health self.new) (below self.new) }
+        ensures ends { Ends (Self.health self.old) (Self.health self.new) (as_word result) }
+        ensures sound { Self.sound self.new }
+    {
+        for i in 0..from.len() {
+            match self.store(b, name, w + i as u16, from[i]) {
+                Ok(()) => {}
+                Err(VolFail::Fault) => return Err(RunFail::Fault(i as u32)),
+                Err(VolFail::Stopped) => return Err(RunFail::Stopped),
+            }
+        }
+        Ok(())
+    }
 
     /// Opens an update, with no block touched.
     fn begin(&mut self) -> Result<(), Stopped>
