@@ -32,7 +32,7 @@ pub use faulty_volume::FaultyVolume;
 pub use host::Host;
 pub use list_region::ListRegion;
 pub use list_volume::ListVolume;
-pub use lists::{BlockList, HeapList, InoList, NameList, Octets, RangeList, Words};
+pub use lists::{BlockList, HeapList, InoList, Items, NameList, Octets, RangeList, Words};
 pub use machine::Machine;
 pub use mem_host::MemHost;
 pub use mem_sink::MemSink;

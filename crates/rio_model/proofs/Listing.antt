@@ -1,6 +1,7 @@
 -- Rows in the order of their keys, and the names of a directory among them.
-use Rattle.std.proofs.Common.{◌≡◌, ◌==◌, ◌<◌, ◌≤◌, ◌+◌, ◌-◌, ℕ, Bool, true, false, cond, List, [], ◌∷◌, ◌++◌, length, map, take, drop, set, get_or, refl, sym, ap, ◌∙◌, arith, append_assoc}
+use Rattle.std.proofs.Common.{rules, ◌≡◌, ◌≢◌, ◌==◌, ◌<◌, ◌≤◌, ◌+◌, ◌-◌, ℕ, Bool, true, false, cond, List, [], ◌∷◌, ◌++◌, length, map, take, drop, set, get_or, refl, sym, ap, ◌∙◌, arith, append_assoc}
 use Rattle.std.specs.Prelude.{filter}
+use Rattle.std.specs.List.{AllZip, each_same}
 use Rattle.std.specs.declared.cmp.Ordering.TheVariants.{Less, Equal}
 use Rattle.std.specs.FinMap.{empty, entries, from_entries, put, len-entries, len-empty}
 use Rattle.std.specs.FinMap.Entries.{by_order}
@@ -95,6 +96,15 @@ names_among-append dir xs ys =
 names_among_one : (dir : ℕ) (row : NameRow) (b : Bool) → row.dir.0 == dir ≡ b → names_among dir (row ∷ []) ≡ cond b (row.name ∷ []) []
 names_among_one dir row b e = ap (λ t. map (λ (key : NameKey). key.1) (cond t ((row_entry row).0 ∷ []) [])) e ∙ elim b as (λ t. map (λ (key : NameKey). key.1) (cond t ((row_entry row).0 ∷ []) []) ≡ cond t (row.name ∷ []) []) [ true ↦ refl | false ↦ refl ]
 
-pub names_among-more : (dir : ℕ) (rows : List NameRow) (i : ℕ) (row : NameRow) (b : Bool) → i < length rows → row ≡ get_or rows i row → row.dir.0 == dir ≡ b → names_among dir (take (i + 1) rows) ≡ names_among dir (take i rows) ++ cond b (row.name ∷ []) []
+names_among-more : (dir : ℕ) (rows : List NameRow) (i : ℕ) (row : NameRow) (b : Bool) → i < length rows → row ≡ get_or rows i row → row.dir.0 == dir ≡ b → names_among dir (take (i + 1) rows) ≡ names_among dir (take i rows) ++ cond b (row.name ∷ []) []
 names_among-more dir rows i row b below is e =
     ap (names_among dir) (take_more rows i row below ∙ ap (λ r. take i rows ++ r ∷ []) (sym is)) ∙ names_among-append dir _ _ ∙ ap (λ ns. names_among dir (take i rows) ++ ns) (names_among_one dir row b e)
+
+-- a row of the directory adds a copy of its name, and another row adds nothing
+pub names_among_copied : (dir : ℕ) (rows : List NameRow) (i : ℕ) (row : NameRow) (copy : List ℕ) → i < length rows → row ≡ get_or rows i row → row.dir.0 ≡ dir → AllZip (λ x y. y ≡ x) row.name copy → names_among dir (take (i + 1) rows) ≡ names_among dir (take i rows) ++ copy ∷ []
+names_among_copied dir rows i row copy below is e copied =
+    names_among-more dir rows i row true below is (search (rules, e)) ∙ ap (λ n. names_among dir (take i rows) ++ n ∷ []) (sym (each_same _ _ copied))
+
+pub names_among_passed : (dir : ℕ) (rows : List NameRow) (i : ℕ) (row : NameRow) → i < length rows → row ≡ get_or rows i row → row.dir.0 ≢ dir → names_among dir (take (i + 1) rows) ≡ names_among dir (take i rows)
+names_among_passed dir rows i row below is other =
+    names_among-more dir rows i row false below is (search (rules, other)) ∙ search rules

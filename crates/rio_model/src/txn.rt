@@ -2,9 +2,8 @@
 
 ghost use Rattle.std.specs.Prelude.{◌≡◌};
 
-use rio_base::{HeapList, Ino, RangeList, Words};
+use rio_base::{HeapList, Ino, Items, RangeList, Words};
 use std::alloc::AllocError;
-use std::marker::Model;
 
 /// An open transaction on a region.
 #[derive(Debug, Drop)]
@@ -24,43 +23,7 @@ pub struct Txn {
 }
 
 /// Open transactions, in the order in which they began.
-#[derive(Debug, Drop)]
-pub struct TxnList {
-    txns: Vec<Txn>,
-}
-
-impl Model for TxnList {
-    ghost use Rattle.std.specs.Prelude.{List};
-    ghost use Rattle.rio_model.specs.declared.txn.Txn.{Txn};
-
-    ghost Value = { List Txn };
-
-    ghost view = { λ a. a.txns.items };
-}
-
-impl TxnList {
-    /// The transactions, lent.
-    pub fn as_slice(&self) -> &[Txn]
-        ensures { result.now ≡ self.now }
-    {
-        self.txns.as_slice()
-    }
-
-    /// The transactions, given back.
-    pub fn into_vec(self) -> Vec<Txn>
-        ensures { result.items ≡ self }
-    {
-        self.txns
-    }
-}
-
-impl From<Vec<Txn>> for TxnList {
-    ghost from_gives = { λ txns made. made ≡ txns.items };
-
-    fn from(txns: Vec<Txn>) -> TxnList {
-        TxnList { txns }
-    }
-}
+pub type TxnList = Items<Txn>;
 
 impl Clone for Txn {
     ghost is_clone = { λ old new. new ≡ old };
@@ -77,14 +40,5 @@ impl Clone for Txn {
             used: self.used,
             doomed: self.doomed,
         })
-    }
-}
-
-impl Clone for TxnList {
-    ghost is_clone = { λ old new. new ≡ old };
-
-    fn clone(&self) -> Result<TxnList, AllocError> {
-        let txns = self.txns.clone()?;
-        Ok(TxnList { txns })
     }
 }
