@@ -5,7 +5,13 @@
 mod os_host;
 #[cfg(test)]
 mod os_host_tests;
+#[cfg(test)]
+mod os_host_trouble_tests;
 mod streams;
+#[cfg(test)]
+mod test_folder;
+#[cfg(test)]
+mod watched_files;
 
 use crate::os_host::OsHost;
 use crate::streams::{InputSource, OutputSink};

@@ -3,10 +3,11 @@
 ghost use Rattle.std.specs.Prelude.{◌≡◌, ◌≤◌, ℕ, None, Result, IfOk, length};
 ghost use Rattle.rio_base.specs.Counts.{HasCause, Rose};
 
+use crate::streams::read_retrying;
 use rio_base::{Failed, Host};
 use std::alloc::Global;
 use std::fs::{self, OpenFile, OpenOptions};
-use std::io::{self, ErrorKind, Read, Seek, SeekFrom, Write};
+use std::io::{self, ErrorKind, Seek, SeekFrom, Write};
 use std::rt::Files;
 
 /// How many names are tried for a new file beside an old one. A run that is killed leaves one of them behind.
@@ -107,7 +108,7 @@ fn read_piece<R: Files>(files: &R, name: &String, off: u64, into: &mut [u8]) -> 
 {
     let mut file = fs::open(files, name.as_str())?;
     file.seek(SeekFrom::Start(off))?;
-    let n = file.read(into)?;
+    let n = read_retrying(&mut file, into)?;
     if n == 0 && !into.is_empty() && off < file.metadata()?.len() {
         return Err(io::Error::from(ErrorKind::UnexpectedEof));
     }
@@ -126,17 +127,15 @@ fn sync_file<R: Files>(files: &R, name: &String) -> io::Result<()> {
     fs::open(files, name.as_str())?.sync_all()
 }
 
-/// Writes a new file beside the old one, brings it to the device, and gives it the old one's name. Where this fails the old
-/// file is as it was, and the new one is gone. Answers the folder, opened.
+/// Writes a new file beside the old one, brings it to the device, and gives it the old one's name. Where this fails the
+/// old file is as it was, and the new one is gone. Answers the folder, opened.
 fn replace_file<R: Files>(
     alloc: Global,
     files: &R,
     name: &String,
     from: &[u8],
 ) -> io::Result<R::File> {
-    if is_no_file(files, name) {
-        return Err(io::Error::from(ErrorKind::InvalidInput));
-    }
+    refuse_no_file(files, name)?;
     let folder = folder_of(name);
     let opened = fs::open(files, folder)?;
     let (beside, file) = new_file(alloc, files, folder)?;
@@ -151,16 +150,19 @@ fn replace_file<R: Files>(
     Ok(opened)
 }
 
-/// Whether there is something of this name that is no file: a folder, a pipe, a device.
-fn is_no_file<R: Files>(files: &R, name: &String) -> bool {
+/// Refuses a name under which there is no file but something else: a folder, a pipe, a device, or what cannot be looked
+/// at.
+fn refuse_no_file<R: Files>(files: &R, name: &String) -> io::Result<()> {
     match files.metadata(name.as_str()) {
-        Ok(metadata) => !metadata.is_file(),
-        Err(_) => false,
+        Ok(metadata) if !metadata.is_file() => Err(io::Error::from(ErrorKind::InvalidInput)),
+        Ok(_) => Ok(()),
+        Err(error) if is_absence(error.kind()) => Ok(()),
+        Err(error) => Err(error),
     }
 }
 
 /// The folder of a file, as a path.
-fn folder_of(name: &String) -> &str {
+pub(crate) fn folder_of(name: &String) -> &str {
     match name.as_str().rsplit_once('/') {
         None => ".",
         Some(("", _)) => "/",

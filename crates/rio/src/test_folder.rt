@@ -1,0 +1,63 @@
+//! A folder of a test's own.
+
+use std::alloc::{AllocError, Global};
+use std::io::{self, ErrorKind};
+use std::rt::{Env, Files};
+use std::{env, fs};
+
+/// How many names are tried for a folder.
+const TRIES: u32 = 1_000_000;
+
+/// A folder that was made under a name that was free. It is removed, with all that is in it, where it is dropped.
+pub struct TestFolder<R: Files + Drop> {
+    alloc: Global,
+    files: R,
+    path: String,
+}
+
+impl<R: Files + Env + AllocGlobal + Clone + Drop> TestFolder<R> {
+    /// Makes an empty folder where the system has its temporary files.
+    pub fn make(rt: &R) -> io::Result<TestFolder<R>> {
+        let alloc = rt.alloc();
+        let parent = env::temp_dir(rt)?;
+        for number in 0..TRIES {
+            let path = format!(in alloc; "{}/rio-test-{number}", parent.as_str())?;
+            match fs::create_dir(rt, path.as_str()) {
+                Ok(()) => {
+                    let files = rt.clone()?;
+                    return Ok(TestFolder { alloc, files, path });
+                }
+                Err(error) if error.kind() == ErrorKind::AlreadyExists => {}
+                Err(error) => return Err(error),
+            }
+        }
+        Err(io::Error::from(ErrorKind::AlreadyExists))
+    }
+
+    /// The path of a file in the folder.
+    pub fn path(&self, name: &str) -> Result<String, AllocError> {
+        format!(in self.alloc; "{}/{name}", self.path)
+    }
+
+    /// The names of all that is in the folder, in their order, with a space before each.
+    pub fn names(&self) -> io::Result<String> {
+        let mut names = Vec::new(self.alloc);
+        for entry in fs::read_dir(&self.files, self.path.as_str())? {
+            names.push(String::from_str(self.alloc, entry?.file_name())?)?;
+        }
+        names.sort()?;
+        let mut text = String::new(self.alloc);
+        for name in &names {
+            text.push(' ')?;
+            text.push_str(name.as_str())?;
+        }
+        Ok(text)
+    }
+}
+
+impl<R: Files + Drop> Drop for TestFolder<R> {
+    fn drop(self) {
+        let TestFolder { alloc, files, path } = self;
+        let _ = files.remove_dir_all(alloc, path.as_str());
+    }
+}
