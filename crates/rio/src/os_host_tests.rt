@@ -4,7 +4,8 @@ use crate::os_host::{OsHost, folder_of};
 use crate::test_folder::TestFolder;
 use rio_base::{Failed, Host};
 use std::fs;
-use std::io::Read;
+use std::io::{self, Read};
+use std::os::fd::AsRawFd;
 use std::os::unix::fs::symlink;
 use std::rt::Files;
 use std::test::Fail;
@@ -175,20 +176,6 @@ fn an_old_file_stays_where_none_can_be_made(rt: HostRuntime) -> Result<(), Fail>
 #[test]
 fn what_is_no_file_is_not_replaced(rt: HostRuntime) -> Result<(), Fail> {
     let alloc = rt.alloc();
-    let mut host = OsHost::new(alloc, &rt);
-    let folder = String::from_str(alloc, "/proc")?;
-    assert_eq!(rt; host.size(&folder), Err(Failed));
-    assert_eq!(rt; host.replace(&folder, b"abc"), Err(Failed));
-    let device = String::from_str(alloc, "/dev/null")?;
-    assert_eq!(rt; host.replace(&device, b"abc"), Err(Failed));
-    assert_eq!(rt; host.size(&device), Ok(Some(0)));
-    assert_eq!(rt; host.faults(), 3);
-    Ok(())
-}
-
-#[test]
-fn a_folder_or_a_link_that_leads_to_no_file_is_not_replaced(rt: HostRuntime) -> Result<(), Fail> {
-    let alloc = rt.alloc();
     let folder = TestFolder::make(&&rt)?;
     let empty = folder.path("empty")?;
     rt.create_dir(empty.as_str())?;
@@ -196,12 +183,26 @@ fn a_folder_or_a_link_that_leads_to_no_file_is_not_replaced(rt: HostRuntime) -> 
     symlink(&rt, "empty", to_folder.as_str())?;
     let to_itself = folder.path("to-itself")?;
     symlink(&rt, "to-itself", to_itself.as_str())?;
+    // A pipe of the test's own, since a wrong body would take away what stands under the name.
+    let (reader, _writer) = io::pipe(&rt)?;
+    let pipe = format!(in alloc; "/proc/self/fd/{}", reader.as_raw_fd())?;
+    let to_pipe = folder.path("to-pipe")?;
+    symlink(&rt, pipe.as_str(), to_pipe.as_str())?;
     let mut host = OsHost::new(alloc, &rt);
-    for name in [&empty, &to_folder, &to_itself] {
-        assert_eq!(rt; host.replace(name, b"abc"), Err(Failed));
-        assert!(rt; !fs::symlink_metadata(&rt, name.as_str())?.is_file());
+    for name in [&empty, &to_folder, &to_itself, &to_pipe] {
+        assert_eq!(rt; host.replace(name, b"abc"), Err(Failed), "at {name}");
+        assert!(rt;
+            !fs::symlink_metadata(&rt, name.as_str())?.is_file(),
+            "at {name}"
+        );
     }
-    assert_eq!(rt; folder.names()?.as_str(), " empty to-folder to-itself");
-    assert_eq!(rt; host.faults(), 3);
+    assert_eq!(rt;
+        folder.names()?.as_str(),
+        " empty to-folder to-itself to-pipe"
+    );
+    assert_eq!(rt; host.faults(), 4);
+    assert_eq!(rt; host.size(&empty), Err(Failed));
+    assert_eq!(rt; host.size(&to_pipe), Ok(Some(0)));
+    assert_eq!(rt; host.faults(), 5);
     Ok(())
 }
