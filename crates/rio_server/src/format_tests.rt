@@ -1,40 +1,9 @@
 //! Runs of `format` over files in memory. Expected sizes and bytes are counted by hand from the layout of the two files.
 
 use crate::format_words::format_of;
-use crate::run;
-use rio_base::{Host, MemHost, MemSink, MemSource};
-use std::alloc::{AllocError, Global};
+use crate::test_runs::{bytes_of, run_into, run_words, words_of};
+use rio_base::{Host, MemHost, MemSink};
 use std::test::Fail;
-
-/// What a run left.
-#[derive(Drop)]
-struct Ran {
-    status: u8,
-    text: Vec<u8>,
-    host: MemHost,
-}
-
-/// Runs a command, given as words with one space between them.
-fn run_words(alloc: Global, command: &str, host: MemHost) -> Result<Ran, AllocError> {
-    let mut words = Vec::new(alloc);
-    for word in command.split(' ') {
-        words.push(String::from_str(alloc, word)?)?;
-    }
-    let mut source = MemSource::new(alloc, b"create /f\n", 4096)?;
-    let mut sink = MemSink::new(alloc);
-    let (status, host) = run(alloc, &words, &mut source, &mut sink, host);
-    let text = Vec::from_slice(alloc, sink.bytes().as_slice())?;
-    Ok(Ran { status, text, host })
-}
-
-/// The bytes of a file, or none where there is no such file.
-fn bytes_of(alloc: Global, host: &MemHost, name: &str) -> Result<Vec<u8>, AllocError> {
-    let name = String::from_str(alloc, name)?;
-    match host.file(&name) {
-        Some(bytes) => Vec::from_slice(alloc, bytes.as_slice()),
-        None => Ok(Vec::new(alloc)),
-    }
-}
 
 /// The eight bytes of a file's word, or all bytes where it has no such word.
 fn word(bytes: &[u8], n: usize) -> &[u8] {
@@ -45,20 +14,38 @@ fn word(bytes: &[u8], n: usize) -> &[u8] {
 }
 
 #[test]
-fn format_writes_a_fresh_pair(rt: HostRuntime) -> Result<(), Fail> {
+fn format_writes_both_files(rt: HostRuntime) -> Result<(), Fail> {
     let alloc = rt.alloc();
-    let made = run_words(
-        alloc,
-        "format m d --frames 64 --blocks 256 --inodes 64 --scratch 1",
-        MemHost::new(alloc),
-    )?;
-    assert_eq!(rt; made.status, 0);
-    assert_eq!(rt;
-        made.text.as_slice(),
-        b"formatted 83 pages 256 blocks\n".as_slice()
-    );
+    let rows = [
+        (
+            "format m d --frames 64 --blocks 256 --inodes 64 --scratch 1",
+            "formatted 83 pages 256 blocks\n",
+            339_968usize,
+            1_048_576usize,
+        ),
+        (
+            "format m d --frames 32 --blocks 4 --inodes 32 --scratch 1",
+            "formatted 51 pages 4 blocks\n",
+            208_896,
+            16_384,
+        ),
+    ];
+    for (command, said, image, disk) in rows {
+        let made = run_words(alloc, command, MemHost::new(alloc))?;
+        assert_eq!(rt; made.status, 0, "{command}");
+        assert_eq!(rt; made.text.as_slice(), said.as_bytes());
+        assert_eq!(rt; bytes_of(alloc, &made.host, "m")?.len(), image);
+        assert_eq!(rt; bytes_of(alloc, &made.host, "d")?.len(), disk);
+    }
+    Ok(())
+}
+
+#[test]
+fn a_fresh_pair_has_its_first_words(rt: HostRuntime) -> Result<(), Fail> {
+    let alloc = rt.alloc();
+    let command = "format m d --frames 64 --blocks 256 --inodes 64 --scratch 1";
+    let made = run_words(alloc, command, MemHost::new(alloc))?;
     let image = bytes_of(alloc, &made.host, "m")?;
-    assert_eq!(rt; image.len(), 339_968);
     let header = [
         b"RIOCACHE",
         b"\x01\0\0\0\0\0\0\0",
@@ -69,7 +56,6 @@ fn format_writes_a_fresh_pair(rt: HostRuntime) -> Result<(), Fail> {
         assert_eq!(rt; word(image.as_slice(), n), wanted.as_slice(), "word {n}");
     }
     let disk = bytes_of(alloc, &made.host, "d")?;
-    assert_eq!(rt; disk.len(), 1_048_576);
     assert_eq!(rt;
         word(disk.as_slice(), 512),
         b"\x0f\0\0\0\0\0\0\0".as_slice()
@@ -82,24 +68,6 @@ fn format_writes_a_fresh_pair(rt: HostRuntime) -> Result<(), Fail> {
 }
 
 #[test]
-fn the_least_pair_is_written(rt: HostRuntime) -> Result<(), Fail> {
-    let alloc = rt.alloc();
-    let made = run_words(
-        alloc,
-        "format m d --frames 32 --blocks 4 --inodes 32 --scratch 1",
-        MemHost::new(alloc),
-    )?;
-    assert_eq!(rt; made.status, 0);
-    assert_eq!(rt;
-        made.text.as_slice(),
-        b"formatted 51 pages 4 blocks\n".as_slice()
-    );
-    assert_eq!(rt; bytes_of(alloc, &made.host, "m")?.len(), 208_896);
-    assert_eq!(rt; bytes_of(alloc, &made.host, "d")?.len(), 16_384);
-    Ok(())
-}
-
-#[test]
 fn sizes_at_the_ends_of_their_ranges_are_taken(rt: HostRuntime) -> Result<(), Fail> {
     let rows = [
         ("32", "4", "32", "1"),
@@ -108,25 +76,12 @@ fn sizes_at_the_ends_of_their_ranges_are_taken(rt: HostRuntime) -> Result<(), Fa
         ("8192", "32768", "32768", "64"),
     ];
     for (frames, blocks, inodes, scratch) in rows {
-        let words = [
-            "format",
-            "m",
-            "d",
-            "--frames",
-            frames,
-            "--blocks",
-            blocks,
-            "--inodes",
-            inodes,
-            "--scratch",
-            scratch,
-        ];
-        let mut list = Vec::new(rt.alloc());
-        for word in words {
-            list.push(String::from_str(rt.alloc(), word)?)?;
-        }
+        let command = format!(in rt.alloc();
+            "format m d --frames {frames} --blocks {blocks} --inodes {inodes} --scratch {scratch}"
+        )?;
+        let words = words_of(rt.alloc(), command.as_str())?;
         assert!(rt;
-            format_of(list.as_slice()).is_some(),
+            format_of(words.as_slice()).is_some(),
             "{frames} {blocks} {inodes} {scratch}"
         );
     }
@@ -209,16 +164,12 @@ fn words_that_are_no_format_are_usage(rt: HostRuntime) -> Result<(), Fail> {
 #[test]
 fn a_sink_that_refuses_the_line_leaves_the_status(rt: HostRuntime) -> Result<(), Fail> {
     let alloc = rt.alloc();
-    let mut words = Vec::new(alloc);
-    for word in "format m d --frames 32 --blocks 4 --inodes 32 --scratch 1".split(' ') {
-        words.push(String::from_str(alloc, word)?)?;
-    }
-    let mut source = MemSource::new(alloc, b"", 4096)?;
     let mut sink = MemSink::new(alloc);
     sink.fail_call(1)?;
-    let (status, host) = run(alloc, &words, &mut source, &mut sink, MemHost::new(alloc));
-    assert_eq!(rt; status, 0);
-    assert_eq!(rt; sink.bytes().len(), 0);
-    assert_eq!(rt; bytes_of(alloc, &host, "m")?.len(), 208_896);
+    let command = "format m d --frames 32 --blocks 4 --inodes 32 --scratch 1";
+    let made = run_into(alloc, command, sink, MemHost::new(alloc))?;
+    assert_eq!(rt; made.status, 0);
+    assert_eq!(rt; made.text.len(), 0);
+    assert_eq!(rt; bytes_of(alloc, &made.host, "m")?.len(), 208_896);
     Ok(())
 }

@@ -20,6 +20,8 @@ mod registry_words;
 mod serve;
 mod table;
 #[cfg(test)]
+mod test_runs;
+#[cfg(test)]
 mod tests;
 
 pub use program::{end_without_memory, run};

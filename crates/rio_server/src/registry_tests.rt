@@ -1,45 +1,15 @@
 //! Runs of `registry` over files in memory. An image of 64 frames and 1 scratch page has 83 pages; its registry begins at
 //! word 512, and an entry has 5 words. Expected texts are written by hand.
 
-use crate::run;
-use rio_base::{Host, MemHost, MemSink, MemSource};
+use crate::test_runs::{bytes_of, run_into, run_words};
+use rio_base::{Host, MemHost, MemSink};
 use std::alloc::{AllocError, Global};
 use std::test::Fail;
-
-/// What a run left.
-#[derive(Drop)]
-struct Ran {
-    status: u8,
-    text: Vec<u8>,
-    host: MemHost,
-}
-
-/// Runs a command, given as words with one space between them.
-fn run_words(alloc: Global, command: &str, host: MemHost) -> Result<Ran, AllocError> {
-    let mut words = Vec::new(alloc);
-    for word in command.split(' ') {
-        words.push(String::from_str(alloc, word)?)?;
-    }
-    let mut source = MemSource::new(alloc, b"create /f\n", 4096)?;
-    let mut sink = MemSink::new(alloc);
-    let (status, host) = run(alloc, &words, &mut source, &mut sink, host);
-    let text = Vec::from_slice(alloc, sink.bytes().as_slice())?;
-    Ok(Ran { status, text, host })
-}
 
 /// Files with the fresh image `m` of 64 frames and 1 scratch page.
 fn fresh_host(alloc: Global) -> Result<MemHost, AllocError> {
     let command = "format m d --frames 64 --blocks 256 --inodes 64 --scratch 1";
     Ok(run_words(alloc, command, MemHost::new(alloc))?.host)
-}
-
-/// The bytes of a file, or none where there is no such file.
-fn bytes_of(alloc: Global, host: &MemHost, name: &str) -> Result<Vec<u8>, AllocError> {
-    let name = String::from_str(alloc, name)?;
-    match host.file(&name) {
-        Some(bytes) => Vec::from_slice(alloc, bytes.as_slice()),
-        None => Ok(Vec::new(alloc)),
-    }
 }
 
 /// Puts words into the fresh image, each at its place, and answers the files.
@@ -189,17 +159,12 @@ fn files_that_cannot_be_read_are_named(rt: HostRuntime) -> Result<(), Fail> {
 #[test]
 fn a_sink_that_refuses_the_listing_ends_it(rt: HostRuntime) -> Result<(), Fail> {
     let alloc = rt.alloc();
-    let mut words = Vec::new(alloc);
-    words.push(String::from_str(alloc, "registry")?)?;
-    words.push(String::from_str(alloc, "m")?)?;
-    let mut source = MemSource::new(alloc, b"", 4096)?;
     let mut sink = MemSink::new(alloc);
     sink.fail_call(1)?;
-    let host = fresh_host(alloc)?;
-    let (status, host) = run(alloc, &words, &mut source, &mut sink, host);
-    assert_eq!(rt; status, 9);
-    assert_eq!(rt; sink.bytes().len(), 0);
-    assert_eq!(rt; host.faults(), 0);
+    let ran = run_into(alloc, "registry m", sink, fresh_host(alloc)?)?;
+    assert_eq!(rt; ran.status, 9);
+    assert_eq!(rt; ran.text.len(), 0);
+    assert_eq!(rt; ran.host.faults(), 0);
     Ok(())
 }
 

@@ -1,6 +1,7 @@
 //! Whole runs over a source and a sink in memory. Expected texts are those of the rows that the behaviour was first
 //! described by, or counted by hand.
 
+use crate::test_runs::words_of;
 use crate::{end_without_memory, run};
 use rio_base::{MemHost, MemSink, MemSource};
 use std::alloc::{AllocError, Global};
@@ -13,14 +14,6 @@ struct Ran {
     text: Vec<u8>,
 }
 
-fn words_of(alloc: Global, words: &[&str]) -> Result<Vec<String>, AllocError> {
-    let mut list = Vec::new(alloc);
-    for word in words {
-        list.push(String::from_str(alloc, word)?)?;
-    }
-    Ok(list)
-}
-
 /// The status of a run over a host without files.
 fn status_of(alloc: Global, words: &Vec<String>, source: &mut MemSource, sink: &mut MemSink) -> u8 {
     let (status, _) = run(alloc, words, source, sink, MemHost::new(alloc));
@@ -29,7 +22,7 @@ fn status_of(alloc: Global, words: &Vec<String>, source: &mut MemSource, sink: &
 
 /// Serves an input that comes in pieces of `most` bytes.
 fn served(alloc: Global, input: &[u8], most: usize) -> Result<Ran, AllocError> {
-    let words = words_of(alloc, &["serve", "image", "disk"])?;
+    let words = words_of(alloc, "serve image disk")?;
     let mut source = MemSource::new(alloc, input, most.max(1))?;
     let mut sink = MemSink::new(alloc);
     let status = status_of(alloc, &words, &mut source, &mut sink);
@@ -125,7 +118,7 @@ const THREE: &[u8; 30] = b"create /a\ncreate /b\ncreate /c\n";
 #[test]
 fn a_source_that_fails_ends_the_run(rt: HostRuntime) -> Result<(), Fail> {
     let alloc = rt.alloc();
-    let words = words_of(alloc, &["serve", "image", "disk"])?;
+    let words = words_of(alloc, "serve image disk")?;
     let wanted = [
         "source fault\n",
         "ok 2\nsource fault\n",
@@ -148,7 +141,7 @@ fn a_source_that_fails_ends_the_run(rt: HostRuntime) -> Result<(), Fail> {
 #[test]
 fn a_sink_that_fails_ends_the_run(rt: HostRuntime) -> Result<(), Fail> {
     let alloc = rt.alloc();
-    let words = words_of(alloc, &["serve", "image", "disk"])?;
+    let words = words_of(alloc, "serve image disk")?;
     let wanted = ["", "ok 2\n", "ok 2\nok 3\n", "ok 2\nok 3\nok 4\n"];
     for n in 1..5u64 {
         let text = wanted[n as usize - 1];
@@ -165,14 +158,14 @@ fn a_sink_that_fails_ends_the_run(rt: HostRuntime) -> Result<(), Fail> {
 #[test]
 fn other_words_are_usage(rt: HostRuntime) -> Result<(), Fail> {
     let alloc = rt.alloc();
-    let commands: [&[&str]; 7] = [
-        &[],
-        &["serve"],
-        &["serve", "m"],
-        &["serve", "m", "d", "x"],
-        &["serve", "", "d"],
-        &["serve", "m", "-d"],
-        &["format", "m", "d"],
+    let commands = [
+        "",
+        "serve",
+        "serve m",
+        "serve m d x",
+        "serve  d",
+        "serve m -d",
+        "format m d",
     ];
     for command in commands {
         let words = words_of(alloc, command)?;
@@ -190,7 +183,7 @@ fn other_words_are_usage(rt: HostRuntime) -> Result<(), Fail> {
 #[test]
 fn a_reply_that_fits_its_room_is_one_call(rt: HostRuntime) -> Result<(), Fail> {
     let alloc = rt.alloc();
-    let words = words_of(alloc, &["serve", "image", "disk"])?;
+    let words = words_of(alloc, "serve image disk")?;
     // 2,046 bytes make a line of 4,096: `ok `, two digits for each, and the line end.
     for (size, status) in [(2046usize, 0u8), (2047, 9)] {
         let mut input = String::from_str(alloc, "create /f\nwrite /f 0 ")?;
