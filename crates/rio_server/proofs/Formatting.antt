@@ -1,5 +1,5 @@
 -- How formatting ends, and what words are no command.
-use Rattle.std.proofs.Common.{◌≡◌, ℕ, List, ap, subst, ◌∙◌, Bool, false, IsTrue, ◌↔◌, Option, inl, inr}
+use Rattle.std.proofs.Common.{◌≡◌, ℕ, List, ap, subst, ◌∙◌, Option, inl, inr}
 use Rattle.std.specs.Prelude.{String}
 use Rattle.std.specs.Global.{Global}
 use Rattle.rio_base.specs.Hosts.{Files}
@@ -26,11 +26,8 @@ formats_at end image disk sizes pair status rose files files_now written written
   told = subst (λ (text : List ℕ). WritesLine rose written text written_now) is told;
 }
 
-pub no_command : (words : List (String Global)) (serves : Bool) → serves ≡ false → (IsTrue serves ↔ IsServe words)
+pub no_command : (words : List (String Global)) → ((image disk : List ℕ) → IsServe words image disk → ⊥)
     → ((image disk : List ℕ) (sizes : FormatSizes) → IsFormat words image disk sizes → ⊥) → ((image : List ℕ) → IsRegistry words image → ⊥) → IsCommand words → ⊥
-no_command words serves is by unformed unlisted (inl serve) = absurd (cannot serves is (by.1 serve))
-  where
-    cannot : (b : Bool) → b ≡ false → IsTrue b → ⊥
-    cannot b e t = cc
-no_command words serves is by unformed unlisted (inr (inl format)) = unformed format.0 format.1 format.2 format.3
-no_command words serves is by unformed unlisted (inr (inr listing)) = unlisted listing.0 listing.1
+no_command words unserved unformed unlisted (inl serving) = unserved serving.0 serving.1 serving.2
+no_command words unserved unformed unlisted (inr (inl format)) = unformed format.0 format.1 format.2 format.3
+no_command words unserved unformed unlisted (inr (inr listing)) = unlisted listing.0 listing.1

@@ -1,5 +1,5 @@
 -- The words of `registry`.
-use Rattle.std.proofs.Common.{◌≡◌, ℕ, ◌<◌, ◌≤◌, List, [], ◌∷◌, length, map, slice_index_or, sym, ap, subst, ◌∙◌, arith}
+use Rattle.std.proofs.Common.{◌≡◌, ℕ, ◌<◌, ◌≤◌, List, [], ◌∷◌, length, map, slice_index_or, ap, ◌∙◌, arith}
 use Rattle.std.specs.Prelude.{codes, String}
 use Rattle.std.specs.String.{string_bytes}
 use Rattle.std.specs.Global.{Global}
@@ -17,11 +17,3 @@ registry_words words a b is command image = record {
   are = ap (map string_bytes) is ∙ ap (λ (w : List ℕ). w ∷ string_bytes b ∷ []) command;
   image_name = image;
 }
-
-words_equal : (a b x y : List ℕ) → a ∷ b ∷ [] ≡ x ∷ y ∷ [] → (a ≡ x) × (b ≡ y)
-words_equal a b x y e = (cc, cc)
-
-pub are_registry_words : (words : List (String Global)) (a b : String Global) → words ≡ a ∷ b ∷ [] → (image : List ℕ) → IsRegistry words image → (string_bytes a ≡ codes "registry") × (string_bytes b ≡ image) × IsFileName (string_bytes b)
-are_registry_words words a b is image asked =
-    let e = words_equal (string_bytes a) (string_bytes b) (codes "registry") image (sym (ap (map string_bytes) is) ∙ asked.are) in
-    (e.0, e.1, subst IsFileName (sym e.1) asked.image_name)

@@ -1,5 +1,5 @@
 -- The words of `serve`.
-use Rattle.std.proofs.Common.{◌≡◌, ℕ, ◌<◌, ◌≤◌, Bool, true, false, not, List, [], ◌∷◌, length, map, slice_index_or, refl, sym, ap, subst, ◌∙◌, arith}
+use Rattle.std.proofs.Common.{◌≡◌, ℕ, ◌<◌, ◌≤◌, Bool, true, false, not, List, [], ◌∷◌, length, map, slice_index_or, refl, ap, ◌∙◌, arith}
 use Rattle.std.specs.Prelude.{codes, String}
 use Rattle.std.specs.String.{string_bytes}
 use Rattle.std.specs.Str.{bytes_eq}
@@ -14,17 +14,12 @@ three (x ∷ y ∷ []) a b c low high p q r = absurd (omega arith)
 three (x ∷ y ∷ z ∷ []) a b c low high p q r = cc
 three (x ∷ y ∷ z ∷ w ∷ words) a b c low high p q r = absurd (omega arith)
 
-pub serve_words : (words : List (String Global)) (a b c : String Global) → words ≡ a ∷ b ∷ c ∷ [] → string_bytes a ≡ codes "serve" → IsFileName (string_bytes b) → IsFileName (string_bytes c) → IsServe words
-serve_words words a b c is command image disk =
-    (string_bytes b, string_bytes c, ap (map string_bytes) is ∙ ap (λ (w : List ℕ). w ∷ string_bytes b ∷ string_bytes c ∷ []) command, image, disk)
-
-words_equal : (a b c x y z : List ℕ) → a ∷ b ∷ c ∷ [] ≡ x ∷ y ∷ z ∷ [] → (a ≡ x) × (b ≡ y) × (c ≡ z)
-words_equal a b c x y z e = (cc, cc, cc)
-
-pub are_serve_words : (words : List (String Global)) (a b c : String Global) → words ≡ a ∷ b ∷ c ∷ [] → IsServe words → (string_bytes a ≡ codes "serve") × IsFileName (string_bytes b) × IsFileName (string_bytes c)
-are_serve_words words a b c is (image, disk, all, image_name, disk_name) =
-    let e = words_equal (string_bytes a) (string_bytes b) (string_bytes c) (codes "serve") image disk (sym (ap (map string_bytes) is) ∙ all) in
-    (e.0, subst IsFileName (sym e.1) image_name, subst IsFileName (sym e.2) disk_name)
+pub serve_words : (words : List (String Global)) (a b c : String Global) → words ≡ a ∷ b ∷ c ∷ [] → string_bytes a ≡ codes "serve" → IsFileName (string_bytes b) → IsFileName (string_bytes c) → IsServe words (string_bytes b) (string_bytes c)
+serve_words words a b c is command image disk = record {
+  are = ap (map string_bytes) is ∙ ap (λ (w : List ℕ). w ∷ string_bytes b ∷ string_bytes c ∷ []) command;
+  image_name = image;
+  disk_name = disk;
+}
 
 -- a text compares as equal to another
 pub is_text : (xs ys : List ℕ) → not (bytes_eq xs ys) ≡ false → xs ≡ ys

@@ -14,8 +14,10 @@ pub record IsFileName (name : List ℕ) : Type 0 where
   pub no_option : slice_index name 0 ≢ 45
 
 -- `serve IMAGE DISK`
-abbrev pub IsServe : List (String Global) → Type 0
-IsServe words = (image disk : List ℕ) × (map string_bytes words ≡ codes "serve" ∷ image ∷ disk ∷ []) × IsFileName image × IsFileName disk
+pub record IsServe (words : List (String Global)) (image disk : List ℕ) : Type 0 where
+  pub are : map string_bytes words ≡ codes "serve" ∷ image ∷ disk ∷ []
+  pub image_name : IsFileName image
+  pub disk_name : IsFileName disk
 
 abbrev pub usage_line : List ℕ
 usage_line = codes "usage: rio format, serve, registry, check, drill\n"

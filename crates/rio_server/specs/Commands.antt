@@ -8,4 +8,4 @@ use Rattle.rio_server.specs.Registry.{IsRegistry}
 
 -- the words are one of the commands
 abbrev pub IsCommand : List (String Global) → Type 0
-IsCommand words = IsServe words ⊎ ((image disk : List ℕ) × (sizes : FormatSizes) × IsFormat words image disk sizes) ⊎ ((image : List ℕ) × IsRegistry words image)
+IsCommand words = ((image disk : List ℕ) × IsServe words image disk) ⊎ ((image disk : List ℕ) × (sizes : FormatSizes) × IsFormat words image disk sizes) ⊎ ((image : List ℕ) × IsRegistry words image)

@@ -18,6 +18,7 @@ mod registry_listing;
 mod registry_tests;
 mod registry_words;
 mod serve;
+mod serve_words;
 mod table;
 #[cfg(test)]
 mod test_runs;

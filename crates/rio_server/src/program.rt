@@ -1,6 +1,6 @@
 //! Whole runs of the program.
 
-ghost use Rattle.std.specs.Prelude.{◌≡◌, ◌≢◌, ◌≤◌, ◌<◌, ◌^◌, ◌↔◌, ◌⊎◌, ℕ, List, Some, IsTrue, length};
+ghost use Rattle.std.specs.Prelude.{◌≡◌, ◌≢◌, ◌≤◌, ◌<◌, ◌^◌, ◌⊎◌, ℕ, List, Some, length};
 ghost use Rattle.std.specs.String.{string_bytes};
 ghost use Rattle.rio_base.specs.Counts.{Rose};
 ghost use Rattle.rio_server.specs.Command.{IsServe, RunServes, WritesLine, last_line, status_of, usage_line};
@@ -11,13 +11,13 @@ ghost use Rattle.rio_server.specs.Registry.{IsAbsent, IsRegistry, Lists};
 ghost use Rattle.rio_server.specs.Table.{served_fresh};
 
 use crate::ends::ServeEnd;
-use crate::file_name::is_file_name;
 use crate::format::format;
 use crate::format_words::format_of;
 use crate::last_line::say;
 use crate::registry_command::show_registry;
 use crate::registry_words::registry_of;
 use crate::serve::serve;
+use crate::serve_words::serve_of;
 use crate::table::Table;
 use rio_base::{Host, Sink, Source};
 use std::alloc::Global;
@@ -59,9 +59,9 @@ pub fn run<S: Source, K: Sink, H: Host>(
     ensures told { result.0 ≡ 2 → WritesLine (Rose (K.faults sink.old) (K.faults sink.new)) (K.written sink.old) usage_line (K.written sink.new) }
 
     // `serve` writes the bytes of a served run, from the root directory alone. Nothing else reads the source.
-    ensures served { IsServe words.now.items → RunServes served_fresh result.0 (Rose (K.faults sink.old) (K.faults sink.new)) (S.left source.old) (S.left source.new) (K.written sink.old) (K.written sink.new) }
-    ensures kept { IsServe words.now.items → H.files result.1 ≡ H.files host }
-    ensures unread { (IsServe words.now.items → ⊥) → S.left source.new ≡ S.left source.old }
+    ensures served { (image disk : List ℕ) → IsServe words.now.items image disk → RunServes served_fresh result.0 (Rose (K.faults sink.old) (K.faults sink.new)) (S.left source.old) (S.left source.new) (K.written sink.old) (K.written sink.new) }
+    ensures kept { (image disk : List ℕ) → IsServe words.now.items image disk → H.files result.1 ≡ H.files host }
+    ensures unread { ((image disk : List ℕ) → IsServe words.now.items image disk → ⊥) → S.left source.new ≡ S.left source.old }
 
     // `format` leaves a fresh pair, or tells what could not be had.
     ensures formatted { (image disk : List ℕ) (sizes : FormatSizes) → IsFormat words.now.items image disk sizes → Formats image disk sizes result.0 (Rose (K.faults sink.old) (K.faults sink.new)) (H.files host) (H.files result.1) (K.written sink.old) (K.written sink.new) }
@@ -75,13 +75,13 @@ pub fn run<S: Source, K: Sink, H: Host>(
     ensures format_fault { (image disk : List ℕ) (sizes : FormatSizes) → IsFormat words.now.items image disk sizes → result.0 ≡ 7 → Rose (H.faults host) (H.faults result.1) }
     ensures source_fault { result.0 ≡ 8 → Rose (S.faults source.old) (S.faults source.new) }
     ensures sink_fault { result.0 ≡ 9 → Rose (K.faults sink.old) (K.faults sink.new) }
-    ensures steady { IsServe words.now.items → result.0 ≡ 0 → K.faults sink.new ≡ K.faults sink.old }
+    ensures steady { (image disk : List ℕ) → IsServe words.now.items image disk → result.0 ≡ 0 → K.faults sink.new ≡ K.faults sink.old }
     ensures steady_listing { (image : List ℕ) → IsRegistry words.now.items image → result.0 ≡ 0 → K.faults sink.new ≡ K.faults sink.old }
     ensures limit { (input : List ℕ) → S.left source.old ≡ Some input → result.0 ≡ 11 → 2 ^ 40 < length input }
-    ensures over { IsServe words.now.items → (input : List ℕ) → S.left source.old ≡ Some input → 2 ^ 40 < length input → result.0 ≢ 0 }
+    ensures over { (image disk : List ℕ) → IsServe words.now.items image disk → (input : List ℕ) → S.left source.old ≡ Some input → 2 ^ 40 < length input → result.0 ≢ 0 }
 
     // Without a cause a served run ends with 0, or for want of memory.
-    ensures complete { IsServe words.now.items → (input : List ℕ) → S.left source.old ≡ Some input → length input ≤ 2 ^ 40
+    ensures complete { (image disk : List ℕ) → IsServe words.now.items image disk → (input : List ℕ) → S.left source.old ≡ Some input → length input ≤ 2 ^ 40
         → (Rose (S.faults source.old) (S.faults source.new) → ⊥) → (Rose (K.faults sink.old) (K.faults sink.new) → ⊥) → (result.0 ≡ 0) ⊎ (result.0 ≡ 6) }
 
     // Without a cause `registry` lists, or refuses the image, or finds no memory or no file.
@@ -89,7 +89,7 @@ pub fn run<S: Source, K: Sink, H: Host>(
         → (Rose (H.faults host) (H.faults result.1) → ⊥) → (Rose (K.faults sink.old) (K.faults sink.new) → ⊥)
         → (result.0 ≡ 0) ⊎ (result.0 ≡ 3) ⊎ (result.0 ≡ 6) ⊎ ((result.0 ≡ 7) × IsAbsent (H.files host) image) }
 {
-    if is_serve(words.as_slice()) {
+    if let Some(_) = serve_of(words.as_slice()) {
         return (serve_from_root(alloc, source, sink), host);
     }
     let mut host = host;
@@ -126,22 +126,6 @@ pub fn end_without_memory<K: Sink>(sink: &mut K) -> u8
     ensures told { WritesLine (Rose (K.faults sink.old) (K.faults sink.new)) (K.written sink.old) (last_line ServeEnd.Memory) (K.written sink.new) }
 {
     conclude(ServeEnd::Memory, sink)
-}
-
-/// Whether the words are `serve IMAGE DISK`.
-fn is_serve(words: &[String]) -> bool
-    ensures { IsTrue result ↔ IsServe words.now }
-{
-    let [command, image, disk] = words else {
-        return false;
-    };
-    if command.as_str() != "serve" {
-        return false;
-    }
-    if !is_file_name(image.as_str()) {
-        return false;
-    }
-    is_file_name(disk.as_str())
 }
 
 /// Writes the last line of a run, if it has one, and answers its status.
