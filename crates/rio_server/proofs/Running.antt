@@ -190,7 +190,7 @@ given_part s t start mid reader left told now answered replies h unended fresh p
 -- the run ends here: nothing more is answered
 stop_here : (s t : State) (start mid reader : Reading) (left told now written written_mid written_now : Option (List ℕ)) → start.held ≡ [] → (took : Took s t start left mid told written written_mid) → mid.ended ≡ false → (part : List ℕ) → (p : Passes mid told part reader now) → (end : ServeEnd)
     → ((given : List ℕ) → given ≡ ended_lines took.answered ++ (part ++ reader.held) → reader.taken ≡ start.taken + length given → Finishes end given now took.answered took.replies (texts took.replies))
-    → written_now ≡ written_mid → Serves s end left now written written_now
+    → written_now ≡ written_mid → Serves s t end left now written written_now
 stop_here s t start mid reader left told now written written_mid written_now fresh took unended part p end finish same =
     let h = took.so_far in
     let over = passes_trans start mid reader left told now h.fed part h.passed p in
@@ -202,7 +202,6 @@ stop_here s t start mid reader left told now written written_mid written_now fre
       run = record {
         answered = took.answered;
         replies = took.replies;
-        after = t;
         first = first_ended over.given (part ++ reader.held) now took.answered h.whole given;
         replied = h.replied;
         finish = finish over.given given over.count;
@@ -216,13 +215,17 @@ failed_end Fault = SourceFault
 failed_end Limit = InputLimit
 failed_end NoMemory = Memory
 
+-- the source gave as many bytes as the reader counts
+few_given : (start reader : Reading) (given : List ℕ) → start.taken ≡ 0 → reader.taken ≡ start.taken + length given → reader.taken ≤ 2 ^ 40 → length given ≤ 2 ^ 40
+few_given start reader given none count within = omega (arith, none, count, within)
+
 -- no next line was given
-fail_end : (s t : State) (start mid reader : Reading) (left told now written written_now : Option (List ℕ)) (fail : LineFail) → start.held ≡ [] → start.taken ≡ 0 → Took s t start left mid told written written_now → mid.ended ≡ false → Fails mid told fail reader now → Serves s (failed_end fail) left now written written_now
+fail_end : (s t : State) (start mid reader : Reading) (left told now written written_now : Option (List ℕ)) (fail : LineFail) → start.held ≡ [] → start.taken ≡ 0 → Took s t start left mid told written written_now → mid.ended ≡ false → Fails mid told fail reader now → Serves s t (failed_end fail) left now written written_now
 fail_end s t start mid reader left told now written written_now Fault fresh none took unended (part, takes, empty, within) =
     stop_here s t start mid reader left told now written written_now written_now fresh took unended part takes.passed SourceFault
-    (λ given is count. ((part, takes.whole, is ∙ ap (λ zs. ended_lines took.answered ++ (part ++ zs)) empty ∙ ap (λ zs. ended_lines took.answered ++ zs) (append-nil part)), refl)) refl
+    (λ given is count. ((part, takes.whole, is ∙ ap (λ zs. ended_lines took.answered ++ (part ++ zs)) empty ∙ ap (λ zs. ended_lines took.answered ++ zs) (append-nil part)), few_given start reader given none count within, refl)) refl
 fail_end s t start mid reader left told now written written_now NoMemory fresh none took unended (part, takes, within) =
-    stop_here s t start mid reader left told now written written_now written_now fresh took unended part takes.passed Memory (λ given is count. refl) refl
+    stop_here s t start mid reader left told now written written_now written_now fresh took unended part takes.passed Memory (λ given is count. (few_given start reader given none count within, refl)) refl
 fail_end s t start mid reader left told now written written_now Limit fresh none took unended over =
     stop_here s t start mid reader left told now written written_now written_now fresh took unended (over.part ++ over.extra ∷ []) over.passed InputLimit
     (λ given is count.
@@ -236,7 +239,7 @@ fail_end s t start mid reader left told now written written_now Limit fresh none
     (total, (over.part, over.whole, ap (take (2 ^ 40)) whole ∙ take_at (ended_lines took.answered ++ over.part) (over.extra ∷ []) (2 ^ 40) size), refl)) refl
 
 -- the input was read to its end
-input_end : (s t : State) (start mid reader : Reading) (left told now written written_now : Option (List ℕ)) → start.held ≡ [] → start.taken ≡ 0 → reader.taken ≤ 2 ^ 40 → Took s t start left mid told written written_now → Gives mid told NoLine reader now → Serves s End left now written written_now
+input_end : (s t : State) (start mid reader : Reading) (left told now written written_now : Option (List ℕ)) → start.held ≡ [] → start.taken ≡ 0 → reader.taken ≤ 2 ^ 40 → Took s t start left mid told written written_now → Gives mid told NoLine reader now → Serves s t End left now written written_now
 input_end s t start mid reader left told now written written_now fresh none within took (passed, over) =
     let h = took.so_far in
     let p = passes_trans start mid reader left told now h.fed [] h.passed passed in
@@ -249,7 +252,6 @@ input_end s t start mid reader left told now written written_now fresh none with
       run = record {
         answered = took.answered;
         replies = took.replies;
-        after = t;
         first = record { more = []; front = every ∙ sym (append-nil took.answered); whole = inr over.spent };
         replied = h.replied;
         finish = (over.spent, every, (let c = p.count in let n = none in omega arith), refl);
@@ -262,12 +264,12 @@ input_end s t start mid reader left told now written written_now fresh none with
     by_cover (inr both) = both.1
 
 -- there was no memory for the reader itself
-pub no_start : (s : State) (left written : Option (List ℕ)) → Serves s Memory left left written written
+pub no_start : (s : State) (left written : Option (List ℕ)) → Serves s s Memory left left written written
 no_start s left written = record {
   taken = [];
   out = [];
   gave = prepended-nil left;
-  run = record { answered = []; replies = []; after = s; first = record { more = []; front = refl; whole = inl ([], refl) }; replied = record { requests = []; meaning = tt; run = refl }; finish = refl };
+  run = record { answered = []; replies = []; first = record { more = []; front = refl; whole = inl ([], refl) }; replied = record { requests = []; meaning = tt; run = refl }; finish = (omega arith, refl) };
   wrote = appended-nil written;
 }
 
@@ -282,8 +284,8 @@ took_more s t u start mid reader left told now written written_mid written_now r
 }
 
 -- the sink refused a reply
-pub sink_end : (s t u : State) (start mid reader : Reading) (left told now written written_mid written_now : Option (List ℕ)) (request : Option Request) (reply : Reply) → start.held ≡ [] → Took s t start left mid told written written_mid → AsksFor mid told request reader now → Step t request reply u → ((k : ℕ) × (k ≤ length (text_of reply)) × (written_now ≡ appended written_mid (take k (text_of reply)))) → Serves s SinkFault left now written written_now
-sink_end s t u start mid reader left told now written written_mid written_now request reply fresh took asks step (k, few, wrote) =
+pub sink_end : (s t u : State) (start mid reader : Reading) (left told now written written_mid written_now : Option (List ℕ)) (request : Option Request) (reply : Reply) → start.held ≡ [] → start.taken ≡ 0 → Took s t start left mid told written written_mid → AsksFor mid told request reader now → Step t request reply u → ((k : ℕ) × (k ≤ length (text_of reply)) × (written_now ≡ appended written_mid (take k (text_of reply)))) → Serves s u SinkFault left now written written_now
+sink_end s t u start mid reader left told now written written_mid written_now request reply fresh none took asks step (k, few, wrote) =
     let h = fed_more s t u start mid reader left told now took.answered took.replies asks.line reply took.so_far asks.unended asks.takes (request, asks.means, step) in
     record {
       taken = h.passed.given;
@@ -292,21 +294,20 @@ sink_end s t u start mid reader left told now written written_mid written_now re
       run = record {
         answered = took.answered ++ asks.line ∷ [];
         replies = took.replies ++ reply ∷ [];
-        after = u;
         first = first_of s u start reader left now (took.answered ++ asks.line ∷ []) (took.replies ++ reply ∷ []) h fresh asks.closed;
         replied = h.replied;
-        finish = (took.replies, reply, k, refl, few, refl);
+        finish = (few_given start reader h.passed.given none h.passed.count asks.within, (took.replies, reply, k, refl, few, refl));
       };
       wrote = wrote ∙ ap (λ (w : Option (List ℕ)). appended w (take k (text_of reply))) took.wrote ∙ appended-append written (texts took.replies) (take k (text_of reply));
     }
 
 -- no line came
-pub stop_end : (s t : State) (start mid reader : Reading) (left told now written written_now : Option (List ℕ)) (end : ServeEnd) → start.held ≡ [] → start.taken ≡ 0 → Took s t start left mid told written written_now → Stops mid told end reader now → Serves s end left now written written_now
+pub stop_end : (s t : State) (start mid reader : Reading) (left told now written written_now : Option (List ℕ)) (end : ServeEnd) → start.held ≡ [] → start.taken ≡ 0 → Took s t start left mid told written written_now → Stops mid told end reader now → Serves s t end left now written written_now
 stop_end s t start mid reader left told now written written_now End fresh none took stops = input_end s t start mid reader left told now written written_now fresh none stops.1 took stops.0
 stop_end s t start mid reader left told now written written_now SourceFault fresh none took stops = fail_end s t start mid reader left told now written written_now Fault fresh none took stops.1 stops.0
 stop_end s t start mid reader left told now written written_now InputLimit fresh none took stops = fail_end s t start mid reader left told now written written_now Limit fresh none took stops.1 stops.0
 stop_end s t start mid reader left told now written written_now Memory fresh none took stops =
-    stop_here s t start mid reader left told now written written_now written_now fresh took stops.unended stops.part stops.passed Memory (λ given is count. refl) refl
+    stop_here s t start mid reader left told now written written_now written_now fresh took stops.unended stops.part stops.passed Memory (λ given is count. (few_given start reader given none count stops.within, refl)) refl
 stop_end s t start mid reader left told now written written_now SinkFault fresh none took stops = absurd stops
 
 eaten_falls : (mid reader : Reading) (told now : Option (List ℕ)) (eaten : List ℕ) → Passes mid told eaten reader now → 0 < length eaten → reader.taken ≤ 2 ^ 40 → (2 ^ 40 - reader.taken) + length reader.held < (2 ^ 40 - mid.taken) + length mid.held

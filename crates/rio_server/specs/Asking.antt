@@ -25,6 +25,7 @@ pub record LacksLine (old : Reading) (left : Option (List ℕ)) (new : Reading) 
   pub part : List ℕ
   pub passed : Passes old left part new left_after
   pub unended : old.ended ≡ false
+  pub within : new.taken ≤ 2 ^ 40
 
 -- why no line was taken
 abbrev pub Stops : Reading → Option (List ℕ) → ServeEnd → Reading → Option (List ℕ) → Type 0

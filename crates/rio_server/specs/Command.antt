@@ -48,5 +48,6 @@ pub record RunServes (s : State) (status : ℕ) (rose : Type 0) (left left_after
   pub end : ServeEnd
   pub status_is : status ≡ status_of end
   pub replied : Option (List ℕ)
-  pub serves : Serves s end left left_after written replied
+  pub after : State
+  pub serves : Serves s after end left left_after written replied
   pub last : WritesLine rose replied (last_line end) written_after

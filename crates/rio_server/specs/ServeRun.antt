@@ -47,33 +47,32 @@ texts replies = flat_map text_of replies
 abbrev pub IsCut : List Reply → List ℕ → Type 0
 IsCut replies out = (front : List Reply) × (last : Reply) × (k : ℕ) × (replies ≡ front ++ last ∷ []) × (k ≤ length (text_of last)) × (out ≡ texts front ++ take k (text_of last))
 
--- where the run ended
+-- where the run ended: only past the limit were more bytes taken than it allows
 abbrev pub Finishes : ServeEnd → List ℕ → Option (List ℕ) → List (List ℕ) → List Reply → List ℕ → Type 0
 -- the input was read to its end, and every line of it has its reply
 Finishes End taken left answered replies out = IsSpent left × (lines taken ≡ answered) × (length taken ≤ 2 ^ 40) × (out ≡ texts replies)
 -- the source failed, or one byte more came than is taken: every line that has its end has its reply
-Finishes SourceFault taken left answered replies out = AreEnded taken answered × (out ≡ texts replies)
+Finishes SourceFault taken left answered replies out = AreEnded taken answered × (length taken ≤ 2 ^ 40) × (out ≡ texts replies)
 Finishes InputLimit taken left answered replies out = (length taken ≡ 2 ^ 40 + 1) × AreEnded (take (2 ^ 40) taken) answered × (out ≡ texts replies)
 -- there was no memory for a line
-Finishes Memory taken left answered replies out = out ≡ texts replies
+Finishes Memory taken left answered replies out = (length taken ≤ 2 ^ 40) × (out ≡ texts replies)
 -- the sink refused a reply
-Finishes SinkFault taken left answered replies out = IsCut replies out
+Finishes SinkFault taken left answered replies out = (length taken ≤ 2 ^ 40) × IsCut replies out
 
--- A run from s that took these bytes and wrote `out`.
-pub record ServeRun (s : State) (taken : List ℕ) (left : Option (List ℕ)) (end : ServeEnd) (out : List ℕ) : Type 0 where
+-- A run from s to t that took these bytes and wrote `out`.
+pub record ServeRun (s t : State) (taken : List ℕ) (left : Option (List ℕ)) (end : ServeEnd) (out : List ℕ) : Type 0 where
   pub answered : List (List ℕ)
   pub replies : List Reply
-  pub after : State
   pub first : AreFirst taken left answered
-  pub replied : Replied s answered replies after
+  pub replied : Replied s answered replies t
   pub finish : Finishes end taken left answered replies out
 
 -- The same, by what the source has left and what the sink has taken, before and after.
-pub record Serves (s : State) (end : ServeEnd) (left left_after written written_after : Option (List ℕ)) : Type 0 where
+pub record Serves (s t : State) (end : ServeEnd) (left left_after written written_after : Option (List ℕ)) : Type 0 where
   pub taken : List ℕ
   pub out : List ℕ
   pub gave : left ≡ prepended taken left_after
-  pub run : ServeRun s taken left_after end out
+  pub run : ServeRun s t taken left_after end out
   pub wrote : written_after ≡ appended written out
 
 -- the line's reply, and the state after it

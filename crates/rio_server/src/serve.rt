@@ -26,7 +26,7 @@ pub fn serve<S: Source, K: Sink>(
     source: &mut S,
     sink: &mut K,
 ) -> ServeEnd
-    ensures run { Serves table.old result (S.left source.old) (S.left source.new) (K.written sink.old) (K.written sink.new) }
+    ensures run { Serves table.old table.new result (S.left source.old) (S.left source.new) (K.written sink.old) (K.written sink.new) }
     ensures source_fault { result ≡ ServeEnd.SourceFault → Rose (S.faults source.old) (S.faults source.new) }
     ensures sink_fault { result ≡ ServeEnd.SinkFault → Rose (K.faults sink.old) (K.faults sink.new) }
     ensures steady { result ≢ ServeEnd.SinkFault → K.faults sink.new ≡ K.faults sink.old }
@@ -60,7 +60,7 @@ fn serve_lines<S: Source, K: Sink>(
 ) -> ServeEnd
     requires fresh { reader.old ≡ record { held = []; taken = 0; ended = false } }
     requires wide { 2 ≤ length room.old }
-    ensures run { Serves table.old result (S.left source.old) (S.left source.new) (K.written sink.old) (K.written sink.new) }
+    ensures run { Serves table.old table.new result (S.left source.old) (S.left source.new) (K.written sink.old) (K.written sink.new) }
     ensures source_fault { result ≡ ServeEnd.SourceFault → Rose (S.faults source.old) (S.faults source.new) }
     ensures sink_fault { result ≡ ServeEnd.SinkFault → Rose (K.faults sink.old) (K.faults sink.new) }
     ensures steady { result ≢ ServeEnd.SinkFault → K.faults sink.new ≡ K.faults sink.old }

@@ -17,7 +17,7 @@ returns-in-Err-clause-run g c =
 
 pub returns-in-Err-send-clause-run : goal.returns-in-Err-send-clause-run
 returns-in-Err-send-clause-run g c =
-    sink_end _ _ _ _ _ _ _ _ _ _ _ _ _ _ (ap (λ (r : Reading). r.held) c.requires.fresh) c.loop-request.invariant.took c.in-Ok.ensures.line c.reply_to-reply.ensures c.in-Err-send.ensures.cut
+    sink_end _ _ _ _ _ _ _ _ _ _ _ _ _ _ (ap (λ (r : Reading). r.held) c.requires.fresh) (ap (λ (r : Reading). r.taken) c.requires.fresh) c.loop-request.invariant.took c.in-Ok.ensures.line c.reply_to-reply.ensures c.in-Err-send.ensures.cut
 
 pub loop-request-smaller : goal.loop-request-smaller
 loop-request-smaller g c =
