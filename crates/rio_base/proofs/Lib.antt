@@ -4,6 +4,7 @@ pub mod Copies
 pub mod Ends
 pub mod Faults
 pub mod Files
+pub mod Fronts
 pub mod PageCopies
 pub mod RegionRuns
 pub mod VolumeRuns

@@ -9,6 +9,7 @@ pub mod FaultyVolumes
 pub mod Hosts
 pub mod Image
 pub mod Layout
+pub mod ListCalls
 pub mod ListRegions
 pub mod ListVolumes
 pub mod Machine
@@ -21,5 +22,6 @@ pub mod RegionRules
 pub mod Regions
 pub mod Rules
 pub mod Shapes
+pub mod StepLimits
 pub mod Streams
 pub mod Volume

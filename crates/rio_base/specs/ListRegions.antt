@@ -4,17 +4,16 @@ use Rattle.rio_base.specs.declared.list_region.ListRegion.{ListRegion}
 use Rattle.rio_base.specs.Blocks.{Health}
 use Rattle.rio_base.specs.Volume.{Below}
 use Rattle.rio_base.specs.Regions.{RegionContent}
-use Rattle.rio_base.specs.ListVolumes.{list_causes}
-use Rattle.std.specs.Prelude.{None}
+use Rattle.rio_base.specs.StepLimits.{limit_below, limit_health}
 
 abbrev pub region_content : ListRegion → RegionContent
 region_content r at = slice_index_or r.words.items at 0
 
 abbrev pub region_health : ListRegion → Health
-region_health r = record { faults = 0; stopped = r.stopped }
+region_health r = limit_health r.steps
 
 abbrev pub region_below : ListRegion → Below
-region_below r = record { roomy = true; home = None; writes = 0; around = None; causes = list_causes (is_some r.left); memory = record { protected = 0; scratch = 0 }; limit = None }
+region_below r = limit_below r.steps
 
 pub record RegionReady (r : ListRegion) : Type 0 where
   pub fits : length r.words.items ≡ r.count
@@ -25,5 +24,4 @@ pub record IsNewRegion (words : ℕ) (stop_after : Option ℕ) (r : ListRegion) 
   pub ready : RegionReady r
   pub count : r.count ≡ words
   pub zeros : r.words.items ≡ replicate words 0
-  pub running : r.stopped ≡ false
-  pub left : r.left ≡ stop_after
+  pub steps : r.steps ≡ record { left = stop_after; stopped = false }

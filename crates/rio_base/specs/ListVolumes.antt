@@ -3,7 +3,8 @@ use Rattle.std.specs.Prelude.{◌≡◌, ℕ, ◌+◌, ◌*◌, Bool, true, fals
 use Rattle.std.proofs.Common.{ap, sym, ◌∙◌}
 use Rattle.rio_base.specs.Rules.{true_false}
 use Rattle.rio_base.specs.declared.list_volume.ListVolume.{ListVolume}
-use Rattle.rio_base.specs.Blocks.{BlockWords, Causes, Seen, Health, NamesFit}
+use Rattle.rio_base.specs.StepLimits.{limit_below, limit_health}
+use Rattle.rio_base.specs.Blocks.{BlockWords, Seen, Health, NamesFit}
 use Rattle.rio_base.specs.Volume.{Below, Kept, Settled}
 
 -- word w of block b, where the blocks lie one after the other
@@ -21,14 +22,10 @@ abbrev pub list_seen : ListVolume → Seen
 list_seen v = record { count = v.count; words = flat v.words.items; cached = λ b. false; names = λ b. None; base = None }
 
 abbrev pub list_health : ListVolume → Health
-list_health v = record { faults = 0; stopped = v.stopped }
-
--- no disk, no protected page, no wild store; a stop may be set
-abbrev pub list_causes : Bool → Causes
-list_causes stop_set = record { stop_set = stop_set; armed = None; trapped = None; protected = λ p. false }
+list_health v = limit_health v.steps
 
 abbrev pub list_below : ListVolume → Below
-list_below v = record { roomy = true; home = None; writes = 0; around = None; causes = list_causes (is_some v.left); memory = record { protected = 0; scratch = 0 }; limit = None }
+list_below v = limit_below v.steps
 
 abbrev pub list_kept : ListVolume → Kept
 list_kept v = record {
@@ -57,8 +54,7 @@ pub record IsNew (blocks : ℕ) (stop_after : Option ℕ) (v : ListVolume) : Typ
   pub standing : (b w : ℕ) → flat v.standing.items b w ≡ 0
   pub loose : (b : ℕ) → mark_of v.loose.items b ≡ false
   pub idle : v.updating ≡ false
-  pub running : v.stopped ≡ false
-  pub left : v.left ≡ stop_after
+  pub steps : v.steps ≡ record { left = stop_after; stopped = false }
 
 -- the volume as a warm reboot finds it: what stood is what reads, no update, not stopped
 pub record IsRestarted (stop_after : Option ℕ) (old new : ListVolume) : Type 0 where
@@ -68,8 +64,7 @@ pub record IsRestarted (stop_after : Option ℕ) (old new : ListVolume) : Type 0
   pub standing : new.standing.items ≡ old.standing.items
   pub loose : new.loose ≡ old.loose
   pub idle : new.updating ≡ false
-  pub running : new.stopped ≡ false
-  pub left : new.left ≡ stop_after
+  pub steps : new.steps ≡ record { left = stop_after; stopped = false }
 
 -- ---- what the traits ask
 

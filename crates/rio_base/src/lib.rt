@@ -20,10 +20,12 @@ mod places;
 mod region_words;
 mod sink;
 mod source;
+mod step_limit;
 mod volume;
 #[cfg(test)]
 mod volume_tests;
 mod wild;
+mod word_lists;
 
 pub use blocks::Blocks;
 pub use disk_blocks::DiskBlocks;

@@ -1,12 +1,15 @@
 //! A region in memory, for tests.
 
-ghost use Rattle.std.specs.Prelude.{◌≡◌, IfOk};
-ghost use Rattle.rio_base.specs.Blocks.{Halts};
-ghost use Rattle.rio_base.specs.Volume.{Goes};
-ghost use Rattle.rio_base.specs.ListRegions.{region_health, region_below, IsNewRegion};
+ghost use Rattle.std.specs.Prelude.{◌≡◌, ◌<◌, ◌≤◌, ◌+◌, IfOk, IsErr, IsErrOf, OnErr, OnOk, length};
+ghost use Rattle.rio_base.specs.Blocks.{FaultAt};
+ghost use Rattle.rio_base.specs.Regions.{AreWords, put_word, put_words};
+ghost use Rattle.rio_base.specs.StepLimits.{ReadsWithin, TakesSteps, made_of};
+ghost use Rattle.rio_base.specs.ListRegions.{IsNewRegion, RegionReady, region_content};
 
-use crate::failures::{Stopped, VolFail};
+use crate::failures::{RunFail, VolFail};
 use crate::region_words::RegionWords;
+use crate::step_limit::StepLimit;
+use crate::word_lists::store_front;
 use std::alloc::{AllocError, Global};
 
 /// The words of a region that lies in memory. It has no disk, so that it never answers `Fault`. It can be told to stop.
@@ -14,8 +17,7 @@ use std::alloc::{AllocError, Global};
 pub struct ListRegion {
     count: u32,
     words: Vec<u64>,
-    left: Option<u64>,
-    stopped: bool,
+    steps: StepLimit,
 }
 
 impl ListRegion {
@@ -27,31 +29,8 @@ impl ListRegion {
         Ok(ListRegion {
             count: words,
             words: vec![in alloc; 0; words as usize]?,
-            left: stop_after,
-            stopped: false,
+            steps: StepLimit::new(stop_after),
         })
-    }
-
-    /// Makes one step, if there is one left.
-    fn step(&mut self) -> Result<(), Stopped>
-        ensures same { self.new ≡ record self.old { left = self.new.left; stopped = self.new.stopped } }
-        ensures goes { Goes (region_health self.old) (region_below self.old) (region_health self.new) (region_below self.new) }
-        ensures ends { Halts (region_health self.old) (region_health self.new) result }
-    {
-        if self.stopped {
-            return Err(Stopped);
-        }
-        match self.left {
-            None => Ok(()),
-            Some(0) => {
-                self.stopped = true;
-                Err(Stopped)
-            }
-            Some(steps) => {
-                self.left = Some(steps - 1);
-                Ok(())
-            }
-        }
     }
 }
 
@@ -80,16 +59,67 @@ impl RegionWords for ListRegion {
         self.count
     }
 
-    fn word(&mut self, at: u32) -> Result<u64, VolFail> {
-        if self.stopped {
+    fn word(&mut self, at: u32) -> Result<u64, VolFail>
+        requires ready { RegionReady self.old }
+        requires place { at < self.old.count }
+        ensures value { IfOk result (λ v. v ≡ region_content self.old at) }
+        ensures same { self.new ≡ self.old }
+        ensures ends { ReadsWithin 1 self.old.steps result }
+    {
+        if self.steps.stopped() {
             return Err(VolFail::Stopped);
         }
         Ok(self.words[at as usize])
     }
 
-    fn set(&mut self, at: u32, v: u64) -> Result<(), VolFail> {
-        self.step()?;
+    fn read_run(&mut self, at: u32, into: &mut [u64]) -> Result<(), VolFail>
+        requires ready { RegionReady self.old }
+        requires place { at + length into.old ≤ self.old.count }
+        ensures value { OnOk result (AreWords (region_content self.old) at (length into.old) into.new) }
+        ensures len { length into.new ≡ length into.old }
+        ensures same { self.new ≡ self.old }
+        ensures ends { ReadsWithin (length into.old) self.old.steps result }
+    {
+        if into.is_empty() {
+            return Ok(());
+        }
+        if self.steps.stopped() {
+            return Err(VolFail::Stopped);
+        }
+        let from = at as usize;
+        into.copy_from_slice(&self.words[from..from + into.len()]);
+        Ok(())
+    }
+
+    fn set(&mut self, at: u32, v: u64) -> Result<(), VolFail>
+        requires ready { RegionReady self.old }
+        requires place { at < self.old.count }
+        ensures ok { OnOk result (region_content self.new ≡ put_word (region_content self.old) at v) }
+        ensures rest { self.new ≡ record self.old { words = self.new.words; steps = self.new.steps } }
+        ensures cut { OnErr result (self.new.words ≡ self.old.words) }
+        ensures steps { TakesSteps 1 (IsErr result) self.old.steps self.new.steps }
+        ensures ready { RegionReady self.new }
+        ensures no_fault { IsErrOf result VolFail.Fault → ⊥ }
+    {
+        self.steps.step()?;
         self.words[at as usize] = v;
+        Ok(())
+    }
+
+    fn set_run(&mut self, at: u32, from: &[u64]) -> Result<(), RunFail>
+        requires ready { RegionReady self.old }
+        requires place { at + length from.now ≤ self.old.count }
+        ensures words { region_content self.new ≡ put_words (region_content self.old) at (made_of (length from.now) self.old.steps) from.now }
+        ensures rest { self.new ≡ record self.old { words = self.new.words; steps = self.new.steps } }
+        ensures steps { TakesSteps (length from.now) (IsErr result) self.old.steps self.new.steps }
+        ensures ready { RegionReady self.new }
+        ensures no_fault { FaultAt result (λ n. ⊥) }
+    {
+        let made = self.steps.take(from.len());
+        store_front(&mut self.words, at as usize, from, made);
+        if made < from.len() {
+            return Err(RunFail::Stopped);
+        }
         Ok(())
     }
 }

@@ -1,14 +1,18 @@
 //! A volume in memory, for tests.
 
-ghost use Rattle.std.specs.Prelude.{◌≡◌, ◌+◌, ◌*◌, ◌<◌, ◌≤◌, ◌⊎◌, true, if◌then◌else◌, length, slice_set, IfOk};
-ghost use Rattle.rio_base.specs.Blocks.{Halts};
-ghost use Rattle.rio_base.specs.Volume.{Goes, cleared};
-ghost use Rattle.rio_base.specs.ListVolumes.{flat, zeroed, mark_of, list_health, list_below, ListSound, IsNew, IsRestarted, list_kept};
+ghost use Rattle.std.specs.Prelude.{◌≡◌, ◌+◌, ◌*◌, ◌<◌, ◌≤◌, ◌⊎◌, ◌↔◌, true, false, if◌then◌else◌, length, slice_set, IfOk, IfSome, IsErrOf, IsSome, OnOk};
+ghost use Rattle.rio_base.specs.Blocks.{FaultAt, IsPlace, IsRun, IsSpan};
+ghost use Rattle.rio_base.specs.Volume.{HasRoom, SameBut, put_run, cleared};
+ghost use Rattle.rio_base.specs.StepLimits.{ReadsWithin};
+ghost use Rattle.rio_base.specs.ListVolumes.{flat, zeroed, mark_of, ListSound, IsNew, IsRestarted, list_kept, list_seen};
+ghost use Rattle.rio_base.specs.ListCalls.{Begins, Commits, Edits, Freshens, Loosens, MakesStep, Marks, RollsBack, Stores, StoresRun};
 
 use crate::blocks::Blocks;
-use crate::failures::{Stopped, VolFail};
+use crate::failures::{RunFail, Stopped, VolFail};
 use crate::places::{Block, PageName};
+use crate::step_limit::StepLimit;
 use crate::volume::Volume;
+use crate::word_lists::store_front;
 use std::alloc::{AllocError, Global};
 
 /// Words in a block.
@@ -25,8 +29,7 @@ pub struct ListVolume {
     touched: Vec<bool>,
     touches: u32,
     updating: bool,
-    left: Option<u64>,
-    stopped: bool,
+    steps: StepLimit,
 }
 
 /// Makes a block zero where the blocks lie one after the other.
@@ -39,11 +42,12 @@ fn clear_block(words: &mut [u64], b: Block)
 }
 
 /// Makes a block zero in a list of blocks.
-#[tactic(auto, using(crate::proofs::Clears::flat_zeroed, crate::proofs::Clears::length_zeroed))]
+#[tactic(auto, using(crate::proofs::Clears::flat_zeroed, crate::proofs::Clears::length_zeroed, crate::proofs::Clears::same_but_cleared))]
 fn clear_listed(words: &mut Vec<u64>, b: Block)
     requires { 512 * b.0 + 512 ≤ length words.old.items }
     ensures items { words.new.items ≡ zeroed words.old.items b.0 }
     ensures words { flat words.new.items ≡ cleared (flat words.old.items) b.0 }
+    ensures others { SameBut b.0 (flat words.old.items) (flat words.new.items) }
     ensures len { length words.new.items ≡ length words.old.items }
 {
     clear_block(words, b);
@@ -68,39 +72,16 @@ impl ListVolume {
             touched: vec![in alloc; false; blocks as usize]?,
             touches: 0,
             updating: false,
-            left: stop_after,
-            stopped: false,
+            steps: StepLimit::new(stop_after),
         })
     }
 
     /// The place of a word in the lists.
     fn place(b: Block, w: u16) -> usize
-        requires { w < 512 }
+        requires { w ≤ 512 }
         ensures { result ≡ 512 * b.0 + w }
     {
         BLOCK_WORDS * b.0 as usize + w as usize
-    }
-
-    /// Makes one step, if there is one left.
-    fn step(&mut self) -> Result<(), Stopped>
-        ensures same { self.new ≡ record self.old { left = self.new.left; stopped = self.new.stopped } }
-        ensures goes { Goes (list_health self.old) (list_below self.old) (list_health self.new) (list_below self.new) }
-        ensures ends { Halts (list_health self.old) (list_health self.new) result }
-    {
-        if self.stopped {
-            return Err(Stopped);
-        }
-        match self.left {
-            None => Ok(()),
-            Some(0) => {
-                self.stopped = true;
-                Err(Stopped)
-            }
-            Some(steps) => {
-                self.left = Some(steps - 1);
-                Ok(())
-            }
-        }
     }
 
     /// What stands of a word, `w` below 512.
@@ -129,8 +110,26 @@ impl ListVolume {
     {
         self.words.copy_from_slice(self.standing.as_slice());
         self.updating = false;
-        self.stopped = false;
-        self.left = stop_after;
+        self.steps = StepLimit::new(stop_after);
+    }
+
+    /// Stores the first `n` words of a run, and makes them stand.
+    #[tactic(auto, using(crate::proofs::Fronts::length_pasted))]
+    fn put_front(&mut self, b: Block, w: u16, from: &[u64], n: usize)
+        requires sound { ListSound self.old }
+        requires place { IsSpan (list_seen self.old) b.0 w n }
+        requires front { n ≤ length from.now }
+        requires idle { self.old.updating ≡ false }
+        ensures words { flat self.new.words.items ≡ put_run (flat self.old.words.items) b.0 w n from.now }
+        ensures standing { flat self.new.standing.items ≡ put_run (flat self.old.standing.items) b.0 w n from.now }
+        ensures other_words { SameBut b.0 (flat self.old.words.items) (flat self.new.words.items) }
+        ensures other_standing { SameBut b.0 (flat self.old.standing.items) (flat self.new.standing.items) }
+        ensures rest { self.new ≡ record self.old { words = self.new.words; standing = self.new.standing } }
+        ensures sound { ListSound self.new }
+    {
+        let at = ListVolume::place(b, w);
+        store_front(&mut self.words, at, from, n);
+        store_front(&mut self.standing, at, from, n);
     }
 
     /// Marks a block as touched.
@@ -175,11 +174,56 @@ impl Blocks for ListVolume {
         self.count
     }
 
-    fn word(&mut self, b: Block, name: Option<PageName>, w: u16) -> Result<u64, VolFail> {
-        if self.stopped {
+    fn word(&mut self, b: Block, name: Option<PageName>, w: u16) -> Result<u64, VolFail>
+        requires sound { ListSound self.old }
+        requires place { IsPlace (list_seen self.old) b.0 w }
+        ensures value { IfOk result (λ v. v ≡ (list_seen self.old).words b.0 w) }
+        ensures same { self.new ≡ self.old }
+        ensures ends { ReadsWithin 1 self.old.steps result }
+    {
+        if self.steps.stopped() {
             return Err(VolFail::Stopped);
         }
         Ok(self.words[ListVolume::place(b, w)])
+    }
+
+    fn read_run(
+        &mut self,
+        b: Block,
+        name: Option<PageName>,
+        w: u16,
+        into: &mut [u64],
+    ) -> Result<(), VolFail>
+        requires sound { ListSound self.old }
+        requires place { IsSpan (list_seen self.old) b.0 w (length into.old) }
+        ensures words { OnOk result (IsRun (list_seen self.old).words b.0 w (length into.old) into.new) }
+        ensures len { length into.new ≡ length into.old }
+        ensures same { self.new ≡ self.old }
+        ensures ends { ReadsWithin (length into.old) self.old.steps result }
+    {
+        if into.is_empty() {
+            return Ok(());
+        }
+        if self.steps.stopped() {
+            return Err(VolFail::Stopped);
+        }
+        let from = ListVolume::place(b, w);
+        into.copy_from_slice(&self.words[from..from + into.len()]);
+        Ok(())
+    }
+
+    fn page(&self, b: Block) -> Option<&[u64]>
+        requires sound { ListSound self.now }
+        requires block { b.0 < self.now.count }
+        ensures words { IfSome result (λ words. IsRun (list_seen self.now).words b.0 0 512 words.now) }
+        ensures len { IfSome result (λ words. length words.now ≡ 512) }
+        ensures lends { IsSome result ↔ self.now.steps.stopped ≡ false }
+    {
+        if self.steps.stopped() {
+            return None;
+        }
+        let from = ListVolume::place(b, 0);
+        Some(&self.words[from..from + BLOCK_WORDS])
     }
 }
 
@@ -197,64 +241,133 @@ impl Volume for ListVolume {
     ghost passes_keeps = { λ x y h. h };
 
     #[tactic(auto, using(crate::proofs::Clears::same_but_cleared))]
-    fn fresh(&mut self, b: Block, name: Option<PageName>) -> Result<(), VolFail> {
-        self.step()?;
+    fn fresh(&mut self, b: Block, name: Option<PageName>) -> Result<(), VolFail>
+        requires sound { ListSound self.old }
+        requires place { b.0 < self.old.count }
+        requires idle { self.old.updating ≡ false }
+        ensures call { Freshens b.0 result self.old self.new }
+        ensures no_fault { IsErrOf result VolFail.Fault → ⊥ }
+    {
+        self.steps.step()?;
         clear_listed(&mut self.words, b);
         clear_listed(&mut self.standing, b);
         self.loose[b.0 as usize] = false;
         Ok(())
     }
 
-    fn store(&mut self, b: Block, name: Option<PageName>, w: u16, v: u64) -> Result<(), VolFail> {
-        self.step()?;
+    fn store(&mut self, b: Block, name: Option<PageName>, w: u16, v: u64) -> Result<(), VolFail>
+        requires sound { ListSound self.old }
+        requires place { IsPlace (list_seen self.old) b.0 w }
+        requires idle { self.old.updating ≡ false }
+        ensures call { Stores b.0 w v result self.old self.new }
+        ensures no_fault { IsErrOf result VolFail.Fault → ⊥ }
+    {
+        self.steps.step()?;
         let at = ListVolume::place(b, w);
         self.words[at] = v;
         self.standing[at] = v;
         Ok(())
     }
 
-    fn begin(&mut self) -> Result<(), Stopped> {
-        self.step()?;
+    fn store_run(
+        &mut self,
+        b: Block,
+        name: Option<PageName>,
+        w: u16,
+        from: &[u64],
+    ) -> Result<(), RunFail>
+        requires sound { ListSound self.old }
+        requires place { IsSpan (list_seen self.old) b.0 w (length from.now) }
+        requires idle { self.old.updating ≡ false }
+        ensures call { StoresRun b.0 w from.now result self.old self.new }
+        ensures no_fault { FaultAt result (λ n. ⊥) }
+    {
+        let made = self.steps.take(from.len());
+        self.put_front(b, w, from, made);
+        if made < from.len() {
+            return Err(RunFail::Stopped);
+        }
+        Ok(())
+    }
+
+    fn begin(&mut self) -> Result<(), Stopped>
+        requires sound { ListSound self.old }
+        requires idle { self.old.updating ≡ false }
+        ensures call { Begins result self.old self.new }
+    {
+        self.steps.step()?;
         self.touched.fill(false);
         self.touches = 0;
         self.updating = true;
         Ok(())
     }
 
-    fn touch(&mut self, b: Block) -> Result<(), VolFail> {
-        self.step()?;
+    fn touch(&mut self, b: Block) -> Result<(), VolFail>
+        requires sound { ListSound self.old }
+        requires place { b.0 < self.old.count }
+        requires in_update { self.old.updating ≡ true }
+        requires room { HasRoom (list_kept self.old) b.0 }
+        ensures call { Marks b.0 result self.old self.new }
+        ensures no_fault { IsErrOf result VolFail.Fault → ⊥ }
+    {
+        self.steps.step()?;
         self.mark(b);
         Ok(())
     }
 
-    fn edit(&mut self, b: Block, w: u16, v: u64) -> Result<(), Stopped> {
-        self.step()?;
+    fn edit(&mut self, b: Block, w: u16, v: u64) -> Result<(), Stopped>
+        requires sound { ListSound self.old }
+        requires place { IsPlace (list_seen self.old) b.0 w }
+        requires touched { (list_kept self.old).touched b.0 ≡ true }
+        ensures call { Edits b.0 w v result self.old self.new }
+    {
+        self.steps.step()?;
         self.words[ListVolume::place(b, w)] = v;
         Ok(())
     }
 
-    fn commit(&mut self) -> Result<(), Stopped> {
-        self.step()?;
+    fn commit(&mut self) -> Result<(), Stopped>
+        requires sound { ListSound self.old }
+        requires in_update { self.old.updating ≡ true }
+        ensures call { Commits result self.old self.new }
+    {
+        self.steps.step()?;
         self.standing.copy_from_slice(&self.words);
         self.updating = false;
         Ok(())
     }
 
-    fn rollback(&mut self) -> Result<(), Stopped> {
-        self.step()?;
+    fn rollback(&mut self) -> Result<(), Stopped>
+        requires sound { ListSound self.old }
+        requires in_update { self.old.updating ≡ true }
+        ensures call { RollsBack result self.old self.new }
+    {
+        self.steps.step()?;
         self.words.copy_from_slice(&self.standing);
         self.updating = false;
         Ok(())
     }
 
-    fn forget(&mut self, b: Block) -> Result<(), Stopped> {
-        self.step()?;
+    fn forget(&mut self, b: Block) -> Result<(), Stopped>
+        requires sound { ListSound self.old }
+        requires place { b.0 < self.old.count }
+        requires idle { self.old.updating ≡ false }
+        ensures call { Loosens b.0 result self.old self.new }
+    {
+        self.steps.step()?;
         self.loose[b.0 as usize] = true;
         Ok(())
     }
 
-    fn flush(&mut self, k: u64) -> Result<u32, VolFail> {
-        self.step()?;
+    fn flush(&mut self, k: u64) -> Result<u32, VolFail>
+        requires sound { ListSound self.old }
+        requires idle { self.old.updating ≡ false }
+        ensures none { IfOk result (λ n. n ≡ 0) }
+        ensures rest { self.new ≡ record self.old { steps = self.new.steps } }
+        ensures step { MakesStep result self.old self.new }
+        ensures no_fault { IsErrOf result VolFail.Fault → ⊥ }
+    {
+        self.steps.step()?;
         Ok(0)
     }
 }
