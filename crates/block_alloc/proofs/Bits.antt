@@ -7,6 +7,8 @@ use Rattle.std.proofs.lemmas.Nat.{ones_cat}
 use Rattle.std.proofs.lemmas.Nat.Bits.{bit_at_lowest, bit_at-suc, bit_at_and, bit_at_not, bit_at_ones, bit_at_ones_above, bit_at-lt}
 use Rattle.std.proofs.lemmas.Bool.Decides.{nat_tests}
 use Rattle.std.proofs.lemmas.Bool.{cases_order}
+use Rattle.rio_base.specs.declared.places.VolumeShape.{VolumeShape}
+use Rattle.rio_base.specs.Bitmap.{bitmap_block, first_bitmap, used_bit}
 use Rattle.rio_base.specs.Blocks.{BlockWords}
 use Rattle.block_alloc.specs.Words.{counts, FreeBits}
 
@@ -73,18 +75,19 @@ below_or_past a b (inl e) = inr (omega arith)
 below_or_past a b (inr (inl l)) = inl l
 below_or_past a b (inr (inr g)) = inr (omega arith)
 
-word_place : (words : BlockWords) (used blocks w i : ℕ) → used ≡ words 1 w → i < 64 → ◌≡◌ {A = ℕ} (cond (nat_lt (64 * w + i) blocks && (bit_at used i == 0)) 1 0) (cond (counts words blocks (64 * w + i)) 1 0)
-word_place words used blocks w i is within =
-    let word : w ≡ (64 * w + i) / 64 = omega arith in
-    let place : i ≡ (64 * w + i) % 64 = omega arith in
-    let read : used ≡ words 1 ((64 * w + i) / 64) = is ∙ ap (words 1) word in
-    let bit : bit_at used i ≡ bit_at (words 1 ((64 * w + i) / 64)) ((64 * w + i) % 64) = ap (λ a. bit_at a i) read ∙ ap (bit_at (words 1 ((64 * w + i) / 64))) place in
-    ap (λ a. cond (nat_lt (64 * w + i) blocks && (a == 0)) 1 0) bit
+word_place : (shape : VolumeShape) (words : BlockWords) (used w i : ℕ) → used ≡ words 1 w → w < 512 → i < 64 → ◌≡◌ {A = ℕ} (cond (nat_lt (64 * w + i) shape.blocks && (bit_at used i == 0)) 1 0) (cond (counts shape words (64 * w + i)) 1 0)
+word_place shape words used w i is small within =
+    let b : ℕ = 64 * w + i in
+    let word : w ≡ b % 32768 / 64 = omega arith in
+    let place : i ≡ b % 64 = omega arith in
+    let read : used ≡ words (bitmap_block shape b) (b % 32768 / 64) = is ∙ ap (words 1) word ∙ ap (λ (c : ℕ). words c (b % 32768 / 64)) (sym (first_bitmap shape b (omega arith))) in
+    let bit : bit_at used i ≡ used_bit shape words b = ap (λ a. bit_at a i) read ∙ ap (bit_at (words (bitmap_block shape b) (b % 32768 / 64))) place in
+    ap (λ a. cond (nat_lt b shape.blocks && (a == 0)) 1 0) bit
 
-pub free_word : (words : BlockWords) (used blocks w : ℕ) → used < 2 ^ 64 → used ≡ words 1 w → FreeBits words blocks w (bit_and (bit_not w64 used) (2 ^ min (blocks - 64 * w) 64 - 1))
-free_word words used blocks w fits is = record {
-  each = λ i within. free_bit used blocks w i fits within (below_or_past (64 * w + i) blocks (cases_order (64 * w + i) blocks)) ∙ word_place words used blocks w i is within;
+free_word : (shape : VolumeShape) (words : BlockWords) (used w : ℕ) → used < 2 ^ 64 → used ≡ words 1 w → w < 512 → FreeBits shape words w (bit_and (bit_not w64 used) (2 ^ min (shape.blocks - 64 * w) 64 - 1))
+free_word shape words used w fits is small = record {
+  each = λ i within. free_bit used shape.blocks w i fits within (below_or_past (64 * w + i) shape.blocks (cases_order (64 * w + i) shape.blocks)) ∙ word_place shape words used w i is small within;
 }
 
-pub free_masked : (words : BlockWords) (used mask blocks w : ℕ) → used < 2 ^ 64 → used ≡ words 1 w → mask ≡ 2 ^ min (blocks - 64 * w) 64 - 1 → FreeBits words blocks w (bit_and (bit_not w64 used) mask)
-free_masked words used mask blocks w fits is masked = subst (λ m. FreeBits words blocks w (bit_and (bit_not w64 used) m)) (sym masked) (free_word words used blocks w fits is)
+pub free_masked : (shape : VolumeShape) (words : BlockWords) (used mask w : ℕ) → used < 2 ^ 64 → used ≡ words 1 w → w < 512 → mask ≡ 2 ^ min (shape.blocks - 64 * w) 64 - 1 → FreeBits shape words w (bit_and (bit_not w64 used) mask)
+free_masked shape words used mask w fits is small masked = subst (λ m. FreeBits shape words w (bit_and (bit_not w64 used) m)) (sym masked) (free_word shape words used w fits is small)

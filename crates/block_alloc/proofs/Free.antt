@@ -9,15 +9,17 @@ use Rattle.std.proofs.Math.Seq.{take-nil}
 use Rattle.rio_base.specs.declared.places.Block.{Block}
 use Rattle.std.proofs.lemmas.Nat.{ones-le}
 use Rattle.std.proofs.lemmas.Nat.Bits.{bit_at-zero, bit_at-trailing_zeros, bit_at_clear_same, bit_at_clear_other}
+use Rattle.rio_base.specs.declared.places.VolumeShape.{VolumeShape}
 use Rattle.rio_base.specs.Blocks.{BlockWords}
-use Rattle.block_alloc.specs.Bitmap.{is_free, free_blocks, numbers}
-use Rattle.block_alloc.specs.Words.{counts, FreeBits, set_bits}
+use Rattle.rio_base.specs.Bitmap.{is_free, free_blocks}
+use Rattle.block_alloc.specs.Bitmap.{numbers}
+use Rattle.block_alloc.specs.Words.{counts, FreeBits, HoldsRun, set_bits}
 use Rattle.block_alloc.proofs.Ranges.{filter_same, filter_none, filter_split, take_both}
 use Rattle.block_alloc.proofs.Bits.{Shows, count_shown}
 
 -- the free blocks among the first 64 * w places of the bitmap
-abbrev pub free_before : BlockWords → ℕ → ℕ → List ℕ
-free_before words blocks w = filter (counts words blocks) (range_with_len 0 (64 * w))
+abbrev pub free_before : VolumeShape → BlockWords → ℕ → List ℕ
+free_before shape words w = filter (counts shape words) (range_with_len 0 (64 * w))
 
 next_word : (p : ℕ → Bool) (w : ℕ) → filter p (range_with_len 0 (64 * (w + 1))) ≡ filter p (range_with_len 0 (64 * w)) ++ filter p (range_with_len (64 * w) 64)
 next_word p w =
@@ -33,39 +35,39 @@ filter_short p (suc n) s = shorter (p s) s (filter p (range_with_len (s + 1) n))
     shorter true s xs n h = omega arith
     shorter false s xs n h = omega arith
 
-pub count_more : (words now : BlockWords) (blocks w x free : ℕ) → now ≡ words → x < 2 ^ 64 → FreeBits now blocks w x → free ≡ length (free_before words blocks w) → free + count_ones x ≡ length (free_before words blocks (w + 1))
-count_more words now blocks w x free same fits bits before =
-    let p = counts words blocks in
-    let shown : Shows x p (64 * w) 64 = record { fits = fits; each = (subst (λ f. FreeBits f blocks w x) same bits).each } in
-    ap (λ n. n + count_ones x) before ∙ ap (λ n. length (free_before words blocks w) + n) (count_shown 64 x (64 * w) p shown) ∙ sym (length-append (free_before words blocks w) (filter p (range_with_len (64 * w) 64))) ∙ ap length (sym (next_word p w))
+pub count_more : (shape : VolumeShape) (words now : BlockWords) (w x free : ℕ) → now ≡ words → x < 2 ^ 64 → FreeBits shape now w x → free ≡ length (free_before shape words w) → free + count_ones x ≡ length (free_before shape words (w + 1))
+count_more shape words now w x free same fits bits before =
+    let p = counts shape words in
+    let shown : Shows x p (64 * w) 64 = record { fits = fits; each = (subst (λ f. FreeBits shape f w x) same bits).each } in
+    ap (λ n. n + count_ones x) before ∙ ap (λ n. length (free_before shape words w) + n) (count_shown 64 x (64 * w) p shown) ∙ sym (length-append (free_before shape words w) (filter p (range_with_len (64 * w) 64))) ∙ ap length (sym (next_word p w))
 
-below_end : (words : BlockWords) (blocks b : ℕ) → b < blocks → counts words blocks b ≡ is_free words b
-below_end words blocks b within = and_true (nat_lt b blocks) (is_free words b) (grind (arith, nat_tests))
+below_end : (shape : VolumeShape) (words : BlockWords) (b : ℕ) → b < shape.blocks → counts shape words b ≡ is_free shape words b
+below_end shape words b within = and_true (nat_lt b shape.blocks) (is_free shape words b) (grind (arith, nat_tests))
   where
     and_true : (a b : Bool) → a ≡ true → (a && b) ≡ b
     and_true true b e = refl
     and_true false b e = cc
 
-past_end : (words : BlockWords) (blocks b : ℕ) → blocks ≤ b → counts words blocks b ≡ false
-past_end words blocks b past = and_false (nat_lt b blocks) (is_free words b) (grind (arith, nat_tests))
+past_end : (shape : VolumeShape) (words : BlockWords) (b : ℕ) → shape.blocks ≤ b → counts shape words b ≡ false
+past_end shape words b past = and_false (nat_lt b shape.blocks) (is_free shape words b) (grind (arith, nat_tests))
   where
     and_false : (a b : Bool) → a ≡ false → (a && b) ≡ false
     and_false true b e = cc
     and_false false b e = refl
 
 -- the free blocks, and behind them places past the end
-pub whole : (words : BlockWords) (blocks w : ℕ) → blocks ≤ 64 * w → free_before words blocks w ≡ free_blocks words blocks
-whole words blocks w past =
-    let p = counts words blocks in
-    let size : 64 * w ≡ blocks + (64 * w - blocks) = omega arith in
-    let start : 0 + blocks ≡ blocks = omega arith in
-    let front : filter p (range_with_len 0 blocks) ≡ free_blocks words blocks = filter_same p (is_free words) blocks 0 (record { each = λ i within. below_end words blocks (0 + i) (omega arith) }) in
-    let back : filter p (range_with_len (0 + blocks) (64 * w - blocks)) ≡ [] = filter_none p (64 * w - blocks) (0 + blocks) (record { each = λ i within. past_end words blocks ((0 + blocks) + i) (omega arith) }) in
-    ap (λ n. filter p (range_with_len 0 n)) size ∙ filter_split p blocks (64 * w - blocks) 0 ∙ ap (λ xs. filter p (range_with_len 0 blocks) ++ xs) back ∙ append-nil (filter p (range_with_len 0 blocks)) ∙ front
+pub whole : (shape : VolumeShape) (words : BlockWords) (w : ℕ) → shape.blocks ≤ 64 * w → free_before shape words w ≡ free_blocks shape words
+whole shape words w past =
+    let p = counts shape words in
+    let size : 64 * w ≡ shape.blocks + (64 * w - shape.blocks) = omega arith in
+    let start : 0 + shape.blocks ≡ shape.blocks = omega arith in
+    let front : filter p (range_with_len 0 shape.blocks) ≡ free_blocks shape words = filter_same p (is_free shape words) shape.blocks 0 (record { each = λ i within. below_end shape words (0 + i) (omega arith) }) in
+    let back : filter p (range_with_len (0 + shape.blocks) (64 * w - shape.blocks)) ≡ [] = filter_none p (64 * w - shape.blocks) (0 + shape.blocks) (record { each = λ i within. past_end shape words ((0 + shape.blocks) + i) (omega arith) }) in
+    ap (λ n. filter p (range_with_len 0 n)) size ∙ filter_split p shape.blocks (64 * w - shape.blocks) 0 ∙ ap (λ xs. filter p (range_with_len 0 shape.blocks) ++ xs) back ∙ append-nil (filter p (range_with_len 0 shape.blocks)) ∙ front
 
 -- the count fits a u32
-pub count_fits : (words : BlockWords) (blocks w x free : ℕ) → w < 512 → x < 2 ^ 64 → free ≡ length (free_before words blocks w) → free + count_ones x < 2 ^ 32
-count_fits words blocks w x free within fits before = omega (arith, filter_short (counts words blocks) (64 * w) 0, ones-le 64 x fits)
+pub count_fits : (shape : VolumeShape) (words : BlockWords) (w x free : ℕ) → w < 512 → x < 2 ^ 64 → free ≡ length (free_before shape words w) → free + count_ones x < 2 ^ 32
+count_fits shape words w x free within fits before = omega (arith, filter_short (counts shape words) (64 * w) 0, ones-le 64 x fits)
 
 -- ---- the lowest free blocks
 
@@ -73,14 +75,14 @@ equal_one : (b : Bool) → (cond b 1 0 == 1) ≡ b
 equal_one true = refl
 equal_one false = refl
 
-pub bits_free : (words now : BlockWords) (blocks w x : ℕ) → now ≡ words → FreeBits now blocks w x → set_bits x (64 * w) ≡ filter (counts words blocks) (range_with_len (64 * w) 64)
+pub bits_free : (shape : VolumeShape) (words now : BlockWords) (w x : ℕ) → now ≡ words → FreeBits shape now w x → set_bits x (64 * w) ≡ filter (counts shape words) (range_with_len (64 * w) 64)
 unfolding set_bits
-bits_free words now blocks w x same bits =
-    let here : FreeBits words blocks w x = subst (λ f. FreeBits f blocks w x) same bits in
-    filter_same (λ b. bit_at x (b - 64 * w) == 1) (counts words blocks) 64 (64 * w) (record {
+bits_free shape words now w x same bits =
+    let here : FreeBits shape words w x = subst (λ f. FreeBits shape f w x) same bits in
+    filter_same (λ b. bit_at x (b - 64 * w) == 1) (counts shape words) 64 (64 * w) (record {
       each = λ i within.
           let place : (64 * w + i) - 64 * w ≡ i = omega arith in
-          ap (λ k. bit_at x k == 1) place ∙ ap (λ k. k == 1) (here.each i within) ∙ equal_one (counts words blocks (64 * w + i));
+          ap (λ k. bit_at x k == 1) place ∙ ap (λ k. k == 1) (here.each i within) ∙ equal_one (counts shape words (64 * w + i));
     })
 
 -- the first place where a test holds, and a test that differs there alone
@@ -169,27 +171,33 @@ push_full items n xs zs full kept =
     sym (append-nil (numbers items)) ∙ ap (λ k. numbers items ++ take k xs) (sym none) ∙ kept
 
 -- one more word of the bitmap
-pub take_more : (words now : BlockWords) (blocks w x n : ℕ) (items new : List Block) → now ≡ words → FreeBits now blocks w x → numbers items ≡ take n (free_before words blocks w) → numbers new ≡ numbers items ++ take (n - length items) (set_bits x (64 * w)) → numbers new ≡ take n (free_before words blocks (w + 1))
-take_more words now blocks w x n items new same bits before pushed =
-    let p = counts words blocks in
-    let old = free_before words blocks w in
+pub take_more : (shape : VolumeShape) (words now : BlockWords) (w x n : ℕ) (items new : List Block) → now ≡ words → FreeBits shape now w x → numbers items ≡ take n (free_before shape words w) → numbers new ≡ numbers items ++ take (n - length items) (set_bits x (64 * w)) → numbers new ≡ take n (free_before shape words (w + 1))
+take_more shape words now w x n items new same bits before pushed =
+    let p = counts shape words in
+    let old = free_before shape words w in
     let size : length items ≡ length (take n old) = sym (length-map items (λ (b : Block). b.0)) ∙ ap length before in
-    pushed ∙ ap (λ (zs : List ℕ). zs ++ take (n - length items) (set_bits x (64 * w))) before ∙ ap (λ m. take n old ++ take (n - m) (set_bits x (64 * w))) size ∙ ap (λ (zs : List ℕ). take n old ++ take (n - length (take n old)) zs) (bits_free words now blocks w x same bits) ∙ take_both n old (filter p (range_with_len (64 * w) 64)) ∙ ap (take n) (sym (next_word p w))
+    pushed ∙ ap (λ (zs : List ℕ). zs ++ take (n - length items) (set_bits x (64 * w))) before ∙ ap (λ m. take n old ++ take (n - m) (set_bits x (64 * w))) size ∙ ap (λ (zs : List ℕ). take n old ++ take (n - length (take n old)) zs) (bits_free shape words now w x same bits) ∙ take_both n old (filter p (range_with_len (64 * w) 64)) ∙ ap (take n) (sym (next_word p w))
 
 taken_length : (items : List Block) (n : ℕ) (xs : List ℕ) → numbers items ≡ take n xs → length items ≡ min n (length xs)
 taken_length items n xs e = sym (length-map items (λ (b : Block). b.0)) ∙ ap length e ∙ length-take n xs
 
 -- all words were looked at, and there are too few
-pub too_few : (words : BlockWords) (blocks w n : ℕ) (items : List Block) → blocks ≤ 64 * w → numbers items ≡ take n (free_before words blocks w) → length items < n → length (free_blocks words blocks) < n
-too_few words blocks w n items past found few = omega (arith, taken_length items n (free_before words blocks w) found, ap length (whole words blocks w past))
+pub too_few : (shape : VolumeShape) (words : BlockWords) (w n : ℕ) (items : List Block) → shape.blocks ≤ 64 * w → numbers items ≡ take n (free_before shape words w) → length items < n → length (free_blocks shape words) < n
+too_few shape words w n items past found few = omega (arith, taken_length items n (free_before shape words w) found, ap length (whole shape words w past))
 
 -- enough were found, wherever that was
-pub enough : (words : BlockWords) (blocks w n : ℕ) (items : List Block) → blocks ≤ 32768 → numbers items ≡ take n (free_before words blocks w) → n ≤ length items → (numbers items ≡ take n (free_blocks words blocks)) × (n ≤ length (free_blocks words blocks))
-enough words blocks w n items small found many =
-    let p = counts words blocks in
-    let old = free_before words blocks w in
+pub enough : (shape : VolumeShape) (words : BlockWords) (w n : ℕ) (items : List Block) → shape.blocks ≤ 32768 → numbers items ≡ take n (free_before shape words w) → n ≤ length items → (numbers items ≡ take n (free_blocks shape words)) × (n ≤ length (free_blocks shape words))
+enough shape words w n items small found many =
+    let p = counts shape words in
+    let old = free_before shape words w in
     let size : 64 * (w + 512) ≡ 64 * w + 32768 = omega arith in
     let rest = filter p (range_with_len (0 + 64 * w) 32768) in
-    let all : free_blocks words blocks ≡ old ++ rest = sym (whole words blocks (w + 512) (omega arith)) ∙ ap (λ k. filter p (range_with_len 0 k)) size ∙ filter_split p (64 * w) 32768 0 in
+    let all : free_blocks shape words ≡ old ++ rest = sym (whole shape words (w + 512) (omega arith)) ∙ ap (λ k. filter p (range_with_len 0 k)) size ∙ filter_split p (64 * w) 32768 0 in
     let few : n ≤ length old = omega (arith, taken_length items n old found) in
     (found ∙ sym (take-append-le n old rest few) ∙ ap (take n) (sym all), omega (arith, few, ap length all, length-append old rest))
+
+-- the run that was read serves the next word too, unless that begins a run
+pub run_on : (shape : VolumeShape) (words now : BlockWords) (w : ℕ) (run : List ℕ) → (w + 1) % 64 ≢ 0 → now ≡ words → HoldsRun shape now w run → HoldsRun shape words (w + 1) run
+run_on shape words now w run on same held = record {
+  each = λ x in_run within. (subst (λ (f : BlockWords). HoldsRun shape f w run) same held).each x (omega arith) within;
+}

@@ -1,17 +1,22 @@
--- The bitmap by whole words of 64 blocks.
-use Rattle.std.specs.Prelude.{◌≡◌, ℕ, ◌+◌, ◌-◌, ◌*◌, ◌<◌, Bool, ◌&&◌, ◌==◌, nat_lt, if◌then◌else◌, List}
+-- The bitmap by whole words of 64 blocks, and by runs of 64 words.
+use Rattle.std.specs.Prelude.{◌≡◌, ℕ, ◌+◌, ◌-◌, ◌*◌, ◌/◌, ◌%◌, ◌<◌, Bool, ◌&&◌, ◌==◌, nat_lt, if◌then◌else◌, List, slice_index}
 use Rattle.std.specs.List.{filter, range_with_len}
 use Rattle.std.specs.Int.{bit_at}
+use Rattle.rio_base.specs.declared.places.VolumeShape.{VolumeShape}
+use Rattle.rio_base.specs.Bitmap.{is_free}
 use Rattle.rio_base.specs.Blocks.{BlockWords}
-use Rattle.block_alloc.specs.Bitmap.{is_free}
 
 -- a block of the volume that is free
-abbrev pub counts : BlockWords → ℕ → ℕ → Bool
-counts words blocks b = nat_lt b blocks && is_free words b
+abbrev pub counts : VolumeShape → BlockWords → ℕ → Bool
+counts shape words b = nat_lt b shape.blocks && is_free shape words b
 
 -- a word with a bit for each of 64 blocks, 1 for those that are free
-pub record FreeBits (words : BlockWords) (blocks w x : ℕ) : Type 0 where
-  pub each : (i : ℕ) → i < 64 → bit_at x i ≡ (if counts words blocks (64 * w + i) then 1 else 0)
+pub record FreeBits (shape : VolumeShape) (words : BlockWords) (w x : ℕ) : Type 0 where
+  pub each : (i : ℕ) → i < 64 → bit_at x i ≡ (if counts shape words (64 * w + i) then 1 else 0)
+
+-- the words of the bitmap's run in which word w lies, as far as the volume has them
+pub record HoldsRun (shape : VolumeShape) (words : BlockWords) (w : ℕ) (run : List ℕ) : Type 0 where
+  pub each : (x : ℕ) → x / 64 ≡ w / 64 → 64 * x < shape.blocks → slice_index run (x % 64) ≡ words 1 x
 
 -- the places of the bits that are 1, counted from s on
 unfoldable pub set_bits : ℕ → ℕ → List ℕ

@@ -1,10 +1,11 @@
 //! One block marked used or free, in an open update.
 
-ghost use Rattle.std.specs.Prelude.{◌≡◌, ◌<◌, true, None, IfOk, OnOk};
+ghost use Rattle.std.specs.Prelude.{◌≡◌, ◌<◌, true, None, IfOk};
+ghost use Rattle.rio_base.specs.Bitmap.{bitmap_block};
 ghost use Rattle.rio_base.specs.Blocks.{Looks, Caches, Halts};
 ghost use Rattle.rio_base.specs.Volume.{Firm, Goes, SameUpdate};
 ghost use Rattle.rio_base.specs.Shapes.{IsShape, HasShape};
-ghost use Rattle.block_alloc.specs.Bitmap.{SetsBit, IsSetOrSame};
+ghost use Rattle.block_alloc.specs.Bitmap.{MarksBit};
 
 use crate::words::BITMAP;
 use rio_base::{Block, Stopped, VolFail, Volume, VolumeShape};
@@ -13,7 +14,7 @@ use rio_base::{Block, Stopped, VolFail, Volume, VolumeShape};
 pub fn bitmap_block(shape: &VolumeShape, b: Block) -> Block
     requires sizes { IsShape shape.now }
     requires block { b.0 < shape.now.blocks }
-    ensures { result.0 ≡ 1 }
+    ensures { result.0 ≡ bitmap_block shape.now b.0 }
 {
     BITMAP
 }
@@ -31,6 +32,7 @@ fn touched_word<V: Volume>(v: &mut V, shape: &VolumeShape, w: u16) -> Result<u64
     ensures standing { (V.kept v.new).standing ≡ (V.kept v.old).standing }
     ensures firm { Firm (V.kept v.old) (V.kept v.new) }
     ensures update { SameUpdate (V.kept v.old) (V.kept v.new) }
+    ensures in_update { (V.kept v.new).updating ≡ true }
     ensures goes { Goes (V.health v.old) (V.below v.old) (V.health v.new) (V.below v.new) }
     ensures ends { Halts (V.health v.old) (V.health v.new) result }
     ensures sound { V.sound v.new }
@@ -48,15 +50,9 @@ pub fn mark<V: Volume>(v: &mut V, shape: &VolumeShape, b: Block) -> Result<(), S
     requires sound { V.sound v.old }
     requires shape { HasShape shape.now (V.seen v.old) }
     requires block { b.0 < shape.now.blocks }
-    requires touched { (V.kept v.old).touched 1 ≡ true }
-    ensures ok { OnOk result (SetsBit (V.seen v.old).words (V.seen v.new).words b.0 1) }
-    ensures stopped { IsSetOrSame (V.seen v.old).words (V.seen v.new).words b.0 1 }
-    ensures update { OnOk result (SameUpdate (V.kept v.old) (V.kept v.new)) }
-    ensures in_update { (V.kept v.new).updating ≡ true }
-    ensures standing { (V.kept v.new).standing ≡ (V.kept v.old).standing }
-    ensures firm { Firm (V.kept v.old) (V.kept v.new) }
+    requires touched { (V.kept v.old).touched (bitmap_block shape.now b.0) ≡ true }
+    ensures marks { MarksBit shape.now b.0 1 (V.seen v.old) (V.seen v.new) (V.kept v.old) (V.kept v.new) result }
     ensures shape { HasShape shape.now (V.seen v.new) }
-    ensures caches { Caches (V.seen v.old) (V.seen v.new) 1 None }
     ensures goes { Goes (V.health v.old) (V.below v.old) (V.health v.new) (V.below v.new) }
     ensures ends { Halts (V.health v.old) (V.health v.new) result }
     ensures sound { V.sound v.new }
@@ -72,15 +68,9 @@ pub fn unmark<V: Volume>(v: &mut V, shape: &VolumeShape, b: Block) -> Result<(),
     requires sound { V.sound v.old }
     requires shape { HasShape shape.now (V.seen v.old) }
     requires block { b.0 < shape.now.blocks }
-    requires touched { (V.kept v.old).touched 1 ≡ true }
-    ensures ok { OnOk result (SetsBit (V.seen v.old).words (V.seen v.new).words b.0 0) }
-    ensures stopped { IsSetOrSame (V.seen v.old).words (V.seen v.new).words b.0 0 }
-    ensures update { OnOk result (SameUpdate (V.kept v.old) (V.kept v.new)) }
-    ensures in_update { (V.kept v.new).updating ≡ true }
-    ensures standing { (V.kept v.new).standing ≡ (V.kept v.old).standing }
-    ensures firm { Firm (V.kept v.old) (V.kept v.new) }
+    requires touched { (V.kept v.old).touched (bitmap_block shape.now b.0) ≡ true }
+    ensures marks { MarksBit shape.now b.0 0 (V.seen v.old) (V.seen v.new) (V.kept v.old) (V.kept v.new) result }
     ensures shape { HasShape shape.now (V.seen v.new) }
-    ensures caches { Caches (V.seen v.old) (V.seen v.new) 1 None }
     ensures goes { Goes (V.health v.old) (V.below v.old) (V.health v.new) (V.below v.new) }
     ensures ends { Halts (V.health v.old) (V.health v.new) result }
     ensures sound { V.sound v.new }

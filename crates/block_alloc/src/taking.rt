@@ -1,12 +1,13 @@
 //! The lowest free blocks.
 
 ghost use Rattle.std.specs.Prelude.{◌≡◌, ◌-◌, ◌<◌, ◌≤◌, ◌++◌, None, IfOk, OnOk, IsErrOf, length, take};
-ghost use Rattle.rio_base.specs.Blocks.{Looks, Caches};
+ghost use Rattle.rio_base.specs.Bitmap.{free_blocks};
+ghost use Rattle.rio_base.specs.Blocks.{Looks, Caches, EndsBy};
 ghost use Rattle.rio_base.specs.Shapes.{HasShape};
-ghost use Rattle.block_alloc.specs.Bitmap.{free_blocks, numbers, TakeEnds, handed};
+ghost use Rattle.block_alloc.specs.Bitmap.{numbers, handed};
 ghost use Rattle.block_alloc.specs.Words.{set_bits};
 
-use crate::words::free_bits;
+use crate::words::{RUN_WORDS, free_bits};
 use rio_base::{Block, BlockList, VolFail, Volume, VolumeShape};
 use std::alloc::{AllocError, AllocFailed, Global};
 use thiserror::Error;
@@ -83,21 +84,22 @@ pub fn take<V: Volume>(
 ) -> Result<BlockList, TakeFail>
     requires sound { V.sound v.old }
     requires shape { HasShape shape.now (V.seen v.old) }
-    ensures value { IfOk result (λ blocks. numbers blocks ≡ take n (free_blocks (V.seen v.old).words shape.now.blocks)) }
-    ensures room { OnOk result (n ≤ length (free_blocks (V.seen v.old).words shape.now.blocks)) }
-    ensures no_space { IsErrOf result TakeFail.NoSpace → length (free_blocks (V.seen v.old).words shape.now.blocks) < n }
+    ensures value { IfOk result (λ blocks. numbers blocks ≡ take n (free_blocks shape.now (V.seen v.old).words)) }
+    ensures room { OnOk result (n ≤ length (free_blocks shape.now (V.seen v.old).words)) }
+    ensures no_space { IsErrOf result TakeFail.NoSpace → length (free_blocks shape.now (V.seen v.old).words) < n }
     ensures looks { Looks (V.seen v.old) (V.seen v.new) }
     ensures shape { HasShape shape.now (V.seen v.new) }
     ensures caches { Caches (V.seen v.old) (V.seen v.new) 1 None }
     ensures passes { V.passes v.old v.new }
-    ensures ends { TakeEnds (V.health v.old) (V.health v.new) result }
+    ensures ends { EndsBy (V.health v.old) (V.health v.new) (IsErrOf result TakeFail.Fault) (IsErrOf result TakeFail.Stopped) }
     ensures sound { V.sound v.new }
 {
     let words = shape.blocks.div_ceil(64);
+    let mut run = [0; RUN_WORDS];
     let mut found = Vec::new(alloc);
     let mut w = 0;
     while w < words && found.len() < n as usize {
-        let free = free_bits(v, shape, w)?;
+        let free = free_bits(v, shape, w, &mut run)?;
         push_free(&mut found, free, 64 * w, n as usize)?;
         w += 1;
     }

@@ -1,12 +1,12 @@
 use Rattle.std.proofs.Common.{arith, ap, ◌∙◌, length, le_trans}
 use Rattle.rio_base.specs.Rules.{looks_trans}
 use Rattle.rio_base.proofs.Ends.{caches_trans}
-use Rattle.block_alloc.proofs.Free.{count_more, count_fits, whole}
+use Rattle.block_alloc.proofs.Free.{run_on, count_more, count_fits, whole}
 use Rattle.block_alloc.proofs.counting.free_count.Goals as goal
 
 pub overflow_add-free : goal.overflow_add-free
 overflow_add-free g c =
-    let small = count_fits (g.V.Blocks.seen c.args.v.now).words c.args.shape.now.blocks c.loop-w.w c.in_ok-free.field-0 c.loop-w.free (omega (arith, c.requires.shape.sizes.blocks_to)) (omega arith) c.loop-w.invariant.free in
+    let small = count_fits c.args.shape.now (g.V.Blocks.seen c.args.v.now).words c.loop-w.w c.in_ok-free.field-0 c.loop-w.free (omega (arith, c.requires.shape.sizes.blocks_to)) (omega arith) c.loop-w.invariant.free in
     omega (arith, small)
 
 pub loop-w-preserved : goal.loop-w-preserved
@@ -15,6 +15,7 @@ loop-w-preserved g c =
     let now = c.free_bits.ensures in
     record {
       free = count_more _ _ _ _ _ _ inv.looks.words (omega arith) c.in_ok-free.ensures.value inv.free;
+      run = λ on. run_on _ _ _ _ _ on inv.looks.words c.in_ok-free.ensures.run;
       sound = now.sound;
       looks = looks_trans _ _ _ inv.looks now.looks;
       shape = now.shape;
@@ -25,4 +26,4 @@ loop-w-preserved g c =
     }
 
 pub returns-clause-value : goal.returns-clause-value
-returns-clause-value g c = c.loop-w.invariant.free ∙ ap length (whole (g.V.Blocks.seen c.args.v.now).words _ c.loop-w.w (omega arith))
+returns-clause-value g c = c.loop-w.invariant.free ∙ ap length (whole c.args.shape.now (g.V.Blocks.seen c.args.v.now).words c.loop-w.w (omega arith))

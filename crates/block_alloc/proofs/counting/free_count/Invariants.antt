@@ -1,9 +1,9 @@
-use Rattle.std.proofs.Common.{◌≡◌, ◌*◌, ◌≤◌, length}
+use Rattle.std.proofs.Common.{◌≡◌, ◌≢◌, ◌%◌, ◌*◌, ◌≤◌, length}
 use Rattle.std.specs.Prelude.{None}
 use Rattle.std.specs.List.{filter, range_with_len}
 use Rattle.rio_base.specs.Blocks.{Looks, Caches}
 use Rattle.rio_base.specs.Shapes.{HasShape}
-use Rattle.block_alloc.specs.Words.{counts}
+use Rattle.block_alloc.specs.Words.{counts, HoldsRun}
 use Rattle.block_alloc.proofs.counting.free_count.Given as goal
 
 abbrev pub invariant-loop-w : goal.invariant-loop-w
@@ -11,7 +11,8 @@ invariant-loop-w g l =
     let seen = g.V.Blocks.seen in
     let health = g.V.Blocks.health in
     record {
-      free : l.free ≡ length (filter (counts (seen l.fn.v).words l.shape.blocks) (range_with_len 0 (64 * l.w)));
+      free : l.free ≡ length (filter (counts l.shape (seen l.fn.v).words) (range_with_len 0 (64 * l.w)));
+      run : l.w % 64 ≢ 0 → HoldsRun l.shape (seen l.fn.v).words l.w l.run;
       sound : g.V.Blocks.sound l.v;
       looks : Looks (seen l.fn.v) (seen l.v);
       shape : HasShape l.shape (seen l.v);

@@ -1,9 +1,21 @@
-use Rattle.std.proofs.Common.{arith, ◌%◌}
-use Rattle.block_alloc.proofs.Marks.{sets_bit, sets_or_same, bit_set, on_ok_map}
+use Rattle.std.proofs.Common.{arith, ap, ◌∙◌, ◌%◌}
+use Rattle.block_alloc.proofs.Marks.{bit_set, marks_none, marks_one, touched_first}
 use Rattle.block_alloc.proofs.marking.mark.Goals as goal
 
-pub returns-clause-ok : goal.returns-clause-ok
-returns-clause-ok g c = on_ok_map c.edit.result (λ stored. sets_bit _ _ _ c.args.b.0 _ 1 c.in_ok-word.ensures.looks.words stored (bit_set _ c.in_ok-word.word (c.args.b.0 % 64) (omega arith) c.in_ok-word.ensures.value)) c.edit.ensures.ok
+pub touched_word-requires-clause-touched : goal.touched_word-requires-clause-touched
+touched_word-requires-clause-touched g c = touched_first c.args.shape.now (g.V.Volume.kept c.args.v.now).touched c.args.b.0 (omega arith) c.requires.touched
 
-pub returns-clause-stopped : goal.returns-clause-stopped
-returns-clause-stopped g c = sets_or_same _ _ _ c.args.b.0 _ 1 c.in_ok-word.ensures.looks.words c.edit.ensures.either (bit_set _ c.in_ok-word.word (c.args.b.0 % 64) (omega arith) c.in_ok-word.ensures.value)
+pub edit-requires-clause-touched : goal.edit-requires-clause-touched
+edit-requires-clause-touched g c = ap (λ f. f 1) c.in_ok-word.ensures.update.touched ∙ touched_first c.args.shape.now (g.V.Volume.kept c.args.v.now).touched c.args.b.0 (omega arith) c.requires.touched
+
+pub returns-in_err-word-clause-marks : goal.returns-in_err-word-clause-marks
+returns-in_err-word-clause-marks g c =
+    let now = c.touched_word.ensures in
+    marks_none c.args.shape.now c.args.b.0 1 _ _ _ _ _ (omega arith) c.from_residual.ensures.0 now.looks now.caches now.in_update now.standing now.firm
+
+pub returns-clause-marks : goal.returns-clause-marks
+returns-clause-marks g c =
+    let now = c.in_ok-word.ensures in
+    let end = c.edit.ensures in
+    marks_one c.args.shape.now c.args.b.0 _ 1 _ _ _ _ _ _ _ (omega arith) (bit_set _ c.in_ok-word.word (c.args.b.0 % 64) (omega arith) now.value)
+    now.looks now.caches now.update now.standing now.firm end.ok end.either end.drops end.update end.in_update end.standing end.firm

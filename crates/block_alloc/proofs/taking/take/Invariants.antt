@@ -1,7 +1,8 @@
-use Rattle.std.proofs.Common.{◌≡◌, ◌-◌, ◌≤◌, take}
+use Rattle.std.proofs.Common.{◌≡◌, ◌≢◌, ◌%◌, ◌-◌, ◌≤◌, take}
 use Rattle.std.specs.Prelude.{None}
 use Rattle.rio_base.specs.Blocks.{Looks, Caches}
 use Rattle.rio_base.specs.Shapes.{HasShape}
+use Rattle.block_alloc.specs.Words.{HoldsRun}
 use Rattle.block_alloc.specs.Bitmap.{numbers}
 use Rattle.block_alloc.proofs.Free.{free_before}
 use Rattle.block_alloc.proofs.taking.take.Given as goal
@@ -12,7 +13,8 @@ invariant-loop-w g l =
     let health = g.V.Blocks.health in
     record {
       within : l.w ≤ l.words;
-      found : numbers l.found.items ≡ take l.n (free_before (seen l.fn.v).words l.shape.blocks l.w);
+      found : numbers l.found.items ≡ take l.n (free_before l.shape (seen l.fn.v).words l.w);
+      run : l.w % 64 ≢ 0 → HoldsRun l.shape (seen l.fn.v).words l.w l.run;
       sound : g.V.Blocks.sound l.v;
       looks : Looks (seen l.fn.v) (seen l.v);
       shape : HasShape l.shape (seen l.v);
