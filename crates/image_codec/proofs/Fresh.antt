@@ -1,15 +1,22 @@
 -- What is written into a list of zeros.
-use Rattle.std.proofs.Common.{◌≡◌, ◌==◌, if◌then◌else◌, ◌<◌, ◌≤◌, ℕ, zero, suc, ◌+◌, ◌-◌, ◌*◌, ◌/◌, ◌%◌, min, List, length, set, map, replicate, get_or, slice_index, refl, sym, ap, ◌∙◌, inl, inr, arith, nat_lt, nat_le, ◌&&◌}
+use Rattle.std.proofs.Common.{◌≡◌, ◌==◌, if◌then◌else◌, ◌<◌, ◌≤◌, ℕ, zero, suc, ◌+◌, ◌-◌, ◌*◌, ◌/◌, ◌%◌, min, List, [], ◌∷◌, length, take, set, map, replicate, get_or, slice_index, refl, sym, ap, ◌∙◌, inl, inr, arith, nat_lt, nat_le, ◌&&◌}
 use Rattle.std.proofs.lemmas.Bool.{cases_eq, cases_lt}
 use Rattle.std.proofs.lemmas.Nat.Bits.{bit_at_ones, bit_at_ones_above}
+use Rattle.std.specs.Prelude.{codes}
 use Rattle.std.specs.Int.{bit_at}
-use Rattle.std.proofs.lemmas.List.{get_or-set_same, get_or-set_other, get_or-replicate, length-set, length-replicate}
-use Rattle.std.proofs.lemmas.List.FromFn.{fill_by_all, get_or-map-range_with_len}
+use Rattle.std.proofs.lemmas.List.{get_or-set_same, get_or-set_other, get_or-replicate, length-set, length-replicate, take_at}
+use Rattle.std.proofs.lemmas.List.FromFn.{fill_by_all, get_or-map-range_with_len, length-map-range_with_len}
 use Rattle.std.proofs.lemmas.Bool.Decides.{nat_tests}
 use Rattle.std.specs.List.{range_with_len}
-use Rattle.image_codec.specs.Image.{fresh_image_word, fresh_image_words, image_magic}
-use Rattle.rio_base.specs.Image.{entry_at, image_pages, registry_pages}
-use Rattle.image_codec.specs.Volume.{bitmap_word, fresh_volume_word, fresh_volume_words, reserved_blocks, volume_magic}
+use Rattle.image_codec.specs.Image.{fresh_image_word, fresh_image_words}
+use Rattle.rio_base.specs.Image.{entry_at, image_magic, image_pages, registry_pages}
+use Rattle.rio_base.specs.declared.places.VolumeShape.{VolumeShape}
+use Rattle.rio_base.specs.Bitmap.{bitmap_block, first_bitmap, used_bit}
+use Rattle.rio_base.specs.Layout.{HasSuperblock, volume_magic}
+use Rattle.rio_base.specs.Shapes.{more_bitmap, reserved}
+use Rattle.byteorder.specs.Endian.{little_bytes}
+use Rattle.image_codec.specs.Bytes.{bytes_of}
+use Rattle.image_codec.specs.Volume.{bitmap_word, block_words, fresh_shape, fresh_volume_word, fresh_volume_words}
 
 -- a list of words with a part marked, from first on
 abbrev pub IsMarked : (ℕ → ℕ) → ℕ → List ℕ → List ℕ → Type 0
@@ -88,14 +95,14 @@ volume_at f marked magic blocks inodes (suc (suc (suc b))) w i place lt long was
     let zeros : get_or marked i 0 ≡ 0 = grind (arith, nat_tests, was) in
     grind (arith, nat_tests, get_or-set_other)
 
-pub fresh_volume_is : (zeros marked : List ℕ) (blocks inodes : ℕ) → zeros ≡ replicate (512 * blocks) 0 → 3 ≤ blocks → length marked ≡ length zeros → IsMarked (bitmap_word (reserved_blocks inodes)) 512 zeros marked
+pub fresh_volume_is : (zeros marked : List ℕ) (blocks inodes : ℕ) → zeros ≡ replicate (512 * blocks) 0 → 3 ≤ blocks → length marked ≡ length zeros → IsMarked (bitmap_word (reserved (fresh_shape blocks inodes))) 512 zeros marked
     → set (set (set (set (set marked 0 volume_magic) 1 1) 2 blocks) 3 inodes) 1024 1 ≡ fresh_volume_words blocks inodes
 fresh_volume_is zeros marked blocks inodes none room same is =
     let size : length marked ≡ 512 * blocks = same ∙ ap length none ∙ length-replicate (512 * blocks) 0 in
     let long : length (set (set (set (set (set marked 0 volume_magic) 1 1) 2 blocks) 3 inodes) 1024 1) ≡ 512 * blocks = simp length-set size in
     fill_by_all (λ i. fresh_volume_word blocks inodes (i / 512) (i % 512)) (set (set (set (set (set marked 0 volume_magic) 1 1) 2 blocks) 3 inodes) 1024 1) (512 * blocks) 0 long
-    (λ i lt. volume_at (bitmap_word (reserved_blocks inodes)) marked volume_magic blocks inodes (i / 512) (i % 512) i (omega arith) (omega arith) (omega arith)
-    (is i ∙ ap (λ (z : ℕ). if nat_le 512 i && nat_lt i 1024 then bitmap_word (reserved_blocks inodes) (i - 512) else z) (ap (λ (xs : List ℕ). get_or xs i 0) none ∙ zero_at (512 * blocks) i)))
+    (λ i lt. volume_at (bitmap_word (reserved (fresh_shape blocks inodes))) marked volume_magic blocks inodes (i / 512) (i % 512) i (omega arith) (omega arith) (omega arith)
+    (is i ∙ ap (λ (z : ℕ). if nat_le 512 i && nat_lt i 1024 then bitmap_word (reserved (fresh_shape blocks inodes)) (i - 512) else z) (ap (λ (xs : List ℕ). get_or xs i 0) none ∙ zero_at (512 * blocks) i)))
 
 -- the bits of a bitmap of used blocks
 bit_of : (count q t : ℕ) → t < 64 → bit_at (bitmap_word count q) t ≡ (if nat_lt (64 * q + t) count then 1 else 0)
@@ -110,16 +117,52 @@ bit_of count q t lt = elim (cases_lt (64 * q + t) count) [
       grind (arith, nat_tests, bit)
 ]
 
+-- a word of a fresh volume, by its block and its place there
+fresh_word : (words : List ℕ) (blocks inodes b w : ℕ) → words ≡ fresh_volume_words blocks inodes → b < blocks → w < 512 → block_words words b w ≡ fresh_volume_word blocks inodes b w
+fresh_word words blocks inodes b w is block lt =
+    let i : ℕ = 512 * b + w in
+    let own : i / 512 ≡ b = omega arith in
+    let place : i % 512 ≡ w = omega arith in
+    ap (λ (ws : List ℕ). slice_index ws i) is ∙ get_or-map-range_with_len (λ j. fresh_volume_word blocks inodes (j / 512) (j % 512)) 0 (512 * blocks) i i 0 (omega arith) (omega arith)
+    ∙ ap (λ (c : ℕ). fresh_volume_word blocks inodes c (i % 512)) own ∙ ap (fresh_volume_word blocks inodes b) place
+
+-- version 1 has one block of bitmap
+reserved_first : (shape : VolumeShape) → shape.version ≡ 1 → reserved shape ≡ 2 + shape.inodes / 32
+unfolding more_bitmap
+reserved_first shape first = grind (arith, nat_tests, first)
+
+pub reserved_fresh : (blocks inodes : ℕ) → 2 + inodes / 32 ≡ reserved (fresh_shape blocks inodes)
+reserved_fresh blocks inodes = sym (reserved_first (fresh_shape blocks inodes) refl)
+
+marked_bit : (v count next q t b : ℕ) → v ≡ bitmap_word count q → t < 64 → 64 * q + t ≡ b → count ≡ next → bit_at v t ≡ (if nat_lt b next then 1 else 0)
+marked_bit v count next q t b is lt whole same = ap (λ w. bit_at w t) is ∙ bit_of count q t lt ∙ ap (λ n. if nat_lt n count then 1 else 0) whole ∙ ap (λ n. if nat_lt b n then 1 else 0) same
+
 -- a block's bit in the bitmap of a fresh volume
-pub marked_in : (words : List ℕ) (blocks inodes b : ℕ) → words ≡ fresh_volume_words blocks inodes → 3 ≤ blocks → b < 32768 → bit_at (slice_index words (512 + b / 64)) (b % 64) ≡ (if nat_lt b (reserved_blocks inodes) then 1 else 0)
-marked_in words blocks inodes b is room lt =
-    let i : ℕ = 512 + b / 64 in
-    let block : i / 512 ≡ 1 = omega arith in
-    let word : i % 512 ≡ b / 64 = omega arith in
-    let read : slice_index words i ≡ fresh_volume_word blocks inodes (i / 512) (i % 512) =
-    ap (λ (ws : List ℕ). slice_index ws i) is ∙ get_or-map-range_with_len (λ j. fresh_volume_word blocks inodes (j / 512) (j % 512)) 0 (512 * blocks) i i 0 (omega arith) (omega arith) in
-    let value : fresh_volume_word blocks inodes (i / 512) (i % 512) ≡ bitmap_word (reserved_blocks inodes) (b / 64) =
-    ap (λ (c : ℕ). fresh_volume_word blocks inodes c (i % 512)) block ∙ ap (bitmap_word (reserved_blocks inodes)) word in
-    let whole : 64 * (b / 64) + b % 64 ≡ b = omega arith in
-    ap (λ (v : ℕ). bit_at v (b % 64)) (read ∙ value) ∙ bit_of (reserved_blocks inodes) (b / 64) (b % 64) (omega arith)
-    ∙ ap (λ (n : ℕ). if nat_lt n (reserved_blocks inodes) then 1 else 0) whole
+pub marked_in : (words : List ℕ) (shape : VolumeShape) (b : ℕ) → words ≡ fresh_volume_words shape.blocks shape.inodes → shape.version ≡ 1 → 3 ≤ shape.blocks → b < 32768
+    → used_bit shape (block_words words) b ≡ (if nat_lt b (reserved shape) then 1 else 0)
+marked_in words shape b is first room lt =
+    let count : ℕ = reserved (fresh_shape shape.blocks shape.inodes) in
+    let word : b % 32768 / 64 ≡ b / 64 = omega arith in
+    let read : block_words words (bitmap_block shape b) (b % 32768 / 64) ≡ bitmap_word count (b / 64) =
+    ap (λ (c : ℕ). block_words words c (b % 32768 / 64)) (first_bitmap shape b lt) ∙ ap (block_words words 1) word ∙ fresh_word words shape.blocks shape.inodes 1 (b / 64) is (omega arith) (omega arith) in
+    let same : count ≡ reserved shape = sym (reserved_fresh shape.blocks shape.inodes) ∙ sym (reserved_first shape first) in
+    marked_bit _ count (reserved shape) (b / 64) (b % 64) b read (omega arith) (omega arith) same
+
+pub superblock_in : (words : List ℕ) (shape : VolumeShape) → words ≡ fresh_volume_words shape.blocks shape.inodes → shape.version ≡ 1 → 3 ≤ shape.blocks → HasSuperblock (block_words words) shape
+superblock_in words shape is first room = record {
+  magic = fresh_word words shape.blocks shape.inodes 0 0 is (omega arith) (omega arith);
+  version = fresh_word words shape.blocks shape.inodes 0 1 is (omega arith) (omega arith) ∙ sym first;
+  blocks = fresh_word words shape.blocks shape.inodes 0 2 is (omega arith) (omega arith);
+  inodes = fresh_word words shape.blocks shape.inodes 0 3 is (omega arith) (omega arith);
+}
+
+-- ---- the text of the magic words
+
+first_bytes : (words : List ℕ) (magic : ℕ) → 0 < length words → slice_index words 0 ≡ magic → take 8 (bytes_of words) ≡ little_bytes 8 magic
+first_bytes [] magic some is = absurd (omega arith)
+first_bytes (w ∷ words) magic some is = take_at (little_bytes 8 w) (bytes_of words) 8 refl ∙ ap (little_bytes 8) is
+
+pub volume_text : (words : List ℕ) (blocks inodes : ℕ) → words ≡ fresh_volume_words blocks inodes → 3 ≤ blocks → take 8 (bytes_of words) ≡ codes "RIOVOLUM"
+volume_text words blocks inodes is room =
+    let size : length words ≡ 512 * blocks = ap length is ∙ length-map-range_with_len (λ i. fresh_volume_word blocks inodes (i / 512) (i % 512)) 0 (512 * blocks) in
+    first_bytes words volume_magic (omega arith) (fresh_word words blocks inodes 0 0 is (omega arith) (omega arith))

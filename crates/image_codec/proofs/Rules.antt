@@ -4,8 +4,9 @@ use Rattle.byteorder.specs.Endian.{little_number}
 use Rattle.std.proofs.lemmas.List.{take_rest}
 use Rattle.std.proofs.lemmas.List.Elements.{recursion_from_All}
 use Rattle.image_codec.proofs.Words.{length-bytes_of, word_at-bytes_of}
+use Rattle.rio_base.specs.Image.{image_magic}
 use Rattle.image_codec.specs.Bytes.{bytes_of, word_at}
-use Rattle.image_codec.specs.Image.{FailsFirst, HasGeometry, IsImage, IsImageLength, KeepsRules, image_magic}
+use Rattle.image_codec.specs.Image.{FailsFirst, HasGeometry, IsImage, IsImageLength, KeepsRules}
 use Rattle.image_codec.specs.declared.fault.ImageFault.{ImageFault}
 use Rattle.image_codec.specs.declared.fault.ImageFault.TheVariants.{BadLength, BadMagic, BadVersion, BadGeometry, Memory}
 
@@ -40,8 +41,7 @@ image_from bytes words long at keeps =
     let w3 : slice_index words 3 ≡ word_at bytes 3 = at 3 (omega arith) in
     record {
       long = subst IsImageLength long keeps.long;
-      magic = w0 ∙ keeps.magic;
-      version = w1 ∙ keeps.version;
+      header = record { magic = w0 ∙ keeps.magic; version = w1 ∙ keeps.version };
       geometry = rw (w2, w3, ← long) keeps.geometry;
     }
 
@@ -55,8 +55,8 @@ keeps_from bytes words long at image =
     let w3 : word_at bytes 3 ≡ slice_index words 3 = at 3 (omega arith) in
     record {
       long = subst IsImageLength (sym long) image.long;
-      magic = w0 ∙ image.magic;
-      version = w1 ∙ image.version;
+      magic = w0 ∙ image.header.magic;
+      version = w1 ∙ image.header.version;
       geometry = rw (w2, w3, long) image.geometry;
     }
 

@@ -1,15 +1,10 @@
 -- The memory image: what its header's rules are, and what is in a fresh one.
-use Rattle.std.specs.Prelude.{◌≡◌, ◌==◌, ◌≤◌, ℕ, ◌*◌, ◌%◌, List, length, map, slice_index, if◌then◌else◌, codes}
+use Rattle.std.specs.Prelude.{◌≡◌, ◌==◌, ◌≤◌, ℕ, ◌*◌, ◌%◌, List, length, map, slice_index, if◌then◌else◌}
 use Rattle.std.specs.List.{range_with_len}
-use Rattle.byteorder.specs.Endian.{little_number}
-use Rattle.rio_base.specs.Image.{AreImageSizes, image_pages}
+use Rattle.rio_base.specs.Image.{AreImageSizes, HasHeader, image_magic, image_pages}
 use Rattle.image_codec.specs.Bytes.{word_at}
 use Rattle.image_codec.specs.declared.fault.ImageFault.{ImageFault}
 use Rattle.image_codec.specs.declared.fault.ImageFault.TheVariants.{BadLength, BadMagic, BadVersion, BadGeometry, Memory}
-
--- the word whose bytes are the text RIOCACHE
-abbrev pub image_magic : ℕ
-image_magic = little_number 8 (codes "RIOCACHE")
 
 -- rule 1: whole pages, from 51 to 8,354
 pub record IsImageLength (size : ℕ) : Type 0 where
@@ -25,8 +20,7 @@ pub record HasGeometry (frames scratch size : ℕ) : Type 0 where
 -- words that keep the four rules of the header. Rule 2 is the magic, and rule 3 the version
 pub record IsImage (words : List ℕ) : Type 0 where
   pub long : IsImageLength (8 * length words)
-  pub magic : slice_index words 0 ≡ image_magic
-  pub version : slice_index words 1 ≡ 1
+  pub header : HasHeader words
   pub geometry : HasGeometry (slice_index words 2) (slice_index words 3) (8 * length words)
 
 -- the same four rules, of bytes

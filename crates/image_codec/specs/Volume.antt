@@ -1,25 +1,22 @@
 -- The fresh volume: its superblock, its bitmap and its root directory.
-use Rattle.std.specs.Prelude.{◌≡◌, ◌==◌, ◌≤◌, ℕ, ◌+◌, ◌-◌, ◌*◌, ◌/◌, ◌%◌, ◌^◌, min, List, map, if◌then◌else◌, codes}
+use Rattle.std.specs.Prelude.{◌≡◌, ◌==◌, ℕ, ◌+◌, ◌-◌, ◌*◌, ◌/◌, ◌%◌, ◌^◌, min, List, map, slice_index, if◌then◌else◌}
 use Rattle.std.specs.List.{range_with_len}
-use Rattle.byteorder.specs.Endian.{little_number}
 use Rattle.rio_base.specs.declared.places.VolumeShape.{VolumeShape}
-
--- the word whose bytes are the text RIOVOLUM
-abbrev pub volume_magic : ℕ
-volume_magic = little_number 8 (codes "RIOVOLUM")
+use Rattle.rio_base.specs.Blocks.{BlockWords}
+use Rattle.rio_base.specs.Layout.{volume_magic}
+use Rattle.rio_base.specs.Shapes.{IsShape, reserved}
 
 -- the sizes that a volume of version 1 can have
 pub record IsVolumeShape (shape : VolumeShape) : Type 0 where
   pub version : shape.version ≡ 1
-  pub least_inodes : 32 ≤ shape.inodes
-  pub most_inodes : shape.inodes ≤ 32768
-  pub rows : shape.inodes % 32 ≡ 0
-  pub least_blocks : 3 + shape.inodes / 32 ≤ shape.blocks
-  pub most_blocks : shape.blocks ≤ 32768
+  pub sizes : IsShape shape
 
--- the superblock, the bitmap and the blocks of inodes, 32 inodes a block
-abbrev pub reserved_blocks : ℕ → ℕ
-reserved_blocks inodes = 2 + inodes / 32
+-- word w of block b, where the blocks lie one after the other
+abbrev pub block_words : List ℕ → BlockWords
+block_words words b w = slice_index words (512 * b + w)
+
+abbrev pub fresh_shape : ℕ → ℕ → VolumeShape
+fresh_shape blocks inodes = record { version = 1; blocks = blocks; inodes = inodes }
 
 abbrev pub superblock_word : ℕ → ℕ → ℕ → ℕ
 superblock_word blocks inodes w =
@@ -33,7 +30,7 @@ bitmap_word count w = 2 ^ min 64 (count - 64 * w) - 1
 abbrev pub fresh_volume_word : ℕ → ℕ → ℕ → ℕ → ℕ
 fresh_volume_word blocks inodes b w =
     if b == 0 then superblock_word blocks inodes w
-    else if b == 1 then bitmap_word (reserved_blocks inodes) w
+    else if b == 1 then bitmap_word (reserved (fresh_shape blocks inodes)) w
     else if b == 2 then (if w == 0 then 1 else 0)
     else 0
 

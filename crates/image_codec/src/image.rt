@@ -1,8 +1,8 @@
 //! The image: its words as bytes, and the rules of its header.
 
-ghost use Rattle.std.specs.Prelude.{◌≡◌, ◌≢◌, ◌<◌, ◌≤◌, ◌↔◌, ℕ, ◌+◌, ◌*◌, ◌%◌, ◌^◌, length, slice_index, IfOk, IsTrue, List, Err, MatchResult, All};
+ghost use Rattle.std.specs.Prelude.{◌≡◌, ◌≢◌, ◌<◌, ◌≤◌, ◌↔◌, ℕ, ◌+◌, ◌*◌, ◌%◌, ◌^◌, length, slice_index, take, codes, IfOk, IsTrue, List, Err, MatchResult, All};
 ghost use Rattle.image_codec.specs.Bytes.{bytes_of, word_at};
-ghost use Rattle.image_codec.specs.Image.{FailsFirst, HasGeometry, IsImage, IsImageLength, KeepsRules, fresh_image_words, image_magic};
+ghost use Rattle.image_codec.specs.Image.{FailsFirst, HasGeometry, IsImage, IsImageLength, KeepsRules, fresh_image_words};
 ghost use Rattle.rio_base.specs.Image.{AreImageSizes, entry_at, image_pages};
 ghost use Rattle.image_codec.specs.declared.fault.ImageFault.{ImageFault as Fault};
 
@@ -125,6 +125,7 @@ pub fn fresh_image(alloc: Global, frames: u32, scratch: u32) -> Result<Vec<u64>,
     requires { AreImageSizes frames scratch }
     ensures value { IfOk result (λ words. words.items ≡ fresh_image_words frames scratch) }
     ensures image { IfOk result (λ words. IsImage words.items) }
+    ensures text { IfOk result (λ words. take 8 (bytes_of words.items) ≡ codes "RIOCACHE") }
     ensures empty { IfOk result (λ words. (k : ℕ) → k < frames → slice_index words.items (entry_at k) ≡ 0) }
 {
     let frames = frames as u64;

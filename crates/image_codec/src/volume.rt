@@ -1,8 +1,11 @@
 //! The fresh volume.
 
-ghost use Rattle.std.specs.Prelude.{◌≡◌, ◌<◌, ◌≤◌, ℕ, ◌+◌, ◌-◌, ◌*◌, ◌/◌, ◌%◌, length, replicate, slice_index, nat_lt, nat_le, ◌&&◌, if◌then◌else◌, IfOk};
-ghost use Rattle.std.specs.Int.{bit_at};
-ghost use Rattle.image_codec.specs.Volume.{IsVolumeShape, bitmap_word, fresh_volume_words, reserved_blocks};
+ghost use Rattle.std.specs.Prelude.{◌≡◌, ◌<◌, ◌≤◌, ℕ, ◌+◌, ◌-◌, ◌*◌, length, replicate, slice_index, take, codes, nat_lt, nat_le, ◌&&◌, if◌then◌else◌, IfOk};
+ghost use Rattle.rio_base.specs.Bitmap.{used_bit};
+ghost use Rattle.rio_base.specs.Layout.{HasSuperblock};
+ghost use Rattle.rio_base.specs.Shapes.{reserved};
+ghost use Rattle.image_codec.specs.Bytes.{bytes_of};
+ghost use Rattle.image_codec.specs.Volume.{IsVolumeShape, bitmap_word, block_words, fresh_volume_words};
 
 use rio_base::VolumeShape;
 use std::alloc::{AllocError, Global};
@@ -58,7 +61,9 @@ fn write_volume(words: &mut [u64], shape: &VolumeShape)
 pub fn fresh_volume(alloc: Global, shape: &VolumeShape) -> Result<Vec<u64>, AllocError>
     requires { IsVolumeShape shape.now }
     ensures value { IfOk result (λ words. words.items ≡ fresh_volume_words shape.now.blocks shape.now.inodes) }
-    ensures marked { IfOk result (λ words. (b : ℕ) → b < 32768 → bit_at (slice_index words.items (512 + b / 64)) (b % 64) ≡ (if nat_lt b (reserved_blocks shape.now.inodes) then 1 else 0)) }
+    ensures superblock { IfOk result (λ words. HasSuperblock (block_words words.items) shape.now) }
+    ensures text { IfOk result (λ words. take 8 (bytes_of words.items) ≡ codes "RIOVOLUM") }
+    ensures marked { IfOk result (λ words. (b : ℕ) → b < 32768 → used_bit shape.now (block_words words.items) b ≡ (if nat_lt b (reserved shape.now) then 1 else 0)) }
 {
     let mut words = vec![in alloc; 0u64; BLOCK_WORDS * shape.blocks as usize]?;
     write_volume(&mut words, shape);
