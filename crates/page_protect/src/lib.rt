@@ -3,8 +3,6 @@
 
 mod closed_page;
 mod window;
-#[cfg(test)]
-mod window_tests;
 
-pub use closed_page::put_word;
+pub use closed_page::{put_run, put_word};
 pub use window::Window;
