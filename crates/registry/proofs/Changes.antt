@@ -6,16 +6,14 @@ use Rattle.rio_base.specs.Image.{entry_at, registry_pages}
 use Rattle.rio_base.specs.Machine.{Contents, Lasts, Running, StepEnds}
 use Rattle.rio_base.specs.MachineRules.{ends_after, lasts_trans}
 use Rattle.rio_model.specs.Registry.{HasLayout, OneEntry, frames_of, is_valid, tag_of}
+use Rattle.registry.specs.Changes.{CanChange, ChangesEntry}
 use Rattle.registry.specs.Entries.{entry_of, with_word}
 use Rattle.registry.specs.declared.entry.Entry.{Entry}
-use Rattle.registry.proofs.Places.{behind_header}
+use Rattle.registry.proofs.Places.{behind_header, one_word}
 
 -- an entry by its words
 entry_by : ℕ → ℕ → ℕ → ℕ → ℕ → Entry
 entry_by t f i s h = record { tag = t; file = f; index = i; size = s; shadow = h }
-
-pub one_entry_refl : (k : ℕ) (words : List ℕ) → OneEntry k words words
-one_entry_refl k words = record { count = refl; before = λ i less. refl; behind = λ i more. refl }
 
 pub one_entry_trans : (k : ℕ) (a b c : List ℕ) → OneEntry k a b → OneEntry k b c → OneEntry k a c
 one_entry_trans k a b c h i = record {
@@ -41,12 +39,45 @@ layout_kept k old new scratch scratch_now layout one same = record {
 pub frames_kept : (k : ℕ) (old new : List ℕ) → OneEntry k old new → frames_of new ≡ frames_of old
 frames_kept k old new one = one.before 2 (omega (arith, behind_header k))
 
--- a call that answered Ok, and then another
-pub ends_then : (a b c : Running) (none stop : Type 0) → (none → ⊥) → StepEnds a b none → StepEnds b c stop → StepEnds a c stop
-ends_then a b c none stop n h k = ends_after a b c stop h.steps (h.runs n) k
+-- a change of entry k, by what it did to the words
+changed : (k : ℕ) (old new : Contents) (old_run new_run : Running) (stop : Type 0) → CanChange k old old_run → new ≡ record old { words = new.words } → OneEntry k old.words new.words → Lasts old new
+    → (old_run.stopped ≡ true → stop) → StepEnds old_run new_run stop → ChangesEntry k old new old_run new_run stop
+changed k old new old_run new_run stop can rest one lasts halted ends = record {
+  rest = rest;
+  one_entry = one;
+  layout = layout_kept k old.words new.words old_run.scratch new_run.scratch can.layout one ends.steps.scratch_count;
+  frames = frames_kept k old.words new.words one;
+  closed = ap (λ (c : Contents). c.open_page) rest ∙ can.closed;
+  lasts = lasts;
+  halted = halted;
+  ends = ends;
+}
 
-pub lasts_then : (a b c : Contents) → Lasts a b → Lasts b c → Lasts a c
-lasts_then a b c h k = lasts_trans a b c h k
+-- a store of word w of entry k is a change of it
+pub changed_word : (k w v at : ℕ) (old new : Contents) (old_run new_run : Running) (stop : Type 0) → CanChange k old old_run → w < 5 → at ≡ entry_at k + w → new ≡ record old { words = slice_set old.words at v } → Lasts old new
+    → (old_run.stopped ≡ true → stop) → StepEnds old_run new_run stop → ChangesEntry k old new old_run new_run stop
+changed_word k w v at old new old_run new_run stop can small place stored lasts halted ends =
+    changed k old new old_run new_run stop can
+    (stored ∙ ap (λ (l : List ℕ). record old { words = l }) (sym (ap (λ (c : Contents). c.words) stored)))
+    (rw (ap (λ (c : Contents). c.words) stored, place) (one_word old.words k w v small))
+    lasts halted ends
+
+-- what could be changed can be changed after a change
+pub can_still : (j k : ℕ) (old new : Contents) (old_run new_run : Running) (stop : Type 0) → CanChange j old old_run → ChangesEntry k old new old_run new_run stop → CanChange j new new_run
+can_still j k old new old_run new_run stop can h = record { layout = h.layout; closed = h.closed; entry = subst (λ f. j < f) (sym h.frames) can.entry }
+
+-- a change that answered Ok, and then another of the same entry
+pub changes_then : (k : ℕ) (a b c : Contents) (r s t : Running) (none stop : Type 0) → (none → ⊥) → ChangesEntry k a b r s none → ChangesEntry k b c s t stop → ChangesEntry k a c r t stop
+changes_then k a b c r s t none stop n h l = record {
+  rest = l.rest ∙ ap (λ (x : Contents). record x { words = c.words }) h.rest;
+  one_entry = one_entry_trans k a.words b.words c.words h.one_entry l.one_entry;
+  layout = l.layout;
+  frames = l.frames ∙ h.frames;
+  closed = l.closed;
+  lasts = lasts_trans a b c h.lasts l.lasts;
+  halted = λ e. absurd (n (h.halted e));
+  ends = ends_after r s t stop h.ends.steps (h.ends.runs n) l.ends;
+}
 
 -- ---- the entry after a store
 
@@ -70,9 +101,3 @@ entry_with words k w v room =
     (word_with words (entry_at k) w 2 v room (omega arith) (cases_eq w 2))
     (word_with words (entry_at k) w 3 v room (omega arith) (cases_eq w 3))
     (word_with words (entry_at k) w 4 v room (omega arith) (cases_eq w 4))
-
-pub valid_tag : (block : ℕ) (dirty named : Bool) → is_valid (tag_of block dirty named) ≡ true
-valid_tag block true true = eq-eqb _ 1 (omega arith)
-valid_tag block true false = eq-eqb _ 1 (omega arith)
-valid_tag block false true = eq-eqb _ 1 (omega arith)
-valid_tag block false false = eq-eqb _ 1 (omega arith)

@@ -2,4 +2,3 @@ pub mod Changes
 pub mod Flags
 pub mod ImageRules
 pub mod Places
-pub mod TestImages

@@ -1,7 +1,6 @@
 -- Entries as they are read, and the words of an entry that is made.
 use Rattle.std.specs.Prelude.{◌≡◌, ◌≢◌, ℕ, ◌+◌, ◌==◌, if◌then◌else◌, Bool, true, false, List, slice_set, Option, Some, None}
 use Rattle.rio_base.specs.Image.{entry_at}
-use Rattle.rio_base.specs.Machine.{Contents}
 use Rattle.rio_base.specs.declared.places.PageName.{PageName}
 use Rattle.rio_model.specs.Registry.{IsValid, file_at, index_at, shadow_at, size_at, tag_at, tag_block, tag_of}
 use Rattle.registry.specs.declared.entry.Entry.{Entry}
@@ -27,11 +26,6 @@ with_name words k e = slice_set (slice_set (slice_set words (entry_at k + 1) e.f
 -- the words, with this entry as entry k
 abbrev pub with_entry : List ℕ → ℕ → Entry → List ℕ
 with_entry words k e = slice_set (slice_set (with_name words k e) (entry_at k + 4) e.shadow) (entry_at k) e.tag
-
--- entry k was begun to be made: it has the tag that it had, and nothing but words of memory differs
-pub record IsBegun (k : ℕ) (old new : Contents) : Type 0 where
-  pub rest : new ≡ record old { words = new.words }
-  pub tag : tag_at new.words k ≡ tag_at old.words k
 
 -- a new entry: of metadata it names no file and uses its whole page, of data it has the page's name
 abbrev pub new_entry : ℕ → Option PageName → Bool → Entry

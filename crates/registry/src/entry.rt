@@ -53,9 +53,9 @@ pub fn read_entry<M: Machine>(m: &M, k: u32) -> Entry
     }
 }
 
-/// The tag of entry `k` alone, `k` below the number of frames.
+/// The tag of entry `k` alone, `k` below the number of frames: one word, where [`read_entry`] loads five.
 #[tactic(auto, using(crate::proofs::Places::entry_within))]
-pub(crate) fn load_tag<M: Machine>(m: &M, k: u32) -> Tag
+pub fn load_tag<M: Machine>(m: &M, k: u32) -> Tag
     requires layout { HasLayout (M.contents m.now).words (M.run m.now).scratch }
     requires entry { k < frames_of (M.contents m.now).words }
     ensures { result.0 ≡ tag_at (M.contents m.now).words k }

@@ -2,9 +2,9 @@
 
 ghost use Rattle.std.specs.Prelude.{◌≡◌, ◌<◌, ◌≤◌, ◌+◌, ◌*◌, true, false, None, Some, OnOk, OnErr, IsErr, length, slice_set};
 ghost use Rattle.rio_base.specs.Image.{entry_at};
-ghost use Rattle.rio_base.specs.Machine.{Lasts, StepEnds};
-ghost use Rattle.rio_model.specs.Registry.{HasLayout, OneEntry, frames_of, is_valid, tag_at, with_dirty, without_dirty};
-ghost use Rattle.registry.specs.Entries.{IsBegun, IsFree, entry_of, new_entry, with_entry, with_name, with_word};
+ghost use Rattle.rio_model.specs.Registry.{is_valid, tag_at, with_dirty, without_dirty};
+ghost use Rattle.registry.specs.Changes.{CanChange, ChangesEntry};
+ghost use Rattle.registry.specs.Entries.{IsFree, entry_of, new_entry, with_entry, with_name, with_word};
 
 use crate::entry::{Entry, load_tag, place_of};
 use crate::tag::Tag;
@@ -14,20 +14,15 @@ use rio_base::{Block, Machine, Page, PageName, Stopped};
 /// The words of a page.
 const PAGE_WORDS: u32 = 512;
 
-/// Stores word `w` of entry `k`, `w` below 5.
+/// Stores word `w` of entry `k`, `w` below 5. `Stopped` changes nothing.
 #[tactic(auto, using(crate::proofs::Places::entry_within, crate::proofs::Places::one_word, crate::proofs::Changes::entry_with))]
-fn store_word<M: Machine>(m: &mut M, k: u32, w: u16, v: u64) -> Result<(), Stopped>
-    requires layout { HasLayout (M.contents m.old).words (M.run m.old).scratch }
-    requires closed { (M.contents m.old).open_page ≡ None }
-    requires entry { k < frames_of (M.contents m.old).words }
+fn put_entry_word<M: Machine>(m: &mut M, k: u32, w: u16, v: u64) -> Result<(), Stopped>
+    requires can { CanChange k (M.contents m.old) (M.run m.old) }
     requires within { w < 5 }
     ensures stored { OnOk result (M.contents m.new ≡ record (M.contents m.old) { words = slice_set (M.contents m.old).words (entry_at k + w) v }) }
-    ensures same { OnErr result (M.contents m.new ≡ M.contents m.old) }
     ensures entry { OnOk result (entry_of (M.contents m.new).words k ≡ with_word (entry_of (M.contents m.old).words k) w v) }
-    ensures one_entry { OneEntry k (M.contents m.old).words (M.contents m.new).words }
-    ensures lasts { Lasts (M.contents m.old) (M.contents m.new) }
-    ensures halted { (M.run m.old).stopped ≡ true → IsErr result }
-    ensures ends { StepEnds (M.run m.old) (M.run m.new) (IsErr result) }
+    ensures same { OnErr result (M.contents m.new ≡ M.contents m.old) }
+    ensures changes { ChangesEntry k (M.contents m.old) (M.contents m.new) (M.run m.old) (M.run m.new) (IsErr result) }
 {
     let place = place_of(k) + u32::from(w);
     let page = Page(place / PAGE_WORDS);
@@ -35,41 +30,14 @@ fn store_word<M: Machine>(m: &mut M, k: u32, w: u16, v: u64) -> Result<(), Stopp
     Ok(())
 }
 
-/// The same, which also leaves the header's sizes as they are.
-fn put_entry_word<M: Machine>(m: &mut M, k: u32, w: u16, v: u64) -> Result<(), Stopped>
-    requires layout { HasLayout (M.contents m.old).words (M.run m.old).scratch }
-    requires closed { (M.contents m.old).open_page ≡ None }
-    requires entry { k < frames_of (M.contents m.old).words }
-    requires within { w < 5 }
-    ensures stored { OnOk result (M.contents m.new ≡ record (M.contents m.old) { words = slice_set (M.contents m.old).words (entry_at k + w) v }) }
-    ensures same { OnErr result (M.contents m.new ≡ M.contents m.old) }
-    ensures entry { OnOk result (entry_of (M.contents m.new).words k ≡ with_word (entry_of (M.contents m.old).words k) w v) }
-    ensures one_entry { OneEntry k (M.contents m.old).words (M.contents m.new).words }
-    ensures layout { HasLayout (M.contents m.new).words (M.run m.new).scratch }
-    ensures frames { frames_of (M.contents m.new).words ≡ frames_of (M.contents m.old).words }
-    ensures lasts { Lasts (M.contents m.old) (M.contents m.new) }
-    ensures halted { (M.run m.old).stopped ≡ true → IsErr result }
-    ensures ends { StepEnds (M.run m.old) (M.run m.new) (IsErr result) }
-{
-    store_word(m, k, w, v)?;
-    Ok(())
-}
-
 /// Marks entry `k` dirty: its page may differ from the disk's block from now on. `Stopped` changes nothing.
 pub fn set_dirty<M: Machine>(m: &mut M, k: u32) -> Result<(), Stopped>
-    requires layout { HasLayout (M.contents m.old).words (M.run m.old).scratch }
-    requires closed { (M.contents m.old).open_page ≡ None }
-    requires entry { k < frames_of (M.contents m.old).words }
+    requires can { CanChange k (M.contents m.old) (M.run m.old) }
     requires valid { is_valid (tag_at (M.contents m.old).words k) ≡ true }
     ensures stored { OnOk result (M.contents m.new ≡ record (M.contents m.old) { words = slice_set (M.contents m.old).words (entry_at k) (with_dirty (tag_at (M.contents m.old).words k)) }) }
-    ensures same { OnErr result (M.contents m.new ≡ M.contents m.old) }
     ensures entry { OnOk result (entry_of (M.contents m.new).words k ≡ record (entry_of (M.contents m.old).words k) { tag = with_dirty (tag_at (M.contents m.old).words k) }) }
-    ensures one_entry { OneEntry k (M.contents m.old).words (M.contents m.new).words }
-    ensures layout { HasLayout (M.contents m.new).words (M.run m.new).scratch }
-    ensures frames { frames_of (M.contents m.new).words ≡ frames_of (M.contents m.old).words }
-    ensures lasts { Lasts (M.contents m.old) (M.contents m.new) }
-    ensures halted { (M.run m.old).stopped ≡ true → IsErr result }
-    ensures ends { StepEnds (M.run m.old) (M.run m.new) (IsErr result) }
+    ensures same { OnErr result (M.contents m.new ≡ M.contents m.old) }
+    ensures changes { ChangesEntry k (M.contents m.old) (M.contents m.new) (M.run m.old) (M.run m.new) (IsErr result) }
 {
     let tag = load_tag(m, k);
     put_entry_word(m, k, 0, tag.dirtied().0)?;
@@ -78,19 +46,12 @@ pub fn set_dirty<M: Machine>(m: &mut M, k: u32) -> Result<(), Stopped>
 
 /// Marks entry `k` clean: its page is the disk's block. `Stopped` changes nothing.
 pub fn set_clean<M: Machine>(m: &mut M, k: u32) -> Result<(), Stopped>
-    requires layout { HasLayout (M.contents m.old).words (M.run m.old).scratch }
-    requires closed { (M.contents m.old).open_page ≡ None }
-    requires entry { k < frames_of (M.contents m.old).words }
+    requires can { CanChange k (M.contents m.old) (M.run m.old) }
     requires valid { is_valid (tag_at (M.contents m.old).words k) ≡ true }
     ensures stored { OnOk result (M.contents m.new ≡ record (M.contents m.old) { words = slice_set (M.contents m.old).words (entry_at k) (without_dirty (tag_at (M.contents m.old).words k)) }) }
-    ensures same { OnErr result (M.contents m.new ≡ M.contents m.old) }
     ensures entry { OnOk result (entry_of (M.contents m.new).words k ≡ record (entry_of (M.contents m.old).words k) { tag = without_dirty (tag_at (M.contents m.old).words k) }) }
-    ensures one_entry { OneEntry k (M.contents m.old).words (M.contents m.new).words }
-    ensures layout { HasLayout (M.contents m.new).words (M.run m.new).scratch }
-    ensures frames { frames_of (M.contents m.new).words ≡ frames_of (M.contents m.old).words }
-    ensures lasts { Lasts (M.contents m.old) (M.contents m.new) }
-    ensures halted { (M.run m.old).stopped ≡ true → IsErr result }
-    ensures ends { StepEnds (M.run m.old) (M.run m.new) (IsErr result) }
+    ensures same { OnErr result (M.contents m.new ≡ M.contents m.old) }
+    ensures changes { ChangesEntry k (M.contents m.old) (M.contents m.new) (M.run m.old) (M.run m.new) (IsErr result) }
 {
     let tag = load_tag(m, k);
     put_entry_word(m, k, 0, tag.cleaned().0)?;
@@ -99,19 +60,12 @@ pub fn set_clean<M: Machine>(m: &mut M, k: u32) -> Result<(), Stopped>
 
 /// Says how many bytes of its page entry `k` uses. `Stopped` changes nothing.
 pub fn set_size<M: Machine>(m: &mut M, k: u32, size: u32) -> Result<(), Stopped>
-    requires layout { HasLayout (M.contents m.old).words (M.run m.old).scratch }
-    requires closed { (M.contents m.old).open_page ≡ None }
-    requires entry { k < frames_of (M.contents m.old).words }
+    requires can { CanChange k (M.contents m.old) (M.run m.old) }
     requires valid { is_valid (tag_at (M.contents m.old).words k) ≡ true }
     ensures stored { OnOk result (M.contents m.new ≡ record (M.contents m.old) { words = slice_set (M.contents m.old).words (entry_at k + 3) size }) }
-    ensures same { OnErr result (M.contents m.new ≡ M.contents m.old) }
     ensures entry { OnOk result (entry_of (M.contents m.new).words k ≡ record (entry_of (M.contents m.old).words k) { size = size }) }
-    ensures one_entry { OneEntry k (M.contents m.old).words (M.contents m.new).words }
-    ensures layout { HasLayout (M.contents m.new).words (M.run m.new).scratch }
-    ensures frames { frames_of (M.contents m.new).words ≡ frames_of (M.contents m.old).words }
-    ensures lasts { Lasts (M.contents m.old) (M.contents m.new) }
-    ensures halted { (M.run m.old).stopped ≡ true → IsErr result }
-    ensures ends { StepEnds (M.run m.old) (M.run m.new) (IsErr result) }
+    ensures same { OnErr result (M.contents m.new ≡ M.contents m.old) }
+    ensures changes { ChangesEntry k (M.contents m.old) (M.contents m.new) (M.run m.old) (M.run m.new) (IsErr result) }
 {
     put_entry_word(m, k, 3, u64::from(size))?;
     Ok(())
@@ -119,19 +73,12 @@ pub fn set_size<M: Machine>(m: &mut M, k: u32, size: u32) -> Result<(), Stopped>
 
 /// Gives entry `k` a shadow frame, or none by 0. `Stopped` changes nothing.
 pub fn set_shadow<M: Machine>(m: &mut M, k: u32, shadow: u32) -> Result<(), Stopped>
-    requires layout { HasLayout (M.contents m.old).words (M.run m.old).scratch }
-    requires closed { (M.contents m.old).open_page ≡ None }
-    requires entry { k < frames_of (M.contents m.old).words }
+    requires can { CanChange k (M.contents m.old) (M.run m.old) }
     requires valid { is_valid (tag_at (M.contents m.old).words k) ≡ true }
     ensures stored { OnOk result (M.contents m.new ≡ record (M.contents m.old) { words = slice_set (M.contents m.old).words (entry_at k + 4) shadow }) }
-    ensures same { OnErr result (M.contents m.new ≡ M.contents m.old) }
     ensures entry { OnOk result (entry_of (M.contents m.new).words k ≡ record (entry_of (M.contents m.old).words k) { shadow = shadow }) }
-    ensures one_entry { OneEntry k (M.contents m.old).words (M.contents m.new).words }
-    ensures layout { HasLayout (M.contents m.new).words (M.run m.new).scratch }
-    ensures frames { frames_of (M.contents m.new).words ≡ frames_of (M.contents m.old).words }
-    ensures lasts { Lasts (M.contents m.old) (M.contents m.new) }
-    ensures halted { (M.run m.old).stopped ≡ true → IsErr result }
-    ensures ends { StepEnds (M.run m.old) (M.run m.new) (IsErr result) }
+    ensures same { OnErr result (M.contents m.new ≡ M.contents m.old) }
+    ensures changes { ChangesEntry k (M.contents m.old) (M.contents m.new) (M.run m.old) (M.run m.new) (IsErr result) }
 {
     put_entry_word(m, k, 4, u64::from(shadow))?;
     Ok(())
@@ -139,18 +86,11 @@ pub fn set_shadow<M: Machine>(m: &mut M, k: u32, shadow: u32) -> Result<(), Stop
 
 /// Makes entry `k` invalid: it has no block any more. `Stopped` changes nothing.
 pub fn clear<M: Machine>(m: &mut M, k: u32) -> Result<(), Stopped>
-    requires layout { HasLayout (M.contents m.old).words (M.run m.old).scratch }
-    requires closed { (M.contents m.old).open_page ≡ None }
-    requires entry { k < frames_of (M.contents m.old).words }
+    requires can { CanChange k (M.contents m.old) (M.run m.old) }
     ensures stored { OnOk result (M.contents m.new ≡ record (M.contents m.old) { words = slice_set (M.contents m.old).words (entry_at k) 0 }) }
-    ensures same { OnErr result (M.contents m.new ≡ M.contents m.old) }
     ensures entry { OnOk result (entry_of (M.contents m.new).words k ≡ record (entry_of (M.contents m.old).words k) { tag = 0 }) }
-    ensures one_entry { OneEntry k (M.contents m.old).words (M.contents m.new).words }
-    ensures layout { HasLayout (M.contents m.new).words (M.run m.new).scratch }
-    ensures frames { frames_of (M.contents m.new).words ≡ frames_of (M.contents m.old).words }
-    ensures lasts { Lasts (M.contents m.old) (M.contents m.new) }
-    ensures halted { (M.run m.old).stopped ≡ true → IsErr result }
-    ensures ends { StepEnds (M.run m.old) (M.run m.new) (IsErr result) }
+    ensures same { OnErr result (M.contents m.new ≡ M.contents m.old) }
+    ensures changes { ChangesEntry k (M.contents m.old) (M.contents m.new) (M.run m.old) (M.run m.new) (IsErr result) }
 {
     put_entry_word(m, k, 0, 0)?;
     Ok(())
@@ -167,20 +107,13 @@ pub fn install<M: Machine>(
     name: Option<PageName>,
     dirty: bool,
 ) -> Result<(), Stopped>
-    requires layout { HasLayout (M.contents m.old).words (M.run m.old).scratch }
-    requires closed { (M.contents m.old).open_page ≡ None }
-    requires entry { k < frames_of (M.contents m.old).words }
+    requires can { CanChange k (M.contents m.old) (M.run m.old) }
     requires invalid { is_valid (tag_at (M.contents m.old).words k) ≡ false }
     requires free { IsFree (M.contents m.old).words b.0 }
     ensures stored { OnOk result (M.contents m.new ≡ record (M.contents m.old) { words = with_entry (M.contents m.old).words k (new_entry b.0 name dirty) }) }
-    ensures begun { OnErr result (IsBegun k (M.contents m.old) (M.contents m.new)) }
     ensures entry { OnOk result (entry_of (M.contents m.new).words k ≡ new_entry b.0 name dirty) }
-    ensures one_entry { OneEntry k (M.contents m.old).words (M.contents m.new).words }
-    ensures layout { HasLayout (M.contents m.new).words (M.run m.new).scratch }
-    ensures frames { frames_of (M.contents m.new).words ≡ frames_of (M.contents m.old).words }
-    ensures lasts { Lasts (M.contents m.old) (M.contents m.new) }
-    ensures halted { (M.run m.old).stopped ≡ true → IsErr result }
-    ensures ends { StepEnds (M.run m.old) (M.run m.new) (IsErr result) }
+    ensures begun { OnErr result (tag_at (M.contents m.new).words k ≡ tag_at (M.contents m.old).words k) }
+    ensures changes { ChangesEntry k (M.contents m.old) (M.contents m.new) (M.run m.old) (M.run m.new) (IsErr result) }
 {
     put_entry(m, k, &entry_for(b, name, dirty))?;
     Ok(())
@@ -209,20 +142,13 @@ fn entry_for(b: Block, name: Option<PageName>, dirty: bool) -> Entry
 }
 
 /// Stores the words of an entry that say what its page is of.
-#[tactic(auto, using(crate::proofs::Changes::one_entry_trans, crate::proofs::Changes::lasts_then))]
+#[tactic(auto, using(crate::proofs::Changes::changes_then, crate::proofs::Changes::can_still))]
 fn put_name<M: Machine>(m: &mut M, k: u32, entry: &Entry) -> Result<(), Stopped>
-    requires layout { HasLayout (M.contents m.old).words (M.run m.old).scratch }
-    requires closed { (M.contents m.old).open_page ≡ None }
-    requires entry { k < frames_of (M.contents m.old).words }
+    requires can { CanChange k (M.contents m.old) (M.run m.old) }
     ensures stored { OnOk result (M.contents m.new ≡ record (M.contents m.old) { words = with_name (M.contents m.old).words k entry.now }) }
-    ensures begun { OnErr result (IsBegun k (M.contents m.old) (M.contents m.new)) }
     ensures entry { OnOk result (entry_of (M.contents m.new).words k ≡ record (entry_of (M.contents m.old).words k) { file = entry.now.file; index = entry.now.index; size = entry.now.size }) }
-    ensures one_entry { OneEntry k (M.contents m.old).words (M.contents m.new).words }
-    ensures layout { HasLayout (M.contents m.new).words (M.run m.new).scratch }
-    ensures frames { frames_of (M.contents m.new).words ≡ frames_of (M.contents m.old).words }
-    ensures lasts { Lasts (M.contents m.old) (M.contents m.new) }
-    ensures halted { (M.run m.old).stopped ≡ true → IsErr result }
-    ensures ends { StepEnds (M.run m.old) (M.run m.new) (IsErr result) }
+    ensures begun { OnErr result (tag_at (M.contents m.new).words k ≡ tag_at (M.contents m.old).words k) }
+    ensures changes { ChangesEntry k (M.contents m.old) (M.contents m.new) (M.run m.old) (M.run m.new) (IsErr result) }
 {
     put_entry_word(m, k, 1, entry.file)?;
     put_entry_word(m, k, 2, entry.index)?;
@@ -231,20 +157,13 @@ fn put_name<M: Machine>(m: &mut M, k: u32, entry: &Entry) -> Result<(), Stopped>
 }
 
 /// Stores the words of an entry, the tag last.
-#[tactic(auto, using(crate::proofs::Changes::one_entry_trans, crate::proofs::Changes::lasts_then))]
+#[tactic(auto, using(crate::proofs::Changes::changes_then, crate::proofs::Changes::can_still))]
 fn put_entry<M: Machine>(m: &mut M, k: u32, entry: &Entry) -> Result<(), Stopped>
-    requires layout { HasLayout (M.contents m.old).words (M.run m.old).scratch }
-    requires closed { (M.contents m.old).open_page ≡ None }
-    requires entry { k < frames_of (M.contents m.old).words }
+    requires can { CanChange k (M.contents m.old) (M.run m.old) }
     ensures stored { OnOk result (M.contents m.new ≡ record (M.contents m.old) { words = with_entry (M.contents m.old).words k entry.now }) }
-    ensures begun { OnErr result (IsBegun k (M.contents m.old) (M.contents m.new)) }
     ensures entry { OnOk result (entry_of (M.contents m.new).words k ≡ entry.now) }
-    ensures one_entry { OneEntry k (M.contents m.old).words (M.contents m.new).words }
-    ensures layout { HasLayout (M.contents m.new).words (M.run m.new).scratch }
-    ensures frames { frames_of (M.contents m.new).words ≡ frames_of (M.contents m.old).words }
-    ensures lasts { Lasts (M.contents m.old) (M.contents m.new) }
-    ensures halted { (M.run m.old).stopped ≡ true → IsErr result }
-    ensures ends { StepEnds (M.run m.old) (M.run m.new) (IsErr result) }
+    ensures begun { OnErr result (tag_at (M.contents m.new).words k ≡ tag_at (M.contents m.old).words k) }
+    ensures changes { ChangesEntry k (M.contents m.old) (M.contents m.new) (M.run m.old) (M.run m.new) (IsErr result) }
 {
     put_name(m, k, entry)?;
     put_entry_word(m, k, 4, entry.shadow)?;

@@ -5,11 +5,11 @@
 mod entry;
 mod entry_changes;
 mod image_rules;
-#[cfg(test)]
-mod registry_tests;
 mod tag;
+#[cfg(test)]
+mod tag_tests;
 
-pub use entry::{Entry, read_entry};
+pub use entry::{Entry, load_tag, read_entry};
 pub use entry_changes::{clear, install, set_clean, set_dirty, set_shadow, set_size};
 pub use image_rules::{BadImage, check_image};
 pub use tag::Tag;
