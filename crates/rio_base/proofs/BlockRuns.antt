@@ -5,19 +5,7 @@ use Rattle.std.proofs.lemmas.Bool.{cases_eq}
 use Rattle.rio_base.specs.declared.places.PageName.{PageName}
 use Rattle.rio_base.specs.declared.failures.VolFail.{VolFail}
 use Rattle.rio_base.specs.Blocks.{BlockWords, CanName, Caches, Ends, Health, IsRun, SamePage, Seen}
-use Rattle.rio_base.proofs.Ends.{ends_later}
-
-pub same_page : (name : Option PageName) → SamePage name name
-same_page None = tt
-same_page (Some a) = (refl, refl)
-
--- a name that could be given before a call under it can be given after it
-pub can_name_on : (s t : Seen) (b : ℕ) (name : Option PageName) → CanName s b name → Caches s t b name → CanName t b name
-can_name_on s t b name h k = record { in_range = h.in_range; agrees = λ e. from (k.named e) }
-  where
-    from : ((s.cached b ≡ true) × (t.names b ≡ s.names b)) ⊎ (t.names b ≡ name) → SamePage (t.names b) name
-    from (inl e) = subst (λ o. SamePage o name) (sym e.1) (h.agrees e.0)
-    from (inr e) = subst (λ o. SamePage o name) (sym e) (same_page name)
+use Rattle.rio_base.specs.BlockRules.{ends_later}
 
 -- calls that left the object running or stopped as it was
 pub record Ran (s t : Health) : Type 0 where

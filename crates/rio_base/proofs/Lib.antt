@@ -1,7 +1,6 @@
 pub mod BlockRuns
 pub mod Clears
 pub mod Copies
-pub mod Ends
 pub mod Faults
 pub mod Files
 pub mod Fronts

@@ -74,3 +74,24 @@ firm_outside_one inside b k l j h = record { loose = λ c n z. h.loose c (λ e. 
 
 pub firm_outside_all : (inside : ℕ → Type 0) (k l : Kept) → Firm k l → FirmOutside inside k l
 firm_outside_all inside k l h = record { loose = λ c n z. h.loose c z }
+
+-- ---- a larger set
+
+pub caches_by_wider : (bears more : ℕ → Option PageName → Type 0) (s t : Seen) → ((c : ℕ) (name : Option PageName) → bears c name → more c name) → CachesBy bears s t → CachesBy more s t
+caches_by_wider bears more s t wider h = record { each = λ c cached. at c (h.each c cached) }
+  where
+    at : (c : ℕ) → ((s.cached c ≡ true) × (t.names c ≡ s.names c)) ⊎ bears c (t.names c) → ((s.cached c ≡ true) × (t.names c ≡ s.names c)) ⊎ more c (t.names c)
+    at c (inl kept) = inl kept
+    at c (inr given) = inr (wider c (t.names c) given)
+
+pub same_outside_wider : (inside more : ℕ → Type 0) (f g : BlockWords) → ((c : ℕ) → inside c → more c) → SameOutside inside f g → SameOutside more f g
+same_outside_wider inside more f g wider h = record { others = λ c w n. h.others c w (λ i. n (wider c i)) }
+
+pub firm_outside_wider : (inside more : ℕ → Type 0) (k l : Kept) → ((c : ℕ) → inside c → more c) → FirmOutside inside k l → FirmOutside more k l
+firm_outside_wider inside more k l wider h = record { loose = λ c n z. h.loose c (λ i. n (wider c i)) z }
+
+pub same_outside_refl : (inside : ℕ → Type 0) (f : BlockWords) → SameOutside inside f f
+same_outside_refl inside f = record { others = λ c w n. refl }
+
+pub firm_outside_refl : (inside : ℕ → Type 0) (k : Kept) → FirmOutside inside k k
+firm_outside_refl inside k = record { loose = λ c n z. z }

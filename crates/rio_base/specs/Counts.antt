@@ -10,6 +10,6 @@ pub record HasCause {T E : Type 0} (answer : Result T E) (before after : ℕ) : 
   pub later : before ≤ after
   pub cause : MatchResult answer (λ _. Unit {0}) (λ _. Rose before after)
 
--- the count rose at least n times, or stands at the largest u64
+-- the count rose by n at least, or stands at the largest u64
 abbrev pub RoseBy : ℕ → ℕ → ℕ → Type 0
 RoseBy n before after = (before + n ≤ after) ⊎ (2 ^ 64 ≤ after + 1)

@@ -1,4 +1,5 @@
 pub mod Bitmap
+pub mod BlockRules
 pub mod BlockSets
 pub mod Blocks
 pub mod Counts

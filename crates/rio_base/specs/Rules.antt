@@ -163,6 +163,20 @@ ends_by_well s t fault stop later same no_fault no_stop = record {
   runs = λ n. same;
 }
 
+-- a call that ended with a fault, and then calls that ended well
+pub rose_stays : (a b c : ℕ) → Rose a b → b ≤ c → Rose a c
+rose_stays a b c (inl h) k = inl (omega arith)
+rose_stays a b c (inr h) k = inr (omega arith)
+
+pub ends_by_before : (s t u : Health) (fault stop : Type 0) → EndsBy s t fault stop → (stop → ⊥) → t.faults ≤ u.faults → u.stopped ≡ t.stopped → EndsBy s u fault stop
+ends_by_before s t u fault stop h no_stop later same = record {
+  later = le_trans h.later later;
+  stays = λ e. same ∙ h.stays e;
+  cause = λ f. rose_stays s.faults t.faults u.faults (h.cause f) later;
+  told = λ p. absurd (no_stop p);
+  runs = λ n. same ∙ h.runs n;
+}
+
 -- the same call, by what another answer says of it
 pub ends_by_as : (s t : Health) (fault stop fault_as stop_as : Type 0) → (fault_as → fault) → (stop_as → stop) → (stop → stop_as) → EndsBy s t fault stop → EndsBy s t fault_as stop_as
 ends_by_as s t fault stop fault_as stop_as f g h e = record {

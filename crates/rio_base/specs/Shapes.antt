@@ -1,14 +1,16 @@
 -- The sizes of a volume, and what of it is reserved.
-use Rattle.std.specs.Prelude.{◌≡◌, ℕ, ◌+◌, ◌/◌, ◌%◌, ◌<◌, ◌≤◌, ◌==◌, if◌then◌else◌, true, None}
+use Rattle.std.specs.Prelude.{◌≡◌, ℕ, ◌+◌, ◌/◌, ◌%◌, ◌<◌, ◌≤◌, ◌==◌, ◌⊎◌, if◌then◌else◌, true, None}
 use Rattle.rio_base.specs.declared.places.VolumeShape.{VolumeShape}
 use Rattle.rio_base.specs.Blocks.{Seen}
 
--- sizes that a volume may have
+-- sizes that a volume may have, of those with at most 32,768 blocks and inodes, which are served
 pub record IsShape (shape : VolumeShape) : Type 0 where
+  pub version : (shape.version ≡ 1) ⊎ (shape.version ≡ 2)
   pub inodes_from : 32 ≤ shape.inodes
   pub inodes_to : shape.inodes ≤ 32768
   pub inode_blocks : shape.inodes % 32 ≡ 0
   pub blocks_from : 3 + shape.inodes / 32 ≤ shape.blocks
+  pub blocks_second : shape.version ≡ 2 → 9 + shape.inodes / 32 ≤ shape.blocks
   pub blocks_to : shape.blocks ≤ 32768
 
 -- how many blocks of the bitmap there are beside block 1: none in version 1, seven in version 2

@@ -1,9 +1,10 @@
 -- A limit on steps: what is left of it, and what taking steps makes of it.
-use Rattle.std.specs.Prelude.{◌≡◌, ℕ, ◌-◌, ◌<◌, ◌≤◌, ◌⊎◌, Bool, true, false, Option, Some, None, is_some, min, Result, Ok, Err}
+use Rattle.std.specs.Prelude.{◌≡◌, ℕ, ◌-◌, ◌<◌, ◌≤◌, ◌⊎◌, Bool, true, false, Option, Some, None, is_some, min, Result, Ok, Err, refl}
 use Rattle.rio_base.specs.declared.failures.VolFail.{VolFail}
 use Rattle.rio_base.specs.declared.failures.VolFail.TheVariants.{Stopped}
 use Rattle.rio_base.specs.declared.step_limit.StepLimit.{StepLimit}
 use Rattle.rio_base.specs.Blocks.{Causes, Health}
+use Rattle.rio_base.specs.Rules.{none_some}
 use Rattle.rio_base.specs.Volume.{Below}
 
 -- there are n steps left, or no limit
@@ -51,3 +52,7 @@ limit_below limit = record { roomy = true; home = None; writes = 0; around = Non
 abbrev pub ReadsWithin : {T : Type 0} → ℕ → StepLimit → Result T VolFail → Type 0
 ReadsWithin n limit (Ok _) = 0 < n → limit.stopped ≡ false
 ReadsWithin n limit (Err fail) = (fail ≡ Stopped) × (0 < n) × (limit.stopped ≡ true)
+
+-- where it is told how far faults can rise, there are no more: it isn't told
+pub limit_bounds : (limit : StepLimit) (faults most : ℕ) → (limit_below limit).limit ≡ Some most → faults ≤ most
+limit_bounds limit faults most e = absurd (none_some most None refl e)

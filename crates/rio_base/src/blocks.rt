@@ -44,7 +44,7 @@ pub trait Blocks {
 
     /// Reads a run of words of block `b`, from word `w` on, as many as `into` has: as [`Blocks::word`] of each of them.
     /// After a failure `into` may hold anything.
-    #[tactic(auto, using(crate::proofs::Ends::caches_refl, crate::proofs::Ends::caches_trans, crate::proofs::BlockRuns::ends_on))]
+    #[tactic(auto, using(crate::specs::BlockRules::caches_refl, crate::specs::BlockRules::caches_trans, crate::proofs::BlockRuns::ends_on))]
     fn read_run(
         &mut self,
         b: Block,
@@ -70,7 +70,7 @@ pub trait Blocks {
         Ok(())
     }
 
-    /// Lends the 512 words of block `b` where they lie in memory, as those of a page that was read just before do.
+    /// May lend the 512 words of block `b`, where they lie in memory. Whoever gets none reads them.
     fn page(&self, b: Block) -> Option<&[u64]>
         requires sound { sound self.now }
         requires block { b.0 < (seen self.now).count }

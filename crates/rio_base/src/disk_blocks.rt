@@ -7,8 +7,8 @@ use crate::failures::Failed;
 use crate::places::Block;
 
 /// Blocks of 512 words, fewer than 4,294,967,296. A block that is written reads as new at once. It is pending until a
-/// [`DiskBlocks::sync`] succeeds: what it holds after a stop isn't known before that. A call that answers `Failed` counted
-/// a fault.
+/// [`DiskBlocks::sync`] succeeds: what it holds after a stop isn't known before that. So is a block whose write a stop
+/// cut off ([`DiskBlocks::tear`]). A call that answers `Failed` counted a fault.
 pub trait DiskBlocks {
     /// The blocks, which of them are pending, the counts, and what is kept beside the blocks.
     ghost contents: { Self → DiskContents };

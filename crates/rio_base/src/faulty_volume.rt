@@ -88,6 +88,7 @@ impl Blocks for FaultyVolume {
 
 #[tactic(auto, using(crate::proofs::Faults::ends_counted, crate::proofs::Faults::halts_counted, crate::proofs::Faults::goes_counted, crate::proofs::Faults::runs_counted))]
 impl Volume for FaultyVolume {
+    ghost use Rattle.rio_base.specs.StepLimits.{limit_bounds};
     ghost use Rattle.rio_base.specs.ListVolumes.{list_below, list_kept, list_settled};
 
     ghost below = { λ v. list_below v.inner };
@@ -95,6 +96,8 @@ impl Volume for FaultyVolume {
     ghost kept = { λ v. list_kept v.inner };
 
     ghost settled = { λ x. list_settled x.inner };
+
+    ghost limited = { λ x most. limit_bounds x.inner.steps _ most };
 
     ghost touched_sure = { λ x b t. t };
 

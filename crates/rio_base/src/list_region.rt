@@ -35,6 +35,7 @@ impl ListRegion {
 }
 
 impl RegionWords for ListRegion {
+    ghost use Rattle.rio_base.specs.StepLimits.{limit_bounds};
     ghost use Rattle.rio_base.specs.ListRegions.{region_content, region_health, region_below, RegionReady};
 
     ghost count = { λ r. r.count };
@@ -48,6 +49,8 @@ impl RegionWords for ListRegion {
     ghost health = { region_health };
 
     ghost below = { region_below };
+
+    ghost limited = { λ x most. limit_bounds x.steps _ most };
 
     ghost small = { λ x ready. ready.small };
 

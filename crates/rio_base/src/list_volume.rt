@@ -228,6 +228,7 @@ impl Blocks for ListVolume {
 }
 
 impl Volume for ListVolume {
+    ghost use Rattle.rio_base.specs.StepLimits.{limit_bounds};
     ghost use Rattle.rio_base.specs.ListVolumes.{list_below, list_kept, list_settled};
 
     ghost below = { list_below };
@@ -235,6 +236,8 @@ impl Volume for ListVolume {
     ghost kept = { list_kept };
 
     ghost settled = { list_settled };
+
+    ghost limited = { λ x most. limit_bounds x.steps _ most };
 
     ghost touched_sure = { λ x b t. tt };
 

@@ -1,6 +1,6 @@
 //! The words of one region's file, in place on a volume.
 
-ghost use Rattle.std.specs.Prelude.{◌≡◌, ◌<◌, ◌≤◌, ◌+◌, ◌^◌, ℕ, IfOk, OnOk, IsErrOf, length};
+ghost use Rattle.std.specs.Prelude.{◌≡◌, ◌<◌, ◌≤◌, ◌+◌, ◌^◌, ℕ, Some, IfOk, OnOk, IsErrOf, length};
 ghost use Rattle.rio_base.specs.Blocks.{Ends, FaultAt, Health, as_word};
 ghost use Rattle.rio_base.specs.Volume.{Below};
 ghost use Rattle.rio_base.specs.Regions.{AreWords, OldOrPutWord, OldOrPutWords, RegionContent, Stays, put_word, put_words};
@@ -93,6 +93,8 @@ pub trait RegionWords {
         }
         Ok(())
     }
+
+    ghost limited: { (x : Self) (most : ℕ) → (below x).limit ≡ Some most → (health x).faults ≤ most };
 
     ghost small: { (x : Self) → ready x → count x < 2 ^ 32 };
 

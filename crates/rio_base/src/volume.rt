@@ -1,6 +1,6 @@
 //! A cached volume: blocks that read and blocks that stand, single stores, and updates of several blocks at once.
 
-ghost use Rattle.std.specs.Prelude.{◌≡◌, ℕ, ◌<◌, ◌≤◌, true, false, None, ◌⊎◌, IfOk, OnOk, IsErrOf, length};
+ghost use Rattle.std.specs.Prelude.{◌≡◌, ℕ, ◌<◌, ◌≤◌, true, false, Some, None, ◌⊎◌, IfOk, OnOk, IsErrOf, length};
 ghost use Rattle.rio_base.specs.Blocks.{CanName, FaultAt, IsPlace, IsSpan, as_word, Looks, Caches, Drops, Ends, Halts};
 ghost use Rattle.rio_base.specs.Volume.{Below, Kept, Passes, Settled, put, cleared, SameBut, Firm, FirmBut, CachesStored, stored_name, Runs, Goes, SameUpdate, Begun, HasRoom, Touches, OldOrNew, OldOrPut, OldOrRun, RunName, put_run};
 
@@ -62,8 +62,9 @@ pub trait Volume: Blocks {
         ensures sound { Self.sound self.new };
 
     /// Stores a run of words of a block, from word `w` on in rising order, outside an update: as [`Volume::store`] of
-    /// each of them. `Fault` says how many were stored; `Stopped` leaves a front of them.
-    #[tactic(auto, using(crate::specs::Rules::goes_trans, crate::proofs::VolumeRuns::same_refl))]
+    /// each of them, but that the page may have the given name afterwards where its own was wider. `Fault` says how many
+    /// were stored; `Stopped` leaves a front of them.
+    #[tactic(auto, using(crate::specs::Rules::goes_trans, crate::specs::BlockRules::same_refl))]
     fn store_run(
         &mut self,
         b: Block,
@@ -207,6 +208,8 @@ pub trait Volume: Blocks {
         ensures sound { Self.sound self.new };
 
     ghost settled: { (x : Self) → Self.sound x → Settled (Self.seen x) (kept x) };
+
+    ghost limited: { (x : Self) (most : ℕ) → (below x).limit ≡ Some most → (Self.health x).faults ≤ most };
 
     ghost touched_sure: { (x : Self) → (b : ℕ) → (kept x).touched b ≡ true → Self.sure x b };
 

@@ -14,7 +14,7 @@ use crate::volume::Volume;
 use std::test::Fail;
 
 /// Stores a word at the front of each of two blocks, by one update.
-#[tactic(auto, using(crate::proofs::Ends::still_metadata, crate::proofs::Ends::dropped_metadata))]
+#[tactic(auto, using(crate::specs::BlockRules::still_metadata, crate::specs::BlockRules::dropped_metadata))]
 fn update<V: Volume>(v: &mut V, a: Block, b: Block, value: u64) -> Result<(), VolFail>
     requires sound { V.sound v.old }
     requires blocks { (a.0 < (V.seen v.old).count) × (b.0 < (V.seen v.old).count) }

@@ -5,7 +5,8 @@ use Rattle.rio_base.specs.declared.places.PageName.{PageName}
 use Rattle.rio_base.specs.Blocks.{BlockWords, Seen}
 use Rattle.rio_base.specs.Rules.{goes_trans, firm_trans}
 use Rattle.rio_base.specs.Volume.{OldOrPut, OldOrRun, RunName, put, put_run, stored_name}
-use Rattle.rio_base.proofs.VolumeRuns.{put_next, stored_trans, same_trans, can_name_stored, run_name_next}
+use Rattle.rio_base.specs.BlockRules.{can_name_stored, same_trans, stored_trans}
+use Rattle.rio_base.proofs.VolumeRuns.{put_next, run_name_next}
 use Rattle.rio_base.proofs.volume.Volume.store_run.Goals as goal
 
 front_of : (f g h : BlockWords) (b w n most : ℕ) (words : List ℕ) → n < most → g ≡ put_run f b w n words → OldOrPut g h b (w + n) (slice_index words n) → OldOrRun f h b w words most
