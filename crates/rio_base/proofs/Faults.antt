@@ -1,10 +1,16 @@
 -- How a call ends on a volume whose faults are counted elsewhere.
-use Rattle.std.proofs.Common.{ℕ, ◌≤◌, Bool, Result, Ok, Err, arith, inl, inr}
+use Rattle.std.proofs.Common.{◌≡◌, ◌≢◌, ◌⊎◌, ℕ, ◌+◌, ◌-◌, ◌<◌, ◌≤◌, Bool, true, false, List, Option, Some, None, Result, Ok, Err, slice_index, take, arith, inl, inr, refl, subst, sym, ◌∙◌, IsErr}
+use Rattle.std.proofs.lemmas.Bool.{cases_eq}
+use Rattle.std.proofs.lemmas.Bool.Decides.{nat_tests}
+use Rattle.std.proofs.lemmas.List.{get_or-take}
 use Rattle.rio_base.specs.Counts.{Rose}
 use Rattle.rio_base.specs.declared.failures.VolFail.{VolFail}
 use Rattle.rio_base.specs.declared.failures.VolFail.TheVariants.{Fault, Stopped}
-use Rattle.rio_base.specs.Blocks.{FailCause, Ends, HaltCause, Halts}
-use Rattle.rio_base.specs.Volume.{Below, Runs, Goes}
+use Rattle.rio_base.specs.Blocks.{BlockWords, FailCause, Ends, HaltCause, Halts}
+use Rattle.rio_base.specs.Rules.{true_false}
+use Rattle.rio_base.specs.StepLimits.{HasSteps, TakesSteps, made_of, made_within}
+use Rattle.rio_base.specs.declared.step_limit.StepLimit.{StepLimit}
+use Rattle.rio_base.specs.Volume.{Below, Runs, Goes, put_run}
 
 never : Rose 0 0 → ⊥
 never (inl h) = absurd (omega arith)
@@ -30,3 +36,37 @@ runs_counted m n s t old new later h = record { later = later; stays = h.stays; 
 
 pub goes_counted : (m n : ℕ) (s t : Bool) (old new : Below) → m ≤ n → Goes (record { faults = 0; stopped = s }) old (record { faults = 0; stopped = t }) new → Goes (record { faults = m; stopped = s }) old (record { faults = n; stopped = t }) new
 goes_counted m n s t old new later h = record { runs = runs_counted m n s t old new later h.runs; quiet = h.quiet }
+
+-- ---- a run of which a front is handed to the volume inside
+
+pub made_most : (n : ℕ) (limit : StepLimit) → made_of n limit ≤ n
+made_most n limit = most limit.left limit.stopped
+  where
+    most : (left : Option ℕ) (stopped : Bool) → made_within n left stopped ≤ n
+    most left true = omega arith
+    most None false = omega arith
+    most (Some left) false = omega arith
+
+pub all_made : (n : ℕ) (stop : Type 0) (old new : StepLimit) → TakesSteps n stop old new → (stop → ⊥) → made_of n old ≡ n
+all_made n stop old new h runs = all old.left old.stopped (h.made runs).0 (h.made runs).1
+  where
+    all : (left : Option ℕ) (stopped : Bool) → (0 < n → stopped ≡ false) → HasSteps n left → made_within n left stopped ≡ n
+    all left true running has = none (cases_eq n 0)
+      where
+        none : (n ≡ 0) ⊎ (n ≢ 0) → 0 ≡ n
+        none (inl e) = sym e
+        none (inr more) = absurd (true_false (running (omega (arith, more))))
+    all None false running has = refl
+    all (Some left) false running has = omega (arith, has)
+
+-- the first n words of a front of a run are those of the run
+pub front_taken : (f g : BlockWords) (b w n before : ℕ) (from : List ℕ) → n ≤ before → g ≡ put_run f b w n (take before from) → g ≡ put_run f b w n from
+front_taken f g b w n before from within is = is ∙ (λ i c x. at_word c x i)
+  where
+    at_word : (c x : ℕ) → put_run f b w n (take before from) c x ≡ put_run f b w n from c x
+    at_word c x =
+        let same : w ≤ x → x < w + n → slice_index (take before from) (x - w) ≡ slice_index from (x - w) = λ l m. get_or-take before from (x - w) 0 (omega (arith, l, m, within)) in
+        grind (arith, nat_tests, same)
+
+pub ok_no_err : {T E : Type 0} (answer : Result T E) (x : T) → answer ≡ Ok x → IsErr answer → ⊥
+ok_no_err {T = T} {E = E} answer x is = subst (λ (r : Result T E). IsErr r → ⊥) (sym is) (λ h. true_false (sym h))

@@ -1,5 +1,5 @@
 -- Words put over a part of a list, as the blocks of the volume in memory and as the words of the region.
-use Rattle.std.proofs.Common.{◌≡◌, ◌≢◌, ℕ, ◌+◌, ◌-◌, ◌*◌, ◌<◌, ◌≤◌, List, slice_index, slice_index_or, ◌++◌, take, drop, length, length-drop, length-append, append_assoc, refl, subst, arith, ap, ◌∙◌, sym, true, false, Bool}
+use Rattle.std.proofs.Common.{◌≡◌, ◌≢◌, ℕ, ◌+◌, ◌-◌, ◌*◌, ◌<◌, ◌≤◌, List, slice_index, slice_index_or, ◌++◌, take, drop, length, length-drop, length-append, append_assoc, subst, arith, ap, ◌∙◌, sym}
 use Rattle.std.proofs.lemmas.Bool.Decides.{nat_tests}
 use Rattle.std.proofs.lemmas.List.{get_or_append_left, get_or-append_right, get_or-take, get_or-drop, length-take-le}
 use Rattle.std.proofs.Math.Seq.{paste}
@@ -7,7 +7,7 @@ use Rattle.rio_base.specs.ListVolumes.{flat}
 use Rattle.rio_base.specs.Memory.{FrontStored}
 use Rattle.rio_base.specs.Blocks.{BlockWords}
 use Rattle.rio_base.specs.Volume.{SameBut, put, put_run}
-use Rattle.rio_base.specs.Regions.{RegionContent, put_words}
+use Rattle.rio_base.specs.Regions.{put_words}
 
 mid_stored : (xs from : List ℕ) (a n : ℕ) → a + n ≤ length xs → n ≤ length from → FrontStored a n from xs (take a xs ++ (take n from ++ drop (a + n) xs))
 mid_stored xs from a n fits enough =

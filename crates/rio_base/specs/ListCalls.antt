@@ -1,5 +1,5 @@
 -- What the calls of the volume in memory make of it, each by the answer that it gave.
-use Rattle.std.specs.Prelude.{◌≡◌, ℕ, ◌+◌, ◌<◌, Bool, true, false, List, length, slice_set, if◌then◌else◌, Result, Ok, Err, IsErr, OnOk}
+use Rattle.std.specs.Prelude.{◌≡◌, ℕ, ◌+◌, true, false, List, length, slice_set, if◌then◌else◌, Result, IsErr, OnOk}
 use Rattle.rio_base.specs.declared.list_volume.ListVolume.{ListVolume}
 use Rattle.rio_base.specs.ListVolumes.{ListSound, flat, mark_of}
 use Rattle.rio_base.specs.StepLimits.{TakesSteps, made_of}

@@ -1,5 +1,5 @@
 -- The region in memory: a list of words, with no machine below.
-use Rattle.std.specs.Prelude.{◌≡◌, ◌<◌, ◌^◌, ℕ, slice_index_or, length, replicate, Option, is_some, false, true}
+use Rattle.std.specs.Prelude.{◌≡◌, ◌<◌, ◌^◌, ℕ, slice_index_or, length, replicate, Option, false}
 use Rattle.rio_base.specs.declared.list_region.ListRegion.{ListRegion}
 use Rattle.rio_base.specs.Blocks.{Health}
 use Rattle.rio_base.specs.Volume.{Below}

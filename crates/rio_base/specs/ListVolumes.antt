@@ -1,5 +1,5 @@
 -- The volume in memory: how its blocks lie in one list of words, and what it keeps true.
-use Rattle.std.specs.Prelude.{◌≡◌, ℕ, ◌+◌, ◌*◌, Bool, true, false, ◌&&◌, nat_lt, if◌then◌else◌, List, slice_index_or, ◌++◌, take, drop, replicate, length, Option, None, is_some, refl}
+use Rattle.std.specs.Prelude.{◌≡◌, ℕ, ◌+◌, ◌*◌, Bool, true, false, ◌&&◌, nat_lt, if◌then◌else◌, List, slice_index_or, ◌++◌, take, drop, replicate, length, Option, None, refl}
 use Rattle.std.proofs.Common.{ap, sym, ◌∙◌}
 use Rattle.rio_base.specs.Rules.{true_false}
 use Rattle.rio_base.specs.declared.list_volume.ListVolume.{ListVolume}
