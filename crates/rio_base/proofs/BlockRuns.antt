@@ -1,10 +1,9 @@
 -- One call of `word` after another, of one block under one name.
-use Rattle.std.specs.Prelude.{◌≡◌, ◌≢◌, ℕ, ◌+◌, ◌<◌, ◌≤◌, ◌⊎◌, true, Option, Some, None, Result, refl, List, length, slice_index, slice_set}
+use Rattle.std.specs.Prelude.{◌≡◌, ◌≢◌, ℕ, ◌+◌, ◌<◌, ◌≤◌, ◌⊎◌, Result, refl, List, length, slice_index, slice_set}
 use Rattle.std.proofs.Common.{◌∙◌, sym, subst, inl, inr, arith, ap, le_refl, get_or-set_other, get_or-set_same}
 use Rattle.std.proofs.lemmas.Bool.{cases_eq}
-use Rattle.rio_base.specs.declared.places.PageName.{PageName}
 use Rattle.rio_base.specs.declared.failures.VolFail.{VolFail}
-use Rattle.rio_base.specs.Blocks.{BlockWords, CanName, Caches, Ends, Health, IsRun, SamePage, Seen}
+use Rattle.rio_base.specs.Blocks.{BlockWords, Ends, Health, IsRun}
 use Rattle.rio_base.specs.BlockRules.{ends_later}
 
 -- calls that left the object running or stopped as it was

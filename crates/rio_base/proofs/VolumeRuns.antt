@@ -1,5 +1,5 @@
 -- One call of `store` after another, of one block under one name.
-use Rattle.std.specs.Prelude.{◌≡◌, ℕ, ◌+◌, ◌-◌, ◌⊎◌, true, false, Bool, Option, Some, None, refl, List, slice_index}
+use Rattle.std.specs.Prelude.{◌≡◌, ℕ, ◌+◌, ◌-◌, true, false, Bool, Option, refl, List, slice_index}
 use Rattle.std.proofs.Common.{◌∙◌, inl, inr, arith, ap}
 use Rattle.std.proofs.lemmas.Bool.Decides.{nat_tests}
 use Rattle.rio_base.specs.declared.places.PageName.{PageName}

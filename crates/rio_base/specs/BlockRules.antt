@@ -1,5 +1,5 @@
 -- What calls on blocks leave so composes: how they end, which names blocks bear, and what differs in one block.
-use Rattle.std.specs.Prelude.{◌≡◌, ◌≢◌, ℕ, ◌<◌, ◌≤◌, ◌⊎◌, true, Option, Some, None, Result, Ok, Err, max, refl}
+use Rattle.std.specs.Prelude.{◌≡◌, ◌≢◌, ℕ, ◌<◌, ◌≤◌, ◌⊎◌, true, Option, Some, None, Result, Ok, Err, refl}
 use Rattle.std.proofs.Common.{le_trans, ◌∙◌, sym, subst, inl, inr, ap, arith}
 use Rattle.std.proofs.lemmas.Bool.{cases_eq}
 use Rattle.rio_base.specs.declared.places.PageName.{PageName}
