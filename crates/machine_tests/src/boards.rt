@@ -1,45 +1,15 @@
-//! Tests of boards of 83 pages, of which the last is scratch, over a disk of 4 blocks.
+//! Boards of 83 pages, of which the last is scratch, over a disk of 4 blocks.
 
-ghost use Rattle.std.specs.Prelude.{◌≡◌, ◌<◌, ◌≤◌, ◌+◌, ◌-◌, ◌*◌, ◌/◌, ◌%◌, ◌^◌, false, Some, None, IfOk, length};
-ghost use Rattle.phys_memory.specs.ListMem.{words_of};
+ghost use Rattle.std.specs.Prelude.{◌≡◌, ◌/◌, Some, None, IfOk, length};
 
-use crate::Board;
-use crate::machine_tests::save;
+use crate::machines::{board_of, board_over};
+use crate::saving::save;
 use block_disk::MemDisk;
+use board::Board;
 use phys_memory::ListMem;
 use rio_base::{Block, DiskBlocks, DiskFail, Machine, MemWords, Page, Stopped, Wild, WordAt};
 use std::alloc::{AllocError, Global};
 use std::test::Fail;
-
-type MemBoard = Board<ListMem, MemDisk>;
-
-/// A board over this memory, with one page of scratch, and a disk of 4 blocks of zeros.
-fn board_over(alloc: Global, mem: ListMem, stop_after: Option<u64>) -> Result<MemBoard, AllocError>
-    requires pages { length (words_of mem) % 512 ≡ 0 }
-    requires room { 512 < length (words_of mem) }
-    ensures words { IfOk result (λ b. length (⟦<Board<ListMem, MemDisk> as Machine>⟧.contents b).words ≡ length (words_of mem) - 512) }
-    ensures scratch { IfOk result (λ b. length (⟦<Board<ListMem, MemDisk> as Machine>⟧.run b).scratch ≡ 512) }
-    ensures closed { IfOk result (λ b. (⟦<Board<ListMem, MemDisk> as Machine>⟧.contents b).open_page ≡ None) }
-    ensures disk { IfOk result (λ b. length (⟦<Board<ListMem, MemDisk> as Machine>⟧.contents b).disk ≡ 4) }
-    ensures running { IfOk result (λ b. (⟦<Board<ListMem, MemDisk> as Machine>⟧.run b).stopped ≡ false) }
-{
-    let disk = MemDisk::new(alloc, 4)?;
-    Ok(Board::new(mem, disk, 1, stop_after))
-}
-
-/// A board over so many pages of zeros.
-fn board_of(alloc: Global, pages: u32, stop_after: Option<u64>) -> Result<MemBoard, AllocError>
-    requires some { 1 < pages }
-    requires small { 512 * pages < 2 ^ 32 }
-    ensures words { IfOk result (λ b. length (⟦<Board<ListMem, MemDisk> as Machine>⟧.contents b).words ≡ 512 * pages - 512) }
-    ensures scratch { IfOk result (λ b. length (⟦<Board<ListMem, MemDisk> as Machine>⟧.run b).scratch ≡ 512) }
-    ensures closed { IfOk result (λ b. (⟦<Board<ListMem, MemDisk> as Machine>⟧.contents b).open_page ≡ None) }
-    ensures disk { IfOk result (λ b. length (⟦<Board<ListMem, MemDisk> as Machine>⟧.contents b).disk ≡ 4) }
-    ensures running { IfOk result (λ b. (⟦<Board<ListMem, MemDisk> as Machine>⟧.run b).stopped ≡ false) }
-{
-    let mem = ListMem::new(alloc, pages)?;
-    board_over(alloc, mem, stop_after)
-}
 
 /// Stores a word of the open page.
 fn put<M: Machine>(m: &mut M, at: WordAt, v: u64) -> Result<(), Stopped>

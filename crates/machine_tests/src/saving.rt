@@ -1,4 +1,4 @@
-//! A test of the machine's contract: a caller of six calls proves its claim at each exit in a few lines.
+//! A caller of six calls of any machine, which proves its claim at each exit from the machine's contract alone.
 
 ghost use Rattle.std.specs.Prelude.{◌≡◌, ◌<◌, ◌+◌, ◌*◌, ◌⊎◌, false, None, OnOk, IsErrOf, length, replicate, slice_set};
 ghost use Rattle.rio_base.specs.Disks.{block_at};

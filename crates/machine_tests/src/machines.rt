@@ -1,0 +1,51 @@
+//! Machines in memory, for the tests: boards with one page of scratch, over disks of 4 blocks.
+
+ghost use Rattle.std.specs.Prelude.{◌≡◌, ◌<◌, ◌-◌, ◌*◌, ◌%◌, ◌^◌, false, None, IfOk, length, take, drop};
+ghost use Rattle.phys_memory.specs.ListMem.{words_of};
+
+use block_disk::MemDisk;
+use board::Board;
+use phys_memory::ListMem;
+use rio_base::Machine;
+use std::alloc::{AllocError, Global};
+
+/// A board in memory.
+pub(crate) type MemBoard = Board<ListMem, MemDisk>;
+
+/// A board over this memory, with one page of scratch, and a disk of 4 blocks of zeros.
+pub(crate) fn board_over(
+    alloc: Global,
+    mem: ListMem,
+    stop_after: Option<u64>,
+) -> Result<MemBoard, AllocError>
+    requires pages { length (words_of mem) % 512 ≡ 0 }
+    requires room { 512 < length (words_of mem) }
+    ensures protected { IfOk result (λ b. (⟦<Board<ListMem, MemDisk> as Machine>⟧.contents b).words ≡ take (length (words_of mem) - 512) (words_of mem)) }
+    ensures rest { IfOk result (λ b. (⟦<Board<ListMem, MemDisk> as Machine>⟧.run b).scratch ≡ drop (length (words_of mem) - 512) (words_of mem)) }
+    ensures words { IfOk result (λ b. length (⟦<Board<ListMem, MemDisk> as Machine>⟧.contents b).words ≡ length (words_of mem) - 512) }
+    ensures scratch { IfOk result (λ b. length (⟦<Board<ListMem, MemDisk> as Machine>⟧.run b).scratch ≡ 512) }
+    ensures closed { IfOk result (λ b. (⟦<Board<ListMem, MemDisk> as Machine>⟧.contents b).open_page ≡ None) }
+    ensures disk { IfOk result (λ b. length (⟦<Board<ListMem, MemDisk> as Machine>⟧.contents b).disk ≡ 4) }
+    ensures running { IfOk result (λ b. (⟦<Board<ListMem, MemDisk> as Machine>⟧.run b).stopped ≡ false) }
+{
+    let disk = MemDisk::new(alloc, 4)?;
+    Ok(Board::new(mem, disk, 1, stop_after))
+}
+
+/// A board over so many pages of zeros.
+pub(crate) fn board_of(
+    alloc: Global,
+    pages: u32,
+    stop_after: Option<u64>,
+) -> Result<MemBoard, AllocError>
+    requires some { 1 < pages }
+    requires small { 512 * pages < 2 ^ 32 }
+    ensures words { IfOk result (λ b. length (⟦<Board<ListMem, MemDisk> as Machine>⟧.contents b).words ≡ 512 * pages - 512) }
+    ensures scratch { IfOk result (λ b. length (⟦<Board<ListMem, MemDisk> as Machine>⟧.run b).scratch ≡ 512) }
+    ensures closed { IfOk result (λ b. (⟦<Board<ListMem, MemDisk> as Machine>⟧.contents b).open_page ≡ None) }
+    ensures disk { IfOk result (λ b. length (⟦<Board<ListMem, MemDisk> as Machine>⟧.contents b).disk ≡ 4) }
+    ensures running { IfOk result (λ b. (⟦<Board<ListMem, MemDisk> as Machine>⟧.run b).stopped ≡ false) }
+{
+    let mem = ListMem::new(alloc, pages)?;
+    board_over(alloc, mem, stop_after)
+}
