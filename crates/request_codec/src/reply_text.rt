@@ -134,8 +134,8 @@ fn put_each_name<K: Sink>(
     Ok(held)
 }
 
-/// Puts a name behind a space.
-fn put_name<K: Sink>(
+/// Puts a name behind a space, behind what is held. Where it does not fit, it writes.
+pub fn put_name<K: Sink>(
     name: &[u8],
     room: &mut [u8],
     held: usize,

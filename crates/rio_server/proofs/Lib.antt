@@ -13,3 +13,4 @@ pub mod ImageFile
 pub mod Telling
 pub mod Entries
 pub mod Listings
+pub mod SentNames

@@ -1,5 +1,5 @@
 -- One served run: what was read, what was replied, and where it ended.
-use Rattle.std.specs.Prelude.{◌≡◌, ◌+◌, ◌≤◌, ◌^◌, ℕ, List, [], ◌∷◌, ◌++◌, length, take, flat_map, Option, ◌⊎◌}
+use Rattle.std.specs.Prelude.{◌≡◌, ◌+◌, ◌≤◌, ◌^◌, ℕ, List, [], ◌∷◌, ◌++◌, length, take, flat_map, Option, Result, OnOk, OnErr, ◌⊎◌}
 use Rattle.rio_base.specs.Streams.{appended, prepended, IsSpent}
 use Rattle.rio_model.specs.declared.reply.Reply.{Reply}
 use Rattle.rio_model.specs.declared.request.Request.{Request}
@@ -78,3 +78,10 @@ pub record Serves (s t : State) (end : ServeEnd) (left left_after written writte
 -- the line's reply, and the state after it
 abbrev pub Answers : State → List ℕ → Reply → State → Type 0
 Answers s line reply t = (request : Option Request) × Means line request × Step s request reply t
+
+-- The request has its reply, and it was written, or, where a call failed, a front of it.
+pub record Tells {T E : Type 0} (told : Result T E) (s : State) (request : Option Request) (t : State) (written written_after : Option (List ℕ)) : Type 0 where
+  pub reply : Reply
+  pub step : Step s request reply t
+  pub whole : OnOk told (written_after ≡ appended written (text_of reply))
+  pub cut : OnErr told ((k : ℕ) × (k ≤ length (text_of reply)) × (written_after ≡ appended written (take k (text_of reply))))

@@ -17,6 +17,7 @@ mod registry_listing;
 #[cfg(test)]
 mod registry_tests;
 mod registry_words;
+mod reply_lines;
 mod serve;
 mod serve_words;
 mod table;

@@ -1,19 +1,18 @@
 //! Serving request lines until the input ends.
 
-ghost use Rattle.std.specs.Prelude.{◌≡◌, ◌≢◌, ◌≤◌, ◌^◌, ℕ, true, false, List, [], IfOk, IfErr, IfSome, IsErrOf, OnErr, OnOk, length, take};
+ghost use Rattle.std.specs.Prelude.{◌≡◌, ◌≢◌, ◌≤◌, ◌^◌, ℕ, true, false, List, [], IfOk, IfErr, IfSome, IsErrOf, OnOk, length};
 ghost use Rattle.rio_base.specs.Counts.{HasCause, Rose};
-ghost use Rattle.rio_base.specs.Streams.{appended, IsSpent};
+ghost use Rattle.rio_base.specs.Streams.{IsSpent};
 ghost use Rattle.request_codec.specs.Form.{Means};
-ghost use Rattle.request_codec.specs.Text.{text_of};
-ghost use Rattle.rio_model.specs.Run.{Step};
 ghost use Rattle.rio_server.specs.Asking.{AsksFor, Stops};
 ghost use Rattle.rio_server.specs.Served.{IsServed};
-ghost use Rattle.rio_server.specs.ServeRun.{Serves};
+ghost use Rattle.rio_server.specs.ServeRun.{Serves, Tells};
 
 use crate::ends::ServeEnd;
+use crate::reply_lines::send_reply;
 use crate::table::Table;
 use request_codec::{
-    LineFail, LineReader, NextLine, ROOM_BYTES, long_lines_mean_nothing, parse_line, write_reply_in,
+    LineFail, LineReader, NextLine, ROOM_BYTES, long_lines_mean_nothing, parse_line,
 };
 use rio_base::{Failed, Octets, Sink, Source};
 use rio_model::{Reply, Request};
@@ -72,8 +71,7 @@ fn serve_lines<S: Source, K: Sink>(
             Ok(request) => request,
             Err(end) => return end,
         };
-        let reply = reply_to(table, request);
-        match send(reply, room, sink) {
+        match answer(table, request, room, sink) {
             Ok(()) => {}
             Err(_) => return ServeEnd::SinkFault,
         }
@@ -118,24 +116,21 @@ fn meaning_of(alloc: Global, line: Octets) -> Result<Option<Request>, ServeEnd>
     }
 }
 
-/// The reply to a request, or to a line that is none.
-fn reply_to(table: &mut Table, request: Option<Request>) -> Reply
-    requires { IfSome request IsServed }
-    ensures { Step table.old request result table.new }
-{
-    match &request {
-        Some(request) => table.answer(request),
-        None => Reply::Err(1),
-    }
-}
-
-/// Writes a reply.
-fn send<K: Sink>(reply: Reply, room: &mut [u8], sink: &mut K) -> Result<(), Failed>
-    requires { 2 ≤ length room.old }
-    ensures ok { OnOk result (K.written sink.new ≡ appended (K.written sink.old) (text_of reply)) }
-    ensures cut { OnErr result ((k : ℕ) × (k ≤ length (text_of reply)) × (K.written sink.new ≡ appended (K.written sink.old) (take k (text_of reply)))) }
+/// Answers a request, or a line that is none, and writes the reply.
+fn answer<K: Sink>(
+    table: &mut Table,
+    request: Option<Request>,
+    room: &mut [u8],
+    sink: &mut K,
+) -> Result<(), Failed>
+    requires served { IfSome request IsServed }
+    requires wide { 2 ≤ length room.old }
+    ensures told { Tells result table.old request table.new (K.written sink.old) (K.written sink.new) }
     ensures steady { OnOk result (K.faults sink.new ≡ K.faults sink.old) }
     ensures cause { HasCause result (K.faults sink.old) (K.faults sink.new) }
 {
-    write_reply_in(&reply, room, sink)
+    match &request {
+        Some(request) => table.answer(request, room, sink),
+        None => send_reply(Reply::Err(1), room, sink),
+    }
 }

@@ -1,14 +1,14 @@
 //! The files of the root directory, kept in plain memory.
 
 ghost use Rattle.std.specs.Prelude.{◌≡◌, ◌≢◌, ◌≤◌, ◌<◌, ◌+◌, ℕ, Some, None, ◌∷◌, [], IfOk, IfSome, IfNone, OnOk, OnErr, ◌++◌, drop, length, map, All};
-ghost use Rattle.std.specs.BTreeMap.{keys as tree_keys};
-ghost use Rattle.std.specs.FinMap.{get, keys};
-ghost use Rattle.rio_model.specs.Answer.{overwritten, bytes_from, names_below, with_new};
+ghost use Rattle.std.specs.FinMap.{get};
+ghost use Rattle.rio_model.specs.Answer.{overwritten, bytes_from, with_new};
 ghost use Rattle.rio_model.specs.declared.node.Node.TheVariants.{File};
 ghost use Rattle.request_codec.specs.Form.{IsInRoot};
 ghost use Rattle.rio_server.specs.Table.{root_names, state_of, AreInodesOf};
 
-use rio_base::{NameList, Octets};
+use crate::reply_lines::{send_names, send_reply};
+use rio_base::{Failed, Octets, Sink};
 use rio_model::{Reply, Request};
 use std::alloc::{AllocError, Global};
 use std::collections::BTreeMap;
@@ -45,6 +45,8 @@ impl Table {
     ghost use Rattle.rio_model.specs.Run.{Step};
     ghost use Rattle.rio_model.specs.declared.request.Request.TheVariants.{Create, Write, Read, List as ListOf};
     ghost use Rattle.rio_server.specs.Served.{IsServed};
+    ghost use Rattle.rio_base.specs.Counts.{HasCause};
+    ghost use Rattle.rio_server.specs.ServeRun.{Tells};
     ghost use Rattle.rio_server.specs.Table.{served_fresh};
 
     /// A root directory with no names.
@@ -58,20 +60,30 @@ impl Table {
         }
     }
 
-    /// Answers a request on the root directory or on a file in it.
-    pub fn answer(&mut self, request: &Request) -> Reply
-        requires { IsServed request.now }
-        ensures { Step self.old (Some request.now) result self.new }
+    /// Answers a request on the root directory or on a file in it, and writes the reply by way of a room.
+    pub fn answer<K: Sink>(
+        &mut self,
+        request: &Request,
+        room: &mut [u8],
+        sink: &mut K,
+    ) -> Result<(), Failed>
+        requires served { IsServed request.now }
+        requires wide { 2 ≤ length room.old }
+        ensures told { Tells result self.old (Some request.now) self.new (K.written sink.old) (K.written sink.new) }
+        ensures steady { OnOk result (K.faults sink.new ≡ K.faults sink.old) }
+        ensures cause { HasCause result (K.faults sink.old) (K.faults sink.new) }
     {
         match request {
-            Request::Create { path } => self.create(path.as_slice()),
+            Request::Create { path } => send_reply(self.create(path.as_slice()), room, sink),
             Request::Write {
                 path,
                 off: _,
                 bytes,
-            } => self.write(path.as_slice(), bytes.as_slice()),
-            Request::Read { path, off, len } => self.read(path.as_slice(), *off, *len),
-            Request::List { path: _ } => self.list(),
+            } => send_reply(self.write(path.as_slice(), bytes.as_slice()), room, sink),
+            Request::Read { path, off, len } => {
+                send_reply(self.read(path.as_slice(), *off, *len), room, sink)
+            }
+            Request::List { path: _ } => self.list(room, sink),
             _ => unreachable!(),
         }
     }
@@ -125,14 +137,13 @@ impl Table {
         }
     }
 
-    /// The names in the root directory, in byte order.
-    fn list(&self) -> Reply
-        ensures { Step self.now (Some (ListOf (47 ∷ []))) result self.now }
+    /// Writes the names in the root directory, in byte order. It takes no memory.
+    fn list<K: Sink>(&self, room: &mut [u8], sink: &mut K) -> Result<(), Failed>
+        ensures told { Tells result self.now (Some (ListOf (47 ∷ []))) self.now (K.written sink.old) (K.written sink.new) }
+        ensures steady { OnOk result (K.faults sink.new ≡ K.faults sink.old) }
+        ensures cause { HasCause result (K.faults sink.old) (K.faults sink.new) }
     {
-        match listed(self.alloc, &self.names) {
-            Ok(names) => Reply::Names(NameList::from(names)),
-            Err(_) => Reply::Err(31),
-        }
+        send_names(&self.names, room, sink)
     }
 }
 
@@ -213,27 +224,4 @@ fn part_of(file: &[u8], off: u64, len: u64) -> &[u8]
     let start = off.min(file.len() as u64) as usize;
     let count = len.min((file.len() - start) as u64) as usize;
     &file[start..start + count]
-}
-
-/// The names of a directory, in byte order.
-fn listed(alloc: Global, names: &BTreeMap<Vec<u8>, u32>) -> Result<Vec<Octets>, AllocError>
-    ensures { IfOk result (λ list. list.items ≡ names_below (keys (root_names names.now.entries)) 1) }
-{
-    let mut list = Vec::with_capacity(alloc, names.len())?;
-    push_names(alloc, names, &mut list)?;
-    Ok(list)
-}
-
-/// Adds the names of a directory to a list, in byte order.
-fn push_names(
-    alloc: Global,
-    names: &BTreeMap<Vec<u8>, u32>,
-    list: &mut Vec<Octets>,
-) -> Result<(), AllocError>
-    ensures { OnOk result (list.new.items ≡ list.old.items ++ map (λ k. k.items) (tree_keys names.now)) }
-{
-    for name in names.keys() {
-        list.push(Octets::from(Vec::from_slice(alloc, name.as_slice())?))?;
-    }
-    Ok(())
 }

@@ -15,9 +15,9 @@ pub returns-in-Err-clause-run : goal.returns-in-Err-clause-run
 returns-in-Err-clause-run g c =
     stop_end _ _ _ _ _ _ _ _ _ _ _ (ap (λ (r : Reading). r.held) c.requires.fresh) (ap (λ (r : Reading). r.taken) c.requires.fresh) c.loop-request.invariant.took c.in-Err.ensures.end
 
-pub returns-in-Err-send-clause-run : goal.returns-in-Err-send-clause-run
-returns-in-Err-send-clause-run g c =
-    sink_end _ _ _ _ _ _ _ _ _ _ _ _ _ _ (ap (λ (r : Reading). r.held) c.requires.fresh) (ap (λ (r : Reading). r.taken) c.requires.fresh) c.loop-request.invariant.took c.in-Ok.ensures.line c.reply_to-reply.ensures c.in-Err-send.ensures.cut
+pub returns-in-Err-answer-clause-run : goal.returns-in-Err-answer-clause-run
+returns-in-Err-answer-clause-run g c =
+    sink_end _ _ _ _ _ _ _ _ _ _ _ _ _ _ (ap (λ (r : Reading). r.held) c.requires.fresh) (ap (λ (r : Reading). r.taken) c.requires.fresh) c.loop-request.invariant.took c.in-Ok.ensures.line c.in-Err-answer.ensures.told.step c.in-Err-answer.ensures.told.cut
 
 pub loop-request-smaller : goal.loop-request-smaller
 loop-request-smaller g c =
@@ -25,8 +25,8 @@ loop-request-smaller g c =
 
 pub loop-request-preserved : goal.loop-request-preserved
 loop-request-preserved g c = record {
-  took = took_more _ _ _ _ _ _ _ _ _ _ _ _ _ _ c.loop-request.invariant.took c.in-Ok.ensures.line c.reply_to-reply.ensures c.in-Ok-send.ensures.ok;
+  took = took_more _ _ _ _ _ _ _ _ _ _ _ _ _ _ c.loop-request.invariant.took c.in-Ok.ensures.line c.in-Ok-answer.ensures.told.step c.in-Ok-answer.ensures.told.whole;
   within = c.in-Ok.ensures.line.within;
   later = omega (arith, c.in-Ok.ensures.later);
-  steady = c.in-Ok-send.ensures.steady ∙ c.loop-request.invariant.steady;
+  steady = c.in-Ok-answer.ensures.steady ∙ c.loop-request.invariant.steady;
 }
