@@ -1,11 +1,11 @@
 -- Changes of one entry, one after the other.
-use Rattle.std.specs.Prelude.{◌≡◌, ◌≢◌, ℕ, ◌+◌, ◌*◌, ◌<◌, ◌≤◌, ◌==◌, ◌⊎◌, if◌then◌else◌, Bool, true, false, List, length, slice_index, slice_set, refl}
+use Rattle.std.specs.Prelude.{◌≡◌, ◌≢◌, ℕ, ◌+◌, ◌*◌, ◌<◌, ◌≤◌, ◌==◌, ◌⊎◌, if◌then◌else◌, Bool, true, List, length, slice_index, slice_set, refl}
 use Rattle.std.proofs.Common.{◌∙◌, arith, ap, sym, subst, inl, inr, eq-eqb, ne_eqb, get_or-set_same, get_or-set_other}
 use Rattle.std.proofs.lemmas.Bool.{cases_eq}
 use Rattle.rio_base.specs.Image.{entry_at, registry_pages}
 use Rattle.rio_base.specs.Machine.{Contents, Lasts, Running, StepEnds}
 use Rattle.rio_base.specs.MachineRules.{ends_after, lasts_trans}
-use Rattle.rio_model.specs.Registry.{HasLayout, OneEntry, frames_of, is_valid, tag_of}
+use Rattle.rio_model.specs.Registry.{HasLayout, OneEntry, frames_of}
 use Rattle.registry.specs.Changes.{CanChange, ChangesEntry}
 use Rattle.registry.specs.Entries.{entry_of, with_word}
 use Rattle.registry.specs.declared.entry.Entry.{Entry}
@@ -15,7 +15,7 @@ use Rattle.registry.proofs.Places.{behind_header, one_word}
 entry_by : ℕ → ℕ → ℕ → ℕ → ℕ → Entry
 entry_by t f i s h = record { tag = t; file = f; index = i; size = s; shadow = h }
 
-pub one_entry_trans : (k : ℕ) (a b c : List ℕ) → OneEntry k a b → OneEntry k b c → OneEntry k a c
+one_entry_trans : (k : ℕ) (a b c : List ℕ) → OneEntry k a b → OneEntry k b c → OneEntry k a c
 one_entry_trans k a b c h i = record {
   count = i.count ∙ h.count;
   before = λ j less. i.before j less ∙ h.before j less;
@@ -23,7 +23,7 @@ one_entry_trans k a b c h i = record {
 }
 
 -- the sizes are those in the header, which no entry reaches
-pub layout_kept : (k : ℕ) (old new scratch scratch_now : List ℕ) → HasLayout old scratch → OneEntry k old new → length scratch_now ≡ length scratch → HasLayout new scratch_now
+layout_kept : (k : ℕ) (old new scratch scratch_now : List ℕ) → HasLayout old scratch → OneEntry k old new → length scratch_now ≡ length scratch → HasLayout new scratch_now
 layout_kept k old new scratch scratch_now layout one same = record {
   sizes = rw (one.before 2 two, one.before 3 three) layout.sizes;
   protected = one.count ∙ layout.protected ∙ ap (λ f. 512 * (17 + registry_pages f + f)) (sym (one.before 2 two));
@@ -36,7 +36,7 @@ layout_kept k old new scratch scratch_now layout one same = record {
     three : 3 < entry_at k
     three = omega (arith, behind_header k)
 
-pub frames_kept : (k : ℕ) (old new : List ℕ) → OneEntry k old new → frames_of new ≡ frames_of old
+frames_kept : (k : ℕ) (old new : List ℕ) → OneEntry k old new → frames_of new ≡ frames_of old
 frames_kept k old new one = one.before 2 (omega (arith, behind_header k))
 
 -- a change of entry k, by what it did to the words

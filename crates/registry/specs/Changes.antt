@@ -1,7 +1,7 @@
 -- Changes of one entry: when they can be made, and what each leaves so.
-use Rattle.std.specs.Prelude.{◌≡◌, ℕ, ◌<◌, true, List, Option, None}
+use Rattle.std.specs.Prelude.{◌≡◌, ℕ, ◌<◌, true, None}
 use Rattle.rio_base.specs.Machine.{Contents, Lasts, Running, StepEnds}
-use Rattle.rio_model.specs.Registry.{HasLayout, OneEntry, frames_of, tag_at}
+use Rattle.rio_model.specs.Registry.{HasLayout, OneEntry, frames_of}
 
 -- entry k is one of the entries, and no page is open, so that it can be changed
 pub record CanChange (k : ℕ) (c : Contents) (r : Running) : Type 0 where

@@ -1,5 +1,5 @@
 -- Entries as they are read, and the words of an entry that is made.
-use Rattle.std.specs.Prelude.{◌≡◌, ◌≢◌, ℕ, ◌+◌, ◌==◌, if◌then◌else◌, Bool, true, false, List, slice_set, Option, Some, None}
+use Rattle.std.specs.Prelude.{◌≢◌, ℕ, ◌+◌, ◌==◌, if◌then◌else◌, Bool, true, false, List, slice_set, Option, Some, None}
 use Rattle.rio_base.specs.Image.{entry_at}
 use Rattle.rio_base.specs.declared.places.PageName.{PageName}
 use Rattle.rio_model.specs.Registry.{IsValid, file_at, index_at, shadow_at, size_at, tag_at, tag_block, tag_of}

@@ -1,6 +1,6 @@
 //! Changes of one entry. Each leaves no page open, and changes this entry or none.
 
-ghost use Rattle.std.specs.Prelude.{◌≡◌, ◌<◌, ◌≤◌, ◌+◌, ◌*◌, true, false, None, Some, OnOk, OnErr, IsErr, length, slice_set};
+ghost use Rattle.std.specs.Prelude.{◌≡◌, ◌<◌, ◌+◌, true, false, OnOk, OnErr, IsErr, slice_set};
 ghost use Rattle.rio_base.specs.Image.{entry_at};
 ghost use Rattle.rio_model.specs.Registry.{is_valid, tag_at, with_dirty, without_dirty};
 ghost use Rattle.registry.specs.Changes.{CanChange, ChangesEntry};
