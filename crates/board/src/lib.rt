@@ -3,5 +3,7 @@
 
 mod board;
 mod guard;
+#[cfg(test)]
+mod guard_tests;
 
 pub use board::Board;
