@@ -1,6 +1,6 @@
-//! What no clause says of the host in memory: which of its calls fail, and that the others don't.
+//! What no clause says of the host, the source and the sink in memory: that calls with ample memory succeed.
 
-use crate::{Failed, Host, MemHost};
+use crate::{Host, MemHost, MemSink, MemSource, Sink, Source};
 use std::test::Fail;
 
 #[test]
@@ -22,35 +22,25 @@ fn files_are_made_changed_and_taken_away(rt: HostRuntime) -> Result<(), Fail> {
     host.remove(&name);
     assert!(rt; host.file(&name).is_none());
     assert_eq!(rt; host.size(&other)?, Some(5));
-    assert_eq!(rt; host.faults(), 0);
+    host.fail_call(1)?;
+    assert!(rt; host.sync(&other).is_err());
+    assert_eq!(rt; host.faults(), 1);
     Ok(())
 }
 
 #[test]
-fn calls_fail_where_they_are_to_fail(rt: HostRuntime) -> Result<(), Fail> {
-    let mut host = MemHost::new(rt.alloc());
-    let name = format!(in rt.alloc(); "d")?;
-    host.fail_call(1)?;
-    host.fail_call(3)?;
-    assert_eq!(rt; host.replace(&name, b"x"), Err(Failed));
-    assert_eq!(rt; host.size(&name), Ok(None));
-    assert_eq!(rt; host.write_at(&name, 0, b"y"), Err(Failed));
-    assert_eq!(rt; host.replace(&name, b"x"), Ok(()));
-    host.fail_call(1)?;
-    assert_eq!(rt; host.replace(&name, b"y"), Err(Failed));
-    assert_eq!(rt; host.read_at(&name, 0, &mut [0]), Ok(1));
-    assert_eq!(rt; host.size(&name), Ok(Some(1)));
-    assert_eq!(rt; host.faults(), 3);
-    Ok(())
-}
-
-#[test]
-fn a_file_that_is_not_there_is_a_fault(rt: HostRuntime) -> Result<(), Fail> {
-    let mut host = MemHost::new(rt.alloc());
-    let name = format!(in rt.alloc(); "d")?;
-    assert_eq!(rt; host.read_at(&name, 0, &mut [0]), Err(Failed));
-    assert_eq!(rt; host.write_at(&name, 0, b"y"), Err(Failed));
-    assert_eq!(rt; host.sync(&name), Err(Failed));
-    assert_eq!(rt; host.faults(), 3);
+fn bytes_are_read_and_written_in_pieces(rt: HostRuntime) -> Result<(), Fail> {
+    let mut source = MemSource::new(rt.alloc(), b"12345", 3)?;
+    let mut sink = MemSink::new(rt.alloc());
+    let mut into = [0; 4];
+    source.fail_call(2)?;
+    sink.fail_call(2)?;
+    assert_eq!(rt; source.read(&mut into)?, 3);
+    assert_eq!(rt; sink.write(&into)?, 4);
+    assert!(rt; source.read(&mut into).is_err());
+    assert!(rt; sink.write(&into).is_err());
+    assert_eq!(rt; source.read(&mut into)?, 2);
+    assert_eq!(rt; into, [b'4', b'5', b'3', 0]);
+    assert_eq!(rt; sink.bytes().as_slice(), [b'1', b'2', b'3', 0].as_slice());
     Ok(())
 }

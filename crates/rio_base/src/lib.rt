@@ -3,6 +3,7 @@
 
 mod blocks;
 mod disk_blocks;
+mod failing_calls;
 mod failures;
 mod faulty_volume;
 mod host;

@@ -21,8 +21,8 @@ pub struct ListRegion {
 }
 
 impl ListRegion {
-    /// A region of `words` words of zeros. Each [`RegionWords::set`] is one step; with `stop_after` the one that would
-    /// be one step more answers `Stopped` and changes nothing, and so does each call after it.
+    /// A region of `words` words of zeros. Each word that is set is one step. With `stop_after` the call that would be a
+    /// step more answers `Stopped`, and so does each call after it; a run stores as many words as steps were left.
     pub fn new(alloc: Global, words: u32, stop_after: Option<u64>) -> Result<ListRegion, AllocError>
         ensures { IfOk result (IsNewRegion words stop_after) }
     {

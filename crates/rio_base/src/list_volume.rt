@@ -54,8 +54,9 @@ fn clear_listed(words: &mut Vec<u64>, b: Block)
 }
 
 impl ListVolume {
-    /// A volume of `blocks` blocks of zeros. Each call but [`Blocks::word`] is one step; with `stop_after` the call
-    /// that would be one step more answers `Stopped` and changes nothing, and so does each call after it.
+    /// A volume of `blocks` blocks of zeros. Each call is one step but those of [`Blocks`], which are none, and
+    /// [`Volume::store_run`], which is one for each word. With `stop_after` the call that would be a step more answers
+    /// `Stopped` and changes nothing, and so does each call after it; a run stores as many words as steps were left.
     pub fn new(
         alloc: Global,
         blocks: u32,
@@ -357,7 +358,7 @@ impl Volume for ListVolume {
         requires idle { self.old.updating ≡ false }
         ensures call { Loosens b.0 result self.old self.new }
     {
-        self.steps.step()?;
+        self.steps.step()?; // nothing is written, but a stop may come here too
         self.loose[b.0 as usize] = true;
         Ok(())
     }

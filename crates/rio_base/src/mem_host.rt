@@ -1,12 +1,16 @@
 //! A host over files in memory, for tests.
 
-ghost use Rattle.std.specs.Prelude.{◌≡◌, ◌<◌, ◌≤◌, ◌⊎◌, ℕ, ◌+◌, ◌-◌, ◌^◌, [], ◌++◌, Ok, Some, None, IsOk, IsSome, IfOk, OnOk, OnErr, MatchOption, length, take, drop, min, replicate};
+ghost use Rattle.std.specs.Prelude.{◌≡◌, ◌<◌, ◌≤◌, ◌⊎◌, ◌||◌, ◌+◌, ◌-◌, [], ◌∷◌, ◌++◌, false, Ok, Some, None, IfOk, OnOk, OnErr, MatchOption, is_none, length, take, drop, min, replicate};
+ghost use Rattle.std.specs.Option.{option_map};
 ghost use Rattle.std.specs.String.{string_bytes};
 ghost use Rattle.std.specs.FinMap.{empty, get, insert, remove as without};
-ghost use Rattle.rio_base.specs.Counts.{HasCause, Rose};
-ghost use Rattle.rio_base.specs.Hosts.{EndsBy, HasBytes, HasSize, Overwrites, TearsWithin, overwritten, with_file};
+ghost use Rattle.rio_base.specs.Counts.{Rose};
+ghost use Rattle.rio_base.specs.Disks.{raised};
+ghost use Rattle.rio_base.specs.FailingCalls.{FailsIf, faults_after, is_due};
+ghost use Rattle.rio_base.specs.Hosts.{EndsBy, HasBytes, Overwrites, overwritten};
 ghost use Rattle.rio_base.specs.MemHosts.{IsFirst, Lacks, files_of};
 
+use crate::failing_calls::FailingCalls;
 use crate::failures::Failed;
 use crate::host::Host;
 use std::alloc::{AllocError, Global};
@@ -24,9 +28,7 @@ struct MemFile {
 pub struct MemHost {
     alloc: Global,
     files: Vec<MemFile>,
-    calls: u64,
-    faults: u64,
-    failing: Vec<u64>,
+    calls: FailingCalls,
 }
 
 impl Model for MemHost {
@@ -36,7 +38,7 @@ impl Model for MemHost {
 
     ghost coded = { state_code };
 
-    ghost view = { λ a. record { files = files_of a.files.items; calls = a.calls; faults = a.faults; failing = a.failing.items } };
+    ghost view = { λ a. record { files = files_of a.files.items; calls = a.calls.calls; faults = a.calls.faults; failing = a.calls.failing.items } };
 }
 
 /// The place of the first file of this name.
@@ -144,9 +146,7 @@ impl MemHost {
         MemHost {
             alloc,
             files: Vec::new(alloc),
-            calls: 0,
-            faults: 0,
-            failing: Vec::new(alloc),
+            calls: FailingCalls::new(alloc),
         }
     }
 
@@ -180,35 +180,10 @@ impl MemHost {
     /// The `n`th call of the host from now fails, `n` from 1. [`Host::faults`] isn't counted.
     pub fn fail_call(&mut self, n: u64) -> Result<(), AllocError>
         requires { 0 < n }
-        ensures ok { OnOk result (self.new ≡ record self.old { failing = self.new.failing }) }
+        ensures ok { OnOk result (self.new ≡ record self.old { failing = self.old.failing ++ raised self.old.calls n ∷ [] }) }
         ensures err { OnErr result (self.new ≡ self.old) }
     {
-        self.failing.push(self.calls.saturating_add(n))?;
-        Ok(())
-    }
-
-    /// Counts a failed call.
-    fn fail(&mut self) -> Failed
-        ensures same { self.new ≡ record self.old { faults = self.new.faults } }
-        ensures later { self.old.faults ≤ self.new.faults }
-        ensures rose { Rose self.old.faults self.new.faults }
-    {
-        self.faults = self.faults.saturating_add(1);
-        Failed
-    }
-
-    /// Counts a call, and says whether it is not to fail.
-    fn begin(&mut self) -> Result<(), Failed>
-        ensures files { self.new.files ≡ self.old.files }
-        ensures ok { OnOk result (self.new.faults ≡ self.old.faults) }
-        ensures cause { HasCause result self.old.faults self.new.faults }
-        ensures certain { self.old.failing ≡ [] → IsOk result }
-    {
-        self.calls = self.calls.saturating_add(1);
-        if self.failing.contains(&self.calls) {
-            return Err(self.fail());
-        }
-        Ok(())
+        self.calls.fail_call(n)
     }
 }
 
@@ -220,59 +195,66 @@ impl Host for MemHost {
     ghost faults = { λ s. s.faults };
 
     fn size(&mut self, name: &String) -> Result<Option<u64>, Failed>
-        ensures files { ⟦<MemHost as Host>⟧.files self.new ≡ ⟦<MemHost as Host>⟧.files self.old }
-        ensures size { IfOk result (λ size. HasSize (⟦<MemHost as Host>⟧.files self.old) (string_bytes name.now) size) }
-        ensures cause { HasCause result self.old.faults self.new.faults }
-        ensures certain { self.old.failing ≡ [] → IsOk result }
+        ensures size { IfOk result (λ size. size ≡ option_map length (get self.old.files (string_bytes name.now))) }
+        ensures fails { FailsIf (is_due self.old.calls self.old.failing) result }
+        ensures counted { self.new ≡ record self.old { calls = raised self.old.calls 1; faults = faults_after result self.old.faults } }
     {
-        self.begin()?;
+        self.calls.begin()?;
         Ok(self.file(name).map(|bytes| bytes.len() as u64))
     }
 
     fn read_at(&mut self, name: &String, off: u64, into: &mut [u8]) -> Result<usize, Failed>
-        ensures files { ⟦<MemHost as Host>⟧.files self.new ≡ ⟦<MemHost as Host>⟧.files self.old }
         ensures bound { IfOk result (λ n. n ≤ length into.new) }
         ensures bytes { IfOk result (λ n. HasBytes (⟦<MemHost as Host>⟧.files self.old) (string_bytes name.now) off (take n into.new)) }
         ensures end { result ≡ Ok 0 → 0 < length into.new → EndsBy (⟦<MemHost as Host>⟧.files self.old) (string_bytes name.now) off ⊎ Rose self.old.faults self.new.faults }
-        ensures cause { HasCause result self.old.faults self.new.faults }
-        ensures certain { self.old.failing ≡ [] → IsSome (get self.old.files (string_bytes name.now)) → IsOk result }
+        ensures fails { FailsIf (is_due self.old.calls self.old.failing || is_none (get self.old.files (string_bytes name.now))) result }
+        ensures counted { self.new ≡ record self.old { calls = raised self.old.calls 1; faults = faults_after result self.old.faults } }
     {
-        self.begin()?;
+        self.calls.begin()?;
         match self.file(name) {
             Some(bytes) => Ok(copy_from(bytes, off, into)),
-            None => Err(self.fail()),
+            None => Err(self.calls.fail()),
         }
     }
 
-    fn write_at(&mut self, name: &String, off: u64, from: &[u8]) -> Result<(), Failed> {
-        self.begin()?;
+    fn write_at(&mut self, name: &String, off: u64, from: &[u8]) -> Result<(), Failed>
+        ensures ok { OnOk result (Overwrites (Some self.old.files) (string_bytes name.now) off from.now (Some self.new.files)) }
+        ensures same { OnErr result (self.new.files ≡ self.old.files) }
+        ensures due { OnOk result (is_due self.old.calls self.old.failing ≡ false) }
+        ensures counted { self.new ≡ record self.old { files = self.new.files; calls = raised self.old.calls 1; faults = faults_after result self.old.faults } }
+    {
+        self.calls.begin()?;
         if write_file(&mut self.files, name, off, from).is_err() {
-            return Err(self.fail());
+            return Err(self.calls.fail());
         }
         Ok(())
     }
 
     fn sync(&mut self, name: &String) -> Result<(), Failed>
-        ensures files { ⟦<MemHost as Host>⟧.files self.new ≡ ⟦<MemHost as Host>⟧.files self.old }
-        ensures cause { HasCause result self.old.faults self.new.faults }
-        ensures certain { self.old.failing ≡ [] → IsSome (get self.old.files (string_bytes name.now)) → IsOk result }
+        ensures fails { FailsIf (is_due self.old.calls self.old.failing || is_none (get self.old.files (string_bytes name.now))) result }
+        ensures counted { self.new ≡ record self.old { calls = raised self.old.calls 1; faults = faults_after result self.old.faults } }
     {
-        self.begin()?;
+        self.calls.begin()?;
         if self.file(name).is_none() {
-            return Err(self.fail());
+            return Err(self.calls.fail());
         }
         Ok(())
     }
 
-    fn replace(&mut self, name: &String, from: &[u8]) -> Result<(), Failed> {
-        self.begin()?;
+    fn replace(&mut self, name: &String, from: &[u8]) -> Result<(), Failed>
+        ensures ok { OnOk result (self.new.files ≡ insert self.old.files (string_bytes name.now) from.now) }
+        ensures err { OnErr result (self.new.files ≡ self.old.files) }
+        ensures due { OnOk result (is_due self.old.calls self.old.failing ≡ false) }
+        ensures counted { self.new ≡ record self.old { files = self.new.files; calls = raised self.old.calls 1; faults = faults_after result self.old.faults } }
+    {
+        self.calls.begin()?;
         if self.put(name, from).is_err() {
-            return Err(self.fail());
+            return Err(self.calls.fail());
         }
         Ok(())
     }
 
     fn faults(&self) -> u64 {
-        self.faults
+        self.calls.faults()
     }
 }

@@ -1,9 +1,10 @@
 //! A sink over bytes in memory, for tests.
 
-ghost use Rattle.std.specs.Prelude.{◌≡◌, ◌<◌, ◌≤◌, ℕ, [], ◌++◌, Ok, Some, IfOk, OnOk, OnErr, length, take};
-ghost use Rattle.rio_base.specs.Counts.{HasCause, Rose};
-ghost use Rattle.rio_base.specs.Streams.{appended};
+ghost use Rattle.std.specs.Prelude.{◌≡◌, ◌<◌, [], ◌∷◌, ◌++◌, false, IfOk, OnOk, OnErr, length};
+ghost use Rattle.rio_base.specs.Disks.{raised};
+ghost use Rattle.rio_base.specs.FailingCalls.{faults_after, is_due};
 
+use crate::failing_calls::FailingCalls;
 use crate::failures::Failed;
 use crate::sink::Sink;
 use std::alloc::{AllocError, Global};
@@ -13,9 +14,7 @@ use std::marker::Model;
 #[derive(Drop)]
 pub struct MemSink {
     bytes: Vec<u8>,
-    calls: u64,
-    faults: u64,
-    failing: Vec<u64>,
+    calls: FailingCalls,
 }
 
 impl Model for MemSink {
@@ -23,7 +22,7 @@ impl Model for MemSink {
 
     ghost Value = { MemSinkState };
 
-    ghost view = { λ a. record { written = a.bytes.items; calls = a.calls; faults = a.faults; failing = a.failing.items } };
+    ghost view = { λ a. record { written = a.bytes.items; calls = a.calls.calls; faults = a.calls.faults; failing = a.calls.failing.items } };
 }
 
 impl MemSink {
@@ -33,9 +32,7 @@ impl MemSink {
     {
         MemSink {
             bytes: Vec::new(alloc),
-            calls: 0,
-            faults: 0,
-            failing: Vec::new(alloc),
+            calls: FailingCalls::new(alloc),
         }
     }
 
@@ -49,21 +46,10 @@ impl MemSink {
     /// The `n`th call of [`Sink::write`] from now fails, `n` from 1.
     pub fn fail_call(&mut self, n: u64) -> Result<(), AllocError>
         requires { 0 < n }
-        ensures ok { OnOk result (self.new ≡ record self.old { failing = self.new.failing }) }
+        ensures ok { OnOk result (self.new ≡ record self.old { failing = self.old.failing ++ raised self.old.calls n ∷ [] }) }
         ensures err { OnErr result (self.new ≡ self.old) }
     {
-        self.failing.push(self.calls.saturating_add(n))?;
-        Ok(())
-    }
-
-    /// Counts a failed call.
-    fn fail(&mut self) -> Result<usize, Failed>
-        ensures err { OnOk result ⊥ }
-        ensures same { self.new.written ≡ self.old.written }
-        ensures cause { HasCause result self.old.faults self.new.faults }
-    {
-        self.faults = self.faults.saturating_add(1);
-        Err(Failed)
+        self.calls.fail_call(n)
     }
 }
 
@@ -74,13 +60,16 @@ impl Sink for MemSink {
 
     ghost faults = { λ s. s.faults };
 
-    fn write(&mut self, from: &[u8]) -> Result<usize, Failed> {
-        self.calls = self.calls.saturating_add(1);
-        if self.failing.contains(&self.calls) {
-            return self.fail();
-        }
+    fn write(&mut self, from: &[u8]) -> Result<usize, Failed>
+        ensures all { IfOk result (λ n. n ≡ length from.now) }
+        ensures bytes { OnOk result (self.new.written ≡ self.old.written ++ from.now) }
+        ensures err { OnErr result (self.new.written ≡ self.old.written) }
+        ensures due { OnOk result (is_due self.old.calls self.old.failing ≡ false) }
+        ensures counted { self.new ≡ record self.old { written = self.new.written; calls = raised self.old.calls 1; faults = faults_after result self.old.faults } }
+    {
+        self.calls.begin()?;
         if self.bytes.extend_from_slice(from).is_err() {
-            return self.fail();
+            return Err(self.calls.fail());
         }
         Ok(from.len())
     }

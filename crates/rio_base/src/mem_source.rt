@@ -1,9 +1,11 @@
 //! A source over bytes in memory, for tests.
 
-ghost use Rattle.std.specs.Prelude.{◌≡◌, ◌<◌, ◌≤◌, ℕ, [], ◌∷◌, ◌++◌, Ok, IsOk, IfOk, OnOk, OnErr, length, take};
-ghost use Rattle.rio_base.specs.Counts.{HasCause};
+ghost use Rattle.std.specs.Prelude.{◌≡◌, ◌<◌, ◌≤◌, ℕ, [], ◌∷◌, ◌++◌, Ok, IfOk, OnOk, OnErr, length, min, take};
+ghost use Rattle.rio_base.specs.Disks.{raised};
+ghost use Rattle.rio_base.specs.FailingCalls.{FailsIf, faults_after, is_due};
 ghost use Rattle.rio_base.specs.Streams.{prepended, IsSpent};
 
+use crate::failing_calls::FailingCalls;
 use crate::failures::Failed;
 use crate::source::Source;
 use std::alloc::{AllocError, Global};
@@ -15,9 +17,7 @@ pub struct MemSource {
     bytes: Vec<u8>,
     next: usize,
     most: usize,
-    calls: u64,
-    faults: u64,
-    failing: Vec<u64>,
+    calls: FailingCalls,
 }
 
 impl Model for MemSource {
@@ -27,7 +27,7 @@ impl Model for MemSource {
 
     ghost Value = { MemSourceState };
 
-    ghost view = { λ a. record { left = drop a.next a.bytes.items; most = a.most; calls = a.calls; faults = a.faults; failing = a.failing.items } };
+    ghost view = { λ a. record { left = drop a.next a.bytes.items; most = a.most; calls = a.calls.calls; faults = a.calls.faults; failing = a.calls.failing.items } };
 
     ghost invariant = { λ a. (a.next ≤ vec_len a.bytes) × (0 < a.most) };
 }
@@ -42,20 +42,17 @@ impl MemSource {
             bytes: Vec::from_slice(alloc, bytes)?,
             next: 0,
             most,
-            calls: 0,
-            faults: 0,
-            failing: Vec::new(alloc),
+            calls: FailingCalls::new(alloc),
         })
     }
 
     /// The `n`th call of [`Source::read`] from now fails, `n` from 1.
     pub fn fail_call(&mut self, n: u64) -> Result<(), AllocError>
         requires { 0 < n }
-        ensures ok { OnOk result (self.new ≡ record self.old { failing = self.new.failing }) }
+        ensures ok { OnOk result (self.new ≡ record self.old { failing = self.old.failing ++ raised self.old.calls n ∷ [] }) }
         ensures err { OnErr result (self.new ≡ self.old) }
     {
-        self.failing.push(self.calls.saturating_add(n))?;
-        Ok(())
+        self.calls.fail_call(n)
     }
 }
 
@@ -70,16 +67,12 @@ impl Source for MemSource {
         ensures bound { IfOk result (λ n. n ≤ length into.new) }
         ensures bytes { IfOk result (λ n. ⟦<MemSource as Source>⟧.left self.old ≡ prepended (take n into.new) (⟦<MemSource as Source>⟧.left self.new)) }
         ensures end { result ≡ Ok 0 → 0 < length into.new → IsSpent (⟦<MemSource as Source>⟧.left self.new) }
-        ensures steady { OnOk result (self.new.faults ≡ self.old.faults) }
-        ensures err { OnErr result (⟦<MemSource as Source>⟧.left self.new ≡ ⟦<MemSource as Source>⟧.left self.old) }
-        ensures cause { HasCause result self.old.faults self.new.faults }
-        ensures certain { self.old.failing ≡ [] → IsOk result }
+        ensures most { IfOk result (λ n. n ≡ min (min self.old.most (length into.old)) (length self.old.left)) }
+        ensures fails { FailsIf (is_due self.old.calls self.old.failing) result }
+        ensures counted { self.new ≡ record self.old { left = self.new.left; calls = raised self.old.calls 1; faults = faults_after result self.old.faults } }
+        ensures err { OnErr result (self.new.left ≡ self.old.left) }
     {
-        self.calls = self.calls.saturating_add(1);
-        if self.failing.contains(&self.calls) {
-            self.faults = self.faults.saturating_add(1);
-            return Err(Failed);
-        }
+        self.calls.begin()?;
         let n = into.len().min(self.most).min(self.bytes.len() - self.next);
         into[..n].copy_from_slice(&self.bytes[self.next..self.next + n]);
         self.next += n;

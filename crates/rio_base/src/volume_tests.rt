@@ -1,11 +1,12 @@
-//! Tests of a volume in memory, by an update of two blocks that is stopped at each step.
+//! Tests of the volumes and the region in memory: an update of two blocks and a run of words, stopped at each step.
 
 ghost use Rattle.std.specs.Prelude.{◌≡◌, ◌<◌, false, None, OnOk};
 ghost use Rattle.rio_base.specs.Blocks.{CanName};
 ghost use Rattle.rio_base.specs.Volume.{put, OldOrNew, Goes};
 
 use crate::blocks::Blocks;
-use crate::failures::VolFail;
+use crate::failures::{RunFail, VolFail};
+use crate::faulty_volume::FaultyVolume;
 use crate::list_region::ListRegion;
 use crate::list_volume::ListVolume;
 use crate::places::Block;
@@ -50,6 +51,31 @@ fn update_is_whole_or_absent(rt: HostRuntime) -> Result<(), Fail> {
 }
 
 #[test]
+fn runs_are_stored_up_to_the_stop(rt: HostRuntime) -> Result<(), Fail> {
+    let stands = [[0, 0, 0], [3, 0, 0], [3, 5, 0], [3, 5, 8], [3, 5, 8]];
+    for steps in 0..5 {
+        let mut v = ListVolume::new(rt.alloc(), 8, Some(steps as u64))?;
+        let done = v.store_run(Block(5), None, 509, &[3, 5, 8]).is_ok();
+        assert_eq!(rt; done, 3 <= steps, "after {steps} steps");
+        v.restart(None);
+        let mut words = [9; 3];
+        v.read_run(Block(5), None, 509, &mut words)?;
+        assert_eq!(rt; words, stands[steps], "after {steps} steps");
+    }
+    Ok(())
+}
+
+#[test]
+fn a_run_is_stored_up_to_the_fault(rt: HostRuntime) -> Result<(), Fail> {
+    let mut v = FaultyVolume::new(ListVolume::new(rt.alloc(), 8, None)?, 3);
+    assert!(rt; v.store_run(Block(5), None, 509, &[3, 5, 8]) == Err(RunFail::Fault(2)));
+    let mut words = [9; 3];
+    v.read_run(Block(5), None, 509, &mut words)?;
+    assert_eq!(rt; words, [3, 5, 0]);
+    Ok(())
+}
+
+#[test]
 fn calls_of_a_running_volume_succeed(rt: HostRuntime) -> Result<(), Fail> {
     let mut v = ListVolume::new(rt.alloc(), 4, None)?;
     assert_eq!(rt; v.volume_blocks(), 4);
@@ -63,6 +89,7 @@ fn calls_of_a_running_volume_succeed(rt: HostRuntime) -> Result<(), Fail> {
     assert_eq!(rt; v.flush(5)?, 0);
     v.fresh(Block(3), None)?;
     assert_eq!(rt; v.word(Block(3), None, 511)?, 0);
+    assert!(rt; v.page(Block(3)).is_some());
     v.forget(Block(3))?;
     v.restart(Some(0));
     assert!(rt; v.store(Block(1), None, 0, 1) == Err(VolFail::Stopped));
@@ -71,10 +98,14 @@ fn calls_of_a_running_volume_succeed(rt: HostRuntime) -> Result<(), Fail> {
 
 #[test]
 fn a_region_is_stored_until_it_stops(rt: HostRuntime) -> Result<(), Fail> {
-    let mut region = ListRegion::new(rt.alloc(), 3, Some(1))?;
+    let mut region = ListRegion::new(rt.alloc(), 3, Some(2))?;
     assert_eq!(rt; region.len(), 3);
     region.set(2, 5)?;
     assert_eq!(rt; region.word(2)?, 5);
-    assert!(rt; region.set(2, 6) == Err(VolFail::Stopped));
+    region.set_run(0, &[7])?;
+    let mut words = [9; 3];
+    region.read_run(0, &mut words)?;
+    assert_eq!(rt; words, [7, 0, 5]);
+    assert!(rt; region.set_run(0, &[8]) == Err(RunFail::Stopped));
     Ok(())
 }
