@@ -65,6 +65,12 @@ impl MemWords for ListMem {
         self.words[at.0 as usize] = v;
     }
 
+    #[tactic(auto, using(crate::proofs::Spans::run_stored))]
+    fn store_run(&mut self, at: WordAt, from: &[u64]) {
+        let at = at.0 as usize;
+        self.words[at..at + from.len()].copy_from_slice(from);
+    }
+
     #[tactic(auto, using(crate::proofs::Spans::page_span))]
     fn frame(&self, p: Page) -> &[u64] {
         let from = 512 * p.0 as usize;

@@ -51,3 +51,13 @@ fn second_page_is_lent(rt: HostRuntime) -> Result<(), Fail> {
     assert_eq!(rt; page[511], 3);
     Ok(())
 }
+
+#[test]
+fn run_of_words_is_stored(rt: HostRuntime) -> Result<(), Fail> {
+    let run = vec![in rt.alloc(); 7, 8]?;
+    let mut mem = ListMem::from_words(vec![in rt.alloc(); 1, 2, 3, 4]?);
+    mem.store_run(WordAt(1), &run);
+    mem.store_run(WordAt(4), &run[2..]);
+    assert_eq!(rt; mem.into_words().as_slice(), [1, 7, 8, 4].as_slice());
+    Ok(())
+}
