@@ -6,7 +6,8 @@ use Rattle.std.proofs.lemmas.Bool.{cases_lt}
 use Rattle.rio_base.specs.Counts.{HasCause, Rose}
 use Rattle.rio_base.specs.Disks.{FaultCount, FaultsLast, HasFaultCause, raised}
 use Rattle.rio_base.specs.Rules.{true_false}
-use Rattle.block_disk.specs.MemDisks.{FailsIf, MemDiskState, contents_of, counted, is_due, is_read_due, most_faults, reads_left, upcoming}
+use Rattle.rio_base.specs.FailingCalls.{FailsIf, is_due}
+use Rattle.block_disk.specs.MemDisks.{MemDiskState, contents_of, counted, is_read_due, most_faults, reads_left, upcoming, with_block}
 
 -- 1 for a call that is still to come
 comes : ℕ → ℕ → ℕ
@@ -50,7 +51,7 @@ upcoming_counted calls failing = by_room (cases_lt calls (2 ^ 64 - 1))
     by_room (inl less) = subst (λ n. upcoming n failing ≤ upcoming calls failing) (omega (arith, less)) (upcoming_later calls failing)
     by_room (inr more) = subst (λ n. upcoming n failing ≤ upcoming calls failing) (omega (arith, more)) (le_refl (upcoming calls failing))
 
-upcoming_fails : (calls : ℕ) (failing : List ℕ) → (nat_lt calls (2 ^ 64 - 1) && list_any (λ call. call == calls + 1) failing) ≡ true → upcoming (raised calls 1) failing + 1 ≤ upcoming calls failing
+upcoming_fails : (calls : ℕ) (failing : List ℕ) → is_due calls failing ≡ true → upcoming (raised calls 1) failing + 1 ≤ upcoming calls failing
 upcoming_fails calls failing due = by_test (and_parts (nat_lt calls (2 ^ 64 - 1)) (list_any (λ call. call == calls + 1) failing) due)
   where
     by_test : (nat_lt calls (2 ^ 64 - 1) ≡ true) × (list_any (λ call. call == calls + 1) failing ≡ true) → upcoming (raised calls 1) failing + 1 ≤ upcoming calls failing
@@ -64,7 +65,7 @@ faults_last before after most next later less = record { later = later; limit = 
     some_is x y e = cc
 
 -- one call leaves the bound, where it failed only when it was due
-pub last_call : {T E : Type 0} (answer : Result T E) (s : MemDiskState) → FailsIf (is_due s) answer → FaultsLast (contents_of s).faults (contents_of (counted answer s)).faults
+pub last_call : {T E : Type 0} (answer : Result T E) (s : MemDiskState) → FailsIf (is_due s.calls s.failing) answer → FaultsLast (contents_of s).faults (contents_of (counted answer s)).faults
 last_call (Ok _) s due = faults_last _ _ _ _ (le_refl s.faults) (omega (arith, upcoming_counted s.calls s.failing))
 last_call (Err _) s due = faults_last _ _ _ _ (omega arith) (omega (arith, upcoming_fails s.calls s.failing due))
 
@@ -75,29 +76,29 @@ reads_due : (s : MemDiskState) (b : ℕ) → is_read_due s b ≡ true → reads_
 reads_due s b e = grind (arith, and_parts (s.failing_block == b) (nat_lt 0 s.failing_reads) e, ltb-true 0 s.failing_reads)
 
 -- so does a read, which fails also where its block is to fail, and then one fewer of these is to come
-pub last_read : {T E : Type 0} (answer : Result T E) (s : MemDiskState) (b : ℕ) → FailsIf (is_read_due s b || is_due s) answer → FaultsLast (contents_of s).faults (contents_of (record (counted answer s) { failing_reads = reads_left s b })).faults
+pub last_read : {T E : Type 0} (answer : Result T E) (s : MemDiskState) (b : ℕ) → FailsIf (is_read_due s b || is_due s.calls s.failing) answer → FaultsLast (contents_of s).faults (contents_of (record (counted answer s) { failing_reads = reads_left s b })).faults
 last_read (Ok _) s b due = faults_last _ _ _ _ (le_refl s.faults) (omega (arith, upcoming_counted s.calls s.failing, reads_fewer s b))
-last_read (Err _) s b due = faults_last _ _ _ _ (omega arith) (by_parts (or_parts (is_read_due s b) (is_due s) due))
+last_read (Err _) s b due = faults_last _ _ _ _ (omega arith) (by_parts (or_parts (is_read_due s b) (is_due s.calls s.failing) due))
   where
-    by_parts : (is_read_due s b ≡ true) ⊎ (is_due s ≡ true) → raised s.faults 1 + (upcoming (raised s.calls 1) s.failing + reads_left s b) ≤ most_faults s
+    by_parts : (is_read_due s b ≡ true) ⊎ (is_due s.calls s.failing ≡ true) → raised s.faults 1 + (upcoming (raised s.calls 1) s.failing + reads_left s b) ≤ most_faults s
     by_parts (inl e) = omega (arith, upcoming_counted s.calls s.failing, reads_due s b e)
     by_parts (inr e) = omega (arith, upcoming_fails s.calls s.failing e, reads_fewer s b)
 
 -- how a call ends that is counted
-pub called : {T E : Type 0} (answer : Result T E) (old new : MemDiskState) → new ≡ counted answer old → FailsIf (is_due old) answer → HasCause answer old.faults new.faults → HasFaultCause answer (contents_of old).faults (contents_of new).faults
+pub called : {T E : Type 0} (answer : Result T E) (old new : MemDiskState) → new ≡ counted answer old → FailsIf (is_due old.calls old.failing) answer → HasCause answer old.faults new.faults → HasFaultCause answer (contents_of old).faults (contents_of new).faults
 called answer old new state fails cause = record {
   last = subst (λ (s : MemDiskState). FaultsLast (contents_of old).faults (contents_of s).faults) (sym state) (last_call answer old fails);
   cause = cause.cause;
 }
 
-pub called_read : {T E : Type 0} (answer : Result T E) (due : Bool) (b : ℕ) (old mid new : MemDiskState) → due ≡ is_read_due old b → mid ≡ record old { failing_reads = reads_left old b } → new ≡ counted answer mid → FailsIf (due || is_due mid) answer → HasCause answer mid.faults new.faults → HasFaultCause answer (contents_of old).faults (contents_of new).faults
+pub called_read : {T E : Type 0} (answer : Result T E) (due : Bool) (b : ℕ) (old mid new : MemDiskState) → due ≡ is_read_due old b → mid ≡ record old { failing_reads = reads_left old b } → new ≡ counted answer mid → FailsIf (due || is_due mid.calls mid.failing) answer → HasCause answer mid.faults new.faults → HasFaultCause answer (contents_of old).faults (contents_of new).faults
 called_read answer due b old mid new is counts state fails cause = record {
   last = subst (λ (s : MemDiskState). FaultsLast (contents_of old).faults (contents_of s).faults) (sym (state ∙ ap (counted answer) counts)) (last_read answer old b both);
   cause = (subst (λ (s : MemDiskState). HasCause answer s.faults new.faults) counts cause).cause;
 }
   where
-    both : FailsIf (is_read_due old b || is_due old) answer
-    both = subst (λ (d : Bool). FailsIf (d || is_due old) answer) is (subst (λ (s : MemDiskState). FailsIf (due || is_due s) answer) counts fails)
+    both : FailsIf (is_read_due old b || is_due old.calls old.failing) answer
+    both = subst (λ (d : Bool). FailsIf (d || is_due old.calls old.failing) answer) is (subst (λ (s : MemDiskState). FailsIf (due || is_due s.calls s.failing) answer) counts fails)
 
 either : {T E : Type 0} (answer : Result T E) (P : Type 0) → P → MatchResult answer (λ _. Unit {0}) (λ _. P)
 either (Ok _) P p = tt
@@ -110,3 +111,7 @@ handed_on answer old new last rose = record { last = last; cause = either answer
 -- an Ok, after which nothing of the counts changes
 pub went_on : (old : FaultCount) (mid new : MemDiskState) → new ≡ record mid { synced = mid.blocks; pending = replicate (length mid.blocks) false } → FaultsLast old (contents_of mid).faults → FaultsLast old (contents_of new).faults
 went_on old mid new rest last = subst (λ (s : MemDiskState). FaultsLast old (contents_of s).faults) (sym rest) last
+
+-- a write, after which nothing more of the counts changes
+pub wrote : {T E : Type 0} (answer : Result T E) (old : FaultCount) (mid new : MemDiskState) (b : ℕ) (words : List ℕ) → new ≡ with_block b words mid → HasFaultCause answer old (contents_of mid).faults → HasFaultCause answer old (contents_of new).faults
+wrote answer old mid new b words rest cause = subst (λ (s : MemDiskState). HasFaultCause answer old (contents_of s).faults) (sym rest) cause

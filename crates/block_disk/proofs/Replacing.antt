@@ -3,6 +3,7 @@ use Rattle.std.proofs.Common.{◌≡◌, ◌≢◌, ◌<◌, ◌≤◌, ◌+◌,
 use Rattle.std.proofs.lemmas.Bool.{cases_eq}
 use Rattle.std.proofs.lemmas.List.{length-set, ext_get_or}
 use Rattle.rio_base.specs.Disks.{block_at, is_pending}
+use Rattle.rio_base.specs.Rules.{true_false}
 use Rattle.block_disk.specs.BlockLists.{AreWhole, AreSettled, Replaced}
 
 -- what block b is to be
@@ -78,3 +79,19 @@ restored_block false read synced h = sym (h refl)
 pub restored_all : (pending : List Bool) (blocks synced new : List (List ℕ)) → Replaced pending (block_at synced) blocks new → length synced ≡ length blocks → AreSettled pending blocks synced → new ≡ synced
 restored_all pending blocks synced new s count settled =
     ext_get_or [] new synced (s.count ∙ sym count) (λ b h. let within : b < length blocks = omega (arith, h, s.count) in s.blocks b within ∙ restored_block (is_pending pending b) (block_at blocks b) (block_at synced b) (settled b within))
+
+-- ---- one block is written
+
+pub set_whole : (blocks : List (List ℕ)) (n : ℕ) (words : List ℕ) → AreWhole blocks → length words ≡ 512 → AreWhole (set blocks n words)
+set_whole blocks n words whole size b h =
+    let within : b < length blocks = omega (arith, h, length-set blocks n words) in
+    ⊎_elim (λ (is : b ≡ n). ap length (subst (λ (k : ℕ). block_at (set blocks n words) k ≡ words) (sym is) (get_or-set_same blocks n words [] (omega (arith, within, is)))) ∙ size)
+    (λ (differs : b ≢ n). ap length (get_or-set_other blocks n b words [] differs) ∙ whole b within)
+    (cases_eq b n)
+
+pub settled_set : (pending : List Bool) (blocks synced : List (List ℕ)) (n : ℕ) (words : List ℕ) → length pending ≡ length blocks → AreSettled pending blocks synced → AreSettled (set pending n true) (set blocks n words) synced
+settled_set pending blocks synced n words marks settled b h clear =
+    let within : b < length blocks = omega (arith, h, length-set blocks n words) in
+    ⊎_elim (λ (is : b ≡ n). absurd (true_false (sym (subst (λ (k : ℕ). is_pending (set pending n true) k ≡ true) (sym is) (get_or-set_same pending n true false (omega (arith, within, is, marks)))) ∙ clear)))
+    (λ (differs : b ≢ n). settled b within (sym (get_or-set_other pending n b true false differs) ∙ clear) ∙ sym (get_or-set_other blocks n b words [] differs))
+    (cases_eq b n)

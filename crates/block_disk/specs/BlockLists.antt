@@ -1,5 +1,5 @@
 -- Lists of blocks, and which of them are pending.
-use Rattle.std.specs.Prelude.{◌≡◌, ◌<◌, ℕ, Bool, false, List, map, length, Vec, if◌then◌else◌}
+use Rattle.std.specs.Prelude.{◌≡◌, ◌<◌, ◌++◌, ℕ, Bool, false, List, map, length, take, drop, Vec, if◌then◌else◌}
 use Rattle.std.specs.declared.alloc.Global.{Global}
 use Rattle.rio_base.specs.Disks.{block_at, is_pending}
 
@@ -10,6 +10,10 @@ rows all = map (λ v. v.items) all
 -- each block has 512 words
 abbrev pub AreWhole : List (List ℕ) → Type 0
 AreWhole blocks = (b : ℕ) → b < length blocks → length (block_at blocks b) ≡ 512
+
+-- a block whose write failed: the front half of the new words, over the old ones
+abbrev pub torn_words : List ℕ → List ℕ → List ℕ
+torn_words new old = take 256 new ++ drop 256 old
 
 -- each block that isn't pending reads as it was synced last
 abbrev pub AreSettled : List Bool → List (List ℕ) → List (List ℕ) → Type 0

@@ -1,9 +1,8 @@
 -- The disk in memory: its blocks, which of its calls are to fail, and what a crash makes of it.
-use Rattle.std.specs.Prelude.{◌≡◌, ◌<◌, ℕ, ◌+◌, ◌*◌, ◌-◌, ◌^◌, ◌==◌, ◌&&◌, nat_lt, if◌then◌else◌, Bool, true, false, List, [], ◌∷◌, length, replicate, Some, None, ◌≤◌, Result, Ok, Err, MatchResult}
-use Rattle.std.specs.List.{list_any}
+use Rattle.std.specs.Prelude.{◌≡◌, ◌<◌, ℕ, ◌+◌, ◌*◌, ◌-◌, ◌==◌, ◌&&◌, nat_lt, if◌then◌else◌, Bool, true, false, List, [], ◌∷◌, length, replicate, slice_set, Some, None, ◌≤◌, Result, Ok, Err}
 use Rattle.rio_base.specs.Disks.{DiskContents, block_at, is_pending, raised}
 use Rattle.std.proofs.Common.{arith, subst}
-use Rattle.block_disk.specs.BlockLists.{rows}
+use Rattle.block_disk.specs.BlockLists.{rows, torn_words}
 use Rattle.block_disk.specs.declared.mem_disk.MemDisk.{MemDisk}
 use Rattle.block_disk.specs.declared.disk_choice.DiskChoice.{DiskChoice}
 use Rattle.block_disk.specs.declared.disk_choice.DiskChoice.TheVariants.{AsRead, AsSynced, Filled}
@@ -53,10 +52,6 @@ new_state blocks = record {
 
 -- ---- which calls fail
 
--- the next call is to fail, whichever it is. Calls past the largest u64 are not counted, and none of them is to fail
-abbrev pub is_due : MemDiskState → Bool
-is_due s = nat_lt s.calls (2 ^ 64 - 1) && list_any (λ call. call == s.calls + 1) s.failing
-
 -- how many of these calls are still to come, after so many
 unfoldable pub upcoming : ℕ → List ℕ → ℕ
 upcoming calls [] = 0
@@ -74,10 +69,6 @@ is_read_due s b = (s.failing_block == b) && nat_lt 0 s.failing_reads
 abbrev pub reads_left : MemDiskState → ℕ → ℕ
 reads_left s b = if s.failing_block == b then s.failing_reads - 1 else s.failing_reads
 
--- the call failed where it was due, and nowhere else
-abbrev pub FailsIf : {T E : Type 0} → Bool → Result T E → Type 0
-FailsIf due answer = MatchResult answer (λ _. due ≡ false) (λ _. due ≡ true)
-
 -- no call is to fail
 abbrev pub FailsNever : MemDiskState → Type 0
 FailsNever s = (s.failing ≡ []) × (s.failing_reads ≡ 0)
@@ -93,6 +84,15 @@ contents_of s = record { blocks = s.blocks; pending = s.pending; faults = record
 -- one call is counted, as failed where it did
 abbrev pub counted : {T E : Type 0} → Result T E → MemDiskState → MemDiskState
 counted answer s = record s { calls = raised s.calls 1; faults = faults_after answer s.faults }
+
+-- what a block reads as after its write: the new words, or torn where the write failed
+abbrev pub written_words : {T E : Type 0} → Result T E → List ℕ → List ℕ → List ℕ
+written_words (Ok _) new old = new
+written_words (Err _) new old = torn_words new old
+
+-- block b reads as these words and is pending, and one more write is counted
+abbrev pub with_block : ℕ → List ℕ → MemDiskState → MemDiskState
+with_block b words s = record s { blocks = slice_set s.blocks b words; pending = slice_set s.pending b true; writes = raised s.writes 1 }
 
 -- ---- crashes
 

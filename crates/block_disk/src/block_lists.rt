@@ -2,7 +2,7 @@
 
 ghost use Rattle.std.specs.Prelude.{◌≡◌, ◌<◌, ℕ, false, IfOk, length, replicate, slice_set};
 ghost use Rattle.rio_base.specs.Disks.{block_at};
-ghost use Rattle.block_disk.specs.BlockLists.{AreWhole, Replaced, rows};
+ghost use Rattle.block_disk.specs.BlockLists.{AreWhole, Replaced, rows, torn_words};
 
 use std::alloc::{AllocError, Global};
 
@@ -38,6 +38,27 @@ pub fn put_block(blocks: &mut Vec<Vec<u64>>, b: usize, from: &[u64])
     ensures { rows blocks.new.items ≡ slice_set (rows blocks.old.items) b from.now }
 {
     blocks[b].copy_from_slice(from);
+}
+
+/// Puts the front half of a block's new words over the old ones.
+#[tactic(auto, using(crate::proofs::Rows::half_length, crate::proofs::Rows::half_put))]
+fn put_half(words: &mut [u64], from: &[u64])
+    requires words { length words.old ≡ 512 }
+    requires from { length from.now ≡ 512 }
+    ensures { words.new ≡ torn_words from.now words.old }
+{
+    words[..BLOCK_WORDS / 2].copy_from_slice(&from[..BLOCK_WORDS / 2]);
+}
+
+/// Puts the front half of a block's new words over those of a block: its write failed.
+#[tactic(auto, using(crate::proofs::Rows::rows_set, crate::proofs::Rows::row_torn))]
+pub fn tear_block(blocks: &mut Vec<Vec<u64>>, b: usize, from: &[u64])
+    requires within { b < length (rows blocks.old.items) }
+    requires block { length (block_at (rows blocks.old.items) b) ≡ 512 }
+    requires words { length from.now ≡ 512 }
+    ensures { rows blocks.new.items ≡ slice_set (rows blocks.old.items) b (torn_words from.now (block_at (rows blocks.old.items) b)) }
+{
+    put_half(blocks[b].as_mut_slice(), from);
 }
 
 /// Makes each word this one.

@@ -3,17 +3,18 @@
 ghost use Rattle.std.specs.Prelude.{◌≡◌, ◌<◌, ◌^◌, ◌||◌, ℕ, [], ◌∷◌, ◌++◌, false, true, IsOk, IfOk, OnOk, OnErr, length, replicate, slice_set};
 ghost use Rattle.rio_base.specs.Counts.{HasCause};
 ghost use Rattle.rio_base.specs.Disks.{HasFaultCause, block_at, raised};
-ghost use Rattle.block_disk.specs.BlockLists.{AreSettled, AreWhole, rows};
+ghost use Rattle.rio_base.specs.FailingCalls.{FailsIf, is_due};
+ghost use Rattle.block_disk.specs.BlockLists.{AreSettled, AreWhole, rows, torn_words};
 
 use crate::block_lists::{
-    clear_marks, copy_block, copy_pending, fill_pending, put_block, zero_blocks,
+    clear_marks, copy_block, copy_pending, fill_pending, put_block, tear_block, zero_blocks,
 };
 use crate::disk_choice::DiskChoice;
 use rio_base::{Block, DiskBlocks, Failed};
 use std::alloc::{AllocError, Global};
 
 /// A disk in memory. Calls fail where it is told to, and it can crash: pending blocks then read as is chosen. A failed
-/// write stores its words all the same.
+/// write leaves a torn block: the front half of the new words, over the old ones.
 #[derive(Drop)]
 pub struct MemDisk {
     blocks: Vec<Vec<u64>>,
@@ -34,7 +35,7 @@ pub struct MemDisk {
 }
 
 impl MemDisk {
-    ghost use Rattle.block_disk.specs.MemDisks.{state_of, contents_of, new_state, counted, is_due, is_read_due, reads_left, FailsIf, Crashed};
+    ghost use Rattle.block_disk.specs.MemDisks.{state_of, contents_of, new_state, counted, is_read_due, reads_left, with_block, Crashed};
 
     /// A disk of `blocks` blocks of zeros. Nothing is pending, and no call is to fail.
     pub fn new(alloc: Global, blocks: u32) -> Result<MemDisk, AllocError>
@@ -112,7 +113,7 @@ impl MemDisk {
 
     /// Whether the next call is one of those that [`MemDisk::fail_call`] named.
     fn is_due(&self) -> bool
-        ensures { result ≡ is_due (state_of self.now) }
+        ensures { result ≡ is_due (state_of self.now).calls (state_of self.now).failing }
     {
         if self.calls == u64::MAX {
             return false;
@@ -123,7 +124,7 @@ impl MemDisk {
     /// Counts a call, and says whether it is not to fail. `due` is that it is to fail anyway.
     fn begin(&mut self, due: bool) -> Result<(), Failed>
         ensures state { state_of self.new ≡ counted result (state_of self.old) }
-        ensures fails { FailsIf (due || is_due (state_of self.old)) result }
+        ensures fails { FailsIf (due || is_due (state_of self.old).calls (state_of self.old).failing) result }
         ensures cause { HasCause result (state_of self.old).faults (state_of self.new).faults }
     {
         let due = due || self.is_due();
@@ -133,6 +134,29 @@ impl MemDisk {
             return Err(Failed);
         }
         Ok(())
+    }
+
+    /// A write that is made: the block has the new words.
+    fn put(&mut self, b: Block, from: &[u64])
+        requires block { b.0 < length (state_of self.old).blocks }
+        requires words { length from.now ≡ 512 }
+        ensures { state_of self.new ≡ with_block b.0 from.now (state_of self.old) }
+    {
+        self.pending[b.0 as usize] = true;
+        put_block(&mut self.blocks, b.0 as usize, from);
+        self.writes = self.writes.saturating_add(1);
+    }
+
+    /// A write that fails: the block is torn.
+    fn put_torn(&mut self, b: Block, from: &[u64])
+        requires block { b.0 < length (state_of self.old).blocks }
+        requires words { length from.now ≡ 512 }
+        ensures { state_of self.new ≡ with_block b.0 (torn_words from.now (block_at (state_of self.old).blocks b.0)) (state_of self.old) }
+    {
+        let at = b.0 as usize;
+        self.pending[at] = true;
+        tear_block(&mut self.blocks, at, from);
+        self.writes = self.writes.saturating_add(1);
     }
 
     /// Whether this read of a block is one of those that [`MemDisk::fail_reads`] named, and counts it there.
@@ -149,7 +173,7 @@ impl MemDisk {
 }
 
 impl DiskBlocks for MemDisk {
-    ghost use Rattle.block_disk.specs.MemDisks.{state_of, contents_of, counted, is_due, is_read_due, reads_left, FailsIf, FailsNever, within_most};
+    ghost use Rattle.block_disk.specs.MemDisks.{state_of, contents_of, counted, is_read_due, reads_left, with_block, written_words, FailsNever, within_most};
 
     ghost contents = { λ d. contents_of (state_of d) };
 
@@ -163,7 +187,7 @@ impl DiskBlocks for MemDisk {
         ensures words { OnOk result (into.new.items ≡ block_at (state_of self.old).blocks b.0) }
         ensures kept { OnErr result (into.new.items ≡ into.old.items) }
         ensures state { state_of self.new ≡ record (counted result (state_of self.old)) { failing_reads = reads_left (state_of self.old) b.0 } }
-        ensures fails { FailsIf (is_read_due (state_of self.old) b.0 || is_due (state_of self.old)) result }
+        ensures fails { FailsIf (is_read_due (state_of self.old) b.0 || is_due (state_of self.old).calls (state_of self.old).failing) result }
         ensures certain { FailsNever (state_of self.old) → IsOk result }
         ensures cause { HasFaultCause result (contents_of (state_of self.old)).faults (contents_of (state_of self.new)).faults }
     {
@@ -176,23 +200,36 @@ impl DiskBlocks for MemDisk {
     fn write(&mut self, b: Block, from: &[u64]) -> Result<(), Failed>
         requires block { b.0 < length (state_of self.old).blocks }
         requires words { length from.now ≡ 512 }
-        ensures state { state_of self.new ≡ record (counted result (state_of self.old)) { blocks = slice_set (state_of self.old).blocks b.0 from.now; pending = slice_set (state_of self.old).pending b.0 true; writes = raised (state_of self.old).writes 1 } }
-        ensures fails { FailsIf (is_due (state_of self.old)) result }
+        ensures state { state_of self.new ≡ counted result (with_block b.0 (written_words result from.now (block_at (state_of self.old).blocks b.0)) (state_of self.old)) }
+        ensures fails { FailsIf (is_due (state_of self.old).calls (state_of self.old).failing) result }
         ensures certain { FailsNever (state_of self.old) → IsOk result }
         ensures cause { HasFaultCause result (contents_of (state_of self.old)).faults (contents_of (state_of self.new)).faults }
     {
-        self.pending[b.0 as usize] = true;
-        put_block(&mut self.blocks, b.0 as usize, from);
-        self.writes = self.writes.saturating_add(1);
-        self.begin(false)?;
-        Ok(())
+        match self.begin(false) {
+            Ok(()) => {
+                self.put(b, from);
+                Ok(())
+            }
+            Err(failed) => {
+                self.put_torn(b, from);
+                Err(failed)
+            }
+        }
+    }
+
+    fn tear(&mut self, b: Block)
+        requires block { b.0 < length (state_of self.old).blocks }
+        ensures { state_of self.new ≡ record (state_of self.old) { pending = slice_set (state_of self.old).pending b.0 true } }
+    {
+        let torn = b.0 as usize;
+        self.pending[torn] = true;
     }
 
     fn sync(&mut self) -> Result<(), Failed>
         ensures ok { OnOk result (state_of self.new ≡ record (counted result (state_of self.old)) { synced = (state_of self.old).blocks; pending = replicate (length (state_of self.old).blocks) false }) }
         ensures err { OnErr result (state_of self.new ≡ counted result (state_of self.old)) }
         ensures blocks { (state_of self.new).blocks ≡ (state_of self.old).blocks }
-        ensures fails { FailsIf (is_due (state_of self.old)) result }
+        ensures fails { FailsIf (is_due (state_of self.old).calls (state_of self.old).failing) result }
         ensures certain { FailsNever (state_of self.old) → IsOk result }
         ensures cause { HasFaultCause result (contents_of (state_of self.old)).faults (contents_of (state_of self.new)).faults }
     {

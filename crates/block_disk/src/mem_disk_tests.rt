@@ -46,12 +46,10 @@ fn a_block_reads_as_it_was_written(rt: HostRuntime) -> Result<(), Fail> {
 fn calls_fail_where_they_are_to_fail(rt: HostRuntime) -> Result<(), Fail> {
     let mut disk = MemDisk::new(rt.alloc(), 2)?;
     let words = vec![in rt.alloc(); 7; 512]?;
-    let mut into = vec![in rt.alloc(); 0; 512]?;
     disk.fail_call(2)?;
-    disk.fail_call(4)?;
+    disk.fail_call(3)?;
     assert_eq!(rt; disk.sync(), Ok(()));
     assert_eq!(rt; disk.write(Block(0), &words), Err(Failed));
-    assert_eq!(rt; last_word(&mut disk, Block(0), &mut into), Ok(7));
     assert_eq!(rt; disk.sync(), Err(Failed));
     assert_eq!(rt; disk.sync(), Ok(()));
     Ok(())
@@ -107,6 +105,46 @@ fn pending_blocks_read_as_is_chosen_after_a_crash(rt: HostRuntime) -> Result<(),
     assert_eq!(rt;
         crashed(&rt, DiskChoice::Filled(0xab))?,
         (7, 0xabab_abab_abab_abab)
+    );
+    Ok(())
+}
+
+/// Whether a write of 8s that is to fail fails, and the words of its block on both sides of the middle after a crash. The
+/// block was synced as 7s.
+fn torn(rt: &HostRuntime, choice: DiskChoice) -> Result<(bool, u64, u64), Fail> {
+    let mut disk = MemDisk::new(rt.alloc(), 2)?;
+    let words = vec![in rt.alloc(); 7; 512]?;
+    let mut into = vec![in rt.alloc(); 8; 512]?;
+    disk.write(Block(1), &words)?;
+    disk.sync()?;
+    disk.fail_call(1)?;
+    let failed = disk.write(Block(1), &into).is_err();
+    disk.after_crash(choice);
+    disk.read(Block(1), &mut into)?;
+    Ok((failed, into[255], into[256]))
+}
+
+#[test]
+fn a_failed_write_leaves_a_torn_block(rt: HostRuntime) -> Result<(), Fail> {
+    assert_eq!(rt; torn(&rt, DiskChoice::AsRead)?, (true, 8, 7));
+    assert_eq!(rt; torn(&rt, DiskChoice::AsSynced)?, (true, 7, 7));
+    assert_eq!(rt; torn(&rt, DiskChoice::Filled(0))?, (true, 0, 0));
+    Ok(())
+}
+
+#[test]
+fn a_write_that_was_cut_off_reads_as_before(rt: HostRuntime) -> Result<(), Fail> {
+    let mut disk = MemDisk::new(rt.alloc(), 2)?;
+    let words = vec![in rt.alloc(); 7; 512]?;
+    let mut into = vec![in rt.alloc(); 0; 512]?;
+    disk.write(Block(1), &words)?;
+    disk.sync()?;
+    disk.tear(Block(1));
+    assert_eq!(rt; last_word(&mut disk, Block(1), &mut into), Ok(7));
+    disk.after_crash(DiskChoice::Filled(0xab));
+    assert_eq!(rt;
+        last_word(&mut disk, Block(1), &mut into),
+        Ok(0xabab_abab_abab_abab)
     );
     Ok(())
 }

@@ -1,8 +1,9 @@
-use Rattle.block_disk.proofs.Failing.{called, handed_on}
+use Rattle.block_disk.specs.MemDisks.{state_of}
+use Rattle.block_disk.proofs.Failing.{called, wrote}
 use Rattle.block_disk.proofs.mem_disk.MemDiskDiskBlocks.write.Goals as goal
 
-pub returns-in_err-begin-clause-cause : goal.returns-in_err-begin-clause-cause
-returns-in_err-begin-clause-cause c = let inner = called _ _ _ c.in_err-begin.ensures.state c.in_err-begin.ensures.fails c.in_err-begin.ensures.cause in handed_on _ _ _ inner.last inner.cause
+pub returns-in-Ok-clause-cause : goal.returns-in-Ok-clause-cause
+returns-in-Ok-clause-cause c = wrote _ _ (state_of c.begin.new.self) _ _ _ c.put.ensures (called _ _ _ c.in-Ok.ensures.state c.in-Ok.ensures.fails c.in-Ok.ensures.cause)
 
-pub returns-clause-cause : goal.returns-clause-cause
-returns-clause-cause c = called _ _ _ c.in_ok-begin.ensures.state c.in_ok-begin.ensures.fails c.in_ok-begin.ensures.cause
+pub returns-in-Err-clause-cause : goal.returns-in-Err-clause-cause
+returns-in-Err-clause-cause c = wrote _ _ (state_of c.begin.new.self) _ _ _ c.put_torn.ensures (called _ _ _ c.in-Err.ensures.state c.in-Err.ensures.fails c.in-Err.ensures.cause)
