@@ -1,2 +1,5 @@
 pub mod Places
+pub mod Ran
 pub mod Runs
+pub mod StepRuns
+pub mod WordRuns

@@ -1,8 +1,8 @@
 -- Words of protected pages and of scratch, and blocks that are written.
-use Rattle.std.proofs.Common.{◌≡◌, ℕ, ◌+◌, ◌-◌, ◌*◌, ◌<◌, ◌≤◌, ◌%◌, true, List, length, [], take, drop, slice_set, false, Option, Some, None, refl, le_refl, sym, ◌∙◌, ap, subst, arith, get_or-set_other, get_or-set_same, length-drop}
+use Rattle.std.proofs.Common.{◌≡◌, ℕ, ◌+◌, ◌-◌, ◌*◌, ◌<◌, ◌≤◌, ◌%◌, true, List, length, [], take, drop, slice_set, false, refl, le_refl, sym, ◌∙◌, ap, subst, arith, get_or-set_other, get_or-set_same, length-drop}
 use Rattle.std.proofs.lemmas.List.{drop-set-add, drop-set-lt, drop-take, length-set, length-take, take-set-le, take-take}
 use Rattle.std.proofs.Math.Seq.{take-set-lt}
-use Rattle.rio_base.specs.Disks.{DiskContents, FaultCount, block_at, with_written}
+use Rattle.rio_base.specs.Disks.{DiskContents, FaultCount, block_at, with_torn, with_written}
 use Rattle.rio_base.specs.Machine.{Contents, Lasts, WritesBlock, after_wild}
 use Rattle.rio_base.specs.MachineRules.{lasts_refl}
 use Rattle.rio_base.specs.declared.wild.Wild.TheVariants.{Changed}
@@ -30,10 +30,10 @@ pub running_same : (words : List ℕ) (pages at v : ℕ) (g : Guard) → at < pr
 running_same words pages at v g h = rw (length-set words at v) (ap (λ ws. record (running_of words pages g) { scratch = ws }) (drop-set-lt (protected_count words pages) words at v h))
 
 -- a store to a protected word, after a step has begun
-pub stored_contents : (words now : List ℕ) (pages then : ℕ) (disk : DiskContents) (old new : Guard) (torn : Option Block) (at v : ℕ) → at < protected_count now then → protected_of now then ≡ protected_of words pages → page_of new ≡ page_of old → contents_of (slice_set now at v) then disk new torn ≡ record (contents_of words pages disk old torn) { words = slice_set (protected_of words pages) at v }
-stored_contents words now pages then disk old new torn at v within h k =
-    ap (λ ws. record (contents_of now then disk new torn) { words = ws }) (protected_changed now then at v within ∙ ap (λ ws. slice_set ws at v) h)
-    ∙ ap (λ o. record (contents_of words pages disk old torn) { words = slice_set (protected_of words pages) at v; open_page = o }) k
+pub stored_contents : (words now : List ℕ) (pages then : ℕ) (disk : DiskContents) (old new : Guard) (at v : ℕ) → at < protected_count now then → protected_of now then ≡ protected_of words pages → page_of new ≡ page_of old → contents_of (slice_set now at v) then disk new ≡ record (contents_of words pages disk old) { words = slice_set (protected_of words pages) at v }
+stored_contents words now pages then disk old new at v within h k =
+    ap (λ ws. record (contents_of now then disk new) { words = ws }) (protected_changed now then at v within ∙ ap (λ ws. slice_set ws at v) h)
+    ∙ ap (λ o. record (contents_of words pages disk old) { words = slice_set (protected_of words pages) at v; open_page = o }) k
 
 pub lasts_stored : (old new : Contents) (at v : ℕ) → new ≡ record old { words = slice_set old.words at v } → Lasts old new
 lasts_stored old new at v e = rw e (record { size = length-set old.words at v; blocks = refl; around = refl; faults = (lasts_refl old).faults; writes = le_refl old.writes })
@@ -65,14 +65,14 @@ page_in_memory words pages p whole h = omega (arith, whole, h, count_all words p
 
 -- ---- a block is written
 
-pub one_contents : (words now : List ℕ) (pages : ℕ) (disk : DiskContents) (old new : Guard) (torn : Option Block) → protected_of now pages ≡ protected_of words pages → page_of new ≡ page_of old → contents_of now pages disk new torn ≡ contents_of words pages disk old torn
-one_contents words now pages disk old new torn h k = let c = contents_of now pages disk new torn in ap (λ ws. record c { words = ws }) h ∙ ap (λ o. record (contents_of words pages disk old torn) { open_page = o }) k
+pub one_contents : (words now : List ℕ) (pages : ℕ) (disk : DiskContents) (old new : Guard) → protected_of now pages ≡ protected_of words pages → page_of new ≡ page_of old → contents_of now pages disk new ≡ contents_of words pages disk old
+one_contents words now pages disk old new h k = let c = contents_of now pages disk new in ap (λ ws. record c { words = ws }) h ∙ ap (λ o. record (contents_of words pages disk old) { open_page = o }) k
 
 pub written_block : (old new : DiskContents) (b : ℕ) (block : List ℕ) (faults : FaultCount) → b < length old.blocks → new ≡ with_written old b block faults → block_at new.blocks b ≡ block
 written_block old new b block faults h e = rw e (get_or-set_same old.blocks b block [] h)
 
 -- a write that stops the board
-pub torn_writes : (words now : List ℕ) (pages : ℕ) (disk : DiskContents) (old new : Guard) (b : Block) → protected_of now pages ≡ protected_of words pages → page_of new ≡ page_of old → WritesBlock b.0 (contents_of words pages disk old None) (contents_of now pages disk new (Some b))
+pub torn_writes : (words now : List ℕ) (pages : ℕ) (disk : DiskContents) (old new : Guard) (b : Block) → protected_of now pages ≡ protected_of words pages → page_of new ≡ page_of old → WritesBlock b.0 (contents_of words pages disk old) (contents_of now pages (with_torn disk b.0) new)
 torn_writes words now pages disk old new b h k = record {
   words = h;
   open_page = k;
@@ -83,7 +83,7 @@ torn_writes words now pages disk old new b h k = record {
 }
 
 -- a write that is made
-pub made_writes : (words now : List ℕ) (pages : ℕ) (disk : DiskContents) (old new : Guard) (b : Block) (block : List ℕ) (faults : FaultCount) → protected_of now pages ≡ protected_of words pages → page_of new ≡ page_of old → WritesBlock b.0 (contents_of words pages disk old None) (contents_of now pages (with_written disk b.0 block faults) new None)
+pub made_writes : (words now : List ℕ) (pages : ℕ) (disk : DiskContents) (old new : Guard) (b : Block) (block : List ℕ) (faults : FaultCount) → protected_of now pages ≡ protected_of words pages → page_of new ≡ page_of old → WritesBlock b.0 (contents_of words pages disk old) (contents_of now pages (with_written disk b.0 block faults) new)
 made_writes words now pages disk old new b block faults h k = record {
   words = h;
   open_page = k;

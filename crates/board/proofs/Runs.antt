@@ -50,7 +50,7 @@ halted_steps words pages size old new same h = from h.by
     from (inr t) = subst (λ (g : Guard). Steps (running_of words pages old) (running_of words pages g)) (sym t.1.3) (trap_ends words pages old t.0 t.1.0 t.1.1 (subst (λ (s : ℕ). Lands old s t.1.0.at.0 Trapped) same t.1.2))
 
 -- a store that is due falls on a word of scratch, and the step is counted
-scratch_steps : (words : List ℕ) (pages : ℕ) (old : Guard) (a : Armed) → (old.stopped ≡ true → ⊥) → IsDue old a → protected_count words pages ≤ a.at.0 → Steps (running_of words pages old) (running_of (slice_set words a.at.0 a.value) pages (counted (record old { armed = None })))
+scratch_steps : (words : List ℕ) (pages : ℕ) (old : Guard) (a : Armed) → (old.stopped ≡ true → ⊥) → IsDue old a → protected_count words pages ≤ a.at.0 → Steps (running_of words pages old) (running_of (slice_set words a.at.0 a.value) pages (counted 1 (record old { armed = None })))
 scratch_steps words pages old a running due within = record {
   protected = ap (λ n. n - 512 * pages) (length-set words a.at.0 a.value);
   stop_set = refl;

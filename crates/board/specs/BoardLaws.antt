@@ -1,9 +1,8 @@
 -- What every board keeps.
-use Rattle.std.specs.Prelude.{◌≡◌, ℕ, ◌+◌, ◌*◌, ◌^◌, ◌%◌, ◌<◌, ◌≤◌, List, Bool, true, length, take, drop, Option, Some, None}
-use Rattle.std.proofs.Common.{arith, sym, ◌∙◌, subst, length-drop}
-use Rattle.std.proofs.lemmas.List.{length-take, length-set}
-use Rattle.rio_base.specs.declared.places.Block.{Block}
-use Rattle.board.specs.Boards.{protected_count, with_torn}
+use Rattle.std.specs.Prelude.{◌≡◌, ℕ, ◌+◌, ◌*◌, ◌^◌, ◌%◌, ◌<◌, ◌≤◌, List, length, take, drop}
+use Rattle.std.proofs.Common.{arith, sym, subst, length-drop}
+use Rattle.std.proofs.lemmas.List.{length-take}
+use Rattle.board.specs.Boards.{protected_count}
 
 pub count_protected : (words : List ℕ) (pages : ℕ) → protected_count words pages ≡ length (take (protected_count words pages) words)
 count_protected words pages = omega (arith, length-take (protected_count words pages) words)
@@ -22,7 +21,3 @@ pages_scratch words pages h k = omega (arith, length-drop (protected_count words
 
 pub page_within : (words : List ℕ) (pages p : ℕ) → 512 * p + 512 ≤ protected_count words pages → 512 * p + 512 ≤ length (take (protected_count words pages) words)
 page_within words pages p h = subst (λ (n : ℕ). 512 * p + 512 ≤ n) (count_protected words pages) h
-
-pub marks_torn : (marks : List Bool) (torn : Option Block) (n : ℕ) → length marks ≡ n → length (with_torn marks torn) ≡ n
-marks_torn marks None n h = h
-marks_torn marks (Some b) n h = length-set marks b.0 true ∙ h

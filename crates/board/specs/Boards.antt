@@ -1,9 +1,8 @@
 -- What a board's words, disk and guard make of it as a machine.
-use Rattle.std.specs.Prelude.{ℕ, ◌-◌, ◌*◌, Bool, true, List, length, take, drop, slice_set, Option, Some, None, is_some}
+use Rattle.std.specs.Prelude.{ℕ, ◌-◌, ◌*◌, List, length, take, drop, is_some}
 use Rattle.std.specs.Option.{option_map}
 use Rattle.rio_base.specs.Disks.{DiskContents}
 use Rattle.rio_base.specs.Machine.{Contents, Running}
-use Rattle.rio_base.specs.declared.places.Block.{Block}
 use Rattle.board.specs.declared.guard.Guard.{Guard}
 use Rattle.board.specs.Guards.{armed_place, page_of}
 
@@ -18,17 +17,12 @@ protected_of words scratch = take (protected_count words scratch) words
 abbrev pub scratch_of : List ℕ → ℕ → List ℕ
 scratch_of words scratch = drop (protected_count words scratch) words
 
--- the marks, with that of a block whose write was cut off
-abbrev pub with_torn : List Bool → Option Block → List Bool
-with_torn marks None = marks
-with_torn marks (Some b) = slice_set marks b.0 true
-
-abbrev pub contents_of : List ℕ → ℕ → DiskContents → Guard → Option Block → Contents
-contents_of words scratch disk g torn = record {
+abbrev pub contents_of : List ℕ → ℕ → DiskContents → Guard → Contents
+contents_of words scratch disk g = record {
   words = protected_of words scratch;
   open_page = page_of g;
   disk = disk.blocks;
-  pending = with_torn disk.pending torn;
+  pending = disk.pending;
   faults = disk.faults;
   writes = disk.writes;
   around = disk.around;

@@ -1,5 +1,5 @@
 -- The guard of a board: what a step does to it, and which steps it refuses.
-use Rattle.std.specs.Prelude.{◌≡◌, ◌≢◌, ℕ, ◌-◌, ◌/◌, ◌<◌, ◌≤◌, true, ◌⊎◌, List, slice_set, Option, Some, None}
+use Rattle.std.specs.Prelude.{◌≡◌, ◌≢◌, ℕ, ◌+◌, ◌-◌, ◌/◌, ◌<◌, ◌≤◌, ◌↔◌, true, ◌⊎◌, List, slice_set, Option, Some, None}
 use Rattle.std.specs.Option.{option_map}
 use Rattle.rio_base.specs.Disks.{raised}
 use Rattle.rio_base.specs.declared.places.WordAt.{WordAt}
@@ -36,9 +36,9 @@ IsOver g = (g.stopped ≡ true) ⊎ ((n : ℕ) × (g.stop_after ≡ Some n) × (
 abbrev pub IsDue : Guard → Armed → Type 0
 IsDue g a = (g.armed ≡ Some a) × (a.left ≡ 0)
 
--- what is armed, one step later
-abbrev pub one_later : Option Armed → Option Armed
-one_later armed = option_map {T = Armed} (λ a. record a { left = a.left - 1 }) armed
+-- what is armed, n steps later
+abbrev pub later : ℕ → Option Armed → Option Armed
+later n armed = option_map {T = Armed} (λ a. record a { left = a.left - n }) armed
 
 -- a step answers Stopped: it is over, or the armed store falls and traps
 abbrev pub Halts : Guard → ℕ → Type 0
@@ -58,9 +58,9 @@ FallsBy size None old new =
 pub record HasFallen (size : ℕ) (fallen : Option Armed) (old new : Guard) : Type 0 where
   pub by : FallsBy size fallen old new
 
--- a step is counted, and what is armed falls one step sooner
-abbrev pub counted : Guard → Guard
-counted g = record g { steps = raised g.steps 1; armed = one_later g.armed }
+-- n steps are counted, and what is armed falls n steps sooner
+abbrev pub counted : ℕ → Guard → Guard
+counted n g = record g { steps = raised g.steps n; armed = later n g.armed }
 
 -- a step that answers Stopped. Where the steps are used up, an armed store doesn't fall
 pub record Halted (size : ℕ) (old new : Guard) : Type 0 where
@@ -69,7 +69,7 @@ pub record Halted (size : ℕ) (old new : Guard) : Type 0 where
 -- a step that is made
 pub record Proceeds (size : ℕ) (fallen : Option Armed) (old new : Guard) : Type 0 where
   pub goes_on : IsOver old → ⊥
-  pub between : (g : Guard) × FallsBy size fallen old g × (new ≡ counted g)
+  pub between : (g : Guard) × FallsBy size fallen old g × (new ≡ counted 1 g)
 
 -- the words of scratch after a store fell on them, where the words before them are `size`
 abbrev pub with_fallen : ℕ → Option Armed → List ℕ → List ℕ
@@ -79,3 +79,34 @@ with_fallen size (Some a) scratch = slice_set scratch (a.at.0 - size) a.value
 -- a step that is made, with what it does to the words of scratch
 pub record Makes (size : ℕ) (old_scratch : List ℕ) (old : Guard) (new_scratch : List ℕ) (new : Guard) : Type 0 where
   pub made : (fallen : Option Armed) × Proceeds size fallen old new × (new_scratch ≡ with_fallen size fallen old_scratch)
+
+-- ---- several steps in a row
+
+-- one of the next n steps answers Stopped: the board is stopped, or fewer than n steps are left before it stops, or the
+-- armed store falls before one of them and traps
+abbrev pub HaltsWithin : Guard → ℕ → ℕ → Type 0
+HaltsWithin g n size =
+    ((g.stopped ≡ true) × (0 < n))
+    ⊎ ((most : ℕ) × (g.stop_after ≡ Some most) × (most - g.steps < n))
+    ⊎ ((a : Armed) × (g.armed ≡ Some a) × Lands g size a.at.0 Trapped × (a.left < n))
+
+-- n steps were made: what stops the board comes n steps sooner
+abbrev pub HaltsSooner : ℕ → ℕ → Guard → Guard → Type 0
+HaltsSooner n size old new = (m : ℕ) → HaltsWithin new m size ↔ HaltsWithin old (n + m) size
+
+-- no stop and no armed store comes before one of the next n steps
+pub record IsClear (g : Guard) (n : ℕ) : Type 0 where
+  pub left : (most : ℕ) → g.stop_after ≡ Some most → n ≤ most - g.steps
+  pub armed : (a : Armed) → g.armed ≡ Some a → n ≤ a.left
+
+-- n steps are made, before one of which the armed store falls, or before none. `fallen` is a store that fell on a word of
+-- scratch
+abbrev pub FallsWithin : ℕ → ℕ → Option Armed → Guard → Guard → Type 0
+FallsWithin n size (Some a) old new = (old.armed ≡ Some a) × (a.left < n) × Lands old size a.at.0 Changed × (new ≡ record (counted n old) { armed = None })
+FallsWithin n size None old new =
+    (((a : Armed) → old.armed ≡ Some a → n ≤ a.left) × (new ≡ counted n old))
+    ⊎ ((a : Armed) × (old.armed ≡ Some a) × (a.left < n) × Lands old size a.at.0 Spared × (new ≡ record (counted n old) { armed = None; spared = raised old.spared 1 }))
+
+-- n steps that are made, with what they do to the words of scratch
+pub record MakesSteps (n size : ℕ) (old_scratch : List ℕ) (old : Guard) (new_scratch : List ℕ) (new : Guard) : Type 0 where
+  pub made : (fallen : Option Armed) × FallsWithin n size fallen old new × (new_scratch ≡ with_fallen size fallen old_scratch)

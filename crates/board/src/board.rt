@@ -1,11 +1,11 @@
 //! A board: words of memory, a disk, and what may stop them.
 
-ghost use Rattle.std.specs.Prelude.{◌≡◌, ◌≢◌, ◌<◌, ◌≤◌, ◌+◌, ◌*◌, ◌/◌, ◌%◌, ◌^◌, ◌++◌, ℕ, true, false, Some, None, Err, OnOk, OnErr, IsErr, IsErrOf, IsOk, length, slice_index, slice_set, replicate, is_some, take, drop, IsTrue, ◌↔◌};
-ghost use Rattle.rio_base.specs.Machine.{Contents, Falls, FaultCause, Lasts, Meets, Running, StepEnds, WritesBlock, after_wild};
-ghost use Rattle.rio_base.specs.Disks.{block_at, is_pending, raised};
-ghost use Rattle.rio_base.specs.Memory.{page_at};
+ghost use Rattle.std.specs.Prelude.{◌≡◌, ◌≢◌, ◌<◌, ◌≤◌, ◌+◌, ◌*◌, ◌/◌, ◌%◌, ◌^◌, ◌++◌, ℕ, true, false, Some, None, Err, OnOk, OnErr, IsErr, IsErrOf, IsOk, length, slice_index, slice_set, replicate, is_some, take, drop, IfOk, IsTrue, ◌↔◌};
+ghost use Rattle.rio_base.specs.Machine.{Contents, Copied, Falls, FaultCause, Lasts, Meets, Running, StepEnds, WritesBlock, after_wild};
+ghost use Rattle.rio_base.specs.Disks.{block_at, raised};
+ghost use Rattle.rio_base.specs.Memory.{FrontStored, page_at};
 ghost use Rattle.board.specs.Boards.{contents_of, protected_count, protected_of, running_of, scratch_of};
-ghost use Rattle.board.specs.Guards.{Halted, Halts, Makes, after_store, page_of};
+ghost use Rattle.board.specs.Guards.{Halted, Halts, HaltsSooner, HaltsWithin, Makes, MakesSteps, after_store, page_of};
 ghost use Rattle.board.specs.declared.guard.Armed.{Armed};
 
 use crate::guard::{Armed, Guard};
@@ -29,13 +29,10 @@ pub struct Board<F: MemWords, D: DiskBlocks> {
     /// How many pages are scratch. They are the last ones.
     scratch: u32,
     guard: Guard,
-    /// The block of the write that stopped the board.
-    torn: Option<Block>,
     ghost whole: { length (F.words mem) % 512 ≡ 0 },
     ghost room: { 512 * scratch < length (F.words mem) },
     ghost open_within: { (p : ℕ) → page_of guard ≡ Some p → 512 * p + 512 ≤ protected_count (F.words mem) scratch },
     ghost armed_within: { (a : Armed) → guard.armed ≡ Some a → a.at.0 < length (F.words mem) },
-    ghost torn_stopped: { guard.stopped ≡ false → torn ≡ None },
 }
 
 impl<F: MemWords, D: DiskBlocks> Board<F, D> {
@@ -55,7 +52,6 @@ impl<F: MemWords, D: DiskBlocks> Board<F, D> {
             disk,
             scratch,
             guard: Guard::new(stop_after),
-            torn: None,
         }
     }
 
@@ -83,16 +79,13 @@ impl<F: MemWords, D: DiskBlocks> Board<F, D> {
     /// The memory and the disk.
     pub fn into_parts(self) -> (F, D)
         ensures words { F.words result.0 ≡ (⟦<Board<F, D> as Machine>⟧.contents self).words ++ (⟦<Board<F, D> as Machine>⟧.run self).scratch }
-        ensures disk { D.contents result.1 ≡ record { blocks = (⟦<Board<F, D> as Machine>⟧.contents self).disk; pending = (D.contents result.1).pending; faults = (⟦<Board<F, D> as Machine>⟧.contents self).faults; writes = (⟦<Board<F, D> as Machine>⟧.contents self).writes; around = (⟦<Board<F, D> as Machine>⟧.contents self).around } }
-        ensures marks { (b : ℕ) → is_pending (D.contents result.1).pending b ≡ true → is_pending (⟦<Board<F, D> as Machine>⟧.contents self).pending b ≡ true }
-        ensures running { (⟦<Board<F, D> as Machine>⟧.run self).stopped ≡ false → (D.contents result.1).pending ≡ (⟦<Board<F, D> as Machine>⟧.contents self).pending }
+        ensures disk { D.contents result.1 ≡ record { blocks = (⟦<Board<F, D> as Machine>⟧.contents self).disk; pending = (⟦<Board<F, D> as Machine>⟧.contents self).pending; faults = (⟦<Board<F, D> as Machine>⟧.contents self).faults; writes = (⟦<Board<F, D> as Machine>⟧.contents self).writes; around = (⟦<Board<F, D> as Machine>⟧.contents self).around } }
     {
         let Board {
             mem,
             disk,
             scratch: _,
             guard: _,
-            torn: _,
         } = self;
         (mem, disk)
     }
@@ -109,12 +102,11 @@ impl<F: MemWords, D: DiskBlocks> Board<F, D> {
     fn begin(&mut self) -> Result<(), Stopped>
         ensures disk { self.new.disk ≡ self.old.disk }
         ensures scratch { self.new.scratch ≡ self.old.scratch }
-        ensures torn { self.new.torn ≡ self.old.torn }
         ensures protected { protected_of (F.words self.new.mem) self.new.scratch ≡ protected_of (F.words self.old.mem) self.old.scratch }
         ensures count { length (F.words self.new.mem) ≡ length (F.words self.old.mem) }
         ensures unmoved { OnErr result (F.words self.new.mem ≡ F.words self.old.mem) }
         ensures open_page { page_of self.new.guard ≡ page_of self.old.guard }
-        ensures running { OnOk result ((self.old.guard.stopped ≡ false) × (self.new.torn ≡ None)) }
+        ensures running { OnOk result (self.old.guard.stopped ≡ false) }
         ensures counted { OnOk result (self.new.guard.steps ≡ raised self.old.guard.steps 1) }
         ensures uncounted { OnErr result (self.new.guard.steps ≡ self.old.guard.steps) }
         ensures falls { Falls (page_of self.old.guard) (running_of (F.words self.old.mem) self.old.scratch self.old.guard) (running_of (F.words self.new.mem) self.new.scratch self.new.guard) }
@@ -129,13 +121,38 @@ impl<F: MemWords, D: DiskBlocks> Board<F, D> {
         }
         Ok(())
     }
+
+    /// Begins up to `most` steps in a row: as many as no stop comes before, and no armed store but before the first. Says
+    /// how many were begun.
+    #[tactic(auto, using(rio_base::specs::MachineRules::steps_trans, rio_base::specs::MachineRules::ends_after, rio_base::specs::MachineRules::falls_trans))]
+    fn begin_run(&mut self, most: u32) -> Result<u32, Stopped>
+        requires { 0 < most }
+        ensures some { IfOk result (λ n. (0 < n) × (n ≤ most)) }
+        ensures disk { self.new.disk ≡ self.old.disk }
+        ensures scratch { self.new.scratch ≡ self.old.scratch }
+        ensures protected { protected_of (F.words self.new.mem) self.new.scratch ≡ protected_of (F.words self.old.mem) self.old.scratch }
+        ensures count { length (F.words self.new.mem) ≡ length (F.words self.old.mem) }
+        ensures open_page { page_of self.new.guard ≡ page_of self.old.guard }
+        ensures running { OnOk result ((self.old.guard.stopped ≡ false) × (self.new.guard.stopped ≡ false)) }
+        ensures counted { IfOk result (λ n. self.new.guard.steps ≡ raised self.old.guard.steps n) }
+        ensures uncounted { OnErr result (self.new.guard.steps ≡ self.old.guard.steps) }
+        ensures falls { Falls (page_of self.old.guard) (running_of (F.words self.old.mem) self.old.scratch self.old.guard) (running_of (F.words self.new.mem) self.new.scratch self.new.guard) }
+        ensures halts { OnErr result (HaltsWithin self.old.guard most (protected_count (F.words self.old.mem) self.old.scratch)) }
+        ensures sooner { IfOk result (λ n. HaltsSooner n (protected_count (F.words self.old.mem) self.old.scratch) self.old.guard self.new.guard) }
+        ensures made { IfOk result (λ n. MakesSteps n (protected_count (F.words self.old.mem) self.old.scratch) (scratch_of (F.words self.old.mem) self.old.scratch) self.old.guard (scratch_of (F.words self.new.mem) self.new.scratch) self.new.guard) }
+        ensures ends { StepEnds (running_of (F.words self.old.mem) self.old.scratch self.old.guard) (running_of (F.words self.new.mem) self.new.scratch self.new.guard) (IsErr result) }
+    {
+        self.begin()?;
+        let further = self.guard.pass(most - 1);
+        Ok(1 + further)
+    }
 }
 
 impl<F: MemWords, D: DiskBlocks> Machine for Board<F, D> {
     ghost use Rattle.board.specs.BoardWords.{guard_of};
-    ghost use Rattle.board.specs.BoardLaws.{count_protected, count_small, marks_torn, page_within, pages_protected, pages_scratch};
+    ghost use Rattle.board.specs.BoardLaws.{count_protected, count_small, page_within, pages_protected, pages_scratch};
 
-    ghost contents = { λ b. contents_of (F.words b.mem) b.scratch (D.contents b.disk) b.guard b.torn };
+    ghost contents = { λ b. contents_of (F.words b.mem) b.scratch (D.contents b.disk) b.guard };
 
     ghost run = { λ b. running_of (F.words b.mem) b.scratch b.guard };
 
@@ -149,7 +166,7 @@ impl<F: MemWords, D: DiskBlocks> Machine for Board<F, D> {
 
     ghost open_within = { λ b p e. page_within (F.words b.mem) b.scratch p (b.open_within p e) };
 
-    ghost marks = { λ b. marks_torn (D.contents b.disk).pending b.torn _ (D.marks b.disk) };
+    ghost marks = { λ b. D.marks b.disk };
 
     ghost whole_blocks = { λ b n h. D.whole b.disk n h };
 
@@ -163,6 +180,11 @@ impl<F: MemWords, D: DiskBlocks> Machine for Board<F, D> {
 
     fn load(&self, at: WordAt) -> u64 {
         self.mem.load(at)
+    }
+
+    #[tactic(auto, using(crate::proofs::Places::page_protected))]
+    fn frame(&self, p: Page) -> &[u64] {
+        self.mem.frame(p)
     }
 
     fn trapped(&self) -> Option<WordAt> {
@@ -206,6 +228,60 @@ impl<F: MemWords, D: DiskBlocks> Machine for Board<F, D> {
     {
         self.begin()?;
         self.mem.store(at, v);
+        Ok(())
+    }
+
+    #[tactic(auto, using(crate::proofs::StepRuns::makes_none, crate::proofs::StepRuns::sooner_none, rio_base::specs::MachineRules::steps_refl, rio_base::specs::MachineRules::steps_trans, rio_base::specs::MachineRules::ends_after, rio_base::specs::MachineRules::falls_refl, rio_base::specs::MachineRules::falls_trans))]
+    fn copy_page(&mut self, from: Page, to: Page) -> Result<(), Stopped>
+        requires from { 512 * from.0 < length (⟦<Board<F, D> as Machine>⟧.contents self.old).words + length (⟦<Board<F, D> as Machine>⟧.run self.old).scratch }
+        requires to { (⟦<Board<F, D> as Machine>⟧.contents self.old).open_page ≡ Some to.0 }
+        requires two { from.0 ≢ to.0 }
+        ensures copied { OnOk result (Copied from.0 to.0 512 (⟦<Board<F, D> as Machine>⟧.contents self.old).words (⟦<Board<F, D> as Machine>⟧.contents self.new).words) }
+        ensures counted { OnOk result ((⟦<Board<F, D> as Machine>⟧.run self.new).steps ≡ raised (⟦<Board<F, D> as Machine>⟧.run self.old).steps 512) }
+        ensures front { OnErr result ((n : ℕ) × (n < 512) × Copied from.0 to.0 n (⟦<Board<F, D> as Machine>⟧.contents self.old).words (⟦<Board<F, D> as Machine>⟧.contents self.new).words × ((⟦<Board<F, D> as Machine>⟧.run self.new).steps ≡ raised (⟦<Board<F, D> as Machine>⟧.run self.old).steps n)) }
+        ensures rest { ⟦<Board<F, D> as Machine>⟧.contents self.new ≡ record (⟦<Board<F, D> as Machine>⟧.contents self.old) { words = (⟦<Board<F, D> as Machine>⟧.contents self.new).words } }
+        ensures frozen { (⟦<Board<F, D> as Machine>⟧.run self.old).stopped ≡ true → ⟦<Board<F, D> as Machine>⟧.contents self.new ≡ ⟦<Board<F, D> as Machine>⟧.contents self.old }
+        ensures lasts { Lasts (⟦<Board<F, D> as Machine>⟧.contents self.old) (⟦<Board<F, D> as Machine>⟧.contents self.new) }
+        ensures falls { Falls (⟦<Board<F, D> as Machine>⟧.contents self.old).open_page (⟦<Board<F, D> as Machine>⟧.run self.old) (⟦<Board<F, D> as Machine>⟧.run self.new) }
+        ensures halted { (⟦<Board<F, D> as Machine>⟧.run self.old).stopped ≡ true → IsErr result }
+        ensures ends { StepEnds (⟦<Board<F, D> as Machine>⟧.run self.old) (⟦<Board<F, D> as Machine>⟧.run self.new) (IsErr result) }
+        ensures stops { IsErr result ↔ HaltsWithin (guard_of self.old) 512 (⟦<Board<F, D> as Machine>⟧.run self.old).protected }
+        ensures begun { IsOk result → MakesSteps 512 (⟦<Board<F, D> as Machine>⟧.run self.old).protected (⟦<Board<F, D> as Machine>⟧.run self.old).scratch (guard_of self.old) (⟦<Board<F, D> as Machine>⟧.run self.new).scratch (guard_of self.new) }
+    {
+        let mut done = 0;
+        while done < PAGE_WORDS {
+            let n = self.begin_run(PAGE_WORDS - done)?;
+            let at = WordAt(PAGE_WORDS * from.0 + done);
+            self.mem.copy_words(at, WordAt(PAGE_WORDS * to.0 + done), n);
+            done += n;
+        }
+        Ok(())
+    }
+
+    #[tactic(auto, using(crate::proofs::StepRuns::makes_none, crate::proofs::StepRuns::sooner_none, rio_base::specs::MachineRules::steps_refl, rio_base::specs::MachineRules::steps_trans, rio_base::specs::MachineRules::ends_after, rio_base::specs::MachineRules::falls_refl, rio_base::specs::MachineRules::falls_trans))]
+    fn store_run(&mut self, at: WordAt, from: &[u64]) -> Result<(), Stopped>
+        requires page { (⟦<Board<F, D> as Machine>⟧.contents self.old).open_page ≡ Some (at.0 / 512) }
+        requires within { at.0 % 512 + length from.now ≤ 512 }
+        ensures stored { OnOk result (FrontStored at.0 (length from.now) from.now (⟦<Board<F, D> as Machine>⟧.contents self.old).words (⟦<Board<F, D> as Machine>⟧.contents self.new).words) }
+        ensures counted { OnOk result ((⟦<Board<F, D> as Machine>⟧.run self.new).steps ≡ raised (⟦<Board<F, D> as Machine>⟧.run self.old).steps (length from.now)) }
+        ensures front { OnErr result ((n : ℕ) × (n < length from.now) × FrontStored at.0 n from.now (⟦<Board<F, D> as Machine>⟧.contents self.old).words (⟦<Board<F, D> as Machine>⟧.contents self.new).words × ((⟦<Board<F, D> as Machine>⟧.run self.new).steps ≡ raised (⟦<Board<F, D> as Machine>⟧.run self.old).steps n)) }
+        ensures rest { ⟦<Board<F, D> as Machine>⟧.contents self.new ≡ record (⟦<Board<F, D> as Machine>⟧.contents self.old) { words = (⟦<Board<F, D> as Machine>⟧.contents self.new).words } }
+        ensures frozen { (⟦<Board<F, D> as Machine>⟧.run self.old).stopped ≡ true → ⟦<Board<F, D> as Machine>⟧.contents self.new ≡ ⟦<Board<F, D> as Machine>⟧.contents self.old }
+        ensures lasts { Lasts (⟦<Board<F, D> as Machine>⟧.contents self.old) (⟦<Board<F, D> as Machine>⟧.contents self.new) }
+        ensures falls { Falls (⟦<Board<F, D> as Machine>⟧.contents self.old).open_page (⟦<Board<F, D> as Machine>⟧.run self.old) (⟦<Board<F, D> as Machine>⟧.run self.new) }
+        ensures halted { (⟦<Board<F, D> as Machine>⟧.run self.old).stopped ≡ true → 0 < length from.now → IsErr result }
+        ensures ends { StepEnds (⟦<Board<F, D> as Machine>⟧.run self.old) (⟦<Board<F, D> as Machine>⟧.run self.new) (IsErr result) }
+        ensures stops { IsErr result ↔ HaltsWithin (guard_of self.old) (length from.now) (⟦<Board<F, D> as Machine>⟧.run self.old).protected }
+        ensures begun { IsOk result → MakesSteps (length from.now) (⟦<Board<F, D> as Machine>⟧.run self.old).protected (⟦<Board<F, D> as Machine>⟧.run self.old).scratch (guard_of self.old) (⟦<Board<F, D> as Machine>⟧.run self.new).scratch (guard_of self.new) }
+    {
+        let mut done = 0;
+        while done < from.len() {
+            let n = self.begin_run((from.len() - done) as u32)?;
+            let next = done + n as usize;
+            self.mem
+                .store_run(WordAt(at.0 + done as u32), &from[done..next]);
+            done = next;
+        }
         Ok(())
     }
 
@@ -257,7 +333,7 @@ impl<F: MemWords, D: DiskBlocks> Machine for Board<F, D> {
         let running = !self.guard.stopped;
         if self.begin().is_err() {
             if running {
-                self.torn = Some(b);
+                self.disk.tear(b);
             }
             return Err(DiskFail::Stopped);
         }

@@ -1,9 +1,8 @@
 //! The guard of a board: which page takes stores, how many steps are made, and what stops them.
 
-ghost use Rattle.std.specs.Prelude.{◌≡◌, ◌≢◌, ◌<◌, ◌≤◌, ◌*◌, ◌+◌, ◌/◌, ◌-◌, ◌↔◌, true, false, Some, None, IfOk, IfSome, IsErr, IsNone, OnOk, OnErr, if◌then◌else◌};
-ghost use Rattle.std.specs.Option.{option_map};
+ghost use Rattle.std.specs.Prelude.{ℕ, ◌^◌, ◌≡◌, ◌≢◌, ◌<◌, ◌≤◌, ◌*◌, ◌+◌, ◌/◌, ◌-◌, ◌↔◌, true, false, Some, None, IfOk, IfSome, IsErr, IsNone, OnOk, OnErr, if◌then◌else◌};
 ghost use Rattle.rio_base.specs.Disks.{raised};
-ghost use Rattle.board.specs.Guards.{Halted, Halts, HasFallen, IsDue, IsOver, Lands, Proceeds, Traps, after_store, one_later, page_of};
+ghost use Rattle.board.specs.Guards.{Halted, Halts, HasFallen, IsClear, IsDue, IsOver, Lands, Proceeds, Traps, after_store, counted, page_of};
 
 use rio_base::{Page, Stopped, Wild, WordAt};
 
@@ -121,18 +120,52 @@ impl Guard {
         }
     }
 
-    /// Counts a step.
-    fn count(&mut self)
-        ensures { self.new ≡ record self.old { steps = raised self.old.steps 1; armed = one_later self.old.armed } }
+    /// Counts `n` steps.
+    fn count(&mut self, n: u64)
+        ensures { self.new ≡ counted n self.old }
     {
-        self.steps = self.steps.saturating_add(1);
+        self.steps = self.steps.saturating_add(n);
         if let Some(armed) = self.armed {
             self.armed = Some(Armed {
-                left: armed.left.saturating_sub(1),
+                left: armed.left.saturating_sub(n),
                 at: armed.at,
                 value: armed.value,
             });
         }
+    }
+
+    /// How many steps are left before the board stops, or the largest `u64` where no stop is given.
+    fn steps_left(&self) -> u64
+        ensures left { (most : ℕ) → self.now.stop_after ≡ Some most → result ≡ most - self.now.steps }
+        ensures fits { (most : ℕ) → self.now.stop_after ≡ Some most → most < 2 ^ 64 }
+    {
+        match self.stop_after {
+            Some(most) => most.saturating_sub(self.steps),
+            None => u64::MAX,
+        }
+    }
+
+    /// How many steps are made before the armed store falls, or the largest `u64` where none is armed.
+    fn armed_left(&self) -> u64
+        ensures { (a : Armed) → self.now.armed ≡ Some a → result ≡ a.left }
+    {
+        match self.armed {
+            Some(armed) => armed.left,
+            None => u64::MAX,
+        }
+    }
+
+    /// Counts further steps, as many as no stop and no armed store comes before, and at most `most`. Answers how many.
+    pub(crate) fn pass(&mut self, most: u32) -> u32
+        ensures most { result ≤ most }
+        ensures clear { IsClear self.old result }
+        ensures fits { (most : ℕ) → self.old.stop_after ≡ Some most → most < 2 ^ 64 }
+        ensures counted { self.new ≡ counted result self.old }
+    {
+        let clear = self.steps_left().min(self.armed_left());
+        let n = clear.min(most as u64);
+        self.count(n);
+        n as u32
     }
 
     /// Begins a step, where the first `size` words are protected. An armed store that is due falls before it; where it
@@ -144,7 +177,7 @@ impl Guard {
     {
         self.check()?;
         let fallen = self.fall(size)?;
-        self.count();
+        self.count(1);
         Ok(fallen)
     }
 }

@@ -10,7 +10,7 @@ returns-clause-lasts g c =
     let words = g.F.MemWords.words in
     let at = c.args.at.0 in
     let within : at < protected_count (words mid.mem) mid.scratch = omega (arith, mid.open_within (at / 512) (c.in_ok-begin.ensures.open_page ∙ c.requires)) in
-    rw (c.store.ensures, c.in_ok-begin.ensures.disk, c.in_ok-begin.ensures.torn) (lasts_stored (contents_of (words old.mem) old.scratch (g.D.DiskBlocks.contents old.disk) old.guard old.torn) _ at c.args.v (stored_contents (words old.mem) (words mid.mem) old.scratch mid.scratch (g.D.DiskBlocks.contents old.disk) old.guard mid.guard old.torn at c.args.v within c.in_ok-begin.ensures.protected c.in_ok-begin.ensures.open_page))
+    rw (c.store.ensures, c.in_ok-begin.ensures.disk) (lasts_stored (contents_of (words old.mem) old.scratch (g.D.DiskBlocks.contents old.disk) old.guard) _ at c.args.v (stored_contents (words old.mem) (words mid.mem) old.scratch mid.scratch (g.D.DiskBlocks.contents old.disk) old.guard mid.guard at c.args.v within c.in_ok-begin.ensures.protected c.in_ok-begin.ensures.open_page))
 
 pub returns-clause-ends : goal.returns-clause-ends
 returns-clause-ends g c =

@@ -1,0 +1,29 @@
+use Rattle.std.proofs.Common.{◌≡◌, ◌∙◌, false, sym}
+use Rattle.rio_base.specs.Rules.{true_false}
+use Rattle.board.specs.Boards.{protected_count, scratch_of}
+use Rattle.board.proofs.StepRuns.{begun_fits, makes_clear, makes_more, makes_one, sooner_begun, sooner_clear, sooner_more}
+use Rattle.board.proofs.board.Board.begin_run.Goals as goal
+
+pub returns-clause-sooner : goal.returns-clause-sooner
+returns-clause-sooner g c =
+    let begun = c.in_ok-begin.ensures in
+    let passed = c.pass-further.ensures in
+    let old = c.args.self.now in
+    let mid = c.begin.new.self in
+    let size = protected_count (g.F.MemWords.words old.mem) old.scratch in
+    let step = begun.made.made.1 in
+    let runs : mid.guard.stopped ≡ false = begun.ends.runs (λ e. true_false (sym e)) ∙ begun.running in
+    sooner_more 1 c.pass-further.result size old.guard mid.guard c.pass-further.new.self
+    (sooner_begun size begun.made.made.0 old.guard mid.guard step (begun_fits size begun.made.made.0 old.guard mid.guard step passed.fits))
+    (sooner_clear c.pass-further.result size mid.guard c.pass-further.new.self runs passed.clear passed.fits passed.counted)
+
+pub returns-clause-made : goal.returns-clause-made
+returns-clause-made g c =
+    let old = c.args.self.now in
+    let mid = c.begin.new.self in
+    let size = protected_count (g.F.MemWords.words old.mem) old.scratch in
+    let first = scratch_of (g.F.MemWords.words old.mem) old.scratch in
+    let last = scratch_of (g.F.MemWords.words mid.mem) mid.scratch in
+    makes_more 1 c.pass-further.result size first last last old.guard mid.guard c.pass-further.new.self
+    (makes_one size first last old.guard mid.guard c.in_ok-begin.ensures.made)
+    (makes_clear c.pass-further.result size last mid.guard c.pass-further.new.self c.pass-further.ensures.clear c.pass-further.ensures.counted)

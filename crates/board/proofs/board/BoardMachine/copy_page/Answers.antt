@@ -1,0 +1,131 @@
+use Rattle.std.proofs.Common.{◌≡◌, ◌≤◌, ◌<◌, ◌+◌, ◌-◌, ◌*◌, ◌%◌, List, length, take, drop, slice_index, ◌∙◌, sym, ap, subst, arith}
+use Rattle.rio_base.specs.Machine.{Contents}
+use Rattle.rio_base.specs.Memory.{FrontStored}
+use Rattle.rio_base.specs.Rules.{true_false}
+use Rattle.board.specs.BoardLaws.{count_protected, pages_protected}
+use Rattle.board.specs.Boards.{protected_count, protected_of, scratch_of}
+use Rattle.board.specs.Guards.{HaltsWithin, MakesSteps}
+use Rattle.board.proofs.Places.{page_in_memory}
+use Rattle.board.proofs.Ran.{Ran, lasts_rest, ran_more, ran_stored, same_rest}
+use Rattle.board.proofs.StepRuns.{never_at_once}
+use Rattle.board.proofs.WordRuns.{copied_front, copied_more, protected_front, run_value}
+use Rattle.board.proofs.board.BoardMachine.copy_page.Goals as goal
+
+pub returns-in_err-n-clause-lasts : goal.returns-in_err-n-clause-lasts
+returns-in_err-n-clause-lasts g c =
+    let i = c.loop-done.invariant in
+    let b = c.in_err-n.ensures in
+    let mid = c.loop-done.self in
+    let end = c.begin_run.new.self in
+    let words = g.F.MemWords.words in
+    let disk = g.D.DiskBlocks.contents in
+    lasts_rest _ _
+    (same_rest (words mid.mem) (words end.mem) mid.scratch end.scratch (disk mid.disk) (disk end.disk) mid.guard end.guard (ap disk b.disk) b.open_page
+    ∙ ap (λ (m : Contents). record m { words = protected_of (words end.mem) end.scratch }) i.rest)
+    (ap length b.protected ∙ i.copied.count)
+
+pub returns-in_err-n-clause-stops : goal.returns-in_err-n-clause-stops
+returns-in_err-n-clause-stops g c =
+    let i = c.loop-done.invariant in
+    let old = c.args.self.now in
+    let k = c.loop-done.done in
+    let size = protected_count (g.F.MemWords.words old.mem) old.scratch in
+    let halts = subst (λ s. HaltsWithin c.loop-done.self.guard (512 - k) s) i.steps.protected c.in_err-n.ensures.halts in
+    let all : k + (512 - k) ≡ 512 = omega (arith, i.within) in
+    (λ e. subst (λ n. HaltsWithin old.guard n size) all ((i.sooner (512 - k)).0 halts), λ h. grind (arith, c.from_residual.ensures))
+
+pub invariant_of-self : goal.invariant_of-self
+invariant_of-self g c =
+    let i = c.loop-done.invariant in
+    let b = c.in_ok-n.ensures in
+    let words = g.F.MemWords.words in
+    let old = c.args.self.now in
+    let begun = c.begin_run.new.self in
+    let from = 512 * c.args.from.0 + c.loop-done.done in
+    let to = 512 * c.args.to.0 + c.loop-done.done in
+    let total : length (words begun.mem) ≡ length (words old.mem) = b.count ∙ i.count in
+    let source = page_in_memory (words old.mem) old.scratch c.args.from.0 old.whole c.requires.from in
+    let page = old.open_within c.args.to.0 c.requires.to in
+    let whole = copied_front (words begun.mem) from to c.in_ok-n.n (omega (arith, total, source, b.some.1, i.within)) (omega (arith, total, page, b.some.1, i.within)) in
+    let count : length (words begun.mem) ≡ length (words c.copy_words.new.self) = sym (ap length c.copy_words.ensures ∙ whole.count) in
+    record {
+      whole = subst (λ n. n % 512 ≡ 0) count begun.whole;
+      room = subst (λ n. 512 * begun.scratch < n) count begun.room;
+      open_within = λ p e. subst (λ n. 512 * p + 512 ≤ n - 512 * begun.scratch) count (begun.open_within p e);
+      armed_within = λ a e. subst (λ n. a.at.0 < n) count (begun.armed_within a e);
+    }
+
+pub loop-done-preserved : goal.loop-done-preserved
+loop-done-preserved g c =
+    let i = c.loop-done.invariant in
+    let b = c.in_ok-n.ensures in
+    let words = g.F.MemWords.words in
+    let disk = g.D.DiskBlocks.contents in
+    let old = c.args.self.now in
+    let mid = c.loop-done.self in
+    let begun = c.begin_run.new.self in
+    let k = c.loop-done.done in
+    let n = c.in_ok-n.n in
+    let from = 512 * c.args.from.0 + k in
+    let to = 512 * c.args.to.0 + k in
+    let run = take n (drop from (words begun.mem)) in
+    let total : length (words begun.mem) ≡ length (words old.mem) = b.count ∙ i.count in
+    let size : protected_count (words begun.mem) begun.scratch ≡ protected_count (words old.mem) old.scratch = b.ends.steps.protected ∙ i.steps.protected in
+    let source = page_in_memory (words old.mem) old.scratch c.args.from.0 old.whole c.requires.from in
+    let page : 512 * c.args.to.0 + 512 ≤ protected_count (words old.mem) old.scratch = old.open_within c.args.to.0 c.requires.to in
+    let small : k + n ≤ 512 = omega (arith, b.some.1, i.within) in
+    let room : to + n ≤ protected_count (words begun.mem) begun.scratch = omega (arith, size, page, small) in
+    let whole : FrontStored to n run (words begun.mem) (words c.copy_words.new.self) =
+    subst (λ (ws : List _). FrontStored to n run (words begun.mem) ws) (sym c.copy_words.ensures) (copied_front (words begun.mem) from to n (omega (arith, total, source, small)) (omega (arith, room))) in
+    let part : FrontStored to n run (protected_of (words mid.mem) mid.scratch) (protected_of (words c.copy_words.new.self) begun.scratch) =
+    subst (λ (ws : List _). FrontStored to n run ws (protected_of (words c.copy_words.new.self) begun.scratch)) b.protected (protected_front to n begun.scratch run (words begun.mem) (words c.copy_words.new.self) whole room) in
+    let before : Ran k (words old.mem) old.scratch (disk old.disk) old.guard (words mid.mem) mid.scratch (disk mid.disk) mid.guard =
+    record { count = i.count; rest = i.rest; counted = i.counted; steps = i.steps; falls = i.falls; frozen = i.frozen; runs = i.runs; sooner = i.sooner; made = i.made } in
+    let next : Ran n (words mid.mem) mid.scratch (disk mid.disk) mid.guard (words begun.mem) begun.scratch (disk begun.disk) begun.guard =
+    record {
+      count = b.count;
+      rest = same_rest (words mid.mem) (words begun.mem) mid.scratch begun.scratch (disk mid.disk) (disk begun.disk) mid.guard begun.guard (ap disk b.disk) b.open_page;
+      counted = b.counted;
+      steps = b.ends.steps;
+      falls = b.falls;
+      frozen = λ e. absurd (true_false (sym e ∙ b.running.0));
+      runs = b.running.1 ∙ sym b.running.0;
+      sooner = b.sooner;
+      made = b.made;
+    } in
+    let r = ran_stored (k + n) to n run (words old.mem) old.scratch (disk old.disk) old.guard (words begun.mem) (words c.copy_words.new.self) begun.scratch (disk begun.disk) begun.guard (omega (arith, b.some.0)) whole room
+    (ran_more k n (words old.mem) old.scratch (disk old.disk) old.guard (words mid.mem) mid.scratch (disk mid.disk) mid.guard (words begun.mem) begun.scratch (disk begun.disk) begun.guard before next) in
+    record {
+      within = small;
+      copied = copied_more c.args.from.0 c.args.to.0 k n run (protected_of (words old.mem) old.scratch) (protected_of (words mid.mem) mid.scratch) (protected_of (words c.copy_words.new.self) begun.scratch) c.requires.two small i.copied part
+          (λ known j less. run_value (words begun.mem) begun.scratch from n j less (omega (arith, size, small, known, pages_protected (words old.mem) old.scratch old.whole old.room, count_protected (words old.mem) old.scratch)) ∙ ap (λ (ws : List _). slice_index ws (from + j)) b.protected);
+      count = r.count;
+      rest = r.rest;
+      counted = r.counted;
+      steps = r.steps;
+      falls = r.falls;
+      frozen = r.frozen;
+      runs = r.runs;
+      sooner = r.sooner;
+      made = r.made;
+    }
+
+pub returns-clause-lasts : goal.returns-clause-lasts
+returns-clause-lasts g c = lasts_rest _ _ c.loop-done.invariant.rest c.loop-done.invariant.copied.count
+
+pub returns-clause-stops : goal.returns-clause-stops
+returns-clause-stops g c =
+    let i = c.loop-done.invariant in
+    let old = c.args.self.now in
+    let size = protected_count (g.F.MemWords.words old.mem) old.scratch in
+    let all : 512 ≡ c.loop-done.done + 0 = omega (arith, i.within, c.loop-done-test.false) in
+    (λ e. absurd (true_false (sym e)), λ h. absurd (never_at_once c.loop-done.self.guard size ((i.sooner 0).1 (subst (λ n. HaltsWithin old.guard n size) all h))))
+
+pub returns-clause-begun : goal.returns-clause-begun
+returns-clause-begun g c = λ e.
+    let i = c.loop-done.invariant in
+    let old = c.args.self.now in
+    let now = c.loop-done.self in
+    let words = g.F.MemWords.words in
+    let all : c.loop-done.done ≡ 512 = omega (arith, i.within, c.loop-done-test.false) in
+    subst (λ n. MakesSteps n (protected_count (words old.mem) old.scratch) (scratch_of (words old.mem) old.scratch) old.guard (scratch_of (words now.mem) now.scratch) now.guard) all i.made

@@ -1,0 +1,104 @@
+use Rattle.std.proofs.Common.{◌≡◌, ◌≤◌, ◌+◌, ◌-◌, ◌*◌, ◌/◌, List, length, take, drop, ◌∙◌, sym, ap, subst, arith}
+use Rattle.rio_base.specs.Machine.{Contents}
+use Rattle.rio_base.specs.Memory.{FrontStored}
+use Rattle.rio_base.specs.Rules.{true_false}
+use Rattle.board.specs.Boards.{protected_count, protected_of, scratch_of}
+use Rattle.board.specs.Guards.{HaltsWithin, MakesSteps}
+use Rattle.board.proofs.Ran.{Ran, lasts_rest, ran_more, ran_stored, same_rest}
+use Rattle.board.proofs.StepRuns.{never_at_once}
+use Rattle.board.proofs.WordRuns.{front_more, protected_front, run_part}
+use Rattle.board.proofs.board.BoardMachine.store_run.Goals as goal
+
+pub returns-in_err-n-clause-lasts : goal.returns-in_err-n-clause-lasts
+returns-in_err-n-clause-lasts g c =
+    let i = c.loop-done.invariant in
+    let b = c.in_err-n.ensures in
+    let mid = c.loop-done.self in
+    let end = c.begin_run.new.self in
+    let words = g.F.MemWords.words in
+    let disk = g.D.DiskBlocks.contents in
+    lasts_rest _ _
+    (same_rest (words mid.mem) (words end.mem) mid.scratch end.scratch (disk mid.disk) (disk end.disk) mid.guard end.guard (ap disk b.disk) b.open_page
+    ∙ ap (λ (m : Contents). record m { words = protected_of (words end.mem) end.scratch }) i.rest)
+    (ap length b.protected ∙ i.stored.count)
+
+pub returns-in_err-n-clause-stops : goal.returns-in_err-n-clause-stops
+returns-in_err-n-clause-stops g c =
+    let i = c.loop-done.invariant in
+    let old = c.args.self.now in
+    let k = c.loop-done.done in
+    let size = protected_count (g.F.MemWords.words old.mem) old.scratch in
+    let halts = subst (λ s. HaltsWithin c.loop-done.self.guard (length c.args.from.now - k) s) i.steps.protected c.in_err-n.ensures.halts in
+    let all : k + (length c.args.from.now - k) ≡ length c.args.from.now = omega (arith, i.within) in
+    (λ e. subst (λ n. HaltsWithin old.guard n size) all ((i.sooner (length c.args.from.now - k)).0 halts), λ h. grind (arith, c.from_residual.ensures))
+
+pub loop-done-preserved : goal.loop-done-preserved
+loop-done-preserved g c =
+    let i = c.loop-done.invariant in
+    let b = c.in_ok-n.ensures in
+    let words = g.F.MemWords.words in
+    let disk = g.D.DiskBlocks.contents in
+    let old = c.args.self.now in
+    let mid = c.loop-done.self in
+    let begun = c.begin_run.new.self in
+    let k = c.loop-done.done in
+    let n = c.in_ok-n.n in
+    let at = c.args.at.0 + k in
+    let from = c.args.from.now in
+    let run = take n (drop k from) in
+    let size : protected_count (words begun.mem) begun.scratch ≡ protected_count (words old.mem) old.scratch = b.ends.steps.protected ∙ i.steps.protected in
+    let page : 512 * (c.args.at.0 / 512) + 512 ≤ protected_count (words old.mem) old.scratch = old.open_within (c.args.at.0 / 512) c.requires.page in
+    let small : k + n ≤ length from = omega (arith, b.some.1, i.within) in
+    let room : at + n ≤ protected_count (words begun.mem) begun.scratch = omega (arith, size, page, small, c.requires.within) in
+    let whole : FrontStored at n run (words begun.mem) (words c.store_run.new.self) = run_part at k n from (words begun.mem) (words c.store_run.new.self) small c.store_run.ensures in
+    let part : FrontStored at n run (protected_of (words mid.mem) mid.scratch) (protected_of (words c.store_run.new.self) begun.scratch) =
+    subst (λ (ws : List _). FrontStored at n run ws (protected_of (words c.store_run.new.self) begun.scratch)) b.protected (protected_front at n begun.scratch run (words begun.mem) (words c.store_run.new.self) whole room) in
+    let before : Ran k (words old.mem) old.scratch (disk old.disk) old.guard (words mid.mem) mid.scratch (disk mid.disk) mid.guard =
+    record { count = i.count; rest = i.rest; counted = i.counted; steps = i.steps; falls = i.falls; frozen = i.frozen; runs = i.runs; sooner = i.sooner; made = i.made } in
+    let next : Ran n (words mid.mem) mid.scratch (disk mid.disk) mid.guard (words begun.mem) begun.scratch (disk begun.disk) begun.guard =
+    record {
+      count = b.count;
+      rest = same_rest (words mid.mem) (words begun.mem) mid.scratch begun.scratch (disk mid.disk) (disk begun.disk) mid.guard begun.guard (ap disk b.disk) b.open_page;
+      counted = b.counted;
+      steps = b.ends.steps;
+      falls = b.falls;
+      frozen = λ e. absurd (true_false (sym e ∙ b.running.0));
+      runs = b.running.1 ∙ sym b.running.0;
+      sooner = b.sooner;
+      made = b.made;
+    } in
+    let r = ran_stored (k + n) at n run (words old.mem) old.scratch (disk old.disk) old.guard (words begun.mem) (words c.store_run.new.self) begun.scratch (disk begun.disk) begun.guard (omega (arith, b.some.0)) whole room
+    (ran_more k n (words old.mem) old.scratch (disk old.disk) old.guard (words mid.mem) mid.scratch (disk mid.disk) mid.guard (words begun.mem) begun.scratch (disk begun.disk) begun.guard before next) in
+    record {
+      within = small;
+      stored = front_more c.args.at.0 k n from (protected_of (words old.mem) old.scratch) (protected_of (words mid.mem) mid.scratch) (protected_of (words c.store_run.new.self) begun.scratch) i.stored part;
+      count = r.count;
+      rest = r.rest;
+      counted = r.counted;
+      steps = r.steps;
+      falls = r.falls;
+      frozen = r.frozen;
+      runs = r.runs;
+      sooner = r.sooner;
+      made = r.made;
+    }
+
+pub returns-clause-lasts : goal.returns-clause-lasts
+returns-clause-lasts g c = lasts_rest _ _ c.loop-done.invariant.rest c.loop-done.invariant.stored.count
+
+pub returns-clause-stops : goal.returns-clause-stops
+returns-clause-stops g c =
+    let i = c.loop-done.invariant in
+    let old = c.args.self.now in
+    let size = protected_count (g.F.MemWords.words old.mem) old.scratch in
+    let all : length c.args.from.now ≡ c.loop-done.done + 0 = omega (arith, i.within, c.loop-done-test.false) in
+    (λ e. absurd (true_false (sym e)), λ h. absurd (never_at_once c.loop-done.self.guard size ((i.sooner 0).1 (subst (λ n. HaltsWithin old.guard n size) all h))))
+
+pub returns-clause-begun : goal.returns-clause-begun
+returns-clause-begun g c = λ e.
+    let i = c.loop-done.invariant in
+    let old = c.args.self.now in
+    let now = c.loop-done.self in
+    let words = g.F.MemWords.words in
+    let all : c.loop-done.done ≡ length c.args.from.now = omega (arith, i.within, c.loop-done-test.false) in
+    subst (λ n. MakesSteps n (protected_count (words old.mem) old.scratch) (scratch_of (words old.mem) old.scratch) old.guard (scratch_of (words now.mem) now.scratch) now.guard) all i.made
