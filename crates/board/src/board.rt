@@ -19,9 +19,9 @@ const PAGE_WORDS: u32 = 512;
 /// **Steps.** Each store of a word, block write and sync does this, in order. On a stopped board it answers `Stopped`.
 /// Where the steps that were given are used up, the board stops. Where an armed store is due, it falls: on a word of
 /// scratch it is made, on the open page it is skipped and counted, and elsewhere it traps, which stops the board. Then
-/// the step is counted and made.
+/// the step is counted and made. A page that is copied and a run of words are so many stores in a row.
 ///
-/// **Stopped writes.** The block of a write that stopped the board reads as before, and is pending.
+/// **Stopped writes.** The disk is told of a write that stopped the board. Its block reads as before, and is pending.
 #[derive(Drop)]
 pub struct Board<F: MemWords, D: DiskBlocks> {
     mem: F,

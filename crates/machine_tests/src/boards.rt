@@ -2,7 +2,7 @@
 
 ghost use Rattle.std.specs.Prelude.{◌≡◌, ◌/◌, Some, None, IfOk, length};
 
-use crate::machines::{board_of, board_over};
+use crate::machines::{board_of, board_over, counted};
 use crate::saving::save;
 use block_disk::MemDisk;
 use board::Board;
@@ -94,17 +94,6 @@ fn a_trap_stops_every_further_step(rt: HostRuntime) -> Result<(), Fail> {
     board.close_page();
     assert_eq!(rt; board.load(WordAt(0)), 0);
     Ok(())
-}
-
-/// Words that are their own places.
-fn counted(alloc: Global, count: usize) -> Result<Vec<u64>, AllocError>
-    ensures { IfOk result (λ words. length words.items ≡ count) }
-{
-    let mut words = vec![in alloc; 0; count]?;
-    for (at, word) in words.iter_mut().enumerate() {
-        *word = at as u64;
-    }
-    Ok(words)
 }
 
 #[test]

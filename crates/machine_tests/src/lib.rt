@@ -8,6 +8,8 @@ mod boards;
 mod entries;
 #[cfg(test)]
 mod machines;
+#[cfg(test)]
+mod runs;
 mod saving;
 #[cfg(test)]
 mod windows;

@@ -49,3 +49,14 @@ pub(crate) fn board_of(
     let mem = ListMem::new(alloc, pages)?;
     board_over(alloc, mem, stop_after)
 }
+
+/// Words that are their own places.
+pub(crate) fn counted(alloc: Global, count: usize) -> Result<Vec<u64>, AllocError>
+    ensures { IfOk result (λ words. length words.items ≡ count) }
+{
+    let mut words = vec![in alloc; 0; count]?;
+    for (at, word) in words.iter_mut().enumerate() {
+        *word = at as u64;
+    }
+    Ok(words)
+}
