@@ -1,13 +1,15 @@
 //! Tests of steps in a row on boards of 83 pages, of which the last is scratch, over a disk of 4 blocks. Each word of
 //! memory is its own place.
 
-ghost use Rattle.std.specs.Prelude.{◌<◌, length};
+ghost use Rattle.std.specs.Prelude.{◌≡◌, ◌<◌, IfOk, length};
+ghost use Rattle.block_disk.specs.MemDisks.{state_of};
 
 use crate::machines::{MemBoard, board_over, counted};
 use block_disk::{DiskChoice, MemDisk};
 use board::Board;
 use phys_memory::ListMem;
-use rio_base::{Block, DiskBlocks, DiskFail, Machine, Page, Stopped, Wild, WordAt};
+use rio_base::{Block, DiskBlocks, DiskFail, Failed, Machine, Page, Stopped, Wild, WordAt};
+use std::alloc::{AllocError, Global};
 use std::test::Fail;
 
 /// Whether the first `n` words of page 2 are those of page 20, and the others its own.
@@ -150,35 +152,57 @@ fn an_empty_run_is_no_step(rt: HostRuntime) -> Result<(), Fail> {
     Ok(())
 }
 
+/// A word of a page that is lent.
+fn word_of(page: &[u64], w: usize) -> Option<u64> {
+    if page.len() <= w {
+        return None;
+    }
+    Some(page[w])
+}
+
 #[test]
 fn pages_are_lent_as_they_read(rt: HostRuntime) -> Result<(), Fail> {
     let mem = ListMem::from_words(counted(rt.alloc(), 42_496)?);
     let board = board_over(rt.alloc(), mem, None)?;
-    let page = board.frame(Page(3));
-    assert_eq!(rt; page.len(), 512);
-    assert_eq!(rt; page[7], board.load(WordAt(1543)));
-    assert_eq!(rt; page[7], 1543);
-    let scratch = board.frame(Page(82));
-    assert_eq!(rt; scratch[511], board.load(WordAt(42_495)));
+    assert_eq!(rt; board.frame(Page(3)).len(), 512);
+    assert_eq!(rt; word_of(board.frame(Page(3)), 7), Some(1543));
+    assert_eq!(rt; word_of(board.frame(Page(82)), 511), Some(42_495));
     Ok(())
+}
+
+/// The first word of a block, which is read into `into`.
+fn first_word(disk: &mut MemDisk, b: Block, into: &mut Vec<u64>) -> Result<u64, Failed>
+    requires block { b.0 < length (state_of disk.old).blocks }
+    requires room { length into.old.items ≡ 512 }
+    ensures count { length (state_of disk.new).blocks ≡ length (state_of disk.old).blocks }
+    ensures room { length into.new.items ≡ 512 }
+{
+    disk.read(b, into)?;
+    Ok(into[0])
+}
+
+/// What a write of block 3 answers on a board that stops before it, and the board's disk.
+fn stopped_write(alloc: Global) -> Result<(Result<(), DiskFail>, MemDisk), AllocError>
+    ensures { IfOk result (λ stopped. length (state_of stopped.1).blocks ≡ 4) }
+{
+    let mem = ListMem::from_words(counted(alloc, 42_496)?);
+    let mut board = board_over(alloc, mem, Some(0))?;
+    let written = board.write_block(Block(3), Page(2));
+    let (_, disk) = board.into_parts();
+    Ok((written, disk))
 }
 
 #[test]
 fn a_stopped_write_is_told_to_the_disk(rt: HostRuntime) -> Result<(), Fail> {
-    let mem = ListMem::from_words(counted(rt.alloc(), 42_496)?);
-    let mut board = board_over(rt.alloc(), mem, Some(0))?;
-    assert_eq!(rt;
-        board.write_block(Block(3), Page(2)),
-        Err(DiskFail::Stopped)
-    );
-    let (_, mut disk) = board.into_parts();
+    let (written, mut disk) = stopped_write(rt.alloc())?;
+    assert_eq!(rt; written, Err(DiskFail::Stopped));
     let mut into = vec![in rt.alloc(); 7; 512]?;
-    disk.read(Block(3), &mut into)?;
-    assert_eq!(rt; into[0], 0);
+    assert_eq!(rt; first_word(&mut disk, Block(3), &mut into), Ok(0));
     disk.after_crash(DiskChoice::Filled(1));
-    disk.read(Block(3), &mut into)?;
-    assert_eq!(rt; into[0], 0x0101_0101_0101_0101);
-    disk.read(Block(2), &mut into)?;
-    assert_eq!(rt; into[0], 0);
+    assert_eq!(rt;
+        first_word(&mut disk, Block(3), &mut into),
+        Ok(0x0101_0101_0101_0101)
+    );
+    assert_eq!(rt; first_word(&mut disk, Block(2), &mut into), Ok(0));
     Ok(())
 }
