@@ -1,0 +1,9 @@
+pub mod Times
+pub mod Chains
+pub mod Moves
+pub mod Ranges
+pub mod Counts
+pub mod Standing
+pub mod Holding
+pub mod Fresh
+pub mod Victims

@@ -1,0 +1,5 @@
+pub mod Frames
+pub mod Orders
+pub mod Pools
+pub mod PoolLaws
+pub mod Rings
