@@ -1,0 +1,4 @@
+pub mod DirtyEntries
+pub mod Marks
+pub mod Steps
+pub mod Walks

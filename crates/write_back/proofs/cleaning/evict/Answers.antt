@@ -1,0 +1,21 @@
+use Rattle.std.proofs.Common.{◌∙◌, Err, ap, refl}
+use Rattle.std.proofs.lemmas.Result.{err_from_is_err_and}
+use Rattle.rio_base.specs.declared.failures.VolFail.TheVariants.{Stopped}
+use Rattle.write_back.proofs.Steps.{coherent_then, ends_stopped, well, held_then, narrows_gone, narrows_held, one_entry_then}
+use Rattle.write_back.proofs.cleaning.evict.Goals as goal
+
+pub drop_entry-requires-clause-coherent : goal.drop_entry-requires-clause-coherent
+drop_entry-requires-clause-coherent g c = coherent_then _ _ _ _ c.requires.coherent c.clean.ensures.keeps c.clean.ensures.ends.steps.scratch_count
+
+pub returns-in_err-drop_entry-clause-narrows : goal.returns-in_err-drop_entry-clause-narrows
+returns-in_err-drop_entry-clause-narrows g c =
+    narrows_held c.args.k _ _ c.requires.coherent.rules.blocks (one_entry_then c.args.k _ _ _ c.clean.ensures.one_entry c.drop_entry.ensures.one_entry) (held_then c.args.k _ _ _ c.clean.ensures.held c.in_err-drop_entry.ensures.held)
+
+pub returns-clause-narrows : goal.returns-clause-narrows
+returns-clause-narrows g c =
+    narrows_gone c.args.k _ _ c.requires.coherent.rules.blocks (one_entry_then c.args.k _ _ _ c.clean.ensures.one_entry c.drop_entry.ensures.one_entry) c.in_ok-drop_entry.ensures.gone
+
+pub returns-in_err-drop_entry-clause-ends : goal.returns-in_err-drop_entry-clause-ends
+returns-in_err-drop_entry-clause-ends g c =
+    let p = err_from_is_err_and c.from_residual-in_err-drop_entry.result c.from_residual-in_err-drop_entry.ensures.1 in
+    ends_stopped _ _ _ _ _ _ (well Stopped) c.in_ok-clean.ensures.ends c.in_err-drop_entry.ensures.ends refl (p.1 ∙ ap Err p.2)

@@ -1,0 +1,23 @@
+use Rattle.std.proofs.Common.{◌<◌, ◌∙◌, subst, sym, ap, arith, length}
+use Rattle.rio_model.specs.Registry.{tag_block}
+use Rattle.rio_model.specs.CoverSteps.{keeps_write}
+use Rattle.write_back.proofs.Steps.{frame_begins, on_disk}
+use Rattle.write_back.proofs.cleaning.write_entry.Goals as goal
+
+pub write_block-requires-clause-block : goal.write_block-requires-clause-block
+write_block-requires-clause-block g c =
+    subst (λ b. b < length (g.M.Machine.contents c.args.m.now).disk) (sym (c.block-block.ensures ∙ ap tag_block c.load_tag.ensures)) ((c.requires.coherent.entries c.args.k).on_disk c.requires.valid)
+
+pub write_block-requires-clause-from : goal.write_block-requires-clause-from
+write_block-requires-clause-from g c = frame_begins _ _ c.args.k _ _ c.requires.coherent c.requires.valid.within c.requires.page
+
+pub returns-in_err-write_block-clause-keeps : goal.returns-in_err-write_block-clause-keeps
+returns-in_err-write_block-clause-keeps g c = keeps_write _ _ c.args.k _ _ c.requires.coherent c.write_block.ensures.writes_block c.requires.valid (sym (c.block-block.ensures ∙ ap tag_block c.load_tag.ensures)) c.requires.dirty
+
+pub returns-clause-keeps : goal.returns-clause-keeps
+returns-clause-keeps g c = keeps_write _ _ c.args.k _ _ c.requires.coherent c.write_block.ensures.writes_block c.requires.valid (sym (c.block-block.ensures ∙ ap tag_block c.load_tag.ensures)) c.requires.dirty
+
+pub returns-clause-written : goal.returns-clause-written
+returns-clause-written g c =
+    let begins = frame_begins (g.M.Machine.contents c.args.m.now) _ c.args.k c.args.page.0 0 c.requires.coherent c.requires.valid.within c.requires.page in
+    on_disk (g.M.Machine.contents c.args.m.now) _ c.args.k _ _ c.write_block.ensures.writes_block.words (c.block-block.ensures ∙ ap tag_block c.load_tag.ensures) c.requires.page (c.in_ok-write_block.ensures.protected (omega (arith, begins)))

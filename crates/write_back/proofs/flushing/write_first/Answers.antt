@@ -1,0 +1,42 @@
+use Rattle.std.proofs.Common.{◌∙◌, ◌<◌, ◌≤◌, arith, inl, subst, sym}
+use Rattle.rio_model.specs.CoverSteps.{keeps_trans}
+use Rattle.write_back.proofs.Steps.{coherent_then, frame_next}
+use Rattle.write_back.proofs.Walks.{Writes, counts_small, once_small, wrote_by, wrote_first, wrote_next, wrote_none}
+use Rattle.write_back.proofs.flushing.write_first.Goals as goal
+
+pub loop-k-init : goal.loop-k-init
+loop-k-init g c = wrote_none c.args.n _ _ c.requires.closed
+
+pub returns-then-from-n-clause-written : goal.returns-then-from-n-clause-written
+returns-then-from-n-clause-written g c =
+    wrote_first c.args.n c.loop-k.k _ _ _ _ _ (subst (λ f. c.loop-k.k ≤ f) c.frame_count-frames.ensures c.loop-k.auto.k-end) c.loop-k.invariant (inl (sym c.from.ensures ∙ c.if-from-n.true))
+
+pub write_if_dirty-requires-clause-coherent : goal.write_if_dirty-requires-clause-coherent
+write_if_dirty-requires-clause-coherent g c = coherent_then _ _ _ _ c.requires.coherent c.loop-k.invariant.keeps c.loop-k.invariant.steps.scratch_count
+
+pub write_if_dirty-requires-clause-page : goal.write_if_dirty-requires-clause-page
+write_if_dirty-requires-clause-page g c = frame_next _ _ _ c.loop-k.k c.page_of_frame-first.ensures.page c.loop-k.invariant.words
+
+pub returns-in_err-dirty-clause-keeps : goal.returns-in_err-dirty-clause-keeps
+returns-in_err-dirty-clause-keeps g c = keeps_trans _ _ _ c.loop-k.invariant.keeps c.write_if_dirty.ensures.keeps
+
+pub overflow_add-written : goal.overflow_add-written
+overflow_add-written g c = omega (arith, counts_small c.args.n c.loop-k.k c.loop-k.written _ c.loop-k.invariant.count, c.from-written.ensures, once_small c.in_ok-dirty.dirty, c.loop-k.auto.k-end, c.loop-k-test.true, c.frame_count-frames.ensures, c.requires.coherent.sizes.most_frames)
+
+pub loop-k-preserved : goal.loop-k-preserved
+loop-k-preserved g c =
+    let h = c.in_ok-dirty.ensures in
+    let turn : Writes c.loop-k.k c.in_ok-dirty.dirty (g.M.Machine.contents c.loop-k.m) (g.M.Machine.contents c.write_if_dirty.new.m) (g.M.Machine.run c.loop-k.m) (g.M.Machine.run c.write_if_dirty.new.m) = record {
+      keeps = h.keeps;
+      words = h.words;
+      answer = h.answer;
+      written = h.written;
+      others = h.others;
+      counted = h.counted;
+      closed = h.closed;
+      lasts = h.lasts;
+      steps = h.ends.steps;
+      runs = h.ends.runs (λ e. cc);
+    } in
+    wrote_by c.args.n c.loop-k.k c.loop-k.written c.from-written.result c.in_ok-dirty.dirty _ _ _ _ c.from-written.ensures
+    (wrote_next c.args.n c.loop-k.k c.loop-k.written c.in_ok-dirty.dirty _ _ _ _ _ _ (subst (λ f. c.loop-k.k < f) c.frame_count-frames.ensures c.loop-k-test.true) (λ e. c.if-from-n.false (c.from.ensures ∙ e)) c.loop-k.invariant turn)

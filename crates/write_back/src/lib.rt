@@ -1,0 +1,8 @@
+//! Bringing dirty pages to the disk, so that they can be let go, or outlive the loss of memory.
+#![tactic(auto)]
+
+mod cleaning;
+mod flushing;
+
+pub use cleaning::{clean, evict, page_of_frame};
+pub use flushing::flush;
