@@ -1,0 +1,135 @@
+-- The gate is stored, and no other word.
+use Rattle.std.specs.Prelude.{◌≡◌, ◌≢◌, ℕ, ◌+◌, ◌*◌, ◌<◌, ◌≤◌, ◌⊎◌, true, List, length, slice_index, slice_set, refl}
+use Rattle.std.proofs.Common.{◌∙◌, ap, sym, subst, inl, inr, arith, get_or-set_same, get_or-set_other}
+use Rattle.std.proofs.lemmas.List.{length-set}
+use Rattle.rio_base.specs.Image.{entry_at, registry_pages}
+use Rattle.rio_base.specs.Machine.{Contents}
+use Rattle.rio_model.specs.Cover.{Coherent, SameNames, frame_page, is_loose}
+use Rattle.rio_model.specs.CoverChanges.{frame_behind, frame_same, place_bare}
+use Rattle.rio_model.specs.CoverStands.{begin_stands, commit_stands, found_named, gate_reads}
+use Rattle.rio_model.specs.CoverSteps.{firm_by, pending_same}
+use Rattle.rio_model.specs.Registry.{IsValid, KeepsRegistry, frames_of, gate_of, is_dirty, is_valid, shadow_at, tag_at, tag_block}
+use Rattle.rio_model.specs.RegistryRules.{EntryKeeps, entry_keeps}
+use Rattle.shadow_pages.specs.Steps.{Gated}
+use Rattle.shadow_pages.specs.Updates.{AreBare, Committed, Opened}
+
+gated : (words : List ℕ) (g : ℕ) → 4 < length words → Gated g words (slice_set words 4 g)
+gated words g room = record { count = length-set words 4 g; gate = get_or-set_same words 4 g 0 room; others = λ i n. get_or-set_other words 4 i g 0 n }
+
+space : (c : Contents) (n : ℕ) → Coherent c n → 4 < length c.words
+space c n s = omega (arith, s.protected)
+
+pub gated_stored : (g n : ℕ) (old new : Contents) → Coherent old n → new ≡ record old { words = slice_set old.words 4 g } → Gated g old.words new.words
+gated_stored g n old new s e = subst (λ (ws : List ℕ). Gated g old.words ws) (sym (ap (λ (c : Contents). c.words) e)) (gated old.words g (space old n s))
+
+place_past : (k : ℕ) → 512 ≤ entry_at k
+unfolding entry_at
+place_past k = omega arith
+
+entry_word : (g : ℕ) (old new : List ℕ) (k x : ℕ) → Gated g old new → slice_index new (entry_at k + x) ≡ slice_index old (entry_at k + x)
+entry_word g old new k x h = h.others (entry_at k + x) (λ e. absurd (omega (arith, e, place_past k)))
+
+tag_word : (g : ℕ) (old new : List ℕ) (k : ℕ) → Gated g old new → tag_at new k ≡ tag_at old k
+tag_word g old new k h = h.others (entry_at k) (λ e. absurd (omega (arith, e, place_past k)))
+
+frames_word : (g : ℕ) (old new : List ℕ) → Gated g old new → frames_of new ≡ frames_of old
+frames_word g old new h = h.others 2 (λ e. absurd (omega (arith, e)))
+
+pub gate_names : (g : ℕ) (old new : List ℕ) → Gated g old new → SameNames old new
+gate_names g old new h = record {
+  frames = frames_word g old new h;
+  tag = λ k less. tag_word g old new k h;
+  file = λ k less. entry_word g old new k 1 h;
+  index = λ k less. entry_word g old new k 2 h;
+  size = λ k less. entry_word g old new k 3 h;
+}
+
+pub gate_shadow : (g : ℕ) (old new : List ℕ) (k : ℕ) → Gated g old new → shadow_at new k ≡ shadow_at old k
+gate_shadow g old new k h = entry_word g old new k 4 h
+
+pub gate_entries : (g : ℕ) (old new : List ℕ) (i : ℕ) → Gated g old new → 512 ≤ i → slice_index new i ≡ slice_index old i
+gate_entries g old new i h past = h.others i (λ e. absurd (omega (arith, e, past)))
+
+valid_before : (g : ℕ) (old new : List ℕ) (k : ℕ) → Gated g old new → IsValid new k → IsValid old k
+valid_before g old new k h v = record { within = subst (λ f. k < f) (frames_word g old new h) v.within; valid = ap is_valid (sym (tag_word g old new k h)) ∙ v.valid }
+
+registry_gated : (g : ℕ) (old new : List ℕ) → Gated g old new → g ≤ 1 → KeepsRegistry old → KeepsRegistry new
+registry_gated g old new h most r = record {
+  gate = subst (λ n. n ≤ 1) (sym h.gate) most;
+  tags = λ k less. (each k less).tag;
+  metadata = λ k less. (each k less).metadata;
+  names = λ k less. (each k less).name;
+  sizes = λ k less. (each k less).size;
+  shadows = λ k less. (each k less).shadow;
+  blocks = λ j k v w e. r.blocks j k (valid_before g old new j h v) (valid_before g old new k h w) (ap tag_block (sym (tag_word g old new j h)) ∙ e ∙ ap tag_block (tag_word g old new k h));
+  apart = λ j k v w e some. r.apart j k (valid_before g old new j h v) (valid_before g old new k h w) (sym (gate_shadow g old new j h) ∙ e ∙ gate_shadow g old new k h) (λ z. some (gate_shadow g old new j h ∙ z));
+}
+  where
+    each : (k : ℕ) → k < frames_of new → EntryKeeps new k
+    each k less =
+        let t = tag_word g old new k h in
+        let f = entry_word g old new k 1 h in
+        let i = entry_word g old new k 2 h in
+        let s = entry_word g old new k 3 h in
+        let d = entry_word g old new k 4 h in
+        let e = entry_keeps old k r (subst (λ n. k < n) (frames_word g old new h) less) in
+        record { tag = rw t e.tag; metadata = rw (t, f, i, s) e.metadata; name = rw (t, f, i) e.name; size = rw (t, s) e.size; shadow = rw (t, d) e.shadow }
+
+-- where no shadow page counts then, all that is kept is kept
+gate_coherent : (g n : ℕ) (old new : Contents) → new ≡ record old { words = new.words } → Gated g old.words new.words → g ≤ 1 → (g ≢ 1) ⊎ AreBare old.words → Coherent old n → Coherent new n
+gate_coherent g n old new rest h most idle s = record {
+  header = record { magic = h.others 0 (λ e. absurd (omega (arith, e))) ∙ s.header.magic; version = h.others 1 (λ e. absurd (omega (arith, e))) ∙ s.header.version };
+  sizes = rw (frames_word g old.words new.words h, h.others 3 (λ e. absurd (omega (arith, e)))) s.sizes;
+  protected = h.count ∙ s.protected ∙ ap (λ f. 512 * (17 + registry_pages f + f)) (sym (frames_word g old.words new.words h));
+  scratch_pages = s.scratch_pages ∙ ap (λ c. 512 * c) (sym (h.others 3 (λ e. absurd (omega (arith, e)))));
+  rules = registry_gated g old.words new.words h most s.rules;
+  entries = λ j. record {
+    on_disk = λ v. rw (tag_word g old.words new.words j h, disk) ((s.entries j).on_disk (was j v));
+    clean = λ v c w small. frame_word j w ∙ (s.entries j).clean (was j v) (ap is_dirty (sym (tag_word g old.words new.words j h)) ∙ c) w small ∙ rw (tag_word g old.words new.words j h, disk) refl;
+    unedited = λ v c w small. ap (λ p. slice_index new.words (512 * p + w)) (place_bare new.words j (bare j v idle));
+  };
+}
+  where
+    disk : new.disk ≡ old.disk
+    disk = ap (λ (c : Contents). c.disk) rest
+
+    was : (j : ℕ) → IsValid new.words j → IsValid old.words j
+    was j v = valid_before g old.words new.words j h v
+
+    bare : (j : ℕ) → IsValid new.words j → (g ≢ 1) ⊎ AreBare old.words → (gate_of new.words ≢ 1) ⊎ (shadow_at new.words j ≡ 0)
+    bare j v (inl n) = inl (λ e. n (sym h.gate ∙ e))
+    bare j v (inr none) = inr (gate_shadow g old.words new.words j h ∙ none j (was j v))
+
+    frame_word : (j w : ℕ) → slice_index new.words (512 * frame_page new.words j + w) ≡ slice_index old.words (512 * frame_page old.words j + w)
+    frame_word j w = ap (λ p. slice_index new.words (512 * p + w)) (frame_same old.words new.words j (frames_word g old.words new.words h)) ∙ h.others (512 * frame_page old.words j + w) (λ e. absurd (omega (arith, e, frame_behind old.words j)))
+
+pub coherent_shut : (n : ℕ) (old new : Contents) → new ≡ record old { words = new.words } → Gated 0 old.words new.words → Coherent old n → Coherent new n
+coherent_shut n old new rest h s = gate_coherent 0 n old new rest h (omega arith) (inl (λ e. absurd (omega (arith, e)))) s
+
+pub coherent_opened : (n : ℕ) (old new : Contents) → new ≡ record old { words = new.words } → Gated 1 old.words new.words → AreBare old.words → Coherent old n → Coherent new n
+coherent_opened n old new rest h bare s = gate_coherent 1 n old new rest h (omega arith) (inr bare) s
+
+pub gate_firm : (g : ℕ) (old new : Contents) (b : ℕ) → new ≡ record old { words = new.words } → Gated g old.words new.words → is_loose new b ≡ true → is_loose old b ≡ true
+gate_firm g old new b rest h loose = firm_by old new (pending_same old new rest) (λ c j f d. (found_named old.words new.words c (gate_names g old.words new.words h) ∙ f, ap is_dirty (tag_word g old.words new.words j h) ∙ d)) b loose
+
+pub bare_gated : (g : ℕ) (old new : List ℕ) → Gated g old new → AreBare old → AreBare new
+bare_gated g old new h bare = λ k v. gate_shadow g old new k h ∙ bare k (valid_before g old new k h v)
+
+-- ---- what the calls do by it
+
+pub committed_by : (n : ℕ) (old new : Contents) → Coherent old n → new ≡ record old { words = slice_set old.words 4 0 } → Committed old new
+committed_by n old new s e = record {
+  stands = commit_stands old new (space old n s) e;
+  reads = gate_reads old new 0 e;
+  gate = (gated_stored 0 n old new s e).gate;
+}
+
+pub opened_by : (n : ℕ) (old new : Contents) → Coherent old n → AreBare old.words → new ≡ record old { words = slice_set old.words 4 1 } → Opened old new
+opened_by n old new s none e =
+    let h = gated_stored 1 n old new s e in
+    let bare = bare_gated 1 old.words new.words h none in
+    record { stands = begin_stands old new bare e; reads = gate_reads old new 1 e; gate = h.gate; bare = bare }
+
+-- the words from 512 on stay, and shadows are among them
+pub entries_shadow : (old new : List ℕ) (k : ℕ) → ((i : ℕ) → 512 ≤ i → slice_index new i ≡ slice_index old i) → shadow_at new k ≡ shadow_at old k
+entries_shadow old new k same = same (entry_at k + 4) (omega (arith, place_past k))

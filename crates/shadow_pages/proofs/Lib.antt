@@ -1,0 +1,5 @@
+pub mod Gates
+pub mod PagePlaces
+pub mod Restores
+pub mod Shadows
+pub mod Steps

@@ -1,0 +1,21 @@
+use Rattle.std.proofs.Common.{◌∙◌}
+use Rattle.rio_base.specs.MachineRules.{steps_trans}
+use Rattle.shadow_pages.proofs.Steps.{clears_trans, cleared_next, coherent_then, not_stopped}
+use Rattle.shadow_pages.proofs.opening.clear_shadows.Goals as goal
+
+pub clear_shadow-requires-clause-coherent : goal.clear_shadow-requires-clause-coherent
+clear_shadow-requires-clause-coherent g c = coherent_then _ _ _ _ c.requires.coherent c.loop-i.invariant.clears.keeps c.loop-i.invariant.steps.scratch_count
+
+pub returns-in_err-clear_shadow-clause-clears : goal.returns-in_err-clear_shadow-clause-clears
+returns-in_err-clear_shadow-clause-clears g c = clears_trans _ _ _ c.loop-i.invariant.clears c.in_err-clear_shadow.ensures.clears
+
+pub loop-i-preserved : goal.loop-i-preserved
+loop-i-preserved g c =
+    let before = c.loop-i.invariant in
+    let call = c.in_ok-clear_shadow.ensures in
+    record {
+      clears = clears_trans _ _ _ before.clears call.clears;
+      cleared = λ j less. cleared_next _ _ c.args.shadowed.now c.loop-i.i j call.clears before.cleared call.cleared less;
+      steps = steps_trans _ _ _ before.steps call.ends.steps;
+      runs = call.ends.runs not_stopped ∙ before.runs;
+    }
