@@ -1,0 +1,54 @@
+-- With a frame for each block, a frame is free while a block isn't cached.
+use Rattle.std.specs.Prelude.{◌≡◌, ◌≢◌, ℕ, suc, ◌<◌, ◌≤◌, ◌==◌, Bool, true, false, ◌⊎◌, if◌then◌else◌, List, length, Some, None, refl}
+use Rattle.std.proofs.Common.{◌∙◌, sym, subst, inl, inr, arith}
+use Rattle.std.proofs.lemmas.Bool.{cases_eq, eq-eqb, ne_eqb}
+use Rattle.rio_base.specs.Machine.{Contents}
+use Rattle.rio_base.specs.Rules.{none_some}
+use Rattle.rio_model.specs.Registry.{IsValid, frames_of, is_valid, tag_at, tag_block}
+use Rattle.frame_pool.specs.Pools.{IsVictim, block_of}
+use Rattle.rio_model.specs.Cover.{entry_of_block}
+use Rattle.rio_model.specs.CoverLookups.{found_none}
+use Rattle.page_cache.specs.declared.tables.CacheTables.{CacheTables}
+use Rattle.page_cache.specs.Caches.{CacheSound}
+use Rattle.page_cache.proofs.Pigeons.{pigeons}
+
+-- the blocks of the entries, and b behind them
+block_by : List ℕ → ℕ → ℕ → ℕ → ℕ
+block_by words frames b k = if k == frames then b else tag_block (tag_at words k)
+
+at_end : (words : List ℕ) (frames b k : ℕ) → k ≡ frames → block_by words frames b k ≡ b
+unfolding block_by
+at_end words frames b k e = rw (eq-eqb k frames e) refl
+
+before_end : (words : List ℕ) (frames b k : ℕ) → k ≢ frames → block_by words frames b k ≡ tag_block (tag_at words k)
+unfolding block_by
+before_end words frames b k ne = rw (ne_eqb k frames ne) refl
+
+bound_is : (valid : Bool) (block : ℕ) → ((if valid then Some block else None) ≡ None → ⊥) → valid ≡ true
+bound_is true block h = refl
+bound_is false block h = absurd (h refl)
+
+pub roomy_free : (b n k : ℕ) (c : Contents) (t : CacheTables) → CacheSound c n t → entry_of_block c.words b ≡ None → b < length c.disk → length c.disk ≤ frames_of c.words → IsVictim t.pool k → block_of t.pool k ≡ None
+roomy_free b n k c t s none there roomy (inl e) = e
+roomy_free b n k c t s none there roomy (inr h) = absurd (omega (arith, roomy, pigeons f (suc (frames_of c.words)) (length c.disk) (record { below = λ j less. below j less (cases_eq j (frames_of c.words)); apart = λ i j x y e. apart i j x y e (cases_eq i (frames_of c.words)) (cases_eq j (frames_of c.words)) })))
+  where
+    f : ℕ → ℕ
+    f = block_by c.words (frames_of c.words) b
+
+    valid : (j : ℕ) → j < frames_of c.words → IsValid c.words j
+    valid j less = record { within = less; valid = bound_is (is_valid (tag_at c.words j)) (tag_block (tag_at c.words j)) (λ e. h.0 j (subst (λ m. j < m) (sym s.frames) less) (s.bound j less ∙ e)) }
+
+    below : (j : ℕ) → j < suc (frames_of c.words) → (j ≡ frames_of c.words) ⊎ (j ≢ frames_of c.words) → block_by c.words (frames_of c.words) b j < length c.disk
+    below j less (inl e) = subst (λ x. x < length c.disk) (sym (at_end c.words (frames_of c.words) b j e)) there
+    below j less (inr ne) = subst (λ x. x < length c.disk) (sym (before_end c.words (frames_of c.words) b j ne)) ((s.coherent.entries j).on_disk (valid j (omega (arith, less, ne))))
+
+    apart : (i j : ℕ) → i < suc (frames_of c.words) → j < suc (frames_of c.words) → block_by c.words (frames_of c.words) b i ≡ block_by c.words (frames_of c.words) b j → (i ≡ frames_of c.words) ⊎ (i ≢ frames_of c.words) → (j ≡ frames_of c.words) ⊎ (j ≢ frames_of c.words) → i ≡ j
+    apart i j x y e (inl p) (inl q) = p ∙ sym q
+    apart i j x y e (inl p) (inr ne) = absurd (found_none c.words b j none (valid j (omega (arith, y, ne))) (sym (before_end c.words (frames_of c.words) b j ne) ∙ sym e ∙ at_end c.words (frames_of c.words) b i p))
+    apart i j x y e (inr ne) (inl q) = absurd (found_none c.words b i none (valid i (omega (arith, x, ne))) (sym (before_end c.words (frames_of c.words) b i ne) ∙ e ∙ at_end c.words (frames_of c.words) b j q))
+    apart i j x y e (inr ne) (inr no_end) = s.coherent.rules.blocks i j (valid i (omega (arith, x, ne))) (valid j (omega (arith, y, no_end))) (sym (before_end c.words (frames_of c.words) b i ne) ∙ e ∙ before_end c.words (frames_of c.words) b j no_end)
+
+-- a valid victim: no frame is free
+pub none_free : (k n : ℕ) (c : Contents) (t : CacheTables) → CacheSound c n t → IsVictim t.pool k → IsValid c.words k → (j : ℕ) → j < frames_of c.words → is_valid (tag_at c.words j) ≡ false → ⊥
+none_free k n c t s (inl e) v j less gone = none_some (tag_block (tag_at c.words k)) (block_of t.pool k) e (s.bound k v.within ∙ rw v.valid refl)
+none_free k n c t s (inr h) v j less gone = h.0 j (subst (λ m. j < m) (sym s.frames) less) (s.bound j less ∙ rw gone refl)

@@ -1,0 +1,96 @@
+-- Words of a frame are stored, one or a run of them.
+use Rattle.std.specs.Prelude.{◌≡◌, ◌≢◌, ℕ, ◌+◌, ◌-◌, ◌*◌, ◌<◌, ◌≤◌, ◌==◌, ◌&&◌, not, nat_lt, Bool, true, false, ◌⊎◌, List, length, slice_index, slice_set, Option, Some, None, refl}
+use Rattle.std.proofs.Common.{◌∙◌, ap, sym, subst, inl, inr, arith}
+use Rattle.rio_base.specs.Blocks.{BlockWords}
+use Rattle.rio_base.specs.Image.{registry_pages}
+use Rattle.rio_base.specs.Machine.{Contents}
+use Rattle.rio_base.specs.Memory.{FrontStored}
+use Rattle.rio_base.specs.Rules.{true_false}
+use Rattle.rio_base.specs.Volume.{put, put_run}
+use Rattle.rio_model.specs.Registry.{IsValid, frames_of, is_dirty, is_valid, page_of_entry, tag_at, tag_block}
+use Rattle.rio_model.specs.Cover.{Coherent, cover_by, entry_of_block, frame_page, home_word, is_loose, reads}
+use Rattle.rio_model.specs.CoverChanges.{OnePage, SameEntries, found_entries, frame_entries, header_same, off_page, one_page_set, place_entries, same_entries, tag_same}
+use Rattle.rio_model.specs.CoverFills.{frame_off, frame_past, page_off, puts_frame, registry_same, valid_same}
+use Rattle.rio_model.specs.CoverLookups.{found_is}
+use Rattle.rio_model.specs.CoverSteps.{disk_same, firm_by, pending_same}
+use Rattle.page_cache.specs.declared.tables.CacheTables.{CacheTables}
+use Rattle.page_cache.specs.Caches.{CacheSound}
+use Rattle.page_cache.specs.Stores.{Rewrites}
+use Rattle.page_cache.proofs.Spans.{cover_run}
+use Rattle.page_cache.proofs.Stores.{holds_entries, sound_holds}
+
+-- ---- a dirty entry's page changes
+
+-- a page that no clean entry has
+coherent_page : (n p : ℕ) (old new : Contents) → new ≡ record old { words = new.words } → OnePage p old.words new.words → SameEntries old.words new.words → ((j : ℕ) → IsValid old.words j → is_dirty (tag_at old.words j) ≡ false → (frame_page old.words j ≢ p) × (page_of_entry old.words j ≢ p)) → Coherent old n → Coherent new n
+coherent_page n p old new rest one same off s = record {
+  header = record { magic = header_same old.words new.words 0 same (omega arith) ∙ s.header.magic; version = header_same old.words new.words 1 same (omega arith) ∙ s.header.version };
+  sizes = rw (header_same old.words new.words 2 same (omega arith), header_same old.words new.words 3 same (omega arith)) s.sizes;
+  protected = same.count ∙ s.protected ∙ ap (λ f. 512 * (17 + registry_pages f + f)) (sym (header_same old.words new.words 2 same (omega arith)));
+  scratch_pages = s.scratch_pages ∙ ap (λ c. 512 * c) (sym (header_same old.words new.words 3 same (omega arith)));
+  rules = registry_same old.words new.words same s.rules;
+  entries = λ j. record {
+    on_disk = λ v. let w = valid_same old.words new.words j same v in rw (tag_same old.words new.words j same w.within, disk_same old new rest) ((s.entries j).on_disk w);
+    clean = λ v c w less. frame_now j v c w less ∙ (s.entries j).clean (valid_same old.words new.words j same v) (was_clean j v c) w less ∙ rw (tag_same old.words new.words j same (valid_same old.words new.words j same v).within, disk_same old new rest) refl;
+    unedited = λ v c w less. page_now j v c w less ∙ (s.entries j).unedited (valid_same old.words new.words j same v) (was_clean j v c) w less ∙ sym (frame_now j v c w less);
+  };
+}
+  where
+    was_clean : (j : ℕ) → IsValid new.words j → is_dirty (tag_at new.words j) ≡ false → is_dirty (tag_at old.words j) ≡ false
+    was_clean j v c = ap is_dirty (sym (tag_same old.words new.words j same (valid_same old.words new.words j same v).within)) ∙ c
+
+    frame_now : (j : ℕ) → IsValid new.words j → is_dirty (tag_at new.words j) ≡ false → (w : ℕ) → w < 512 → slice_index new.words (512 * frame_page new.words j + w) ≡ slice_index old.words (512 * frame_page old.words j + w)
+    frame_now j v c w less = ap (λ q. slice_index new.words (512 * q + w)) (frame_entries old.words new.words j same) ∙ off_page p (frame_page old.words j) w old.words new.words one (off j (valid_same old.words new.words j same v) (was_clean j v c)).0 less
+
+    page_now : (j : ℕ) → IsValid new.words j → is_dirty (tag_at new.words j) ≡ false → (w : ℕ) → w < 512 → slice_index new.words (512 * page_of_entry new.words j + w) ≡ slice_index old.words (512 * page_of_entry old.words j + w)
+    page_now j v c w less = let x = valid_same old.words new.words j same v in ap (λ q. slice_index new.words (512 * q + w)) (place_entries old.words new.words j same x.within) ∙ off_page p (page_of_entry old.words j) w old.words new.words one (off j x (was_clean j v c)).1 less
+
+firm_page : (old new : Contents) → new ≡ record old { words = new.words } → SameEntries old.words new.words → (b : ℕ) → is_loose new b ≡ true → is_loose old b ≡ true
+firm_page old new rest same b e = firm_by old new (pending_same old new rest) (λ c j f d. let v = found_is old.words c j f in (found_entries old.words new.words c same ∙ f, ap is_dirty (tag_same old.words new.words j same v.0.within) ∙ d)) b e
+
+-- ---- a run of words
+
+pub run_page : (k p w count : ℕ) (from old new : List ℕ) → p ≡ frame_page old k → w + count ≤ 512 → FrontStored (512 * p + w) count from old new → OnePage (frame_page old k) old new
+run_page k p w count from old new page fits h = record {
+  count = h.count;
+  below = λ i less. h.below i (omega (arith, less, page));
+  above = λ i more. h.above i (omega (arith, more, page, fits));
+}
+
+pub run_entries : (k p w count : ℕ) (from old new : List ℕ) → p ≡ frame_page old k → w + count ≤ 512 → FrontStored (512 * p + w) count from old new → SameEntries old new
+run_entries k p w count from old new page fits h = same_entries (frame_page old k) old new (run_page k p w count from old new page fits h) (frame_past old k)
+
+pub run_rewrites : (n k b p w count : ℕ) (from : List ℕ) (old new : Contents) → Coherent old n → new ≡ record old { words = new.words } → p ≡ frame_page old.words k → w + count ≤ 512 → FrontStored (512 * p + w) count from old.words new.words → entry_of_block old.words b ≡ Some k → is_dirty (tag_at old.words k) ≡ true → Rewrites (put_run (reads old) b w count from) old new
+run_rewrites n k b p w count from old new s0 rest page fits h found dirty = record {
+  reading = subst (λ d. cover_by (frame_page new.words) new.words d ≡ put_run (reads old) b w count from) (sym (disk_same old new rest))
+      (cover_run k b w count from (frame_page old.words) (frame_page new.words) old.words new.words old.disk found fits (subst (λ q. FrontStored (512 * q + w) count from old.words new.words) page h) (λ j x ne. frame_off old.words j k ne) (λ j x. frame_entries old.words new.words j same) same one);
+  firm = firm_page old new rest same;
+  coherent = λ m s. coherent_page m (frame_page old.words k) old new rest one same (λ j x c. let ne : j ≢ k = λ e. true_false (sym dirty ∙ ap (λ y. is_dirty (tag_at old.words y)) (sym e) ∙ c) in (frame_off old.words j k ne, page_off old.words j k s.rules x ne)) s;
+  header = λ i less. header_same old.words new.words i same less;
+}
+  where
+    one : OnePage (frame_page old.words k) old.words new.words
+    one = run_page k p w count from old.words new.words page fits h
+
+    same : SameEntries old.words new.words
+    same = run_entries k p w count from old.words new.words page fits h
+
+-- ---- one word
+
+pub put_entries : (k p w v : ℕ) (old new : Contents) → new ≡ record old { words = slice_set old.words (512 * p + w) v } → p ≡ frame_page old.words k → w < 512 → SameEntries old.words new.words
+put_entries k p w v old new stored page small = same_entries p old.words new.words (subst (λ ws. OnePage p old.words ws) (sym (ap (λ (m : Contents). m.words) stored)) (one_page_set old.words p w v small)) (subst (λ q. registry_pages (frames_of old.words) + 1 ≤ q) (sym page) (frame_past old.words k))
+
+pub put_rewrites : (n k b p w v : ℕ) (old new : Contents) → Coherent old n → new ≡ record old { words = slice_set old.words (512 * p + w) v } → p ≡ frame_page old.words k → 512 * p + 512 ≤ length old.words → w < 512 → entry_of_block old.words b ≡ Some k → is_dirty (tag_at old.words k) ≡ true → Rewrites (put (reads old) b w v) old new
+put_rewrites n k b p w v old new s stored page within small found dirty =
+    let f = found_is old.words b k found in
+    let at = subst (λ q. new ≡ record old { words = slice_set old.words (512 * q + w) v }) page stored in
+    let puts = puts_frame n k b w v old new s at f.0 f.1 dirty small (omega (arith, within, page, small)) in
+    record { reading = puts.reading; firm = puts.firm; coherent = puts.coherent; header = λ i less. header_same old.words new.words i (put_entries k p w v old new stored page small) less }
+
+-- ---- the cache
+
+pub rewrites_sound : (n m : ℕ) (words : BlockWords) (old new : Contents) (t : CacheTables) → CacheSound old n t → Rewrites words old new → m ≡ n → new.open_page ≡ None → new.disk ≡ old.disk → SameEntries old.words new.words → CacheSound new m t
+rewrites_sound n m words old new t s h same closed disk entries = sound_holds n m old new t s (h.coherent n) same closed disk (holds_entries old.words new.words entries)
+
+pub run_sound : (n m k b p w count : ℕ) (from : List ℕ) (old new : Contents) (t : CacheTables) → CacheSound old n t → new ≡ record old { words = new.words } → p ≡ frame_page old.words k → w + count ≤ 512 → FrontStored (512 * p + w) count from old.words new.words → entry_of_block old.words b ≡ Some k → is_dirty (tag_at old.words k) ≡ true → m ≡ n → CacheSound new m t
+run_sound n m k b p w count from old new t s rest page fits h found dirty same = rewrites_sound n m (put_run (reads old) b w count from) old new t s (run_rewrites n k b p w count from old new s.coherent rest page fits h found dirty) same (ap (λ (c : Contents). c.open_page) rest ∙ s.closed) (disk_same old new rest) (run_entries k p w count from old.words new.words page fits h)

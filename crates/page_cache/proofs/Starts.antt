@@ -1,0 +1,79 @@
+-- A cache starts, its machine is met by wild stores, and what is told of it.
+use Rattle.std.specs.Prelude.{◌≡◌, ℕ, ◌+◌, ◌-◌, ◌/◌, ◌<◌, ◌||◌, Bool, true, false, if◌then◌else◌, List, length, replicate, slice_index_or, Some, None, refl}
+use Rattle.std.proofs.Common.{◌∙◌, ap, sym, subst, arith}
+use Rattle.std.proofs.lemmas.List.{length-replicate, length-set}
+use Rattle.rio_base.specs.Image.{registry_pages}
+use Rattle.rio_base.specs.Machine.{Contents, Running, after_wild}
+use Rattle.rio_base.specs.Rules.{true_false}
+use Rattle.rio_base.specs.declared.wild.Wild.{Wild}
+use Rattle.rio_base.specs.declared.wild.Wild.TheVariants.{Changed, Trapped, Spared}
+use Rattle.rio_model.specs.Registry.{IsValid, frames_of, gate_of, is_valid, tag_at, tag_block}
+use Rattle.rio_model.specs.Cover.{Coherent, is_loose}
+use Rattle.rio_model.specs.CoverStands.{stands_firm}
+use Rattle.rio_model.specs.CoverSteps.{none_pending}
+use Rattle.page_cache.specs.declared.tables.CacheTables.{CacheTables}
+use Rattle.page_cache.specs.Caches.{CacheSound, IsFresh, Tells, cache_below, cache_health, cache_kept, cache_seen, was_forgotten}
+
+pub start_sound : (n : ℕ) (c : Contents) (t : CacheTables) → Coherent c n → c.open_page ≡ None → gate_of c.words ≡ 0 → ((k : ℕ) → k < frames_of c.words → tag_at c.words k ≡ 0) → IsFresh (frames_of c.words) (length c.disk) t → CacheSound c n t
+start_sound n c t coherent closed shut empty fresh = record {
+  coherent = coherent;
+  closed = closed;
+  frames = fresh.in_pool;
+  blocks = fresh.in_volume;
+  first = fresh.first;
+  marks = fresh.marks;
+  buffer = fresh.buffer;
+  bound = λ k less. fresh.free k ∙ sym (ap (λ x. if is_valid x then Some (tag_block x) else None) (empty k less));
+  most = omega (arith, fresh.none);
+  room = fresh.room;
+  shadows = λ k v some. absurd (invalid k v);
+  listed = λ i less. absurd (omega (arith, less, fresh.none));
+  edited = λ is k v some. absurd (invalid k v);
+  pinned = λ k e. absurd (true_false (sym e ∙ fresh.unpinned k));
+  few = omega (arith, fresh.few, fresh.none);
+}
+  where
+    invalid : (k : ℕ) → IsValid c.words k → ⊥
+    invalid k v = true_false (sym v.valid ∙ ap is_valid (empty k v.within))
+
+second_false : (a b : Bool) → (a || b) ≡ false → b ≡ false
+second_false true b e = absurd (true_false e)
+second_false false b e = e
+
+pub tells_of : (c : Contents) (r : Running) (t : CacheTables) → CacheSound c (length r.scratch) t → Tells c r (cache_seen c) (cache_health c r) (cache_below c r) (cache_kept c t)
+tells_of c r t s = record {
+  stands_as = record { coherent = s.coherent; closed = s.closed; blocks = λ disk leaves b firm w. stands_firm c disk b w leaves (second_false (was_forgotten t b) (is_loose c b) firm) };
+  cached = λ x. refl;
+  names = λ x. refl;
+  count = refl;
+  reading = refl;
+  updating = refl;
+  health = refl;
+  below = refl;
+}
+
+wild_scratch : (w : Wild) (at v : ℕ) (r : Running) → length (after_wild w at v r).scratch ≡ length r.scratch
+wild_scratch Changed at v r = length-set r.scratch (at - r.protected) v
+wild_scratch Spared at v r = refl
+wild_scratch Trapped at v r = refl
+
+-- what holds stays, where the machine's contents do, and its scratch pages are as many
+pub sound_on : (n m : ℕ) (c d : Contents) (t : CacheTables) → CacheSound c n t → d ≡ c → m ≡ n → CacheSound d m t
+sound_on n m c d t s e same = subst (λ x. CacheSound x m t) (sym e) (subst (λ x. CacheSound c x t) (sym same) s)
+
+pub wild_sound : (w : Wild) (at v : ℕ) (c d : Contents) (r s : Running) (t : CacheTables) → CacheSound c (length r.scratch) t → d ≡ c → s ≡ after_wild w at v r → CacheSound d (length s.scratch) t
+wild_sound w at v c d r s t sound e run = sound_on (length r.scratch) (length s.scratch) c d t sound e (ap (λ (u : Running). length u.scratch) run ∙ wild_scratch w at v r)
+
+pub arm_sound : (at : ℕ) (c d : Contents) (r s : Running) (t : CacheTables) → CacheSound c (length r.scratch) t → d ≡ c → s ≡ record r { armed = Some at } → CacheSound d (length s.scratch) t
+arm_sound at c d r s t sound e run = sound_on (length r.scratch) (length s.scratch) c d t sound e (ap (λ (u : Running). length u.scratch) run)
+
+pub first_is : (frames : ℕ) → (frames + 101) / 102 + 17 ≡ registry_pages frames + 17
+unfolding registry_pages
+first_is frames = refl
+
+-- no block is forgotten
+pub none_marked : (n b : ℕ) (marks : List Bool) → marks ≡ replicate n false → slice_index_or marks b false ≡ false
+none_marked n b marks e = ap (λ (xs : List Bool). slice_index_or xs b false) e ∙ none_pending n b
+
+pub same_count : {A : Type 0} (n : ℕ) (x : A) (items : List A) → items ≡ replicate n x → length items ≡ n
+same_count {A} n x items e = ap (λ (xs : List A). length xs) e ∙ length-replicate n x

@@ -1,0 +1,313 @@
+-- A block becomes part of an update.
+use Rattle.std.specs.Prelude.{◌≡◌, ◌≢◌, ℕ, ◌+◌, ◌-◌, ◌<◌, ◌≤◌, ◌==◌, ◌||◌, not, nat_lt, Bool, true, false, ◌⊎◌, if◌then◌else◌, List, length, slice_index, slice_set, Option, Some, None, is_some, refl}
+use Rattle.std.proofs.Common.{◌∙◌, ap, sym, subst, inl, inr, arith, get_or-set_same, get_or-set_other}
+use Rattle.std.proofs.lemmas.Bool.{cases_eq, eq-eqb, ltb-false, ne_eqb}
+use Rattle.rio_base.specs.Blocks.{CanName, SamePage}
+use Rattle.rio_base.specs.Machine.{Contents, Lasts, Running, Steps}
+use Rattle.rio_base.specs.Rules.{true_false}
+use Rattle.rio_base.specs.Volume.{Firm, Goes, HasRoom, Quiet, SameUpdate, Touches, with_block}
+use Rattle.rio_base.specs.declared.places.PageName.{PageName}
+use Rattle.rio_model.specs.Cover.{Coherent, HeldEntry, Keeps, SameNames, entry_of_block, name_in}
+use Rattle.rio_model.specs.CoverChanges.{found_kept}
+use Rattle.rio_model.specs.CoverLookups.{entry_one, found_is, frames_one, header_one, tag_one}
+use Rattle.rio_model.specs.CoverStands.{found_named, name_same}
+use Rattle.rio_model.specs.CoverSteps.{Retagged, coherent_on, keeps_dirty, layout_is}
+use Rattle.rio_model.specs.Registry.{HasLayout, IsValid, OneEntry, file_at, frames_of, gate_of, index_at, is_data, is_dirty, is_valid, shadow_at, size_at, tag_at, tag_block, with_dirty}
+use Rattle.rio_model.specs.RegistryRules.{dirtied_block, dirtied_data, dirtied_dirty, dirtied_valid}
+use Rattle.registry.specs.Entries.{entry_of}
+use Rattle.registry.specs.declared.entry.Entry.{Entry}
+use Rattle.frame_pool.specs.Pools.{is_pinned, pins_in}
+use Rattle.page_cache.specs.declared.tables.CacheTables.{CacheTables}
+use Rattle.page_cache.specs.Caches.{Adds, CacheSound, FewWrites, IsListed, SameTables, SameTouches, cache_below, cache_health, cache_kept, cache_seen, has_shadow, is_touched, was_forgotten}
+use Rattle.page_cache.specs.Updating.{GivesShadow, SameButPins, SamePages}
+use Rattle.page_cache.proofs.Goes.{goes_of}
+use Rattle.page_cache.proofs.Pins.{pins_refl}
+use Rattle.page_cache.proofs.Updates.{blocks_named, sound_with, valid_before}
+
+pub layout_now : (c : Contents) (scratch : List ℕ) → Coherent c (length scratch) → HasLayout c.words scratch
+layout_now c scratch s = layout_is c scratch s
+
+-- ---- an entry is marked dirty
+
+pub retagged : (k : ℕ) (old new : List ℕ) → OneEntry k old new → entry_of new k ≡ record (entry_of old k) { tag = with_dirty (tag_at old k) } → Retagged k (with_dirty (tag_at old k)) old new
+retagged k old new one e = record {
+  one = one;
+  tag = ap (λ (x : Entry). x.tag) e;
+  file = ap (λ (x : Entry). x.file) e;
+  index = ap (λ (x : Entry). x.index) e;
+  size = ap (λ (x : Entry). x.size) e;
+  shadow = ap (λ (x : Entry). x.shadow) e;
+}
+
+pub dirtied_keeps : (n k : ℕ) (old new : Contents) → Coherent old n → new ≡ record old { words = new.words } → IsValid old.words k → OneEntry k old.words new.words → entry_of new.words k ≡ record (entry_of old.words k) { tag = with_dirty (tag_at old.words k) } → Keeps old new
+dirtied_keeps n k old new s rest v one e = keeps_dirty n k old new s rest v (retagged k old.words new.words one e)
+
+pub dirtied_held : (k : ℕ) (old new : List ℕ) → OneEntry k old new → entry_of new k ≡ record (entry_of old k) { tag = with_dirty (tag_at old k) } → HeldEntry k old new
+dirtied_held k old new one e =
+    let r = retagged k old new one e in
+    record { valid = ap is_valid r.tag ∙ dirtied_valid (tag_at old k); named = ap is_data r.tag ∙ dirtied_data (tag_at old k); block = ap tag_block r.tag ∙ dirtied_block (tag_at old k); file = r.file; index = r.index; size = r.size; shadow = r.shadow }
+
+pub dirtied_is : (k : ℕ) (old new : List ℕ) → entry_of new k ≡ record (entry_of old k) { tag = with_dirty (tag_at old k) } → is_dirty (tag_at new k) ≡ true
+dirtied_is k old new e = ap (λ (x : Entry). is_dirty x.tag) e ∙ dirtied_dirty (tag_at old k)
+
+pub held_same : (k : ℕ) (old new : List ℕ) → new ≡ old → HeldEntry k old new
+held_same k old new e = rw e (record { valid = refl; named = refl; block = refl; file = refl; index = refl; size = refl; shadow = refl })
+
+pub one_same : (k : ℕ) (old new : List ℕ) → new ≡ old → OneEntry k old new
+one_same k old new e = rw e (record { count = refl; before = λ i less. refl; behind = λ i more. refl })
+
+pub held_refl : (k : ℕ) (words : List ℕ) → HeldEntry k words words
+held_refl k words = held_same k words words refl
+
+pub one_refl : (k : ℕ) (words : List ℕ) → OneEntry k words words
+one_refl k words = one_same k words words refl
+
+block_held : (a b : Bool) (x y : ℕ) → b ≡ a → y ≡ x → (if b then Some y else None) ≡ (if a then Some x else None)
+block_held a b x y e d = rw (e, d) refl
+
+-- entry j, where entry k is dirty now, and says of its page what it said
+record HeldAt (k j : ℕ) (old new : List ℕ) : Type 0 where
+  pub valid : is_valid (tag_at new j) ≡ is_valid (tag_at old j)
+  pub block : tag_block (tag_at new j) ≡ tag_block (tag_at old j)
+  pub shadow : shadow_at new j ≡ shadow_at old j
+  pub dirty : is_dirty (tag_at old j) ≡ true → is_dirty (tag_at new j) ≡ true
+
+held_at : (k j : ℕ) (old new : List ℕ) → OneEntry k old new → HeldEntry k old new → is_dirty (tag_at new k) ≡ true → HeldAt k j old new
+held_at k j old new one held dirty = from (cases_eq j k)
+  where
+    from : (j ≡ k) ⊎ (j ≢ k) → HeldAt k j old new
+    from (inl e) = subst (λ x. HeldAt k x old new) (sym e) (record { valid = held.valid; block = held.block; shadow = held.shadow; dirty = λ d. dirty })
+    from (inr ne) = let t = tag_one k j old new one ne in record { valid = ap is_valid t; block = ap tag_block t; shadow = entry_one k j 4 old new one ne (omega arith); dirty = λ d. ap is_dirty t ∙ d }
+
+pub dirtied_sound : (n m k : ℕ) (old new : Contents) (t : CacheTables) → CacheSound old n t → m ≡ n → Keeps old new → new ≡ record old { words = new.words } → new.open_page ≡ None → OneEntry k old.words new.words → HeldEntry k old.words new.words → is_dirty (tag_at new.words k) ≡ true → CacheSound new m t
+dirtied_sound n m k old new t s same h rest closed one held dirty = sound_with n m old new t t s (coherent_on new n m same (h.coherent n s.coherent)) closed (ap (λ (c : Contents). length c.disk) rest) frames (λ j less. let a = at j in block_held (is_valid (tag_at old.words j)) (is_valid (tag_at new.words j)) (tag_block (tag_at old.words j)) (tag_block (tag_at new.words j)) a.valid a.block) (pins_refl t) (record {
+  most = s.most;
+  shadows = λ j v some. let e = (at j).shadow in let r = s.shadows j (was j v) (λ z. some (e ∙ z)) in (rw e r.0, rw e r.1);
+  listed = λ i less. rw frames (s.listed i less);
+  edited = λ is j v some. let r = s.edited (sym gate ∙ is) j (was j v) (λ z. some ((at j).shadow ∙ z)) in ((at j).dirty r.0, r.1);
+  pinned = λ j e. let r = s.pinned j e in (gate ∙ r.0, r.1);
+  few = s.few;
+})
+  where
+    frames : frames_of new.words ≡ frames_of old.words
+    frames = frames_one k old.words new.words one
+
+    gate : gate_of new.words ≡ gate_of old.words
+    gate = header_one k old.words new.words 4 one (omega arith)
+
+    at : (j : ℕ) → HeldAt k j old.words new.words
+    at j = held_at k j old.words new.words one held dirty
+
+    was : (j : ℕ) → IsValid new.words j → IsValid old.words j
+    was j v = record { within = subst (λ f. j < f) frames v.within; valid = sym (at j).valid ∙ v.valid }
+
+-- ---- an entry gets the next shadow
+
+pub next_free : (n : ℕ) (c : Contents) (t : CacheTables) → CacheSound c n t → (j : ℕ) → IsValid c.words j → shadow_at c.words j ≢ t.shadows + 1
+next_free n c t s j v e = absurd (omega (arith, e, (s.shadows j v (λ z. absurd (omega (arith, z, e)))).0))
+
+pub shadow_kept : (k : ℕ) (old new : List ℕ) → ((j : ℕ) → j ≢ k → j < frames_of old → shadow_at new j ≡ shadow_at old j) → shadow_at new k ≡ shadow_at old k → (j : ℕ) → j < frames_of old → shadow_at new j ≡ shadow_at old j
+shadow_kept k old new others same j less = from (cases_eq j k)
+  where
+    from : (j ≡ k) ⊎ (j ≢ k) → shadow_at new j ≡ shadow_at old j
+    from (inl e) = subst (λ x. shadow_at new x ≡ shadow_at old x) (sym e) same
+    from (inr ne) = others j ne less
+
+pub given_sound : (n m k : ℕ) (old new : Contents) (t u : CacheTables) → CacheSound old n t → m ≡ n → Keeps old new → new ≡ record old { words = new.words } → new.open_page ≡ None → SameNames old.words new.words → gate_of old.words ≡ 1 → IsValid old.words k → is_dirty (tag_at old.words k) ≡ true → t.shadows < 16
+    → shadow_at new.words k ≡ t.shadows + 1 → ((j : ℕ) → j ≢ k → j < frames_of old.words → shadow_at new.words j ≡ shadow_at old.words j)
+    → SameButPins t u → u.shadows ≡ t.shadows + 1 → u.shadowed ≡ slice_set t.shadowed t.shadows k → is_pinned u.pool k ≡ true → ((j : ℕ) → j ≢ k → is_pinned u.pool j ≡ is_pinned t.pool j) → pins_in u.pool ≤ pins_in t.pool + 1 → CacheSound new m u
+given_sound n m k old new t u s same h rest closed names is v dirty room given others pins count list pinned kept most = sound_with n m old new t u s (coherent_on new n m same (h.coherent n s.coherent)) closed (ap (λ (c : Contents). length c.disk) rest) names.frames (blocks_named old.words new.words names) pins (record {
+  most = rw count (omega (arith, room));
+  shadows = λ j w some. shadows j (valid_before old.words new.words j names w) some (cases_eq j k);
+  listed = λ i less. rw names.frames (listed i (subst (λ c. i < c) count less) (cases_eq i t.shadows));
+  edited = λ now j w some. edited j (valid_before old.words new.words j names w) some (cases_eq j k);
+  pinned = λ j e. (h.header 4 (omega arith) ∙ is, places j e (cases_eq j k));
+  few = rw count (omega (arith, most, s.few));
+})
+  where
+    here : slice_index u.shadowed t.shadows ≡ k
+    here = ap (λ (xs : List ℕ). slice_index xs t.shadows) list ∙ get_or-set_same t.shadowed t.shadows k 0 (subst (λ c. t.shadows < c) (sym s.room) room)
+
+    there : (i : ℕ) → i ≢ t.shadows → slice_index u.shadowed i ≡ slice_index t.shadowed i
+    there i ne = ap (λ (xs : List ℕ). slice_index xs i) list ∙ get_or-set_other t.shadowed t.shadows i k 0 ne
+
+    shadows : (j : ℕ) → IsValid old.words j → shadow_at new.words j ≢ 0 → (j ≡ k) ⊎ (j ≢ k) → (shadow_at new.words j ≤ u.shadows) × (slice_index u.shadowed (shadow_at new.words j - 1) ≡ j)
+    shadows j w some (inl e) =
+        let at : shadow_at new.words j ≡ t.shadows + 1 = ap (shadow_at new.words) e ∙ given in
+        (omega (arith, at, count), ap (slice_index u.shadowed) (omega (arith, at)) ∙ here ∙ sym e)
+    shadows j w some (inr ne) =
+        let same_shadow = others j ne w.within in
+        let r = s.shadows j w (λ z. some (same_shadow ∙ z)) in
+        (omega (arith, r.0, same_shadow, count), there (shadow_at new.words j - 1) (λ q. absurd (omega (arith, q, r.0, same_shadow, some))) ∙ ap (λ x. slice_index t.shadowed (x - 1)) same_shadow ∙ r.1)
+
+    listed : (i : ℕ) → i < t.shadows + 1 → (i ≡ t.shadows) ⊎ (i ≢ t.shadows) → slice_index u.shadowed i < frames_of old.words
+    listed i less (inl e) = subst (λ x. x < frames_of old.words) (sym (ap (slice_index u.shadowed) e ∙ here)) v.within
+    listed i less (inr ne) = subst (λ x. x < frames_of old.words) (sym (there i ne)) (s.listed i (omega (arith, less, ne)))
+
+    edited : (j : ℕ) → IsValid old.words j → shadow_at new.words j ≢ 0 → (j ≡ k) ⊎ (j ≢ k) → (is_dirty (tag_at new.words j) ≡ true) × (is_pinned u.pool j ≡ true)
+    edited j w some (inl e) = subst (λ x. (is_dirty (tag_at new.words x) ≡ true) × (is_pinned u.pool x ≡ true)) (sym e) (ap is_dirty (names.tag k v.within) ∙ dirty, pinned)
+    edited j w some (inr ne) = let r = s.edited is j w (λ z. some (others j ne w.within ∙ z)) in (ap is_dirty (names.tag j w.within) ∙ r.0, kept j ne ∙ r.1)
+
+    places : (j : ℕ) → is_pinned u.pool j ≡ true → (j ≡ k) ⊎ (j ≢ k) → IsListed u j
+    places j e (inl q) = record { place = t.shadows; within = rw count (omega arith); here = here ∙ sym q }
+    places j e (inr ne) = let r = (s.pinned j (sym (kept j ne) ∙ e)).1 in record { place = r.place; within = rw count (omega (arith, r.within)); here = there r.place (λ q. absurd (omega (arith, q, r.within))) ∙ r.here }
+
+-- ---- pages of entries
+
+name_by : Bool → ℕ → ℕ → ℕ → Option PageName
+name_by named file index size = if named then Some (record { file = record { 0 = file }; index = index; size = size }) else None
+
+pub pages_held : (k : ℕ) (old new : List ℕ) → OneEntry k old new → HeldEntry k old new → SamePages old new
+unfolding name_by
+pages_held k old new one held = record { frames = frames_one k old new one; found = λ b. found_kept k b old new one held.valid held.block; named = λ j less. name j (cases_eq j k) }
+  where
+    by : name_by (is_data (tag_at new k)) (file_at new k) (index_at new k) (size_at new k) ≡ name_by (is_data (tag_at old k)) (file_at old k) (index_at old k) (size_at old k)
+    by = rw (held.named, held.file, held.index, held.size) refl
+
+    name : (j : ℕ) → (j ≡ k) ⊎ (j ≢ k) → name_by (is_data (tag_at new j)) (file_at new j) (index_at new j) (size_at new j) ≡ name_by (is_data (tag_at old j)) (file_at old j) (index_at old j) (size_at old j)
+    name j (inl e) = subst (λ m. name_by (is_data (tag_at new m)) (file_at new m) (index_at new m) (size_at new m) ≡ name_by (is_data (tag_at old m)) (file_at old m) (index_at old m) (size_at old m)) (sym e) by
+    name j (inr ne) = rw (ap is_data (tag_one k j old new one ne), entry_one k j 1 old new one ne (omega arith), entry_one k j 2 old new one ne (omega arith), entry_one k j 3 old new one ne (omega arith)) refl
+
+pub pages_named : (old new : List ℕ) → SameNames old new → SamePages old new
+pages_named old new names = record { frames = names.frames; found = λ b. found_named old new b names; named = λ k less. name_same old new k names less }
+
+pub pages_refl : (words : List ℕ) → SamePages words words
+pages_refl words = record { frames = refl; found = λ b. refl; named = λ k less. refl }
+
+pub pages_trans : (a b c : List ℕ) → SamePages a b → SamePages b c → SamePages a c
+pages_trans a b c h i = record { frames = i.frames ∙ h.frames; found = λ x. i.found x ∙ h.found x; named = λ k less. i.named k (subst (λ f. k < f) (sym h.frames) less) ∙ h.named k less }
+
+-- ---- a frame gets a shadow
+
+-- it has one
+pub gives_none : (k : ℕ) (words : List ℕ) (t : CacheTables) → shadow_at words k ≢ 0 → GivesShadow k words words t t
+gives_none k words t some = record { some = some; others = λ j ne less. refl; count = rw (ne_eqb (shadow_at words k) 0 some) refl }
+
+-- it is dirty first, and then gets one
+pub gives_next : (k : ℕ) (a b c : List ℕ) (t u : CacheTables) → OneEntry k a b → HeldEntry k a b → shadow_at a k ≡ 0 → shadow_at c k ≢ 0 → ((j : ℕ) → j ≢ k → j < frames_of b → shadow_at c j ≡ shadow_at b j) → u.shadows ≡ t.shadows + 1 → GivesShadow k a c t u
+gives_next k a b c t u one held bare some others count = record {
+  some = some;
+  others = λ j ne less. others j ne (subst (λ f. j < f) (sym (frames_one k a b one)) less) ∙ entry_one k j 4 a b one ne (omega arith);
+  count = count ∙ rw bare refl;
+}
+
+-- ---- the whole of it
+
+some_none : (x : PageName) → Some x ≡ None → ⊥
+some_none x e = cc
+
+data_by : (d : Bool) (f i s : ℕ) → name_by d f i s ≡ None → d ≡ false
+unfolding name_by
+data_by false f i s e = refl
+data_by true f i s e = absurd (some_none (record { file = record { 0 = f }; index = i; size = s }) e)
+
+pub data_none : (words : List ℕ) (k : ℕ) → name_in words (Some k) ≡ None → is_data (tag_at words k) ≡ false
+unfolding name_by
+data_none words k e = data_by (is_data (tag_at words k)) (file_at words k) (index_at words k) (size_at words k) e
+
+page_none : (o : Option PageName) → SamePage o None → o ≡ None
+page_none None h = refl
+page_none (Some a) h = absurd h
+
+-- a block that may be asked for as metadata has an entry of metadata, once it is fetched
+pub metadata_of : (b k : ℕ) (old new : Contents) → CanName (cache_seen old) b None → Adds b None old.words new.words → entry_of_block new.words b ≡ Some k → is_data (tag_at new.words k) ≡ false
+metadata_of b k old new can adds found = from (adds.named k found)
+  where
+    from : ((entry_of_block old.words b ≡ Some k) × (name_in new.words (Some k) ≡ name_in old.words (Some k))) ⊎ (name_in new.words (Some k) ≡ None) → is_data (tag_at new.words k) ≡ false
+    from (inl was) = data_none new.words k (was.1 ∙ ap (name_in old.words) (sym was.0) ∙ page_none (name_in old.words (entry_of_block old.words b)) (can.agrees (ap is_some was.0)))
+    from (inr none) = data_none new.words k none
+
+is_touched_at : (words : List ℕ) (b k : ℕ) → gate_of words ≡ 1 → entry_of_block words b ≡ Some k → is_touched words b ≡ not (shadow_at words k == 0)
+is_touched_at words b k is found = rw (eq-eqb _ _ is) (ap (has_shadow words) found)
+
+not_zero : (s : ℕ) → not (s == 0) ≡ true → s ≢ 0
+not_zero s e z = true_false (sym e ∙ ap (λ x. not (x == 0)) z)
+
+pub room_of : (b k : ℕ) (old mid : Contents) (t u : CacheTables) → gate_of old.words ≡ 1 → Keeps old mid → SameTouches old.words mid.words → SameTables t u → entry_of_block mid.words b ≡ Some k → HasRoom (cache_kept old t) b → (shadow_at mid.words k ≢ 0) ⊎ (u.shadows < 16)
+room_of b k old mid t u is keeps touches tables found (inl e) = inl (not_zero (shadow_at mid.words k) (sym (is_touched_at mid.words b k (keeps.header 4 (omega arith) ∙ is) found) ∙ ap (λ (f : ℕ → Bool). f b) touches.touched ∙ e))
+room_of b k old mid t u is keeps touches tables found (inr less) = inr (subst (λ n. n < 16) (sym tables.shadows) (subst (λ x. (if x then t.shadows else 0) < 16) (eq-eqb _ _ is) less))
+
+-- no block is found for entry k but its own
+other_entry : (words : List ℕ) (b c j k : ℕ) → entry_of_block words b ≡ Some k → c ≢ b → entry_of_block words c ≡ Some j → j ≢ k
+other_entry words b c j k found ne e q = ne (sym (found_is words c j e).1 ∙ ap (λ x. tag_block (tag_at words x)) q ∙ (found_is words b k found).1)
+
+touched_now : (b k : ℕ) (mid new : List ℕ) (u v : CacheTables) → gate_of mid ≡ 1 → gate_of new ≡ 1 → SamePages mid new → GivesShadow k mid new u v → entry_of_block mid b ≡ Some k → (c : ℕ) → is_touched new c ≡ with_block (is_touched mid) b c
+touched_now b k mid new u v was is pages gives found c = from (cases_eq c b)
+  where
+    at : (o : Option ℕ) → c ≢ b → entry_of_block mid c ≡ o → has_shadow new o ≡ has_shadow mid o
+    at None ne e = refl
+    at (Some j) ne e = ap (λ s. not (s == 0)) (gives.others j (other_entry mid b c j k found ne e) (found_is mid c j e).0.within)
+
+    from : (c ≡ b) ⊎ (c ≢ b) → is_touched new c ≡ with_block (is_touched mid) b c
+    from (inl e) = ap (is_touched new) e ∙ is_touched_at new b k is (pages.found b ∙ found) ∙ ap not (ne_eqb (shadow_at new k) 0 gives.some) ∙ sym (rw (eq-eqb c b e) refl)
+    from (inr ne) = rw (eq-eqb _ _ is, eq-eqb _ _ was, ne_eqb c b ne) (ap (has_shadow new) (pages.found c) ∙ at (entry_of_block mid c) ne refl)
+
+count_now : (s n : ℕ) → (if s == 0 then n + 1 else n) ≡ (if not (s == 0) then n else n + 1)
+count_now s n = by (s == 0)
+  where
+    by : (x : Bool) → (if x then n + 1 else n) ≡ (if not x then n else n + 1)
+    by true = refl
+    by false = refl
+
+if_open : (g n : ℕ) → g ≡ 1 → (if g == 1 then n else 0) ≡ n
+if_open g n e = rw e refl
+
+pub touches_after : (b k : ℕ) (old mid new : Contents) (t u v : CacheTables) → gate_of old.words ≡ 1 → Keeps old mid → Keeps mid new → SameTouches old.words mid.words → SameTables t u → SamePages mid.words new.words → GivesShadow k mid.words new.words u v → entry_of_block mid.words b ≡ Some k → Touches b (cache_kept old t) (cache_kept new v)
+touches_after b k old mid new t u v is h i touches tables pages gives found = record {
+  updating = ap (λ g. g == 1) (i.header 4 (omega arith) ∙ h.header 4 (omega arith));
+  begun = i.stands ∙ h.stands;
+  touched = λ x c. (touched_now b k mid.words new.words u v was now pages gives found c ∙ ap (λ (f : ℕ → Bool). with_block f b c) touches.touched) x;
+  touches = if_open (gate_of new.words) v.shadows now ∙ gives.count ∙ ap (λ n. if shadow_at mid.words k == 0 then n + 1 else n) tables.shadows ∙ count_now (shadow_at mid.words k) t.shadows
+      ∙ ap (λ x. if x then t.shadows else t.shadows + 1) (sym (is_touched_at mid.words b k was found) ∙ ap (λ (f : ℕ → Bool). f b) touches.touched)
+      ∙ ap (λ n. if is_touched old.words b then n else n + 1) (sym (if_open (gate_of old.words) t.shadows is));
+}
+  where
+    was : gate_of mid.words ≡ 1
+    was = h.header 4 (omega arith) ∙ is
+
+    now : gate_of new.words ≡ 1
+    now = i.header 4 (omega arith) ∙ was
+
+-- a block was fetched, or not: the update is as before
+pub fetched_update : (old new : Contents) (t u : CacheTables) → Keeps old new → SameTouches old.words new.words → SameTables t u → SameUpdate (cache_kept old t) (cache_kept new u)
+fetched_update old new t u h touches tables = record {
+  updating = ap (λ g. g == 1) (h.header 4 (omega arith));
+  begun = h.stands;
+  touched = touches.touched;
+  touches = rw (h.header 4 (omega arith), tables.shadows) refl;
+}
+
+pub adds_pages : (b : ℕ) (name : Option PageName) (a c d : List ℕ) → Adds b name a c → SamePages c d → Adds b name a d
+adds_pages b name a c d h i = record {
+  others = λ x k ne e. let f = sym (i.found x) ∙ e in let was = h.others x k ne f in (was.0, i.named k (found_is c x k f).0.within ∙ was.1);
+  named = λ k e. let f = sym (i.found b) ∙ e in from k (i.named k (found_is c b k f).0.within) (h.named k f);
+}
+  where
+    from : (k : ℕ) → name_in d (Some k) ≡ name_in c (Some k) → ((entry_of_block a b ≡ Some k) × (name_in c (Some k) ≡ name_in a (Some k))) ⊎ (name_in c (Some k) ≡ name) → ((entry_of_block a b ≡ Some k) × (name_in d (Some k) ≡ name_in a (Some k))) ⊎ (name_in d (Some k) ≡ name)
+    from k same (inl was) = inl (was.0, same ∙ was.1)
+    from k same (inr is) = inr (same ∙ is)
+
+loose_either : (f g a b : Bool) → g ≡ f → (b ≡ true → a ≡ true) → (g || b) ≡ true → (f || a) ≡ true
+loose_either true g a b e h l = refl
+loose_either false g a b e h l = h (sym (ap (λ y. y || b) e) ∙ l)
+
+pub firm_forgotten : (old new : Contents) (t u : CacheTables) → u.forgotten ≡ t.forgotten → Keeps old new → Firm (cache_kept old t) (cache_kept new u)
+firm_forgotten old new t u e h = record { loose = λ b l. loose_either (was_forgotten t b) (was_forgotten u b) _ _ (rw e refl) (h.firm b) l }
+
+-- ---- how it ends
+
+roomy_is : (frames count : ℕ) → not (nat_lt frames count) ≡ true → count ≤ frames
+roomy_is frames count e = from (nat_lt frames count) refl e
+  where
+    from : (x : Bool) → nat_lt frames count ≡ x → not x ≡ true → count ≤ frames
+    from true q z = absurd (true_false (sym z))
+    from false q z = ltb-false frames count q
+
+quiet_few : (b : ℕ) (c d : Contents) (r s : Running) → FewWrites b c d → Quiet (cache_below c r) (cache_below d s)
+quiet_few b c d r s h = record {
+  home = λ e. let st = h.roomy (roomy_is (frames_of c.words) (length c.disk) e) in rw (st.disk, st.marks) refl;
+  writes = λ e. (h.roomy (roomy_is (frames_of c.words) (length c.disk) e)).writes;
+}
+
+pub touch_goes : (b : ℕ) (old new : Contents) (r s : Running) → Keeps old new → Lasts old new → Steps r s → FewWrites b old new → Goes (cache_health old r) (cache_below old r) (cache_health new s) (cache_below new s)
+touch_goes b old new r s h l st few = goes_of old new r s l st (h.header 2 (omega arith)) (quiet_few b old new r s few)

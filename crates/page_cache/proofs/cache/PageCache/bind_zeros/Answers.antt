@@ -1,0 +1,39 @@
+use Rattle.std.proofs.Common.{ap, refl}
+use Rattle.rio_base.specs.Machine.{Contents}
+use Rattle.rio_model.specs.CoverSteps.{rest_stored}
+use Rattle.page_cache.proofs.Rooms.{adds_narrows, begun_narrows, begun_sound, frame_free, free_of, unbound}
+use Rattle.page_cache.proofs.Zeros.{begun_keeps, frees_keeps, new_made, zeros_adds, zeros_frees, zeros_sound}
+use Rattle.page_cache.proofs.cache.PageCache.bind_zeros.Goals as goal
+
+pub install-requires-clause-free : goal.install-requires-clause-free
+install-requires-clause-free g c = free_of c.args.b.0 (g.M.Machine.contents c.args.self.now.machine).words c.requires.uncached
+
+pub bind-requires-clause-free : goal.bind-requires-clause-free
+bind-requires-clause-free g c = frame_free c.args.k _ _ _ c.requires.sound c.requires.entry c.requires.invalid
+
+pub bind-requires-clause-unbound : goal.bind-requires-clause-unbound
+bind-requires-clause-unbound g c = unbound c.args.b.0 _ _ _ c.requires.sound c.requires.uncached
+
+pub returns-in_err-install-clause-sound : goal.returns-in_err-install-clause-sound
+returns-in_err-install-clause-sound g c = begun_sound c.args.k _ _ (g.M.Machine.contents c.args.self.now.machine) (g.M.Machine.contents c.install.new.m) _ c.requires.sound (begun_keeps _ c.args.k (g.M.Machine.contents c.args.self.now.machine) (g.M.Machine.contents c.install.new.m) _ c.requires.sound c.install.ensures.changes.rest c.install.ensures.changes.one_entry c.requires.entry c.requires.invalid c.in_err-install.ensures.begun) c.install.ensures.changes.lasts c.install.ensures.changes.ends.steps.scratch_count c.install.ensures.changes.closed c.install.ensures.changes.one_entry c.requires.invalid c.in_err-install.ensures.begun
+
+pub returns-in_err-install-clause-frees : goal.returns-in_err-install-clause-frees
+returns-in_err-install-clause-frees g c = frees_keeps c.args.b.0 (g.M.Machine.contents c.args.self.now.machine) (g.M.Machine.contents c.install.new.m) (begun_keeps _ c.args.k (g.M.Machine.contents c.args.self.now.machine) (g.M.Machine.contents c.install.new.m) _ c.requires.sound c.install.ensures.changes.rest c.install.ensures.changes.one_entry c.requires.entry c.requires.invalid c.in_err-install.ensures.begun)
+
+pub returns-in_err-install-clause-adds : goal.returns-in_err-install-clause-adds
+returns-in_err-install-clause-adds g c = adds_narrows _ _ _ _ (begun_narrows c.args.k _ _ c.install.ensures.changes.one_entry c.in_err-install.ensures.begun c.requires.invalid)
+
+pub returns-clause-reads : goal.returns-clause-reads
+returns-clause-reads g c = (zeros_frees _ c.args.k c.args.b.0 (g.M.Machine.contents c.args.self.now.machine) (g.M.Machine.contents c.install.new.m) c.requires.sound.coherent c.install.ensures.changes.rest (new_made c.args.k c.args.b.0 c.args.name (g.M.Machine.contents c.args.self.now.machine) (g.M.Machine.contents c.install.new.m) c.install.ensures.changes.one_entry c.requires.entry c.requires.invalid c.requires.uncached c.requires.name c.in_ok-install.ensures.entry) c.requires.block c.requires.zeros).0
+
+pub returns-clause-frees : goal.returns-clause-frees
+returns-clause-frees g c = (zeros_frees _ c.args.k c.args.b.0 (g.M.Machine.contents c.args.self.now.machine) (g.M.Machine.contents c.install.new.m) c.requires.sound.coherent c.install.ensures.changes.rest (new_made c.args.k c.args.b.0 c.args.name (g.M.Machine.contents c.args.self.now.machine) (g.M.Machine.contents c.install.new.m) c.install.ensures.changes.one_entry c.requires.entry c.requires.invalid c.requires.uncached c.requires.name c.in_ok-install.ensures.entry) c.requires.block c.requires.zeros).1
+
+pub returns-clause-firm : goal.returns-clause-firm
+returns-clause-firm g c = (zeros_frees _ c.args.k c.args.b.0 (g.M.Machine.contents c.args.self.now.machine) (g.M.Machine.contents c.install.new.m) c.requires.sound.coherent c.install.ensures.changes.rest (new_made c.args.k c.args.b.0 c.args.name (g.M.Machine.contents c.args.self.now.machine) (g.M.Machine.contents c.install.new.m) c.install.ensures.changes.one_entry c.requires.entry c.requires.invalid c.requires.uncached c.requires.name c.in_ok-install.ensures.entry) c.requires.block c.requires.zeros).2
+
+pub returns-clause-adds : goal.returns-clause-adds
+returns-clause-adds g c = zeros_adds _ c.args.k c.args.b.0 c.args.name (g.M.Machine.contents c.args.self.now.machine) (g.M.Machine.contents c.install.new.m) c.requires.sound.coherent (new_made c.args.k c.args.b.0 c.args.name (g.M.Machine.contents c.args.self.now.machine) (g.M.Machine.contents c.install.new.m) c.install.ensures.changes.one_entry c.requires.entry c.requires.invalid c.requires.uncached c.requires.name c.in_ok-install.ensures.entry) c.in_ok-install.ensures.entry
+
+pub returns-clause-sound : goal.returns-clause-sound
+returns-clause-sound g c = zeros_sound _ _ c.args.k c.args.b.0 (g.M.Machine.contents c.args.self.now.machine) (g.M.Machine.contents c.install.new.m) _ _ c.requires.sound (zeros_frees _ c.args.k c.args.b.0 (g.M.Machine.contents c.args.self.now.machine) (g.M.Machine.contents c.install.new.m) c.requires.sound.coherent c.install.ensures.changes.rest (new_made c.args.k c.args.b.0 c.args.name (g.M.Machine.contents c.args.self.now.machine) (g.M.Machine.contents c.install.new.m) c.install.ensures.changes.one_entry c.requires.entry c.requires.invalid c.requires.uncached c.requires.name c.in_ok-install.ensures.entry) c.requires.block c.requires.zeros).1 c.install.ensures.changes.ends.steps.scratch_count c.install.ensures.changes.closed (ap (λ (m : Contents). m.disk) c.install.ensures.changes.rest) (new_made c.args.k c.args.b.0 c.args.name (g.M.Machine.contents c.args.self.now.machine) (g.M.Machine.contents c.install.new.m) c.install.ensures.changes.one_entry c.requires.entry c.requires.invalid c.requires.uncached c.requires.name c.in_ok-install.ensures.entry) (record { same = record { forgotten = refl; shadowed = refl; shadows = refl }; pool = record { frames = c.bind.ensures.frames; blocks = c.bind.ensures.blocks; pins = c.bind.ensures.pins; count = c.bind.ensures.pins_in }; first = refl; buffer = refl }) c.bind.ensures.bound c.bind.ensures.others

@@ -1,0 +1,12 @@
+use Rattle.std.proofs.Common.{IsErrOf, arith, refl}
+use Rattle.rio_base.specs.declared.failures.VolFail.TheVariants.{Stopped}
+use Rattle.page_cache.proofs.Stores.{ends_ok, ends_stop}
+use Rattle.page_cache.proofs.cache.PageCache.bring.Goals as goal
+
+pub returns-in_err-bind_frame-clause-ends : goal.returns-in_err-bind_frame-clause-ends
+returns-in_err-bind_frame-clause-ends g c =
+    let stop : IsErrOf c.from_residual-in_err-bind_frame.result Stopped = grind (arith, c.from_residual-in_err-bind_frame.ensures) in
+    ends_stop _ _ _ _ _ _ (λ q. cc) refl stop c.in_ok-fill_frame.ensures.ends c.in_err-bind_frame.ensures.ends
+
+pub returns-clause-ends : goal.returns-clause-ends
+returns-clause-ends g c = ends_ok _ _ _ _ _ _ (λ q. cc) (λ q. cc) (λ q. cc) c.in_ok-fill_frame.ensures.ends c.in_ok-bind_frame.ensures.ends

@@ -1,0 +1,40 @@
+use Rattle.std.proofs.Common.{ap, refl}
+use Rattle.rio_base.specs.Machine.{Contents}
+use Rattle.registry.specs.declared.entry.Entry.{Entry}
+use Rattle.rio_model.specs.CoverLookups.{found_is}
+use Rattle.page_cache.proofs.Stores.{sound_same}
+use Rattle.page_cache.proofs.Rooms.{frame_bound, narrows_gone}
+use Rattle.page_cache.proofs.Freed.{cleared_frees, cleared_lost, cleared_sound, frees_same, narrows_same, unpinned_idle}
+use Rattle.page_cache.proofs.cache.PageCache.drop_frame.Goals as goal
+
+pub unbind-requires-clause-bound : goal.unbind-requires-clause-bound
+unbind-requires-clause-bound g c = frame_bound c.args.k _ (g.M.Machine.contents c.args.self.now.machine) _ c.requires.sound (found_is _ _ _ c.requires.found).0
+
+pub unbind-requires-clause-unpinned : goal.unbind-requires-clause-unpinned
+unbind-requires-clause-unpinned g c = unpinned_idle _ c.args.k (g.M.Machine.contents c.args.self.now.machine) _ c.requires.sound c.requires.idle
+
+pub returns-in_err-clear-clause-sound : goal.returns-in_err-clear-clause-sound
+returns-in_err-clear-clause-sound g c = sound_same _ _ _ _ _ c.requires.sound c.clear.ensures.changes.ends.steps.scratch_count c.in_err-clear.ensures.same
+
+pub returns-in_err-clear-clause-frees : goal.returns-in_err-clear-clause-frees
+returns-in_err-clear-clause-frees g c = frees_same c.args.b.0 _ _ c.in_err-clear.ensures.same
+
+pub returns-in_err-clear-clause-narrows : goal.returns-in_err-clear-clause-narrows
+returns-in_err-clear-clause-narrows g c = narrows_same (g.M.Machine.contents c.args.self.now.machine) (g.M.Machine.contents c.clear.new.m) c.in_err-clear.ensures.same
+
+pub returns-clause-frees : goal.returns-clause-frees
+returns-clause-frees g c = let e = c.clear.ensures.changes in cleared_frees _ c.args.k c.args.b.0 _ _ c.requires.sound.coherent e.rest e.one_entry (ap (λ (x : Entry). x.tag) c.in_ok-clear.ensures.entry) c.requires.found
+
+pub returns-clause-gone : goal.returns-clause-gone
+returns-clause-gone g c = let e = c.clear.ensures.changes in cleared_lost _ c.args.k c.args.b.0 (g.M.Machine.contents c.args.self.now.machine) (g.M.Machine.contents c.clear.new.m) c.requires.sound.coherent e.one_entry (ap (λ (x : Entry). x.tag) c.in_ok-clear.ensures.entry) c.requires.found
+
+pub returns-clause-narrows : goal.returns-clause-narrows
+returns-clause-narrows g c = narrows_gone c.args.k _ (g.M.Machine.contents c.args.self.now.machine) _ c.requires.sound.coherent c.clear.ensures.changes.one_entry (ap (λ (x : Entry). x.tag) c.in_ok-clear.ensures.entry)
+
+pub returns-clause-sound : goal.returns-clause-sound
+returns-clause-sound g c =
+    let e = c.clear.ensures.changes in
+    let tag = ap (λ (x : Entry). x.tag) c.in_ok-clear.ensures.entry in
+    let old = g.M.Machine.contents c.args.self.now.machine in
+    let new = g.M.Machine.contents c.clear.new.m in
+    cleared_sound _ _ c.args.k c.args.b.0 old new _ _ c.requires.sound (cleared_frees _ c.args.k c.args.b.0 old new c.requires.sound.coherent e.rest e.one_entry tag c.requires.found) e.ends.steps.scratch_count e.closed (ap (λ (m : Contents). m.disk) e.rest) e.one_entry tag (record { same = record { forgotten = refl; shadowed = refl; shadows = refl }; pool = record { frames = c.unbind.ensures.frames; blocks = c.unbind.ensures.blocks; pins = c.unbind.ensures.pins; count = c.unbind.ensures.pins_in }; first = refl; buffer = refl }) c.unbind.ensures.unbound c.unbind.ensures.others

@@ -1,0 +1,52 @@
+use Rattle.std.proofs.Common.{IsErrOf, ap, arith, is_some, refl, sym, ◌∙◌}
+use Rattle.rio_base.specs.Rules.{true_false}
+use Rattle.rio_model.specs.CoverStands.{narrows_trans}
+use Rattle.rio_base.specs.Machine.{StepEnds}
+use Rattle.rio_base.specs.MachineRules.{ends_after}
+use Rattle.rio_base.specs.declared.failures.VolFail.TheVariants.{Fault, Stopped}
+use Rattle.page_cache.proofs.Rooms.{ends_ok, none_bound, none_still, some_bound}
+use Rattle.page_cache.proofs.Stills.{few_then}
+use Rattle.page_cache.proofs.cache.PageCache.fetch.Goals as goal
+
+pub make_room-requires-clause-uncached : goal.make_room-requires-clause-uncached
+make_room-requires-clause-uncached g c = none_bound _ _ _ _ c.requires.sound (c.in_default.ensures.none refl)
+
+pub returns-in-Some-clause-found : goal.returns-in-Some-clause-found
+returns-in-Some-clause-found g c = some_bound c.args.b.0 c.in-Some.k _ _ _ c.requires.sound c.in-Some.ensures.some.0 c.in-Some.ensures.some.1
+
+pub bring-requires-clause-uncached : goal.bring-requires-clause-uncached
+bring-requires-clause-uncached g c = none_still _ _ _ c.make_room.ensures.narrows (none_bound _ _ _ _ c.requires.sound (c.in_default.ensures.none refl))
+
+pub returns-in_err-k-clause-sure : goal.returns-in_err-k-clause-sure
+returns-in_err-k-clause-sure g c fault = none_bound _ _ _ _ c.requires.sound (c.in_default.ensures.none refl)
+
+pub returns-in_err-bring-clause-sure : goal.returns-in_err-bring-clause-sure
+returns-in_err-bring-clause-sure g c fault = none_bound _ _ _ _ c.requires.sound (c.in_default.ensures.none refl)
+
+pub returns-in_err-bring-clause-writes : goal.returns-in_err-bring-clause-writes
+returns-in_err-bring-clause-writes g c = few_then _ _ _ _ c.make_room.ensures.writes c.bring.ensures.still
+
+pub returns-clause-writes : goal.returns-clause-writes
+returns-clause-writes g c = few_then _ _ _ _ c.make_room.ensures.writes c.bring.ensures.still
+
+pub returns-in_err-bring-clause-ends : goal.returns-in_err-bring-clause-ends
+returns-in_err-bring-clause-ends g c =
+    let all : StepEnds (g.M.Machine.run c.args.self.now.machine) (g.M.Machine.run c.bring.new.self.machine) (IsErrOf c.bring.result Stopped) = ends_after _ _ _ _ c.make_room.ensures.ends.steps (c.in_ok-k.ensures.ends.runs (λ q. cc)) c.bring.ensures.ends in
+    grind (arith, all)
+
+pub returns-clause-ends : goal.returns-clause-ends
+returns-clause-ends g c = ends_ok _ _ _ _ _ _ (λ q. cc) (λ q. cc) (λ q. cc) c.in_ok-k.ensures.ends c.in_ok-bring.ensures.ends
+
+pub returns-in_err-k-clause-hit : goal.returns-in_err-k-clause-hit
+returns-in_err-k-clause-hit g c cached = absurd (true_false (sym cached ∙ ap is_some (none_bound _ _ _ _ c.requires.sound (c.in_default.ensures.none refl))))
+
+pub returns-in_err-bring-clause-hit : goal.returns-in_err-bring-clause-hit
+returns-in_err-bring-clause-hit g c cached = absurd (true_false (sym cached ∙ ap is_some (none_bound _ _ _ _ c.requires.sound (c.in_default.ensures.none refl))))
+
+pub returns-in_err-bring-clause-unfetched : goal.returns-in_err-bring-clause-unfetched
+returns-in_err-bring-clause-unfetched g c fault =
+    let was : IsErrOf c.bring.result Fault = grind (arith, c.from_residual-in_err-bring.ensures, fault) in
+    narrows_trans _ _ _ c.make_room.ensures.narrows (c.bring.ensures.unfetched was)
+
+pub returns-clause-hit : goal.returns-clause-hit
+returns-clause-hit g c cached = absurd (true_false (sym cached ∙ ap is_some (none_bound _ _ _ _ c.requires.sound (c.in_default.ensures.none refl))))

@@ -1,0 +1,5 @@
+use Rattle.page_cache.proofs.Starts.{tells_of}
+use Rattle.page_cache.proofs.cache.PageCache.machine.Goals as goal
+
+pub returns : goal.returns
+returns g c = record { tells = tells_of _ _ _ c.requires.sound }

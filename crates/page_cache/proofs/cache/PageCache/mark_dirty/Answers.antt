@@ -1,0 +1,14 @@
+use Rattle.page_cache.proofs.Stores.{cached_held, dirtied_held, dirtied_keeps, dirtied_sound}
+use Rattle.page_cache.proofs.cache.PageCache.mark_dirty.Goals as goal
+
+pub returns-clause-sound : goal.returns-clause-sound
+returns-clause-sound g c =
+    let old = g.M.Machine.contents c.args.self.now.machine in
+    let e = c.set_dirty.ensures.changes in
+    dirtied_sound _ _ c.args.k old _ _ c.requires.sound (dirtied_keeps _ c.args.k old _ _ _ c.requires.sound c.in_ok-set_dirty.ensures.stored c.requires.valid e.one_entry c.in_ok-set_dirty.ensures.entry) e.ends.steps.scratch_count e.closed e.rest e.one_entry c.in_ok-set_dirty.ensures.entry
+
+pub returns-clause-keeps : goal.returns-clause-keeps
+returns-clause-keeps g c = dirtied_keeps _ c.args.k (g.M.Machine.contents c.args.self.now.machine) _ _ _ c.requires.sound c.in_ok-set_dirty.ensures.stored c.requires.valid c.set_dirty.ensures.changes.one_entry c.in_ok-set_dirty.ensures.entry
+
+pub returns-clause-cached : goal.returns-clause-cached
+returns-clause-cached g c = let one = c.set_dirty.ensures.changes.one_entry in cached_held c.args.k _ _ one (dirtied_held c.args.k _ _ one c.in_ok-set_dirty.ensures.entry)

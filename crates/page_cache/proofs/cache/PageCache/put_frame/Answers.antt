@@ -1,0 +1,22 @@
+use Rattle.std.proofs.Common.{◌∙◌, ap}
+use Rattle.rio_base.specs.Machine.{Contents}
+use Rattle.rio_model.specs.CoverLookups.{found_is}
+use Rattle.page_cache.proofs.Stores.{cached_entries}
+use Rattle.page_cache.proofs.Runs.{put_entries, put_rewrites, rewrites_sound}
+use Rattle.page_cache.proofs.cache.PageCache.put_frame.Goals as goal
+
+pub page_of-page-requires-clause-entry : goal.page_of-page-requires-clause-entry
+page_of-page-requires-clause-entry g c = (found_is _ _ _ c.requires.found).0.within
+
+pub returns-clause-sound : goal.returns-clause-sound
+returns-clause-sound g c =
+    let old = g.M.Machine.contents c.args.self.now.machine in
+    let stored = c.in_ok-put_word.ensures.stored in
+    let page = c.page_of-page.ensures.page in
+    rewrites_sound _ _ _ old _ _ c.requires.sound (put_rewrites _ c.args.k c.args.b.0 _ c.args.w c.args.v old _ c.requires.sound.coherent stored page c.page_of-page.ensures.within c.requires.word c.requires.found c.requires.dirty) c.put_word.ensures.ends.steps.scratch_count (ap (λ (m : Contents). m.open_page) stored ∙ c.requires.sound.closed) (ap (λ (m : Contents). m.disk) stored) (put_entries c.args.k _ c.args.w c.args.v old _ stored page c.requires.word)
+
+pub returns-clause-rewrites : goal.returns-clause-rewrites
+returns-clause-rewrites g c = put_rewrites _ c.args.k c.args.b.0 _ c.args.w c.args.v (g.M.Machine.contents c.args.self.now.machine) _ c.requires.sound.coherent c.in_ok-put_word.ensures.stored c.page_of-page.ensures.page c.page_of-page.ensures.within c.requires.word c.requires.found c.requires.dirty
+
+pub returns-clause-cached : goal.returns-clause-cached
+returns-clause-cached g c = cached_entries _ _ (put_entries c.args.k _ c.args.w c.args.v (g.M.Machine.contents c.args.self.now.machine) _ c.in_ok-put_word.ensures.stored c.page_of-page.ensures.page c.requires.word)

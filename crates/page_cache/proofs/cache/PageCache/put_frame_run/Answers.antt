@@ -1,0 +1,38 @@
+use Rattle.std.proofs.Common.{ℕ, ◌≤◌, ◌+◌, arith, length}
+use Rattle.rio_base.specs.Volume.{put_run}
+use Rattle.rio_model.specs.Cover.{reads}
+use Rattle.rio_model.specs.CoverLookups.{found_is}
+use Rattle.page_cache.specs.Stores.{Rewrites}
+use Rattle.page_cache.proofs.Stores.{cached_entries}
+use Rattle.page_cache.proofs.Runs.{run_entries, run_rewrites, run_sound}
+use Rattle.page_cache.proofs.cache.PageCache.put_frame_run.Goals as goal
+
+pub page_of-page-requires-clause-entry : goal.page_of-page-requires-clause-entry
+page_of-page-requires-clause-entry g c = (found_is _ _ _ c.requires.found).0.within
+
+pub returns-in_err-put_run-clause-sound : goal.returns-in_err-put_run-clause-sound
+returns-in_err-put_run-clause-sound g c =
+    let f = c.in_err-put_run.ensures.front in
+    run_sound _ _ c.args.k c.args.b.0 _ c.args.w f.0 c.args.from.now (g.M.Machine.contents c.args.self.now.machine) _ _ c.requires.sound c.put_run.ensures.rest c.page_of-page.ensures.page (omega (arith, c.requires.within, f.1)) f.2 c.requires.found c.requires.dirty c.put_run.ensures.ends.steps.scratch_count
+
+pub returns-in_err-put_run-clause-front : goal.returns-in_err-put_run-clause-front
+returns-in_err-put_run-clause-front g c =
+    let f = c.in_err-put_run.ensures.front in
+    let old = g.M.Machine.contents c.args.self.now.machine in
+    let new = g.M.Machine.contents c.put_run.new.m in
+    let front : (n : ℕ) × (n ≤ length c.args.from.now) × Rewrites (put_run (reads old) c.args.b.0 c.args.w n c.args.from.now) old new = (f.0, omega (arith, f.1), run_rewrites _ c.args.k c.args.b.0 _ c.args.w f.0 c.args.from.now old _ c.requires.sound.coherent c.put_run.ensures.rest c.page_of-page.ensures.page (omega (arith, c.requires.within, f.1)) f.2 c.requires.found c.requires.dirty) in
+    grind (arith, front)
+
+pub returns-in_err-put_run-clause-cached : goal.returns-in_err-put_run-clause-cached
+returns-in_err-put_run-clause-cached g c =
+    let f = c.in_err-put_run.ensures.front in
+    cached_entries _ _ (run_entries c.args.k _ c.args.w f.0 c.args.from.now _ _ c.page_of-page.ensures.page (omega (arith, c.requires.within, f.1)) f.2)
+
+pub returns-clause-sound : goal.returns-clause-sound
+returns-clause-sound g c = run_sound _ _ c.args.k c.args.b.0 _ c.args.w (length c.args.from.now) c.args.from.now (g.M.Machine.contents c.args.self.now.machine) _ _ c.requires.sound c.put_run.ensures.rest c.page_of-page.ensures.page c.requires.within c.in_ok-put_run.ensures.stored c.requires.found c.requires.dirty c.put_run.ensures.ends.steps.scratch_count
+
+pub returns-clause-rewrites : goal.returns-clause-rewrites
+returns-clause-rewrites g c = run_rewrites _ c.args.k c.args.b.0 _ c.args.w (length c.args.from.now) c.args.from.now (g.M.Machine.contents c.args.self.now.machine) _ c.requires.sound.coherent c.put_run.ensures.rest c.page_of-page.ensures.page c.requires.within c.in_ok-put_run.ensures.stored c.requires.found c.requires.dirty
+
+pub returns-clause-cached : goal.returns-clause-cached
+returns-clause-cached g c = cached_entries _ _ (run_entries c.args.k _ c.args.w (length c.args.from.now) c.args.from.now _ _ c.page_of-page.ensures.page c.requires.within c.in_ok-put_run.ensures.stored)

@@ -1,0 +1,38 @@
+use Rattle.std.proofs.Common.{IsErrOf, arith, refl}
+use Rattle.rio_base.specs.declared.failures.VolFail.TheVariants.{Stopped}
+use Rattle.rio_model.specs.CoverLookups.{found_is}
+use Rattle.page_cache.proofs.Stores.{ends_ok, ends_stop}
+use Rattle.page_cache.proofs.StoreCalls.{few_then, found_ready, named_ready, stored_adds, stored_ready}
+use Rattle.page_cache.proofs.cache.PageCache.ready.Goals as goal
+
+pub make_ready-requires-clause-valid : goal.make_ready-requires-clause-valid
+make_ready-requires-clause-valid g c = (found_is _ _ _ c.in_ok-k.ensures.found).0
+
+pub returns-in_err-k-clause-caches : goal.returns-in_err-k-clause-caches
+returns-in_err-k-clause-caches g c = stored_adds c.args.b.0 c.args.name (g.M.Machine.contents c.args.self.now.machine) (g.M.Machine.contents c.fetch.new.self.machine) c.fetch.ensures.adds
+
+pub returns-in_err-make_ready-clause-caches : goal.returns-in_err-make_ready-clause-caches
+returns-in_err-make_ready-clause-caches g c = stored_ready c.args.b.0 c.in_ok-k.k c.args.name (g.M.Machine.contents c.args.self.now.machine) (g.M.Machine.contents c.fetch.new.self.machine) (g.M.Machine.contents c.make_ready.new.self.machine) c.fetch.ensures.adds c.in_ok-k.ensures.found c.make_ready.ensures.widens
+
+pub returns-in_err-make_ready-clause-writes : goal.returns-in_err-make_ready-clause-writes
+returns-in_err-make_ready-clause-writes g c = few_then c.args.b.0 _ _ _ c.fetch.ensures.writes c.make_ready.ensures.still
+
+pub returns-clause-caches : goal.returns-clause-caches
+returns-clause-caches g c = stored_ready c.args.b.0 c.in_ok-k.k c.args.name (g.M.Machine.contents c.args.self.now.machine) (g.M.Machine.contents c.fetch.new.self.machine) (g.M.Machine.contents c.make_ready.new.self.machine) c.fetch.ensures.adds c.in_ok-k.ensures.found c.make_ready.ensures.widens
+
+pub returns-clause-named : goal.returns-clause-named
+returns-clause-named g c = named_ready c.args.b.0 c.in_ok-k.k c.args.name (g.M.Machine.contents c.args.self.now.machine) (g.M.Machine.contents c.fetch.new.self.machine) (g.M.Machine.contents c.make_ready.new.self.machine) c.fetch.ensures.adds c.fetch.ensures.hit c.in_ok-k.ensures.found c.make_ready.ensures.widens c.in_ok-make_ready.ensures.named
+
+pub returns-clause-found : goal.returns-clause-found
+returns-clause-found g c = found_ready c.args.b.0 c.in_ok-k.k c.args.name _ _ c.in_ok-k.ensures.found c.make_ready.ensures.widens
+
+pub returns-clause-writes : goal.returns-clause-writes
+returns-clause-writes g c = few_then c.args.b.0 _ _ _ c.fetch.ensures.writes c.make_ready.ensures.still
+
+pub returns-clause-ends : goal.returns-clause-ends
+returns-clause-ends g c = ends_ok _ _ _ _ _ _ (λ q. cc) (λ q. cc) (λ q. cc) c.in_ok-k.ensures.ends c.in_ok-make_ready.ensures.ends
+
+pub returns-in_err-make_ready-clause-ends : goal.returns-in_err-make_ready-clause-ends
+returns-in_err-make_ready-clause-ends g c =
+    let stop : IsErrOf c.from_residual-in_err-make_ready.result Stopped = grind (arith, c.from_residual-in_err-make_ready.ensures) in
+    ends_stop _ _ _ _ _ _ (λ q. cc) refl stop c.in_ok-k.ensures.ends c.in_err-make_ready.ensures.ends

@@ -1,0 +1,32 @@
+use Rattle.std.proofs.Common.{◌≡◌, ◌<◌, true, ap, arith, subst, sym}
+use Rattle.rio_base.specs.Blocks.{InRange}
+use Rattle.rio_model.specs.Registry.{is_data, size_at, tag_at}
+use Rattle.registry.specs.declared.entry.Entry.{Entry}
+use Rattle.page_cache.specs.Stores.{Widens}
+use Rattle.page_cache.proofs.Widths.{larger_keeps, larger_sound, larger_widens}
+use Rattle.page_cache.proofs.cache.PageCache.widen.Goals as goal
+
+pub returns-clause-sound : goal.returns-clause-sound
+returns-clause-sound g c =
+    let old = g.M.Machine.contents c.args.self.now.machine in
+    let given = c.in-Some.name in
+    let less : size_at old.words c.args.k < given.size = grind (arith, c.if-from-read_entry.false, c.from.ensures, ap (λ (x : Entry). x.size) c.read_entry.ensures) in
+    let e = c.set_size.ensures.changes in
+    larger_sound _ _ c.args.k given old _ _ c.requires.sound c.requires.valid (subst InRange c.in-Some.is c.requires.name) less e.rest e.one_entry c.in_ok-set_size.ensures.entry e.ends.steps.scratch_count e.closed
+
+pub returns-clause-keeps : goal.returns-clause-keeps
+returns-clause-keeps g c =
+    let old = g.M.Machine.contents c.args.self.now.machine in
+    let given = c.in-Some.name in
+    let less : size_at old.words c.args.k < given.size = grind (arith, c.if-from-read_entry.false, c.from.ensures, ap (λ (x : Entry). x.size) c.read_entry.ensures) in
+    let e = c.set_size.ensures.changes in
+    larger_keeps _ c.args.k given old _ _ c.requires.sound c.requires.valid (subst InRange c.in-Some.is c.requires.name) less e.rest e.one_entry c.in_ok-set_size.ensures.entry
+
+pub returns-clause-widens : goal.returns-clause-widens
+returns-clause-widens g c =
+    let old = g.M.Machine.contents c.args.self.now.machine in
+    let new = g.M.Machine.contents c.set_size.new.m in
+    let given = c.in-Some.name in
+    let less : size_at old.words c.args.k < given.size = grind (arith, c.if-from-read_entry.false, c.from.ensures, ap (λ (x : Entry). x.size) c.read_entry.ensures) in
+    let e = c.set_size.ensures.changes in
+    subst (λ x. Widens c.args.k x old.words new.words) (sym c.in-Some.is) (larger_widens _ c.args.k given old new _ c.requires.sound c.requires.valid (subst InRange c.in-Some.is c.requires.name) less e.one_entry c.in_ok-set_size.ensures.entry)

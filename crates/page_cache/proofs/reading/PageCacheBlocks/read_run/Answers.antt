@@ -1,0 +1,22 @@
+use Rattle.std.proofs.Common.{ap, arith, length, ℕ, List}
+use Rattle.rio_model.specs.CoverLookups.{found_is}
+use Rattle.page_cache.proofs.Frames.{copied_run, page_count}
+use Rattle.page_cache.proofs.Stills.{passes_of}
+use Rattle.page_cache.proofs.reading.PageCacheBlocks.read_run.Goals as goal
+
+pub page_of-page-requires-clause-entry : goal.page_of-page-requires-clause-entry
+page_of-page-requires-clause-entry g c = (found_is _ _ _ c.in_ok-k.ensures.found).0.within
+
+pub copy_words-requires : goal.copy_words-requires
+copy_words-requires g c =
+    let words = (g.M.Machine.contents c.fetch.new.self.machine).words in
+    record { within = omega (arith, c.requires.place.within, ap (λ (xs : List ℕ). length xs) (c.frame.ensures.protected (omega (arith, c.page_of-page.ensures.within))), page_count words c.page_of-page.result.0 c.page_of-page.ensures.within) }
+
+pub returns-clause-words : goal.returns-clause-words
+returns-clause-words g c = copied_run c.in_ok-k.k c.args.b.0 c.args.w (length c.args.into.now) c.page_of-page.result.0 (g.M.Machine.contents c.args.self.now.machine) (g.M.Machine.contents c.fetch.new.self.machine) c.frame.result.now c.copy_words.new.into c.fetch.ensures.keeps c.in_ok-k.ensures.found c.page_of-page.ensures.page c.requires.place.within (c.frame.ensures.protected (omega (arith, c.page_of-page.ensures.within))) c.copy_words.ensures.copied
+
+pub returns-in_err-k-clause-passes : goal.returns-in_err-k-clause-passes
+returns-in_err-k-clause-passes g c = passes_of c.args.b.0 (g.M.Machine.contents c.args.self.now.machine) (g.M.Machine.contents c.fetch.new.self.machine) (g.M.Machine.run c.args.self.now.machine) (g.M.Machine.run c.fetch.new.self.machine) c.args.self.now.tables c.fetch.new.self.tables c.fetch.ensures.keeps c.fetch.ensures.lasts c.fetch.ensures.ends.steps c.fetch.ensures.writes c.fetch.ensures.touches c.fetch.ensures.tables
+
+pub returns-clause-passes : goal.returns-clause-passes
+returns-clause-passes g c = passes_of c.args.b.0 (g.M.Machine.contents c.args.self.now.machine) (g.M.Machine.contents c.fetch.new.self.machine) (g.M.Machine.run c.args.self.now.machine) (g.M.Machine.run c.fetch.new.self.machine) c.args.self.now.tables c.fetch.new.self.tables c.fetch.ensures.keeps c.fetch.ensures.lasts c.fetch.ensures.ends.steps c.fetch.ensures.writes c.fetch.ensures.touches c.fetch.ensures.tables

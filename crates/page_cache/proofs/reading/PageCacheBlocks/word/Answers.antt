@@ -1,0 +1,23 @@
+use Rattle.std.proofs.Common.{◌≡◌, ◌∙◌, arith, subst}
+use Rattle.rio_model.specs.Cover.{reads}
+use Rattle.rio_model.specs.CoverLookups.{found_is}
+use Rattle.page_cache.proofs.Rooms.{word_read}
+use Rattle.page_cache.proofs.Stills.{passes_of}
+use Rattle.page_cache.proofs.reading.PageCacheBlocks.word.Goals as goal
+
+pub page_of-page-requires-clause-entry : goal.page_of-page-requires-clause-entry
+page_of-page-requires-clause-entry g c = (found_is _ _ _ c.in_ok-k.ensures.found).0.within
+
+pub returns-clause-value : goal.returns-clause-value
+returns-clause-value g c =
+    let small = c.requires.place.word in
+    let same : c.from.result ≡ c.args.w = omega (arith, c.from.ensures) in
+    let old = g.M.Machine.contents c.args.self.now.machine in
+    subst (λ x. c.load.result ≡ reads old c.args.b.0 x) same
+    (c.load.ensures.protected (omega (arith, c.page_of-page.ensures.within, small, same)) ∙ word_read c.in_ok-k.k c.args.b.0 c.from.result c.page_of-page.result.0 old (g.M.Machine.contents c.fetch.new.self.machine) c.fetch.ensures.keeps c.in_ok-k.ensures.found (omega (arith, small, same)) c.page_of-page.ensures.page)
+
+pub returns-in_err-k-clause-passes : goal.returns-in_err-k-clause-passes
+returns-in_err-k-clause-passes g c = passes_of c.args.b.0 (g.M.Machine.contents c.args.self.now.machine) (g.M.Machine.contents c.fetch.new.self.machine) (g.M.Machine.run c.args.self.now.machine) (g.M.Machine.run c.fetch.new.self.machine) c.args.self.now.tables c.fetch.new.self.tables c.fetch.ensures.keeps c.fetch.ensures.lasts c.fetch.ensures.ends.steps c.fetch.ensures.writes c.fetch.ensures.touches c.fetch.ensures.tables
+
+pub returns-clause-passes : goal.returns-clause-passes
+returns-clause-passes g c = passes_of c.args.b.0 (g.M.Machine.contents c.args.self.now.machine) (g.M.Machine.contents c.fetch.new.self.machine) (g.M.Machine.run c.args.self.now.machine) (g.M.Machine.run c.fetch.new.self.machine) c.args.self.now.tables c.fetch.new.self.tables c.fetch.ensures.keeps c.fetch.ensures.lasts c.fetch.ensures.ends.steps c.fetch.ensures.writes c.fetch.ensures.touches c.fetch.ensures.tables

@@ -1,0 +1,14 @@
+use Rattle.std.proofs.Common.{◌≡◌, ℕ, true}
+use Rattle.frame_pool.specs.Pools.{is_pinned}
+use Rattle.page_cache.specs.Caches.{SameTables}
+use Rattle.page_cache.specs.Updating.{SameButPins}
+use Rattle.page_cache.proofs.Pins.{ListedFrom}
+use Rattle.page_cache.proofs.updating.unpin_all.Given as goal
+
+-- the first i of the listed frames are unpinned
+abbrev pub invariant-loop-i : goal.invariant-loop-i
+invariant-loop-i l = record {
+  rest : SameButPins l.initial.t l.t;
+  list : SameTables l.initial.t l.t;
+  left : (k : ℕ) → is_pinned l.t.pool k ≡ true → ListedFrom l.initial.t l.i k;
+}

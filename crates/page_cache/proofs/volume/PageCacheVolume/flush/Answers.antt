@@ -1,0 +1,17 @@
+use Rattle.page_cache.proofs.Flushes.{flushed_sound, shut_by}
+use Rattle.page_cache.proofs.volume.PageCacheVolume.flush.Goals as goal
+
+pub flush-requires-clause-coherent : goal.flush-requires-clause-coherent
+flush-requires-clause-coherent g c = c.requires.sound.coherent
+
+pub flush-requires-clause-closed : goal.flush-requires-clause-closed
+flush-requires-clause-closed g c = c.requires.sound.closed
+
+pub flush-requires-clause-shut : goal.flush-requires-clause-shut
+flush-requires-clause-shut g c = shut_by _ c.requires.idle
+
+pub returns-in_err-j-clause-sound : goal.returns-in_err-j-clause-sound
+returns-in_err-j-clause-sound g c = flushed_sound _ _ (g.M.Machine.contents c.args.self.now.machine) (g.M.Machine.contents c.flush.new.m) _ c.requires.sound (shut_by _ c.requires.idle) c.flush.ensures.keeps c.flush.ensures.lasts c.flush.ensures.ends.steps.scratch_count c.flush.ensures.closed c.flush.ensures.held
+
+pub returns-clause-sound : goal.returns-clause-sound
+returns-clause-sound g c = flushed_sound _ _ (g.M.Machine.contents c.args.self.now.machine) (g.M.Machine.contents c.flush.new.m) _ c.requires.sound (shut_by _ c.requires.idle) c.flush.ensures.keeps c.flush.ensures.lasts c.flush.ensures.ends.steps.scratch_count c.flush.ensures.closed c.flush.ensures.held

@@ -1,0 +1,84 @@
+use Rattle.std.proofs.Common.{◌∙◌, ap, inl, inr, IsErrOf, arith}
+use Rattle.rio_base.specs.Machine.{StepEnds}
+use Rattle.rio_base.specs.MachineRules.{ends_after, lasts_trans, steps_trans}
+use Rattle.rio_base.specs.declared.failures.VolFail.TheVariants.{Stopped}
+use Rattle.page_cache.specs.declared.tables.CacheTables.{CacheTables}
+use Rattle.page_cache.proofs.Stores.{ends_ok}
+use Rattle.page_cache.proofs.StoreCalls.{few_then, named_put, stored_put}
+use Rattle.page_cache.proofs.Settling.{ends_of, keeps_to, put_then, same_put, settles, settles_kept}
+use Rattle.page_cache.proofs.volume.PageCacheVolume.store.Goals as goal
+
+pub returns-in_err-k-clause-either : goal.returns-in_err-k-clause-either
+returns-in_err-k-clause-either g c = inl c.ready.ensures.keeps.reads
+
+pub returns-in_err-k-clause-standing : goal.returns-in_err-k-clause-standing
+returns-in_err-k-clause-standing g c = (settles_kept c.args.b.0 (g.M.Machine.contents c.args.self.now.machine) (g.M.Machine.contents c.ready.new.self.machine) (g.M.Machine.run c.args.self.now.machine) (g.M.Machine.run c.ready.new.self.machine) c.args.self.now.tables c.ready.new.self.tables c.requires.idle c.ready.ensures.keeps c.ready.ensures.tables.forgotten c.ready.ensures.lasts c.ready.ensures.ends.steps c.ready.ensures.writes).standing
+
+pub returns-in_err-k-clause-firm : goal.returns-in_err-k-clause-firm
+returns-in_err-k-clause-firm g c = (settles_kept c.args.b.0 (g.M.Machine.contents c.args.self.now.machine) (g.M.Machine.contents c.ready.new.self.machine) (g.M.Machine.run c.args.self.now.machine) (g.M.Machine.run c.ready.new.self.machine) c.args.self.now.tables c.ready.new.self.tables c.requires.idle c.ready.ensures.keeps c.ready.ensures.tables.forgotten c.ready.ensures.lasts c.ready.ensures.ends.steps c.ready.ensures.writes).firm
+
+pub returns-in_err-k-clause-idle : goal.returns-in_err-k-clause-idle
+returns-in_err-k-clause-idle g c = (settles_kept c.args.b.0 (g.M.Machine.contents c.args.self.now.machine) (g.M.Machine.contents c.ready.new.self.machine) (g.M.Machine.run c.args.self.now.machine) (g.M.Machine.run c.ready.new.self.machine) c.args.self.now.tables c.ready.new.self.tables c.requires.idle c.ready.ensures.keeps c.ready.ensures.tables.forgotten c.ready.ensures.lasts c.ready.ensures.ends.steps c.ready.ensures.writes).idle
+
+pub returns-in_err-k-clause-goes : goal.returns-in_err-k-clause-goes
+returns-in_err-k-clause-goes g c = (settles_kept c.args.b.0 (g.M.Machine.contents c.args.self.now.machine) (g.M.Machine.contents c.ready.new.self.machine) (g.M.Machine.run c.args.self.now.machine) (g.M.Machine.run c.ready.new.self.machine) c.args.self.now.tables c.ready.new.self.tables c.requires.idle c.ready.ensures.keeps c.ready.ensures.tables.forgotten c.ready.ensures.lasts c.ready.ensures.ends.steps c.ready.ensures.writes).goes
+
+pub returns-in_err-k-clause-count : goal.returns-in_err-k-clause-count
+returns-in_err-k-clause-count g c = c.ready.ensures.lasts.blocks
+
+pub returns-in_err-put_frame-clause-either : goal.returns-in_err-put_frame-clause-either
+returns-in_err-put_frame-clause-either g c = inl (keeps_to (g.M.Machine.contents c.args.self.now.machine) (g.M.Machine.contents c.ready.new.self.machine) (g.M.Machine.contents c.put_frame.new.self.machine) c.ready.ensures.keeps c.in_err-put_frame.ensures.same).reads
+
+pub returns-in_err-put_frame-clause-standing : goal.returns-in_err-put_frame-clause-standing
+returns-in_err-put_frame-clause-standing g c = (settles_kept c.args.b.0 (g.M.Machine.contents c.args.self.now.machine) (g.M.Machine.contents c.put_frame.new.self.machine) (g.M.Machine.run c.args.self.now.machine) (g.M.Machine.run c.put_frame.new.self.machine) c.args.self.now.tables c.put_frame.new.self.tables c.requires.idle (keeps_to (g.M.Machine.contents c.args.self.now.machine) (g.M.Machine.contents c.ready.new.self.machine) (g.M.Machine.contents c.put_frame.new.self.machine) c.ready.ensures.keeps c.in_err-put_frame.ensures.same) (ap (λ (t : CacheTables). t.forgotten) c.put_frame.ensures.tables ∙ c.ready.ensures.tables.forgotten) (lasts_trans (g.M.Machine.contents c.args.self.now.machine) (g.M.Machine.contents c.ready.new.self.machine) (g.M.Machine.contents c.put_frame.new.self.machine) c.ready.ensures.lasts c.put_frame.ensures.lasts) (steps_trans _ _ _ c.ready.ensures.ends.steps c.put_frame.ensures.ends.steps) (few_then c.args.b.0 (g.M.Machine.contents c.args.self.now.machine) (g.M.Machine.contents c.ready.new.self.machine) (g.M.Machine.contents c.put_frame.new.self.machine) c.ready.ensures.writes c.put_frame.ensures.still)).standing
+
+pub returns-in_err-put_frame-clause-firm : goal.returns-in_err-put_frame-clause-firm
+returns-in_err-put_frame-clause-firm g c = (settles_kept c.args.b.0 (g.M.Machine.contents c.args.self.now.machine) (g.M.Machine.contents c.put_frame.new.self.machine) (g.M.Machine.run c.args.self.now.machine) (g.M.Machine.run c.put_frame.new.self.machine) c.args.self.now.tables c.put_frame.new.self.tables c.requires.idle (keeps_to (g.M.Machine.contents c.args.self.now.machine) (g.M.Machine.contents c.ready.new.self.machine) (g.M.Machine.contents c.put_frame.new.self.machine) c.ready.ensures.keeps c.in_err-put_frame.ensures.same) (ap (λ (t : CacheTables). t.forgotten) c.put_frame.ensures.tables ∙ c.ready.ensures.tables.forgotten) (lasts_trans (g.M.Machine.contents c.args.self.now.machine) (g.M.Machine.contents c.ready.new.self.machine) (g.M.Machine.contents c.put_frame.new.self.machine) c.ready.ensures.lasts c.put_frame.ensures.lasts) (steps_trans _ _ _ c.ready.ensures.ends.steps c.put_frame.ensures.ends.steps) (few_then c.args.b.0 (g.M.Machine.contents c.args.self.now.machine) (g.M.Machine.contents c.ready.new.self.machine) (g.M.Machine.contents c.put_frame.new.self.machine) c.ready.ensures.writes c.put_frame.ensures.still)).firm
+
+pub returns-in_err-put_frame-clause-idle : goal.returns-in_err-put_frame-clause-idle
+returns-in_err-put_frame-clause-idle g c = (settles_kept c.args.b.0 (g.M.Machine.contents c.args.self.now.machine) (g.M.Machine.contents c.put_frame.new.self.machine) (g.M.Machine.run c.args.self.now.machine) (g.M.Machine.run c.put_frame.new.self.machine) c.args.self.now.tables c.put_frame.new.self.tables c.requires.idle (keeps_to (g.M.Machine.contents c.args.self.now.machine) (g.M.Machine.contents c.ready.new.self.machine) (g.M.Machine.contents c.put_frame.new.self.machine) c.ready.ensures.keeps c.in_err-put_frame.ensures.same) (ap (λ (t : CacheTables). t.forgotten) c.put_frame.ensures.tables ∙ c.ready.ensures.tables.forgotten) (lasts_trans (g.M.Machine.contents c.args.self.now.machine) (g.M.Machine.contents c.ready.new.self.machine) (g.M.Machine.contents c.put_frame.new.self.machine) c.ready.ensures.lasts c.put_frame.ensures.lasts) (steps_trans _ _ _ c.ready.ensures.ends.steps c.put_frame.ensures.ends.steps) (few_then c.args.b.0 (g.M.Machine.contents c.args.self.now.machine) (g.M.Machine.contents c.ready.new.self.machine) (g.M.Machine.contents c.put_frame.new.self.machine) c.ready.ensures.writes c.put_frame.ensures.still)).idle
+
+pub returns-in_err-put_frame-clause-goes : goal.returns-in_err-put_frame-clause-goes
+returns-in_err-put_frame-clause-goes g c = (settles_kept c.args.b.0 (g.M.Machine.contents c.args.self.now.machine) (g.M.Machine.contents c.put_frame.new.self.machine) (g.M.Machine.run c.args.self.now.machine) (g.M.Machine.run c.put_frame.new.self.machine) c.args.self.now.tables c.put_frame.new.self.tables c.requires.idle (keeps_to (g.M.Machine.contents c.args.self.now.machine) (g.M.Machine.contents c.ready.new.self.machine) (g.M.Machine.contents c.put_frame.new.self.machine) c.ready.ensures.keeps c.in_err-put_frame.ensures.same) (ap (λ (t : CacheTables). t.forgotten) c.put_frame.ensures.tables ∙ c.ready.ensures.tables.forgotten) (lasts_trans (g.M.Machine.contents c.args.self.now.machine) (g.M.Machine.contents c.ready.new.self.machine) (g.M.Machine.contents c.put_frame.new.self.machine) c.ready.ensures.lasts c.put_frame.ensures.lasts) (steps_trans _ _ _ c.ready.ensures.ends.steps c.put_frame.ensures.ends.steps) (few_then c.args.b.0 (g.M.Machine.contents c.args.self.now.machine) (g.M.Machine.contents c.ready.new.self.machine) (g.M.Machine.contents c.put_frame.new.self.machine) c.ready.ensures.writes c.put_frame.ensures.still)).goes
+
+pub returns-in_err-put_frame-clause-count : goal.returns-in_err-put_frame-clause-count
+returns-in_err-put_frame-clause-count g c = c.put_frame.ensures.lasts.blocks ∙ c.ready.ensures.lasts.blocks
+
+pub returns-in_err-put_frame-clause-caches : goal.returns-in_err-put_frame-clause-caches
+returns-in_err-put_frame-clause-caches g c = stored_put c.args.b.0 c.args.name (g.M.Machine.contents c.args.self.now.machine) (g.M.Machine.contents c.ready.new.self.machine) (g.M.Machine.contents c.put_frame.new.self.machine) c.ready.ensures.caches c.put_frame.ensures.cached
+
+pub returns-in_err-put_frame-clause-writes : goal.returns-in_err-put_frame-clause-writes
+returns-in_err-put_frame-clause-writes g c = few_then c.args.b.0 (g.M.Machine.contents c.args.self.now.machine) (g.M.Machine.contents c.ready.new.self.machine) (g.M.Machine.contents c.put_frame.new.self.machine) c.ready.ensures.writes c.put_frame.ensures.still
+
+pub returns-clause-ok : goal.returns-clause-ok
+returns-clause-ok g c = (put_then c.args.b.0 c.args.w c.args.v (g.M.Machine.contents c.args.self.now.machine) (g.M.Machine.contents c.ready.new.self.machine) (g.M.Machine.contents c.put_frame.new.self.machine) c.ready.ensures.keeps c.in_ok-put_frame.ensures.rewrites).reading
+
+pub returns-clause-either : goal.returns-clause-either
+returns-clause-either g c = inr (put_then c.args.b.0 c.args.w c.args.v (g.M.Machine.contents c.args.self.now.machine) (g.M.Machine.contents c.ready.new.self.machine) (g.M.Machine.contents c.put_frame.new.self.machine) c.ready.ensures.keeps c.in_ok-put_frame.ensures.rewrites).reading
+
+pub returns-clause-standing : goal.returns-clause-standing
+returns-clause-standing g c = (settles c.args.b.0 _ (g.M.Machine.contents c.args.self.now.machine) (g.M.Machine.contents c.put_frame.new.self.machine) (g.M.Machine.run c.args.self.now.machine) (g.M.Machine.run c.put_frame.new.self.machine) c.args.self.now.tables c.put_frame.new.self.tables c.requires.idle (put_then c.args.b.0 c.args.w c.args.v (g.M.Machine.contents c.args.self.now.machine) (g.M.Machine.contents c.ready.new.self.machine) (g.M.Machine.contents c.put_frame.new.self.machine) c.ready.ensures.keeps c.in_ok-put_frame.ensures.rewrites) (same_put c.args.b.0 c.args.w c.args.v _) (ap (λ (t : CacheTables). t.forgotten) c.put_frame.ensures.tables ∙ c.ready.ensures.tables.forgotten) (lasts_trans (g.M.Machine.contents c.args.self.now.machine) (g.M.Machine.contents c.ready.new.self.machine) (g.M.Machine.contents c.put_frame.new.self.machine) c.ready.ensures.lasts c.put_frame.ensures.lasts) (steps_trans _ _ _ c.ready.ensures.ends.steps c.put_frame.ensures.ends.steps) (few_then c.args.b.0 (g.M.Machine.contents c.args.self.now.machine) (g.M.Machine.contents c.ready.new.self.machine) (g.M.Machine.contents c.put_frame.new.self.machine) c.ready.ensures.writes c.put_frame.ensures.still)).standing
+
+pub returns-clause-firm : goal.returns-clause-firm
+returns-clause-firm g c = (settles c.args.b.0 _ (g.M.Machine.contents c.args.self.now.machine) (g.M.Machine.contents c.put_frame.new.self.machine) (g.M.Machine.run c.args.self.now.machine) (g.M.Machine.run c.put_frame.new.self.machine) c.args.self.now.tables c.put_frame.new.self.tables c.requires.idle (put_then c.args.b.0 c.args.w c.args.v (g.M.Machine.contents c.args.self.now.machine) (g.M.Machine.contents c.ready.new.self.machine) (g.M.Machine.contents c.put_frame.new.self.machine) c.ready.ensures.keeps c.in_ok-put_frame.ensures.rewrites) (same_put c.args.b.0 c.args.w c.args.v _) (ap (λ (t : CacheTables). t.forgotten) c.put_frame.ensures.tables ∙ c.ready.ensures.tables.forgotten) (lasts_trans (g.M.Machine.contents c.args.self.now.machine) (g.M.Machine.contents c.ready.new.self.machine) (g.M.Machine.contents c.put_frame.new.self.machine) c.ready.ensures.lasts c.put_frame.ensures.lasts) (steps_trans _ _ _ c.ready.ensures.ends.steps c.put_frame.ensures.ends.steps) (few_then c.args.b.0 (g.M.Machine.contents c.args.self.now.machine) (g.M.Machine.contents c.ready.new.self.machine) (g.M.Machine.contents c.put_frame.new.self.machine) c.ready.ensures.writes c.put_frame.ensures.still)).firm
+
+pub returns-clause-idle : goal.returns-clause-idle
+returns-clause-idle g c = (settles c.args.b.0 _ (g.M.Machine.contents c.args.self.now.machine) (g.M.Machine.contents c.put_frame.new.self.machine) (g.M.Machine.run c.args.self.now.machine) (g.M.Machine.run c.put_frame.new.self.machine) c.args.self.now.tables c.put_frame.new.self.tables c.requires.idle (put_then c.args.b.0 c.args.w c.args.v (g.M.Machine.contents c.args.self.now.machine) (g.M.Machine.contents c.ready.new.self.machine) (g.M.Machine.contents c.put_frame.new.self.machine) c.ready.ensures.keeps c.in_ok-put_frame.ensures.rewrites) (same_put c.args.b.0 c.args.w c.args.v _) (ap (λ (t : CacheTables). t.forgotten) c.put_frame.ensures.tables ∙ c.ready.ensures.tables.forgotten) (lasts_trans (g.M.Machine.contents c.args.self.now.machine) (g.M.Machine.contents c.ready.new.self.machine) (g.M.Machine.contents c.put_frame.new.self.machine) c.ready.ensures.lasts c.put_frame.ensures.lasts) (steps_trans _ _ _ c.ready.ensures.ends.steps c.put_frame.ensures.ends.steps) (few_then c.args.b.0 (g.M.Machine.contents c.args.self.now.machine) (g.M.Machine.contents c.ready.new.self.machine) (g.M.Machine.contents c.put_frame.new.self.machine) c.ready.ensures.writes c.put_frame.ensures.still)).idle
+
+pub returns-clause-goes : goal.returns-clause-goes
+returns-clause-goes g c = (settles c.args.b.0 _ (g.M.Machine.contents c.args.self.now.machine) (g.M.Machine.contents c.put_frame.new.self.machine) (g.M.Machine.run c.args.self.now.machine) (g.M.Machine.run c.put_frame.new.self.machine) c.args.self.now.tables c.put_frame.new.self.tables c.requires.idle (put_then c.args.b.0 c.args.w c.args.v (g.M.Machine.contents c.args.self.now.machine) (g.M.Machine.contents c.ready.new.self.machine) (g.M.Machine.contents c.put_frame.new.self.machine) c.ready.ensures.keeps c.in_ok-put_frame.ensures.rewrites) (same_put c.args.b.0 c.args.w c.args.v _) (ap (λ (t : CacheTables). t.forgotten) c.put_frame.ensures.tables ∙ c.ready.ensures.tables.forgotten) (lasts_trans (g.M.Machine.contents c.args.self.now.machine) (g.M.Machine.contents c.ready.new.self.machine) (g.M.Machine.contents c.put_frame.new.self.machine) c.ready.ensures.lasts c.put_frame.ensures.lasts) (steps_trans _ _ _ c.ready.ensures.ends.steps c.put_frame.ensures.ends.steps) (few_then c.args.b.0 (g.M.Machine.contents c.args.self.now.machine) (g.M.Machine.contents c.ready.new.self.machine) (g.M.Machine.contents c.put_frame.new.self.machine) c.ready.ensures.writes c.put_frame.ensures.still)).goes
+
+pub returns-clause-count : goal.returns-clause-count
+returns-clause-count g c = c.put_frame.ensures.lasts.blocks ∙ c.ready.ensures.lasts.blocks
+
+pub returns-clause-caches : goal.returns-clause-caches
+returns-clause-caches g c = stored_put c.args.b.0 c.args.name (g.M.Machine.contents c.args.self.now.machine) (g.M.Machine.contents c.ready.new.self.machine) (g.M.Machine.contents c.put_frame.new.self.machine) c.ready.ensures.caches c.put_frame.ensures.cached
+
+pub returns-clause-named : goal.returns-clause-named
+returns-clause-named g c = λ q. named_put c.args.b.0 c.args.name _ _ (g.M.Machine.contents c.ready.new.self.machine) (g.M.Machine.contents c.put_frame.new.self.machine) c.put_frame.ensures.cached c.in_ok-k.ensures.named
+
+pub returns-clause-ends : goal.returns-clause-ends
+returns-clause-ends g c = ends_of _ _ _ _ _ (lasts_trans (g.M.Machine.contents c.args.self.now.machine) (g.M.Machine.contents c.ready.new.self.machine) (g.M.Machine.contents c.put_frame.new.self.machine) c.ready.ensures.lasts c.put_frame.ensures.lasts) (λ q. cc) (ends_ok _ _ _ _ _ _ (λ q. cc) (λ q. cc) (λ q. cc) c.in_ok-k.ensures.ends c.in_ok-put_frame.ensures.ends)
+
+pub returns-clause-writes : goal.returns-clause-writes
+returns-clause-writes g c = few_then c.args.b.0 (g.M.Machine.contents c.args.self.now.machine) (g.M.Machine.contents c.ready.new.self.machine) (g.M.Machine.contents c.put_frame.new.self.machine) c.ready.ensures.writes c.put_frame.ensures.still

@@ -1,0 +1,69 @@
+use Rattle.std.proofs.Common.{◌∙◌, ap, arith, length, sym, refl}
+use Rattle.rio_base.specs.MachineRules.{lasts_trans, steps_trans}
+use Rattle.page_cache.specs.declared.tables.CacheTables.{CacheTables}
+use Rattle.page_cache.proofs.StoreCalls.{few_then, stored_put}
+use Rattle.page_cache.proofs.Settling.{run_front, run_then, same_run, settles, settles_kept}
+use Rattle.page_cache.proofs.volume.PageCacheVolume.store_run.Goals as goal
+
+pub returns-in-Err-Fault-clause-front : goal.returns-in-Err-Fault-clause-front
+returns-in-Err-Fault-clause-front g c = run_front c.args.b.0 c.args.w (length c.args.from.now) c.args.from.now (g.M.Machine.contents c.args.self.now.machine) (g.M.Machine.contents c.ready.new.self.machine) c.ready.ensures.keeps
+
+pub returns-in-Err-Fault-clause-standing : goal.returns-in-Err-Fault-clause-standing
+returns-in-Err-Fault-clause-standing g c = (settles_kept c.args.b.0 (g.M.Machine.contents c.args.self.now.machine) (g.M.Machine.contents c.ready.new.self.machine) (g.M.Machine.run c.args.self.now.machine) (g.M.Machine.run c.ready.new.self.machine) c.args.self.now.tables c.ready.new.self.tables c.requires.idle c.ready.ensures.keeps c.ready.ensures.tables.forgotten c.ready.ensures.lasts c.ready.ensures.ends.steps c.ready.ensures.writes).standing
+
+pub returns-in-Err-Fault-clause-firm : goal.returns-in-Err-Fault-clause-firm
+returns-in-Err-Fault-clause-firm g c = (settles_kept c.args.b.0 (g.M.Machine.contents c.args.self.now.machine) (g.M.Machine.contents c.ready.new.self.machine) (g.M.Machine.run c.args.self.now.machine) (g.M.Machine.run c.ready.new.self.machine) c.args.self.now.tables c.ready.new.self.tables c.requires.idle c.ready.ensures.keeps c.ready.ensures.tables.forgotten c.ready.ensures.lasts c.ready.ensures.ends.steps c.ready.ensures.writes).firm
+
+pub returns-in-Err-Fault-clause-goes : goal.returns-in-Err-Fault-clause-goes
+returns-in-Err-Fault-clause-goes g c = (settles_kept c.args.b.0 (g.M.Machine.contents c.args.self.now.machine) (g.M.Machine.contents c.ready.new.self.machine) (g.M.Machine.run c.args.self.now.machine) (g.M.Machine.run c.ready.new.self.machine) c.args.self.now.tables c.ready.new.self.tables c.requires.idle c.ready.ensures.keeps c.ready.ensures.tables.forgotten c.ready.ensures.lasts c.ready.ensures.ends.steps c.ready.ensures.writes).goes
+
+pub returns-in-Err-Stopped-clause-front : goal.returns-in-Err-Stopped-clause-front
+returns-in-Err-Stopped-clause-front g c = run_front c.args.b.0 c.args.w (length c.args.from.now) c.args.from.now (g.M.Machine.contents c.args.self.now.machine) (g.M.Machine.contents c.ready.new.self.machine) c.ready.ensures.keeps
+
+pub returns-in-Err-Stopped-clause-standing : goal.returns-in-Err-Stopped-clause-standing
+returns-in-Err-Stopped-clause-standing g c = (settles_kept c.args.b.0 (g.M.Machine.contents c.args.self.now.machine) (g.M.Machine.contents c.ready.new.self.machine) (g.M.Machine.run c.args.self.now.machine) (g.M.Machine.run c.ready.new.self.machine) c.args.self.now.tables c.ready.new.self.tables c.requires.idle c.ready.ensures.keeps c.ready.ensures.tables.forgotten c.ready.ensures.lasts c.ready.ensures.ends.steps c.ready.ensures.writes).standing
+
+pub returns-in-Err-Stopped-clause-firm : goal.returns-in-Err-Stopped-clause-firm
+returns-in-Err-Stopped-clause-firm g c = (settles_kept c.args.b.0 (g.M.Machine.contents c.args.self.now.machine) (g.M.Machine.contents c.ready.new.self.machine) (g.M.Machine.run c.args.self.now.machine) (g.M.Machine.run c.ready.new.self.machine) c.args.self.now.tables c.ready.new.self.tables c.requires.idle c.ready.ensures.keeps c.ready.ensures.tables.forgotten c.ready.ensures.lasts c.ready.ensures.ends.steps c.ready.ensures.writes).firm
+
+pub returns-in-Err-Stopped-clause-goes : goal.returns-in-Err-Stopped-clause-goes
+returns-in-Err-Stopped-clause-goes g c = (settles_kept c.args.b.0 (g.M.Machine.contents c.args.self.now.machine) (g.M.Machine.contents c.ready.new.self.machine) (g.M.Machine.run c.args.self.now.machine) (g.M.Machine.run c.ready.new.self.machine) c.args.self.now.tables c.ready.new.self.tables c.requires.idle c.ready.ensures.keeps c.ready.ensures.tables.forgotten c.ready.ensures.lasts c.ready.ensures.ends.steps c.ready.ensures.writes).goes
+
+pub returns-in-Ok-put_frame_run-clause-standing : goal.returns-in-Ok-put_frame_run-clause-standing
+returns-in-Ok-put_frame_run-clause-standing g c = (settles c.args.b.0 _ (g.M.Machine.contents c.args.self.now.machine) (g.M.Machine.contents c.put_frame_run.new.self.machine) (g.M.Machine.run c.args.self.now.machine) (g.M.Machine.run c.put_frame_run.new.self.machine) c.args.self.now.tables c.put_frame_run.new.self.tables c.requires.idle (run_then c.args.b.0 c.args.w (length c.args.from.now) c.args.from.now (g.M.Machine.contents c.args.self.now.machine) (g.M.Machine.contents c.ready.new.self.machine) (g.M.Machine.contents c.put_frame_run.new.self.machine) c.ready.ensures.keeps c.in-Ok-put_frame_run.ensures.rewrites) (same_run c.args.b.0 c.args.w (length c.args.from.now) c.args.from.now _) (ap (λ (t : CacheTables). t.forgotten) c.put_frame_run.ensures.tables ∙ c.ready.ensures.tables.forgotten) (lasts_trans (g.M.Machine.contents c.args.self.now.machine) (g.M.Machine.contents c.ready.new.self.machine) (g.M.Machine.contents c.put_frame_run.new.self.machine) c.ready.ensures.lasts c.put_frame_run.ensures.lasts) (steps_trans _ _ _ c.ready.ensures.ends.steps c.put_frame_run.ensures.ends.steps) (few_then c.args.b.0 (g.M.Machine.contents c.args.self.now.machine) (g.M.Machine.contents c.ready.new.self.machine) (g.M.Machine.contents c.put_frame_run.new.self.machine) c.ready.ensures.writes c.put_frame_run.ensures.still)).standing
+
+pub returns-in-Ok-put_frame_run-clause-firm : goal.returns-in-Ok-put_frame_run-clause-firm
+returns-in-Ok-put_frame_run-clause-firm g c = (settles c.args.b.0 _ (g.M.Machine.contents c.args.self.now.machine) (g.M.Machine.contents c.put_frame_run.new.self.machine) (g.M.Machine.run c.args.self.now.machine) (g.M.Machine.run c.put_frame_run.new.self.machine) c.args.self.now.tables c.put_frame_run.new.self.tables c.requires.idle (run_then c.args.b.0 c.args.w (length c.args.from.now) c.args.from.now (g.M.Machine.contents c.args.self.now.machine) (g.M.Machine.contents c.ready.new.self.machine) (g.M.Machine.contents c.put_frame_run.new.self.machine) c.ready.ensures.keeps c.in-Ok-put_frame_run.ensures.rewrites) (same_run c.args.b.0 c.args.w (length c.args.from.now) c.args.from.now _) (ap (λ (t : CacheTables). t.forgotten) c.put_frame_run.ensures.tables ∙ c.ready.ensures.tables.forgotten) (lasts_trans (g.M.Machine.contents c.args.self.now.machine) (g.M.Machine.contents c.ready.new.self.machine) (g.M.Machine.contents c.put_frame_run.new.self.machine) c.ready.ensures.lasts c.put_frame_run.ensures.lasts) (steps_trans _ _ _ c.ready.ensures.ends.steps c.put_frame_run.ensures.ends.steps) (few_then c.args.b.0 (g.M.Machine.contents c.args.self.now.machine) (g.M.Machine.contents c.ready.new.self.machine) (g.M.Machine.contents c.put_frame_run.new.self.machine) c.ready.ensures.writes c.put_frame_run.ensures.still)).firm
+
+pub returns-in-Ok-put_frame_run-clause-goes : goal.returns-in-Ok-put_frame_run-clause-goes
+returns-in-Ok-put_frame_run-clause-goes g c = (settles c.args.b.0 _ (g.M.Machine.contents c.args.self.now.machine) (g.M.Machine.contents c.put_frame_run.new.self.machine) (g.M.Machine.run c.args.self.now.machine) (g.M.Machine.run c.put_frame_run.new.self.machine) c.args.self.now.tables c.put_frame_run.new.self.tables c.requires.idle (run_then c.args.b.0 c.args.w (length c.args.from.now) c.args.from.now (g.M.Machine.contents c.args.self.now.machine) (g.M.Machine.contents c.ready.new.self.machine) (g.M.Machine.contents c.put_frame_run.new.self.machine) c.ready.ensures.keeps c.in-Ok-put_frame_run.ensures.rewrites) (same_run c.args.b.0 c.args.w (length c.args.from.now) c.args.from.now _) (ap (λ (t : CacheTables). t.forgotten) c.put_frame_run.ensures.tables ∙ c.ready.ensures.tables.forgotten) (lasts_trans (g.M.Machine.contents c.args.self.now.machine) (g.M.Machine.contents c.ready.new.self.machine) (g.M.Machine.contents c.put_frame_run.new.self.machine) c.ready.ensures.lasts c.put_frame_run.ensures.lasts) (steps_trans _ _ _ c.ready.ensures.ends.steps c.put_frame_run.ensures.ends.steps) (few_then c.args.b.0 (g.M.Machine.contents c.args.self.now.machine) (g.M.Machine.contents c.ready.new.self.machine) (g.M.Machine.contents c.put_frame_run.new.self.machine) c.ready.ensures.writes c.put_frame_run.ensures.still)).goes
+
+pub returns-in-Ok-put_frame_run-clause-caches : goal.returns-in-Ok-put_frame_run-clause-caches
+returns-in-Ok-put_frame_run-clause-caches g c = stored_put c.args.b.0 c.args.name (g.M.Machine.contents c.args.self.now.machine) (g.M.Machine.contents c.ready.new.self.machine) (g.M.Machine.contents c.put_frame_run.new.self.machine) c.ready.ensures.caches c.put_frame_run.ensures.cached
+
+pub returns-in-Ok-put_frame_run-clause-writes : goal.returns-in-Ok-put_frame_run-clause-writes
+returns-in-Ok-put_frame_run-clause-writes g c = few_then c.args.b.0 (g.M.Machine.contents c.args.self.now.machine) (g.M.Machine.contents c.ready.new.self.machine) (g.M.Machine.contents c.put_frame_run.new.self.machine) c.ready.ensures.writes c.put_frame_run.ensures.still
+
+pub returns-in-Ok-put_frame_run-clause-front : goal.returns-in-Ok-put_frame_run-clause-front
+returns-in-Ok-put_frame_run-clause-front g c = ((length c.args.from.now), omega arith, (run_then c.args.b.0 c.args.w (length c.args.from.now) c.args.from.now (g.M.Machine.contents c.args.self.now.machine) (g.M.Machine.contents c.ready.new.self.machine) (g.M.Machine.contents c.put_frame_run.new.self.machine) c.ready.ensures.keeps c.in-Ok-put_frame_run.ensures.rewrites).reading)
+
+pub returns-in-Ok-put_frame_run-clause-ok : goal.returns-in-Ok-put_frame_run-clause-ok
+returns-in-Ok-put_frame_run-clause-ok g c = (run_then c.args.b.0 c.args.w (length c.args.from.now) c.args.from.now (g.M.Machine.contents c.args.self.now.machine) (g.M.Machine.contents c.ready.new.self.machine) (g.M.Machine.contents c.put_frame_run.new.self.machine) c.ready.ensures.keeps c.in-Ok-put_frame_run.ensures.rewrites).reading
+
+pub returns-in-Err-clause-standing : goal.returns-in-Err-clause-standing
+returns-in-Err-clause-standing g c = (settles c.args.b.0 _ (g.M.Machine.contents c.args.self.now.machine) (g.M.Machine.contents c.put_frame_run.new.self.machine) (g.M.Machine.run c.args.self.now.machine) (g.M.Machine.run c.put_frame_run.new.self.machine) c.args.self.now.tables c.put_frame_run.new.self.tables c.requires.idle (run_then c.args.b.0 c.args.w c.in-Err.ensures.front.0 c.args.from.now (g.M.Machine.contents c.args.self.now.machine) (g.M.Machine.contents c.ready.new.self.machine) (g.M.Machine.contents c.put_frame_run.new.self.machine) c.ready.ensures.keeps c.in-Err.ensures.front.2) (same_run c.args.b.0 c.args.w c.in-Err.ensures.front.0 c.args.from.now _) (ap (λ (t : CacheTables). t.forgotten) c.put_frame_run.ensures.tables ∙ c.ready.ensures.tables.forgotten) (lasts_trans (g.M.Machine.contents c.args.self.now.machine) (g.M.Machine.contents c.ready.new.self.machine) (g.M.Machine.contents c.put_frame_run.new.self.machine) c.ready.ensures.lasts c.put_frame_run.ensures.lasts) (steps_trans _ _ _ c.ready.ensures.ends.steps c.put_frame_run.ensures.ends.steps) (few_then c.args.b.0 (g.M.Machine.contents c.args.self.now.machine) (g.M.Machine.contents c.ready.new.self.machine) (g.M.Machine.contents c.put_frame_run.new.self.machine) c.ready.ensures.writes c.put_frame_run.ensures.still)).standing
+
+pub returns-in-Err-clause-firm : goal.returns-in-Err-clause-firm
+returns-in-Err-clause-firm g c = (settles c.args.b.0 _ (g.M.Machine.contents c.args.self.now.machine) (g.M.Machine.contents c.put_frame_run.new.self.machine) (g.M.Machine.run c.args.self.now.machine) (g.M.Machine.run c.put_frame_run.new.self.machine) c.args.self.now.tables c.put_frame_run.new.self.tables c.requires.idle (run_then c.args.b.0 c.args.w c.in-Err.ensures.front.0 c.args.from.now (g.M.Machine.contents c.args.self.now.machine) (g.M.Machine.contents c.ready.new.self.machine) (g.M.Machine.contents c.put_frame_run.new.self.machine) c.ready.ensures.keeps c.in-Err.ensures.front.2) (same_run c.args.b.0 c.args.w c.in-Err.ensures.front.0 c.args.from.now _) (ap (λ (t : CacheTables). t.forgotten) c.put_frame_run.ensures.tables ∙ c.ready.ensures.tables.forgotten) (lasts_trans (g.M.Machine.contents c.args.self.now.machine) (g.M.Machine.contents c.ready.new.self.machine) (g.M.Machine.contents c.put_frame_run.new.self.machine) c.ready.ensures.lasts c.put_frame_run.ensures.lasts) (steps_trans _ _ _ c.ready.ensures.ends.steps c.put_frame_run.ensures.ends.steps) (few_then c.args.b.0 (g.M.Machine.contents c.args.self.now.machine) (g.M.Machine.contents c.ready.new.self.machine) (g.M.Machine.contents c.put_frame_run.new.self.machine) c.ready.ensures.writes c.put_frame_run.ensures.still)).firm
+
+pub returns-in-Err-clause-goes : goal.returns-in-Err-clause-goes
+returns-in-Err-clause-goes g c = (settles c.args.b.0 _ (g.M.Machine.contents c.args.self.now.machine) (g.M.Machine.contents c.put_frame_run.new.self.machine) (g.M.Machine.run c.args.self.now.machine) (g.M.Machine.run c.put_frame_run.new.self.machine) c.args.self.now.tables c.put_frame_run.new.self.tables c.requires.idle (run_then c.args.b.0 c.args.w c.in-Err.ensures.front.0 c.args.from.now (g.M.Machine.contents c.args.self.now.machine) (g.M.Machine.contents c.ready.new.self.machine) (g.M.Machine.contents c.put_frame_run.new.self.machine) c.ready.ensures.keeps c.in-Err.ensures.front.2) (same_run c.args.b.0 c.args.w c.in-Err.ensures.front.0 c.args.from.now _) (ap (λ (t : CacheTables). t.forgotten) c.put_frame_run.ensures.tables ∙ c.ready.ensures.tables.forgotten) (lasts_trans (g.M.Machine.contents c.args.self.now.machine) (g.M.Machine.contents c.ready.new.self.machine) (g.M.Machine.contents c.put_frame_run.new.self.machine) c.ready.ensures.lasts c.put_frame_run.ensures.lasts) (steps_trans _ _ _ c.ready.ensures.ends.steps c.put_frame_run.ensures.ends.steps) (few_then c.args.b.0 (g.M.Machine.contents c.args.self.now.machine) (g.M.Machine.contents c.ready.new.self.machine) (g.M.Machine.contents c.put_frame_run.new.self.machine) c.ready.ensures.writes c.put_frame_run.ensures.still)).goes
+
+pub returns-in-Err-clause-caches : goal.returns-in-Err-clause-caches
+returns-in-Err-clause-caches g c = stored_put c.args.b.0 c.args.name (g.M.Machine.contents c.args.self.now.machine) (g.M.Machine.contents c.ready.new.self.machine) (g.M.Machine.contents c.put_frame_run.new.self.machine) c.ready.ensures.caches c.put_frame_run.ensures.cached
+
+pub returns-in-Err-clause-writes : goal.returns-in-Err-clause-writes
+returns-in-Err-clause-writes g c = few_then c.args.b.0 (g.M.Machine.contents c.args.self.now.machine) (g.M.Machine.contents c.ready.new.self.machine) (g.M.Machine.contents c.put_frame_run.new.self.machine) c.ready.ensures.writes c.put_frame_run.ensures.still
+
+pub returns-in-Err-clause-front : goal.returns-in-Err-clause-front
+returns-in-Err-clause-front g c = (c.in-Err.ensures.front.0, c.in-Err.ensures.front.1, (run_then c.args.b.0 c.args.w c.in-Err.ensures.front.0 c.args.from.now (g.M.Machine.contents c.args.self.now.machine) (g.M.Machine.contents c.ready.new.self.machine) (g.M.Machine.contents c.put_frame_run.new.self.machine) c.ready.ensures.keeps c.in-Err.ensures.front.2).reading)

@@ -1,0 +1,45 @@
+use Rattle.std.proofs.Common.{◌∙◌}
+use Rattle.rio_base.specs.MachineRules.{lasts_trans, steps_trans}
+use Rattle.rio_model.specs.CoverLookups.{found_is}
+use Rattle.rio_model.specs.CoverSteps.{keeps_trans}
+use Rattle.page_cache.specs.Settled.{gate_open}
+use Rattle.page_cache.proofs.Rooms.{caches_adds}
+use Rattle.page_cache.proofs.Stills.{few_then}
+use Rattle.page_cache.proofs.Touches.{adds_pages, firm_forgotten, room_of, touch_goes, touches_after}
+use Rattle.page_cache.proofs.volume.PageCacheVolume.touch.Goals as goal
+
+pub returns-in_err-k-clause-caches : goal.returns-in_err-k-clause-caches
+returns-in_err-k-clause-caches g c = caches_adds c.args.b.0 _ (g.M.Machine.contents c.args.self.now.machine) (g.M.Machine.contents c.fetch.new.self.machine) c.fetch.ensures.adds
+
+pub returns-in_err-k-clause-goes : goal.returns-in_err-k-clause-goes
+returns-in_err-k-clause-goes g c = touch_goes c.args.b.0 _ _ _ _ c.fetch.ensures.keeps c.fetch.ensures.lasts c.fetch.ensures.ends.steps c.fetch.ensures.writes
+
+pub shadow_frame-requires-clause-valid : goal.shadow_frame-requires-clause-valid
+shadow_frame-requires-clause-valid g c = (found_is (g.M.Machine.contents c.fetch.new.self.machine).words c.args.b.0 c.in_ok-k.k c.in_ok-k.ensures.found).0
+
+pub shadow_frame-requires-clause-room : goal.shadow_frame-requires-clause-room
+shadow_frame-requires-clause-room g c = room_of c.args.b.0 c.in_ok-k.k (g.M.Machine.contents c.args.self.now.machine) (g.M.Machine.contents c.fetch.new.self.machine) c.args.self.now.tables c.fetch.new.self.tables (gate_open (g.M.Machine.contents c.args.self.now.machine).words c.requires.in_update) c.fetch.ensures.keeps c.fetch.ensures.touches c.fetch.ensures.tables c.in_ok-k.ensures.found c.requires.room
+
+pub returns-in_err-shadow_frame-clause-caches : goal.returns-in_err-shadow_frame-clause-caches
+returns-in_err-shadow_frame-clause-caches g c = caches_adds c.args.b.0 _ (g.M.Machine.contents c.args.self.now.machine) (g.M.Machine.contents c.shadow_frame.new.self.machine) (adds_pages c.args.b.0 _ _ _ _ c.fetch.ensures.adds c.shadow_frame.ensures.pages)
+
+pub returns-in_err-shadow_frame-clause-goes : goal.returns-in_err-shadow_frame-clause-goes
+returns-in_err-shadow_frame-clause-goes g c = touch_goes c.args.b.0 _ _ _ _ (keeps_trans _ _ _ c.fetch.ensures.keeps c.shadow_frame.ensures.keeps) (lasts_trans _ _ _ c.fetch.ensures.lasts c.shadow_frame.ensures.lasts) (steps_trans _ _ _ c.fetch.ensures.ends.steps c.shadow_frame.ensures.ends.steps) (few_then c.args.b.0 _ _ _ c.fetch.ensures.writes c.shadow_frame.ensures.still)
+
+pub returns-in_err-shadow_frame-clause-writes : goal.returns-in_err-shadow_frame-clause-writes
+returns-in_err-shadow_frame-clause-writes g c = few_then c.args.b.0 _ _ _ c.fetch.ensures.writes c.shadow_frame.ensures.still
+
+pub returns-clause-ok : goal.returns-clause-ok
+returns-clause-ok g c = touches_after c.args.b.0 c.in_ok-k.k (g.M.Machine.contents c.args.self.now.machine) (g.M.Machine.contents c.fetch.new.self.machine) (g.M.Machine.contents c.shadow_frame.new.self.machine) c.args.self.now.tables c.fetch.new.self.tables c.shadow_frame.new.self.tables (gate_open (g.M.Machine.contents c.args.self.now.machine).words c.requires.in_update) c.fetch.ensures.keeps c.shadow_frame.ensures.keeps c.fetch.ensures.touches c.fetch.ensures.tables c.shadow_frame.ensures.pages c.in_ok-shadow_frame.ensures.gives c.in_ok-k.ensures.found
+
+pub returns-clause-firm : goal.returns-clause-firm
+returns-clause-firm g c = firm_forgotten (g.M.Machine.contents c.args.self.now.machine) (g.M.Machine.contents c.shadow_frame.new.self.machine) c.args.self.now.tables c.shadow_frame.new.self.tables (c.shadow_frame.ensures.forgotten ∙ c.fetch.ensures.tables.forgotten) (keeps_trans _ _ _ c.fetch.ensures.keeps c.shadow_frame.ensures.keeps)
+
+pub returns-clause-caches : goal.returns-clause-caches
+returns-clause-caches g c = caches_adds c.args.b.0 _ (g.M.Machine.contents c.args.self.now.machine) (g.M.Machine.contents c.shadow_frame.new.self.machine) (adds_pages c.args.b.0 _ _ _ _ c.fetch.ensures.adds c.shadow_frame.ensures.pages)
+
+pub returns-clause-goes : goal.returns-clause-goes
+returns-clause-goes g c = touch_goes c.args.b.0 _ _ _ _ (keeps_trans _ _ _ c.fetch.ensures.keeps c.shadow_frame.ensures.keeps) (lasts_trans _ _ _ c.fetch.ensures.lasts c.shadow_frame.ensures.lasts) (steps_trans _ _ _ c.fetch.ensures.ends.steps c.shadow_frame.ensures.ends.steps) (few_then c.args.b.0 _ _ _ c.fetch.ensures.writes c.shadow_frame.ensures.still)
+
+pub returns-clause-writes : goal.returns-clause-writes
+returns-clause-writes g c = few_then c.args.b.0 _ _ _ c.fetch.ensures.writes c.shadow_frame.ensures.still

@@ -1,0 +1,5 @@
+pub mod Caches
+pub mod Laws
+pub mod Settled
+pub mod Stores
+pub mod Updating

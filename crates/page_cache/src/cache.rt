@@ -1,0 +1,77 @@
+//! The cache and its machine.
+
+ghost use Rattle.std.specs.Prelude.{◌≡◌, ◌<◌, ◌+◌, ℕ, false, None, length};
+ghost use Rattle.rio_base.specs.Machine.{Meets, after_wild};
+ghost use Rattle.rio_model.specs.Registry.{frames_of, gate_of, tag_at};
+ghost use Rattle.rio_model.specs.Cover.{Coherent};
+ghost use Rattle.page_cache.specs.Caches.{CacheSound, IsFresh, Tells, cache_below, cache_health, cache_kept, cache_seen};
+
+use crate::tables::CacheTables;
+use rio_base::{Machine, Wild, WordAt};
+
+/// The cache of a machine. Its blocks lie in the frames of protected memory, with an entry of the registry for each that
+/// is cached; the others are on the disk alone.
+pub struct PageCache<M> {
+    pub(crate) machine: M,
+    pub(crate) tables: CacheTables,
+}
+
+impl<M: Machine> PageCache<M> {
+    /// A cache with no block in it, of a machine whose registry has no entry. The tables are made for this machine's
+    /// frames and its disk's blocks.
+    pub fn start(machine: M, tables: CacheTables) -> PageCache<M>
+        requires coherent { Coherent (M.contents machine) (length (M.run machine).scratch) }
+        requires closed { (M.contents machine).open_page ≡ None }
+        requires shut { gate_of (M.contents machine).words ≡ 0 }
+        requires empty { (k : ℕ) → k < frames_of (M.contents machine).words → tag_at (M.contents machine).words k ≡ 0 }
+        requires tables { IsFresh (frames_of (M.contents machine).words) (length (M.contents machine).disk) tables }
+        ensures sound { CacheSound (M.contents result.machine) (length (M.run result.machine).scratch) result.tables }
+        ensures machine { result.machine ≡ machine }
+        ensures tables { result.tables ≡ tables }
+    {
+        PageCache { machine, tables }
+    }
+
+    /// The machine below. Memory and disk stand for what the volume says, also after a stop.
+    pub fn machine(&self) -> &M
+        requires sound { CacheSound (M.contents self.now.machine) (length (M.run self.now.machine).scratch) self.now.tables }
+        ensures tells { Tells (M.contents result.now) (M.run result.now) (cache_seen (M.contents self.now.machine)) (cache_health (M.contents self.now.machine) (M.run self.now.machine)) (cache_below (M.contents self.now.machine) (M.run self.now.machine)) (cache_kept (M.contents self.now.machine) self.now.tables) }
+    {
+        &self.machine
+    }
+
+    /// A wild store now, as [`Machine::wild`].
+    pub fn wild(&mut self, at: WordAt, v: u64) -> Wild
+        requires sound { CacheSound (M.contents self.old.machine) (length (M.run self.old.machine).scratch) self.old.tables }
+        requires place { at.0 < length (M.contents self.old.machine).words + length (M.run self.old.machine).scratch }
+        requires running { (M.run self.old.machine).stopped ≡ false }
+        ensures answer { Meets (M.contents self.old.machine) at.0 result }
+        ensures contents { M.contents self.new.machine ≡ M.contents self.old.machine }
+        ensures run { M.run self.new.machine ≡ after_wild result at.0 v (M.run self.old.machine) }
+        ensures tables { self.new.tables ≡ self.old.tables }
+        ensures sound { CacheSound (M.contents self.new.machine) (length (M.run self.new.machine).scratch) self.new.tables }
+    {
+        self.machine.wild(at, v)
+    }
+
+    /// Arms a wild store, as [`Machine::arm`].
+    pub fn arm(&mut self, step: u64, at: WordAt, v: u64)
+        requires sound { CacheSound (M.contents self.old.machine) (length (M.run self.old.machine).scratch) self.old.tables }
+        requires place { at.0 < length (M.contents self.old.machine).words + length (M.run self.old.machine).scratch }
+        ensures contents { M.contents self.new.machine ≡ M.contents self.old.machine }
+        ensures run { M.run self.new.machine ≡ record (M.run self.old.machine) { armed = Some at.0 } }
+        ensures tables { self.new.tables ≡ self.old.tables }
+        ensures sound { CacheSound (M.contents self.new.machine) (length (M.run self.new.machine).scratch) self.new.tables }
+    {
+        self.machine.arm(step, at, v);
+    }
+
+    /// The machine, taken back. Memory and disk stand for what the volume says, also after a stop.
+    pub fn into_machine(self) -> M
+        requires sound { CacheSound (M.contents self.machine) (length (M.run self.machine).scratch) self.tables }
+        ensures tells { Tells (M.contents result) (M.run result) (cache_seen (M.contents self.machine)) (cache_health (M.contents self.machine) (M.run self.machine)) (cache_below (M.contents self.machine) (M.run self.machine)) (cache_kept (M.contents self.machine) self.tables) }
+    {
+        let PageCache { machine, tables: _ } = self;
+        machine
+    }
+}

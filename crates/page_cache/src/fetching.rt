@@ -1,0 +1,179 @@
+//! Blocks come into frames, and leave them.
+
+ghost use Rattle.std.specs.Prelude.{◌≡◌, ◌≢◌, ◌<◌, ◌≤◌, ◌+◌, ◌*◌, ℕ, true, false, Some, None, IfOk, OnOk, IsErr, IsErrOf, is_some, length, slice_index};
+ghost use Rattle.rio_base.specs.Blocks.{InRange};
+ghost use Rattle.rio_base.specs.Disks.{raised};
+ghost use Rattle.rio_base.specs.Machine.{FaultCause, Lasts, StepEnds};
+ghost use Rattle.rio_model.specs.Registry.{IsValid, frames_of, is_valid, tag_at};
+ghost use Rattle.rio_model.specs.Cover.{Coherent, Keeps, Narrows, entry_of_block, frame_page, home_word};
+ghost use Rattle.frame_pool.specs.Pools.{is_pinned};
+ghost use Rattle.page_cache.specs.Caches.{Adds, CacheSound, FewWrites, SameTables, SameTouches, Still};
+
+use crate::cache::PageCache;
+use crate::filling::{fill, install_clean, read_home};
+use registry::{Tag, load_tag};
+use rio_base::{Block, Machine, PageName, Stopped, VolFail};
+use write_back::{evict, page_of_frame};
+
+impl<M: Machine> PageCache<M> {
+    /// Evicts the block of frame `k`, which isn't pinned: with one block write, if its page is dirty.
+    #[tactic(auto, using(crate::proofs::Kept::bare_unpinned, crate::proofs::Rooms::frame_bound))]
+    fn evict_frame(&mut self, k: u32) -> Result<(), VolFail>
+        requires sound { CacheSound (M.contents self.old.machine) (length (M.run self.old.machine).scratch) self.old.tables }
+        requires valid { IsValid (M.contents self.old.machine).words k }
+        requires unpinned { is_pinned self.old.tables.pool k ≡ false }
+        ensures sound { CacheSound (M.contents self.new.machine) (length (M.run self.new.machine).scratch) self.new.tables }
+        ensures keeps { Keeps (M.contents self.old.machine) (M.contents self.new.machine) }
+        ensures narrows { Narrows (M.contents self.old.machine).words (M.contents self.new.machine).words }
+        ensures gone { OnOk result (tag_at (M.contents self.new.machine).words k ≡ 0) }
+        ensures one_write { (M.contents self.new.machine).writes ≤ raised (M.contents self.old.machine).writes 1 }
+        ensures touches { SameTouches (M.contents self.old.machine).words (M.contents self.new.machine).words }
+        ensures tables { SameTables self.old.tables self.new.tables }
+        ensures lasts { Lasts (M.contents self.old.machine) (M.contents self.new.machine) }
+        ensures fault { FaultCause (M.contents self.old.machine) (M.contents self.new.machine) (IsErrOf result VolFail.Fault) }
+        ensures ends { StepEnds (M.run self.old.machine) (M.run self.new.machine) (IsErrOf result VolFail.Stopped) }
+    {
+        evict(&mut self.machine, k)?;
+        self.tables.pool.unbind(k);
+        Ok(())
+    }
+
+    /// Makes a frame free for block `b`, which isn't cached.
+    #[tactic(auto, using(crate::proofs::Stills::still_refl, crate::proofs::Stills::few_still, crate::proofs::Touched::touches_refl, crate::proofs::Kept::tables_refl, crate::proofs::Kept::pins_fit, rio_model::specs::CoverStands::narrows_refl, rio_model::specs::CoverSteps::keeps_refl, rio_base::specs::MachineRules::steps_refl, rio_base::specs::MachineRules::lasts_refl))]
+    pub(crate) fn make_room(&mut self, b: Block) -> Result<u32, VolFail>
+        requires sound { CacheSound (M.contents self.old.machine) (length (M.run self.old.machine).scratch) self.old.tables }
+        requires uncached { entry_of_block (M.contents self.old.machine).words b.0 ≡ None }
+        requires block { b.0 < length (M.contents self.old.machine).disk }
+        ensures sound { CacheSound (M.contents self.new.machine) (length (M.run self.new.machine).scratch) self.new.tables }
+        ensures keeps { Keeps (M.contents self.old.machine) (M.contents self.new.machine) }
+        ensures narrows { Narrows (M.contents self.old.machine).words (M.contents self.new.machine).words }
+        ensures room { IfOk result (λ k. (k < frames_of (M.contents self.new.machine).words) × (is_valid (tag_at (M.contents self.new.machine).words k) ≡ false)) }
+        ensures writes { FewWrites b.0 (M.contents self.old.machine) (M.contents self.new.machine) }
+        ensures touches { SameTouches (M.contents self.old.machine).words (M.contents self.new.machine).words }
+        ensures tables { SameTables self.old.tables self.new.tables }
+        ensures lasts { Lasts (M.contents self.old.machine) (M.contents self.new.machine) }
+        ensures fault { FaultCause (M.contents self.old.machine) (M.contents self.new.machine) (IsErrOf result VolFail.Fault) }
+        ensures ends { StepEnds (M.run self.old.machine) (M.run self.new.machine) (IsErrOf result VolFail.Stopped) }
+    {
+        let k = self.tables.pool.victim();
+        if !self.tag_of(k).is_valid() {
+            return Ok(k);
+        }
+        self.evict_frame(k)?;
+        Ok(k)
+    }
+
+    /// The tag of entry `k`.
+    #[tactic(auto, using(crate::proofs::Fills::layout_now))]
+    fn tag_of(&self, k: u32) -> Tag
+        requires coherent { Coherent (M.contents self.now.machine) (length (M.run self.now.machine).scratch) }
+        requires entry { k < frames_of (M.contents self.now.machine).words }
+        ensures { result.0 ≡ tag_at (M.contents self.now.machine).words k }
+    {
+        load_tag(&self.machine, k)
+    }
+
+    /// Reads block `b` into frame `k`, which is free: no entry has it yet.
+    #[tactic(auto, using(crate::proofs::Rooms::keeps_then, crate::proofs::Rooms::ends_then, crate::proofs::Rooms::lasts_then, crate::proofs::Touched::touches_words, crate::proofs::Stills::still_trans, crate::proofs::Stills::still_rest))]
+    fn fill_frame(&mut self, k: u32, b: Block) -> Result<(), VolFail>
+        requires sound { CacheSound (M.contents self.old.machine) (length (M.run self.old.machine).scratch) self.old.tables }
+        requires entry { k < frames_of (M.contents self.old.machine).words }
+        requires invalid { is_valid (tag_at (M.contents self.old.machine).words k) ≡ false }
+        requires block { b.0 < length (M.contents self.old.machine).disk }
+        ensures sound { CacheSound (M.contents self.new.machine) (length (M.run self.new.machine).scratch) self.new.tables }
+        ensures keeps { Keeps (M.contents self.old.machine) (M.contents self.new.machine) }
+        ensures narrows { Narrows (M.contents self.old.machine).words (M.contents self.new.machine).words }
+        ensures home { OnOk result ((w : ℕ) → w < 512 → slice_index (M.contents self.new.machine).words (512 * frame_page (M.contents self.new.machine).words k + w) ≡ home_word (M.contents self.new.machine).disk b.0 w) }
+        ensures tag { tag_at (M.contents self.new.machine).words k ≡ tag_at (M.contents self.old.machine).words k }
+        ensures still { Still (M.contents self.old.machine) (M.contents self.new.machine) }
+        ensures touches { SameTouches (M.contents self.old.machine).words (M.contents self.new.machine).words }
+        ensures tables { SameTables self.old.tables self.new.tables }
+        ensures lasts { Lasts (M.contents self.old.machine) (M.contents self.new.machine) }
+        ensures fault { FaultCause (M.contents self.old.machine) (M.contents self.new.machine) (IsErrOf result VolFail.Fault) }
+        ensures ends { StepEnds (M.run self.old.machine) (M.run self.new.machine) (IsErrOf result VolFail.Stopped) }
+    {
+        read_home(&mut self.machine, b, &mut self.tables.buffer)?;
+        let page = page_of_frame(&self.machine, k);
+        fill(&mut self.machine, k, page, self.tables.buffer.as_slice())?;
+        Ok(())
+    }
+
+    /// Makes frame `k`, which has block `b`, this block's.
+    fn bind_frame(&mut self, k: u32, b: Block, name: Option<PageName>) -> Result<(), Stopped>
+        requires sound { CacheSound (M.contents self.old.machine) (length (M.run self.old.machine).scratch) self.old.tables }
+        requires entry { k < frames_of (M.contents self.old.machine).words }
+        requires invalid { is_valid (tag_at (M.contents self.old.machine).words k) ≡ false }
+        requires block { b.0 < length (M.contents self.old.machine).disk }
+        requires uncached { entry_of_block (M.contents self.old.machine).words b.0 ≡ None }
+        requires name { InRange name }
+        requires home { (w : ℕ) → w < 512 → slice_index (M.contents self.old.machine).words (512 * frame_page (M.contents self.old.machine).words k + w) ≡ home_word (M.contents self.old.machine).disk b.0 w }
+        ensures sound { CacheSound (M.contents self.new.machine) (length (M.run self.new.machine).scratch) self.new.tables }
+        ensures keeps { Keeps (M.contents self.old.machine) (M.contents self.new.machine) }
+        ensures adds { Adds b.0 name (M.contents self.old.machine).words (M.contents self.new.machine).words }
+        ensures found { OnOk result (entry_of_block (M.contents self.new.machine).words b.0 ≡ Some k) }
+        ensures still { Still (M.contents self.old.machine) (M.contents self.new.machine) }
+        ensures touches { SameTouches (M.contents self.old.machine).words (M.contents self.new.machine).words }
+        ensures tables { SameTables self.old.tables self.new.tables }
+        ensures lasts { Lasts (M.contents self.old.machine) (M.contents self.new.machine) }
+        ensures ends { StepEnds (M.run self.old.machine) (M.run self.new.machine) (IsErr result) }
+    {
+        install_clean(&mut self.machine, k, b, name)?;
+        self.tables.pool.bind(k, b);
+        Ok(())
+    }
+
+    /// Brings block `b` into frame `k`, which is free.
+    #[tactic(auto, using(crate::proofs::Rooms::keeps_then, crate::proofs::Rooms::ends_then, crate::proofs::Rooms::lasts_then, crate::proofs::Rooms::adds_narrows, crate::proofs::Rooms::adds_after, crate::proofs::Rooms::none_still, crate::proofs::Stills::still_trans, crate::proofs::Touched::touches_trans, crate::proofs::Kept::tables_trans))]
+    fn bring(&mut self, k: u32, b: Block, name: Option<PageName>) -> Result<(), VolFail>
+        requires sound { CacheSound (M.contents self.old.machine) (length (M.run self.old.machine).scratch) self.old.tables }
+        requires entry { k < frames_of (M.contents self.old.machine).words }
+        requires invalid { is_valid (tag_at (M.contents self.old.machine).words k) ≡ false }
+        requires block { b.0 < length (M.contents self.old.machine).disk }
+        requires uncached { entry_of_block (M.contents self.old.machine).words b.0 ≡ None }
+        requires name { InRange name }
+        ensures sound { CacheSound (M.contents self.new.machine) (length (M.run self.new.machine).scratch) self.new.tables }
+        ensures keeps { Keeps (M.contents self.old.machine) (M.contents self.new.machine) }
+        ensures adds { Adds b.0 name (M.contents self.old.machine).words (M.contents self.new.machine).words }
+        ensures found { OnOk result (entry_of_block (M.contents self.new.machine).words b.0 ≡ Some k) }
+        ensures unfetched { IsErrOf result VolFail.Fault → Narrows (M.contents self.old.machine).words (M.contents self.new.machine).words }
+        ensures still { Still (M.contents self.old.machine) (M.contents self.new.machine) }
+        ensures touches { SameTouches (M.contents self.old.machine).words (M.contents self.new.machine).words }
+        ensures tables { SameTables self.old.tables self.new.tables }
+        ensures lasts { Lasts (M.contents self.old.machine) (M.contents self.new.machine) }
+        ensures fault { FaultCause (M.contents self.old.machine) (M.contents self.new.machine) (IsErrOf result VolFail.Fault) }
+        ensures ends { StepEnds (M.run self.old.machine) (M.run self.new.machine) (IsErrOf result VolFail.Stopped) }
+    {
+        self.fill_frame(k, b)?;
+        self.bind_frame(k, b, name)?;
+        Ok(())
+    }
+
+    /// The frame of block `b`, which is fetched if it isn't cached: then under this name. It counts as a use.
+    #[tactic(auto, using(crate::proofs::Rooms::keeps_then, crate::proofs::Rooms::ends_then, crate::proofs::Rooms::lasts_then, crate::proofs::Rooms::adds_narrows, crate::proofs::Rooms::adds_after, crate::proofs::Rooms::none_still, crate::proofs::Rooms::none_bound, crate::proofs::Rooms::some_bound, rio_model::specs::CoverSteps::keeps_refl, rio_base::specs::MachineRules::steps_refl, rio_base::specs::MachineRules::lasts_refl, rio_model::specs::CoverStands::narrows_refl, crate::proofs::Stills::still_refl, crate::proofs::Stills::few_still, crate::proofs::Stills::few_then, crate::proofs::Touched::touches_refl, crate::proofs::Touched::touches_trans, crate::proofs::Kept::tables_refl, crate::proofs::Kept::tables_trans))]
+    pub(crate) fn fetch(&mut self, b: Block, name: Option<PageName>) -> Result<u32, VolFail>
+        requires sound { CacheSound (M.contents self.old.machine) (length (M.run self.old.machine).scratch) self.old.tables }
+        requires block { b.0 < length (M.contents self.old.machine).disk }
+        requires name { InRange name }
+        ensures sound { CacheSound (M.contents self.new.machine) (length (M.run self.new.machine).scratch) self.new.tables }
+        ensures keeps { Keeps (M.contents self.old.machine) (M.contents self.new.machine) }
+        ensures adds { Adds b.0 name (M.contents self.old.machine).words (M.contents self.new.machine).words }
+        ensures found { IfOk result (λ k. entry_of_block (M.contents self.new.machine).words b.0 ≡ Some k) }
+        ensures touches { SameTouches (M.contents self.old.machine).words (M.contents self.new.machine).words }
+        ensures tables { SameTables self.old.tables self.new.tables }
+        ensures writes { FewWrites b.0 (M.contents self.old.machine) (M.contents self.new.machine) }
+        ensures hit { is_some (entry_of_block (M.contents self.old.machine).words b.0) ≡ true → M.contents self.new.machine ≡ M.contents self.old.machine }
+        ensures unfetched { IsErrOf result VolFail.Fault → Narrows (M.contents self.old.machine).words (M.contents self.new.machine).words }
+        ensures sure { IsErrOf result VolFail.Fault → entry_of_block (M.contents self.old.machine).words b.0 ≡ None }
+        ensures lasts { Lasts (M.contents self.old.machine) (M.contents self.new.machine) }
+        ensures fault { FaultCause (M.contents self.old.machine) (M.contents self.new.machine) (IsErrOf result VolFail.Fault) }
+        ensures ends { StepEnds (M.run self.old.machine) (M.run self.new.machine) (IsErrOf result VolFail.Stopped) }
+    {
+        if let Some(k) = self.tables.pool.find(b) {
+            self.tables.pool.use_slot(k);
+            return Ok(k);
+        }
+        let k = self.make_room(b)?;
+        self.bring(k, b, name)?;
+        Ok(k)
+    }
+}

@@ -1,0 +1,161 @@
+//! Words are stored into blocks, while no update is open. A page is marked dirty before the first word is stored into
+//! it, and its size is stored before the word too, so that a stop between two steps loses nothing.
+
+ghost use Rattle.std.specs.Prelude.{◌≡◌, ◌<◌, ◌≤◌, ◌+◌, ℕ, true, false, None, Some, IfOk, OnOk, OnErr, IsErr, IsErrOf, length};
+ghost use Rattle.rio_base.specs.Blocks.{CanName, Drops, Ends, FaultAt, InRange, IsPlace, IsSpan, as_word};
+ghost use Rattle.rio_base.specs.Machine.{FaultCause, Lasts, StepEnds};
+ghost use Rattle.rio_base.specs.Volume.{CachesStored, Firm, Goes, OldOrPut, OldOrRun, RunName, SameBut, put, put_run, stored_name, widened};
+ghost use Rattle.rio_model.specs.Registry.{IsValid, is_dirty, tag_at};
+ghost use Rattle.rio_model.specs.Cover.{Keeps, entry_of_block, name_in, reads};
+ghost use Rattle.page_cache.specs.Caches.{CacheSound, FewWrites, SameTables, Still, cache_below, cache_health, cache_kept, cache_seen};
+ghost use Rattle.page_cache.specs.Stores.{Rewrites, SameCached, Widens};
+
+use crate::cache::PageCache;
+use page_protect::put_word;
+use registry::{load_tag, read_entry, set_dirty, set_size};
+use rio_base::{Block, Machine, PageName, RunFail, Stopped, VolFail};
+
+impl<M: Machine> PageCache<M> {
+    /// Marks entry `k` dirty, unless it is: a clean one costs one step. `Stopped` changes nothing.
+    #[tactic(auto, using(crate::proofs::Stores::layout_of, crate::proofs::Stores::can_change, crate::proofs::Stores::cached_refl, crate::proofs::Stores::cached_same, crate::proofs::Stores::still_same, crate::proofs::Stores::still_words, rio_model::specs::CoverSteps::keeps_refl, rio_base::specs::MachineRules::steps_refl, rio_base::specs::MachineRules::lasts_refl))]
+    fn mark_dirty(&mut self, k: u32) -> Result<(), Stopped>
+        requires sound { CacheSound (M.contents self.old.machine) (length (M.run self.old.machine).scratch) self.old.tables }
+        requires valid { IsValid (M.contents self.old.machine).words k }
+        ensures sound { CacheSound (M.contents self.new.machine) (length (M.run self.new.machine).scratch) self.new.tables }
+        ensures keeps { Keeps (M.contents self.old.machine) (M.contents self.new.machine) }
+        ensures dirty { OnOk result (is_dirty (tag_at (M.contents self.new.machine).words k) ≡ true) }
+        ensures cached { SameCached (M.contents self.old.machine).words (M.contents self.new.machine).words }
+        ensures tables { self.new.tables ≡ self.old.tables }
+        ensures still { Still (M.contents self.old.machine) (M.contents self.new.machine) }
+        ensures lasts { Lasts (M.contents self.old.machine) (M.contents self.new.machine) }
+        ensures ends { StepEnds (M.run self.old.machine) (M.run self.new.machine) (IsErr result) }
+    {
+        if load_tag(&self.machine, k).is_dirty() {
+            return Ok(());
+        }
+        set_dirty(&mut self.machine, k)?;
+        Ok(())
+    }
+
+    /// Gives entry `k` the size of the given name, where it is larger than its own: one step then. `Stopped` changes
+    /// nothing.
+    #[tactic(auto, using(crate::proofs::Stores::layout_of, crate::proofs::Stores::can_change, crate::proofs::Stores::still_same, crate::proofs::Stores::still_words, crate::proofs::Widths::widens_same, crate::proofs::Widths::no_name, crate::proofs::Widths::not_wider, rio_model::specs::CoverSteps::keeps_refl, rio_base::specs::MachineRules::steps_refl, rio_base::specs::MachineRules::lasts_refl))]
+    fn widen(&mut self, k: u32, name: Option<PageName>) -> Result<(), Stopped>
+        requires sound { CacheSound (M.contents self.old.machine) (length (M.run self.old.machine).scratch) self.old.tables }
+        requires valid { IsValid (M.contents self.old.machine).words k }
+        requires name { InRange name }
+        ensures sound { CacheSound (M.contents self.new.machine) (length (M.run self.new.machine).scratch) self.new.tables }
+        ensures keeps { Keeps (M.contents self.old.machine) (M.contents self.new.machine) }
+        ensures widens { Widens k name (M.contents self.old.machine).words (M.contents self.new.machine).words }
+        ensures named { OnOk result (name_in (M.contents self.new.machine).words (Some k) ≡ widened (name_in (M.contents self.old.machine).words (Some k)) name) }
+        ensures tag { tag_at (M.contents self.new.machine).words k ≡ tag_at (M.contents self.old.machine).words k }
+        ensures tables { self.new.tables ≡ self.old.tables }
+        ensures still { Still (M.contents self.old.machine) (M.contents self.new.machine) }
+        ensures lasts { Lasts (M.contents self.old.machine) (M.contents self.new.machine) }
+        ensures ends { StepEnds (M.run self.old.machine) (M.run self.new.machine) (IsErr result) }
+    {
+        let Some(name) = name else {
+            return Ok(());
+        };
+        if u64::from(name.size) <= read_entry(&self.machine, k).size {
+            return Ok(());
+        }
+        set_size(&mut self.machine, k, name.size)?;
+        Ok(())
+    }
+
+    /// Makes the page of entry `k` ready for a store under this name: dirty, and of the larger size.
+    #[tactic(auto, using(crate::proofs::StoreCalls::valid_cached, crate::proofs::StoreCalls::dirty_after, rio_model::specs::CoverSteps::keeps_trans, crate::proofs::Stores::still_then, crate::proofs::Stores::ends_then, rio_base::specs::MachineRules::lasts_trans))]
+    fn make_ready(&mut self, k: u32, name: Option<PageName>) -> Result<(), Stopped>
+        requires sound { CacheSound (M.contents self.old.machine) (length (M.run self.old.machine).scratch) self.old.tables }
+        requires valid { IsValid (M.contents self.old.machine).words k }
+        requires name { InRange name }
+        ensures sound { CacheSound (M.contents self.new.machine) (length (M.run self.new.machine).scratch) self.new.tables }
+        ensures keeps { Keeps (M.contents self.old.machine) (M.contents self.new.machine) }
+        ensures widens { Widens k name (M.contents self.old.machine).words (M.contents self.new.machine).words }
+        ensures named { OnOk result (name_in (M.contents self.new.machine).words (Some k) ≡ widened (name_in (M.contents self.old.machine).words (Some k)) name) }
+        ensures dirty { OnOk result (is_dirty (tag_at (M.contents self.new.machine).words k) ≡ true) }
+        ensures tables { self.new.tables ≡ self.old.tables }
+        ensures still { Still (M.contents self.old.machine) (M.contents self.new.machine) }
+        ensures lasts { Lasts (M.contents self.old.machine) (M.contents self.new.machine) }
+        ensures ends { StepEnds (M.run self.old.machine) (M.run self.new.machine) (IsErr result) }
+    {
+        self.mark_dirty(k)?;
+        self.widen(k, name)?;
+        Ok(())
+    }
+
+    /// The frame of block `b`, fetched if it isn't cached, and ready for a store under this name: dirty, and of the
+    /// larger size.
+    #[tactic(auto, using(crate::proofs::StoreCalls::drops_narrows, crate::proofs::Stores::ends_then, rio_model::specs::CoverSteps::keeps_trans, rio_base::specs::MachineRules::lasts_trans))]
+    pub(crate) fn ready(&mut self, b: Block, name: Option<PageName>) -> Result<u32, VolFail>
+        requires sound { CacheSound (M.contents self.old.machine) (length (M.run self.old.machine).scratch) self.old.tables }
+        requires block { b.0 < length (M.contents self.old.machine).disk }
+        requires name { InRange name }
+        ensures sound { CacheSound (M.contents self.new.machine) (length (M.run self.new.machine).scratch) self.new.tables }
+        ensures keeps { Keeps (M.contents self.old.machine) (M.contents self.new.machine) }
+        ensures found { IfOk result (λ k. entry_of_block (M.contents self.new.machine).words b.0 ≡ Some k) }
+        ensures dirty { IfOk result (λ k. is_dirty (tag_at (M.contents self.new.machine).words k) ≡ true) }
+        ensures caches { CachesStored (cache_seen (M.contents self.old.machine)) (cache_seen (M.contents self.new.machine)) b.0 name }
+        ensures named { OnOk result ((cache_seen (M.contents self.new.machine)).names b.0 ≡ stored_name ((cache_seen (M.contents self.old.machine)).cached b.0) ((cache_seen (M.contents self.old.machine)).names b.0) name) }
+        ensures drops { IsErrOf result VolFail.Fault → Drops (cache_seen (M.contents self.old.machine)) (cache_seen (M.contents self.new.machine)) }
+        ensures tables { SameTables self.old.tables self.new.tables }
+        ensures writes { FewWrites b.0 (M.contents self.old.machine) (M.contents self.new.machine) }
+        ensures lasts { Lasts (M.contents self.old.machine) (M.contents self.new.machine) }
+        ensures fault { FaultCause (M.contents self.old.machine) (M.contents self.new.machine) (IsErrOf result VolFail.Fault) }
+        ensures ends { StepEnds (M.run self.old.machine) (M.run self.new.machine) (IsErrOf result VolFail.Stopped) }
+    {
+        let k = self.fetch(b, name)?;
+        self.make_ready(k, name)?;
+        Ok(k)
+    }
+
+    /// Stores word `w` of the frame of entry `k`, which is of block `b` and dirty: one step. `Stopped` changes nothing.
+    #[tactic(auto, using(crate::proofs::Stores::sound_same, crate::proofs::Stores::cached_same, crate::proofs::Stores::still_same))]
+    pub(crate) fn put_frame(&mut self, k: u32, b: Block, w: u16, v: u64) -> Result<(), Stopped>
+        requires sound { CacheSound (M.contents self.old.machine) (length (M.run self.old.machine).scratch) self.old.tables }
+        requires found { entry_of_block (M.contents self.old.machine).words b.0 ≡ Some k }
+        requires dirty { is_dirty (tag_at (M.contents self.old.machine).words k) ≡ true }
+        requires word { w < 512 }
+        ensures sound { CacheSound (M.contents self.new.machine) (length (M.run self.new.machine).scratch) self.new.tables }
+        ensures rewrites { OnOk result (Rewrites (put (reads (M.contents self.old.machine)) b.0 w v) (M.contents self.old.machine) (M.contents self.new.machine)) }
+        ensures same { OnErr result (M.contents self.new.machine ≡ M.contents self.old.machine) }
+        ensures cached { SameCached (M.contents self.old.machine).words (M.contents self.new.machine).words }
+        ensures tables { self.new.tables ≡ self.old.tables }
+        ensures still { Still (M.contents self.old.machine) (M.contents self.new.machine) }
+        ensures lasts { Lasts (M.contents self.old.machine) (M.contents self.new.machine) }
+        ensures ends { StepEnds (M.run self.old.machine) (M.run self.new.machine) (IsErr result) }
+    {
+        let page = self.page_of(k);
+        put_word(&mut self.machine, page, w, v)?;
+        Ok(())
+    }
+
+    /// Stores a run of words of the frame of entry `k`, which is of block `b` and dirty, from word `w` on in rising order:
+    /// one step each, all in one window. `Stopped` leaves a front of them stored.
+    #[tactic(auto, using(crate::proofs::Stores::still_words))]
+    pub(crate) fn put_frame_run(
+        &mut self,
+        k: u32,
+        b: Block,
+        w: u16,
+        from: &[u64],
+    ) -> Result<(), Stopped>
+        requires sound { CacheSound (M.contents self.old.machine) (length (M.run self.old.machine).scratch) self.old.tables }
+        requires found { entry_of_block (M.contents self.old.machine).words b.0 ≡ Some k }
+        requires dirty { is_dirty (tag_at (M.contents self.old.machine).words k) ≡ true }
+        requires within { w + length from.now ≤ 512 }
+        ensures sound { CacheSound (M.contents self.new.machine) (length (M.run self.new.machine).scratch) self.new.tables }
+        ensures rewrites { OnOk result (Rewrites (put_run (reads (M.contents self.old.machine)) b.0 w (length from.now) from.now) (M.contents self.old.machine) (M.contents self.new.machine)) }
+        ensures front { OnErr result ((n : ℕ) × (n ≤ length from.now) × Rewrites (put_run (reads (M.contents self.old.machine)) b.0 w n from.now) (M.contents self.old.machine) (M.contents self.new.machine)) }
+        ensures cached { SameCached (M.contents self.old.machine).words (M.contents self.new.machine).words }
+        ensures tables { self.new.tables ≡ self.old.tables }
+        ensures still { Still (M.contents self.old.machine) (M.contents self.new.machine) }
+        ensures lasts { Lasts (M.contents self.old.machine) (M.contents self.new.machine) }
+        ensures ends { StepEnds (M.run self.old.machine) (M.run self.new.machine) (IsErr result) }
+    {
+        let page = self.page_of(k);
+        page_protect::put_run(&mut self.machine, page, w, from)?;
+        Ok(())
+    }
+}

@@ -1,0 +1,51 @@
+//! What a cache keeps beside its machine.
+
+ghost use Rattle.std.specs.Prelude.{◌≤◌, IfOk};
+ghost use Rattle.page_cache.specs.Caches.{IsFresh};
+
+use frame_pool::FramePool;
+use std::alloc::{AllocError, Global};
+
+/// How many shadow pages there are, and so how many blocks an update may touch.
+pub(crate) const SHADOWS: usize = 16;
+
+/// The words of a page.
+pub(crate) const PAGE_WORDS: usize = 512;
+
+/// The tables of a cache, made before it starts: no call of a cache takes memory.
+#[derive(Drop)]
+pub struct CacheTables {
+    /// Which frame has which block, in which order frames were used, which are pinned.
+    pub(crate) pool: FramePool,
+    /// Which blocks were forgotten, and not made anew since.
+    pub(crate) forgotten: Vec<bool>,
+    /// A block on its way from the disk.
+    pub(crate) buffer: Vec<u64>,
+    /// The page of frame 0.
+    pub(crate) first_frame: u32,
+    /// The frames that were given a shadow since the last update began: shadow s is that of frame `shadowed[s - 1]`.
+    pub(crate) shadowed: [u32; SHADOWS],
+    /// How many they are.
+    pub(crate) shadows: u32,
+}
+
+impl CacheTables {
+    /// The tables for so many frames and blocks. `Err` where no memory is left.
+    pub fn new(alloc: Global, frames: u32, blocks: u32) -> Result<CacheTables, AllocError>
+        requires some { 32 ≤ frames }
+        requires most { frames ≤ 8192 }
+        ensures fresh { IfOk result (IsFresh frames blocks) }
+    {
+        let pool = FramePool::new(alloc, frames, blocks)?;
+        let forgotten = vec![in alloc; false; blocks as usize]?;
+        let buffer = vec![in alloc; 0; PAGE_WORDS]?;
+        Ok(CacheTables {
+            pool,
+            forgotten,
+            buffer,
+            first_frame: (frames + 101) / 102 + 17,
+            shadowed: [0; SHADOWS],
+            shadows: 0,
+        })
+    }
+}

@@ -1,0 +1,197 @@
+//! Updates of several blocks that stand at once.
+
+ghost use Rattle.std.specs.Prelude.{◌≡◌, ◌≢◌, ◌⊎◌, ◌+◌, ◌<◌, ◌≤◌, ℕ, true, false, None, OnErr, OnOk, IsErr, IsErrOf, length, slice_index};
+ghost use Rattle.rio_base.specs.Blocks.{Caches, CanName, Drops, Ends, Halts, IsPlace, Looks};
+ghost use Rattle.rio_base.specs.Machine.{Lasts, StepEnds};
+ghost use Rattle.rio_base.specs.Volume.{Begun, Firm, Goes, HasRoom, OldOrNew, OldOrPut, SameUpdate, Touches, put};
+ghost use Rattle.rio_model.specs.Cover.{Coherent, HeldEntry, Keeps, SameNames, frame_page};
+ghost use Rattle.rio_model.specs.CoverChanges.{SameEntries};
+ghost use Rattle.rio_model.specs.CoverFills.{Puts};
+ghost use Rattle.rio_model.specs.Registry.{IsValid, OneEntry, frames_of, gate_of, is_data, is_dirty, shadow_at, tag_at, tag_block};
+ghost use Rattle.frame_pool.specs.Pools.{frames_in, is_pinned};
+ghost use Rattle.page_cache.specs.Caches.{CacheSound, FewWrites, IsListed, SameTables, Still, cache_below, cache_health, cache_kept, cache_seen};
+ghost use Rattle.page_cache.specs.Updating.{GivesShadow, SameButPins, SamePages};
+
+use crate::cache::PageCache;
+use crate::tables::CacheTables;
+use page_protect::put_word;
+use registry::{Tag, load_tag, read_entry, set_dirty};
+use rio_base::{Block, Machine, Page, Stopped, VolFail};
+use shadow_pages::{begin, commit, shadow, undo};
+
+/// The frames that were given a shadow since the last update began.
+pub(crate) fn listed(t: &CacheTables) -> &[u32]
+    requires most { t.now.shadows ≤ 16 }
+    requires room { length t.now.shadowed ≡ 16 }
+    ensures count { length result.now ≡ t.now.shadows }
+    ensures each { (i : ℕ) → i < t.now.shadows → slice_index result.now i ≡ slice_index t.now.shadowed i }
+{
+    &t.shadowed[..t.shadows as usize]
+}
+
+/// Empties the list of shadows.
+pub(crate) fn clear_list(t: &mut CacheTables)
+    ensures none { t.new.shadows ≡ 0 }
+    ensures pool { t.new.pool ≡ t.old.pool }
+    ensures rest { SameButPins t.old t.new }
+{
+    t.shadows = 0;
+}
+
+/// Lets the frames go that were given a shadow since the last update began: no frame is pinned then.
+pub(crate) fn unpin_all(t: &mut CacheTables)
+    requires most { t.old.shadows ≤ 16 }
+    requires room { length t.old.shadowed ≡ 16 }
+    requires within { (i : ℕ) → i < t.old.shadows → slice_index t.old.shadowed i < frames_in t.old.pool }
+    requires pinned { (k : ℕ) → is_pinned t.old.pool k ≡ true → IsListed t.old k }
+    ensures unpinned { (k : ℕ) → is_pinned t.new.pool k ≡ false }
+    ensures rest { SameButPins t.old t.new }
+    ensures list { SameTables t.old t.new }
+{
+    for i in 0..t.shadows as usize {
+        let k = t.shadowed[i];
+        t.pool.unpin(k);
+    }
+}
+
+/// Stores a word of page `p`, the frame of entry `k`, which is dirty, of block `b`, and part of the open update.
+pub(crate) fn put_edit<M: Machine>(
+    m: &mut M,
+    p: Page,
+    k: u32,
+    b: Block,
+    w: u16,
+    v: u64,
+) -> Result<(), Stopped>
+    requires coherent { Coherent (M.contents m.old) (length (M.run m.old).scratch) }
+    requires closed { (M.contents m.old).open_page ≡ None }
+    requires valid { IsValid (M.contents m.old).words k }
+    requires block { tag_block (tag_at (M.contents m.old).words k) ≡ b.0 }
+    requires dirty { is_dirty (tag_at (M.contents m.old).words k) ≡ true }
+    requires page { p.0 ≡ frame_page (M.contents m.old).words k }
+    requires word { w < 512 }
+    ensures puts { OnOk result (Puts k b.0 w v (M.contents m.old) (M.contents m.new)) }
+    ensures same { OnErr result (M.contents m.new ≡ M.contents m.old) }
+    ensures entries { SameEntries (M.contents m.old).words (M.contents m.new).words }
+    ensures rest { M.contents m.new ≡ record (M.contents m.old) { words = (M.contents m.new).words } }
+    ensures closed { (M.contents m.new).open_page ≡ None }
+    ensures lasts { Lasts (M.contents m.old) (M.contents m.new) }
+    ensures ends { StepEnds (M.run m.old) (M.run m.new) (IsErr result) }
+{
+    put_word(m, p, w, v)?;
+    Ok(())
+}
+
+/// Marks entry `k` dirty: its page may differ from the disk's block then.
+fn dirty_for_update<M: Machine>(m: &mut M, k: u32) -> Result<(), Stopped>
+    requires coherent { Coherent (M.contents m.old) (length (M.run m.old).scratch) }
+    requires closed { (M.contents m.old).open_page ≡ None }
+    requires valid { IsValid (M.contents m.old).words k }
+    ensures keeps { Keeps (M.contents m.old) (M.contents m.new) }
+    ensures dirty { OnOk result (is_dirty (tag_at (M.contents m.new).words k) ≡ true) }
+    ensures one_entry { OneEntry k (M.contents m.old).words (M.contents m.new).words }
+    ensures held { HeldEntry k (M.contents m.old).words (M.contents m.new).words }
+    ensures same { OnErr result (M.contents m.new ≡ M.contents m.old) }
+    ensures rest { M.contents m.new ≡ record (M.contents m.old) { words = (M.contents m.new).words } }
+    ensures closed { (M.contents m.new).open_page ≡ None }
+    ensures lasts { Lasts (M.contents m.old) (M.contents m.new) }
+    ensures ends { StepEnds (M.run m.old) (M.run m.new) (IsErr result) }
+{
+    set_dirty(m, k)?;
+    Ok(())
+}
+
+/// The tag of entry `k`.
+fn tag_of_entry<M: Machine>(m: &M, k: u32) -> Tag
+    requires coherent { Coherent (M.contents m.now) (length (M.run m.now).scratch) }
+    requires entry { k < frames_of (M.contents m.now).words }
+    ensures { result.0 ≡ tag_at (M.contents m.now).words k }
+{
+    load_tag(m, k)
+}
+
+/// The shadow of entry `k`, 0 for none.
+fn shadow_of_entry<M: Machine>(m: &M, k: u32) -> u64
+    requires coherent { Coherent (M.contents m.now) (length (M.run m.now).scratch) }
+    requires entry { k < frames_of (M.contents m.now).words }
+    ensures { result ≡ shadow_at (M.contents m.now).words k }
+{
+    read_entry(m, k).shadow
+}
+
+impl<M: Machine> PageCache<M> {
+    /// Marks entry `k` dirty, if it isn't.
+    pub(crate) fn dirty_frame(&mut self, k: u32) -> Result<(), Stopped>
+        requires sound { CacheSound (M.contents self.old.machine) (length (M.run self.old.machine).scratch) self.old.tables }
+        requires valid { IsValid (M.contents self.old.machine).words k }
+        ensures sound { CacheSound (M.contents self.new.machine) (length (M.run self.new.machine).scratch) self.new.tables }
+        ensures keeps { Keeps (M.contents self.old.machine) (M.contents self.new.machine) }
+        ensures dirty { OnOk result (is_dirty (tag_at (M.contents self.new.machine).words k) ≡ true) }
+        ensures one_entry { OneEntry k (M.contents self.old.machine).words (M.contents self.new.machine).words }
+        ensures held { HeldEntry k (M.contents self.old.machine).words (M.contents self.new.machine).words }
+        ensures tables { self.new.tables ≡ self.old.tables }
+        ensures still { Still (M.contents self.old.machine) (M.contents self.new.machine) }
+        ensures lasts { Lasts (M.contents self.old.machine) (M.contents self.new.machine) }
+        ensures ends { StepEnds (M.run self.old.machine) (M.run self.new.machine) (IsErr result) }
+    {
+        if tag_of_entry(&self.machine, k).is_dirty() {
+            return Ok(());
+        }
+        dirty_for_update(&mut self.machine, k)?;
+        Ok(())
+    }
+
+    /// Gives entry `k`, which is dirty and has no shadow, the next one.
+    pub(crate) fn give_shadow(&mut self, k: u32) -> Result<(), Stopped>
+        requires sound { CacheSound (M.contents self.old.machine) (length (M.run self.old.machine).scratch) self.old.tables }
+        requires updating { gate_of (M.contents self.old.machine).words ≡ 1 }
+        requires valid { IsValid (M.contents self.old.machine).words k }
+        requires metadata { is_data (tag_at (M.contents self.old.machine).words k) ≡ false }
+        requires dirty { is_dirty (tag_at (M.contents self.old.machine).words k) ≡ true }
+        requires bare { shadow_at (M.contents self.old.machine).words k ≡ 0 }
+        requires room { self.old.tables.shadows < 16 }
+        ensures sound { CacheSound (M.contents self.new.machine) (length (M.run self.new.machine).scratch) self.new.tables }
+        ensures keeps { Keeps (M.contents self.old.machine) (M.contents self.new.machine) }
+        ensures names { SameNames (M.contents self.old.machine).words (M.contents self.new.machine).words }
+        ensures given { OnOk result (shadow_at (M.contents self.new.machine).words k ≢ 0) }
+        ensures others { (j : ℕ) → j ≢ k → j < frames_of (M.contents self.old.machine).words → shadow_at (M.contents self.new.machine).words j ≡ shadow_at (M.contents self.old.machine).words j }
+        ensures count { OnOk result (self.new.tables.shadows ≡ self.old.tables.shadows + 1) }
+        ensures forgotten { self.new.tables.forgotten ≡ self.old.tables.forgotten }
+        ensures still { Still (M.contents self.old.machine) (M.contents self.new.machine) }
+        ensures lasts { Lasts (M.contents self.old.machine) (M.contents self.new.machine) }
+        ensures ends { StepEnds (M.run self.old.machine) (M.run self.new.machine) (IsErr result) }
+    {
+        let place = self.tables.shadows;
+        shadow(&mut self.machine, k, place + 1)?;
+        self.tables.shadowed[place as usize] = k;
+        self.tables.shadows = place + 1;
+        // Its edits have to stay out of the disk until the commit.
+        self.tables.pool.pin(k);
+        Ok(())
+    }
+
+    /// Gives entry `k`, which is of metadata, a shadow, if it has none.
+    #[tactic(auto, using(crate::proofs::Rooms::keeps_then, crate::proofs::Rooms::lasts_then, crate::proofs::Rooms::ends_then, crate::proofs::Rooms::ends_ok, crate::proofs::Stills::still_trans, rio_model::specs::CoverSteps::keeps_refl, rio_base::specs::MachineRules::lasts_refl))]
+    pub(crate) fn shadow_frame(&mut self, k: u32) -> Result<(), Stopped>
+        requires sound { CacheSound (M.contents self.old.machine) (length (M.run self.old.machine).scratch) self.old.tables }
+        requires updating { gate_of (M.contents self.old.machine).words ≡ 1 }
+        requires valid { IsValid (M.contents self.old.machine).words k }
+        requires metadata { is_data (tag_at (M.contents self.old.machine).words k) ≡ false }
+        requires room { (shadow_at (M.contents self.old.machine).words k ≢ 0) ⊎ (self.old.tables.shadows < 16) }
+        ensures sound { CacheSound (M.contents self.new.machine) (length (M.run self.new.machine).scratch) self.new.tables }
+        ensures keeps { Keeps (M.contents self.old.machine) (M.contents self.new.machine) }
+        ensures pages { SamePages (M.contents self.old.machine).words (M.contents self.new.machine).words }
+        ensures gives { OnOk result (GivesShadow k (M.contents self.old.machine).words (M.contents self.new.machine).words self.old.tables self.new.tables) }
+        ensures forgotten { self.new.tables.forgotten ≡ self.old.tables.forgotten }
+        ensures still { Still (M.contents self.old.machine) (M.contents self.new.machine) }
+        ensures lasts { Lasts (M.contents self.old.machine) (M.contents self.new.machine) }
+        ensures ends { StepEnds (M.run self.old.machine) (M.run self.new.machine) (IsErr result) }
+    {
+        if shadow_of_entry(&self.machine, k) != 0 {
+            return Ok(());
+        }
+        self.dirty_frame(k)?;
+        self.give_shadow(k)?;
+        Ok(())
+    }
+}

@@ -1,0 +1,279 @@
+//! The cache as a volume: stores, updates, blocks made anew and forgotten, and flushes.
+
+ghost use Rattle.page_cache.specs.Caches.{CacheSound, FewWrites, Still, cache_below, cache_health, cache_kept, cache_seen};
+ghost use Rattle.page_cache.specs.Settled.{cache_settled};
+ghost use Rattle.rio_base.specs.Blocks.{Caches, CanName, Drops, Ends, FaultAt, Halts, IsPlace, IsSpan, Looks, as_word};
+ghost use Rattle.rio_base.specs.Volume.{Begun, CachesStored, Firm, FirmBut, Goes, HasRoom, OldOrNew, OldOrPut, OldOrRun, RunName, Runs, SameBut, SameUpdate, Touches, cleared, put, put_run, stored_name};
+ghost use Rattle.std.specs.Prelude.{IfOk, IsErrOf, None, OnOk, Some, false, length, true, ℕ, ◌+◌, ◌<◌, ◌≡◌, ◌≤◌};
+ghost use Rattle.write_back.specs.Flushing.{Flushed};
+
+use crate::cache::PageCache;
+use crate::updating::{clear_list, listed, put_edit, unpin_all};
+use rio_base::{Block, Machine, Page, PageName, RunFail, Stopped, VolFail, Volume};
+use shadow_pages::{begin, commit, undo};
+
+impl<M: Machine> Volume for PageCache<M> {
+    ghost below = { λ x. cache_below (M.contents x.machine) (M.run x.machine) };
+
+    ghost kept = { λ x. cache_kept (M.contents x.machine) x.tables };
+
+    ghost settled = { λ x s. cache_settled (M.contents x.machine) _ x.tables s };
+
+    ghost limited = { λ x most e. M.limited x.machine most e };
+
+    ghost touched_sure = { λ x b e. e };
+
+    ghost passes_keeps = { λ x y p. p };
+
+    /// Makes block `b`, which isn't cached, read as zeros, under a name as for [`rio_base::Blocks::word`]. It is not
+    /// loose any more, if it was forgotten. After a refusal it may read as anything and be loose.
+    #[tactic(auto, using(crate::proofs::Settling::ends_of))]
+    fn fresh(&mut self, b: Block, name: Option<PageName>) -> Result<(), VolFail>
+        requires sound { CacheSound (M.contents self.old.machine) (length (M.run self.old.machine).scratch) self.old.tables }
+        requires place { b.0 < (cache_seen (M.contents self.old.machine)).count }
+        requires name { CanName (cache_seen (M.contents self.old.machine)) b.0 name }
+        requires uncached { (cache_seen (M.contents self.old.machine)).cached b.0 ≡ false }
+        requires idle { (cache_kept (M.contents self.old.machine) self.old.tables).updating ≡ false }
+        ensures ok { OnOk result (((cache_seen (M.contents self.new.machine)).words ≡ cleared (cache_seen (M.contents self.old.machine)).words b.0) × ((cache_kept (M.contents self.new.machine) self.new.tables).loose b.0 ≡ false)) }
+        ensures others { SameBut b.0 (cache_seen (M.contents self.old.machine)).words (cache_seen (M.contents self.new.machine)).words }
+        ensures standing { SameBut b.0 (cache_kept (M.contents self.old.machine) self.old.tables).standing (cache_kept (M.contents self.new.machine) self.new.tables).standing }
+        ensures firm { FirmBut b.0 (cache_kept (M.contents self.old.machine) self.old.tables) (cache_kept (M.contents self.new.machine) self.new.tables) }
+        ensures count { (cache_seen (M.contents self.new.machine)).count ≡ (cache_seen (M.contents self.old.machine)).count }
+        ensures caches { Caches (cache_seen (M.contents self.old.machine)) (cache_seen (M.contents self.new.machine)) b.0 name }
+        ensures idle { (cache_kept (M.contents self.new.machine) self.new.tables).updating ≡ false }
+        ensures goes { Goes (cache_health (M.contents self.old.machine) (M.run self.old.machine)) (cache_below (M.contents self.old.machine) (M.run self.old.machine)) (cache_health (M.contents self.new.machine) (M.run self.new.machine)) (cache_below (M.contents self.new.machine) (M.run self.new.machine)) }
+        ensures ends { Ends (cache_health (M.contents self.old.machine) (M.run self.old.machine)) (cache_health (M.contents self.new.machine) (M.run self.new.machine)) result }
+        ensures sound { CacheSound (M.contents self.new.machine) (length (M.run self.new.machine).scratch) self.new.tables }
+        ensures writes { FewWrites b.0 (M.contents self.old.machine) (M.contents self.new.machine) }
+    {
+        let k = self.make_room(b)?;
+        self.bring_zeros(k, b, name)?;
+        self.tables.mark(b, false);
+        Ok(())
+    }
+
+    /// Stores a word of a block outside an update. `Fault` changes no word and no name; `Stopped` leaves the old or the
+    /// new word.
+    #[tactic(auto, using(crate::proofs::Settling::ends_of))]
+    fn store(&mut self, b: Block, name: Option<PageName>, w: u16, v: u64) -> Result<(), VolFail>
+        requires sound { CacheSound (M.contents self.old.machine) (length (M.run self.old.machine).scratch) self.old.tables }
+        requires place { IsPlace (cache_seen (M.contents self.old.machine)) b.0 w }
+        requires name { CanName (cache_seen (M.contents self.old.machine)) b.0 name }
+        requires idle { (cache_kept (M.contents self.old.machine) self.old.tables).updating ≡ false }
+        ensures ok { OnOk result ((cache_seen (M.contents self.new.machine)).words ≡ put (cache_seen (M.contents self.old.machine)).words b.0 w v) }
+        ensures fault { IsErrOf result VolFail.Fault → ((cache_seen (M.contents self.new.machine)).words ≡ (cache_seen (M.contents self.old.machine)).words) × ((cache_kept (M.contents self.new.machine) self.new.tables).standing ≡ (cache_kept (M.contents self.old.machine) self.old.tables).standing) × Drops (cache_seen (M.contents self.old.machine)) (cache_seen (M.contents self.new.machine)) }
+        ensures either { OldOrPut (cache_seen (M.contents self.old.machine)).words (cache_seen (M.contents self.new.machine)).words b.0 w v }
+        ensures standing { SameBut b.0 (cache_kept (M.contents self.old.machine) self.old.tables).standing (cache_kept (M.contents self.new.machine) self.new.tables).standing }
+        ensures firm { Firm (cache_kept (M.contents self.old.machine) self.old.tables) (cache_kept (M.contents self.new.machine) self.new.tables) }
+        ensures count { (cache_seen (M.contents self.new.machine)).count ≡ (cache_seen (M.contents self.old.machine)).count }
+        ensures caches { CachesStored (cache_seen (M.contents self.old.machine)) (cache_seen (M.contents self.new.machine)) b.0 name }
+        ensures named { OnOk result ((cache_seen (M.contents self.new.machine)).cached b.0 ≡ true → (cache_seen (M.contents self.new.machine)).names b.0 ≡ stored_name ((cache_seen (M.contents self.old.machine)).cached b.0) ((cache_seen (M.contents self.old.machine)).names b.0) name) }
+        ensures idle { (cache_kept (M.contents self.new.machine) self.new.tables).updating ≡ false }
+        ensures goes { Goes (cache_health (M.contents self.old.machine) (M.run self.old.machine)) (cache_below (M.contents self.old.machine) (M.run self.old.machine)) (cache_health (M.contents self.new.machine) (M.run self.new.machine)) (cache_below (M.contents self.new.machine) (M.run self.new.machine)) }
+        ensures ends { Ends (cache_health (M.contents self.old.machine) (M.run self.old.machine)) (cache_health (M.contents self.new.machine) (M.run self.new.machine)) result }
+        ensures sound { CacheSound (M.contents self.new.machine) (length (M.run self.new.machine).scratch) self.new.tables }
+        ensures writes { FewWrites b.0 (M.contents self.old.machine) (M.contents self.new.machine) }
+    {
+        let k = self.ready(b, name)?;
+        self.put_frame(k, b, w, v)?;
+        Ok(())
+    }
+
+    /// Stores a run of words of a block, from word `w` on in rising order, outside an update: one window for all of them,
+    /// and one step each. A run of no words does nothing. `Fault` comes before the first word alone; `Stopped` leaves a
+    /// front of them.
+    fn store_run(
+        &mut self,
+        b: Block,
+        name: Option<PageName>,
+        w: u16,
+        from: &[u64],
+    ) -> Result<(), RunFail>
+        requires sound { CacheSound (M.contents self.old.machine) (length (M.run self.old.machine).scratch) self.old.tables }
+        requires place { IsSpan (cache_seen (M.contents self.old.machine)) b.0 w (length from.now) }
+        requires name { CanName (cache_seen (M.contents self.old.machine)) b.0 name }
+        requires idle { (cache_kept (M.contents self.old.machine) self.old.tables).updating ≡ false }
+        ensures ok { OnOk result ((cache_seen (M.contents self.new.machine)).words ≡ put_run (cache_seen (M.contents self.old.machine)).words b.0 w (length from.now) from.now) }
+        ensures fault { FaultAt result (λ n. (n < length from.now) × ((cache_seen (M.contents self.new.machine)).words ≡ put_run (cache_seen (M.contents self.old.machine)).words b.0 w n from.now)) }
+        ensures front { OldOrRun (cache_seen (M.contents self.old.machine)).words (cache_seen (M.contents self.new.machine)).words b.0 w from.now (length from.now) }
+        ensures standing { SameBut b.0 (cache_kept (M.contents self.old.machine) self.old.tables).standing (cache_kept (M.contents self.new.machine) self.new.tables).standing }
+        ensures firm { Firm (cache_kept (M.contents self.old.machine) self.old.tables) (cache_kept (M.contents self.new.machine) self.new.tables) }
+        ensures count { (cache_seen (M.contents self.new.machine)).count ≡ (cache_seen (M.contents self.old.machine)).count }
+        ensures caches { CachesStored (cache_seen (M.contents self.old.machine)) (cache_seen (M.contents self.new.machine)) b.0 name }
+        ensures named { OnOk result (0 < length from.now → (cache_seen (M.contents self.new.machine)).cached b.0 ≡ true → RunName ((cache_seen (M.contents self.old.machine)).cached b.0) ((cache_seen (M.contents self.old.machine)).names b.0) name ((cache_seen (M.contents self.new.machine)).names b.0)) }
+        ensures idle { (cache_kept (M.contents self.new.machine) self.new.tables).updating ≡ false }
+        ensures goes { Goes (cache_health (M.contents self.old.machine) (M.run self.old.machine)) (cache_below (M.contents self.old.machine) (M.run self.old.machine)) (cache_health (M.contents self.new.machine) (M.run self.new.machine)) (cache_below (M.contents self.new.machine) (M.run self.new.machine)) }
+        ensures ends { Ends (cache_health (M.contents self.old.machine) (M.run self.old.machine)) (cache_health (M.contents self.new.machine) (M.run self.new.machine)) (as_word result) }
+        ensures sound { CacheSound (M.contents self.new.machine) (length (M.run self.new.machine).scratch) self.new.tables }
+        ensures writes { FewWrites b.0 (M.contents self.old.machine) (M.contents self.new.machine) }
+    {
+        if from.is_empty() {
+            return Ok(());
+        }
+        let k = match self.ready(b, name) {
+            Ok(k) => k,
+            Err(VolFail::Fault) => return Err(RunFail::Fault(0)),
+            Err(VolFail::Stopped) => return Err(RunFail::Stopped),
+        };
+        match self.put_frame_run(k, b, w, from) {
+            Ok(()) => Ok(()),
+            Err(Stopped) => Err(RunFail::Stopped),
+        }
+    }
+
+    /// Opens an update, as [`rio_base::Volume::begin`].
+    fn begin(&mut self) -> Result<(), Stopped>
+        requires sound { CacheSound (M.contents self.old.machine) (length (M.run self.old.machine).scratch) self.old.tables }
+        requires idle { (cache_kept (M.contents self.old.machine) self.old.tables).updating ≡ false }
+        ensures ok { OnOk result (Begun (cache_seen (M.contents self.old.machine)) (cache_kept (M.contents self.old.machine) self.old.tables) (cache_kept (M.contents self.new.machine) self.new.tables)) }
+        ensures looks { Looks (cache_seen (M.contents self.old.machine)) (cache_seen (M.contents self.new.machine)) }
+        ensures standing { (cache_kept (M.contents self.new.machine) self.new.tables).standing ≡ (cache_kept (M.contents self.old.machine) self.old.tables).standing }
+        ensures firm { Firm (cache_kept (M.contents self.old.machine) self.old.tables) (cache_kept (M.contents self.new.machine) self.new.tables) }
+        ensures drops { Drops (cache_seen (M.contents self.old.machine)) (cache_seen (M.contents self.new.machine)) }
+        ensures goes { Goes (cache_health (M.contents self.old.machine) (M.run self.old.machine)) (cache_below (M.contents self.old.machine) (M.run self.old.machine)) (cache_health (M.contents self.new.machine) (M.run self.new.machine)) (cache_below (M.contents self.new.machine) (M.run self.new.machine)) }
+        ensures ends { Halts (cache_health (M.contents self.old.machine) (M.run self.old.machine)) (cache_health (M.contents self.new.machine) (M.run self.new.machine)) result }
+        ensures sound { CacheSound (M.contents self.new.machine) (length (M.run self.new.machine).scratch) self.new.tables }
+        ensures still { Still (M.contents self.old.machine) (M.contents self.new.machine) }
+    {
+        begin(&mut self.machine, listed(&self.tables))?;
+        clear_list(&mut self.tables);
+        Ok(())
+    }
+
+    /// Makes a block of metadata part of the open update, as [`rio_base::Volume::touch`].
+    #[tactic(auto, using(crate::proofs::Rooms::keeps_then, crate::proofs::Rooms::lasts_then, crate::proofs::Rooms::ends_then, crate::proofs::Rooms::ends_of, crate::proofs::Stills::few_then))]
+    fn touch(&mut self, b: Block) -> Result<(), VolFail>
+        requires sound { CacheSound (M.contents self.old.machine) (length (M.run self.old.machine).scratch) self.old.tables }
+        requires place { b.0 < (cache_seen (M.contents self.old.machine)).count }
+        requires metadata { CanName (cache_seen (M.contents self.old.machine)) b.0 None }
+        requires in_update { (cache_kept (M.contents self.old.machine) self.old.tables).updating ≡ true }
+        requires room { HasRoom (cache_kept (M.contents self.old.machine) self.old.tables) b.0 }
+        ensures ok { OnOk result (Touches b.0 (cache_kept (M.contents self.old.machine) self.old.tables) (cache_kept (M.contents self.new.machine) self.new.tables)) }
+        ensures fault { IsErrOf result VolFail.Fault → SameUpdate (cache_kept (M.contents self.old.machine) self.old.tables) (cache_kept (M.contents self.new.machine) self.new.tables) }
+        ensures looks { Looks (cache_seen (M.contents self.old.machine)) (cache_seen (M.contents self.new.machine)) }
+        ensures standing { (cache_kept (M.contents self.new.machine) self.new.tables).standing ≡ (cache_kept (M.contents self.old.machine) self.old.tables).standing }
+        ensures firm { Firm (cache_kept (M.contents self.old.machine) self.old.tables) (cache_kept (M.contents self.new.machine) self.new.tables) }
+        ensures caches { Caches (cache_seen (M.contents self.old.machine)) (cache_seen (M.contents self.new.machine)) b.0 None }
+        ensures in_update { (cache_kept (M.contents self.new.machine) self.new.tables).updating ≡ true }
+        ensures goes { Goes (cache_health (M.contents self.old.machine) (M.run self.old.machine)) (cache_below (M.contents self.old.machine) (M.run self.old.machine)) (cache_health (M.contents self.new.machine) (M.run self.new.machine)) (cache_below (M.contents self.new.machine) (M.run self.new.machine)) }
+        ensures ends { Ends (cache_health (M.contents self.old.machine) (M.run self.old.machine)) (cache_health (M.contents self.new.machine) (M.run self.new.machine)) result }
+        ensures sound { CacheSound (M.contents self.new.machine) (length (M.run self.new.machine).scratch) self.new.tables }
+        ensures writes { FewWrites b.0 (M.contents self.old.machine) (M.contents self.new.machine) }
+    {
+        let k = self.fetch(b, None)?;
+        self.shadow_frame(k)?;
+        Ok(())
+    }
+
+    /// Changes a word of a touched block, as [`rio_base::Volume::edit`].
+    fn edit(&mut self, b: Block, w: u16, v: u64) -> Result<(), Stopped>
+        requires sound { CacheSound (M.contents self.old.machine) (length (M.run self.old.machine).scratch) self.old.tables }
+        requires place { IsPlace (cache_seen (M.contents self.old.machine)) b.0 w }
+        requires touched { (cache_kept (M.contents self.old.machine) self.old.tables).touched b.0 ≡ true }
+        ensures ok { OnOk result ((cache_seen (M.contents self.new.machine)).words ≡ put (cache_seen (M.contents self.old.machine)).words b.0 w v) }
+        ensures either { OldOrPut (cache_seen (M.contents self.old.machine)).words (cache_seen (M.contents self.new.machine)).words b.0 w v }
+        ensures update { OnOk result (SameUpdate (cache_kept (M.contents self.old.machine) self.old.tables) (cache_kept (M.contents self.new.machine) self.new.tables)) }
+        ensures standing { (cache_kept (M.contents self.new.machine) self.new.tables).standing ≡ (cache_kept (M.contents self.old.machine) self.old.tables).standing }
+        ensures firm { Firm (cache_kept (M.contents self.old.machine) self.old.tables) (cache_kept (M.contents self.new.machine) self.new.tables) }
+        ensures count { (cache_seen (M.contents self.new.machine)).count ≡ (cache_seen (M.contents self.old.machine)).count }
+        ensures drops { Drops (cache_seen (M.contents self.old.machine)) (cache_seen (M.contents self.new.machine)) }
+        ensures in_update { (cache_kept (M.contents self.new.machine) self.new.tables).updating ≡ true }
+        ensures goes { Goes (cache_health (M.contents self.old.machine) (M.run self.old.machine)) (cache_below (M.contents self.old.machine) (M.run self.old.machine)) (cache_health (M.contents self.new.machine) (M.run self.new.machine)) (cache_below (M.contents self.new.machine) (M.run self.new.machine)) }
+        ensures ends { Halts (cache_health (M.contents self.old.machine) (M.run self.old.machine)) (cache_health (M.contents self.new.machine) (M.run self.new.machine)) result }
+        ensures sound { CacheSound (M.contents self.new.machine) (length (M.run self.new.machine).scratch) self.new.tables }
+        ensures still { Still (M.contents self.old.machine) (M.contents self.new.machine) }
+    {
+        let Some(k) = self.tables.pool.find(b) else {
+            unreachable!()
+        };
+        let page = Page(self.tables.first_frame + k);
+        put_edit(&mut self.machine, page, k, b, w, v)?;
+        Ok(())
+    }
+
+    /// Makes the open update stand, as [`rio_base::Volume::commit`].
+    fn commit(&mut self) -> Result<(), Stopped>
+        requires sound { CacheSound (M.contents self.old.machine) (length (M.run self.old.machine).scratch) self.old.tables }
+        requires in_update { (cache_kept (M.contents self.old.machine) self.old.tables).updating ≡ true }
+        ensures ok { OnOk result (((cache_kept (M.contents self.new.machine) self.new.tables).standing ≡ (cache_seen (M.contents self.old.machine)).words) × ((cache_kept (M.contents self.new.machine) self.new.tables).updating ≡ false)) }
+        ensures stopped { OldOrNew (cache_kept (M.contents self.old.machine) self.old.tables).standing (cache_seen (M.contents self.old.machine)).words (cache_kept (M.contents self.new.machine) self.new.tables).standing }
+        ensures looks { Looks (cache_seen (M.contents self.old.machine)) (cache_seen (M.contents self.new.machine)) }
+        ensures firm { Firm (cache_kept (M.contents self.old.machine) self.old.tables) (cache_kept (M.contents self.new.machine) self.new.tables) }
+        ensures drops { Drops (cache_seen (M.contents self.old.machine)) (cache_seen (M.contents self.new.machine)) }
+        ensures goes { Goes (cache_health (M.contents self.old.machine) (M.run self.old.machine)) (cache_below (M.contents self.old.machine) (M.run self.old.machine)) (cache_health (M.contents self.new.machine) (M.run self.new.machine)) (cache_below (M.contents self.new.machine) (M.run self.new.machine)) }
+        ensures ends { Halts (cache_health (M.contents self.old.machine) (M.run self.old.machine)) (cache_health (M.contents self.new.machine) (M.run self.new.machine)) result }
+        ensures sound { CacheSound (M.contents self.new.machine) (length (M.run self.new.machine).scratch) self.new.tables }
+        ensures still { Still (M.contents self.old.machine) (M.contents self.new.machine) }
+    {
+        commit(&mut self.machine)?;
+        unpin_all(&mut self.tables);
+        Ok(())
+    }
+
+    /// Ends the open update without a trace, as [`rio_base::Volume::rollback`].
+    fn rollback(&mut self) -> Result<(), Stopped>
+        requires sound { CacheSound (M.contents self.old.machine) (length (M.run self.old.machine).scratch) self.old.tables }
+        requires in_update { (cache_kept (M.contents self.old.machine) self.old.tables).updating ≡ true }
+        ensures ok { OnOk result (((cache_seen (M.contents self.new.machine)).words ≡ (cache_kept (M.contents self.old.machine) self.old.tables).begun) × ((cache_kept (M.contents self.new.machine) self.new.tables).updating ≡ false)) }
+        ensures untouched { (c w : ℕ) → (cache_kept (M.contents self.old.machine) self.old.tables).touched c ≡ false → (cache_seen (M.contents self.new.machine)).words c w ≡ (cache_kept (M.contents self.old.machine) self.old.tables).begun c w }
+        ensures standing { (cache_kept (M.contents self.new.machine) self.new.tables).standing ≡ (cache_kept (M.contents self.old.machine) self.old.tables).standing }
+        ensures firm { Firm (cache_kept (M.contents self.old.machine) self.old.tables) (cache_kept (M.contents self.new.machine) self.new.tables) }
+        ensures count { (cache_seen (M.contents self.new.machine)).count ≡ (cache_seen (M.contents self.old.machine)).count }
+        ensures drops { Drops (cache_seen (M.contents self.old.machine)) (cache_seen (M.contents self.new.machine)) }
+        ensures goes { Goes (cache_health (M.contents self.old.machine) (M.run self.old.machine)) (cache_below (M.contents self.old.machine) (M.run self.old.machine)) (cache_health (M.contents self.new.machine) (M.run self.new.machine)) (cache_below (M.contents self.new.machine) (M.run self.new.machine)) }
+        ensures ends { Halts (cache_health (M.contents self.old.machine) (M.run self.old.machine)) (cache_health (M.contents self.new.machine) (M.run self.new.machine)) result }
+        ensures sound { CacheSound (M.contents self.new.machine) (length (M.run self.new.machine).scratch) self.new.tables }
+        ensures still { Still (M.contents self.old.machine) (M.contents self.new.machine) }
+    {
+        undo(&mut self.machine, listed(&self.tables))?;
+        unpin_all(&mut self.tables);
+        Ok(())
+    }
+
+    /// Drops a block from the cache without writing it: its content no longer counts. It is marked as forgotten first,
+    /// so that it is loose however the call ends.
+    #[tactic(auto, using(crate::proofs::Freed::halts_of))]
+    fn forget(&mut self, b: Block) -> Result<(), Stopped>
+        requires sound { CacheSound (M.contents self.old.machine) (length (M.run self.old.machine).scratch) self.old.tables }
+        requires place { b.0 < (cache_seen (M.contents self.old.machine)).count }
+        requires idle { (cache_kept (M.contents self.old.machine) self.old.tables).updating ≡ false }
+        ensures ok { OnOk result (((cache_kept (M.contents self.new.machine) self.new.tables).loose b.0 ≡ true) × ((cache_seen (M.contents self.new.machine)).cached b.0 ≡ false)) }
+        ensures others { SameBut b.0 (cache_seen (M.contents self.old.machine)).words (cache_seen (M.contents self.new.machine)).words }
+        ensures firm_block { (cache_kept (M.contents self.new.machine) self.new.tables).loose b.0 ≡ false → (cache_seen (M.contents self.new.machine)).words ≡ (cache_seen (M.contents self.old.machine)).words }
+        ensures standing { SameBut b.0 (cache_kept (M.contents self.old.machine) self.old.tables).standing (cache_kept (M.contents self.new.machine) self.new.tables).standing }
+        ensures firm { FirmBut b.0 (cache_kept (M.contents self.old.machine) self.old.tables) (cache_kept (M.contents self.new.machine) self.new.tables) }
+        ensures count { (cache_seen (M.contents self.new.machine)).count ≡ (cache_seen (M.contents self.old.machine)).count }
+        ensures drops { Drops (cache_seen (M.contents self.old.machine)) (cache_seen (M.contents self.new.machine)) }
+        ensures idle { (cache_kept (M.contents self.new.machine) self.new.tables).updating ≡ false }
+        ensures goes { Goes (cache_health (M.contents self.old.machine) (M.run self.old.machine)) (cache_below (M.contents self.old.machine) (M.run self.old.machine)) (cache_health (M.contents self.new.machine) (M.run self.new.machine)) (cache_below (M.contents self.new.machine) (M.run self.new.machine)) }
+        ensures ends { Halts (cache_health (M.contents self.old.machine) (M.run self.old.machine)) (cache_health (M.contents self.new.machine) (M.run self.new.machine)) result }
+        ensures sound { CacheSound (M.contents self.new.machine) (length (M.run self.new.machine).scratch) self.new.tables }
+        ensures still { Still (M.contents self.old.machine) (M.contents self.new.machine) }
+    {
+        self.tables.mark(b, true);
+        let Some(k) = self.tables.pool.find(b) else {
+            return Ok(());
+        };
+        self.drop_frame(k, b)?;
+        Ok(())
+    }
+
+    #[tactic(auto, using(crate::proofs::Flushes::flushed_sound, crate::proofs::Flushes::shut_by, crate::proofs::Rooms::looks_keeps, crate::proofs::Rooms::firm_keeps, crate::proofs::Kept::tables_refl, crate::proofs::StoreCalls::drops_narrows, crate::proofs::Goes::runs_of, crate::proofs::Rooms::ends_of))]
+    fn flush(&mut self, k: u64) -> Result<u32, VolFail>
+        requires sound { CacheSound (M.contents self.old.machine) (length (M.run self.old.machine).scratch) self.old.tables }
+        requires idle { (cache_kept (M.contents self.old.machine) self.old.tables).updating ≡ false }
+        ensures most { IfOk result (λ n. n ≤ k) }
+        ensures looks { Looks (cache_seen (M.contents self.old.machine)) (cache_seen (M.contents self.new.machine)) }
+        ensures standing { (cache_kept (M.contents self.new.machine) self.new.tables).standing ≡ (cache_kept (M.contents self.old.machine) self.old.tables).standing }
+        ensures firm { Firm (cache_kept (M.contents self.old.machine) self.old.tables) (cache_kept (M.contents self.new.machine) self.new.tables) }
+        ensures drops { Drops (cache_seen (M.contents self.old.machine)) (cache_seen (M.contents self.new.machine)) }
+        ensures idle { (cache_kept (M.contents self.new.machine) self.new.tables).updating ≡ false }
+        ensures runs { Runs (cache_health (M.contents self.old.machine) (M.run self.old.machine)) (cache_below (M.contents self.old.machine) (M.run self.old.machine)) (cache_health (M.contents self.new.machine) (M.run self.new.machine)) (cache_below (M.contents self.new.machine) (M.run self.new.machine)) }
+        ensures ends { Ends (cache_health (M.contents self.old.machine) (M.run self.old.machine)) (cache_health (M.contents self.new.machine) (M.run self.new.machine)) result }
+        ensures sound { CacheSound (M.contents self.new.machine) (length (M.run self.new.machine).scratch) self.new.tables }
+        ensures flushed { IfOk result (λ j. Flushed k j (M.contents self.old.machine) (M.contents self.new.machine)) }
+    {
+        let j = write_back::flush(&mut self.machine, k)?;
+        Ok(j)
+    }
+}
