@@ -1,0 +1,205 @@
+-- Laws of a record that is written, published, put back and dropped.
+use Rattle.std.proofs.Common.{◌≡◌, ℕ, ◌+◌, ◌-◌, ◌*◌, ◌<◌, ◌≤◌, List, ◌∷◌, length, refl, sym, ap, subst, ◌∙◌, arith, inl, inr, ◌⊎◌, true, false}
+use Rattle.std.proofs.lemmas.Bool.Decides.{nat_tests}
+use Rattle.std.proofs.lemmas.List.FromFn.{get_or-map-range_with_len, length-map-range_with_len}
+use Rattle.rio_base.specs.Rules.{true_false}
+use Rattle.rio_base.specs.Regions.{RegionContent, put_word, put_words, OldOrPutWord, OldOrPutWords}
+use Rattle.rio_model.specs.Undo.{UndoRecord, taken, undo_word, undo_words, undo_records, is_covered, IsRecord, places, live, map_from, saving, Saves, IsRegion, SameSizes, Rests, Gains, Undoes, Dropped, Sets, Puts, CoversAll}
+use Rattle.rio_model.specs.UndoRules.{rests_undoes, gains_undoes, undoes_trans, sizes_trans, head_sizes, head_live, gains_by, region_same, covered_keeps, covered_by, newest_dropped, dropped_by, sets_covered, puts_covered}
+use Rattle.undo_list.specs.Copies.{CopiedFront, copied}
+use Rattle.undo_list.specs.Stages.{Off, Staged, PutsFront}
+use Rattle.undo_list.specs.declared.records.SavedAt.{SavedAt}
+use Rattle.undo_list.proofs.Chains.{NewestFits}
+
+-- ---- words outside a span
+
+pub off_same : (from to : ℕ) (f g : RegionContent) → g ≡ f → Off from to f g
+off_same from to f g e = record { each = λ x out. ap (λ (h : RegionContent). h x) e }
+
+pub off_trans : {from to : ℕ} {f g h : RegionContent} → Off from to f g → Off from to g h → Off from to f h
+off_trans a b = record { each = λ x out. b.each x out ∙ a.each x out }
+
+off_put : (f : RegionContent) (at v x : ℕ) → (x < at) ⊎ (at < x) → put_word f at v x ≡ f x
+off_put f at v x (inl h) = grind (arith, nat_tests)
+off_put f at v x (inr h) = grind (arith, nat_tests)
+
+outside : (from to at x : ℕ) → from ≤ at → at < to → (x < from) ⊎ (to ≤ x) → (x < at) ⊎ (at < x)
+outside from to at x low high (inl h) = inl (omega arith)
+outside from to at x low high (inr h) = inr (omega arith)
+
+pub off_either : (from to : ℕ) (f g : RegionContent) (at v : ℕ) → from ≤ at → at < to → OldOrPutWord f g at v → Off from to f g
+off_either from to f g at v low high (inl same) = off_same from to f g same
+off_either from to f g at v low high (inr put) = record { each = λ x out. ap (λ (h : RegionContent). h x) put ∙ off_put f at v x (outside from to at x low high out) }
+
+off_copied : (f : RegionContent) (src dst k x : ℕ) → (x < dst) ⊎ (dst + k ≤ x) → copied f src dst k x ≡ f x
+off_copied f src dst k x (inl h) = grind (arith, nat_tests)
+off_copied f src dst k x (inr h) = grind (arith, nat_tests)
+
+outside_run : (from to dst k n x : ℕ) → from ≤ dst → dst + n ≤ to → k ≤ n → (x < from) ⊎ (to ≤ x) → (x < dst) ⊎ (dst + k ≤ x)
+outside_run from to dst k n x low high small (inl h) = inl (omega arith)
+outside_run from to dst k n x low high small (inr h) = inr (omega arith)
+
+pub off_front : (from to : ℕ) (f g : RegionContent) (src dst n : ℕ) → from ≤ dst → dst + n ≤ to → CopiedFront f g src dst n → Off from to f g
+off_front from to f g src dst n low high c = record { each = λ x out. ap (λ (h : RegionContent). h x) c.2 ∙ off_copied f src dst c.0 x (outside_run from to dst c.0 n x low high c.1 out) }
+
+-- ---- a record is written
+
+pub staged : (f : RegionContent) (at head place from n : ℕ) → 515 + at + n ≤ from → Staged f (copied (put_word (put_word (put_word f (512 + at) head) (513 + at) place) (514 + at) n) from (515 + at) n) at head place from n
+staged f at head place from n behind = record {
+  older = grind (arith, nat_tests);
+  first = grind (arith, nat_tests);
+  count = grind (arith, nat_tests);
+  old = λ k small. one k small;
+}
+  where
+    one : (k : ℕ) → k < n → copied (put_word (put_word (put_word f (512 + at) head) (513 + at) place) (514 + at) n) from (515 + at) n (512 + (at + 3 + k)) ≡ f (from + k)
+    one k small = let place : from + (512 + (at + 3 + k) - (515 + at)) ≡ from + k = omega arith in grind (arith, nat_tests)
+
+-- ---- a region through a change of undo words that no record takes
+
+sizes_off : (from to : ℕ) (f g : RegionContent) → 512 ≤ from → Off from to f g → SameSizes f g
+sizes_off from to f g low off = record { magic = off.each 0 (inl (omega arith)); undo = off.each 1 (inl (omega arith)); data_pages = off.each 2 (inl (omega arith)) }
+
+live_off : (from to : ℕ) (f g : RegionContent) → 512 ≤ from → to ≤ map_from f → Off from to f g → live g ≡ live f
+live_off from to f g low high off = λ i q. here q i
+  where
+    same : g 1 ≡ f 1
+    same = off.each 1 (inl (omega arith))
+
+    here : (q : ℕ) → live g q ≡ live f q
+    here q = ap (λ u. g (512 * (1 + u) + q)) same ∙ off.each (512 * (1 + f 1) + q) (inr (omega arith))
+
+pub rests_off : (n : ℕ) (f g : RegionContent) (from to : ℕ) → IsRegion n f → 512 + taken (undo_records f) ≤ from → to ≤ map_from f → Off from to f g → Rests n f g
+rests_off n f g from to h low high off =
+    let sizes = sizes_off from to f g (omega arith) off in
+    let now = region_same n f g h sizes (off.each 3 (inl (omega arith))) (λ p small. off.each (512 + p) (inl (omega arith))) in
+    record { region = now.0; sizes = sizes; present = live_off from to f g (omega arith) high off; records = now.1 }
+
+-- ---- a record is published
+
+head_off : (f : RegionContent) (v x : ℕ) → 3 < x → put_word f 3 v x ≡ f x
+head_off f v x h = grind (arith, nat_tests)
+
+pub gains_put : (n : ℕ) (f m : RegionContent) (at place from k : ℕ) → IsRegion n f → at ≡ taken (undo_records f) → Off (512 + at) (515 + at + k) f m → Staged f m at (f 3) place from k → from ≡ map_from f + place → place + k ≤ places f → at + 3 + k ≤ undo_words f → Gains n f (put_word m 3 (at + 1)) place k
+gains_put n f m at place from k h is off st source within fits =
+    let g = put_word m 3 (at + 1) in
+    let r = saving (live f) place k in
+    let sizes = sizes_trans f m g (sizes_off (512 + at) (515 + at + k) f m (omega arith) off) (head_sizes m (at + 1)) in
+    let long : length r.old ≡ k = length-map-range_with_len (live f) place k in
+    let lies : IsRecord g at r = record {
+      first = head_off m (at + 1) (512 + (at + 1)) (omega arith) ∙ st.first;
+      count = head_off m (at + 1) (512 + (at + 2)) (omega arith) ∙ st.count ∙ sym long;
+      old = λ j small. head_off m (at + 1) (512 + (at + 3 + j)) (omega arith) ∙ st.old j (omega arith) ∙ ap f (omega arith) ∙ sym (get_or-map-range_with_len (live f) place k j (place + j) 0 (omega arith) refl);
+    } in
+    let words : (p : ℕ) → p < taken (undo_records f) → undo_word g p ≡ undo_word f p = λ p small. head_off m (at + 1) (512 + p) (omega arith) ∙ off.each (512 + p) (inl (omega arith)) in
+    let older : undo_word g (taken (undo_records f)) ≡ f 3 = subst (λ a. undo_word g a ≡ f 3) is (head_off m (at + 1) (512 + at) (omega arith) ∙ st.older) in
+    gains_by n f g place k h sizes (head_live m (at + 1) ∙ live_off (512 + at) (515 + at + k) f m (omega arith) (omega arith) off) (omega arith) words older (subst (λ a. IsRecord g a r) is lies) within (omega arith)
+
+pub published : (n : ℕ) (f m g : RegionContent) (at place from k v : ℕ) → IsRegion n f → at ≡ taken (undo_records f) → Off (512 + at) (515 + at + k) f m → Staged f m at (f 3) place from k → from ≡ map_from f + place → place + k ≤ places f → at + 3 + k ≤ undo_words f → v ≡ at + 1 → OldOrPutWord m g 3 v → Rests n f g ⊎ Gains n f g place k
+published n f m g at place from k v h is off st source within fits value (inl same) = inl (rests_off n f g (512 + at) (515 + at + k) h (omega arith) (omega arith) (off_trans off (off_same (512 + at) (515 + at + k) m g same)))
+published n f m g at place from k v h is off st source within fits value (inr put) = inr (subst (λ w. Gains n f w place k) (sym (put ∙ ap (λ x. put_word m 3 x) value)) (gains_put n f m at place from k h is off st source within fits))
+
+pub staged_from : (f1 f m : RegionContent) (at head place from k : ℕ) → f1 ≡ f → head ≡ f 3 → Staged f1 m at head place from k → Staged f m at (f 3) place from k
+staged_from f1 f m at head place from k same is st = subst (λ h. Staged f m at h place from k) is (subst (λ w. Staged w m at head place from k) same st)
+
+pub either_undoes : (n : ℕ) (f g : RegionContent) (place k : ℕ) → Rests n f g ⊎ Gains n f g place k → Undoes n f g
+either_undoes n f g place k (inl h) = rests_undoes n f g h
+either_undoes n f g place k (inr h) = gains_undoes n f g place k h
+
+pub undoes_from : (n m : ℕ) (f1 f g : RegionContent) → f1 ≡ f → m ≡ n → Undoes m f1 g → Undoes n f g
+undoes_from n m f1 f g same size h = subst (λ k. Undoes k f g) size (subst (λ w. Undoes m w g) same h)
+
+-- ---- the newest record is put back
+
+-- a front of its words is back
+pub newest_back : (n : ℕ) (f g : RegionContent) (r : UndoRecord) (older : List UndoRecord) (src dst k : ℕ) → IsRegion n f → undo_records f ≡ r ∷ older → dst ≡ map_from f + r.first → k ≤ length r.old → g ≡ copied f src dst k → Undoes n f g
+newest_back n f g r older src dst k h is at small copy = (covered_keeps n f g h low same).undoes
+  where
+    low : (x : ℕ) → x < map_from f → g x ≡ f x
+    low x s = ap (λ (w : RegionContent). w x) copy ∙ off_copied f src dst k x (inl (omega arith))
+
+    map_same : map_from g ≡ map_from f
+    map_same = ap (λ u. 512 * (1 + u)) (low 1 (omega arith))
+
+    is_out : (q : ℕ) → is_covered (undo_records f) q ≡ false → ((r.first ≤ q) × (q < r.first + length r.old)) ⊎ ((q < r.first) ⊎ (r.first + length r.old ≤ q)) → (map_from f + q < dst) ⊎ (dst + k ≤ map_from f + q)
+    is_out q e (inl i) = absurd (true_false (sym (covered_by r older q i) ∙ ap (λ (xs : List UndoRecord). is_covered xs q) (sym is) ∙ e))
+    is_out q e (inr (inl o)) = inl (omega arith)
+    is_out q e (inr (inr o)) = inr (omega arith)
+
+    same : (q : ℕ) → is_covered (undo_records f) q ≡ false → live g q ≡ live f q
+    same q e = ap (λ a. g (a + q)) map_same ∙ ap (λ (w : RegionContent). w (map_from f + q)) copy ∙ off_copied f src dst k (map_from f + q) (is_out q e (grind arith))
+
+copied_at : (f : RegionContent) (src dst n k : ℕ) → k < n → copied f src dst n (dst + k) ≡ f (src + k)
+copied_at f src dst n k small = let place : src + (dst + k - dst) ≡ src + k = omega arith in grind (arith, nat_tests)
+
+-- all of its words are back, so it is dropped
+back_dropped : (n : ℕ) (f g : RegionContent) (r : UndoRecord) (older : List UndoRecord) (at head : ℕ) → IsRegion n f → undo_records f ≡ r ∷ older → IsRecord f at r → at ≡ taken older → head ≡ undo_word f at → g ≡ copied f (515 + at) (map_from f + r.first) (length r.old) → Undoes n f (put_word g 3 head)
+back_dropped n f g r older at head h is lies place head_is copy =
+    let back = newest_back n f g r older (515 + at) (map_from f + r.first) (length r.old) h is refl (omega arith) copy in
+    let low : (x : ℕ) → x < map_from f → g x ≡ f x = λ x s. ap (λ (w : RegionContent). w x) copy ∙ off_copied f (515 + at) (map_from f + r.first) (length r.old) x (inl (omega arith)) in
+    let sizes : SameSizes f g = back.sizes in
+    let recs : undo_records g ≡ undo_records f = (region_same n f g h sizes (low 3 (omega arith)) (λ p small. low (512 + p) (omega (arith, h.room)))).1 in
+    let size : taken (undo_records f) ≡ taken older + 3 + length r.old = ap taken is in
+    let at_low : undo_word g (taken older) ≡ undo_word f (taken older) = low (512 + taken older) (omega (arith, h.room, size)) in
+    let saves : Saves (live g) r.first (length r.old) r = record {
+      first = refl;
+      count = refl;
+      old = λ k small. sym (ap (λ u. g (512 * (1 + u) + (r.first + k))) sizes.undo ∙ ap g (omega arith) ∙ ap (λ (w : RegionContent). w (map_from f + r.first + k)) copy ∙ copied_at f (515 + at) (map_from f + r.first) (length r.old) k small ∙ ap f (omega arith) ∙ lies.old k small);
+    } in
+    let same : undo_word g (taken older) ≡ head = at_low ∙ ap (undo_word f) (sym place) ∙ sym head_is in
+    subst (λ v. Undoes n f (put_word g 3 v)) same (undoes_trans n f g (put_word g 3 (undo_word g (taken older))) back (newest_dropped n g r older back.region (recs ∙ is) saves))
+
+pub front_back : (n : ℕ) (f f2 g : RegionContent) (head dst : ℕ) (v : SavedAt) → IsRegion n f → f2 ≡ f → NewestFits f head (undo_records f) v → dst ≡ map_from f + v.first → CopiedFront f2 g (515 + v.at) dst v.count → Undoes n f g
+front_back n f f2 g head dst v h same w at c = newest_back n f g w.newest w.rest (515 + v.at) dst c.0 h w.is (at ∙ ap (λ x. map_from f + x) w.first) (omega (arith, c.1, w.count)) (c.2 ∙ ap (λ (x : RegionContent). copied x (515 + v.at) dst c.0) same)
+
+-- all of it is back, and the head is stored or not
+pub newest_ends : (n : ℕ) (f f2 m g : RegionContent) (head dst : ℕ) (v : SavedAt) → IsRegion n f → f2 ≡ f → NewestFits f head (undo_records f) v → v.older ≡ undo_word f v.at → dst ≡ map_from f + v.first → m ≡ copied f2 (515 + v.at) dst v.count → OldOrPutWord m g 3 v.older → Undoes n f g
+newest_ends n f f2 m g head dst v h same w older at copy (inl kept) = front_back n f f2 g head dst v h same w at (v.count, omega arith, kept ∙ copy)
+newest_ends n f f2 m g head dst v h same w older at copy (inr put) =
+    let here : m ≡ copied f (515 + v.at) (map_from f + w.newest.first) (length w.newest.old) = copy ∙ ap (λ (x : RegionContent). copied x (515 + v.at) dst v.count) same ∙ ap (λ d. copied f (515 + v.at) d v.count) (at ∙ ap (λ x. map_from f + x) w.first) ∙ ap (λ k. copied f (515 + v.at) (map_from f + w.newest.first) k) w.count in
+    subst (λ x. Undoes n f x) (sym put) (back_dropped n f m w.newest w.rest v.at v.older h w.is w.lies w.at older here)
+
+-- ---- all records are dropped, or a word is stored
+
+pub drop_ends : (n : ℕ) (f g : RegionContent) → IsRegion n f → OldOrPutWord f g 3 0 → (g ≡ f) ⊎ Dropped n f g
+drop_ends n f g h (inl same) = inl same
+drop_ends n f g h (inr put) = inr (dropped_by n f g h put)
+
+pub set_at : (n : ℕ) (f f1 g : RegionContent) (at place v : ℕ) → f1 ≡ f → IsRegion n f → is_covered (undo_records f) place ≡ true → at ≡ map_from f + place → g ≡ put_word f1 at v → Sets n f g place v
+set_at n f f1 g at place v same h covered is put = sets_covered n f g place v h covered (put ∙ ap (λ w. put_word w at v) same ∙ ap (λ x. put_word f x v) is)
+
+pub set_ends : (n : ℕ) (f f1 g : RegionContent) (at place v : ℕ) → f1 ≡ f → IsRegion n f → is_covered (undo_records f) place ≡ true → at ≡ map_from f + place → OldOrPutWord f1 g at v → (g ≡ f) ⊎ Sets n f g place v
+set_ends n f f1 g at place v same h covered is (inl kept) = inl (kept ∙ same)
+set_ends n f f1 g at place v same h covered is (inr put) = inr (set_at n f f1 g at place v same h covered is put)
+
+pub puts_at : (n : ℕ) (f f1 g : RegionContent) (at place k most : ℕ) (words : List ℕ) → f1 ≡ f → IsRegion n f → k ≤ most → CoversAll (undo_records f) place most → at ≡ map_from f + place → g ≡ put_words f1 at k words → Puts n f g place k words
+puts_at n f f1 g at place k most words same h small covered is put = puts_covered n f g place k words h (λ q low high. covered q low (omega arith)) (put ∙ ap (λ w. put_words w at k words) same ∙ ap (λ x. put_words f x k words) is)
+
+pub puts_front : (n : ℕ) (f f1 g : RegionContent) (at place : ℕ) (words : List ℕ) → f1 ≡ f → IsRegion n f → CoversAll (undo_records f) place (length words) → at ≡ map_from f + place → OldOrPutWords f1 g at words (length words) → PutsFront n f g place words
+puts_front n f f1 g at place words same h covered is o = (o.0, o.1, puts_at n f f1 g at place o.0 (length words) words same h o.1 covered is o.2)
+
+none_put : (f : RegionContent) (at : ℕ) (words : List ℕ) → f ≡ put_words f at 0 words
+none_put f at words = λ i x. one x i
+  where
+    one : (x : ℕ) → f x ≡ put_words f at 0 words x
+    one x = grind (arith, nat_tests)
+
+-- nothing is stored
+pub puts_none : (n : ℕ) (f g : RegionContent) (place : ℕ) (words : List ℕ) → IsRegion n f → g ≡ f → Puts n f g place 0 words
+puts_none n f g place words h same = puts_covered n f g place 0 words h (λ q low high. absurd (omega arith)) (same ∙ none_put f (map_from f + place) words)
+
+-- ---- the region at a later state
+
+pub region_at : (n k : ℕ) (f g : RegionContent) → IsRegion n f → k ≡ n → g ≡ f → IsRegion k g
+region_at n k f g h size same = subst (λ j. IsRegion j g) (sym size) (subst (λ w. IsRegion n w) (sym same) h)
+
+pub set_region : (n k : ℕ) (f g : RegionContent) (place v : ℕ) → IsRegion n f → k ≡ n → (g ≡ f) ⊎ Sets n f g place v → IsRegion k g
+set_region n k f g place v h size (inl same) = region_at n k f g h size same
+set_region n k f g place v h size (inr s) = subst (λ j. IsRegion j g) (sym size) s.keeps.undoes.region
+
+pub puts_region : (n k : ℕ) (f g : RegionContent) (place : ℕ) (words : List ℕ) → k ≡ n → PutsFront n f g place words → IsRegion k g
+puts_region n k f g place words size p = subst (λ j. IsRegion j g) (sym size) p.2.keeps.undoes.region
+
+pub drop_region : (n k : ℕ) (f g : RegionContent) → IsRegion n f → k ≡ n → (g ≡ f) ⊎ Dropped n f g → IsRegion k g
+drop_region n k f g h size (inl same) = region_at n k f g h size same
+drop_region n k f g h size (inr d) = subst (λ j. IsRegion j g) (sym size) d.region

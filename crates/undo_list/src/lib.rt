@@ -1,0 +1,21 @@
+//! The undo list of a region: records of old words, newest first, in its undo pages. A place that a record covers may be
+//! stored, and all records put back give the words of before.
+#![tactic(auto)]
+
+mod covering;
+mod failures;
+mod faulty_region;
+mod places;
+mod ranges;
+mod records;
+mod rewinding;
+mod runs;
+#[cfg(test)]
+mod undo_tests;
+
+pub use covering::covered;
+pub use failures::UndoFail;
+pub use faulty_region::FaultyRegion;
+pub use places::{data_pages, put_covered, put_covered_run, read_places, word_at};
+pub use ranges::{room, set_range};
+pub use rewinding::{drop_all, rewind};

@@ -1,0 +1,162 @@
+//! Tests of the undo list on a region in memory, whose calls are stopped and fail one after the other.
+
+ghost use Rattle.std.specs.Prelude.{◌≡◌, ◌≤◌, ◌<◌, ◌+◌, IfOk};
+ghost use Rattle.rio_base.specs.Regions.{Stays};
+ghost use Rattle.rio_model.specs.Undo.{IsRegion};
+ghost use Rattle.undo_list.specs.FaultyRegions.{FaultyReady, faulty_content};
+
+use crate::{
+    FaultyRegion, UndoFail, covered, drop_all, put_covered, rewind, room, set_range, word_at,
+};
+use rio_base::{RegionWords, VolFail};
+use std::alloc::Global;
+use std::process::Abort;
+use std::test::Fail;
+
+/// The place of the first data word of a region of one map page.
+const DATA: u32 = 512;
+
+/// Saves `count` places from `place` on, and stores a word at the first of them.
+fn change<R: RegionWords>(r: &mut R, place: u32, count: u32, value: u64) -> Result<(), UndoFail>
+    requires ready { R.ready r.old }
+    requires region { IsRegion (R.count r.old) (R.words r.old) }
+    requires some { 1 ≤ count }
+    requires place { place + count ≤ 1024 }
+    ensures region { IsRegion (R.count r.new) (R.words r.new) }
+    ensures stays { Stays R.keeps_rest R.ready R.count R.health R.below r.old r.new }
+{
+    set_range(r, place, count)?;
+    put_covered(r, place, value)?;
+    Ok(())
+}
+
+#[test]
+fn oldest_record_is_put_back_last(rt: HostRuntime) -> Result<(), Fail> {
+    let mut r = FaultyRegion::fresh(rt.alloc(), 1, 1)?;
+    change(&mut r, DATA, 1, 0x1111111111111111)?;
+    change(&mut r, DATA, 1, 0x2222222222222222)?;
+    assert_eq!(rt; room(&mut r)?, 504);
+    rewind(&mut r)?;
+    assert_eq!(rt; word_at(&mut r, DATA)?, 0);
+    assert_eq!(rt; room(&mut r)?, 512);
+    Ok(())
+}
+
+#[test]
+fn room_is_counted_to_the_word(rt: HostRuntime) -> Result<(), Fail> {
+    let mut r = FaultyRegion::fresh(rt.alloc(), 1, 1)?;
+    assert!(rt; set_range(&mut r, 0, 510) == Err(UndoFail::Full));
+    assert!(rt; set_range(&mut r, 0, 509) == Ok(()));
+    assert_eq!(rt; room(&mut r)?, 0);
+    assert!(rt; set_range(&mut r, 0, 0) == Err(UndoFail::Full));
+    Ok(())
+}
+
+#[test]
+fn places_are_covered_by_records_together(rt: HostRuntime) -> Result<(), Fail> {
+    let mut r = FaultyRegion::fresh(rt.alloc(), 1, 1)?;
+    set_range(&mut r, DATA + 8, 8)?;
+    set_range(&mut r, DATA, 8)?;
+    set_range(&mut r, DATA + 20, 4)?;
+    set_range(&mut r, DATA + 16, 3)?;
+    assert_eq!(rt; covered(&mut r, DATA, 19)?, true);
+    assert_eq!(rt; covered(&mut r, DATA, 20)?, false);
+    assert_eq!(rt; covered(&mut r, DATA + 20, 4)?, true);
+    assert_eq!(rt; covered(&mut r, DATA + 7, 2)?, true);
+    assert_eq!(rt; covered(&mut r, DATA + 24, 0)?, true);
+    Ok(())
+}
+
+/// A region with two records that overlap, and other words under them.
+fn changed(alloc: Global) -> Result<FaultyRegion, Fail>
+    ensures ready { IfOk result FaultyReady }
+    ensures region { IfOk result (λ r. IsRegion r.count (faulty_content r)) }
+{
+    let mut r = FaultyRegion::fresh(alloc, 1, 1)?;
+    change(&mut r, DATA + 70, 80, 7)?;
+    change(&mut r, DATA + 70, 40, 8)?;
+    Ok(r)
+}
+
+/// A range whose `n`th call stops leaves its record or none, and all is put back. Answers whether it was done before.
+fn stop_range(rt: &impl Abort, alloc: Global, n: u64) -> Result<bool, Fail> {
+    let mut r = changed(alloc)?;
+    r.stop_after(n);
+    let done = set_range(&mut r, DATA, 90).is_ok();
+    r.stop_after(0);
+    assert_eq!(rt; room(&mut r)?, if done { 293 } else { 386 });
+    rewind(&mut r)?;
+    assert_eq!(rt; word_at(&mut r, DATA + 70)?, 0);
+    Ok(done)
+}
+
+#[test]
+fn every_stop_of_a_range_leaves_the_record_or_none(rt: HostRuntime) -> Result<(), Fail> {
+    for n in 1..400 {
+        if stop_range(&rt, rt.alloc(), n)? {
+            assert!(rt; 180 < n);
+            return Ok(());
+        }
+    }
+    Err("never done")?
+}
+
+/// Putting back is stopped at its `n`th call, and at that of the next try. Answers whether the first was done before.
+fn stop_rewind(rt: &impl Abort, alloc: Global, n: u64) -> Result<bool, Fail> {
+    let mut r = changed(alloc)?;
+    r.stop_after(n);
+    let done = rewind(&mut r).is_ok();
+    r.stop_after(n);
+    let _again = rewind(&mut r);
+    r.stop_after(0);
+    rewind(&mut r)?;
+    assert_eq!(rt; word_at(&mut r, DATA + 70)?, 0);
+    assert_eq!(rt; room(&mut r)?, 512);
+    Ok(done)
+}
+
+#[test]
+fn every_stop_of_putting_back_is_made_good(rt: HostRuntime) -> Result<(), Fail> {
+    for n in 1..400 {
+        if stop_rewind(&rt, rt.alloc(), n)? {
+            assert!(rt; 240 < n);
+            return Ok(());
+        }
+    }
+    Err("never done")?
+}
+
+/// A range whose `n`th call fails leaves the records as they were. Answers whether none of its calls did.
+fn fail_range(rt: &impl Abort, alloc: Global, n: u64) -> Result<bool, Fail> {
+    let mut r = changed(alloc)?;
+    r.fail_call(n)?;
+    if set_range(&mut r, DATA, 90).is_ok() {
+        return Ok(true);
+    }
+    assert_eq!(rt; room(&mut r)?, 386);
+    Ok(false)
+}
+
+#[test]
+fn every_fault_of_a_range_leaves_the_records(rt: HostRuntime) -> Result<(), Fail> {
+    for n in 1..400 {
+        if fail_range(&rt, rt.alloc(), n)? {
+            assert!(rt; 180 < n);
+            return Ok(());
+        }
+    }
+    Err("never done")?
+}
+
+#[test]
+fn drop_is_whole_or_absent(rt: HostRuntime) -> Result<(), Fail> {
+    let mut r = changed(rt.alloc())?;
+    r.stop_after(1);
+    assert!(rt; drop_all(&mut r) == Err(VolFail::Stopped));
+    r.stop_after(0);
+    assert_eq!(rt; room(&mut r)?, 386);
+    drop_all(&mut r)?;
+    assert_eq!(rt; word_at(&mut r, DATA + 70)?, 8);
+    assert_eq!(rt; room(&mut r)?, 512);
+    Ok(())
+}
