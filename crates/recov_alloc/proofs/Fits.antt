@@ -1,0 +1,137 @@
+-- The lowest gap, by runs of free and of used units.
+use Rattle.std.proofs.Common.{◌≡◌, ◌≢◌, ℕ, ◌+◌, ◌-◌, ◌*◌, ◌/◌, ◌%◌, ◌<◌, ◌≤◌, ◌⊎◌, inl, inr, sym, ap, subst, ◌∙◌, arith, List, ◌^◌, bit_and}
+use Rattle.std.specs.Prelude.{slice_index}
+use Rattle.std.specs.Int.{bit_at}
+use Rattle.std.proofs.lemmas.Nat.Bits.{shr_and_one}
+use Rattle.rio_base.specs.Regions.{AreWords}
+use Rattle.rio_model.specs.Heap.{used, starts, IsFirstFit, IsGap}
+use Rattle.recov_alloc.specs.Bits.{IsOnes, IsZeros}
+use Rattle.recov_alloc.specs.Scans.{Before, FoundBy}
+
+pub none_before : (l : ℕ → ℕ) (n : ℕ) → 1 ≤ n → Before l n 0 0
+none_before l n some = record {
+  small = omega arith;
+  within = omega arith;
+  free = λ y a b. absurd (omega arith);
+  edge = λ h. absurd (omega arith);
+  none = λ s h k. absurd (omega arith);
+}
+
+-- ---- units of a word
+
+pub used_bit : (l : ℕ → ℕ) (word page y : ℕ) → word ≡ l (2 * page) → 64 * page ≤ y → y < 64 * page + 64 → used l y ≡ bit_at word (y - 64 * page)
+unfolding used
+used_bit l word page y is low high =
+    let at : y / 64 ≡ page = omega arith in
+    let bit : y % 64 ≡ y - 64 * page = omega arith in
+    ap (λ j. bit_at (l (2 * j)) (y % 64)) at ∙ ap (λ b. bit_at (l (2 * page)) b) bit ∙ ap (λ w. bit_at w (y - 64 * page)) (sym is)
+
+pub starts_bit : (l : ℕ → ℕ) (word page y : ℕ) → word ≡ l (2 * page + 1) → 64 * page ≤ y → y < 64 * page + 64 → starts l y ≡ bit_at word (y - 64 * page)
+unfolding starts
+starts_bit l word page y is low high =
+    let at : y / 64 ≡ page = omega arith in
+    let bit : y % 64 ≡ y - 64 * page = omega arith in
+    ap (λ j. bit_at (l (2 * j + 1)) (y % 64)) at ∙ ap (λ b. bit_at (l (2 * page + 1)) b) bit ∙ ap (λ w. bit_at w (y - 64 * page)) (sym is)
+
+-- whether a block starts at a unit, as one bit of its word
+pub start_is : (l : ℕ → ℕ) (word t : ℕ) → word ≡ l (2 * (t / 64) + 1) → bit_and (word / 2 ^ (t % 64)) 1 ≡ starts l t
+unfolding starts
+start_is l word t is = shr_and_one word (t % 64) ∙ ap (λ w. bit_at w (t % 64)) is
+
+zeros_free : (l : ℕ → ℕ) (word page bit n : ℕ) → word ≡ l (2 * page) → IsZeros word bit n → (y : ℕ) → 64 * page + bit ≤ y → y < 64 * page + bit + n → used l y ≡ 0
+zeros_free l word page bit n is z y low high = used_bit l word page y is (omega arith) (omega (arith, z.within)) ∙ z.each (y - 64 * page) (omega arith) (omega arith)
+
+ones_used : (l : ℕ → ℕ) (word page bit n : ℕ) → word ≡ l (2 * page) → IsOnes word bit n → (y : ℕ) → 64 * page + bit ≤ y → y < 64 * page + bit + n → used l y ≢ 0
+ones_used l word page bit n is o y low high = λ e. let one = used_bit l word page y is (omega arith) (omega (arith, o.within)) ∙ o.each (y - 64 * page) (omega arith) (omega arith) in omega (arith, one, e)
+
+-- ---- runs of units behind what was seen
+
+-- a run of free units completes the gap
+gap_found : (l : ℕ → ℕ) (n x k j y : ℕ) → Before l n x k → n - k ≤ j → x + j ≤ y → ((z : ℕ) → x ≤ z → z < x + j → used l z ≡ 0) → FoundBy l n y (x - k)
+gap_found l n x k j y b whole later free = record {
+  within = omega (arith, b.within, b.small);
+  free = λ z low high. at z low high (grind arith);
+  lowest = λ s below f. lower s below f (grind arith);
+}
+  where
+    at : (z : ℕ) → x - k ≤ z → z < x - k + n → (z < x) ⊎ (x ≤ z) → used l z ≡ 0
+    at z low high (inl before) = b.free z (omega (arith, b.within)) before
+    at z low high (inr behind) = free z behind (omega (arith, b.within, b.small))
+
+    lower : (s : ℕ) → s < x - k → ((z : ℕ) → s ≤ z → z < s + n → used l z ≡ 0) → (s + n ≤ x) ⊎ (x < s + n) → ⊥
+    lower s below f (inl fits) = b.none s fits f
+    lower s below f (inr past) = b.edge (omega (arith, b.within)) (f (x - k - 1) (omega (arith, b.within)) (omega (arith, b.within)))
+
+-- a run of free units that is too short
+free_on : (l : ℕ → ℕ) (n x k j : ℕ) → Before l n x k → j < n - k → ((z : ℕ) → x ≤ z → z < x + j → used l z ≡ 0) → Before l n (x + j) (k + j)
+free_on l n x k j b short free = record {
+  small = omega (arith, b.small);
+  within = omega (arith, b.within);
+  free = λ z low high. at z low high (grind arith);
+  edge = λ h. let place : x + j - (k + j) - 1 ≡ x - k - 1 = omega arith in subst (λ z. used l z ≢ 0) (sym place) (b.edge (omega arith));
+  none = λ s fits f. lower s fits f (grind arith);
+}
+  where
+    at : (z : ℕ) → x + j ≤ z + (k + j) → z < x + j → (z < x) ⊎ (x ≤ z) → used l z ≡ 0
+    at z low high (inl before) = b.free z (omega arith) before
+    at z low high (inr behind) = free z behind high
+
+    lower : (s : ℕ) → s + n ≤ x + j → ((z : ℕ) → s ≤ z → z < s + n → used l z ≡ 0) → (s + n ≤ x) ⊎ (x < s + n) → ⊥
+    lower s fits f (inl before) = b.none s before f
+    lower s fits f (inr past) = b.edge (omega (arith, b.within, b.small)) (f (x - k - 1) (omega (arith, b.within, b.small)) (omega (arith, b.within, b.small)))
+
+-- a run of used units
+used_on : (l : ℕ → ℕ) (n x k j : ℕ) → Before l n x k → 1 ≤ j → ((z : ℕ) → x ≤ z → z < x + j → used l z ≢ 0) → Before l n (x + j) 0
+used_on l n x k j b some full = record {
+  small = omega (arith, b.small);
+  within = omega arith;
+  free = λ z low high. absurd (omega arith);
+  edge = λ h. full (x + j - 0 - 1) (omega arith) (omega arith);
+  none = λ s fits f. lower s fits f (grind arith);
+}
+  where
+    lower : (s : ℕ) → s + n ≤ x + j → ((z : ℕ) → s ≤ z → z < s + n → used l z ≡ 0) → (s + n ≤ x) ⊎ (x < s + n) → ⊥
+    lower s fits f (inl before) = b.none s before f
+    lower s fits f (inr past) = full (s + n - 1) (omega (arith, b.small)) (omega (arith, b.small)) (f (s + n - 1) (omega (arith, b.small)) (omega (arith, b.small)))
+
+-- ---- in one word
+
+pub found_in : (l : ℕ → ℕ) (word page units bit run n : ℕ) → word ≡ l (2 * page) → Before l units (64 * page + bit) run → IsZeros word bit n → units - run ≤ n → FoundBy l units (64 * (page + 1)) (64 * page + bit - run)
+found_in l word page units bit run n is b z whole = gap_found l units (64 * page + bit) run n (64 * (page + 1)) b whole (omega (arith, z.within)) (zeros_free l word page bit n is z)
+
+pub ends_free : (l : ℕ → ℕ) (word page units bit run n : ℕ) → word ≡ l (2 * page) → Before l units (64 * page + bit) run → IsZeros word bit n → n < units - run → bit + n ≡ 64 → Before l units (64 * (page + 1)) (run + n)
+ends_free l word page units bit run n is b z short last = subst (λ x. Before l units x (run + n)) (omega (arith, last)) (free_on l units (64 * page + bit) run n b short (zeros_free l word page bit n is z))
+
+pub hops : (l : ℕ → ℕ) (word page units bit run n m : ℕ) → word ≡ l (2 * page) → Before l units (64 * page + bit) run → IsZeros word bit n → n < units - run → IsOnes word (bit + n) m → 1 ≤ m → Before l units (64 * page + (bit + (n + m))) 0
+hops l word page units bit run n m is b z short o some =
+    let free = free_on l units (64 * page + bit) run n b short (zeros_free l word page bit n is z) in
+    let full = used_on l units (64 * page + bit + n) (run + n) m free some (λ y low high. ones_used l word page (bit + n) m is o y (omega (arith, low)) (omega (arith, high))) in
+    subst (λ x. Before l units x 0) (omega arith) full
+
+-- a bit that is 1 begins a run of them
+pub some_ones : (word bit n m : ℕ) → IsZeros word bit n → bit + n ≢ 64 → IsOnes word (bit + n) m → 1 ≤ m
+some_ones word bit n m z inner o = by (grind arith)
+  where
+    inside : bit + n < 64
+    inside = omega (arith, z.within, inner)
+
+    by : (m ≡ 0) ⊎ (1 ≤ m) → 1 ≤ m
+    by (inr h) = h
+    by (inl e) =
+        let none : bit_at word (bit + n + m) ≡ 0 = o.end (omega (arith, e, inside)) in
+        let place : bit + n + m ≡ bit + n = omega (arith, e) in
+        absurd (omega (arith, z.end inside, sym (ap (bit_at word) place) ∙ none))
+
+pub word_in : (f : ℕ → ℕ) (words : List ℕ) (page count i : ℕ) → AreWords f (2 * page) (2 * count) words → i < count → slice_index words (2 * i) ≡ f (2 * (page + i))
+word_in f words page count i h small = h.each (2 * i) (omega arith) ∙ ap f (omega arith)
+
+-- ---- the whole map
+
+pub first_by : (l : ℕ → ℕ) (units n x t : ℕ) → x ≤ units → FoundBy l n x t → IsFirstFit l units n t
+first_by l units n x t within h = record {
+  gap = record { within = omega (arith, h.within); free = h.free };
+  lowest = λ s below g. h.lowest s below g.free;
+}
+
+pub none_fits : (l : ℕ → ℕ) (units n k : ℕ) → Before l n units k → (s : ℕ) → IsGap l units s n → ⊥
+none_fits l units n k b s g = b.none s g.within g.free

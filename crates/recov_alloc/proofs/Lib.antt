@@ -1,0 +1,4 @@
+pub mod BitRuns
+pub mod Fits
+pub mod Reaches
+pub mod Marks

@@ -1,0 +1,111 @@
+-- How far a block reaches.
+use Rattle.std.proofs.Common.{◌≡◌, ◌≢◌, ℕ, zero, suc, ◌+◌, ◌-◌, ◌*◌, ◌/◌, ◌%◌, ◌<◌, ◌≤◌, ◌⊎◌, inl, inr, sym, ap, subst, ◌∙◌, arith, List, [], ◌∷◌, ◌++◌}
+use Rattle.std.proofs.lemmas.Bool.{cases_eq}
+use Rattle.std.proofs.lemmas.Bool.Decides.{nat_tests}
+use Rattle.std.specs.Prelude.{slice_index}
+use Rattle.std.specs.Int.{bit_at}
+use Rattle.std.proofs.Common.{append_assoc, append-nil}
+use Rattle.rio_base.specs.Regions.{AreWords}
+use Rattle.rio_model.specs.Heap.{used, starts, IsBlock, OfBlocks, blocks_from, run_length}
+use Rattle.rio_model.specs.HeapRules.{block_run}
+use Rattle.recov_alloc.specs.Bits.{GoesOn, IsZeros}
+use Rattle.recov_alloc.proofs.Fits.{used_bit, starts_bit}
+
+-- the units behind the first one, before x, are in its block
+pub record Within (l : ℕ → ℕ) (t x : ℕ) : Type 0 where
+  pub each : (y : ℕ) → t < y → y < x → (used l y ≡ 1) × (starts l y ≡ 0)
+
+pub within_none : (l : ℕ → ℕ) (t : ℕ) → Within l t (t + 1)
+within_none l t = record { each = λ y low high. absurd (omega arith) }
+
+pub within_more : (l : ℕ → ℕ) (t x n : ℕ) (pair : List ℕ) → AreWords l (2 * (x / 64)) 2 pair → Within l t x → GoesOn (slice_index pair 0) (slice_index pair 1) (x % 64) n → Within l t (x + n)
+within_more l t x n pair words w z = record { each = λ y low high. at y low high (grind arith) }
+  where
+    at : (y : ℕ) → t < y → y < x + n → (y < x) ⊎ (x ≤ y) → (used l y ≡ 1) × (starts l y ≡ 0)
+    at y low high (inl before) = w.each y low before
+    at y low high (inr behind) =
+        let both = z.each (y - 64 * (x / 64)) (omega arith) (omega arith) in
+        (used_bit l (slice_index pair 0) (x / 64) y (words.each 0 (omega arith) ∙ ap l (omega arith)) (omega arith) (omega (arith, z.within)) ∙ both.0, starts_bit l (slice_index pair 1) (x / 64) y (words.each 1 (omega arith)) (omega arith) (omega (arith, z.within)) ∙ both.1)
+
+pub stops_at : (l : ℕ → ℕ) (x n : ℕ) (pair : List ℕ) → AreWords l (2 * (x / 64)) 2 pair → GoesOn (slice_index pair 0) (slice_index pair 1) (x % 64) n → x % 64 + n < 64 → (used l (x + n) ≡ 0) ⊎ (starts l (x + n) ≡ 1)
+stops_at l x n pair words z inner = by (z.end inner)
+  where
+    place : x + n - 64 * (x / 64) ≡ x % 64 + n
+    place = omega arith
+
+    by : (bit_at (slice_index pair 0) (x % 64 + n) ≡ 0) ⊎ (bit_at (slice_index pair 1) (x % 64 + n) ≡ 1) → (used l (x + n) ≡ 0) ⊎ (starts l (x + n) ≡ 1)
+    by (inl e) = inl (used_bit l (slice_index pair 0) (x / 64) (x + n) (words.each 0 (omega arith) ∙ ap l (omega arith)) (omega arith) (omega arith) ∙ ap (bit_at (slice_index pair 0)) place ∙ e)
+    by (inr e) = inr (starts_bit l (slice_index pair 1) (x / 64) (x + n) (words.each 1 (omega arith)) (omega arith) (omega arith) ∙ ap (bit_at (slice_index pair 1)) place ∙ e)
+
+-- the block ends before x
+pub block_by : (l : ℕ → ℕ) (p units t x : ℕ) → OfBlocks l p → units ≡ 64 * p → starts l t ≡ 1 → t < x → x ≤ units → Within l t x → (x < units → (used l x ≡ 0) ⊎ (starts l x ≡ 1)) → IsBlock l units t (x - t)
+block_by l p units t x h size start low most w stop = record {
+  some = omega arith;
+  within = omega arith;
+  start = start;
+  filled = λ y a b. at y a b (cases_eq y t);
+  inner = λ y a b. (w.each y a (omega arith)).1;
+  end = λ s. subst (λ z. (used l z ≡ 0) ⊎ (starts l z ≡ 1)) (omega arith) (stop (omega arith));
+}
+  where
+    at : (y : ℕ) → t ≤ y → y < t + (x - t) → (y ≡ t) ⊎ (y ≢ t) → used l y ≡ 1
+    at y a b (inl e) = ap (used l) e ∙ h.used_start t (omega (arith, size)) start
+    at y a b (inr e) = (w.each y (omega arith) (omega arith)).0
+
+-- ---- the list of blocks
+
+from_none : (l : ℕ → ℕ) (x k : ℕ) → starts l x ≡ 0 → blocks_from l x (suc k) ≡ blocks_from l (x + 1) k
+from_none l x k s = grind (arith, nat_tests)
+
+from_start : (l : ℕ → ℕ) (x k : ℕ) → starts l x ≡ 1 → blocks_from l x (suc k) ≡ (x, suc (run_length l (x + 1) k)) ∷ blocks_from l (x + 1) k
+from_start l x k s = grind (arith, nat_tests)
+
+-- no block starts among these units
+pub from_skip : (l : ℕ → ℕ) (x j k : ℕ) → ((y : ℕ) → x ≤ y → y < x + j → starts l y ≡ 0) → blocks_from l x (j + k) ≡ blocks_from l (x + j) k
+from_skip l x zero k none =
+    let count : 0 + k ≡ k = omega arith in
+    let at : x ≡ x + 0 = omega arith in
+    ap (blocks_from l x) count ∙ ap (λ z. blocks_from l z k) at
+from_skip l x (suc j) k none =
+    let count : suc j + k ≡ suc (j + k) = omega arith in
+    let at : x + 1 + j ≡ x + suc j = omega arith in
+    ap (blocks_from l x) count ∙ from_none l x (j + k) (none x (omega arith) (omega arith)) ∙ from_skip l (x + 1) j k (λ y low high. none y (omega arith) (omega arith)) ∙ ap (λ z. blocks_from l z k) at
+
+-- a block, and those behind it
+pub from_block : (l : ℕ → ℕ) (units x n : ℕ) → IsBlock l units x n → blocks_from l x (units - x) ≡ (x, n) ∷ blocks_from l (x + n) (units - (x + n))
+from_block l units x n b =
+    let long : n ≡ suc (run_length l (x + 1) (units - (x + 1))) = block_run l (units - (x + 1)) x n (subst (λ u. IsBlock l u x n) (omega (arith, b.within, b.some)) b) in
+    let count : units - x ≡ suc (units - (x + 1)) = omega (arith, b.within, b.some) in
+    ap (blocks_from l x) count ∙ from_start l x (units - (x + 1)) b.start ∙ ap (λ c. (x, c) ∷ blocks_from l (x + 1) (units - (x + 1))) (sym long) ∙ ap (λ (bs : List (ℕ × ℕ)). (x, n) ∷ bs) rest
+  where
+    rest : blocks_from l (x + 1) (units - (x + 1)) ≡ blocks_from l (x + n) (units - (x + n))
+    rest =
+        let count : units - (x + 1) ≡ n - 1 + (units - (x + n)) = omega (arith, b.within, b.some) in
+        let at : x + 1 + (n - 1) ≡ x + n = omega (arith, b.some) in
+        ap (blocks_from l (x + 1)) count ∙ from_skip l (x + 1) (n - 1) (units - (x + n)) (λ y low high. b.inner y (omega arith) (omega (arith, b.some))) ∙ ap (λ z. blocks_from l z (units - (x + n))) at
+
+-- ---- the list, as far as it was made
+
+pub none_listed : (l : ℕ → ℕ) (units : ℕ) → blocks_from l 0 units ≡ [] ++ blocks_from l 0 (units - 0)
+none_listed l units = let count : units ≡ units - 0 = omega arith in ap (blocks_from l 0) count
+
+-- units that start no block are passed over
+pub listed_on : (l : ℕ → ℕ) (word units x j : ℕ) (all items : List (ℕ × ℕ)) → word ≡ l (2 * (x / 64) + 1) → IsZeros word (x % 64) j → x + j ≤ units → all ≡ items ++ blocks_from l x (units - x) → all ≡ items ++ blocks_from l (x + j) (units - (x + j))
+listed_on l word units x j all items is z within listed =
+    let count : units - x ≡ j + (units - (x + j)) = omega (arith, within) in
+    listed ∙ ap (λ bs. items ++ bs) (ap (blocks_from l x) count ∙ from_skip l x j (units - (x + j)) none)
+  where
+    none : (y : ℕ) → x ≤ y → y < x + j → starts l y ≡ 0
+    none y low high = starts_bit l word (x / 64) y is (omega arith) (omega (arith, z.within)) ∙ z.each (y - 64 * (x / 64)) (omega arith) (omega arith)
+
+-- the next one starts one
+pub next_starts : (l : ℕ → ℕ) (word x j : ℕ) → word ≡ l (2 * (x / 64) + 1) → IsZeros word (x % 64) j → x % 64 + j < 64 → starts l (x + j) ≡ 1
+next_starts l word x j is z inner =
+    let place : x + j - 64 * (x / 64) ≡ x % 64 + j = omega arith in
+    starts_bit l word (x / 64) (x + j) is (omega arith) (omega arith) ∙ ap (bit_at word) place ∙ z.end inner
+
+pub listed_more : (l : ℕ → ℕ) (units x n : ℕ) (all items more : List (ℕ × ℕ)) → IsBlock l units x n → more ≡ items ++ (x, n) ∷ [] → all ≡ items ++ blocks_from l x (units - x) → all ≡ more ++ blocks_from l (x + n) (units - (x + n))
+listed_more l units x n all items more b pushed listed = listed ∙ ap (λ bs. items ++ bs) (from_block l units x n b) ∙ sym (append_assoc items ((x, n) ∷ []) (blocks_from l (x + n) (units - (x + n)))) ∙ ap (λ (bs : List (ℕ × ℕ)). bs ++ blocks_from l (x + n) (units - (x + n))) (sym pushed)
+
+pub listed_all : (l : ℕ → ℕ) (units x : ℕ) (all items : List (ℕ × ℕ)) → units ≤ x → all ≡ items ++ blocks_from l x (units - x) → all ≡ items
+listed_all l units x all items end listed = let none : units - x ≡ 0 = omega arith in listed ∙ ap (λ k. items ++ blocks_from l x k) none ∙ append-nil items

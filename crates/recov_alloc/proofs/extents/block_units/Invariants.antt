@@ -1,0 +1,22 @@
+use Rattle.std.proofs.Common.{◌≡◌, ◌≤◌, ◌<◌, ◌*◌, ◌-◌}
+use Rattle.rio_base.specs.Regions.{Stays}
+use Rattle.rio_model.specs.Undo.{IsRegion, live}
+use Rattle.recov_alloc.proofs.Reaches.{Within}
+use Rattle.recov_alloc.proofs.extents.block_units.Given as goal
+
+abbrev pub invariant-loop-next : goal.invariant-loop-next
+invariant-loop-next g l =
+    let R = g.R.RegionWords in
+    record {
+      words : R.words l.r ≡ R.words l.fn.r;
+      region : IsRegion (R.count l.r) (R.words l.r);
+      low : l.unit < l.next;
+      most : l.next ≤ 64 * l.pages;
+      inside : Within (live (R.words l.fn.r)) l.unit l.next;
+      stays : Stays R.keeps_rest R.ready R.count R.health R.below l.fn.r l.r;
+      later : (R.health l.fn.r).faults ≤ (R.health l.r).faults;
+      running : (R.health l.r).stopped ≡ (R.health l.fn.r).stopped;
+    }
+
+abbrev pub decreases-loop-next : goal.decreases-loop-next
+decreases-loop-next g l = 64 * l.pages - l.next

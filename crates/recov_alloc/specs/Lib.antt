@@ -1,0 +1,4 @@
+pub mod Bits
+pub mod Failures
+pub mod Marks
+pub mod Scans

@@ -1,0 +1,16 @@
+//! The recoverable heap of a region: blocks of units of 64 bytes, taken by first fit and given back under its undo list.
+#![tactic(auto)]
+
+mod allocating;
+mod bits;
+mod extents;
+mod failures;
+mod fitting;
+#[cfg(test)]
+mod heap_tests;
+mod listing;
+mod marking;
+
+pub use allocating::{allocate, release};
+pub use failures::{HeapFail, ReadFail};
+pub use listing::blocks;
