@@ -1,1 +1,5 @@
+pub mod BlankImages
+pub mod DirtyPages
 pub mod TestImages
+pub mod TwoEntries
+pub mod WalkNames

@@ -16,7 +16,7 @@ pages : (words : List ℕ) → IsImage words → slice_index words 2 ≡ 64 → 
 pages words image two three = omega (arith, subst (λ f. 8 * length words ≡ 4096 * image_pages f 1) two (subst (λ s. 8 * length words ≡ 4096 * image_pages (slice_index words 2) s) three image.geometry.pages))
 
 -- entry k lies in the registry
-within_registry : (k frames : ℕ) → k < frames → entry_at k + 5 ≤ 512 * (1 + registry_pages frames)
+pub within_registry : (k frames : ℕ) → k < frames → entry_at k + 5 ≤ 512 * (1 + registry_pages frames)
 unfolding entry_at registry_pages
 within_registry k frames h = omega (arith, h)
 

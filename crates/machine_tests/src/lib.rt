@@ -1,17 +1,43 @@
-//! Tests of boards, of windows on them, and of the registry in their memory: of what needs a whole machine in memory. So
-//! it stands above all crates that it tests.
+//! Tests of boards and of windows on them, and of the registry, of write-back, of updates and of the page cache in their
+//! memory: of what needs a whole machine in memory. So it stands above all crates that it tests.
 #![tactic(auto)]
 
 #[cfg(test)]
 mod boards;
 #[cfg(test)]
+mod cache_tests;
+#[cfg(test)]
+mod cache_walks;
+#[cfg(test)]
+mod cached;
+#[cfg(test)]
+mod crash_tests;
+#[cfg(test)]
+mod crashes;
+#[cfg(test)]
+mod draws;
+#[cfg(test)]
 mod entries;
 #[cfg(test)]
 mod machines;
 #[cfg(test)]
+mod plain_blocks;
+#[cfg(test)]
 mod runs;
 mod saving;
 #[cfg(test)]
+mod shadow_tests;
+#[cfg(test)]
+mod standing;
+#[cfg(test)]
+mod standing_tests;
+#[cfg(test)]
+mod walk;
+#[cfg(test)]
+mod walks;
+#[cfg(test)]
 mod windows;
+#[cfg(test)]
+mod write_back_tests;
 
 pub use saving::save;

@@ -1,6 +1,7 @@
 //! Machines in memory, for the tests: boards with one page of scratch, over disks of 4 blocks.
 
 ghost use Rattle.std.specs.Prelude.{◌≡◌, ◌<◌, ◌-◌, ◌*◌, ◌%◌, ◌^◌, false, None, IfOk, length, take, drop};
+ghost use Rattle.block_disk.specs.MemDisks.{state_of};
 ghost use Rattle.phys_memory.specs.ListMem.{words_of};
 
 use block_disk::MemDisk;
@@ -11,6 +12,39 @@ use std::alloc::{AllocError, Global};
 
 /// A board in memory.
 pub(crate) type MemBoard = Board<ListMem, MemDisk>;
+
+/// A board over this memory and this disk, with one page of scratch.
+pub(crate) fn board_on(mem: ListMem, disk: MemDisk, stop_after: Option<u64>) -> MemBoard
+    requires pages { length (words_of mem) % 512 ≡ 0 }
+    requires room { 512 < length (words_of mem) }
+    ensures protected { (⟦<Board<ListMem, MemDisk> as Machine>⟧.contents result).words ≡ take (length (words_of mem) - 512) (words_of mem) }
+    ensures rest { (⟦<Board<ListMem, MemDisk> as Machine>⟧.run result).scratch ≡ drop (length (words_of mem) - 512) (words_of mem) }
+    ensures closed { (⟦<Board<ListMem, MemDisk> as Machine>⟧.contents result).open_page ≡ None }
+    ensures disk { (⟦<Board<ListMem, MemDisk> as Machine>⟧.contents result).disk ≡ (state_of disk).blocks }
+{
+    Board::new(mem, disk, 1, stop_after)
+}
+
+/// A board over this memory, with one page of scratch, and a disk of so many blocks of zeros.
+pub(crate) fn board_with(
+    alloc: Global,
+    mem: ListMem,
+    blocks: u32,
+    stop_after: Option<u64>,
+) -> Result<MemBoard, AllocError>
+    requires pages { length (words_of mem) % 512 ≡ 0 }
+    requires room { 512 < length (words_of mem) }
+    ensures protected { IfOk result (λ b. (⟦<Board<ListMem, MemDisk> as Machine>⟧.contents b).words ≡ take (length (words_of mem) - 512) (words_of mem)) }
+    ensures rest { IfOk result (λ b. (⟦<Board<ListMem, MemDisk> as Machine>⟧.run b).scratch ≡ drop (length (words_of mem) - 512) (words_of mem)) }
+    ensures words { IfOk result (λ b. length (⟦<Board<ListMem, MemDisk> as Machine>⟧.contents b).words ≡ length (words_of mem) - 512) }
+    ensures scratch { IfOk result (λ b. length (⟦<Board<ListMem, MemDisk> as Machine>⟧.run b).scratch ≡ 512) }
+    ensures closed { IfOk result (λ b. (⟦<Board<ListMem, MemDisk> as Machine>⟧.contents b).open_page ≡ None) }
+    ensures disk { IfOk result (λ b. length (⟦<Board<ListMem, MemDisk> as Machine>⟧.contents b).disk ≡ blocks) }
+    ensures running { IfOk result (λ b. (⟦<Board<ListMem, MemDisk> as Machine>⟧.run b).stopped ≡ false) }
+{
+    let disk = MemDisk::new(alloc, blocks)?;
+    Ok(Board::new(mem, disk, 1, stop_after))
+}
 
 /// A board over this memory, with one page of scratch, and a disk of 4 blocks of zeros.
 pub(crate) fn board_over(
@@ -28,8 +62,7 @@ pub(crate) fn board_over(
     ensures disk { IfOk result (λ b. length (⟦<Board<ListMem, MemDisk> as Machine>⟧.contents b).disk ≡ 4) }
     ensures running { IfOk result (λ b. (⟦<Board<ListMem, MemDisk> as Machine>⟧.run b).stopped ≡ false) }
 {
-    let disk = MemDisk::new(alloc, 4)?;
-    Ok(Board::new(mem, disk, 1, stop_after))
+    board_with(alloc, mem, 4, stop_after)
 }
 
 /// A board over so many pages of zeros.

@@ -1,0 +1,4 @@
+pub mod Blanks
+pub mod Ready
+pub mod TwoEntries
+pub mod Walks

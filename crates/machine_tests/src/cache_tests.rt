@@ -1,0 +1,139 @@
+//! Tests of the page cache by short rows of calls: which block leaves the cache, and what stands of an update that is
+//! stopped.
+
+ghost use Rattle.std.specs.Prelude.{◌≡◌, ◌+◌, ◌<◌, ◌≤◌, true, false, IfOk, OnOk, length};
+ghost use Rattle.rio_base.specs.Volume.{SameUpdate};
+ghost use Rattle.machine_tests.specs.Walks.{Walks};
+
+use crate::cache_walks::cache_of;
+use crate::crashes::crashed;
+use crate::plain_blocks::{BLOCK_WORDS, BLOCKS};
+use block_disk::{DiskChoice, MemDisk};
+use rio_base::{Block, Blocks, VolFail, Volume};
+use std::alloc::Global;
+use std::test::Fail;
+
+/// Reads the first word of a block of metadata.
+#[tactic(auto, using(crate::proofs::WalkNames::walk_place, crate::proofs::WalkNames::can_touch, crate::proofs::WalkNames::walks_touched))]
+fn read_first<V: Volume>(v: &mut V, b: u32) -> Result<u64, VolFail>
+    requires sound { V.sound v.old }
+    requires walks { Walks (V.seen v.old) }
+    requires block { b < 40 }
+    ensures walks { Walks (V.seen v.new) }
+    ensures sound { V.sound v.new }
+{
+    v.word(Block(b), None, 0)
+}
+
+/// Reads the blocks 0 to 31, block 0 again, and block 32.
+fn read_row<V: Volume>(v: &mut V) -> Result<(), VolFail>
+    requires sound { V.sound v.old }
+    requires walks { Walks (V.seen v.old) }
+    ensures walks { Walks (V.seen v.new) }
+    ensures sound { V.sound v.new }
+{
+    for b in 0..32 {
+        read_first(v, b)?;
+    }
+    read_first(v, 0)?;
+    read_first(v, 32)?;
+    Ok(())
+}
+
+/// Whether a block's page is in memory.
+#[tactic(auto, using(crate::proofs::WalkNames::walk_place))]
+fn is_lent<V: Volume>(v: &V, b: u32) -> bool
+    requires sound { V.sound v.now }
+    requires walks { Walks (V.seen v.now) }
+    requires block { b < 64 }
+{
+    v.page(Block(b)).is_some()
+}
+
+/// How the row ends, and whether the blocks 0, 1, 2 and 32 are then in memory.
+fn lent_after(alloc: Global) -> Result<(Result<(), VolFail>, [bool; 4]), Fail> {
+    let mut v = cache_of(alloc, 32, MemDisk::new(alloc, BLOCKS)?, None)?;
+    let end = read_row(&mut v);
+    let lent = [
+        is_lent(&v, 0),
+        is_lent(&v, 1),
+        is_lent(&v, 2),
+        is_lent(&v, 32),
+    ];
+    let (_, _) = v.into_machine().into_parts();
+    Ok((end, lent))
+}
+
+#[test]
+fn the_block_used_longest_ago_leaves(rt: HostRuntime) -> Result<(), Fail> {
+    let (end, lent) = lent_after(rt.alloc())?;
+    assert_eq!(rt; end, Ok(()));
+    assert_eq!(rt; lent, [true, false, true, true]);
+    Ok(())
+}
+
+/// Touches a block of metadata in the open update, and makes its first word 7.
+#[tactic(auto, using(crate::proofs::WalkNames::can_touch, crate::proofs::WalkNames::walk_place, crate::proofs::WalkNames::walks_touched, crate::proofs::WalkNames::walks_dropped))]
+fn set_first<V: Volume>(v: &mut V, b: Block) -> Result<(), VolFail>
+    requires sound { V.sound v.old }
+    requires walks { Walks (V.seen v.old) }
+    requires block { b.0 < 40 }
+    requires in_update { (V.kept v.old).updating ≡ true }
+    requires room { (V.kept v.old).touches < 16 }
+    ensures in_update { OnOk result ((V.kept v.new).updating ≡ true) }
+    ensures touches { OnOk result ((V.kept v.new).touches ≤ (V.kept v.old).touches + 1) }
+    ensures walks { Walks (V.seen v.new) }
+    ensures sound { V.sound v.new }
+{
+    v.touch(b)?;
+    v.edit(b, 0, 7)?;
+    Ok(())
+}
+
+/// Makes the first words of the blocks 5 and 6 the word 7, by one update.
+#[tactic(auto, using(crate::proofs::WalkNames::walks_dropped))]
+fn update_two<V: Volume>(v: &mut V) -> Result<(), VolFail>
+    requires sound { V.sound v.old }
+    requires walks { Walks (V.seen v.old) }
+    requires idle { (V.kept v.old).updating ≡ false }
+    ensures sound { V.sound v.new }
+{
+    v.begin()?;
+    set_first(v, Block(5))?;
+    set_first(v, Block(6))?;
+    v.commit()?;
+    Ok(())
+}
+
+/// How the update ends that stops after so many steps, and the first words of the two blocks that stand then.
+fn stopped_update(alloc: Global, steps: u64) -> Result<(Result<(), VolFail>, [u64; 2]), Fail> {
+    let disk = MemDisk::new(alloc, BLOCKS)?;
+    let mut v = cache_of(alloc, 32, disk, Some(steps))?;
+    let end = update_two(&mut v);
+    let (mem, disk) = v.into_machine().into_parts();
+    let found = crashed(alloc, &mem.into_words(), disk, DiskChoice::AsSynced)?;
+    Ok((end, [found[BLOCK_WORDS * 5], found[BLOCK_WORDS * 6]]))
+}
+
+/// How many steps the update takes.
+fn update_steps(alloc: Global) -> Result<u64, Fail> {
+    let disk = MemDisk::new(alloc, BLOCKS)?;
+    let mut v = cache_of(alloc, 32, disk, None)?;
+    let _end = update_two(&mut v);
+    Ok(v.into_machine().steps())
+}
+
+#[test]
+fn an_update_over_a_cache_stands_whole(rt: HostRuntime) -> Result<(), Fail> {
+    let all = update_steps(rt.alloc())?;
+    for steps in 0..all {
+        let (end, words) = stopped_update(rt.alloc(), steps)?;
+        assert_eq!(rt; end, Err(VolFail::Stopped), "after {steps} steps");
+        assert!(rt;
+            words == [0, 0] || words == [7, 7],
+            "after {steps} steps: {words:?}"
+        );
+    }
+    assert_eq!(rt; stopped_update(rt.alloc(), all)?, (Ok(()), [7, 7]));
+    Ok(())
+}

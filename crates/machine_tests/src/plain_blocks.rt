@@ -1,0 +1,204 @@
+//! The 64 blocks of a volume as plain lists, which every word that a walk reads is compared with.
+
+ghost use Rattle.std.specs.Prelude.{◌≡◌, ◌+◌, ◌<◌, ◌≤◌, IfOk, length};
+
+use rio_base::Block;
+use std::alloc::{AllocError, AllocFailed, Global};
+
+/// How many blocks a walked volume has.
+pub(crate) const BLOCKS: u32 = 64;
+
+/// Words in a block.
+pub(crate) const BLOCK_WORDS: usize = 512;
+
+/// Words in all blocks.
+pub(crate) const ALL_WORDS: usize = 32_768;
+
+/// How many of the stores of the running action may stand where a stop cuts it off.
+#[derive(Clone, Copy, Debug, PartialEq, Eq)]
+pub(crate) enum Stands {
+    /// None of them.
+    Nothing,
+    /// None of them, or all.
+    Whole,
+    /// The first of them, up to any.
+    Front,
+}
+
+/// A word that the running action stores, by its place in the list of all words.
+#[derive(Clone, Copy, Debug, PartialEq, Eq)]
+pub(crate) struct Put {
+    at: usize,
+    v: u64,
+}
+
+/// What 64 blocks read as and what stands of them, one block after the other, and the action that is running.
+#[derive(Drop)]
+pub(crate) struct PlainBlocks {
+    /// What the blocks read as, with all stores of the running action.
+    words: Vec<u64>,
+    /// What stands without the running action.
+    standing: Vec<u64>,
+    /// Of which blocks it is told what they read as: not of one that was forgotten and is not made anew.
+    told: Vec<bool>,
+    puts: Vec<Put>,
+    stands: Stands,
+    ghost words_count: { length words.items ≡ 32768 },
+    ghost standing_count: { length standing.items ≡ 32768 },
+    ghost told_count: { length told.items ≡ 64 },
+}
+
+/// So many zeros.
+pub(crate) fn zeros(alloc: Global, count: usize) -> Result<Vec<u64>, AllocError>
+    ensures { IfOk result (λ words. length words.items ≡ count) }
+{
+    vec![in alloc; 0; count]
+}
+
+/// So many marks that are set.
+fn marks(alloc: Global, count: usize) -> Result<Vec<bool>, AllocError>
+    ensures { IfOk result (λ marks. length marks.items ≡ count) }
+{
+    vec![in alloc; true; count]
+}
+
+/// The place of a word in the list of all words.
+fn place(b: Block, w: u16) -> usize
+    requires block { b.0 < 64 }
+    requires word { w < 512 }
+    ensures { result < 32768 }
+{
+    BLOCK_WORDS * b.0 as usize + w as usize
+}
+
+/// Sets the word at a place, which is one of the list.
+fn set(words: &mut [u64], at: usize, v: u64)
+    ensures { length words.new ≡ length words.old }
+{
+    if at < words.len() {
+        words[at] = v;
+    }
+}
+
+/// Makes the first `n` of these stores in the list of what stands, and takes the others back in that of what reads.
+fn make(puts: &[Put], n: usize, standing: &mut [u64], words: &mut [u64])
+    ensures standing { length standing.new ≡ length standing.old }
+    ensures words { length words.new ≡ length words.old }
+{
+    for (i, put) in puts.iter().enumerate() {
+        if i < n {
+            set(standing, put.at, put.v);
+        } else if put.at < standing.len() {
+            set(words, put.at, standing[put.at]);
+        }
+    }
+}
+
+impl PlainBlocks {
+    /// Blocks of zeros that stand, with no action running.
+    pub(crate) fn new(alloc: Global) -> Result<PlainBlocks, AllocError> {
+        Ok(PlainBlocks {
+            words: zeros(alloc, ALL_WORDS)?,
+            standing: zeros(alloc, ALL_WORDS)?,
+            told: marks(alloc, BLOCKS as usize)?,
+            puts: Vec::new(alloc),
+            stands: Stands::Front,
+        })
+    }
+
+    /// Whether a block may read so, from word `w` on. One that is not told may read as anything.
+    pub(crate) fn has(&self, b: Block, w: u16, words: &[u64]) -> bool
+        requires block { b.0 < 64 }
+        requires run { w + length words.now ≤ 512 }
+    {
+        let from = BLOCK_WORDS * b.0 as usize + w as usize;
+        !self.told[b.0 as usize] || &self.words[from..from + words.len()] == words
+    }
+
+    /// Begins an action, of whose stores so many may stand at a stop.
+    pub(crate) fn begin(&mut self, stands: Stands) {
+        self.puts.clear();
+        self.stands = stands;
+    }
+
+    /// From now on, so many of the running action's stores may stand at a stop.
+    pub(crate) fn turn(&mut self, stands: Stands) {
+        self.stands = stands;
+    }
+
+    /// The running action stores a word.
+    pub(crate) fn store(&mut self, b: Block, w: u16, v: u64) -> Result<(), AllocFailed<Put>>
+        requires block { b.0 < 64 }
+        requires word { w < 512 }
+    {
+        let at = place(b, w);
+        self.puts.push(Put { at, v })?;
+        self.words[at] = v;
+        Ok(())
+    }
+
+    /// The running action is over: its first `n` stores were made, and the others were not.
+    pub(crate) fn end_with(&mut self, n: usize) {
+        make(&self.puts, n, &mut self.standing, &mut self.words);
+        self.puts.clear();
+    }
+
+    /// The running action is over: all its stores were made.
+    pub(crate) fn end(&mut self) {
+        let n = self.puts.len();
+        self.end_with(n);
+    }
+
+    /// A block is forgotten: what it reads as is not told.
+    pub(crate) fn forget(&mut self, b: Block)
+        requires { b.0 < 64 }
+    {
+        self.told[b.0 as usize] = false;
+    }
+
+    /// A block is zeros, and told.
+    pub(crate) fn renew(&mut self, b: Block)
+        requires { b.0 < 64 }
+    {
+        let from = BLOCK_WORDS * b.0 as usize;
+        self.words[from..from + BLOCK_WORDS].fill(0);
+        self.standing[from..from + BLOCK_WORDS].fill(0);
+        self.told[b.0 as usize] = true;
+    }
+
+    /// How many of the running action's stores stand in `found`, up to the first that does not.
+    fn front_of(&self, found: &[u64]) -> usize {
+        for (i, put) in self.puts.iter().enumerate() {
+            if found.get(put.at) != self.words.get(put.at) {
+                return i;
+            }
+        }
+        self.puts.len()
+    }
+
+    /// Ends the running action as it stands in `found`, as far as it may stand so.
+    fn settle(&mut self, found: &[u64]) {
+        let front = self.front_of(found);
+        let made = match self.stands {
+            Stands::Nothing => 0,
+            Stands::Whole if front < self.puts.len() => 0,
+            Stands::Whole | Stands::Front => front,
+        };
+        self.end_with(made);
+    }
+
+    /// Whether the blocks may stand so after a stop: ends the running action as it stands there, and answers the first
+    /// block that stands otherwise than the lists say. Blocks that are not told may stand as anything.
+    pub(crate) fn judge(&mut self, found: &[u64]) -> Option<Block>
+        requires { length found.now ≡ 32768 }
+    {
+        self.settle(found);
+        for b in 0..BLOCKS {
+            let from = BLOCK_WORDS * b as usize;
+            if !self.has(Block(b), 0, &found[from..from + BLOCK_WORDS]) {
+                return Some(Block(b));
+            }
+        }
+        None
+    }
+}
