@@ -1,16 +1,12 @@
 -- A cache after a flush: entries say of their pages what they said.
-use Rattle.std.specs.Prelude.{◌≡◌, ◌≢◌, ℕ, ◌<◌, ◌==◌, Bool, true, false, if◌then◌else◌, length, Some, None, refl}
-use Rattle.std.proofs.Common.{◌∙◌, ap, sym, subst, arith}
-use Rattle.std.proofs.lemmas.Bool.{eqb-true}
-use Rattle.rio_base.specs.Blocks.{Drops}
-use Rattle.rio_base.specs.Machine.{Contents, Lasts, Running, Steps}
-use Rattle.rio_base.specs.Volume.{Runs}
-use Rattle.rio_model.specs.Cover.{Coherent, HeldEntry, Keeps, Narrows, entry_block}
-use Rattle.rio_model.specs.Registry.{IsValid, frames_of, gate_of, is_dirty, is_valid, shadow_at, tag_at, tag_block}
-use Rattle.frame_pool.specs.Pools.{block_of}
+use Rattle.std.specs.Prelude.{◌≡◌, ◌≢◌, ℕ, ◌<◌, ◌==◌, Bool, false, None, refl}
+use Rattle.std.proofs.Common.{◌∙◌, sym, subst, arith}
+use Rattle.rio_base.specs.Machine.{Contents, Lasts}
+use Rattle.rio_model.specs.Cover.{Coherent, HeldEntry, Keeps, entry_block}
+use Rattle.rio_model.specs.Registry.{IsValid, frames_of, gate_of}
 use Rattle.page_cache.specs.declared.tables.CacheTables.{CacheTables}
 use Rattle.page_cache.specs.Caches.{CacheSound}
-use Rattle.page_cache.proofs.Kept.{ShadowsStay, sizes_keep, sound_stays, tables_same}
+use Rattle.page_cache.proofs.Kept.{sizes_keep, sound_stays, tables_same}
 
 abbrev block_by : Bool → ℕ → ℕ
 block_by valid block = block

@@ -1,14 +1,14 @@
 -- Words of a frame are stored, one or a run of them.
-use Rattle.std.specs.Prelude.{◌≡◌, ◌≢◌, ℕ, ◌+◌, ◌-◌, ◌*◌, ◌<◌, ◌≤◌, ◌==◌, ◌&&◌, not, nat_lt, Bool, true, false, ◌⊎◌, List, length, slice_index, slice_set, Option, Some, None, refl}
-use Rattle.std.proofs.Common.{◌∙◌, ap, sym, subst, inl, inr, arith}
+use Rattle.std.specs.Prelude.{◌≡◌, ◌≢◌, ℕ, ◌+◌, ◌*◌, ◌<◌, ◌≤◌, true, false, List, length, slice_index, slice_set, Some, None, refl}
+use Rattle.std.proofs.Common.{◌∙◌, ap, sym, subst, arith}
 use Rattle.rio_base.specs.Blocks.{BlockWords}
 use Rattle.rio_base.specs.Image.{registry_pages}
 use Rattle.rio_base.specs.Machine.{Contents}
 use Rattle.rio_base.specs.Memory.{FrontStored}
 use Rattle.rio_base.specs.Rules.{true_false}
 use Rattle.rio_base.specs.Volume.{put, put_run}
-use Rattle.rio_model.specs.Registry.{IsValid, frames_of, is_dirty, is_valid, page_of_entry, tag_at, tag_block}
-use Rattle.rio_model.specs.Cover.{Coherent, cover_by, entry_of_block, frame_page, home_word, is_loose, reads}
+use Rattle.rio_model.specs.Registry.{IsValid, frames_of, is_dirty, page_of_entry, tag_at}
+use Rattle.rio_model.specs.Cover.{Coherent, cover_by, entry_of_block, frame_page, is_loose, reads}
 use Rattle.rio_model.specs.CoverChanges.{OnePage, SameEntries, found_entries, frame_entries, header_same, off_page, one_page_set, place_entries, same_entries, tag_same}
 use Rattle.rio_model.specs.CoverFills.{frame_off, frame_past, page_off, puts_frame, registry_same, valid_same}
 use Rattle.rio_model.specs.CoverLookups.{found_is}

@@ -1,18 +1,18 @@
 -- What a call outside an update leaves so, as callers see it: what stands, which blocks are loose, the machine below.
-use Rattle.std.specs.Prelude.{◌≡◌, ◌≢◌, ℕ, ◌+◌, ◌-◌, ◌*◌, ◌/◌, ◌<◌, ◌≤◌, ◌==◌, ◌&&◌, ◌||◌, nat_lt, not, Bool, true, false, ◌⊎◌, List, length, slice_index, slice_index_or, Option, Some, None, Result, Ok, Err, IsErr, IsErrOf, refl}
+use Rattle.std.specs.Prelude.{◌≡◌, ◌≢◌, ℕ, ◌*◌, ◌/◌, ◌≤◌, ◌==◌, ◌||◌, nat_lt, not, Bool, true, false, ◌⊎◌, List, length, slice_index_or, Some, Result, Ok, Err, IsErrOf, refl}
 use Rattle.std.proofs.Common.{◌∙◌, ap, sym, subst, inl, inr, arith}
-use Rattle.std.proofs.lemmas.Bool.{cases_eq, eq-eqb, ltb-false, lt-ltb}
+use Rattle.std.proofs.lemmas.Bool.{eq-eqb, ltb-false, lt-ltb}
 use Rattle.std.proofs.lemmas.Bool.Decides.{nat_tests}
 use Rattle.rio_base.specs.declared.failures.VolFail.{VolFail}
 use Rattle.rio_base.specs.declared.failures.VolFail.TheVariants.{Fault, Stopped}
 use Rattle.rio_base.specs.Blocks.{BlockWords, Ends}
 use Rattle.rio_base.specs.Machine.{Contents, FaultCause, Lasts, Running, StepEnds, Steps, StopReason}
 use Rattle.rio_base.specs.Rules.{true_false}
-use Rattle.rio_base.specs.Volume.{Firm, FirmBut, Goes, OldOrPut, OldOrRun, Quiet, Runs, SameBut, StopCause, put, put_run}
+use Rattle.rio_base.specs.Volume.{Firm, Goes, OldOrRun, Quiet, Runs, SameBut, StopCause, put, put_run}
 use Rattle.rio_model.specs.Registry.{frames_of, gate_of}
 use Rattle.rio_model.specs.Cover.{Keeps, is_loose, reads, stands}
 use Rattle.page_cache.specs.declared.tables.CacheTables.{CacheTables}
-use Rattle.page_cache.specs.Caches.{FewWrites, Still, cache_below, cache_causes, cache_health, cache_kept, was_forgotten}
+use Rattle.page_cache.specs.Caches.{FewWrites, cache_below, cache_causes, cache_health, cache_kept, was_forgotten}
 use Rattle.rio_model.specs.CoverStands.{stands_idle}
 use Rattle.page_cache.specs.Stores.{Rewrites}
 

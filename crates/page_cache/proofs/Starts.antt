@@ -1,18 +1,20 @@
 -- A cache starts, its machine is met by wild stores, and what is told of it.
-use Rattle.std.specs.Prelude.{◌≡◌, ℕ, ◌+◌, ◌-◌, ◌/◌, ◌<◌, ◌||◌, Bool, true, false, if◌then◌else◌, List, length, replicate, slice_index_or, Some, None, refl}
+use Rattle.std.specs.Prelude.{◌≡◌, ℕ, ◌+◌, ◌-◌, ◌/◌, ◌<◌, ◌||◌, ◌&&◌, ◌==◌, not, is_some, Bool, true, false, if◌then◌else◌, List, length, replicate, slice_index_or, Some, None, refl}
 use Rattle.std.proofs.Common.{◌∙◌, ap, sym, subst, arith}
 use Rattle.std.proofs.lemmas.List.{length-replicate, length-set}
+use Rattle.rio_base.specs.Disks.{is_pending}
 use Rattle.rio_base.specs.Image.{registry_pages}
 use Rattle.rio_base.specs.Machine.{Contents, Running, after_wild}
 use Rattle.rio_base.specs.Rules.{true_false}
 use Rattle.rio_base.specs.declared.wild.Wild.{Wild}
 use Rattle.rio_base.specs.declared.wild.Wild.TheVariants.{Changed, Trapped, Spared}
-use Rattle.rio_model.specs.Registry.{IsValid, frames_of, gate_of, is_valid, tag_at, tag_block}
-use Rattle.rio_model.specs.Cover.{Coherent, is_loose}
+use Rattle.rio_model.specs.Registry.{IsValid, frames_of, gate_of, is_valid, page_of_entry, tag_at, tag_block}
+use Rattle.rio_model.specs.Cover.{Coherent, entry_of_block, frame_page, has_dirty, is_loose}
+use Rattle.rio_model.specs.CoverLookups.{cover_home, found_free}
 use Rattle.rio_model.specs.CoverStands.{stands_firm}
-use Rattle.rio_model.specs.CoverSteps.{none_pending}
+use Rattle.rio_model.specs.CoverSteps.{dirty_none, none_pending}
 use Rattle.page_cache.specs.declared.tables.CacheTables.{CacheTables}
-use Rattle.page_cache.specs.Caches.{CacheSound, IsFresh, Tells, cache_below, cache_health, cache_kept, cache_seen, was_forgotten}
+use Rattle.page_cache.specs.Caches.{CacheSound, IsFresh, Started, Tells, cache_below, cache_health, cache_kept, cache_seen, was_forgotten}
 
 pub start_sound : (n : ℕ) (c : Contents) (t : CacheTables) → Coherent c n → c.open_page ≡ None → gate_of c.words ≡ 0 → ((k : ℕ) → k < frames_of c.words → tag_at c.words k ≡ 0) → IsFresh (frames_of c.words) (length c.disk) t → CacheSound c n t
 start_sound n c t coherent closed shut empty fresh = record {
@@ -36,6 +38,30 @@ start_sound n c t coherent closed shut empty fresh = record {
     invalid : (k : ℕ) → IsValid c.words k → ⊥
     invalid k v = true_false (sym v.valid ∙ ap is_valid (empty k v.within))
 
+no_entry : (c : Contents) → ((k : ℕ) → k < frames_of c.words → tag_at c.words k ≡ 0) → (b : ℕ) → entry_of_block c.words b ≡ None
+no_entry c empty b = found_free c.words b (λ k v. absurd (true_false (sym v.valid ∙ ap is_valid (empty k v.within))))
+
+none_dirty : (p d : Bool) → d ≡ false → (p && not d) ≡ p
+none_dirty true d e = ap not e
+none_dirty false d e = refl
+
+loose_pending : (c : Contents) (b : ℕ) → entry_of_block c.words b ≡ None → is_loose c b ≡ is_pending c.pending b
+unfolding is_loose
+loose_pending c b none = none_dirty (is_pending c.pending b) (has_dirty c.words b) (dirty_none c.words b none)
+
+pub started_of : (c : Contents) (t : CacheTables) → gate_of c.words ≡ 0 → ((k : ℕ) → k < frames_of c.words → tag_at c.words k ≡ 0) → IsFresh (frames_of c.words) (length c.disk) t → Started c (cache_seen c) (cache_kept c t)
+started_of c t shut empty fresh = record {
+  uncached = λ b. ap is_some (no_entry c empty b);
+  reading = λ b w less. cover_home (frame_page c.words) c.words c.disk b w (no_entry c empty b) less;
+  standing = λ b w less. cover_home (page_of_entry c.words) c.words c.disk b w (no_entry c empty b) less;
+  loose = λ b. ap (λ x. x || is_loose c b) (fresh.firm b) ∙ loose_pending c b (no_entry c empty b);
+  updating = ap (λ n. n == 1) shut;
+}
+
+loose_in : (a b : Bool) → b ≡ true → (a || b) ≡ true
+loose_in true b e = refl
+loose_in false b e = e
+
 second_false : (a b : Bool) → (a || b) ≡ false → b ≡ false
 second_false true b e = absurd (true_false e)
 second_false false b e = e
@@ -48,6 +74,7 @@ tells_of c r t s = record {
   count = refl;
   reading = refl;
   updating = refl;
+  loose = λ x e. loose_in (was_forgotten t x) (is_loose c x) e;
   health = refl;
   below = refl;
 }

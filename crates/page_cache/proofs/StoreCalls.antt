@@ -1,9 +1,8 @@
 -- The steps of a store, one after another, and what callers see of them.
-use Rattle.std.specs.Prelude.{◌≡◌, ◌≢◌, ℕ, ◌+◌, ◌*◌, ◌/◌, ◌<◌, ◌≤◌, ◌==◌, nat_lt, not, Bool, true, false, ◌⊎◌, List, length, slice_index, max, Option, Some, None, is_some, Result, Ok, Err, IsErrOf, refl}
+use Rattle.std.specs.Prelude.{◌≡◌, ◌≢◌, ℕ, ◌≤◌, Bool, true, false, ◌⊎◌, List, Option, Some, None, is_some, refl}
 use Rattle.std.proofs.Common.{◌∙◌, ap, sym, subst, inl, inr, arith}
-use Rattle.std.proofs.lemmas.Bool.{cases_eq, cases_Bool, eqb-true}
 use Rattle.rio_base.specs.declared.places.PageName.{PageName}
-use Rattle.rio_base.specs.Blocks.{BlockWords, CanName, Drops, Seen}
+use Rattle.rio_base.specs.Blocks.{Drops}
 use Rattle.rio_base.specs.Disks.{raised}
 use Rattle.rio_base.specs.Machine.{Contents}
 use Rattle.rio_base.specs.Rules.{none_some, true_false}

@@ -1,14 +1,14 @@
 -- An entry is marked dirty, or its page is stored into: the cache keeps its rules.
-use Rattle.std.specs.Prelude.{◌≡◌, ◌≢◌, ℕ, ◌+◌, ◌-◌, ◌*◌, ◌/◌, ◌<◌, ◌≤◌, ◌^◌, ◌==◌, ◌&&◌, Bool, true, false, if◌then◌else◌, ◌⊎◌, List, length, slice_index, slice_set, Option, Some, None, refl}
+use Rattle.std.specs.Prelude.{◌≡◌, ◌≢◌, ℕ, ◌+◌, ◌<◌, Bool, true, if◌then◌else◌, ◌⊎◌, List, length, slice_index, Option, Some, None, refl}
 use Rattle.std.proofs.Common.{◌∙◌, ap, sym, subst, inl, inr, arith}
 use Rattle.std.proofs.lemmas.Bool.{cases_eq}
 use Rattle.rio_base.specs.declared.places.PageName.{PageName}
-use Rattle.rio_base.specs.Image.{entry_at, registry_pages}
+use Rattle.rio_base.specs.Image.{registry_pages}
 use Rattle.rio_base.specs.Machine.{Contents, Running, StepEnds}
 use Rattle.rio_base.specs.MachineRules.{ends_after, steps_trans}
 use Rattle.rio_model.specs.Registry.{HasLayout, IsValid, OneEntry, file_at, frames_of, gate_of, index_at, is_data, is_dirty, is_valid, shadow_at, size_at, tag_at, tag_block, with_dirty}
 use Rattle.rio_model.specs.RegistryRules.{dirtied_dirty}
-use Rattle.rio_model.specs.Cover.{Coherent, HeldEntry, Keeps, entry_block, entry_of_block, frame_page, name_at, name_in}
+use Rattle.rio_model.specs.Cover.{Coherent, HeldEntry, Keeps, name_in}
 use Rattle.rio_model.specs.CoverLookups.{entry_one, found_is, frames_one, header_one, tag_one}
 use Rattle.rio_model.specs.CoverChanges.{SameEntries, entry_same, found_entries, found_kept, header_same, tag_same}
 use Rattle.rio_model.specs.CoverSteps.{Retagged, coherent_on, hold_dirtied, keeps_dirty, layout_is, rest_stored}

@@ -1,24 +1,23 @@
 -- A block comes into the cache as zeros.
-use Rattle.std.specs.Prelude.{◌≡◌, ◌≢◌, ℕ, ◌+◌, ◌*◌, ◌<◌, ◌≤◌, ◌==◌, ◌||◌, Bool, true, false, if◌then◌else◌, ◌⊎◌, List, length, slice_index, Option, Some, None, refl}
+use Rattle.std.specs.Prelude.{◌≡◌, ◌≢◌, ℕ, ◌+◌, ◌*◌, ◌<◌, ◌≤◌, Bool, true, false, if◌then◌else◌, ◌⊎◌, List, length, slice_index, Option, Some, None, refl}
 use Rattle.std.proofs.Common.{◌∙◌, ap, sym, subst, inl, inr, arith}
 use Rattle.std.proofs.lemmas.Bool.{cases_eq, cases_Bool, eq-eqb, ne_eqb}
 use Rattle.rio_base.specs.declared.places.PageName.{PageName}
 use Rattle.rio_base.specs.Blocks.{BlockWords, InRange}
-use Rattle.rio_base.specs.Disks.{is_pending}
 use Rattle.rio_base.specs.Machine.{Contents}
 use Rattle.rio_base.specs.Rules.{true_false}
-use Rattle.rio_base.specs.Volume.{FirmBut, SameBut, cleared}
-use Rattle.rio_model.specs.Registry.{IsValid, OneEntry, frames_of, is_data, is_dirty, is_valid, page_of_entry, shadow_at, tag_at, tag_block, tag_of}
-use Rattle.rio_model.specs.Cover.{Coherent, Keeps, Narrows, cover_by, entry_of_block, frame_page, has_dirty, is_loose, name_in, reads}
-use Rattle.rio_model.specs.CoverChanges.{OnePage, SameEntries, found_made, found_other, frame_entries, frame_word_one, place_bare, same_entries}
+use Rattle.rio_base.specs.Volume.{cleared}
+use Rattle.rio_model.specs.Registry.{OneEntry, frames_of, is_data, is_dirty, is_valid, tag_at, tag_block, tag_of}
+use Rattle.rio_model.specs.Cover.{Coherent, Keeps, Narrows, cover_by, entry_of_block, frame_page, is_loose, name_in, reads}
+use Rattle.rio_model.specs.CoverChanges.{OnePage, SameEntries, found_made, found_other, frame_entries, frame_word_one, same_entries}
 use Rattle.rio_model.specs.CoverFills.{Made, frame_past, is_valid_made, keeps_begun, registry_made}
 use Rattle.rio_model.specs.CoverLookups.{cover_at, cover_past, cover_same, found_is, header_one, tag_one}
-use Rattle.rio_model.specs.CoverSteps.{coherent_on, coherent_one, dirty_of, disk_same, firm_by, loose_parts, pending_same, rest_stored}
-use Rattle.registry.specs.Entries.{IsFree, entry_of, new_entry}
+use Rattle.rio_model.specs.CoverSteps.{coherent_on, coherent_one, dirty_of, disk_same, firm_by, loose_parts, pending_same}
+use Rattle.registry.specs.Entries.{entry_of, new_entry}
 use Rattle.registry.specs.declared.entry.Entry.{Entry}
 use Rattle.frame_pool.specs.Pools.{block_of}
 use Rattle.page_cache.specs.declared.tables.CacheTables.{CacheTables}
-use Rattle.page_cache.specs.Caches.{Adds, CacheSound, Still, was_forgotten}
+use Rattle.page_cache.specs.Caches.{Adds, CacheSound}
 use Rattle.page_cache.specs.Stores.{Frees, SameCached}
 use Rattle.page_cache.proofs.Fills.{made_new}
 use Rattle.page_cache.proofs.Kept.{TablesStay}

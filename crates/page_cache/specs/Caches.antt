@@ -144,5 +144,15 @@ pub record Tells (c : Contents) (r : Running) (s : Seen) (h : Health) (b : Below
   pub count : s.count ≡ length c.disk
   pub reading : s.words ≡ reads c
   pub updating : k.updating ≡ (gate_of c.words == 1)
+  pub loose : (x : ℕ) → is_loose c x ≡ true → k.loose x ≡ true
   pub health : h ≡ cache_health c r
   pub below : b ≡ cache_below c r
+
+-- a cache that has just started: no block is cached, no update is open, and each block reads and stands as the disk's, and
+-- is loose where that is pending
+pub record Started (c : Contents) (s : Seen) (k : Kept) : Type 0 where
+  pub uncached : (x : ℕ) → s.cached x ≡ false
+  pub reading : (x w : ℕ) → w < 512 → s.words x w ≡ home_word c.disk x w
+  pub standing : (x w : ℕ) → w < 512 → k.standing x w ≡ home_word c.disk x w
+  pub loose : (x : ℕ) → k.loose x ≡ is_pending c.pending x
+  pub updating : k.updating ≡ false

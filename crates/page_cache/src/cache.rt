@@ -4,7 +4,7 @@ ghost use Rattle.std.specs.Prelude.{◌≡◌, ◌<◌, ◌+◌, ℕ, false, Non
 ghost use Rattle.rio_base.specs.Machine.{Meets, after_wild};
 ghost use Rattle.rio_model.specs.Registry.{frames_of, gate_of, tag_at};
 ghost use Rattle.rio_model.specs.Cover.{Coherent};
-ghost use Rattle.page_cache.specs.Caches.{CacheSound, IsFresh, Tells, cache_below, cache_health, cache_kept, cache_seen};
+ghost use Rattle.page_cache.specs.Caches.{CacheSound, IsFresh, Started, Tells, cache_below, cache_health, cache_kept, cache_seen};
 
 use crate::tables::CacheTables;
 use rio_base::{Machine, Wild, WordAt};
@@ -28,6 +28,7 @@ impl<M: Machine> PageCache<M> {
         ensures sound { CacheSound (M.contents result.machine) (length (M.run result.machine).scratch) result.tables }
         ensures machine { result.machine ≡ machine }
         ensures tables { result.tables ≡ tables }
+        ensures started { Started (M.contents machine) (cache_seen (M.contents result.machine)) (cache_kept (M.contents result.machine) result.tables) }
     {
         PageCache { machine, tables }
     }

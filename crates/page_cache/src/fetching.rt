@@ -1,6 +1,6 @@
 //! Blocks come into frames, and leave them.
 
-ghost use Rattle.std.specs.Prelude.{◌≡◌, ◌≢◌, ◌<◌, ◌≤◌, ◌+◌, ◌*◌, ℕ, true, false, Some, None, IfOk, OnOk, IsErr, IsErrOf, is_some, length, slice_index};
+ghost use Rattle.std.specs.Prelude.{◌≡◌, ◌<◌, ◌≤◌, ◌+◌, ◌*◌, ℕ, true, false, Some, None, IfOk, OnOk, IsErr, IsErrOf, is_some, length, slice_index};
 ghost use Rattle.rio_base.specs.Blocks.{InRange};
 ghost use Rattle.rio_base.specs.Disks.{raised};
 ghost use Rattle.rio_base.specs.Machine.{FaultCause, Lasts, StepEnds};

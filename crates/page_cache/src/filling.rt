@@ -1,6 +1,6 @@
 //! A block comes from the disk into a frame.
 
-ghost use Rattle.std.specs.Prelude.{◌≡◌, ◌≢◌, ◌<◌, ◌≤◌, ◌+◌, ◌*◌, ℕ, true, false, None, Some, OnOk, OnErr, IsErr, IsErrOf, length, slice_index};
+ghost use Rattle.std.specs.Prelude.{◌≡◌, ◌<◌, ◌≤◌, ◌+◌, ◌*◌, ℕ, false, None, OnOk, OnErr, IsErr, IsErrOf, length, slice_index};
 ghost use Rattle.rio_base.specs.Blocks.{InRange};
 ghost use Rattle.rio_base.specs.Disks.{block_at};
 ghost use Rattle.rio_base.specs.Machine.{FaultCause, Lasts, StepEnds};

@@ -1,12 +1,12 @@
 //! Blocks leave the cache without a write, and come into it as zeros, while no update is open.
 
-ghost use Rattle.std.specs.Prelude.{◌≡◌, ◌≢◌, ◌<◌, ◌≤◌, ◌+◌, ◌*◌, ℕ, true, false, None, Some, IfOk, OnOk, OnErr, IsErr, IsErrOf, length, slice_index};
-ghost use Rattle.rio_base.specs.Blocks.{Caches, CanName, Drops, Ends, Halts, InRange};
+ghost use Rattle.std.specs.Prelude.{◌≡◌, ◌<◌, ◌+◌, ◌*◌, ℕ, true, false, None, Some, OnOk, IsErr, length, slice_index};
+ghost use Rattle.rio_base.specs.Blocks.{InRange};
 ghost use Rattle.rio_base.specs.Machine.{Lasts, StepEnds};
-ghost use Rattle.rio_base.specs.Volume.{FirmBut, Goes, SameBut, cleared};
+ghost use Rattle.rio_base.specs.Volume.{cleared};
 ghost use Rattle.rio_model.specs.Registry.{frames_of, is_valid, tag_at};
 ghost use Rattle.rio_model.specs.Cover.{Keeps, Narrows, entry_of_block, frame_page, is_loose, reads};
-ghost use Rattle.page_cache.specs.Caches.{Adds, CacheSound, FewWrites, SameTables, Still, cache_below, cache_health, cache_kept, cache_seen};
+ghost use Rattle.page_cache.specs.Caches.{Adds, CacheSound, SameTables, Still, cache_kept};
 ghost use Rattle.page_cache.specs.Stores.{Frees, Marks, SameCached};
 
 use crate::cache::PageCache;

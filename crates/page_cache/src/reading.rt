@@ -1,6 +1,6 @@
 //! Blocks are read: a word is loaded from its block's frame, and a whole page is lent.
 
-ghost use Rattle.std.specs.Prelude.{◌≡◌, ◌<◌, ◌≤◌, ◌+◌, ◌*◌, ℕ, true, IfOk, OnOk, IsErrOf, length, take, drop};
+ghost use Rattle.std.specs.Prelude.{◌≡◌, ◌<◌, ◌≤◌, ◌+◌, ◌*◌, true, IfOk, OnOk, IsErrOf, length, take, drop};
 ghost use Rattle.rio_base.specs.Blocks.{CanName, Caches, Ends, IsPlace, IsRun, IsSpan, Looks};
 ghost use Rattle.rio_base.specs.Rules.{passes_on, passes_same};
 ghost use Rattle.rio_base.specs.Volume.{Passes};

@@ -1,13 +1,13 @@
 //! Words are stored into blocks, while no update is open. A page is marked dirty before the first word is stored into
 //! it, and its size is stored before the word too, so that a stop between two steps loses nothing.
 
-ghost use Rattle.std.specs.Prelude.{◌≡◌, ◌<◌, ◌≤◌, ◌+◌, ℕ, true, false, None, Some, IfOk, OnOk, OnErr, IsErr, IsErrOf, length};
-ghost use Rattle.rio_base.specs.Blocks.{CanName, Drops, Ends, FaultAt, InRange, IsPlace, IsSpan, as_word};
+ghost use Rattle.std.specs.Prelude.{◌≡◌, ◌<◌, ◌≤◌, ◌+◌, ℕ, true, Some, IfOk, OnOk, OnErr, IsErr, IsErrOf, length};
+ghost use Rattle.rio_base.specs.Blocks.{Drops, InRange};
 ghost use Rattle.rio_base.specs.Machine.{FaultCause, Lasts, StepEnds};
-ghost use Rattle.rio_base.specs.Volume.{CachesStored, Firm, Goes, OldOrPut, OldOrRun, RunName, SameBut, put, put_run, stored_name, widened};
+ghost use Rattle.rio_base.specs.Volume.{CachesStored, put, put_run, stored_name, widened};
 ghost use Rattle.rio_model.specs.Registry.{IsValid, is_dirty, tag_at};
 ghost use Rattle.rio_model.specs.Cover.{Keeps, entry_of_block, name_in, reads};
-ghost use Rattle.page_cache.specs.Caches.{CacheSound, FewWrites, SameTables, Still, cache_below, cache_health, cache_kept, cache_seen};
+ghost use Rattle.page_cache.specs.Caches.{CacheSound, FewWrites, SameTables, Still, cache_seen};
 ghost use Rattle.page_cache.specs.Stores.{Rewrites, SameCached, Widens};
 
 use crate::cache::PageCache;

@@ -1,15 +1,13 @@
 //! Updates of several blocks that stand at once.
 
-ghost use Rattle.std.specs.Prelude.{◌≡◌, ◌≢◌, ◌⊎◌, ◌+◌, ◌<◌, ◌≤◌, ℕ, true, false, None, OnErr, OnOk, IsErr, IsErrOf, length, slice_index};
-ghost use Rattle.rio_base.specs.Blocks.{Caches, CanName, Drops, Ends, Halts, IsPlace, Looks};
+ghost use Rattle.std.specs.Prelude.{◌≡◌, ◌≢◌, ◌⊎◌, ◌+◌, ◌<◌, ◌≤◌, ℕ, true, false, None, OnErr, OnOk, IsErr, length, slice_index};
 ghost use Rattle.rio_base.specs.Machine.{Lasts, StepEnds};
-ghost use Rattle.rio_base.specs.Volume.{Begun, Firm, Goes, HasRoom, OldOrNew, OldOrPut, SameUpdate, Touches, put};
 ghost use Rattle.rio_model.specs.Cover.{Coherent, HeldEntry, Keeps, SameNames, frame_page};
 ghost use Rattle.rio_model.specs.CoverChanges.{SameEntries};
 ghost use Rattle.rio_model.specs.CoverFills.{Puts};
 ghost use Rattle.rio_model.specs.Registry.{IsValid, OneEntry, frames_of, gate_of, is_data, is_dirty, shadow_at, tag_at, tag_block};
 ghost use Rattle.frame_pool.specs.Pools.{frames_in, is_pinned};
-ghost use Rattle.page_cache.specs.Caches.{CacheSound, FewWrites, IsListed, SameTables, Still, cache_below, cache_health, cache_kept, cache_seen};
+ghost use Rattle.page_cache.specs.Caches.{CacheSound, IsListed, SameTables, Still};
 ghost use Rattle.page_cache.specs.Updating.{GivesShadow, SameButPins, SamePages};
 
 use crate::cache::PageCache;

@@ -1,6 +1,5 @@
 use Rattle.std.proofs.Common.{ap, refl}
 use Rattle.rio_base.specs.Machine.{Contents}
-use Rattle.rio_model.specs.CoverSteps.{rest_stored}
 use Rattle.page_cache.proofs.Rooms.{adds_narrows, begun_narrows, begun_sound, frame_free, free_of, unbound}
 use Rattle.page_cache.proofs.Zeros.{begun_keeps, frees_keeps, new_made, zeros_adds, zeros_frees, zeros_sound}
 use Rattle.page_cache.proofs.cache.PageCache.bind_zeros.Goals as goal

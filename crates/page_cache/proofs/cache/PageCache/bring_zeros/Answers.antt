@@ -1,5 +1,5 @@
-use Rattle.std.proofs.Common.{◌<◌, ◌∙◌, IsErr, ap, arith, length, subst, sym}
-use Rattle.rio_base.specs.Machine.{Contents, StepEnds}
+use Rattle.std.proofs.Common.{◌<◌, ◌∙◌, IsErr, ap, arith, subst, sym}
+use Rattle.rio_base.specs.Machine.{StepEnds}
 use Rattle.rio_base.specs.MachineRules.{ends_after}
 use Rattle.rio_model.specs.Registry.{is_valid}
 use Rattle.page_cache.proofs.Rooms.{adds_after, adds_narrows}

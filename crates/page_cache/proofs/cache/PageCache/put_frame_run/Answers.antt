@@ -1,4 +1,4 @@
-use Rattle.std.proofs.Common.{ℕ, ◌≤◌, ◌+◌, arith, length}
+use Rattle.std.proofs.Common.{ℕ, ◌≤◌, arith, length}
 use Rattle.rio_base.specs.Volume.{put_run}
 use Rattle.rio_model.specs.Cover.{reads}
 use Rattle.rio_model.specs.CoverLookups.{found_is}

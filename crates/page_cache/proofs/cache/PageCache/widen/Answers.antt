@@ -1,6 +1,6 @@
-use Rattle.std.proofs.Common.{◌≡◌, ◌<◌, true, ap, arith, subst, sym}
+use Rattle.std.proofs.Common.{◌<◌, ap, arith, subst, sym}
 use Rattle.rio_base.specs.Blocks.{InRange}
-use Rattle.rio_model.specs.Registry.{is_data, size_at, tag_at}
+use Rattle.rio_model.specs.Registry.{size_at}
 use Rattle.registry.specs.declared.entry.Entry.{Entry}
 use Rattle.page_cache.specs.Stores.{Widens}
 use Rattle.page_cache.proofs.Widths.{larger_keeps, larger_sound, larger_widens}

@@ -5,8 +5,6 @@ use Rattle.page_cache.proofs.Rooms.{none_bound, some_bound}
 use Rattle.page_cache.proofs.StoreCalls.{drops_narrows, few_still}
 use Rattle.page_cache.proofs.Stores.{still_same}
 use Rattle.page_cache.proofs.Freed.{frees_same, halts_of, loose_marked, marked_still, marks_then, narrows_same, never_firm, settled, sound_marked}
-use Rattle.page_cache.specs.Caches.{was_forgotten}
-use Rattle.rio_model.specs.Cover.{is_loose}
 use Rattle.page_cache.proofs.volume.PageCacheVolume.forget.Goals as goal
 
 pub mark-requires : goal.mark-requires

@@ -1,4 +1,4 @@
-use Rattle.std.proofs.Common.{◌<◌, ◌∙◌, ap, refl, subst, sym}
+use Rattle.std.proofs.Common.{◌<◌, ◌∙◌, subst, sym}
 use Rattle.rio_base.specs.MachineRules.{lasts_trans, steps_trans}
 use Rattle.page_cache.proofs.Kept.{tables_trans}
 use Rattle.page_cache.proofs.Rooms.{adds_after, adds_narrows, caches_adds, none_still}

@@ -1,7 +1,5 @@
-use Rattle.std.proofs.Common.{◌∙◌, ap, inl, inr, IsErrOf, arith}
-use Rattle.rio_base.specs.Machine.{StepEnds}
-use Rattle.rio_base.specs.MachineRules.{ends_after, lasts_trans, steps_trans}
-use Rattle.rio_base.specs.declared.failures.VolFail.TheVariants.{Stopped}
+use Rattle.std.proofs.Common.{◌∙◌, ap, inl, inr}
+use Rattle.rio_base.specs.MachineRules.{lasts_trans, steps_trans}
 use Rattle.page_cache.specs.declared.tables.CacheTables.{CacheTables}
 use Rattle.page_cache.proofs.Stores.{ends_ok}
 use Rattle.page_cache.proofs.StoreCalls.{few_then, named_put, stored_put}

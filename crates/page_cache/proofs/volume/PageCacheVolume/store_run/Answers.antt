@@ -1,4 +1,4 @@
-use Rattle.std.proofs.Common.{◌∙◌, ap, arith, length, sym, refl}
+use Rattle.std.proofs.Common.{◌∙◌, ap, arith, length}
 use Rattle.rio_base.specs.MachineRules.{lasts_trans, steps_trans}
 use Rattle.page_cache.specs.declared.tables.CacheTables.{CacheTables}
 use Rattle.page_cache.proofs.StoreCalls.{few_then, stored_put}
