@@ -1,18 +1,17 @@
 -- A fresh image keeps the rules of an image, memory and any disk are coherent with it, and a cache of it can be walked.
-use Rattle.std.specs.Prelude.{◌≡◌, ◌≢◌, ℕ, ◌+◌, ◌-◌, ◌*◌, ◌<◌, ◌≤◌, ◌==◌, true, false, List, length, slice_index, take, drop, Option, Some, None, is_some, refl}
+use Rattle.std.specs.Prelude.{◌≡◌, ℕ, ◌-◌, ◌*◌, ◌<◌, ◌==◌, true, false, List, length, slice_index, take, drop, Option, Some, None, is_some, refl}
 use Rattle.std.proofs.Common.{◌∙◌, ap, sym, subst, arith, get_or-take}
-use Rattle.rio_base.specs.Blocks.{SamePage}
-use Rattle.rio_base.specs.Image.{AreImageSizes, entry_at, image_pages, registry_pages}
+use Rattle.rio_base.specs.Image.{AreImageSizes, entry_at, image_pages}
 use Rattle.rio_base.specs.Machine.{Contents, Running}
 use Rattle.rio_base.specs.Rules.{true_false}
 use Rattle.image_codec.specs.Image.{IsImage}
-use Rattle.rio_model.specs.Cover.{Coherent, entry_of_block, name_in}
+use Rattle.rio_model.specs.Cover.{entry_of_block}
 use Rattle.rio_model.specs.CoverLookups.{found_is}
 use Rattle.rio_model.specs.Registry.{HasLayout, IsValid, KeepsRegistry, frames_of, gate_of, is_valid, layout_of, tag_at}
 use Rattle.page_cache.specs.Caches.{IsFresh, cache_seen}
 use Rattle.page_cache.specs.declared.tables.CacheTables.{CacheTables}
 use Rattle.machine_tests.specs.Blanks.{IsBlank}
-use Rattle.machine_tests.specs.Walks.{Walks, walk_name}
+use Rattle.machine_tests.specs.Walks.{Walks}
 use Rattle.machine_tests.proofs.TestImages.{within_registry}
 
 -- where no entry has a tag, none is valid

@@ -1,11 +1,10 @@
 -- A machine of which it was looked that its pages can be written back.
-use Rattle.std.specs.Prelude.{◌≡◌, ◌≢◌, ℕ, ◌+◌, ◌*◌, ◌<◌, ◌≤◌, true, false, List, length, slice_index, None}
+use Rattle.std.specs.Prelude.{◌≡◌, ℕ, ◌+◌, ◌*◌, ◌<◌, true, List, length, slice_index, None}
 use Rattle.std.proofs.Common.{◌∙◌, ap, sym, subst, arith}
-use Rattle.rio_base.specs.Image.{AreImageSizes, HasHeader, image_magic, registry_pages}
+use Rattle.rio_base.specs.Image.{AreImageSizes, image_magic, registry_pages}
 use Rattle.rio_base.specs.Machine.{Contents, Running}
 use Rattle.rio_base.specs.Rules.{true_false}
-use Rattle.rio_model.specs.Cover.{Coherent}
-use Rattle.rio_model.specs.Registry.{HasLayout, IsValid, KeepsRegistry, frames_of, gate_of, is_dirty, is_valid, scratch_of, tag_at, tag_block}
+use Rattle.rio_model.specs.Registry.{HasLayout, IsValid, KeepsRegistry, is_dirty, tag_at, tag_block}
 use Rattle.machine_tests.specs.Ready.{IsTestHeader, NoneOrDirty, Ready}
 
 sizes : AreImageSizes 64 1

@@ -22,7 +22,8 @@ use rio_base::{Block, Blocks, Machine, Volume};
 use std::alloc::{AllocError, Global};
 use std::test::Fail;
 
-/// The words of a fresh image with so many frames and one scratch page, of which it is looked that they are.
+/// The words of a fresh image with so many frames and one scratch page. The header is looked at, so that its sizes and its
+/// gate are known.
 fn blank_image(alloc: Global, frames: u32) -> Result<Vec<u64>, AllocError>
     requires sizes { AreImageSizes frames 1 }
     ensures image { IfOk result (λ words. IsImage words.items) }
