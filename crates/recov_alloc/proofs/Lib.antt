@@ -2,3 +2,4 @@ pub mod BitRuns
 pub mod Fits
 pub mod Reaches
 pub mod Marks
+pub mod TestHeaps

@@ -2,3 +2,4 @@ pub mod Bits
 pub mod Failures
 pub mod Marks
 pub mod Scans
+pub mod TestHeaps
