@@ -78,12 +78,22 @@ fn changed(alloc: Global) -> Result<FaultyRegion, Fail>
     Ok(r)
 }
 
+/// Starts a region again that was stopped.
+fn start_again(r: &mut FaultyRegion)
+    requires ready { FaultyReady r.old }
+    requires region { IsRegion r.old.count (faulty_content r.old) }
+    ensures ready { FaultyReady r.new }
+    ensures region { IsRegion r.new.count (faulty_content r.new) }
+{
+    r.stop_after(0);
+}
+
 /// A range whose `n`th call stops leaves its record or none, and all is put back. Answers whether it was done before.
 fn stop_range(rt: &impl Abort, alloc: Global, n: u64) -> Result<bool, Fail> {
     let mut r = changed(alloc)?;
     r.stop_after(n);
     let done = set_range(&mut r, DATA, 90).is_ok();
-    r.stop_after(0);
+    start_again(&mut r);
     assert_eq!(rt; room(&mut r)?, if done { 293 } else { 386 });
     rewind(&mut r)?;
     assert_eq!(rt; word_at(&mut r, DATA + 70)?, 0);
@@ -108,7 +118,7 @@ fn stop_rewind(rt: &impl Abort, alloc: Global, n: u64) -> Result<bool, Fail> {
     let done = rewind(&mut r).is_ok();
     r.stop_after(n);
     let _again = rewind(&mut r);
-    r.stop_after(0);
+    start_again(&mut r);
     rewind(&mut r)?;
     assert_eq!(rt; word_at(&mut r, DATA + 70)?, 0);
     assert_eq!(rt; room(&mut r)?, 512);
@@ -153,10 +163,72 @@ fn drop_is_whole_or_absent(rt: HostRuntime) -> Result<(), Fail> {
     let mut r = changed(rt.alloc())?;
     r.stop_after(1);
     assert!(rt; drop_all(&mut r) == Err(VolFail::Stopped));
-    r.stop_after(0);
+    start_again(&mut r);
     assert_eq!(rt; room(&mut r)?, 386);
     drop_all(&mut r)?;
     assert_eq!(rt; word_at(&mut r, DATA + 70)?, 8);
     assert_eq!(rt; room(&mut r)?, 512);
+    Ok(())
+}
+
+/// A range whose `n`th call stops, before all records are dropped: the words stay. Answers whether it was done before.
+fn stop_range_and_drop(rt: &impl Abort, alloc: Global, n: u64) -> Result<bool, Fail> {
+    let mut r = changed(alloc)?;
+    r.stop_after(n);
+    let done = set_range(&mut r, DATA, 90).is_ok();
+    start_again(&mut r);
+    drop_all(&mut r)?;
+    assert_eq!(rt; room(&mut r)?, 512);
+    assert_eq!(rt; word_at(&mut r, DATA)?, 0);
+    assert_eq!(rt; word_at(&mut r, DATA + 70)?, 8);
+    Ok(done)
+}
+
+#[test]
+fn every_stop_of_a_range_can_be_kept(rt: HostRuntime) -> Result<(), Fail> {
+    for n in 1..400 {
+        if stop_range_and_drop(&rt, rt.alloc(), n)? {
+            assert!(rt; 180 < n);
+            return Ok(());
+        }
+    }
+    Err("never done")?
+}
+
+/// Putting back fails at its `n`th call, and is made again. Answers whether none of its calls failed.
+fn fail_rewind(rt: &impl Abort, alloc: Global, n: u64) -> Result<bool, Fail> {
+    let mut r = changed(alloc)?;
+    r.fail_call(n)?;
+    let ended = rewind(&mut r);
+    if ended.is_ok() {
+        return Ok(true);
+    }
+    assert!(rt; ended == Err(VolFail::Fault));
+    rewind(&mut r)?;
+    assert_eq!(rt; word_at(&mut r, DATA + 70)?, 0);
+    assert_eq!(rt; room(&mut r)?, 512);
+    Ok(false)
+}
+
+#[test]
+fn every_fault_of_putting_back_is_made_good(rt: HostRuntime) -> Result<(), Fail> {
+    for n in 1..400 {
+        if fail_rewind(&rt, rt.alloc(), n)? {
+            assert!(rt; 240 < n);
+            return Ok(());
+        }
+    }
+    Err("never done")?
+}
+
+#[test]
+fn fault_of_drop_leaves_the_records(rt: HostRuntime) -> Result<(), Fail> {
+    let mut r = changed(rt.alloc())?;
+    r.fail_call(1)?;
+    assert!(rt; drop_all(&mut r) == Err(VolFail::Fault));
+    assert_eq!(rt; room(&mut r)?, 386);
+    assert_eq!(rt; word_at(&mut r, DATA + 70)?, 8);
+    rewind(&mut r)?;
+    assert_eq!(rt; word_at(&mut r, DATA + 70)?, 0);
     Ok(())
 }
