@@ -1,7 +1,8 @@
 -- The records that a head names, read one after the other.
-use Rattle.std.specs.Prelude.{◌≡◌, ℕ, suc, ◌+◌, ◌-◌, ◌≤◌, false, List, ◌∷◌, length}
+use Rattle.std.specs.Prelude.{◌≡◌, ℕ, suc, ◌+◌, ◌-◌, ◌<◌, ◌≤◌, ◌⊎◌, true, false, List, ◌∷◌, length}
 use Rattle.rio_base.specs.Regions.{RegionContent}
-use Rattle.rio_model.specs.Undo.{UndoRecord, CoversAll, IsRecord, Links, Within, is_covered, places, taken, undo_word, undo_words}
+use Rattle.rio_model.specs.Undo.{UndoRecord, IsRecord, Links, Within, is_covered, places, taken, undo_word, undo_words}
+use Rattle.undo_list.specs.declared.covering.Span.{Span}
 use Rattle.undo_list.specs.declared.records.SavedAt.{SavedAt}
 
 -- records from a head on
@@ -31,8 +32,10 @@ pub record IsNewest (f : RegionContent) (rs : List UndoRecord) (v : SavedAt) : T
   pub count : v.count ≡ length newest.old
   pub older : v.older ≡ undo_word f v.at
 
--- from a place up to the next one all are covered. Where that is the same, the place is not
-pub record CoversFront (records : List UndoRecord) (from next : ℕ) : Type 0 where
-  pub later : from ≤ next
-  pub all : CoversAll records from (next - from)
-  pub none : next ≡ from → is_covered records from ≡ false
+-- of the places of a span those outside what is left are covered. An end that is left where it was is not
+pub record CoversBeside (records : List UndoRecord) (span left : Span) : Type 0 where
+  pub later : span.from ≤ left.from
+  pub sooner : left.to ≤ span.to
+  pub beside : (q : ℕ) → span.from ≤ q → q < span.to → (q < left.from) ⊎ (left.to ≤ q) → is_covered records q ≡ true
+  pub front : left.from < left.to → left.from ≡ span.from → is_covered records span.from ≡ false
+  pub last : left.from < left.to → left.to ≡ span.to → is_covered records (span.to - 1) ≡ false

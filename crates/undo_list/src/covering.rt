@@ -4,51 +4,74 @@ ghost use Rattle.std.specs.Prelude.{◌≡◌, ◌+◌, ◌-◌, ◌<◌, ◌≤
 ghost use Rattle.rio_base.specs.Blocks.{Ends};
 ghost use Rattle.rio_base.specs.Regions.{Stays};
 ghost use Rattle.rio_model.specs.Undo.{CoversAll, IsRegion, is_covered, places, undo_records};
-ghost use Rattle.undo_list.specs.Chains.{CoversFront};
+ghost use Rattle.undo_list.specs.Chains.{CoversBeside};
 
 use crate::records::{HEAD, SavedAt, record_at};
 use rio_base::{RegionWords, VolFail};
 
+/// The places from `from` up to before `to`.
+#[derive(Clone, Copy)]
+pub(crate) struct Span {
+    pub(crate) from: u32,
+    pub(crate) to: u32,
+}
+
 /// The place behind a record's last one, where it covers `place`; else `place`.
-fn past(record: &SavedAt, place: u32) -> u32
-    requires fits { record.now.first + record.now.count < 4294967296 }
-    ensures inside { record.now.first ≤ place → place < record.now.first + record.now.count → result ≡ record.now.first + record.now.count }
-    ensures outside { (place < record.now.first) ⊎ (record.now.first + record.now.count ≤ place) → result ≡ place }
+fn past(saved: &SavedAt, place: u32) -> u32
+    requires fits { saved.now.first + saved.now.count < 4294967296 }
+    ensures inside { saved.now.first ≤ place → place < saved.now.first + saved.now.count → result ≡ saved.now.first + saved.now.count }
+    ensures outside { (place < saved.now.first) ⊎ (saved.now.first + saved.now.count ≤ place) → result ≡ place }
 {
-    let end = record.first + record.count;
-    if place < record.first || end <= place {
+    let end = saved.first + saved.count;
+    if place < saved.first || end <= place {
         return place;
     }
     end
 }
 
-/// Follows the records once, and answers up to where the places from `from` on are found to be covered. That is past
-/// `from` wherever `from` itself is covered; it may be short of the first place that is not, where an older record goes
-/// on behind a newer one.
-fn covered_to<R: RegionWords>(r: &mut R, from: u32, to: u32) -> Result<u32, VolFail>
+/// A record's first place, where it covers the place before `to`; else `to`.
+fn short_of(saved: &SavedAt, to: u32) -> u32
+    requires fits { saved.now.first + saved.now.count < 4294967296 }
+    ensures inside { saved.now.first < to → to ≤ saved.now.first + saved.now.count → result ≡ saved.now.first }
+    ensures outside { (to ≤ saved.now.first) ⊎ (saved.now.first + saved.now.count < to) → result ≡ to }
+{
+    let end = saved.first + saved.count;
+    if to <= saved.first || end < to {
+        return to;
+    }
+    saved.first
+}
+
+/// Follows the records once, newest first, and answers what is left of a span: a record that covers its first place or its
+/// last one takes its own places off that end. Of what is left, an end that is still the span's own is not covered.
+fn left_of<R: RegionWords>(r: &mut R, span: Span) -> Result<Span, VolFail>
     requires ready { R.ready r.old }
     requires region { IsRegion (R.count r.old) (R.words r.old) }
-    requires some { from < to }
-    ensures value { IfOk result (CoversFront (undo_records (R.words r.old)) from) }
+    requires some { span.from < span.to }
+    ensures value { IfOk result (CoversBeside (undo_records (R.words r.old)) span) }
     ensures words { R.words r.new ≡ R.words r.old }
     ensures stays { Stays R.keeps_rest R.ready R.count R.health R.below r.old r.new }
     ensures ends { Ends (R.health r.old) (R.health r.new) result }
 {
     let mut head = r.word(HEAD)?;
-    let mut next = from;
+    let mut left = span;
     while head != 0 {
-        if to <= next {
-            return Ok(next);
+        if left.to <= left.from {
+            return Ok(left);
         }
-        let record = record_at(r, head)?;
-        next = past(&record, next);
-        head = record.older;
+        let saved = record_at(r, head)?;
+        left = Span {
+            from: past(&saved, left.from),
+            to: short_of(&saved, left.to),
+        };
+        head = saved.older;
     }
-    Ok(next)
+    Ok(left)
 }
 
-/// Whether each of `count` places from `place` on is covered by some record. The records are followed once where an older
-/// one does not go on behind a newer one, and otherwise once more for each that does.
+/// Whether each of `count` places from `place` on is covered by some record. The records are followed once where the ranges
+/// were recorded in rising, falling or nested order, and once more only where both ends are covered and places are left
+/// between.
 pub fn covered<R: RegionWords>(r: &mut R, place: u32, count: u32) -> Result<bool, VolFail>
     requires ready { R.ready r.old }
     requires region { IsRegion (R.count r.old) (R.words r.old) }
@@ -59,14 +82,19 @@ pub fn covered<R: RegionWords>(r: &mut R, place: u32, count: u32) -> Result<bool
     ensures stays { Stays R.keeps_rest R.ready R.count R.health R.below r.old r.new }
     ensures ends { Ends (R.health r.old) (R.health r.new) result }
 {
-    let to = place + count;
-    let mut from = place;
-    while from < to {
-        let next = covered_to(r, from, to)?;
-        if next == from {
+    let mut span = Span {
+        from: place,
+        to: place + count,
+    };
+    while span.from < span.to {
+        let left = left_of(r, span)?;
+        if left.to <= left.from {
+            return Ok(true);
+        }
+        if left.from == span.from || left.to == span.to {
             return Ok(false);
         }
-        from = next;
+        span = left;
     }
     Ok(true)
 }

@@ -3,6 +3,8 @@
 #![tactic(auto)]
 
 mod covering;
+#[cfg(test)]
+mod covering_tests;
 mod failures;
 mod faulty_region;
 mod places;
