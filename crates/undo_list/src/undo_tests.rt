@@ -111,14 +111,25 @@ fn every_stop_of_a_range_leaves_the_record_or_none(rt: HostRuntime) -> Result<()
     Err("never done")?
 }
 
-/// Putting back is stopped at its `n`th call, and at that of the next try. Answers whether the first was done before.
+/// Putting back, stopped at its `n`th call, after which the region is started again. Answers whether it was done before.
+fn rewind_stopped(r: &mut FaultyRegion, n: u64) -> bool
+    requires ready { FaultyReady r.old }
+    requires region { IsRegion r.old.count (faulty_content r.old) }
+    ensures ready { FaultyReady r.new }
+    ensures region { IsRegion r.new.count (faulty_content r.new) }
+{
+    r.stop_after(n);
+    let done = rewind(r).is_ok();
+    start_again(r);
+    done
+}
+
+/// Putting back is stopped at its `n`th call, and at that of the next two tries. Answers whether the first was done before.
 fn stop_rewind(rt: &impl Abort, alloc: Global, n: u64) -> Result<bool, Fail> {
     let mut r = changed(alloc)?;
-    r.stop_after(n);
-    let done = rewind(&mut r).is_ok();
-    r.stop_after(n);
-    let _again = rewind(&mut r);
-    start_again(&mut r);
+    let done = rewind_stopped(&mut r, n);
+    rewind_stopped(&mut r, n);
+    rewind_stopped(&mut r, n);
     rewind(&mut r)?;
     assert_eq!(rt; word_at(&mut r, DATA + 70)?, 0);
     assert_eq!(rt; room(&mut r)?, 512);
@@ -134,6 +145,53 @@ fn every_stop_of_putting_back_is_made_good(rt: HostRuntime) -> Result<(), Fail> 
         }
     }
     Err("never done")?
+}
+
+/// Two records of few words that overlap. Putting them back is 17 calls.
+fn changed_little(alloc: Global) -> Result<FaultyRegion, Fail>
+    ensures ready { IfOk result FaultyReady }
+    ensures region { IfOk result (λ r. IsRegion r.count (faulty_content r)) }
+{
+    let mut r = FaultyRegion::fresh(alloc, 1, 1)?;
+    change(&mut r, DATA, 2, 7)?;
+    change(&mut r, DATA, 1, 8)?;
+    Ok(r)
+}
+
+/// Putting back is stopped three times in a row, each try at its own call, before it is done.
+fn stop_three_tries(
+    rt: &impl Abort,
+    alloc: Global,
+    first: u64,
+    second: u64,
+    third: u64,
+) -> Result<(), Fail> {
+    let mut r = changed_little(alloc)?;
+    rewind_stopped(&mut r, first);
+    rewind_stopped(&mut r, second);
+    rewind_stopped(&mut r, third);
+    rewind(&mut r)?;
+    assert_eq!(rt; word_at(&mut r, DATA)?, 0);
+    assert_eq!(rt; room(&mut r)?, 512);
+    Ok(())
+}
+
+/// Of the last two tries each is stopped at each of its calls.
+fn stop_two_tries(rt: &impl Abort, alloc: Global, first: u64) -> Result<(), Fail> {
+    for second in 1..18 {
+        for third in 1..18 {
+            stop_three_tries(rt, alloc, first, second, third)?;
+        }
+    }
+    Ok(())
+}
+
+#[test]
+fn every_three_stops_of_putting_back_are_made_good(rt: HostRuntime) -> Result<(), Fail> {
+    for first in 1..18 {
+        stop_two_tries(&rt, rt.alloc(), first)?;
+    }
+    Ok(())
 }
 
 /// A range whose `n`th call fails leaves the records as they were. Answers whether none of its calls did.
