@@ -4,6 +4,6 @@ use Rattle.rio_base.specs.Machine.{Contents}
 
 -- the disk is neither written nor synced
 pub record SameDisk (old new : Contents) : Type 0 where
-  pub blocks : new.disk ≡ old.disk
+  pub disk : new.disk ≡ old.disk
   pub pending : new.pending ≡ old.pending
   pub writes : new.writes ≡ old.writes
