@@ -24,7 +24,8 @@ use Rattle.page_cache.specs.Caches.{CacheSound, FewWrites, SameTables, cache_bel
 use Rattle.rio_model.specs.CoverStands.{stands_idle}
 use Rattle.page_cache.specs.Stores.{Frees, Marks}
 use Rattle.page_cache.proofs.Kept.{TablesStay, bound_one, shadows_gone, sound_stays}
-use Rattle.page_cache.proofs.Settling.{goes_few, loose_by, not_one}
+use Rattle.page_cache.proofs.Settling.{loose_by, not_one}
+use Rattle.page_cache.proofs.Goes.{goes_few}
 use Rattle.page_cache.proofs.Stores.{can_change}
 
 -- ---- marks

@@ -1,11 +1,16 @@
 -- What the machine's rules are for the volume.
-use Rattle.std.specs.Prelude.{◌≡◌, ℕ, ◌*◌, ◌/◌, nat_lt, Bool, true, false, ◌⊎◌, Some, refl}
-use Rattle.std.proofs.Common.{◌∙◌, ap, inl, inr, arith}
-use Rattle.std.proofs.lemmas.Bool.{lt-ltb}
-use Rattle.rio_base.specs.Machine.{Contents, Lasts, Running, Steps, StopReason}
+use Rattle.std.specs.Prelude.{◌≡◌, ℕ, ◌*◌, ◌/◌, ◌≤◌, nat_lt, not, Bool, true, false, ◌⊎◌, length, Some, Result, Ok, Err, IsErrOf, refl}
+use Rattle.std.proofs.Common.{◌∙◌, ap, sym, inl, inr, arith}
+use Rattle.std.proofs.lemmas.Bool.{ltb-false, lt-ltb}
+use Rattle.rio_base.specs.declared.failures.VolFail.{VolFail}
+use Rattle.rio_base.specs.declared.failures.VolFail.TheVariants.{Fault, Stopped}
+use Rattle.rio_base.specs.Blocks.{Ends}
+use Rattle.rio_base.specs.Machine.{Contents, FaultCause, Lasts, Running, StepEnds, Steps, StopReason}
+use Rattle.rio_base.specs.MachineRules.{ends_after, steps_trans}
+use Rattle.rio_base.specs.Rules.{true_false}
 use Rattle.rio_base.specs.Volume.{Goes, Quiet, Runs, StopCause}
 use Rattle.rio_model.specs.Registry.{frames_of}
-use Rattle.page_cache.specs.Caches.{cache_below, cache_causes, cache_health}
+use Rattle.page_cache.specs.Caches.{FewWrites, cache_below, cache_causes, cache_health}
 
 cause_by : (r s : Running) (a b : Bool) → r.stopped ≡ a → s.stopped ≡ b → Steps r s → StopCause (cache_causes r) (cache_causes s) a b
 cause_by r s true b e d h = ap (λ (u : Running). u.trapped) (h.frozen e)
@@ -31,5 +36,39 @@ runs_of c d r s l h frames = record {
   limit = record { limit = l.faults.limit };
 }
 
-pub goes_of : (c d : Contents) (r s : Running) → Lasts c d → Steps r s → frames_of d.words ≡ frames_of c.words → Quiet (cache_below c r) (cache_below d s) → Goes (cache_health c r) (cache_below c r) (cache_health d s) (cache_below d s)
-goes_of c d r s l h frames q = record { runs = runs_of c d r s l h frames; quiet = q }
+roomy_is : (frames count : ℕ) → not (nat_lt frames count) ≡ true → count ≤ frames
+roomy_is frames count e = from (nat_lt frames count) refl e
+  where
+    from : (x : Bool) → nat_lt frames count ≡ x → not x ≡ true → count ≤ frames
+    from true q z = absurd (true_false (sym z))
+    from false q z = ltb-false frames count q
+
+quiet_few : (b : ℕ) (c d : Contents) (r s : Running) → FewWrites b c d → Quiet (cache_below c r) (cache_below d s)
+quiet_few b c d r s h = record {
+  home = λ e. let st = h.roomy (roomy_is (frames_of c.words) (length c.disk) e) in rw (st.disk, st.pending) refl;
+  writes = λ e. (h.roomy (roomy_is (frames_of c.words) (length c.disk) e)).writes;
+}
+
+pub goes_few : (b : ℕ) (c d : Contents) (r s : Running) → Lasts c d → Steps r s → frames_of d.words ≡ frames_of c.words → FewWrites b c d → Goes (cache_health c r) (cache_below c r) (cache_health d s) (cache_below d s)
+goes_few b c d r s l h frames few = record { runs = runs_of c d r s l h frames; quiet = quiet_few b c d r s few }
+
+-- ---- how two calls end
+
+-- a call that did not answer Stopped, and then another
+pub ends_then : (a b c : Running) (none stop : Type 0) → (none → ⊥) → StepEnds a b none → StepEnds b c stop → StepEnds a c stop
+ends_then a b c none stop n h k = ends_after a b c stop h.steps (h.runs n) k
+
+-- two calls that did not answer Stopped
+pub ends_ok : (a b c : Running) (one two stop : Type 0) → (one → ⊥) → (two → ⊥) → (stop → ⊥) → StepEnds a b one → StepEnds b c two → StepEnds a c stop
+ends_ok a b c one two stop n m o h k = record { steps = steps_trans a b c h.steps k.steps; told = λ s. absurd (o s); runs = λ s. k.runs m ∙ h.runs n }
+
+-- a call that did not answer Stopped, and then one that did, whose answer is handed on
+pub ends_stop : (a b c : Running) (none one stop : Type 0) → (none → ⊥) → one → stop → StepEnds a b none → StepEnds b c one → StepEnds a c stop
+ends_stop a b c none one stop n o s h k = record { steps = steps_trans a b c h.steps k.steps; told = λ x. k.told o; runs = λ m. absurd (m s) }
+
+-- ---- how a call ends, for the volume
+
+pub ends_of : {T : Type 0} (old new : Contents) (r s : Running) (answer : Result T VolFail) → Lasts old new → FaultCause old new (IsErrOf answer Fault) → StepEnds r s (IsErrOf answer Stopped) → Ends (cache_health old r) (cache_health new s) answer
+ends_of old new r s (Ok x) l f e = record { later = l.faults.later; stays = λ t. ap (λ (u : Running). u.stopped) (e.steps.frozen t) ∙ t; cause = e.runs (λ q. cc) }
+ends_of old new r s (Err Fault) l f e = record { later = l.faults.later; stays = λ t. ap (λ (u : Running). u.stopped) (e.steps.frozen t) ∙ t; cause = (f refl, e.runs (λ q. cc)) }
+ends_of old new r s (Err Stopped) l f e = record { later = l.faults.later; stays = λ t. ap (λ (u : Running). u.stopped) (e.steps.frozen t) ∙ t; cause = e.told refl }

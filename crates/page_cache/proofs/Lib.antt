@@ -19,5 +19,7 @@ pub mod Stores
 pub mod Touched
 pub mod Touches
 pub mod Updates
+pub mod Uses
 pub mod Widths
+pub mod Wilds
 pub mod Zeros

@@ -1,16 +1,14 @@
 -- Entries that go and entries that come, and the tables beside them.
-use Rattle.std.specs.Prelude.{◌≡◌, ◌≢◌, ℕ, ◌+◌, ◌*◌, ◌<◌, ◌||◌, Bool, true, false, if◌then◌else◌, ◌⊎◌, List, length, slice_index, Option, Some, None, is_some, Result, Ok, Err, IsErrOf, refl}
+use Rattle.std.specs.Prelude.{◌≡◌, ◌≢◌, ℕ, ◌+◌, ◌*◌, ◌<◌, ◌==◌, ◌||◌, Bool, true, false, if◌then◌else◌, ◌⊎◌, List, length, slice_index, Option, Some, None, is_some, Result, Ok, Err, IsErrOf, refl}
 use Rattle.std.proofs.Common.{◌∙◌, ap, sym, subst, inl, inr, arith}
 use Rattle.std.proofs.lemmas.Bool.{cases_eq, eq-eqb, ne_eqb}
 use Rattle.rio_base.specs.declared.places.PageName.{PageName}
-use Rattle.rio_base.specs.declared.failures.VolFail.{VolFail}
-use Rattle.rio_base.specs.declared.failures.VolFail.TheVariants.{Fault, Stopped}
-use Rattle.rio_base.specs.Blocks.{BlockWords, Caches, Ends, Looks}
+use Rattle.rio_base.specs.Blocks.{BlockWords, Caches, Looks}
 use Rattle.rio_base.specs.Disks.{block_at}
-use Rattle.rio_base.specs.Machine.{Contents, FaultCause, Lasts, Running, StepEnds}
-use Rattle.rio_base.specs.MachineRules.{ends_after, lasts_trans, steps_trans}
+use Rattle.rio_base.specs.Machine.{Contents, Lasts, Running, Steps}
+use Rattle.rio_base.specs.MachineRules.{lasts_trans}
 use Rattle.rio_base.specs.Rules.{none_some, true_false}
-use Rattle.rio_base.specs.Volume.{Firm}
+use Rattle.rio_base.specs.Volume.{Firm, Passes}
 use Rattle.rio_model.specs.Registry.{BlockRule, IsValid, OneEntry, file_at, frames_of, gate_of, index_at, is_data, is_dirty, is_valid, shadow_at, size_at, tag_at, tag_block, tag_of}
 use Rattle.rio_model.specs.Cover.{Coherent, HeldEntry, IsBare, Keeps, Narrows, entry_of_block, frame_page, home_word, is_loose, name_in, reads}
 use Rattle.rio_model.specs.CoverChanges.{OnePage, SameEntries, entry_same, found_entries, found_kept, found_other, frame_entries, same_entries, tag_same}
@@ -22,32 +20,16 @@ use Rattle.registry.specs.Entries.{entry_of, new_entry}
 use Rattle.registry.specs.declared.entry.Entry.{Entry}
 use Rattle.frame_pool.specs.Pools.{block_of, frames_in}
 use Rattle.page_cache.specs.declared.tables.CacheTables.{CacheTables}
-use Rattle.page_cache.specs.Caches.{Adds, CacheSound, SameTables, SameTouches, cache_health, cache_kept, cache_seen, was_forgotten}
+use Rattle.page_cache.specs.Caches.{Adds, CacheSound, FewWrites, SameTables, SameTouches, cache_below, cache_health, cache_kept, cache_seen, was_forgotten}
+use Rattle.page_cache.proofs.Goes.{goes_few}
 use Rattle.page_cache.proofs.Kept.{SameSizes, TablesStay, bound_held, bound_one, bound_tags, shadows_entries, shadows_gone, shadows_held, sizes_keep, sound_stays, tables_same}
+use Rattle.page_cache.proofs.Stores.{cached_entries, cached_held, name_other, narrows_cached}
 use Rattle.page_cache.proofs.Touched.{touches_entries, touches_one}
 
 -- ---- names of entries
 
-name_by : Bool → ℕ → ℕ → ℕ → Option PageName
-name_by d f i s = if d then Some (record { file = record { 0 = f }; index = i; size = s }) else None
-
-name_other : (k j : ℕ) (old new : List ℕ) → OneEntry k old new → j ≢ k → name_in new (Some j) ≡ name_in old (Some j)
-unfolding name_by
-name_other k j old new one ne = name_equal (ap is_data (tag_one k j old new one ne)) (entry_one k j 1 old new one ne (omega arith)) (entry_one k j 2 old new one ne (omega arith)) (entry_one k j 3 old new one ne (omega arith))
-  where
-    name_equal : is_data (tag_at new j) ≡ is_data (tag_at old j) → file_at new j ≡ file_at old j → index_at new j ≡ index_at old j → size_at new j ≡ size_at old j → name_by (is_data (tag_at new j)) (file_at new j) (index_at new j) (size_at new j) ≡ name_by (is_data (tag_at old j)) (file_at old j) (index_at old j) (size_at old j)
-    name_equal d f i s = rw (d, f, i, s) refl
-
 pub narrows_held : (k : ℕ) (old new : List ℕ) → OneEntry k old new → HeldEntry k old new → Narrows old new
-unfolding name_by
-narrows_held k old new one h = record { found = λ b j e. (sym (found_kept k b old new one h.valid h.block) ∙ e, name j (cases_eq j k)) }
-  where
-    name_held : name_by (is_data (tag_at new k)) (file_at new k) (index_at new k) (size_at new k) ≡ name_by (is_data (tag_at old k)) (file_at old k) (index_at old k) (size_at old k)
-    name_held = rw (h.named, h.file, h.index, h.size) refl
-
-    name : (j : ℕ) → (j ≡ k) ⊎ (j ≢ k) → name_by (is_data (tag_at new j)) (file_at new j) (index_at new j) (size_at new j) ≡ name_by (is_data (tag_at old j)) (file_at old j) (index_at old j) (size_at old j)
-    name j (inl e) = subst (λ m. name_by (is_data (tag_at new m)) (file_at new m) (index_at new m) (size_at new m) ≡ name_by (is_data (tag_at old m)) (file_at old m) (index_at old m) (size_at old m)) (sym e) name_held
-    name j (inr ne) = rw (ap is_data (tag_one k j old new one ne), entry_one k j 1 old new one ne (omega arith), entry_one k j 2 old new one ne (omega arith), entry_one k j 3 old new one ne (omega arith)) refl
+narrows_held k old new one h = narrows_cached old new (cached_held k old new one h)
 
 pub narrows_gone : (k n : ℕ) (c : Contents) (new : List ℕ) → Coherent c n → OneEntry k c.words new → tag_at new k ≡ 0 → Narrows c.words new
 narrows_gone k n c new s one gone = record { found = λ b j e. from b j e (found_is new b j e) }
@@ -269,19 +251,11 @@ firm_keeps old new t u h same = firm_by_tables old new t u h.firm same
 pub word_read : (k b w p : ℕ) (old new : Contents) → Keeps old new → entry_of_block new.words b ≡ Some k → w < 512 → p ≡ frame_page new.words k → slice_index new.words (512 * p + w) ≡ reads old b w
 word_read k b w p old new h found small page = ap (λ q. slice_index new.words (512 * q + w)) page ∙ sym (cover_at (frame_page new.words) new.words new.disk b w k found small) ∙ ap (λ (f : BlockWords). f b w) h.reads
 
-pub ends_of : {T : Type 0} (old new : Contents) (r s : Running) (answer : Result T VolFail) → Lasts old new → FaultCause old new (IsErrOf answer Fault) → StepEnds r s (IsErrOf answer Stopped) → Ends (cache_health old r) (cache_health new s) answer
-ends_of old new r s (Ok x) l f e = record { later = l.faults.later; stays = λ t. ap (λ (u : Running). u.stopped) (e.steps.frozen t) ∙ t; cause = e.runs (λ q. cc) }
-ends_of old new r s (Err Fault) l f e = record { later = l.faults.later; stays = λ t. ap (λ (u : Running). u.stopped) (e.steps.frozen t) ∙ t; cause = (f refl, e.runs (λ q. cc)) }
-ends_of old new r s (Err Stopped) l f e = record { later = l.faults.later; stays = λ t. ap (λ (u : Running). u.stopped) (e.steps.frozen t) ∙ t; cause = e.told refl }
-
 pub lasts_then : (a b c : Contents) → Lasts a b → Lasts b c → Lasts a c
 lasts_then a b c h k = lasts_trans a b c h k
 
 pub keeps_then : (a b c : Contents) → Keeps a b → Keeps b c → Keeps a c
 keeps_then a b c h k = keeps_trans a b c h k
-
-pub ends_then : (a b c : Running) (none stop : Type 0) → (none → ⊥) → StepEnds a b none → StepEnds b c stop → StepEnds a c stop
-ends_then a b c none stop n h k = ends_after a b c stop h.steps (h.runs n) k
 
 -- ---- a frame was filled
 
@@ -289,14 +263,7 @@ pub filled_tag : (old mid : Contents) (k j : ℕ) (new : List ℕ) → mid.words
 filled_tag old mid k j new e one less = tag_same old.words new j (page_same old.words new k (at_first old mid k new e one)) less
 
 pub filled_narrows : (old mid : Contents) (k : ℕ) (new : List ℕ) → mid.words ≡ old.words → OnePage (frame_page mid.words k) mid.words new → Narrows old.words new
-unfolding name_by
-filled_narrows old mid k new e one = record { found = λ b j f. let was = sym (found_entries old.words new b same) ∙ f in (was, name j (found_is old.words b j was).0.within) }
-  where
-    same : SameEntries old.words new
-    same = page_same old.words new k (at_first old mid k new e one)
-
-    name : (j : ℕ) → j < frames_of old.words → name_by (is_data (tag_at new j)) (file_at new j) (index_at new j) (size_at new j) ≡ name_by (is_data (tag_at old.words j)) (file_at old.words j) (index_at old.words j) (size_at old.words j)
-    name j less = rw (ap is_data (tag_same old.words new j same less), entry_same old.words new j 1 same less (omega arith), entry_same old.words new j 2 same less (omega arith), entry_same old.words new j 3 same less (omega arith)) refl
+filled_narrows old mid k new e one = narrows_cached old.words new (cached_entries old.words new (page_same old.words new k (at_first old mid k new e one)))
 
 pub filled_home : (old mid new : Contents) (k b : ℕ) (buffer : List ℕ) → mid.words ≡ old.words → OnePage (frame_page mid.words k) mid.words new.words → new ≡ record mid { words = new.words } → mid.disk ≡ old.disk → buffer ≡ block_at old.disk b → ((w : ℕ) → w < 512 → slice_index new.words (512 * frame_page mid.words k + w) ≡ slice_index buffer w) → (w : ℕ) → w < 512 → slice_index new.words (512 * frame_page new.words k + w) ≡ home_word new.disk b w
 filled_home old mid new k b buffer e one rest disk read filled w less =
@@ -310,5 +277,15 @@ begun_narrows k old new one same gone = record {
       (was, name_other k j old new one ne);
 }
 
-pub ends_ok : (a b c : Running) (one two stop : Type 0) → (one → ⊥) → (two → ⊥) → (stop → ⊥) → StepEnds a b one → StepEnds b c two → StepEnds a c stop
-ends_ok a b c one two stop n m o h k = record { steps = steps_trans _ _ _ h.steps k.steps; told = λ s. absurd (o s); runs = λ s. k.runs m ∙ h.runs n }
+-- ---- the volume is only read
+
+pub passes_of : (b : ℕ) (c d : Contents) (r s : Running) (t u : CacheTables) → Keeps c d → Lasts c d → Steps r s → FewWrites b c d → SameTouches c.words d.words → SameTables t u → Passes (cache_health c r) (cache_below c r) (cache_kept c t) (cache_health d s) (cache_below d s) (cache_kept d u)
+passes_of b c d r s t u h l st few touches same = record {
+  goes = goes_few b c d r s l st (h.header 2 (omega arith)) few;
+  standing = h.stands;
+  firm = firm_keeps c d t u h same;
+  updating = ap (λ n. n == 1) (h.header 4 (omega arith));
+  begun = h.stands;
+  touched = touches.touched;
+  touches = rw (h.header 4 (omega arith), same.shadows) refl;
+}

@@ -1,15 +1,16 @@
 -- With a frame for each block, a frame is free while a block isn't cached.
-use Rattle.std.specs.Prelude.{◌≡◌, ◌≢◌, ℕ, suc, ◌<◌, ◌≤◌, ◌==◌, Bool, true, false, ◌⊎◌, if◌then◌else◌, List, length, Some, None, refl}
-use Rattle.std.proofs.Common.{◌∙◌, sym, subst, inl, inr, arith}
+use Rattle.std.specs.Prelude.{◌≡◌, ◌≢◌, ℕ, suc, ◌<◌, ◌≤◌, ◌==◌, Bool, true, false, ◌⊎◌, if◌then◌else◌, List, length, Some, None, is_some, refl}
+use Rattle.std.proofs.Common.{◌∙◌, ap, sym, subst, inl, inr, arith}
 use Rattle.std.proofs.lemmas.Bool.{cases_eq, eq-eqb, ne_eqb}
+use Rattle.rio_base.specs.Disks.{raised}
 use Rattle.rio_base.specs.Machine.{Contents}
-use Rattle.rio_base.specs.Rules.{none_some}
+use Rattle.rio_base.specs.Rules.{none_some, true_false}
 use Rattle.rio_model.specs.Registry.{IsValid, frames_of, is_valid, tag_at, tag_block}
 use Rattle.frame_pool.specs.Pools.{IsVictim, block_of}
 use Rattle.rio_model.specs.Cover.{entry_of_block}
 use Rattle.rio_model.specs.CoverLookups.{found_none}
 use Rattle.page_cache.specs.declared.tables.CacheTables.{CacheTables}
-use Rattle.page_cache.specs.Caches.{CacheSound}
+use Rattle.page_cache.specs.Caches.{CacheSound, FewWrites}
 use Rattle.page_cache.proofs.Pigeons.{pigeons}
 
 -- the blocks of the entries, and b behind them
@@ -52,3 +53,12 @@ roomy_free b n k c t s none there roomy (inr h) = absurd (omega (arith, roomy, p
 pub none_free : (k n : ℕ) (c : Contents) (t : CacheTables) → CacheSound c n t → IsVictim t.pool k → IsValid c.words k → (j : ℕ) → j < frames_of c.words → is_valid (tag_at c.words j) ≡ false → ⊥
 none_free k n c t s (inl e) v j less gone = none_some (tag_block (tag_at c.words k)) (block_of t.pool k) e (s.bound k v.within ∙ rw v.valid refl)
 none_free k n c t s (inr h) v j less gone = h.0 j (subst (λ m. j < m) (sym s.frames) less) (s.bound j less ∙ rw gone refl)
+
+-- a valid victim, while b isn't cached: no frame is free, and there are fewer frames than blocks
+pub few_evicted : (b n k : ℕ) (c d : Contents) (t : CacheTables) → CacheSound c n t → entry_of_block c.words b ≡ None → b < length c.disk → IsVictim t.pool k → IsValid c.words k → d.writes ≤ raised c.writes 1 → FewWrites b c d
+few_evicted b n k c d t s none there victim v one = record {
+  one = one;
+  cached = λ e. absurd (true_false (sym e ∙ ap is_some none));
+  free = λ j less gone. absurd (none_free k n c t s victim v j less gone);
+  roomy = λ r. absurd (none_some (tag_block (tag_at c.words k)) (block_of t.pool k) (roomy_free b n k c t s none there r victim) (s.bound k v.within ∙ rw v.valid refl));
+}

@@ -1,10 +1,8 @@
--- What a call outside an update leaves so, as callers see it: what stands, which blocks are loose, the machine below.
+-- What a call outside an update leaves so, as callers see it: what stands, and which blocks are loose.
 use Rattle.std.specs.Prelude.{◌≡◌, ◌≢◌, ℕ, ◌*◌, ◌/◌, ◌≤◌, ◌==◌, ◌||◌, nat_lt, not, Bool, true, false, ◌⊎◌, List, length, slice_index_or, Some, Result, Ok, Err, IsErrOf, refl}
 use Rattle.std.proofs.Common.{◌∙◌, ap, sym, subst, inl, inr, arith}
 use Rattle.std.proofs.lemmas.Bool.{eq-eqb, ltb-false, lt-ltb}
 use Rattle.std.proofs.lemmas.Bool.Decides.{nat_tests}
-use Rattle.rio_base.specs.declared.failures.VolFail.{VolFail}
-use Rattle.rio_base.specs.declared.failures.VolFail.TheVariants.{Fault, Stopped}
 use Rattle.rio_base.specs.Blocks.{BlockWords, Ends}
 use Rattle.rio_base.specs.Machine.{Contents, FaultCause, Lasts, Running, StepEnds, Steps, StopReason}
 use Rattle.rio_base.specs.Rules.{true_false}
@@ -15,53 +13,7 @@ use Rattle.page_cache.specs.declared.tables.CacheTables.{CacheTables}
 use Rattle.page_cache.specs.Caches.{FewWrites, cache_below, cache_causes, cache_health, cache_kept, was_forgotten}
 use Rattle.rio_model.specs.CoverStands.{stands_idle}
 use Rattle.page_cache.specs.Stores.{Rewrites}
-
--- ---- the machine below
-
-cause_by : (r s : Running) (a b : Bool) → r.stopped ≡ a → s.stopped ≡ b → Steps r s → StopCause (cache_causes r) (cache_causes s) a b
-cause_by r s true b e d h = ap (λ (u : Running). u.trapped) (h.frozen e)
-cause_by r s false false e d h = h.running d
-cause_by r s false true e d h = from (h.reason e d)
-  where
-    from : StopReason r s → ((a : ℕ) × (r.armed ≡ Some a) × (nat_lt (512 * (a / 512)) r.protected ≡ true) × (s.trapped ≡ Some a)) ⊎ ((s.trapped ≡ r.trapped) × (r.stop_set ≡ true))
-    from (inl t) = inl (t.0, t.1, lt-ltb _ _ (omega (arith, t.2)), t.3)
-    from (inr t) = inr t
-
-runs_of : (c d : Contents) (r s : Running) → Lasts c d → Steps r s → frames_of d.words ≡ frames_of c.words → Runs (cache_health c r) (cache_below c r) (cache_health d s) (cache_below d s)
-runs_of c d r s l h frames = record {
-  later = l.faults.later;
-  stays = λ t. ap (λ (u : Running). u.stopped) (h.frozen t) ∙ t;
-  written = l.writes;
-  roomy = rw (frames, l.blocks) refl;
-  around = l.around;
-  stop_set = h.stop_set;
-  protected = ap (λ (n : ℕ). λ (p : ℕ). nat_lt (512 * p) n) h.protected;
-  armed = h.armed;
-  cause = cause_by r s r.stopped s.stopped refl refl h;
-  memory = rw (h.protected, h.scratch_count) refl;
-  limit = record { limit = l.faults.limit };
-}
-
-roomy_is : (frames count : ℕ) → not (nat_lt frames count) ≡ true → count ≤ frames
-roomy_is frames count e = from (nat_lt frames count) refl e
-  where
-    from : (x : Bool) → nat_lt frames count ≡ x → not x ≡ true → count ≤ frames
-    from true q z = absurd (true_false (sym z))
-    from false q z = ltb-false frames count q
-
-quiet_few : (b : ℕ) (c d : Contents) (r s : Running) → FewWrites b c d → Quiet (cache_below c r) (cache_below d s)
-quiet_few b c d r s h = record {
-  home = λ e. let st = h.roomy (roomy_is (frames_of c.words) (length c.disk) e) in rw (st.disk, st.marks) refl;
-  writes = λ e. (h.roomy (roomy_is (frames_of c.words) (length c.disk) e)).writes;
-}
-
-pub goes_few : (b : ℕ) (c d : Contents) (r s : Running) → Lasts c d → Steps r s → frames_of d.words ≡ frames_of c.words → FewWrites b c d → Goes (cache_health c r) (cache_below c r) (cache_health d s) (cache_below d s)
-goes_few b c d r s l h frames few = record { runs = runs_of c d r s l h frames; quiet = quiet_few b c d r s few }
-
-pub ends_of : {T : Type 0} (old new : Contents) (r s : Running) (answer : Result T VolFail) → Lasts old new → FaultCause old new (IsErrOf answer Fault) → StepEnds r s (IsErrOf answer Stopped) → Ends (cache_health old r) (cache_health new s) answer
-ends_of old new r s (Ok x) l f e = record { later = l.faults.later; stays = λ t. ap (λ (u : Running). u.stopped) (e.steps.frozen t) ∙ t; cause = e.runs (λ q. cc) }
-ends_of old new r s (Err Fault) l f e = record { later = l.faults.later; stays = λ t. ap (λ (u : Running). u.stopped) (e.steps.frozen t) ∙ t; cause = (f refl, e.runs (λ q. cc)) }
-ends_of old new r s (Err Stopped) l f e = record { later = l.faults.later; stays = λ t. ap (λ (u : Running). u.stopped) (e.steps.frozen t) ∙ t; cause = e.told refl }
+use Rattle.page_cache.proofs.Goes.{goes_few}
 
 -- ---- what stands
 

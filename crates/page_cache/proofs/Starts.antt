@@ -1,13 +1,11 @@
--- A cache starts, its machine is met by wild stores, and what is told of it.
-use Rattle.std.specs.Prelude.{◌≡◌, ℕ, ◌+◌, ◌-◌, ◌/◌, ◌<◌, ◌||◌, ◌&&◌, ◌==◌, not, is_some, Bool, true, false, if◌then◌else◌, List, length, replicate, slice_index_or, Some, None, refl}
-use Rattle.std.proofs.Common.{◌∙◌, ap, sym, subst, arith}
-use Rattle.std.proofs.lemmas.List.{length-replicate, length-set}
+-- A cache starts, and what is told of it.
+use Rattle.std.specs.Prelude.{◌≡◌, ℕ, ◌+◌, ◌/◌, ◌<◌, ◌||◌, ◌&&◌, ◌==◌, not, is_some, Bool, true, false, if◌then◌else◌, List, length, replicate, slice_index_or, Some, None, refl}
+use Rattle.std.proofs.Common.{◌∙◌, ap, sym, arith}
+use Rattle.std.proofs.lemmas.List.{length-replicate}
 use Rattle.rio_base.specs.Disks.{is_pending}
 use Rattle.rio_base.specs.Image.{registry_pages}
-use Rattle.rio_base.specs.Machine.{Contents, Running, after_wild}
+use Rattle.rio_base.specs.Machine.{Contents, Running}
 use Rattle.rio_base.specs.Rules.{true_false}
-use Rattle.rio_base.specs.declared.wild.Wild.{Wild}
-use Rattle.rio_base.specs.declared.wild.Wild.TheVariants.{Changed, Trapped, Spared}
 use Rattle.rio_model.specs.Registry.{IsValid, frames_of, gate_of, is_valid, page_of_entry, tag_at, tag_block}
 use Rattle.rio_model.specs.Cover.{Coherent, entry_of_block, frame_page, has_dirty, is_loose}
 use Rattle.rio_model.specs.CoverLookups.{cover_home, found_free}
@@ -78,21 +76,6 @@ tells_of c r t s = record {
   health = refl;
   below = refl;
 }
-
-wild_scratch : (w : Wild) (at v : ℕ) (r : Running) → length (after_wild w at v r).scratch ≡ length r.scratch
-wild_scratch Changed at v r = length-set r.scratch (at - r.protected) v
-wild_scratch Spared at v r = refl
-wild_scratch Trapped at v r = refl
-
--- what holds stays, where the machine's contents do, and its scratch pages are as many
-pub sound_on : (n m : ℕ) (c d : Contents) (t : CacheTables) → CacheSound c n t → d ≡ c → m ≡ n → CacheSound d m t
-sound_on n m c d t s e same = subst (λ x. CacheSound x m t) (sym e) (subst (λ x. CacheSound c x t) (sym same) s)
-
-pub wild_sound : (w : Wild) (at v : ℕ) (c d : Contents) (r s : Running) (t : CacheTables) → CacheSound c (length r.scratch) t → d ≡ c → s ≡ after_wild w at v r → CacheSound d (length s.scratch) t
-wild_sound w at v c d r s t sound e run = sound_on (length r.scratch) (length s.scratch) c d t sound e (ap (λ (u : Running). length u.scratch) run ∙ wild_scratch w at v r)
-
-pub arm_sound : (at : ℕ) (c d : Contents) (r s : Running) (t : CacheTables) → CacheSound c (length r.scratch) t → d ≡ c → s ≡ record r { armed = Some at } → CacheSound d (length s.scratch) t
-arm_sound at c d r s t sound e run = sound_on (length r.scratch) (length s.scratch) c d t sound e (ap (λ (u : Running). length u.scratch) run)
 
 pub first_is : (frames : ℕ) → (frames + 101) / 102 + 17 ≡ registry_pages frames + 17
 unfolding registry_pages

@@ -3,16 +3,14 @@ use Rattle.std.specs.Prelude.{◌≡◌, ◌≢◌, ℕ, ◌≤◌, Bool, true, 
 use Rattle.std.proofs.Common.{◌∙◌, ap, sym, subst, inl, inr, arith}
 use Rattle.rio_base.specs.declared.places.PageName.{PageName}
 use Rattle.rio_base.specs.Blocks.{Drops}
-use Rattle.rio_base.specs.Disks.{raised}
 use Rattle.rio_base.specs.Machine.{Contents}
 use Rattle.rio_base.specs.Rules.{none_some, true_false}
 use Rattle.rio_base.specs.Volume.{CachesStored, stored_name, widened}
 use Rattle.rio_model.specs.Registry.{IsValid, is_dirty, tag_at, tag_block}
 use Rattle.rio_model.specs.Cover.{Coherent, Narrows, entry_of_block, name_in}
 use Rattle.rio_model.specs.CoverLookups.{found_at, found_is}
-use Rattle.page_cache.specs.Caches.{Adds, FewWrites, Still, cache_seen}
+use Rattle.page_cache.specs.Caches.{Adds, cache_seen}
 use Rattle.page_cache.specs.Stores.{SameCached, Widens}
-use Rattle.page_cache.proofs.Stores.{still_then}
 
 -- ---- entries and names
 
@@ -131,20 +129,6 @@ pub named_put : (b : ℕ) (name own : Option PageName) (cached : Bool) (c d : Co
 named_put b name own cached c d h e = name_seen c d h b ∙ e
 
 -- ---- what is written to the disk
-
-pub few_then : (b : ℕ) (a c d : Contents) → FewWrites b a c → Still c d → FewWrites b a d
-few_then b a c d h k = record {
-  one = rw k.writes h.one;
-  cached = λ e. still_then a c d (h.cached e) k;
-  free = λ j less e. still_then a c d (h.free j less e) k;
-  roomy = λ e. still_then a c d (h.roomy e) k;
-}
-
-pub few_still : (b : ℕ) (a d : Contents) → Still a d → FewWrites b a d
-few_still b a d h = record { one = subst (λ n. n ≤ raised a.writes 1) (sym h.writes) (raised_more a.writes); cached = λ e. h; free = λ j less e. h; roomy = λ e. h }
-  where
-    raised_more : (n : ℕ) → n ≤ raised n 1
-    raised_more n = omega arith
 
 -- the entry of b after the page was made ready
 pub found_ready : (b k : ℕ) (name : Option PageName) (c d : List ℕ) → entry_of_block c b ≡ Some k → Widens k name c d → entry_of_block d b ≡ Some k

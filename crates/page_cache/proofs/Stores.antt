@@ -4,11 +4,10 @@ use Rattle.std.proofs.Common.{◌∙◌, ap, sym, subst, inl, inr, arith}
 use Rattle.std.proofs.lemmas.Bool.{cases_eq}
 use Rattle.rio_base.specs.declared.places.PageName.{PageName}
 use Rattle.rio_base.specs.Image.{registry_pages}
-use Rattle.rio_base.specs.Machine.{Contents, Running, StepEnds}
-use Rattle.rio_base.specs.MachineRules.{ends_after, steps_trans}
+use Rattle.rio_base.specs.Machine.{Contents, Running}
 use Rattle.rio_model.specs.Registry.{HasLayout, IsValid, OneEntry, file_at, frames_of, gate_of, index_at, is_data, is_dirty, is_valid, shadow_at, size_at, tag_at, tag_block, with_dirty}
 use Rattle.rio_model.specs.RegistryRules.{dirtied_dirty}
-use Rattle.rio_model.specs.Cover.{Coherent, HeldEntry, Keeps, name_in}
+use Rattle.rio_model.specs.Cover.{Coherent, HeldEntry, Keeps, Narrows, name_in}
 use Rattle.rio_model.specs.CoverLookups.{entry_one, found_is, frames_one, header_one, tag_one}
 use Rattle.rio_model.specs.CoverChanges.{SameEntries, entry_same, found_entries, found_kept, header_same, tag_same}
 use Rattle.rio_model.specs.CoverSteps.{Retagged, coherent_on, hold_dirtied, keeps_dirty, layout_is, rest_stored}
@@ -16,7 +15,7 @@ use Rattle.registry.specs.Changes.{CanChange}
 use Rattle.registry.specs.Entries.{entry_of}
 use Rattle.registry.specs.declared.entry.Entry.{Entry}
 use Rattle.page_cache.specs.declared.tables.CacheTables.{CacheTables}
-use Rattle.page_cache.specs.Caches.{CacheSound, Still}
+use Rattle.page_cache.specs.Caches.{CacheSound}
 use Rattle.page_cache.specs.Stores.{SameCached}
 
 -- ---- what a change of an entry asks
@@ -114,6 +113,9 @@ name_same k old new d f i s = equal d f i s
 pub name_other : (k j : ℕ) (old new : List ℕ) → OneEntry k old new → j ≢ k → name_in new (Some j) ≡ name_in old (Some j)
 name_other k j old new one ne = name_same j old new (ap is_data (tag_one k j old new one ne)) (entry_one k j 1 old new one ne (omega arith)) (entry_one k j 2 old new one ne (omega arith)) (entry_one k j 3 old new one ne (omega arith))
 
+pub name_held : (k : ℕ) (old new : List ℕ) → HeldEntry k old new → name_in new (Some k) ≡ name_in old (Some k)
+name_held k old new h = name_same k old new h.named h.file h.index h.size
+
 pub cached_refl : (words : List ℕ) → SameCached words words
 cached_refl words = record { found = λ b. refl; names = λ b k e. refl }
 
@@ -121,11 +123,14 @@ pub cached_held : (k : ℕ) (old new : List ℕ) → OneEntry k old new → Held
 cached_held k old new one h = record { found = λ b. found_kept k b old new one h.valid h.block; names = λ b j e. name j (cases_eq j k) }
   where
     name : (j : ℕ) → (j ≡ k) ⊎ (j ≢ k) → name_in new (Some j) ≡ name_in old (Some j)
-    name j (inl e) = subst (λ x. name_in new (Some x) ≡ name_in old (Some x)) (sym e) (name_same k old new h.named h.file h.index h.size)
+    name j (inl e) = subst (λ x. name_in new (Some x) ≡ name_in old (Some x)) (sym e) (name_held k old new h)
     name j (inr ne) = name_other k j old new one ne
 
 pub cached_entries : (old new : List ℕ) → SameEntries old new → SameCached old new
 cached_entries old new h = record { found = λ b. found_entries old new b h; names = λ b j e. let less = (found_is old b j e).0.within in name_same j old new (ap is_data (tag_same old new j h less)) (entry_same old new j 1 h less (omega arith)) (entry_same old new j 2 h less (omega arith)) (entry_same old new j 3 h less (omega arith)) }
+
+pub narrows_cached : (old new : List ℕ) → SameCached old new → Narrows old new
+narrows_cached old new h = record { found = λ b k e. let was = sym (h.found b) ∙ e in (was, h.names b k was) }
 
 -- ---- nothing changed
 
@@ -135,30 +140,16 @@ sound_same n m old new t s same e = subst (λ c. CacheSound c m t) (sym e) (subs
 pub cached_same : (old new : Contents) → new ≡ old → SameCached old.words new.words
 cached_same old new e = rw e (cached_refl old.words)
 
-pub still_same : (old new : Contents) → new ≡ old → Still old new
-still_same old new e = rw e (record { disk = refl; marks = refl; writes = refl })
-
-pub still_words : (old new : Contents) → new ≡ record old { words = new.words } → Still old new
-still_words old new e = record { disk = ap (λ (m : Contents). m.disk) e; marks = ap (λ (m : Contents). m.pending) e; writes = ap (λ (m : Contents). m.writes) e }
-
--- ---- two calls
-
-pub still_then : (a b c : Contents) → Still a b → Still b c → Still a c
-still_then a b c h k = record { disk = k.disk ∙ h.disk; marks = k.marks ∙ h.marks; writes = k.writes ∙ h.writes }
-
--- a call that did not answer Stopped, and then another
-pub ends_then : (a b c : Running) (none stop : Type 0) → (none → ⊥) → StepEnds a b none → StepEnds b c stop → StepEnds a c stop
-ends_then a b c none stop n h k = ends_after a b c stop h.steps (h.runs n) k
-
--- two calls that did not answer Stopped
-pub ends_ok : (a b c : Running) (one two stop : Type 0) → (one → ⊥) → (two → ⊥) → (stop → ⊥) → StepEnds a b one → StepEnds b c two → StepEnds a c stop
-ends_ok a b c one two stop n m o h k = record { steps = steps_trans a b c h.steps k.steps; told = λ s. absurd (o s); runs = λ s. k.runs m ∙ h.runs n }
-
--- a call that did not answer Stopped, and then one that did, whose answer is handed on
-pub ends_stop : (a b c : Running) (none one stop : Type 0) → (none → ⊥) → one → stop → StepEnds a b none → StepEnds b c one → StepEnds a c stop
-ends_stop a b c none one stop n o s h k = record { steps = steps_trans a b c h.steps k.steps; told = λ x. k.told o; runs = λ m. absurd (m s) }
-
 -- ---- an entry is marked dirty
+
+pub held_same : (k : ℕ) (old new : List ℕ) → new ≡ old → HeldEntry k old new
+held_same k old new e = rw e (record { valid = refl; named = refl; block = refl; file = refl; index = refl; size = refl; shadow = refl })
+
+pub held_refl : (k : ℕ) (words : List ℕ) → HeldEntry k words words
+held_refl k words = held_same k words words refl
+
+pub one_refl : (k : ℕ) (words : List ℕ) → OneEntry k words words
+one_refl k words = record { count = refl; before = λ i less. refl; behind = λ i more. refl }
 
 pub dirtied : (k : ℕ) (old new : List ℕ) → OneEntry k old new → entry_of new k ≡ record (entry_of old k) { tag = with_dirty (tag_at old k) } → Retagged k (with_dirty (tag_at old k)) old new
 dirtied k old new one e = record {

@@ -20,86 +20,9 @@ use Rattle.frame_pool.specs.Pools.{is_pinned, pins_in}
 use Rattle.page_cache.specs.declared.tables.CacheTables.{CacheTables}
 use Rattle.page_cache.specs.Caches.{Adds, CacheSound, FewWrites, IsListed, SameTables, SameTouches, cache_below, cache_health, cache_kept, cache_seen, has_shadow, is_touched, was_forgotten}
 use Rattle.page_cache.specs.Updating.{GivesShadow, SameButPins, SamePages}
-use Rattle.page_cache.proofs.Goes.{goes_of}
-use Rattle.page_cache.proofs.Pins.{pins_refl}
+use Rattle.page_cache.proofs.Goes.{goes_few}
+use Rattle.page_cache.proofs.Stores.{name_held, name_other}
 use Rattle.page_cache.proofs.Updates.{blocks_named, sound_with, valid_before}
-
-pub layout_now : (c : Contents) (scratch : List ℕ) → Coherent c (length scratch) → HasLayout c.words scratch
-layout_now c scratch s = layout_is c scratch s
-
--- ---- an entry is marked dirty
-
-pub retagged : (k : ℕ) (old new : List ℕ) → OneEntry k old new → entry_of new k ≡ record (entry_of old k) { tag = with_dirty (tag_at old k) } → Retagged k (with_dirty (tag_at old k)) old new
-retagged k old new one e = record {
-  one = one;
-  tag = ap (λ (x : Entry). x.tag) e;
-  file = ap (λ (x : Entry). x.file) e;
-  index = ap (λ (x : Entry). x.index) e;
-  size = ap (λ (x : Entry). x.size) e;
-  shadow = ap (λ (x : Entry). x.shadow) e;
-}
-
-pub dirtied_keeps : (n k : ℕ) (old new : Contents) → Coherent old n → new ≡ record old { words = new.words } → IsValid old.words k → OneEntry k old.words new.words → entry_of new.words k ≡ record (entry_of old.words k) { tag = with_dirty (tag_at old.words k) } → Keeps old new
-dirtied_keeps n k old new s rest v one e = keeps_dirty n k old new s rest v (retagged k old.words new.words one e)
-
-pub dirtied_held : (k : ℕ) (old new : List ℕ) → OneEntry k old new → entry_of new k ≡ record (entry_of old k) { tag = with_dirty (tag_at old k) } → HeldEntry k old new
-dirtied_held k old new one e =
-    let r = retagged k old new one e in
-    record { valid = ap is_valid r.tag ∙ dirtied_valid (tag_at old k); named = ap is_data r.tag ∙ dirtied_data (tag_at old k); block = ap tag_block r.tag ∙ dirtied_block (tag_at old k); file = r.file; index = r.index; size = r.size; shadow = r.shadow }
-
-pub dirtied_is : (k : ℕ) (old new : List ℕ) → entry_of new k ≡ record (entry_of old k) { tag = with_dirty (tag_at old k) } → is_dirty (tag_at new k) ≡ true
-dirtied_is k old new e = ap (λ (x : Entry). is_dirty x.tag) e ∙ dirtied_dirty (tag_at old k)
-
-pub held_same : (k : ℕ) (old new : List ℕ) → new ≡ old → HeldEntry k old new
-held_same k old new e = rw e (record { valid = refl; named = refl; block = refl; file = refl; index = refl; size = refl; shadow = refl })
-
-pub one_same : (k : ℕ) (old new : List ℕ) → new ≡ old → OneEntry k old new
-one_same k old new e = rw e (record { count = refl; before = λ i less. refl; behind = λ i more. refl })
-
-pub held_refl : (k : ℕ) (words : List ℕ) → HeldEntry k words words
-held_refl k words = held_same k words words refl
-
-pub one_refl : (k : ℕ) (words : List ℕ) → OneEntry k words words
-one_refl k words = one_same k words words refl
-
-block_held : (a b : Bool) (x y : ℕ) → b ≡ a → y ≡ x → (if b then Some y else None) ≡ (if a then Some x else None)
-block_held a b x y e d = rw (e, d) refl
-
--- entry j, where entry k is dirty now, and says of its page what it said
-record HeldAt (k j : ℕ) (old new : List ℕ) : Type 0 where
-  pub valid : is_valid (tag_at new j) ≡ is_valid (tag_at old j)
-  pub block : tag_block (tag_at new j) ≡ tag_block (tag_at old j)
-  pub shadow : shadow_at new j ≡ shadow_at old j
-  pub dirty : is_dirty (tag_at old j) ≡ true → is_dirty (tag_at new j) ≡ true
-
-held_at : (k j : ℕ) (old new : List ℕ) → OneEntry k old new → HeldEntry k old new → is_dirty (tag_at new k) ≡ true → HeldAt k j old new
-held_at k j old new one held dirty = from (cases_eq j k)
-  where
-    from : (j ≡ k) ⊎ (j ≢ k) → HeldAt k j old new
-    from (inl e) = subst (λ x. HeldAt k x old new) (sym e) (record { valid = held.valid; block = held.block; shadow = held.shadow; dirty = λ d. dirty })
-    from (inr ne) = let t = tag_one k j old new one ne in record { valid = ap is_valid t; block = ap tag_block t; shadow = entry_one k j 4 old new one ne (omega arith); dirty = λ d. ap is_dirty t ∙ d }
-
-pub dirtied_sound : (n m k : ℕ) (old new : Contents) (t : CacheTables) → CacheSound old n t → m ≡ n → Keeps old new → new ≡ record old { words = new.words } → new.open_page ≡ None → OneEntry k old.words new.words → HeldEntry k old.words new.words → is_dirty (tag_at new.words k) ≡ true → CacheSound new m t
-dirtied_sound n m k old new t s same h rest closed one held dirty = sound_with n m old new t t s (coherent_on new n m same (h.coherent n s.coherent)) closed (ap (λ (c : Contents). length c.disk) rest) frames (λ j less. let a = at j in block_held (is_valid (tag_at old.words j)) (is_valid (tag_at new.words j)) (tag_block (tag_at old.words j)) (tag_block (tag_at new.words j)) a.valid a.block) (pins_refl t) (record {
-  most = s.most;
-  shadows = λ j v some. let e = (at j).shadow in let r = s.shadows j (was j v) (λ z. some (e ∙ z)) in (rw e r.0, rw e r.1);
-  listed = λ i less. rw frames (s.listed i less);
-  edited = λ is j v some. let r = s.edited (sym gate ∙ is) j (was j v) (λ z. some ((at j).shadow ∙ z)) in ((at j).dirty r.0, r.1);
-  pinned = λ j e. let r = s.pinned j e in (gate ∙ r.0, r.1);
-  few = s.few;
-})
-  where
-    frames : frames_of new.words ≡ frames_of old.words
-    frames = frames_one k old.words new.words one
-
-    gate : gate_of new.words ≡ gate_of old.words
-    gate = header_one k old.words new.words 4 one (omega arith)
-
-    at : (j : ℕ) → HeldAt k j old.words new.words
-    at j = held_at k j old.words new.words one held dirty
-
-    was : (j : ℕ) → IsValid new.words j → IsValid old.words j
-    was j v = record { within = subst (λ f. j < f) frames v.within; valid = sym (at j).valid ∙ v.valid }
 
 -- ---- an entry gets the next shadow
 
@@ -154,19 +77,12 @@ given_sound n m k old new t u s same h rest closed names is v dirty room given o
 
 -- ---- pages of entries
 
-name_by : Bool → ℕ → ℕ → ℕ → Option PageName
-name_by named file index size = if named then Some (record { file = record { 0 = file }; index = index; size = size }) else None
-
 pub pages_held : (k : ℕ) (old new : List ℕ) → OneEntry k old new → HeldEntry k old new → SamePages old new
-unfolding name_by
 pages_held k old new one held = record { frames = frames_one k old new one; found = λ b. found_kept k b old new one held.valid held.block; named = λ j less. name j (cases_eq j k) }
   where
-    by : name_by (is_data (tag_at new k)) (file_at new k) (index_at new k) (size_at new k) ≡ name_by (is_data (tag_at old k)) (file_at old k) (index_at old k) (size_at old k)
-    by = rw (held.named, held.file, held.index, held.size) refl
-
-    name : (j : ℕ) → (j ≡ k) ⊎ (j ≢ k) → name_by (is_data (tag_at new j)) (file_at new j) (index_at new j) (size_at new j) ≡ name_by (is_data (tag_at old j)) (file_at old j) (index_at old j) (size_at old j)
-    name j (inl e) = subst (λ m. name_by (is_data (tag_at new m)) (file_at new m) (index_at new m) (size_at new m) ≡ name_by (is_data (tag_at old m)) (file_at old m) (index_at old m) (size_at old m)) (sym e) by
-    name j (inr ne) = rw (ap is_data (tag_one k j old new one ne), entry_one k j 1 old new one ne (omega arith), entry_one k j 2 old new one ne (omega arith), entry_one k j 3 old new one ne (omega arith)) refl
+    name : (j : ℕ) → (j ≡ k) ⊎ (j ≢ k) → name_in new (Some j) ≡ name_in old (Some j)
+    name j (inl e) = subst (λ x. name_in new (Some x) ≡ name_in old (Some x)) (sym e) (name_held k old new held)
+    name j (inr ne) = name_other k j old new one ne
 
 pub pages_named : (old new : List ℕ) → SameNames old new → SamePages old new
 pages_named old new names = record { frames = names.frames; found = λ b. found_named old new b names; named = λ k less. name_same old new k names less }
@@ -195,6 +111,9 @@ gives_next k a b c t u one held bare some others count = record {
 
 some_none : (x : PageName) → Some x ≡ None → ⊥
 some_none x e = cc
+
+name_by : Bool → ℕ → ℕ → ℕ → Option PageName
+name_by named file index size = if named then Some (record { file = record { 0 = file }; index = index; size = size }) else None
 
 data_by : (d : Bool) (f i s : ℕ) → name_by d f i s ≡ None → d ≡ false
 unfolding name_by
@@ -296,18 +215,5 @@ firm_forgotten old new t u e h = record { loose = λ b l. loose_either (was_forg
 
 -- ---- how it ends
 
-roomy_is : (frames count : ℕ) → not (nat_lt frames count) ≡ true → count ≤ frames
-roomy_is frames count e = from (nat_lt frames count) refl e
-  where
-    from : (x : Bool) → nat_lt frames count ≡ x → not x ≡ true → count ≤ frames
-    from true q z = absurd (true_false (sym z))
-    from false q z = ltb-false frames count q
-
-quiet_few : (b : ℕ) (c d : Contents) (r s : Running) → FewWrites b c d → Quiet (cache_below c r) (cache_below d s)
-quiet_few b c d r s h = record {
-  home = λ e. let st = h.roomy (roomy_is (frames_of c.words) (length c.disk) e) in rw (st.disk, st.marks) refl;
-  writes = λ e. (h.roomy (roomy_is (frames_of c.words) (length c.disk) e)).writes;
-}
-
 pub touch_goes : (b : ℕ) (old new : Contents) (r s : Running) → Keeps old new → Lasts old new → Steps r s → FewWrites b old new → Goes (cache_health old r) (cache_below old r) (cache_health new s) (cache_below new s)
-touch_goes b old new r s h l st few = goes_of old new r s l st (h.header 2 (omega arith)) (quiet_few b old new r s few)
+touch_goes b old new r s h l st few = goes_few b old new r s l st (h.header 2 (omega arith)) few

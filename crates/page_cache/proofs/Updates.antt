@@ -15,9 +15,8 @@ use Rattle.rio_model.specs.CoverSteps.{coherent_on}
 use Rattle.frame_pool.specs.Pools.{is_pinned, pins_in}
 use Rattle.shadow_pages.specs.Updates.{AreBare, AreEntries, ListsShadows, LosesShadows, Opened, SameShadows}
 use Rattle.page_cache.specs.declared.tables.CacheTables.{CacheTables}
-use Rattle.page_cache.specs.Caches.{CacheSound, IsListed, Still, cache_below, cache_health, cache_kept, cache_seen, has_shadow}
+use Rattle.page_cache.specs.Caches.{CacheSound, IsListed, cache_below, cache_health, cache_kept, cache_seen, has_shadow}
 use Rattle.page_cache.specs.Updating.{SameButPins}
-use Rattle.page_cache.proofs.Goes.{goes_of}
 use Rattle.page_cache.proofs.Pins.{no_pins, pins_refl}
 
 -- ---- the invariant
@@ -175,18 +174,3 @@ same_loses old new h k less = inl (h k less)
 pub shadows_past : (old new : List ℕ) → ((i : ℕ) → 512 ≤ i → slice_index new i ≡ slice_index old i) → SameShadows old new
 unfolding entry_at
 shadows_past old new h = λ k less. h (entry_at k + 4) (omega arith)
-
--- ---- how calls end
-
-pub still_rest : (old new : Contents) → new ≡ record old { words = new.words } → Still old new
-still_rest old new e = record { disk = ap (λ (m : Contents). m.disk) e; marks = ap (λ (m : Contents). m.pending) e; writes = ap (λ (m : Contents). m.writes) e }
-
-pub still_same : (old new : Contents) → new ≡ old → Still old new
-still_same old new e = record { disk = ap (λ (m : Contents). m.disk) e; marks = ap (λ (m : Contents). m.pending) e; writes = ap (λ (m : Contents). m.writes) e }
-
-pub quiet_still : (c d : Contents) (r s : Running) → Still c d → Quiet (cache_below c r) (cache_below d s)
-quiet_still c d r s h = record { home = λ e. rw (h.disk, h.marks) refl; writes = λ e. h.writes }
-
--- a call that writes nothing to the disk
-pub goes_still : (c d : Contents) (r s : Running) → Lasts c d → Steps r s → frames_of d.words ≡ frames_of c.words → Still c d → Goes (cache_health c r) (cache_below c r) (cache_health d s) (cache_below d s)
-goes_still c d r s l h frames still = goes_of c d r s l h frames (quiet_still c d r s still)

@@ -38,12 +38,9 @@ filled_cached k old new one = cached_entries old new (filled_entries k old new o
 pub filled_same : (k : ℕ) (old new : List ℕ) → OnePage (frame_page old k) old new → frame_page new k ≡ frame_page old k
 filled_same k old new one = frame_entries old new k (filled_entries k old new one)
 
-pub narrows_cached : (old new : List ℕ) → SameCached old new → Narrows old new
-narrows_cached old new h = record { found = λ b k e. let was = sym (h.found b) ∙ e in (was, h.names b k was) }
-
 -- ---- the entry is made, dirty
 
-made_found : (k b : ℕ) (old new : Contents) (n : ℕ) → Coherent old n → Made k b true old.words new.words → entry_of_block new.words b ≡ Some k
+pub made_found : (k b : ℕ) (old new : Contents) (n : ℕ) → Coherent old n → Made k b true old.words new.words → entry_of_block new.words b ≡ Some k
 made_found k b old new n s m = found_made k b old.words new.words m.one m.free (is_valid_made k b true old.words new.words m) m.block (registry_made k b true old.words new.words m s.rules).blocks
 
 made_other : (k b c : ℕ) (old new : List ℕ) → Made k b true old new → c ≢ b → entry_of_block new c ≡ entry_of_block old c

@@ -8,6 +8,7 @@ use Rattle.rio_base.specs.Machine.{Contents, Running}
 use Rattle.rio_base.specs.Volume.{Below, Kept}
 use Rattle.frame_pool.specs.Pools.{block_of, blocks_in, frames_in, is_pinned, pins_in}
 use Rattle.rio_model.specs.Registry.{IsValid, frames_of, gate_of, is_dirty, is_valid, shadow_at, tag_at}
+use Rattle.write_back.specs.Writing.{SameDisk}
 use Rattle.rio_model.specs.Cover.{Coherent, StandsAs, entry_block, entry_of_block, home_word, is_loose, name_in, reads, stands}
 use Rattle.page_cache.specs.declared.tables.CacheTables.{CacheTables}
 
@@ -119,19 +120,13 @@ pub record Adds (b : ℕ) (name : Option PageName) (old new : List ℕ) : Type 0
   pub others : (c k : ℕ) → c ≢ b → entry_of_block new c ≡ Some k → (entry_of_block old c ≡ Some k) × (name_in new (Some k) ≡ name_in old (Some k))
   pub named : (k : ℕ) → entry_of_block new b ≡ Some k → ((entry_of_block old b ≡ Some k) × (name_in new (Some k) ≡ name_in old (Some k))) ⊎ (name_in new (Some k) ≡ name)
 
--- nothing was written to the disk
-pub record Still (old new : Contents) : Type 0 where
-  pub disk : new.disk ≡ old.disk
-  pub marks : new.pending ≡ old.pending
-  pub writes : new.writes ≡ old.writes
-
 -- a call that names block b asks for one block write at most, and for none where the block is cached, where a frame is
 -- free, or where there is a frame for each block
 pub record FewWrites (b : ℕ) (old new : Contents) : Type 0 where
   pub one : new.writes ≤ raised old.writes 1
-  pub cached : is_some (entry_of_block old.words b) ≡ true → Still old new
-  pub free : (k : ℕ) → k < frames_of old.words → is_valid (tag_at old.words k) ≡ false → Still old new
-  pub roomy : length old.disk ≤ frames_of old.words → Still old new
+  pub cached : is_some (entry_of_block old.words b) ≡ true → SameDisk old new
+  pub free : (k : ℕ) → k < frames_of old.words → is_valid (tag_at old.words k) ≡ false → SameDisk old new
+  pub roomy : length old.disk ≤ frames_of old.words → SameDisk old new
 
 -- ---- what a cache tells of its machine
 

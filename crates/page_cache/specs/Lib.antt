@@ -3,3 +3,5 @@ pub mod Laws
 pub mod Settled
 pub mod Stores
 pub mod Updating
+pub mod Uses
+pub mod Wilds

@@ -4,6 +4,7 @@ ghost use Rattle.std.specs.Prelude.{◌≡◌, ◌<◌, ◌+◌, ℕ, false, Non
 ghost use Rattle.rio_base.specs.Machine.{Meets, after_wild};
 ghost use Rattle.rio_model.specs.Registry.{frames_of, gate_of, tag_at};
 ghost use Rattle.rio_model.specs.Cover.{Coherent};
+ghost use Rattle.page_cache.specs.Wilds.{Arms, Strikes};
 ghost use Rattle.page_cache.specs.Caches.{CacheSound, IsFresh, Started, Tells, cache_below, cache_health, cache_kept, cache_seen};
 
 use crate::tables::CacheTables;
@@ -41,11 +42,15 @@ impl<M: Machine> PageCache<M> {
         &self.machine
     }
 
-    /// A wild store now, as [`Machine::wild`].
+    /// A wild store now, as [`Machine::wild`]. No page is open between two calls: so it traps and stops the volume on every
+    /// protected page, and is never spared.
     pub fn wild(&mut self, at: WordAt, v: u64) -> Wild
         requires sound { CacheSound (M.contents self.old.machine) (length (M.run self.old.machine).scratch) self.old.tables }
-        requires place { at.0 < length (M.contents self.old.machine).words + length (M.run self.old.machine).scratch }
-        requires running { (M.run self.old.machine).stopped ≡ false }
+        requires place { at.0 < (cache_below (M.contents self.old.machine) (M.run self.old.machine)).memory.protected + (cache_below (M.contents self.old.machine) (M.run self.old.machine)).memory.scratch }
+        requires running { (cache_health (M.contents self.old.machine) (M.run self.old.machine)).stopped ≡ false }
+        ensures strikes { Strikes at.0 result (cache_health (M.contents self.old.machine) (M.run self.old.machine)) (cache_below (M.contents self.old.machine) (M.run self.old.machine)) (cache_health (M.contents self.new.machine) (M.run self.new.machine)) (cache_below (M.contents self.new.machine) (M.run self.new.machine)) }
+        ensures seen { cache_seen (M.contents self.new.machine) ≡ cache_seen (M.contents self.old.machine) }
+        ensures kept { cache_kept (M.contents self.new.machine) self.new.tables ≡ cache_kept (M.contents self.old.machine) self.old.tables }
         ensures answer { Meets (M.contents self.old.machine) at.0 result }
         ensures contents { M.contents self.new.machine ≡ M.contents self.old.machine }
         ensures run { M.run self.new.machine ≡ after_wild result at.0 v (M.run self.old.machine) }
@@ -55,10 +60,13 @@ impl<M: Machine> PageCache<M> {
         self.machine.wild(at, v)
     }
 
-    /// Arms a wild store, as [`Machine::arm`].
+    /// Arms a wild store, as [`Machine::arm`]. It comes in a later call.
     pub fn arm(&mut self, step: u64, at: WordAt, v: u64)
         requires sound { CacheSound (M.contents self.old.machine) (length (M.run self.old.machine).scratch) self.old.tables }
-        requires place { at.0 < length (M.contents self.old.machine).words + length (M.run self.old.machine).scratch }
+        requires place { at.0 < (cache_below (M.contents self.old.machine) (M.run self.old.machine)).memory.protected + (cache_below (M.contents self.old.machine) (M.run self.old.machine)).memory.scratch }
+        ensures arms { Arms at.0 (cache_health (M.contents self.old.machine) (M.run self.old.machine)) (cache_below (M.contents self.old.machine) (M.run self.old.machine)) (cache_health (M.contents self.new.machine) (M.run self.new.machine)) (cache_below (M.contents self.new.machine) (M.run self.new.machine)) }
+        ensures seen { cache_seen (M.contents self.new.machine) ≡ cache_seen (M.contents self.old.machine) }
+        ensures kept { cache_kept (M.contents self.new.machine) self.new.tables ≡ cache_kept (M.contents self.old.machine) self.old.tables }
         ensures contents { M.contents self.new.machine ≡ M.contents self.old.machine }
         ensures run { M.run self.new.machine ≡ record (M.run self.old.machine) { armed = Some at.0 } }
         ensures tables { self.new.tables ≡ self.old.tables }

@@ -1,13 +1,16 @@
 //! Blocks come into frames, and leave them.
 
+ghost use Rattle.frame_pool.specs.Orders.{used_last};
+ghost use Rattle.page_cache.specs.Uses.{AllStay, LeavesFrame, LeavesOldest, SameOrderBut, UsedLast};
 ghost use Rattle.std.specs.Prelude.{◌≡◌, ◌<◌, ◌≤◌, ◌+◌, ◌*◌, ℕ, true, false, Some, None, IfOk, OnOk, IsErr, IsErrOf, is_some, length, slice_index};
 ghost use Rattle.rio_base.specs.Blocks.{InRange};
 ghost use Rattle.rio_base.specs.Disks.{raised};
 ghost use Rattle.rio_base.specs.Machine.{FaultCause, Lasts, StepEnds};
 ghost use Rattle.rio_model.specs.Registry.{IsValid, frames_of, is_valid, tag_at};
 ghost use Rattle.rio_model.specs.Cover.{Coherent, Keeps, Narrows, entry_of_block, frame_page, home_word};
-ghost use Rattle.frame_pool.specs.Pools.{is_pinned};
-ghost use Rattle.page_cache.specs.Caches.{Adds, CacheSound, FewWrites, SameTables, SameTouches, Still};
+ghost use Rattle.frame_pool.specs.Pools.{is_pinned, least_recent, order_of};
+ghost use Rattle.write_back.specs.Writing.{SameDisk};
+ghost use Rattle.page_cache.specs.Caches.{Adds, CacheSound, FewWrites, SameTables, SameTouches};
 
 use crate::cache::PageCache;
 use crate::filling::{fill, install_clean, read_home};
@@ -29,6 +32,8 @@ impl<M: Machine> PageCache<M> {
         ensures one_write { (M.contents self.new.machine).writes ≤ raised (M.contents self.old.machine).writes 1 }
         ensures touches { SameTouches (M.contents self.old.machine).words (M.contents self.new.machine).words }
         ensures tables { SameTables self.old.tables self.new.tables }
+        ensures leaves { LeavesFrame k (M.contents self.old.machine).words (M.contents self.new.machine).words }
+        ensures order { OnOk result (SameOrderBut k self.old.tables self.new.tables) }
         ensures lasts { Lasts (M.contents self.old.machine) (M.contents self.new.machine) }
         ensures fault { FaultCause (M.contents self.old.machine) (M.contents self.new.machine) (IsErrOf result VolFail.Fault) }
         ensures ends { StepEnds (M.run self.old.machine) (M.run self.new.machine) (IsErrOf result VolFail.Stopped) }
@@ -39,7 +44,7 @@ impl<M: Machine> PageCache<M> {
     }
 
     /// Makes a frame free for block `b`, which isn't cached.
-    #[tactic(auto, using(crate::proofs::Stills::still_refl, crate::proofs::Stills::few_still, crate::proofs::Touched::touches_refl, crate::proofs::Kept::tables_refl, crate::proofs::Kept::pins_fit, rio_model::specs::CoverStands::narrows_refl, rio_model::specs::CoverSteps::keeps_refl, rio_base::specs::MachineRules::steps_refl, rio_base::specs::MachineRules::lasts_refl))]
+    #[tactic(auto, using(crate::proofs::Stills::still_refl, crate::proofs::Stills::few_still, crate::proofs::Touched::touches_refl, crate::proofs::Kept::tables_refl, crate::proofs::Kept::pins_fit, rio_model::specs::CoverStands::narrows_refl, rio_model::specs::CoverSteps::keeps_refl, rio_base::specs::MachineRules::steps_refl, rio_base::specs::MachineRules::lasts_refl, crate::proofs::Uses::leaves_refl, crate::proofs::Uses::leaves_frame, crate::proofs::Uses::order_refl))]
     pub(crate) fn make_room(&mut self, b: Block) -> Result<u32, VolFail>
         requires sound { CacheSound (M.contents self.old.machine) (length (M.run self.old.machine).scratch) self.old.tables }
         requires uncached { entry_of_block (M.contents self.old.machine).words b.0 ≡ None }
@@ -51,6 +56,9 @@ impl<M: Machine> PageCache<M> {
         ensures writes { FewWrites b.0 (M.contents self.old.machine) (M.contents self.new.machine) }
         ensures touches { SameTouches (M.contents self.old.machine).words (M.contents self.new.machine).words }
         ensures tables { SameTables self.old.tables self.new.tables }
+        ensures chosen { IfOk result (λ k. least_recent self.old.tables.pool ≡ Some k) }
+        ensures leaves { LeavesOldest self.old.tables (M.contents self.old.machine).words (M.contents self.new.machine).words }
+        ensures order { IfOk result (λ k. SameOrderBut k self.old.tables self.new.tables) }
         ensures lasts { Lasts (M.contents self.old.machine) (M.contents self.new.machine) }
         ensures fault { FaultCause (M.contents self.old.machine) (M.contents self.new.machine) (IsErrOf result VolFail.Fault) }
         ensures ends { StepEnds (M.run self.old.machine) (M.run self.new.machine) (IsErrOf result VolFail.Stopped) }
@@ -74,7 +82,7 @@ impl<M: Machine> PageCache<M> {
     }
 
     /// Reads block `b` into frame `k`, which is free: no entry has it yet.
-    #[tactic(auto, using(crate::proofs::Rooms::keeps_then, crate::proofs::Rooms::ends_then, crate::proofs::Rooms::lasts_then, crate::proofs::Touched::touches_words, crate::proofs::Stills::still_trans, crate::proofs::Stills::still_rest))]
+    #[tactic(auto, using(crate::proofs::Rooms::keeps_then, crate::proofs::Goes::ends_then, crate::proofs::Rooms::lasts_then, crate::proofs::Touched::touches_words, crate::proofs::Stills::still_trans, crate::proofs::Stills::still_rest, crate::proofs::Uses::stay_words))]
     fn fill_frame(&mut self, k: u32, b: Block) -> Result<(), VolFail>
         requires sound { CacheSound (M.contents self.old.machine) (length (M.run self.old.machine).scratch) self.old.tables }
         requires entry { k < frames_of (M.contents self.old.machine).words }
@@ -85,9 +93,11 @@ impl<M: Machine> PageCache<M> {
         ensures narrows { Narrows (M.contents self.old.machine).words (M.contents self.new.machine).words }
         ensures home { OnOk result ((w : ℕ) → w < 512 → slice_index (M.contents self.new.machine).words (512 * frame_page (M.contents self.new.machine).words k + w) ≡ home_word (M.contents self.new.machine).disk b.0 w) }
         ensures tag { tag_at (M.contents self.new.machine).words k ≡ tag_at (M.contents self.old.machine).words k }
-        ensures still { Still (M.contents self.old.machine) (M.contents self.new.machine) }
+        ensures still { SameDisk (M.contents self.old.machine) (M.contents self.new.machine) }
         ensures touches { SameTouches (M.contents self.old.machine).words (M.contents self.new.machine).words }
         ensures tables { SameTables self.old.tables self.new.tables }
+        ensures stay { AllStay (M.contents self.old.machine).words (M.contents self.new.machine).words }
+        ensures pool { self.new.tables.pool ≡ self.old.tables.pool }
         ensures lasts { Lasts (M.contents self.old.machine) (M.contents self.new.machine) }
         ensures fault { FaultCause (M.contents self.old.machine) (M.contents self.new.machine) (IsErrOf result VolFail.Fault) }
         ensures ends { StepEnds (M.run self.old.machine) (M.run self.new.machine) (IsErrOf result VolFail.Stopped) }
@@ -111,9 +121,11 @@ impl<M: Machine> PageCache<M> {
         ensures keeps { Keeps (M.contents self.old.machine) (M.contents self.new.machine) }
         ensures adds { Adds b.0 name (M.contents self.old.machine).words (M.contents self.new.machine).words }
         ensures found { OnOk result (entry_of_block (M.contents self.new.machine).words b.0 ≡ Some k) }
-        ensures still { Still (M.contents self.old.machine) (M.contents self.new.machine) }
+        ensures still { SameDisk (M.contents self.old.machine) (M.contents self.new.machine) }
         ensures touches { SameTouches (M.contents self.old.machine).words (M.contents self.new.machine).words }
         ensures tables { SameTables self.old.tables self.new.tables }
+        ensures stay { AllStay (M.contents self.old.machine).words (M.contents self.new.machine).words }
+        ensures order { OnOk result (order_of self.new.tables.pool ≡ used_last k (order_of self.old.tables.pool)) }
         ensures lasts { Lasts (M.contents self.old.machine) (M.contents self.new.machine) }
         ensures ends { StepEnds (M.run self.old.machine) (M.run self.new.machine) (IsErr result) }
     {
@@ -123,7 +135,7 @@ impl<M: Machine> PageCache<M> {
     }
 
     /// Brings block `b` into frame `k`, which is free.
-    #[tactic(auto, using(crate::proofs::Rooms::keeps_then, crate::proofs::Rooms::ends_then, crate::proofs::Rooms::lasts_then, crate::proofs::Rooms::adds_narrows, crate::proofs::Rooms::adds_after, crate::proofs::Rooms::none_still, crate::proofs::Stills::still_trans, crate::proofs::Touched::touches_trans, crate::proofs::Kept::tables_trans))]
+    #[tactic(auto, using(crate::proofs::Rooms::keeps_then, crate::proofs::Goes::ends_then, crate::proofs::Rooms::lasts_then, crate::proofs::Rooms::adds_narrows, crate::proofs::Rooms::adds_after, crate::proofs::Rooms::none_still, crate::proofs::Stills::still_trans, crate::proofs::Touched::touches_trans, crate::proofs::Kept::tables_trans, crate::proofs::Uses::stay_trans))]
     fn bring(&mut self, k: u32, b: Block, name: Option<PageName>) -> Result<(), VolFail>
         requires sound { CacheSound (M.contents self.old.machine) (length (M.run self.old.machine).scratch) self.old.tables }
         requires entry { k < frames_of (M.contents self.old.machine).words }
@@ -136,9 +148,11 @@ impl<M: Machine> PageCache<M> {
         ensures adds { Adds b.0 name (M.contents self.old.machine).words (M.contents self.new.machine).words }
         ensures found { OnOk result (entry_of_block (M.contents self.new.machine).words b.0 ≡ Some k) }
         ensures unfetched { IsErrOf result VolFail.Fault → Narrows (M.contents self.old.machine).words (M.contents self.new.machine).words }
-        ensures still { Still (M.contents self.old.machine) (M.contents self.new.machine) }
+        ensures still { SameDisk (M.contents self.old.machine) (M.contents self.new.machine) }
         ensures touches { SameTouches (M.contents self.old.machine).words (M.contents self.new.machine).words }
         ensures tables { SameTables self.old.tables self.new.tables }
+        ensures stay { AllStay (M.contents self.old.machine).words (M.contents self.new.machine).words }
+        ensures order { OnOk result (order_of self.new.tables.pool ≡ used_last k (order_of self.old.tables.pool)) }
         ensures lasts { Lasts (M.contents self.old.machine) (M.contents self.new.machine) }
         ensures fault { FaultCause (M.contents self.old.machine) (M.contents self.new.machine) (IsErrOf result VolFail.Fault) }
         ensures ends { StepEnds (M.run self.old.machine) (M.run self.new.machine) (IsErrOf result VolFail.Stopped) }
@@ -149,7 +163,7 @@ impl<M: Machine> PageCache<M> {
     }
 
     /// The frame of block `b`, which is fetched if it isn't cached: then under this name. It counts as a use.
-    #[tactic(auto, using(crate::proofs::Rooms::keeps_then, crate::proofs::Rooms::ends_then, crate::proofs::Rooms::lasts_then, crate::proofs::Rooms::adds_narrows, crate::proofs::Rooms::adds_after, crate::proofs::Rooms::none_still, crate::proofs::Rooms::none_bound, crate::proofs::Rooms::some_bound, rio_model::specs::CoverSteps::keeps_refl, rio_base::specs::MachineRules::steps_refl, rio_base::specs::MachineRules::lasts_refl, rio_model::specs::CoverStands::narrows_refl, crate::proofs::Stills::still_refl, crate::proofs::Stills::few_still, crate::proofs::Stills::few_then, crate::proofs::Touched::touches_refl, crate::proofs::Touched::touches_trans, crate::proofs::Kept::tables_refl, crate::proofs::Kept::tables_trans))]
+    #[tactic(auto, using(crate::proofs::Rooms::keeps_then, crate::proofs::Goes::ends_then, crate::proofs::Rooms::lasts_then, crate::proofs::Rooms::adds_narrows, crate::proofs::Rooms::adds_after, crate::proofs::Rooms::none_still, crate::proofs::Rooms::none_bound, crate::proofs::Rooms::some_bound, rio_model::specs::CoverSteps::keeps_refl, rio_base::specs::MachineRules::steps_refl, rio_base::specs::MachineRules::lasts_refl, rio_model::specs::CoverStands::narrows_refl, crate::proofs::Stills::still_refl, crate::proofs::Stills::few_still, crate::proofs::Stills::few_then, crate::proofs::Touched::touches_refl, crate::proofs::Touched::touches_trans, crate::proofs::Kept::tables_refl, crate::proofs::Kept::tables_trans, crate::proofs::Uses::leaves_refl, crate::proofs::Uses::leaves_then))]
     pub(crate) fn fetch(&mut self, b: Block, name: Option<PageName>) -> Result<u32, VolFail>
         requires sound { CacheSound (M.contents self.old.machine) (length (M.run self.old.machine).scratch) self.old.tables }
         requires block { b.0 < length (M.contents self.old.machine).disk }
@@ -160,6 +174,8 @@ impl<M: Machine> PageCache<M> {
         ensures found { IfOk result (λ k. entry_of_block (M.contents self.new.machine).words b.0 ≡ Some k) }
         ensures touches { SameTouches (M.contents self.old.machine).words (M.contents self.new.machine).words }
         ensures tables { SameTables self.old.tables self.new.tables }
+        ensures used { OnOk result (UsedLast b.0 (M.contents self.new.machine).words self.old.tables self.new.tables) }
+        ensures leaves { LeavesOldest self.old.tables (M.contents self.old.machine).words (M.contents self.new.machine).words }
         ensures writes { FewWrites b.0 (M.contents self.old.machine) (M.contents self.new.machine) }
         ensures hit { is_some (entry_of_block (M.contents self.old.machine).words b.0) ≡ true → M.contents self.new.machine ≡ M.contents self.old.machine }
         ensures unfetched { IsErrOf result VolFail.Fault → Narrows (M.contents self.old.machine).words (M.contents self.new.machine).words }

@@ -9,7 +9,7 @@ ghost use Rattle.registry.specs.Entries.{IsFree, entry_of, new_entry};
 ghost use Rattle.rio_model.specs.CoverChanges.{OnePage};
 ghost use Rattle.rio_model.specs.Cover.{Coherent, Keeps, frame_page, home_word};
 ghost use Rattle.rio_model.specs.CoverFills.{Made};
-ghost use Rattle.page_cache.specs.Caches.{Still};
+ghost use Rattle.write_back.specs.Writing.{SameDisk};
 
 use registry::install;
 use rio_base::{Block, Machine, Page, PageName, Stopped, VolFail, WordAt};
@@ -25,7 +25,7 @@ pub(crate) fn read_home<M: Machine>(m: &mut M, b: Block, into: &mut Vec<u64>) ->
     ensures keeps { Keeps (M.contents m.old) (M.contents m.new) }
     ensures memory { (M.contents m.new).words ≡ (M.contents m.old).words }
     ensures disk { (M.contents m.new).disk ≡ (M.contents m.old).disk }
-    ensures still { Still (M.contents m.old) (M.contents m.new) }
+    ensures still { SameDisk (M.contents m.old) (M.contents m.new) }
     ensures closed { (M.contents m.new).open_page ≡ None }
     ensures lasts { Lasts (M.contents m.old) (M.contents m.new) }
     ensures fault { FaultCause (M.contents m.old) (M.contents m.new) (IsErrOf result VolFail.Fault) }
@@ -95,7 +95,7 @@ pub(crate) fn install_clean<M: Machine>(
     ensures entry { OnOk result (entry_of (M.contents m.new).words k ≡ new_entry b.0 name false) }
     ensures tag { OnErr result (tag_at (M.contents m.new).words k ≡ tag_at (M.contents m.old).words k) }
     ensures one_entry { OneEntry k (M.contents m.old).words (M.contents m.new).words }
-    ensures still { Still (M.contents m.old) (M.contents m.new) }
+    ensures still { SameDisk (M.contents m.old) (M.contents m.new) }
     ensures closed { (M.contents m.new).open_page ≡ None }
     ensures lasts { Lasts (M.contents m.old) (M.contents m.new) }
     ensures ends { StepEnds (M.run m.old) (M.run m.new) (IsErr result) }

@@ -1,12 +1,16 @@
 //! Blocks leave the cache without a write, and come into it as zeros, while no update is open.
 
+ghost use Rattle.frame_pool.specs.Orders.{used_last};
+ghost use Rattle.frame_pool.specs.Pools.{order_of};
+ghost use Rattle.page_cache.specs.Uses.{AllStay};
 ghost use Rattle.std.specs.Prelude.{◌≡◌, ◌<◌, ◌+◌, ◌*◌, ℕ, true, false, None, Some, OnOk, IsErr, length, slice_index};
 ghost use Rattle.rio_base.specs.Blocks.{InRange};
 ghost use Rattle.rio_base.specs.Machine.{Lasts, StepEnds};
 ghost use Rattle.rio_base.specs.Volume.{cleared};
 ghost use Rattle.rio_model.specs.Registry.{frames_of, is_valid, tag_at};
 ghost use Rattle.rio_model.specs.Cover.{Keeps, Narrows, entry_of_block, frame_page, is_loose, reads};
-ghost use Rattle.page_cache.specs.Caches.{Adds, CacheSound, SameTables, Still, cache_kept};
+ghost use Rattle.write_back.specs.Writing.{SameDisk};
+ghost use Rattle.page_cache.specs.Caches.{Adds, CacheSound, SameTables, cache_kept};
 ghost use Rattle.page_cache.specs.Stores.{Frees, Marks, SameCached};
 
 use crate::cache::PageCache;
@@ -31,7 +35,7 @@ impl CacheTables {
 
 impl<M: Machine> PageCache<M> {
     /// Takes block `b` from frame `k` without writing it: one step. `Stopped` changes nothing.
-    #[tactic(auto, using(crate::proofs::Freed::can_clear, crate::proofs::Stores::still_words, crate::proofs::Stores::still_same))]
+    #[tactic(auto, using(crate::proofs::Freed::can_clear, crate::proofs::Stills::still_rest, crate::proofs::Stills::still_same))]
     pub(crate) fn drop_frame(&mut self, k: u32, b: Block) -> Result<(), Stopped>
         requires sound { CacheSound (M.contents self.old.machine) (length (M.run self.old.machine).scratch) self.old.tables }
         requires found { entry_of_block (M.contents self.old.machine).words b.0 ≡ Some k }
@@ -41,7 +45,7 @@ impl<M: Machine> PageCache<M> {
         ensures gone { OnOk result (entry_of_block (M.contents self.new.machine).words b.0 ≡ None) }
         ensures narrows { Narrows (M.contents self.old.machine).words (M.contents self.new.machine).words }
         ensures tables { SameTables self.old.tables self.new.tables }
-        ensures still { Still (M.contents self.old.machine) (M.contents self.new.machine) }
+        ensures still { SameDisk (M.contents self.old.machine) (M.contents self.new.machine) }
         ensures lasts { Lasts (M.contents self.old.machine) (M.contents self.new.machine) }
         ensures ends { StepEnds (M.run self.old.machine) (M.run self.new.machine) (IsErr result) }
     {
@@ -51,7 +55,7 @@ impl<M: Machine> PageCache<M> {
     }
 
     /// Fills frame `k`, which no entry has, with zeros: a step for each word. No block changes.
-    #[tactic(auto, using(crate::proofs::Stores::still_words))]
+    #[tactic(auto, using(crate::proofs::Stills::still_rest))]
     pub(crate) fn zero_frame(&mut self, k: u32) -> Result<(), Stopped>
         requires sound { CacheSound (M.contents self.old.machine) (length (M.run self.old.machine).scratch) self.old.tables }
         requires entry { k < frames_of (M.contents self.old.machine).words }
@@ -62,7 +66,7 @@ impl<M: Machine> PageCache<M> {
         ensures tag { tag_at (M.contents self.new.machine).words k ≡ tag_at (M.contents self.old.machine).words k }
         ensures cached { SameCached (M.contents self.old.machine).words (M.contents self.new.machine).words }
         ensures tables { self.new.tables ≡ self.old.tables }
-        ensures still { Still (M.contents self.old.machine) (M.contents self.new.machine) }
+        ensures still { SameDisk (M.contents self.old.machine) (M.contents self.new.machine) }
         ensures lasts { Lasts (M.contents self.old.machine) (M.contents self.new.machine) }
         ensures ends { StepEnds (M.run self.old.machine) (M.run self.new.machine) (IsErr result) }
     {
@@ -73,7 +77,7 @@ impl<M: Machine> PageCache<M> {
 
     /// Makes frame `k`, which is all zeros, the page of block `b`: dirty, since the disk's block is another. `Stopped`
     /// changes no block.
-    #[tactic(auto, using(crate::proofs::Stores::can_change, crate::proofs::Stores::still_words))]
+    #[tactic(auto, using(crate::proofs::Stores::can_change, crate::proofs::Stills::still_rest))]
     fn bind_zeros(&mut self, k: u32, b: Block, name: Option<PageName>) -> Result<(), Stopped>
         requires sound { CacheSound (M.contents self.old.machine) (length (M.run self.old.machine).scratch) self.old.tables }
         requires entry { k < frames_of (M.contents self.old.machine).words }
@@ -88,7 +92,10 @@ impl<M: Machine> PageCache<M> {
         ensures frees { Frees b.0 (M.contents self.old.machine) (M.contents self.new.machine) }
         ensures adds { Adds b.0 name (M.contents self.old.machine).words (M.contents self.new.machine).words }
         ensures tables { SameTables self.old.tables self.new.tables }
-        ensures still { Still (M.contents self.old.machine) (M.contents self.new.machine) }
+        ensures found { OnOk result (entry_of_block (M.contents self.new.machine).words b.0 ≡ Some k) }
+        ensures stay { AllStay (M.contents self.old.machine).words (M.contents self.new.machine).words }
+        ensures order { OnOk result (order_of self.new.tables.pool ≡ used_last k (order_of self.old.tables.pool)) }
+        ensures still { SameDisk (M.contents self.old.machine) (M.contents self.new.machine) }
         ensures lasts { Lasts (M.contents self.old.machine) (M.contents self.new.machine) }
         ensures ends { StepEnds (M.run self.old.machine) (M.run self.new.machine) (IsErr result) }
     {
@@ -98,7 +105,7 @@ impl<M: Machine> PageCache<M> {
     }
 
     /// Makes block `b` read as zeros in frame `k`, which no entry has. `Stopped` changes no block.
-    #[tactic(auto, using(rio_base::specs::MachineRules::lasts_trans, crate::proofs::Stores::still_then))]
+    #[tactic(auto, using(rio_base::specs::MachineRules::lasts_trans, crate::proofs::Stills::still_trans))]
     pub(crate) fn bring_zeros(
         &mut self,
         k: u32,
@@ -117,7 +124,10 @@ impl<M: Machine> PageCache<M> {
         ensures frees { Frees b.0 (M.contents self.old.machine) (M.contents self.new.machine) }
         ensures adds { Adds b.0 name (M.contents self.old.machine).words (M.contents self.new.machine).words }
         ensures tables { SameTables self.old.tables self.new.tables }
-        ensures still { Still (M.contents self.old.machine) (M.contents self.new.machine) }
+        ensures found { OnOk result (entry_of_block (M.contents self.new.machine).words b.0 ≡ Some k) }
+        ensures stay { AllStay (M.contents self.old.machine).words (M.contents self.new.machine).words }
+        ensures order { OnOk result (order_of self.new.tables.pool ≡ used_last k (order_of self.old.tables.pool)) }
+        ensures still { SameDisk (M.contents self.old.machine) (M.contents self.new.machine) }
         ensures lasts { Lasts (M.contents self.old.machine) (M.contents self.new.machine) }
         ensures ends { StepEnds (M.run self.old.machine) (M.run self.new.machine) (IsErr result) }
     {

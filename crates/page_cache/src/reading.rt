@@ -1,5 +1,6 @@
 //! Blocks are read: a word is loaded from its block's frame, and a whole page is lent.
 
+ghost use Rattle.page_cache.specs.Uses.{LeavesOldest, UsedLast};
 ghost use Rattle.std.specs.Prelude.{◌≡◌, ◌<◌, ◌≤◌, ◌+◌, ◌*◌, true, IfOk, OnOk, IsErrOf, length, take, drop};
 ghost use Rattle.rio_base.specs.Blocks.{CanName, Caches, Ends, IsPlace, IsRun, IsSpan, Looks};
 ghost use Rattle.rio_base.specs.Rules.{passes_on, passes_same};
@@ -49,7 +50,7 @@ impl<M: Machine> Blocks for PageCache<M> {
 
     /// As [`Blocks::word`]. It asks for one block write at most, and for none where the block is cached or a frame is
     /// free.
-    #[tactic(auto, using(crate::proofs::Rooms::caches_adds, crate::proofs::Rooms::looks_keeps, crate::proofs::Rooms::ends_of, crate::proofs::Stills::passes_of))]
+    #[tactic(auto, using(crate::proofs::Rooms::caches_adds, crate::proofs::Rooms::looks_keeps, crate::proofs::Goes::ends_of, crate::proofs::Rooms::passes_of))]
     fn word(&mut self, b: Block, name: Option<PageName>, w: u16) -> Result<u64, VolFail>
         requires sound { CacheSound (M.contents self.old.machine) (length (M.run self.old.machine).scratch) self.old.tables }
         requires place { IsPlace (cache_seen (M.contents self.old.machine)) b.0 w }
@@ -59,6 +60,8 @@ impl<M: Machine> Blocks for PageCache<M> {
         ensures caches { Caches (cache_seen (M.contents self.old.machine)) (cache_seen (M.contents self.new.machine)) b.0 name }
         ensures passes { Passes (cache_health (M.contents self.old.machine) (M.run self.old.machine)) (cache_below (M.contents self.old.machine) (M.run self.old.machine)) (cache_kept (M.contents self.old.machine) self.old.tables) (cache_health (M.contents self.new.machine) (M.run self.new.machine)) (cache_below (M.contents self.new.machine) (M.run self.new.machine)) (cache_kept (M.contents self.new.machine) self.new.tables) }
         ensures writes { FewWrites b.0 (M.contents self.old.machine) (M.contents self.new.machine) }
+        ensures used { OnOk result (UsedLast b.0 (M.contents self.new.machine).words self.old.tables self.new.tables) }
+        ensures leaves { LeavesOldest self.old.tables (M.contents self.old.machine).words (M.contents self.new.machine).words }
         ensures ends { Ends (cache_health (M.contents self.old.machine) (M.run self.old.machine)) (cache_health (M.contents self.new.machine) (M.run self.new.machine)) result }
         ensures sure { IsErrOf result VolFail.Fault → is_touched (M.contents self.old.machine).words b.0 ≡ true → ⊥ }
         ensures sound { CacheSound (M.contents self.new.machine) (length (M.run self.new.machine).scratch) self.new.tables }
@@ -70,7 +73,7 @@ impl<M: Machine> Blocks for PageCache<M> {
 
     /// As [`Blocks::read_run`]: the block is fetched once, and its words are copied at once. Of block writes it asks for
     /// as many as [`Blocks::word`].
-    #[tactic(auto, using(crate::proofs::Rooms::caches_adds, crate::proofs::Rooms::looks_keeps, crate::proofs::Rooms::ends_of, crate::proofs::Stills::passes_of))]
+    #[tactic(auto, using(crate::proofs::Rooms::caches_adds, crate::proofs::Rooms::looks_keeps, crate::proofs::Goes::ends_of, crate::proofs::Rooms::passes_of))]
     fn read_run(
         &mut self,
         b: Block,
@@ -87,6 +90,8 @@ impl<M: Machine> Blocks for PageCache<M> {
         ensures caches { Caches (cache_seen (M.contents self.old.machine)) (cache_seen (M.contents self.new.machine)) b.0 name }
         ensures passes { Passes (cache_health (M.contents self.old.machine) (M.run self.old.machine)) (cache_below (M.contents self.old.machine) (M.run self.old.machine)) (cache_kept (M.contents self.old.machine) self.old.tables) (cache_health (M.contents self.new.machine) (M.run self.new.machine)) (cache_below (M.contents self.new.machine) (M.run self.new.machine)) (cache_kept (M.contents self.new.machine) self.new.tables) }
         ensures writes { FewWrites b.0 (M.contents self.old.machine) (M.contents self.new.machine) }
+        ensures used { OnOk result (UsedLast b.0 (M.contents self.new.machine).words self.old.tables self.new.tables) }
+        ensures leaves { LeavesOldest self.old.tables (M.contents self.old.machine).words (M.contents self.new.machine).words }
         ensures ends { Ends (cache_health (M.contents self.old.machine) (M.run self.old.machine)) (cache_health (M.contents self.new.machine) (M.run self.new.machine)) result }
         ensures sure { IsErrOf result VolFail.Fault → is_touched (M.contents self.old.machine).words b.0 ≡ true → ⊥ }
         ensures sound { CacheSound (M.contents self.new.machine) (length (M.run self.new.machine).scratch) self.new.tables }

@@ -1,13 +1,15 @@
 //! Words are stored into blocks, while no update is open. A page is marked dirty before the first word is stored into
 //! it, and its size is stored before the word too, so that a stop between two steps loses nothing.
 
+ghost use Rattle.page_cache.specs.Uses.{LeavesOldest, UsedLast};
 ghost use Rattle.std.specs.Prelude.{◌≡◌, ◌<◌, ◌≤◌, ◌+◌, ℕ, true, Some, IfOk, OnOk, OnErr, IsErr, IsErrOf, length};
 ghost use Rattle.rio_base.specs.Blocks.{Drops, InRange};
 ghost use Rattle.rio_base.specs.Machine.{FaultCause, Lasts, StepEnds};
 ghost use Rattle.rio_base.specs.Volume.{CachesStored, put, put_run, stored_name, widened};
-ghost use Rattle.rio_model.specs.Registry.{IsValid, is_dirty, tag_at};
-ghost use Rattle.rio_model.specs.Cover.{Keeps, entry_of_block, name_in, reads};
-ghost use Rattle.page_cache.specs.Caches.{CacheSound, FewWrites, SameTables, Still, cache_seen};
+ghost use Rattle.rio_model.specs.Registry.{IsValid, OneEntry, is_dirty, tag_at};
+ghost use Rattle.rio_model.specs.Cover.{HeldEntry, Keeps, entry_of_block, name_in, reads};
+ghost use Rattle.write_back.specs.Writing.{SameDisk};
+ghost use Rattle.page_cache.specs.Caches.{CacheSound, FewWrites, SameTables, cache_seen};
 ghost use Rattle.page_cache.specs.Stores.{Rewrites, SameCached, Widens};
 
 use crate::cache::PageCache;
@@ -17,16 +19,18 @@ use rio_base::{Block, Machine, PageName, RunFail, Stopped, VolFail};
 
 impl<M: Machine> PageCache<M> {
     /// Marks entry `k` dirty, unless it is: a clean one costs one step. `Stopped` changes nothing.
-    #[tactic(auto, using(crate::proofs::Stores::layout_of, crate::proofs::Stores::can_change, crate::proofs::Stores::cached_refl, crate::proofs::Stores::cached_same, crate::proofs::Stores::still_same, crate::proofs::Stores::still_words, rio_model::specs::CoverSteps::keeps_refl, rio_base::specs::MachineRules::steps_refl, rio_base::specs::MachineRules::lasts_refl))]
-    fn mark_dirty(&mut self, k: u32) -> Result<(), Stopped>
+    #[tactic(auto, using(crate::proofs::Stores::layout_of, crate::proofs::Stores::can_change, crate::proofs::Stores::cached_refl, crate::proofs::Stores::cached_same, crate::proofs::Stills::still_same, crate::proofs::Stills::still_rest, rio_model::specs::CoverSteps::keeps_refl, rio_base::specs::MachineRules::steps_refl, rio_base::specs::MachineRules::lasts_refl, crate::proofs::Stores::held_refl, crate::proofs::Stores::one_refl))]
+    pub(crate) fn mark_dirty(&mut self, k: u32) -> Result<(), Stopped>
         requires sound { CacheSound (M.contents self.old.machine) (length (M.run self.old.machine).scratch) self.old.tables }
         requires valid { IsValid (M.contents self.old.machine).words k }
         ensures sound { CacheSound (M.contents self.new.machine) (length (M.run self.new.machine).scratch) self.new.tables }
         ensures keeps { Keeps (M.contents self.old.machine) (M.contents self.new.machine) }
         ensures dirty { OnOk result (is_dirty (tag_at (M.contents self.new.machine).words k) ≡ true) }
+        ensures one_entry { OneEntry k (M.contents self.old.machine).words (M.contents self.new.machine).words }
+        ensures held { HeldEntry k (M.contents self.old.machine).words (M.contents self.new.machine).words }
         ensures cached { SameCached (M.contents self.old.machine).words (M.contents self.new.machine).words }
         ensures tables { self.new.tables ≡ self.old.tables }
-        ensures still { Still (M.contents self.old.machine) (M.contents self.new.machine) }
+        ensures still { SameDisk (M.contents self.old.machine) (M.contents self.new.machine) }
         ensures lasts { Lasts (M.contents self.old.machine) (M.contents self.new.machine) }
         ensures ends { StepEnds (M.run self.old.machine) (M.run self.new.machine) (IsErr result) }
     {
@@ -39,7 +43,7 @@ impl<M: Machine> PageCache<M> {
 
     /// Gives entry `k` the size of the given name, where it is larger than its own: one step then. `Stopped` changes
     /// nothing.
-    #[tactic(auto, using(crate::proofs::Stores::layout_of, crate::proofs::Stores::can_change, crate::proofs::Stores::still_same, crate::proofs::Stores::still_words, crate::proofs::Widths::widens_same, crate::proofs::Widths::no_name, crate::proofs::Widths::not_wider, rio_model::specs::CoverSteps::keeps_refl, rio_base::specs::MachineRules::steps_refl, rio_base::specs::MachineRules::lasts_refl))]
+    #[tactic(auto, using(crate::proofs::Stores::layout_of, crate::proofs::Stores::can_change, crate::proofs::Stills::still_same, crate::proofs::Stills::still_rest, crate::proofs::Widths::widens_same, crate::proofs::Widths::no_name, crate::proofs::Widths::not_wider, rio_model::specs::CoverSteps::keeps_refl, rio_base::specs::MachineRules::steps_refl, rio_base::specs::MachineRules::lasts_refl))]
     fn widen(&mut self, k: u32, name: Option<PageName>) -> Result<(), Stopped>
         requires sound { CacheSound (M.contents self.old.machine) (length (M.run self.old.machine).scratch) self.old.tables }
         requires valid { IsValid (M.contents self.old.machine).words k }
@@ -50,7 +54,7 @@ impl<M: Machine> PageCache<M> {
         ensures named { OnOk result (name_in (M.contents self.new.machine).words (Some k) ≡ widened (name_in (M.contents self.old.machine).words (Some k)) name) }
         ensures tag { tag_at (M.contents self.new.machine).words k ≡ tag_at (M.contents self.old.machine).words k }
         ensures tables { self.new.tables ≡ self.old.tables }
-        ensures still { Still (M.contents self.old.machine) (M.contents self.new.machine) }
+        ensures still { SameDisk (M.contents self.old.machine) (M.contents self.new.machine) }
         ensures lasts { Lasts (M.contents self.old.machine) (M.contents self.new.machine) }
         ensures ends { StepEnds (M.run self.old.machine) (M.run self.new.machine) (IsErr result) }
     {
@@ -65,7 +69,7 @@ impl<M: Machine> PageCache<M> {
     }
 
     /// Makes the page of entry `k` ready for a store under this name: dirty, and of the larger size.
-    #[tactic(auto, using(crate::proofs::StoreCalls::valid_cached, crate::proofs::StoreCalls::dirty_after, rio_model::specs::CoverSteps::keeps_trans, crate::proofs::Stores::still_then, crate::proofs::Stores::ends_then, rio_base::specs::MachineRules::lasts_trans))]
+    #[tactic(auto, using(crate::proofs::StoreCalls::valid_cached, crate::proofs::StoreCalls::dirty_after, rio_model::specs::CoverSteps::keeps_trans, crate::proofs::Stills::still_trans, crate::proofs::Goes::ends_then, rio_base::specs::MachineRules::lasts_trans))]
     fn make_ready(&mut self, k: u32, name: Option<PageName>) -> Result<(), Stopped>
         requires sound { CacheSound (M.contents self.old.machine) (length (M.run self.old.machine).scratch) self.old.tables }
         requires valid { IsValid (M.contents self.old.machine).words k }
@@ -76,7 +80,7 @@ impl<M: Machine> PageCache<M> {
         ensures named { OnOk result (name_in (M.contents self.new.machine).words (Some k) ≡ widened (name_in (M.contents self.old.machine).words (Some k)) name) }
         ensures dirty { OnOk result (is_dirty (tag_at (M.contents self.new.machine).words k) ≡ true) }
         ensures tables { self.new.tables ≡ self.old.tables }
-        ensures still { Still (M.contents self.old.machine) (M.contents self.new.machine) }
+        ensures still { SameDisk (M.contents self.old.machine) (M.contents self.new.machine) }
         ensures lasts { Lasts (M.contents self.old.machine) (M.contents self.new.machine) }
         ensures ends { StepEnds (M.run self.old.machine) (M.run self.new.machine) (IsErr result) }
     {
@@ -87,7 +91,7 @@ impl<M: Machine> PageCache<M> {
 
     /// The frame of block `b`, fetched if it isn't cached, and ready for a store under this name: dirty, and of the
     /// larger size.
-    #[tactic(auto, using(crate::proofs::StoreCalls::drops_narrows, crate::proofs::Stores::ends_then, rio_model::specs::CoverSteps::keeps_trans, rio_base::specs::MachineRules::lasts_trans))]
+    #[tactic(auto, using(crate::proofs::StoreCalls::drops_narrows, crate::proofs::Goes::ends_then, rio_model::specs::CoverSteps::keeps_trans, rio_base::specs::MachineRules::lasts_trans))]
     pub(crate) fn ready(&mut self, b: Block, name: Option<PageName>) -> Result<u32, VolFail>
         requires sound { CacheSound (M.contents self.old.machine) (length (M.run self.old.machine).scratch) self.old.tables }
         requires block { b.0 < length (M.contents self.old.machine).disk }
@@ -100,6 +104,8 @@ impl<M: Machine> PageCache<M> {
         ensures named { OnOk result ((cache_seen (M.contents self.new.machine)).names b.0 ≡ stored_name ((cache_seen (M.contents self.old.machine)).cached b.0) ((cache_seen (M.contents self.old.machine)).names b.0) name) }
         ensures drops { IsErrOf result VolFail.Fault → Drops (cache_seen (M.contents self.old.machine)) (cache_seen (M.contents self.new.machine)) }
         ensures tables { SameTables self.old.tables self.new.tables }
+        ensures used { OnOk result (UsedLast b.0 (M.contents self.new.machine).words self.old.tables self.new.tables) }
+        ensures leaves { LeavesOldest self.old.tables (M.contents self.old.machine).words (M.contents self.new.machine).words }
         ensures writes { FewWrites b.0 (M.contents self.old.machine) (M.contents self.new.machine) }
         ensures lasts { Lasts (M.contents self.old.machine) (M.contents self.new.machine) }
         ensures fault { FaultCause (M.contents self.old.machine) (M.contents self.new.machine) (IsErrOf result VolFail.Fault) }
@@ -111,7 +117,7 @@ impl<M: Machine> PageCache<M> {
     }
 
     /// Stores word `w` of the frame of entry `k`, which is of block `b` and dirty: one step. `Stopped` changes nothing.
-    #[tactic(auto, using(crate::proofs::Stores::sound_same, crate::proofs::Stores::cached_same, crate::proofs::Stores::still_same))]
+    #[tactic(auto, using(crate::proofs::Stores::sound_same, crate::proofs::Stores::cached_same, crate::proofs::Stills::still_same))]
     pub(crate) fn put_frame(&mut self, k: u32, b: Block, w: u16, v: u64) -> Result<(), Stopped>
         requires sound { CacheSound (M.contents self.old.machine) (length (M.run self.old.machine).scratch) self.old.tables }
         requires found { entry_of_block (M.contents self.old.machine).words b.0 ≡ Some k }
@@ -122,7 +128,7 @@ impl<M: Machine> PageCache<M> {
         ensures same { OnErr result (M.contents self.new.machine ≡ M.contents self.old.machine) }
         ensures cached { SameCached (M.contents self.old.machine).words (M.contents self.new.machine).words }
         ensures tables { self.new.tables ≡ self.old.tables }
-        ensures still { Still (M.contents self.old.machine) (M.contents self.new.machine) }
+        ensures still { SameDisk (M.contents self.old.machine) (M.contents self.new.machine) }
         ensures lasts { Lasts (M.contents self.old.machine) (M.contents self.new.machine) }
         ensures ends { StepEnds (M.run self.old.machine) (M.run self.new.machine) (IsErr result) }
     {
@@ -133,7 +139,7 @@ impl<M: Machine> PageCache<M> {
 
     /// Stores a run of words of the frame of entry `k`, which is of block `b` and dirty, from word `w` on in rising order:
     /// one step each, all in one window. `Stopped` leaves a front of them stored.
-    #[tactic(auto, using(crate::proofs::Stores::still_words))]
+    #[tactic(auto, using(crate::proofs::Stills::still_rest))]
     pub(crate) fn put_frame_run(
         &mut self,
         k: u32,
@@ -150,7 +156,7 @@ impl<M: Machine> PageCache<M> {
         ensures front { OnErr result ((n : ℕ) × (n ≤ length from.now) × Rewrites (put_run (reads (M.contents self.old.machine)) b.0 w n from.now) (M.contents self.old.machine) (M.contents self.new.machine)) }
         ensures cached { SameCached (M.contents self.old.machine).words (M.contents self.new.machine).words }
         ensures tables { self.new.tables ≡ self.old.tables }
-        ensures still { Still (M.contents self.old.machine) (M.contents self.new.machine) }
+        ensures still { SameDisk (M.contents self.old.machine) (M.contents self.new.machine) }
         ensures lasts { Lasts (M.contents self.old.machine) (M.contents self.new.machine) }
         ensures ends { StepEnds (M.run self.old.machine) (M.run self.new.machine) (IsErr result) }
     {

@@ -6,14 +6,15 @@ ghost use Rattle.rio_model.specs.Cover.{Coherent, HeldEntry, Keeps, SameNames, f
 ghost use Rattle.rio_model.specs.CoverChanges.{SameEntries};
 ghost use Rattle.rio_model.specs.CoverFills.{Puts};
 ghost use Rattle.rio_model.specs.Registry.{IsValid, OneEntry, frames_of, gate_of, is_data, is_dirty, shadow_at, tag_at, tag_block};
-ghost use Rattle.frame_pool.specs.Pools.{frames_in, is_pinned};
-ghost use Rattle.page_cache.specs.Caches.{CacheSound, IsListed, SameTables, Still};
+ghost use Rattle.frame_pool.specs.Pools.{frames_in, is_pinned, order_of};
+ghost use Rattle.write_back.specs.Writing.{SameDisk};
+ghost use Rattle.page_cache.specs.Caches.{CacheSound, IsListed, SameTables};
 ghost use Rattle.page_cache.specs.Updating.{GivesShadow, SameButPins, SamePages};
 
 use crate::cache::PageCache;
 use crate::tables::CacheTables;
 use page_protect::put_word;
-use registry::{Tag, load_tag, read_entry, set_dirty};
+use registry::read_entry;
 use rio_base::{Block, Machine, Page, Stopped, VolFail};
 use shadow_pages::{begin, commit, shadow, undo};
 
@@ -80,34 +81,6 @@ pub(crate) fn put_edit<M: Machine>(
     Ok(())
 }
 
-/// Marks entry `k` dirty: its page may differ from the disk's block then.
-fn dirty_for_update<M: Machine>(m: &mut M, k: u32) -> Result<(), Stopped>
-    requires coherent { Coherent (M.contents m.old) (length (M.run m.old).scratch) }
-    requires closed { (M.contents m.old).open_page ≡ None }
-    requires valid { IsValid (M.contents m.old).words k }
-    ensures keeps { Keeps (M.contents m.old) (M.contents m.new) }
-    ensures dirty { OnOk result (is_dirty (tag_at (M.contents m.new).words k) ≡ true) }
-    ensures one_entry { OneEntry k (M.contents m.old).words (M.contents m.new).words }
-    ensures held { HeldEntry k (M.contents m.old).words (M.contents m.new).words }
-    ensures same { OnErr result (M.contents m.new ≡ M.contents m.old) }
-    ensures rest { M.contents m.new ≡ record (M.contents m.old) { words = (M.contents m.new).words } }
-    ensures closed { (M.contents m.new).open_page ≡ None }
-    ensures lasts { Lasts (M.contents m.old) (M.contents m.new) }
-    ensures ends { StepEnds (M.run m.old) (M.run m.new) (IsErr result) }
-{
-    set_dirty(m, k)?;
-    Ok(())
-}
-
-/// The tag of entry `k`.
-fn tag_of_entry<M: Machine>(m: &M, k: u32) -> Tag
-    requires coherent { Coherent (M.contents m.now) (length (M.run m.now).scratch) }
-    requires entry { k < frames_of (M.contents m.now).words }
-    ensures { result.0 ≡ tag_at (M.contents m.now).words k }
-{
-    load_tag(m, k)
-}
-
 /// The shadow of entry `k`, 0 for none.
 fn shadow_of_entry<M: Machine>(m: &M, k: u32) -> u64
     requires coherent { Coherent (M.contents m.now) (length (M.run m.now).scratch) }
@@ -118,27 +91,6 @@ fn shadow_of_entry<M: Machine>(m: &M, k: u32) -> u64
 }
 
 impl<M: Machine> PageCache<M> {
-    /// Marks entry `k` dirty, if it isn't.
-    pub(crate) fn dirty_frame(&mut self, k: u32) -> Result<(), Stopped>
-        requires sound { CacheSound (M.contents self.old.machine) (length (M.run self.old.machine).scratch) self.old.tables }
-        requires valid { IsValid (M.contents self.old.machine).words k }
-        ensures sound { CacheSound (M.contents self.new.machine) (length (M.run self.new.machine).scratch) self.new.tables }
-        ensures keeps { Keeps (M.contents self.old.machine) (M.contents self.new.machine) }
-        ensures dirty { OnOk result (is_dirty (tag_at (M.contents self.new.machine).words k) ≡ true) }
-        ensures one_entry { OneEntry k (M.contents self.old.machine).words (M.contents self.new.machine).words }
-        ensures held { HeldEntry k (M.contents self.old.machine).words (M.contents self.new.machine).words }
-        ensures tables { self.new.tables ≡ self.old.tables }
-        ensures still { Still (M.contents self.old.machine) (M.contents self.new.machine) }
-        ensures lasts { Lasts (M.contents self.old.machine) (M.contents self.new.machine) }
-        ensures ends { StepEnds (M.run self.old.machine) (M.run self.new.machine) (IsErr result) }
-    {
-        if tag_of_entry(&self.machine, k).is_dirty() {
-            return Ok(());
-        }
-        dirty_for_update(&mut self.machine, k)?;
-        Ok(())
-    }
-
     /// Gives entry `k`, which is dirty and has no shadow, the next one.
     pub(crate) fn give_shadow(&mut self, k: u32) -> Result<(), Stopped>
         requires sound { CacheSound (M.contents self.old.machine) (length (M.run self.old.machine).scratch) self.old.tables }
@@ -155,7 +107,8 @@ impl<M: Machine> PageCache<M> {
         ensures others { (j : ℕ) → j ≢ k → j < frames_of (M.contents self.old.machine).words → shadow_at (M.contents self.new.machine).words j ≡ shadow_at (M.contents self.old.machine).words j }
         ensures count { OnOk result (self.new.tables.shadows ≡ self.old.tables.shadows + 1) }
         ensures forgotten { self.new.tables.forgotten ≡ self.old.tables.forgotten }
-        ensures still { Still (M.contents self.old.machine) (M.contents self.new.machine) }
+        ensures order { order_of self.new.tables.pool ≡ order_of self.old.tables.pool }
+        ensures still { SameDisk (M.contents self.old.machine) (M.contents self.new.machine) }
         ensures lasts { Lasts (M.contents self.old.machine) (M.contents self.new.machine) }
         ensures ends { StepEnds (M.run self.old.machine) (M.run self.new.machine) (IsErr result) }
     {
@@ -169,7 +122,7 @@ impl<M: Machine> PageCache<M> {
     }
 
     /// Gives entry `k`, which is of metadata, a shadow, if it has none.
-    #[tactic(auto, using(crate::proofs::Rooms::keeps_then, crate::proofs::Rooms::lasts_then, crate::proofs::Rooms::ends_then, crate::proofs::Rooms::ends_ok, crate::proofs::Stills::still_trans, rio_model::specs::CoverSteps::keeps_refl, rio_base::specs::MachineRules::lasts_refl))]
+    #[tactic(auto, using(crate::proofs::Rooms::keeps_then, crate::proofs::Rooms::lasts_then, crate::proofs::Goes::ends_then, crate::proofs::Goes::ends_ok, crate::proofs::Stills::still_trans, rio_model::specs::CoverSteps::keeps_refl, rio_base::specs::MachineRules::lasts_refl, crate::proofs::Uses::order_same))]
     pub(crate) fn shadow_frame(&mut self, k: u32) -> Result<(), Stopped>
         requires sound { CacheSound (M.contents self.old.machine) (length (M.run self.old.machine).scratch) self.old.tables }
         requires updating { gate_of (M.contents self.old.machine).words ≡ 1 }
@@ -181,14 +134,15 @@ impl<M: Machine> PageCache<M> {
         ensures pages { SamePages (M.contents self.old.machine).words (M.contents self.new.machine).words }
         ensures gives { OnOk result (GivesShadow k (M.contents self.old.machine).words (M.contents self.new.machine).words self.old.tables self.new.tables) }
         ensures forgotten { self.new.tables.forgotten ≡ self.old.tables.forgotten }
-        ensures still { Still (M.contents self.old.machine) (M.contents self.new.machine) }
+        ensures order { order_of self.new.tables.pool ≡ order_of self.old.tables.pool }
+        ensures still { SameDisk (M.contents self.old.machine) (M.contents self.new.machine) }
         ensures lasts { Lasts (M.contents self.old.machine) (M.contents self.new.machine) }
         ensures ends { StepEnds (M.run self.old.machine) (M.run self.new.machine) (IsErr result) }
     {
         if shadow_of_entry(&self.machine, k) != 0 {
             return Ok(());
         }
-        self.dirty_frame(k)?;
+        self.mark_dirty(k)?;
         self.give_shadow(k)?;
         Ok(())
     }

@@ -1,6 +1,8 @@
 //! The cache as a volume: stores, updates, blocks made anew and forgotten, and flushes.
 
-ghost use Rattle.page_cache.specs.Caches.{CacheSound, FewWrites, Still, cache_below, cache_health, cache_kept, cache_seen};
+ghost use Rattle.page_cache.specs.Uses.{LeavesOldest, UsedLast};
+ghost use Rattle.write_back.specs.Writing.{SameDisk};
+ghost use Rattle.page_cache.specs.Caches.{CacheSound, FewWrites, cache_below, cache_health, cache_kept, cache_seen};
 ghost use Rattle.page_cache.specs.Settled.{cache_settled};
 ghost use Rattle.rio_base.specs.Blocks.{Caches, CanName, Drops, Ends, FaultAt, Halts, IsPlace, IsSpan, Looks, as_word};
 ghost use Rattle.rio_base.specs.Volume.{Begun, CachesStored, Firm, FirmBut, Goes, HasRoom, OldOrNew, OldOrPut, OldOrRun, RunName, Runs, SameBut, SameUpdate, Touches, cleared, put, put_run, stored_name};
@@ -27,7 +29,7 @@ impl<M: Machine> Volume for PageCache<M> {
 
     /// Makes block `b`, which isn't cached, read as zeros, under a name as for [`rio_base::Blocks::word`]. It is not
     /// loose any more, if it was forgotten. After a refusal it may read as anything and be loose.
-    #[tactic(auto, using(crate::proofs::Settling::ends_of))]
+    #[tactic(auto, using(crate::proofs::Goes::ends_of))]
     fn fresh(&mut self, b: Block, name: Option<PageName>) -> Result<(), VolFail>
         requires sound { CacheSound (M.contents self.old.machine) (length (M.run self.old.machine).scratch) self.old.tables }
         requires place { b.0 < (cache_seen (M.contents self.old.machine)).count }
@@ -45,6 +47,8 @@ impl<M: Machine> Volume for PageCache<M> {
         ensures ends { Ends (cache_health (M.contents self.old.machine) (M.run self.old.machine)) (cache_health (M.contents self.new.machine) (M.run self.new.machine)) result }
         ensures sound { CacheSound (M.contents self.new.machine) (length (M.run self.new.machine).scratch) self.new.tables }
         ensures writes { FewWrites b.0 (M.contents self.old.machine) (M.contents self.new.machine) }
+        ensures used { OnOk result (UsedLast b.0 (M.contents self.new.machine).words self.old.tables self.new.tables) }
+        ensures leaves { LeavesOldest self.old.tables (M.contents self.old.machine).words (M.contents self.new.machine).words }
     {
         let k = self.make_room(b)?;
         self.bring_zeros(k, b, name)?;
@@ -54,7 +58,7 @@ impl<M: Machine> Volume for PageCache<M> {
 
     /// Stores a word of a block outside an update. `Fault` changes no word and no name; `Stopped` leaves the old or the
     /// new word.
-    #[tactic(auto, using(crate::proofs::Settling::ends_of))]
+    #[tactic(auto, using(crate::proofs::Goes::ends_of))]
     fn store(&mut self, b: Block, name: Option<PageName>, w: u16, v: u64) -> Result<(), VolFail>
         requires sound { CacheSound (M.contents self.old.machine) (length (M.run self.old.machine).scratch) self.old.tables }
         requires place { IsPlace (cache_seen (M.contents self.old.machine)) b.0 w }
@@ -73,6 +77,8 @@ impl<M: Machine> Volume for PageCache<M> {
         ensures ends { Ends (cache_health (M.contents self.old.machine) (M.run self.old.machine)) (cache_health (M.contents self.new.machine) (M.run self.new.machine)) result }
         ensures sound { CacheSound (M.contents self.new.machine) (length (M.run self.new.machine).scratch) self.new.tables }
         ensures writes { FewWrites b.0 (M.contents self.old.machine) (M.contents self.new.machine) }
+        ensures used { OnOk result (UsedLast b.0 (M.contents self.new.machine).words self.old.tables self.new.tables) }
+        ensures leaves { LeavesOldest self.old.tables (M.contents self.old.machine).words (M.contents self.new.machine).words }
     {
         let k = self.ready(b, name)?;
         self.put_frame(k, b, w, v)?;
@@ -106,6 +112,8 @@ impl<M: Machine> Volume for PageCache<M> {
         ensures ends { Ends (cache_health (M.contents self.old.machine) (M.run self.old.machine)) (cache_health (M.contents self.new.machine) (M.run self.new.machine)) (as_word result) }
         ensures sound { CacheSound (M.contents self.new.machine) (length (M.run self.new.machine).scratch) self.new.tables }
         ensures writes { FewWrites b.0 (M.contents self.old.machine) (M.contents self.new.machine) }
+        ensures used { OnOk result (0 < length from.now → UsedLast b.0 (M.contents self.new.machine).words self.old.tables self.new.tables) }
+        ensures leaves { LeavesOldest self.old.tables (M.contents self.old.machine).words (M.contents self.new.machine).words }
     {
         if from.is_empty() {
             return Ok(());
@@ -133,7 +141,7 @@ impl<M: Machine> Volume for PageCache<M> {
         ensures goes { Goes (cache_health (M.contents self.old.machine) (M.run self.old.machine)) (cache_below (M.contents self.old.machine) (M.run self.old.machine)) (cache_health (M.contents self.new.machine) (M.run self.new.machine)) (cache_below (M.contents self.new.machine) (M.run self.new.machine)) }
         ensures ends { Halts (cache_health (M.contents self.old.machine) (M.run self.old.machine)) (cache_health (M.contents self.new.machine) (M.run self.new.machine)) result }
         ensures sound { CacheSound (M.contents self.new.machine) (length (M.run self.new.machine).scratch) self.new.tables }
-        ensures still { Still (M.contents self.old.machine) (M.contents self.new.machine) }
+        ensures still { SameDisk (M.contents self.old.machine) (M.contents self.new.machine) }
     {
         begin(&mut self.machine, listed(&self.tables))?;
         clear_list(&mut self.tables);
@@ -141,7 +149,7 @@ impl<M: Machine> Volume for PageCache<M> {
     }
 
     /// Makes a block of metadata part of the open update, as [`rio_base::Volume::touch`].
-    #[tactic(auto, using(crate::proofs::Rooms::keeps_then, crate::proofs::Rooms::lasts_then, crate::proofs::Rooms::ends_then, crate::proofs::Rooms::ends_of, crate::proofs::Stills::few_then))]
+    #[tactic(auto, using(crate::proofs::Rooms::keeps_then, crate::proofs::Rooms::lasts_then, crate::proofs::Goes::ends_then, crate::proofs::Goes::ends_of, crate::proofs::Stills::few_then))]
     fn touch(&mut self, b: Block) -> Result<(), VolFail>
         requires sound { CacheSound (M.contents self.old.machine) (length (M.run self.old.machine).scratch) self.old.tables }
         requires place { b.0 < (cache_seen (M.contents self.old.machine)).count }
@@ -159,6 +167,8 @@ impl<M: Machine> Volume for PageCache<M> {
         ensures ends { Ends (cache_health (M.contents self.old.machine) (M.run self.old.machine)) (cache_health (M.contents self.new.machine) (M.run self.new.machine)) result }
         ensures sound { CacheSound (M.contents self.new.machine) (length (M.run self.new.machine).scratch) self.new.tables }
         ensures writes { FewWrites b.0 (M.contents self.old.machine) (M.contents self.new.machine) }
+        ensures used { OnOk result (UsedLast b.0 (M.contents self.new.machine).words self.old.tables self.new.tables) }
+        ensures leaves { LeavesOldest self.old.tables (M.contents self.old.machine).words (M.contents self.new.machine).words }
     {
         let k = self.fetch(b, None)?;
         self.shadow_frame(k)?;
@@ -181,7 +191,7 @@ impl<M: Machine> Volume for PageCache<M> {
         ensures goes { Goes (cache_health (M.contents self.old.machine) (M.run self.old.machine)) (cache_below (M.contents self.old.machine) (M.run self.old.machine)) (cache_health (M.contents self.new.machine) (M.run self.new.machine)) (cache_below (M.contents self.new.machine) (M.run self.new.machine)) }
         ensures ends { Halts (cache_health (M.contents self.old.machine) (M.run self.old.machine)) (cache_health (M.contents self.new.machine) (M.run self.new.machine)) result }
         ensures sound { CacheSound (M.contents self.new.machine) (length (M.run self.new.machine).scratch) self.new.tables }
-        ensures still { Still (M.contents self.old.machine) (M.contents self.new.machine) }
+        ensures still { SameDisk (M.contents self.old.machine) (M.contents self.new.machine) }
     {
         let Some(k) = self.tables.pool.find(b) else {
             unreachable!()
@@ -203,7 +213,7 @@ impl<M: Machine> Volume for PageCache<M> {
         ensures goes { Goes (cache_health (M.contents self.old.machine) (M.run self.old.machine)) (cache_below (M.contents self.old.machine) (M.run self.old.machine)) (cache_health (M.contents self.new.machine) (M.run self.new.machine)) (cache_below (M.contents self.new.machine) (M.run self.new.machine)) }
         ensures ends { Halts (cache_health (M.contents self.old.machine) (M.run self.old.machine)) (cache_health (M.contents self.new.machine) (M.run self.new.machine)) result }
         ensures sound { CacheSound (M.contents self.new.machine) (length (M.run self.new.machine).scratch) self.new.tables }
-        ensures still { Still (M.contents self.old.machine) (M.contents self.new.machine) }
+        ensures still { SameDisk (M.contents self.old.machine) (M.contents self.new.machine) }
     {
         commit(&mut self.machine)?;
         unpin_all(&mut self.tables);
@@ -223,7 +233,7 @@ impl<M: Machine> Volume for PageCache<M> {
         ensures goes { Goes (cache_health (M.contents self.old.machine) (M.run self.old.machine)) (cache_below (M.contents self.old.machine) (M.run self.old.machine)) (cache_health (M.contents self.new.machine) (M.run self.new.machine)) (cache_below (M.contents self.new.machine) (M.run self.new.machine)) }
         ensures ends { Halts (cache_health (M.contents self.old.machine) (M.run self.old.machine)) (cache_health (M.contents self.new.machine) (M.run self.new.machine)) result }
         ensures sound { CacheSound (M.contents self.new.machine) (length (M.run self.new.machine).scratch) self.new.tables }
-        ensures still { Still (M.contents self.old.machine) (M.contents self.new.machine) }
+        ensures still { SameDisk (M.contents self.old.machine) (M.contents self.new.machine) }
     {
         undo(&mut self.machine, listed(&self.tables))?;
         unpin_all(&mut self.tables);
@@ -248,7 +258,7 @@ impl<M: Machine> Volume for PageCache<M> {
         ensures goes { Goes (cache_health (M.contents self.old.machine) (M.run self.old.machine)) (cache_below (M.contents self.old.machine) (M.run self.old.machine)) (cache_health (M.contents self.new.machine) (M.run self.new.machine)) (cache_below (M.contents self.new.machine) (M.run self.new.machine)) }
         ensures ends { Halts (cache_health (M.contents self.old.machine) (M.run self.old.machine)) (cache_health (M.contents self.new.machine) (M.run self.new.machine)) result }
         ensures sound { CacheSound (M.contents self.new.machine) (length (M.run self.new.machine).scratch) self.new.tables }
-        ensures still { Still (M.contents self.old.machine) (M.contents self.new.machine) }
+        ensures still { SameDisk (M.contents self.old.machine) (M.contents self.new.machine) }
     {
         self.tables.mark(b, true);
         let Some(k) = self.tables.pool.find(b) else {
@@ -258,7 +268,7 @@ impl<M: Machine> Volume for PageCache<M> {
         Ok(())
     }
 
-    #[tactic(auto, using(crate::proofs::Flushes::flushed_sound, crate::proofs::Flushes::shut_by, crate::proofs::Rooms::looks_keeps, crate::proofs::Rooms::firm_keeps, crate::proofs::Kept::tables_refl, crate::proofs::StoreCalls::drops_narrows, crate::proofs::Goes::runs_of, crate::proofs::Rooms::ends_of))]
+    #[tactic(auto, using(crate::proofs::Flushes::flushed_sound, crate::proofs::Flushes::shut_by, crate::proofs::Rooms::looks_keeps, crate::proofs::Rooms::firm_keeps, crate::proofs::Kept::tables_refl, crate::proofs::StoreCalls::drops_narrows, crate::proofs::Goes::runs_of, crate::proofs::Goes::ends_of))]
     fn flush(&mut self, k: u64) -> Result<u32, VolFail>
         requires sound { CacheSound (M.contents self.old.machine) (length (M.run self.old.machine).scratch) self.old.tables }
         requires idle { (cache_kept (M.contents self.old.machine) self.old.tables).updating ≡ false }

@@ -1,6 +1,7 @@
-use Rattle.std.proofs.Common.{refl}
+use Rattle.std.proofs.Common.{false, refl}
 use Rattle.page_cache.proofs.Rooms.{adds_made, adds_narrows, begun_narrows, begun_sound, bound_made, found_new, frame_free, free_of, name_made, touches_begun, touches_made, unbound}
 use Rattle.page_cache.proofs.cache.PageCache.bind_frame.Goals as goal
+use Rattle.page_cache.proofs.Uses.{stay_begun, stay_made}
 
 pub install_clean-requires-clause-free : goal.install_clean-requires-clause-free
 install_clean-requires-clause-free g c = free_of c.args.b.0 (g.M.Machine.contents c.args.self.now.machine).words c.requires.uncached
@@ -31,3 +32,9 @@ returns-clause-found g c = found_new c.args.k c.args.b.0 _ _ c.in_ok-install_cle
 
 pub returns-clause-touches : goal.returns-clause-touches
 returns-clause-touches g c = touches_made c.args.k c.args.b.0 _ (g.M.Machine.contents c.args.self.now.machine) (g.M.Machine.contents c.install_clean.new.m) c.requires.sound.coherent c.install_clean.ensures.keeps c.in_ok-install_clean.ensures.made
+
+pub returns-in_err-install_clean-clause-stay : goal.returns-in_err-install_clean-clause-stay
+returns-in_err-install_clean-clause-stay g c = stay_begun c.args.k _ _ c.install_clean.ensures.one_entry c.in_err-install_clean.ensures.tag
+
+pub returns-clause-stay : goal.returns-clause-stay
+returns-clause-stay g c = stay_made c.args.k c.args.b.0 false _ _ c.in_ok-install_clean.ensures.made

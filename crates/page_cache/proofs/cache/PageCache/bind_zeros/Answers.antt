@@ -1,8 +1,10 @@
-use Rattle.std.proofs.Common.{ap, refl}
+use Rattle.std.proofs.Common.{ap, refl, true}
 use Rattle.rio_base.specs.Machine.{Contents}
 use Rattle.page_cache.proofs.Rooms.{adds_narrows, begun_narrows, begun_sound, frame_free, free_of, unbound}
 use Rattle.page_cache.proofs.Zeros.{begun_keeps, frees_keeps, new_made, zeros_adds, zeros_frees, zeros_sound}
 use Rattle.page_cache.proofs.cache.PageCache.bind_zeros.Goals as goal
+use Rattle.page_cache.proofs.Uses.{stay_begun, stay_made}
+use Rattle.page_cache.proofs.Zeros.{made_found}
 
 pub install-requires-clause-free : goal.install-requires-clause-free
 install-requires-clause-free g c = free_of c.args.b.0 (g.M.Machine.contents c.args.self.now.machine).words c.requires.uncached
@@ -36,3 +38,12 @@ returns-clause-adds g c = zeros_adds _ c.args.k c.args.b.0 c.args.name (g.M.Mach
 
 pub returns-clause-sound : goal.returns-clause-sound
 returns-clause-sound g c = zeros_sound _ _ c.args.k c.args.b.0 (g.M.Machine.contents c.args.self.now.machine) (g.M.Machine.contents c.install.new.m) _ _ c.requires.sound (zeros_frees _ c.args.k c.args.b.0 (g.M.Machine.contents c.args.self.now.machine) (g.M.Machine.contents c.install.new.m) c.requires.sound.coherent c.install.ensures.changes.rest (new_made c.args.k c.args.b.0 c.args.name (g.M.Machine.contents c.args.self.now.machine) (g.M.Machine.contents c.install.new.m) c.install.ensures.changes.one_entry c.requires.entry c.requires.invalid c.requires.uncached c.requires.name c.in_ok-install.ensures.entry) c.requires.block c.requires.zeros).1 c.install.ensures.changes.ends.steps.scratch_count c.install.ensures.changes.closed (ap (λ (m : Contents). m.disk) c.install.ensures.changes.rest) (new_made c.args.k c.args.b.0 c.args.name (g.M.Machine.contents c.args.self.now.machine) (g.M.Machine.contents c.install.new.m) c.install.ensures.changes.one_entry c.requires.entry c.requires.invalid c.requires.uncached c.requires.name c.in_ok-install.ensures.entry) (record { same = record { forgotten = refl; shadowed = refl; shadows = refl }; pool = record { frames = c.bind.ensures.frames; blocks = c.bind.ensures.blocks; pins = c.bind.ensures.pins; count = c.bind.ensures.pins_in }; first = refl; buffer = refl }) c.bind.ensures.bound c.bind.ensures.others
+
+pub returns-in_err-install-clause-stay : goal.returns-in_err-install-clause-stay
+returns-in_err-install-clause-stay g c = stay_begun c.args.k _ _ c.install.ensures.changes.one_entry c.in_err-install.ensures.begun
+
+pub returns-clause-stay : goal.returns-clause-stay
+returns-clause-stay g c = stay_made c.args.k c.args.b.0 true _ _ (new_made c.args.k c.args.b.0 c.args.name (g.M.Machine.contents c.args.self.now.machine) (g.M.Machine.contents c.install.new.m) c.install.ensures.changes.one_entry c.requires.entry c.requires.invalid c.requires.uncached c.requires.name c.in_ok-install.ensures.entry)
+
+pub returns-clause-found : goal.returns-clause-found
+returns-clause-found g c = made_found c.args.k c.args.b.0 (g.M.Machine.contents c.args.self.now.machine) (g.M.Machine.contents c.install.new.m) _ c.requires.sound.coherent (new_made c.args.k c.args.b.0 c.args.name (g.M.Machine.contents c.args.self.now.machine) (g.M.Machine.contents c.install.new.m) c.install.ensures.changes.one_entry c.requires.entry c.requires.invalid c.requires.uncached c.requires.name c.in_ok-install.ensures.entry)

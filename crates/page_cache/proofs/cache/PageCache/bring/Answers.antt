@@ -1,7 +1,11 @@
 use Rattle.std.proofs.Common.{IsErrOf, arith, refl}
 use Rattle.rio_base.specs.declared.failures.VolFail.TheVariants.{Stopped}
-use Rattle.page_cache.proofs.Stores.{ends_ok, ends_stop}
 use Rattle.page_cache.proofs.cache.PageCache.bring.Goals as goal
+use Rattle.std.proofs.Common.{◌∙◌, ap}
+use Rattle.frame_pool.specs.Orders.{used_last}
+use Rattle.frame_pool.specs.Pools.{order_of}
+use Rattle.page_cache.proofs.Goes.{ends_ok, ends_stop}
+use Rattle.frame_pool.specs.declared.frame_pool.FramePool.{FramePool}
 
 pub returns-in_err-bind_frame-clause-ends : goal.returns-in_err-bind_frame-clause-ends
 returns-in_err-bind_frame-clause-ends g c =
@@ -10,3 +14,6 @@ returns-in_err-bind_frame-clause-ends g c =
 
 pub returns-clause-ends : goal.returns-clause-ends
 returns-clause-ends g c = ends_ok _ _ _ _ _ _ (λ q. cc) (λ q. cc) (λ q. cc) c.in_ok-fill_frame.ensures.ends c.in_ok-bind_frame.ensures.ends
+
+pub returns-clause-order : goal.returns-clause-order
+returns-clause-order g c = c.in_ok-bind_frame.ensures.order ∙ ap (λ (p : FramePool). used_last c.args.k (order_of p)) c.fill_frame.ensures.pool

@@ -3,9 +3,14 @@ use Rattle.rio_base.specs.Machine.{StepEnds}
 use Rattle.rio_base.specs.MachineRules.{ends_after}
 use Rattle.rio_model.specs.Registry.{is_valid}
 use Rattle.page_cache.proofs.Rooms.{adds_after, adds_narrows}
-use Rattle.page_cache.proofs.Stores.{ends_ok}
-use Rattle.page_cache.proofs.Zeros.{cleared_then, frees_after, frees_keeps, narrows_cached}
+use Rattle.page_cache.proofs.Zeros.{cleared_then, frees_after, frees_keeps}
 use Rattle.page_cache.proofs.cache.PageCache.bring_zeros.Goals as goal
+use Rattle.page_cache.proofs.Uses.{stay_found, stay_trans}
+use Rattle.frame_pool.specs.Orders.{used_last}
+use Rattle.frame_pool.specs.Pools.{order_of}
+use Rattle.page_cache.proofs.Goes.{ends_ok}
+use Rattle.page_cache.proofs.Stores.{narrows_cached}
+use Rattle.page_cache.specs.declared.tables.CacheTables.{CacheTables}
 
 pub bind_zeros-requires-clause-entry : goal.bind_zeros-requires-clause-entry
 bind_zeros-requires-clause-entry g c = subst (λ f. c.args.k < f) (sym (c.zero_frame.ensures.keeps.header 2 (omega arith))) c.requires.entry
@@ -47,3 +52,15 @@ pub returns-in_err-bind_zeros-clause-ends : goal.returns-in_err-bind_zeros-claus
 returns-in_err-bind_zeros-clause-ends g c =
     let all : StepEnds (g.M.Machine.run c.args.self.now.machine) (g.M.Machine.run c.bind_zeros.new.self.machine) (IsErr c.bind_zeros.result) = ends_after _ _ _ _ c.zero_frame.ensures.ends.steps (c.in_ok-zero_frame.ensures.ends.runs (λ q. cc)) c.bind_zeros.ensures.ends in
     grind (arith, all)
+
+pub returns-in_err-zero_frame-clause-stay : goal.returns-in_err-zero_frame-clause-stay
+returns-in_err-zero_frame-clause-stay g c = stay_found _ _ c.zero_frame.ensures.cached.found
+
+pub returns-in_err-bind_zeros-clause-stay : goal.returns-in_err-bind_zeros-clause-stay
+returns-in_err-bind_zeros-clause-stay g c = stay_trans _ _ _ (stay_found _ _ c.zero_frame.ensures.cached.found) c.bind_zeros.ensures.stay
+
+pub returns-clause-stay : goal.returns-clause-stay
+returns-clause-stay g c = stay_trans _ _ _ (stay_found _ _ c.zero_frame.ensures.cached.found) c.bind_zeros.ensures.stay
+
+pub returns-clause-order : goal.returns-clause-order
+returns-clause-order g c = c.in_ok-bind_zeros.ensures.order ∙ ap (λ (t : CacheTables). used_last c.args.k (order_of t.pool)) c.zero_frame.ensures.tables

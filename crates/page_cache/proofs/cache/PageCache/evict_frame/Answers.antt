@@ -3,6 +3,7 @@ use Rattle.page_cache.proofs.Kept.{bare_unpinned}
 use Rattle.page_cache.proofs.Rooms.{evicted, kept_bare, touches_evicted}
 use Rattle.page_cache.proofs.Touched.{touches_held}
 use Rattle.page_cache.proofs.cache.PageCache.evict_frame.Goals as goal
+use Rattle.page_cache.proofs.Uses.{leaves_one, order_freed}
 
 pub returns-in_err-evict-clause-sound : goal.returns-in_err-evict-clause-sound
 returns-in_err-evict-clause-sound g c = kept_bare c.args.k _ _ _ _ _ c.requires.sound c.evict.ensures.keeps c.evict.ensures.lasts c.evict.ensures.ends.steps.scratch_count c.evict.ensures.closed c.evict.ensures.one_entry c.in_err-evict.ensures.held (bare_unpinned c.args.k _ _ _ c.requires.sound c.requires.valid c.requires.unpinned)
@@ -15,3 +16,12 @@ returns-clause-sound g c = evicted c.args.k _ _ _ _ _ _ c.requires.sound c.evict
 
 pub returns-clause-touches : goal.returns-clause-touches
 returns-clause-touches g c = touches_evicted c.args.k _ (g.M.Machine.contents c.args.self.now.machine) (g.M.Machine.contents c.evict.new.m) c.requires.sound.coherent c.evict.ensures.keeps c.evict.ensures.one_entry (bare_unpinned c.args.k _ _ _ c.requires.sound c.requires.valid c.requires.unpinned) c.in_ok-evict.ensures.gone
+
+pub returns-in_err-evict-clause-leaves : goal.returns-in_err-evict-clause-leaves
+returns-in_err-evict-clause-leaves g c = leaves_one c.args.k _ (g.M.Machine.contents c.args.self.now.machine) (g.M.Machine.contents c.evict.new.m) c.requires.sound.coherent c.evict.ensures.keeps c.evict.ensures.one_entry
+
+pub returns-clause-leaves : goal.returns-clause-leaves
+returns-clause-leaves g c = leaves_one c.args.k _ (g.M.Machine.contents c.args.self.now.machine) (g.M.Machine.contents c.evict.new.m) c.requires.sound.coherent c.evict.ensures.keeps c.evict.ensures.one_entry
+
+pub returns-clause-order : goal.returns-clause-order
+returns-clause-order g c = order_freed c.args.k _ _ c.unbind.ensures.order

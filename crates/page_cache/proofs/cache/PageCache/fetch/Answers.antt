@@ -1,12 +1,14 @@
-use Rattle.std.proofs.Common.{IsErrOf, ap, arith, is_some, refl, sym, ◌∙◌}
+use Rattle.std.proofs.Common.{rules, IsErrOf, ap, arith, is_some, refl, sym, ◌∙◌}
 use Rattle.rio_base.specs.Rules.{true_false}
 use Rattle.rio_model.specs.CoverStands.{narrows_trans}
 use Rattle.rio_base.specs.Machine.{StepEnds}
 use Rattle.rio_base.specs.MachineRules.{ends_after}
 use Rattle.rio_base.specs.declared.failures.VolFail.TheVariants.{Fault, Stopped}
-use Rattle.page_cache.proofs.Rooms.{ends_ok, none_bound, none_still, some_bound}
+use Rattle.page_cache.proofs.Rooms.{none_bound, none_still, some_bound}
 use Rattle.page_cache.proofs.Stills.{few_then}
 use Rattle.page_cache.proofs.cache.PageCache.fetch.Goals as goal
+use Rattle.page_cache.proofs.Goes.{ends_ok}
+use Rattle.page_cache.proofs.Uses.{leaves_then, used_bound, used_hit}
 
 pub make_room-requires-clause-uncached : goal.make_room-requires-clause-uncached
 make_room-requires-clause-uncached g c = none_bound _ _ _ _ c.requires.sound (c.in_default.ensures.none refl)
@@ -50,3 +52,15 @@ returns-in_err-bring-clause-unfetched g c fault =
 
 pub returns-clause-hit : goal.returns-clause-hit
 returns-clause-hit g c cached = absurd (true_false (sym cached ∙ ap is_some (none_bound _ _ _ _ c.requires.sound (c.in_default.ensures.none refl))))
+
+pub returns-in-Some-clause-used : goal.returns-in-Some-clause-used
+returns-in-Some-clause-used g c = used_hit c.args.b.0 c.in-Some.k _ _ c.args.self.now.tables _ c.requires.sound c.in-Some.ensures.some (search rules)
+
+pub returns-clause-used : goal.returns-clause-used
+returns-clause-used g c = used_bound c.args.b.0 c.in_ok-k.k _ c.args.self.now.tables c.make_room.new.self.tables c.bring.new.self.tables c.in_ok-k.ensures.order c.in_ok-bring.ensures.order c.in_ok-bring.ensures.found
+
+pub returns-in_err-bring-clause-leaves : goal.returns-in_err-bring-clause-leaves
+returns-in_err-bring-clause-leaves g c = leaves_then _ _ _ _ c.make_room.ensures.leaves c.bring.ensures.stay
+
+pub returns-clause-leaves : goal.returns-clause-leaves
+returns-clause-leaves g c = leaves_then _ _ _ _ c.make_room.ensures.leaves c.bring.ensures.stay

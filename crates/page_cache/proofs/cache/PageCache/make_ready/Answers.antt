@@ -1,8 +1,8 @@
 use Rattle.std.proofs.Common.{IsErr, arith}
 use Rattle.rio_base.specs.Machine.{StepEnds}
 use Rattle.rio_base.specs.MachineRules.{ends_after}
-use Rattle.page_cache.proofs.Stores.{ends_ok}
 use Rattle.page_cache.proofs.StoreCalls.{named_after, widens_after, widens_cached}
+use Rattle.page_cache.proofs.Goes.{ends_ok}
 use Rattle.page_cache.proofs.cache.PageCache.make_ready.Goals as goal
 
 pub returns-in_err-mark_dirty-clause-widens : goal.returns-in_err-mark_dirty-clause-widens

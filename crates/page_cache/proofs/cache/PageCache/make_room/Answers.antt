@@ -1,6 +1,6 @@
 use Rattle.std.proofs.Common.{◌≡◌, ◌<◌, ◌∙◌, true, ap, arith, subst, sym}
 use Rattle.rio_model.specs.Registry.{is_valid, tag_at}
-use Rattle.page_cache.proofs.Stills.{few_evicted}
+use Rattle.page_cache.proofs.Roomy.{few_evicted}
 use Rattle.page_cache.proofs.cache.PageCache.make_room.Goals as goal
 
 pub returns-in_err-evict_frame-clause-writes : goal.returns-in_err-evict_frame-clause-writes

@@ -1,9 +1,11 @@
 use Rattle.std.proofs.Common.{IsErrOf, arith, refl}
 use Rattle.rio_base.specs.declared.failures.VolFail.TheVariants.{Stopped}
 use Rattle.rio_model.specs.CoverLookups.{found_is}
-use Rattle.page_cache.proofs.Stores.{ends_ok, ends_stop}
-use Rattle.page_cache.proofs.StoreCalls.{few_then, found_ready, named_ready, stored_adds, stored_ready}
+use Rattle.page_cache.proofs.StoreCalls.{found_ready, named_ready, stored_adds, stored_ready}
 use Rattle.page_cache.proofs.cache.PageCache.ready.Goals as goal
+use Rattle.page_cache.proofs.Goes.{ends_ok, ends_stop}
+use Rattle.page_cache.proofs.Stills.{few_then}
+use Rattle.page_cache.proofs.Uses.{leaves_then, order_same, stay_found, used_then}
 
 pub make_ready-requires-clause-valid : goal.make_ready-requires-clause-valid
 make_ready-requires-clause-valid g c = (found_is _ _ _ c.in_ok-k.ensures.found).0
@@ -36,3 +38,12 @@ pub returns-in_err-make_ready-clause-ends : goal.returns-in_err-make_ready-claus
 returns-in_err-make_ready-clause-ends g c =
     let stop : IsErrOf c.from_residual-in_err-make_ready.result Stopped = grind (arith, c.from_residual-in_err-make_ready.ensures) in
     ends_stop _ _ _ _ _ _ (λ q. cc) refl stop c.in_ok-k.ensures.ends c.in_err-make_ready.ensures.ends
+
+pub returns-clause-used : goal.returns-clause-used
+returns-clause-used g c = used_then c.args.b.0 (g.M.Machine.contents c.fetch.new.self.machine).words (g.M.Machine.contents c.make_ready.new.self.machine).words c.args.self.now.tables c.fetch.new.self.tables c.make_ready.new.self.tables c.in_ok-k.ensures.used (stay_found _ _ c.make_ready.ensures.widens.found) (order_same _ _ c.make_ready.ensures.tables)
+
+pub returns-in_err-make_ready-clause-leaves : goal.returns-in_err-make_ready-clause-leaves
+returns-in_err-make_ready-clause-leaves g c = leaves_then _ _ _ _ c.fetch.ensures.leaves (stay_found _ _ c.make_ready.ensures.widens.found)
+
+pub returns-clause-leaves : goal.returns-clause-leaves
+returns-clause-leaves g c = leaves_then _ _ _ _ c.fetch.ensures.leaves (stay_found _ _ c.make_ready.ensures.widens.found)

@@ -1,7 +1,7 @@
 use Rattle.std.proofs.Common.{ap, arith, length, ℕ, List}
 use Rattle.rio_model.specs.CoverLookups.{found_is}
 use Rattle.page_cache.proofs.Frames.{copied_run, page_count}
-use Rattle.page_cache.proofs.Stills.{passes_of}
+use Rattle.page_cache.proofs.Rooms.{passes_of}
 use Rattle.page_cache.proofs.reading.PageCacheBlocks.read_run.Goals as goal
 
 pub page_of-page-requires-clause-entry : goal.page_of-page-requires-clause-entry

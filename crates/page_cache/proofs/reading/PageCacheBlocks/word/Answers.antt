@@ -1,8 +1,7 @@
 use Rattle.std.proofs.Common.{◌≡◌, ◌∙◌, arith, subst}
 use Rattle.rio_model.specs.Cover.{reads}
 use Rattle.rio_model.specs.CoverLookups.{found_is}
-use Rattle.page_cache.proofs.Rooms.{word_read}
-use Rattle.page_cache.proofs.Stills.{passes_of}
+use Rattle.page_cache.proofs.Rooms.{passes_of, word_read}
 use Rattle.page_cache.proofs.reading.PageCacheBlocks.word.Goals as goal
 
 pub page_of-page-requires-clause-entry : goal.page_of-page-requires-clause-entry

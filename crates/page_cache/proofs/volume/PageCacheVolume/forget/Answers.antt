@@ -2,9 +2,9 @@ use Rattle.std.proofs.Common.{◌<◌, ap, is_some, refl, subst, sym}
 use Rattle.rio_base.specs.MachineRules.{lasts_refl, steps_refl}
 use Rattle.page_cache.proofs.Kept.{tables_refl}
 use Rattle.page_cache.proofs.Rooms.{none_bound, some_bound}
-use Rattle.page_cache.proofs.StoreCalls.{drops_narrows, few_still}
-use Rattle.page_cache.proofs.Stores.{still_same}
+use Rattle.page_cache.proofs.StoreCalls.{drops_narrows}
 use Rattle.page_cache.proofs.Freed.{frees_same, halts_of, loose_marked, marked_still, marks_then, narrows_same, never_firm, settled, sound_marked}
+use Rattle.page_cache.proofs.Stills.{few_still, still_same}
 use Rattle.page_cache.proofs.volume.PageCacheVolume.forget.Goals as goal
 
 pub mark-requires : goal.mark-requires

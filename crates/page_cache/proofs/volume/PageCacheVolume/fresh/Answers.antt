@@ -2,12 +2,16 @@ use Rattle.std.proofs.Common.{◌<◌, ◌∙◌, subst, sym}
 use Rattle.rio_base.specs.MachineRules.{lasts_trans, steps_trans}
 use Rattle.page_cache.proofs.Kept.{tables_trans}
 use Rattle.page_cache.proofs.Rooms.{adds_after, adds_narrows, caches_adds, none_still}
-use Rattle.page_cache.proofs.Settling.{ends_of}
-use Rattle.page_cache.proofs.StoreCalls.{cached_none, few_then}
-use Rattle.page_cache.proofs.Stores.{ends_ok}
+use Rattle.page_cache.proofs.StoreCalls.{cached_none}
 use Rattle.page_cache.proofs.Freed.{loose_none, marks_after, same_marks, settled, sound_marked}
 use Rattle.page_cache.proofs.Zeros.{cleared_then, frees_after, frees_keeps}
 use Rattle.page_cache.proofs.volume.PageCacheVolume.fresh.Goals as goal
+use Rattle.page_cache.proofs.Uses.{leaves_then, order_same, used_bound}
+use Rattle.std.proofs.Common.{ap}
+use Rattle.frame_pool.specs.Pools.{order_of}
+use Rattle.page_cache.proofs.Goes.{ends_of, ends_ok}
+use Rattle.page_cache.proofs.Stills.{few_then}
+use Rattle.page_cache.specs.declared.tables.CacheTables.{CacheTables}
 
 pub make_room-requires-clause-uncached : goal.make_room-requires-clause-uncached
 make_room-requires-clause-uncached g c = cached_none _ c.requires.uncached
@@ -107,3 +111,12 @@ returns-clause-sound g c = sound_marked c.args.b.0 _ _ (g.M.Machine.contents c.b
 
 pub returns-clause-ends : goal.returns-clause-ends
 returns-clause-ends g c = ends_of _ _ _ _ _ (lasts_trans (g.M.Machine.contents c.args.self.now.machine) (g.M.Machine.contents c.make_room.new.self.machine) (g.M.Machine.contents c.bring_zeros.new.self.machine) c.make_room.ensures.lasts c.bring_zeros.ensures.lasts) (λ q. cc) (ends_ok _ _ _ _ _ _ (λ q. cc) (λ q. cc) (λ q. cc) c.in_ok-k.ensures.ends c.in_ok-bring_zeros.ensures.ends)
+
+pub returns-clause-used : goal.returns-clause-used
+returns-clause-used g c = used_bound c.args.b.0 c.in_ok-k.k _ c.args.self.now.tables c.make_room.new.self.tables c.mark.new.self c.in_ok-k.ensures.order (ap (λ (t : CacheTables). order_of t.pool) c.mark.ensures.marks.rest ∙ c.in_ok-bring_zeros.ensures.order) c.in_ok-bring_zeros.ensures.found
+
+pub returns-in_err-bring_zeros-clause-leaves : goal.returns-in_err-bring_zeros-clause-leaves
+returns-in_err-bring_zeros-clause-leaves g c = leaves_then _ _ _ _ c.make_room.ensures.leaves c.bring_zeros.ensures.stay
+
+pub returns-clause-leaves : goal.returns-clause-leaves
+returns-clause-leaves g c = leaves_then _ _ _ _ c.make_room.ensures.leaves c.bring_zeros.ensures.stay

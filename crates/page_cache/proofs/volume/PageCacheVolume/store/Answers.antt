@@ -1,10 +1,12 @@
 use Rattle.std.proofs.Common.{◌∙◌, ap, inl, inr}
 use Rattle.rio_base.specs.MachineRules.{lasts_trans, steps_trans}
 use Rattle.page_cache.specs.declared.tables.CacheTables.{CacheTables}
-use Rattle.page_cache.proofs.Stores.{ends_ok}
-use Rattle.page_cache.proofs.StoreCalls.{few_then, named_put, stored_put}
-use Rattle.page_cache.proofs.Settling.{ends_of, keeps_to, put_then, same_put, settles, settles_kept}
+use Rattle.page_cache.proofs.StoreCalls.{named_put, stored_put}
+use Rattle.page_cache.proofs.Settling.{keeps_to, put_then, same_put, settles, settles_kept}
 use Rattle.page_cache.proofs.volume.PageCacheVolume.store.Goals as goal
+use Rattle.page_cache.proofs.Goes.{ends_of, ends_ok}
+use Rattle.page_cache.proofs.Stills.{few_then}
+use Rattle.page_cache.proofs.Uses.{leaves_then, order_same, stay_found, used_then}
 
 pub returns-in_err-k-clause-either : goal.returns-in_err-k-clause-either
 returns-in_err-k-clause-either g c = inl c.ready.ensures.keeps.reads
@@ -80,3 +82,12 @@ returns-clause-ends g c = ends_of _ _ _ _ _ (lasts_trans (g.M.Machine.contents c
 
 pub returns-clause-writes : goal.returns-clause-writes
 returns-clause-writes g c = few_then c.args.b.0 (g.M.Machine.contents c.args.self.now.machine) (g.M.Machine.contents c.ready.new.self.machine) (g.M.Machine.contents c.put_frame.new.self.machine) c.ready.ensures.writes c.put_frame.ensures.still
+
+pub returns-clause-used : goal.returns-clause-used
+returns-clause-used g c = used_then c.args.b.0 (g.M.Machine.contents c.ready.new.self.machine).words (g.M.Machine.contents c.put_frame.new.self.machine).words c.args.self.now.tables c.ready.new.self.tables c.put_frame.new.self.tables c.in_ok-k.ensures.used (stay_found _ _ c.put_frame.ensures.cached.found) (order_same _ _ c.put_frame.ensures.tables)
+
+pub returns-in_err-put_frame-clause-leaves : goal.returns-in_err-put_frame-clause-leaves
+returns-in_err-put_frame-clause-leaves g c = leaves_then _ _ _ _ c.ready.ensures.leaves (stay_found _ _ c.put_frame.ensures.cached.found)
+
+pub returns-clause-leaves : goal.returns-clause-leaves
+returns-clause-leaves g c = leaves_then _ _ _ _ c.ready.ensures.leaves (stay_found _ _ c.put_frame.ensures.cached.found)

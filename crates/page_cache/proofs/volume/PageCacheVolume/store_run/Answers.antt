@@ -1,9 +1,11 @@
 use Rattle.std.proofs.Common.{◌∙◌, ap, arith, length}
 use Rattle.rio_base.specs.MachineRules.{lasts_trans, steps_trans}
 use Rattle.page_cache.specs.declared.tables.CacheTables.{CacheTables}
-use Rattle.page_cache.proofs.StoreCalls.{few_then, stored_put}
+use Rattle.page_cache.proofs.StoreCalls.{stored_put}
 use Rattle.page_cache.proofs.Settling.{run_front, run_then, same_run, settles, settles_kept}
 use Rattle.page_cache.proofs.volume.PageCacheVolume.store_run.Goals as goal
+use Rattle.page_cache.proofs.Stills.{few_then}
+use Rattle.page_cache.proofs.Uses.{leaves_then, order_same, stay_found, used_then}
 
 pub returns-in-Err-Fault-clause-front : goal.returns-in-Err-Fault-clause-front
 returns-in-Err-Fault-clause-front g c = run_front c.args.b.0 c.args.w (length c.args.from.now) c.args.from.now (g.M.Machine.contents c.args.self.now.machine) (g.M.Machine.contents c.ready.new.self.machine) c.ready.ensures.keeps
@@ -67,3 +69,12 @@ returns-in-Err-clause-writes g c = few_then c.args.b.0 (g.M.Machine.contents c.a
 
 pub returns-in-Err-clause-front : goal.returns-in-Err-clause-front
 returns-in-Err-clause-front g c = (c.in-Err.ensures.front.0, c.in-Err.ensures.front.1, (run_then c.args.b.0 c.args.w c.in-Err.ensures.front.0 c.args.from.now (g.M.Machine.contents c.args.self.now.machine) (g.M.Machine.contents c.ready.new.self.machine) (g.M.Machine.contents c.put_frame_run.new.self.machine) c.ready.ensures.keeps c.in-Err.ensures.front.2).reading)
+
+pub returns-in-Ok-put_frame_run-clause-used : goal.returns-in-Ok-put_frame_run-clause-used
+returns-in-Ok-put_frame_run-clause-used g c = λ some. used_then c.args.b.0 (g.M.Machine.contents c.ready.new.self.machine).words (g.M.Machine.contents c.put_frame_run.new.self.machine).words c.args.self.now.tables c.ready.new.self.tables c.put_frame_run.new.self.tables c.in-Ok.ensures.used (stay_found _ _ c.put_frame_run.ensures.cached.found) (order_same _ _ c.put_frame_run.ensures.tables)
+
+pub returns-in-Ok-put_frame_run-clause-leaves : goal.returns-in-Ok-put_frame_run-clause-leaves
+returns-in-Ok-put_frame_run-clause-leaves g c = leaves_then _ _ _ _ c.ready.ensures.leaves (stay_found _ _ c.put_frame_run.ensures.cached.found)
+
+pub returns-in-Err-clause-leaves : goal.returns-in-Err-clause-leaves
+returns-in-Err-clause-leaves g c = leaves_then _ _ _ _ c.ready.ensures.leaves (stay_found _ _ c.put_frame_run.ensures.cached.found)

@@ -7,6 +7,7 @@ use Rattle.page_cache.proofs.Rooms.{caches_adds}
 use Rattle.page_cache.proofs.Stills.{few_then}
 use Rattle.page_cache.proofs.Touches.{adds_pages, firm_forgotten, room_of, touch_goes, touches_after}
 use Rattle.page_cache.proofs.volume.PageCacheVolume.touch.Goals as goal
+use Rattle.page_cache.proofs.Uses.{leaves_then, stay_found, used_then}
 
 pub returns-in_err-k-clause-caches : goal.returns-in_err-k-clause-caches
 returns-in_err-k-clause-caches g c = caches_adds c.args.b.0 _ (g.M.Machine.contents c.args.self.now.machine) (g.M.Machine.contents c.fetch.new.self.machine) c.fetch.ensures.adds
@@ -43,3 +44,12 @@ returns-clause-goes g c = touch_goes c.args.b.0 _ _ _ _ (keeps_trans _ _ _ c.fet
 
 pub returns-clause-writes : goal.returns-clause-writes
 returns-clause-writes g c = few_then c.args.b.0 _ _ _ c.fetch.ensures.writes c.shadow_frame.ensures.still
+
+pub returns-clause-used : goal.returns-clause-used
+returns-clause-used g c = used_then c.args.b.0 (g.M.Machine.contents c.fetch.new.self.machine).words (g.M.Machine.contents c.shadow_frame.new.self.machine).words c.args.self.now.tables c.fetch.new.self.tables c.shadow_frame.new.self.tables c.in_ok-k.ensures.used (stay_found _ _ c.shadow_frame.ensures.pages.found) c.shadow_frame.ensures.order
+
+pub returns-in_err-shadow_frame-clause-leaves : goal.returns-in_err-shadow_frame-clause-leaves
+returns-in_err-shadow_frame-clause-leaves g c = leaves_then _ _ _ _ c.fetch.ensures.leaves (stay_found _ _ c.shadow_frame.ensures.pages.found)
+
+pub returns-clause-leaves : goal.returns-clause-leaves
+returns-clause-leaves g c = leaves_then _ _ _ _ c.fetch.ensures.leaves (stay_found _ _ c.shadow_frame.ensures.pages.found)
