@@ -1,5 +1,5 @@
 -- Entries that go and entries that come, and the tables beside them.
-use Rattle.std.specs.Prelude.{◌≡◌, ◌≢◌, ℕ, ◌+◌, ◌*◌, ◌<◌, ◌==◌, ◌||◌, Bool, true, false, if◌then◌else◌, ◌⊎◌, List, length, slice_index, Option, Some, None, is_some, Result, Ok, Err, IsErrOf, refl}
+use Rattle.std.specs.Prelude.{◌≡◌, ◌≢◌, ℕ, ◌+◌, ◌*◌, ◌<◌, ◌==◌, ◌||◌, Bool, true, false, if◌then◌else◌, ◌⊎◌, List, length, slice_index, Option, Some, None, is_some, refl}
 use Rattle.std.proofs.Common.{◌∙◌, ap, sym, subst, inl, inr, arith}
 use Rattle.std.proofs.lemmas.Bool.{cases_eq, eq-eqb, ne_eqb}
 use Rattle.rio_base.specs.declared.places.PageName.{PageName}
@@ -9,11 +9,11 @@ use Rattle.rio_base.specs.Machine.{Contents, Lasts, Running, Steps}
 use Rattle.rio_base.specs.MachineRules.{lasts_trans}
 use Rattle.rio_base.specs.Rules.{none_some, true_false}
 use Rattle.rio_base.specs.Volume.{Firm, Passes}
-use Rattle.rio_model.specs.Registry.{BlockRule, IsValid, OneEntry, file_at, frames_of, gate_of, index_at, is_data, is_dirty, is_valid, shadow_at, size_at, tag_at, tag_block, tag_of}
+use Rattle.rio_model.specs.Registry.{BlockRule, IsValid, OneEntry, frames_of, gate_of, is_data, is_dirty, is_valid, shadow_at, tag_at, tag_block, tag_of}
 use Rattle.rio_model.specs.Cover.{Coherent, HeldEntry, IsBare, Keeps, Narrows, entry_of_block, frame_page, home_word, is_loose, name_in, reads}
-use Rattle.rio_model.specs.CoverChanges.{OnePage, SameEntries, entry_same, found_entries, found_kept, found_other, frame_entries, same_entries, tag_same}
+use Rattle.rio_model.specs.CoverChanges.{OnePage, SameEntries, found_kept, found_other, frame_entries, same_entries, tag_same}
 use Rattle.rio_model.specs.CoverFills.{Made, frame_past, is_valid_made}
-use Rattle.rio_model.specs.CoverLookups.{cover_at, entry_one, found_at, found_free, found_is, found_none, tag_one}
+use Rattle.rio_model.specs.CoverLookups.{cover_at, found_at, found_free, found_is, found_none, tag_one}
 use Rattle.rio_model.specs.CoverSteps.{coherent_on, keeps_trans}
 use Rattle.rio_model.specs.RegistryRules.{valid_moved}
 use Rattle.registry.specs.Entries.{entry_of, new_entry}

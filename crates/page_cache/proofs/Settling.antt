@@ -1,16 +1,16 @@
 -- What a call outside an update leaves so, as callers see it: what stands, and which blocks are loose.
-use Rattle.std.specs.Prelude.{◌≡◌, ◌≢◌, ℕ, ◌*◌, ◌/◌, ◌≤◌, ◌==◌, ◌||◌, nat_lt, not, Bool, true, false, ◌⊎◌, List, length, slice_index_or, Some, Result, Ok, Err, IsErrOf, refl}
-use Rattle.std.proofs.Common.{◌∙◌, ap, sym, subst, inl, inr, arith}
-use Rattle.std.proofs.lemmas.Bool.{eq-eqb, ltb-false, lt-ltb}
+use Rattle.std.specs.Prelude.{◌≡◌, ◌≢◌, ℕ, ◌==◌, ◌||◌, Bool, true, false, List, slice_index_or, refl}
+use Rattle.std.proofs.Common.{◌∙◌, ap, sym, subst, arith}
+use Rattle.std.proofs.lemmas.Bool.{eq-eqb}
 use Rattle.std.proofs.lemmas.Bool.Decides.{nat_tests}
-use Rattle.rio_base.specs.Blocks.{BlockWords, Ends}
-use Rattle.rio_base.specs.Machine.{Contents, FaultCause, Lasts, Running, StepEnds, Steps, StopReason}
+use Rattle.rio_base.specs.Blocks.{BlockWords}
+use Rattle.rio_base.specs.Machine.{Contents, Lasts, Running, Steps}
 use Rattle.rio_base.specs.Rules.{true_false}
-use Rattle.rio_base.specs.Volume.{Firm, Goes, OldOrRun, Quiet, Runs, SameBut, StopCause, put, put_run}
-use Rattle.rio_model.specs.Registry.{frames_of, gate_of}
+use Rattle.rio_base.specs.Volume.{Firm, Goes, OldOrRun, SameBut, put, put_run}
+use Rattle.rio_model.specs.Registry.{gate_of}
 use Rattle.rio_model.specs.Cover.{Keeps, is_loose, reads, stands}
 use Rattle.page_cache.specs.declared.tables.CacheTables.{CacheTables}
-use Rattle.page_cache.specs.Caches.{FewWrites, cache_below, cache_causes, cache_health, cache_kept, was_forgotten}
+use Rattle.page_cache.specs.Caches.{FewWrites, cache_below, cache_health, cache_kept, was_forgotten}
 use Rattle.rio_model.specs.CoverStands.{stands_idle}
 use Rattle.page_cache.specs.Stores.{Rewrites}
 use Rattle.page_cache.proofs.Goes.{goes_few}

@@ -1,12 +1,12 @@
 -- The order of use, and blocks that leave.
 use Rattle.std.specs.Prelude.{◌≡◌, ◌≢◌, ℕ, ◌<◌, ◌==◌, not, ◌++◌, ◌⊎◌, Bool, true, false, if◌then◌else◌, List, [], ◌∷◌, filter, Option, Some, None, refl}
-use Rattle.std.proofs.Common.{◌∙◌, ap, sym, subst, inl, inr, arith}
+use Rattle.std.proofs.Common.{◌∙◌, ap, sym, subst, inl, inr}
 use Rattle.std.proofs.lemmas.Bool.{cases_Bool, cases_eq, eq-eqb}
 use Rattle.rio_base.specs.Machine.{Contents}
 use Rattle.rio_base.specs.Rules.{none_some, true_false}
 use Rattle.frame_pool.specs.Orders.{freed_first, used_last, without}
 use Rattle.frame_pool.specs.Pools.{block_of, frames_in, least_recent, order_of}
-use Rattle.rio_model.specs.Registry.{BlockRule, IsValid, OneEntry, frames_of, is_valid, tag_at, tag_block}
+use Rattle.rio_model.specs.Registry.{BlockRule, OneEntry, is_valid, tag_at, tag_block}
 use Rattle.rio_model.specs.Cover.{Coherent, Keeps, entry_of_block, frame_page}
 use Rattle.rio_model.specs.CoverChanges.{OnePage, found_entries, found_kept, found_other, same_entries}
 use Rattle.rio_model.specs.CoverFills.{Made, frame_past}

@@ -1,5 +1,5 @@
 -- Wild stores on a cache's machine, between its calls.
-use Rattle.std.specs.Prelude.{◌≡◌, ℕ, ◌+◌, ◌-◌, ◌/◌, ◌<◌, ◌≤◌, true, List, length, Some, None, refl}
+use Rattle.std.specs.Prelude.{◌≡◌, ℕ, ◌+◌, ◌-◌, ◌/◌, ◌<◌, length, Some, None, refl}
 use Rattle.std.proofs.Common.{◌∙◌, ap, sym, subst, arith}
 use Rattle.std.proofs.lemmas.List.{length-set}
 use Rattle.rio_base.specs.Machine.{Contents, Meets, Running, after_wild}
@@ -7,8 +7,6 @@ use Rattle.rio_base.specs.Rules.{none_some}
 use Rattle.rio_base.specs.declared.wild.Wild.{Wild}
 use Rattle.rio_base.specs.declared.wild.Wild.TheVariants.{Changed, Trapped, Spared}
 use Rattle.rio_base.specs.Volume.{Below}
-use Rattle.rio_model.specs.Registry.{frames_of}
-use Rattle.rio_model.specs.Cover.{Coherent}
 use Rattle.page_cache.specs.declared.tables.CacheTables.{CacheTables}
 use Rattle.page_cache.specs.Caches.{CacheSound, cache_below, cache_causes, cache_health, cache_home, cache_kept, is_roomy}
 use Rattle.page_cache.specs.Wilds.{Arms, Strikes}

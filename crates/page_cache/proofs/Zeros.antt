@@ -8,7 +8,7 @@ use Rattle.rio_base.specs.Machine.{Contents}
 use Rattle.rio_base.specs.Rules.{true_false}
 use Rattle.rio_base.specs.Volume.{cleared}
 use Rattle.rio_model.specs.Registry.{OneEntry, frames_of, is_data, is_dirty, is_valid, tag_at, tag_block, tag_of}
-use Rattle.rio_model.specs.Cover.{Coherent, Keeps, Narrows, cover_by, entry_of_block, frame_page, is_loose, name_in, reads}
+use Rattle.rio_model.specs.Cover.{Coherent, Keeps, cover_by, entry_of_block, frame_page, is_loose, name_in, reads}
 use Rattle.rio_model.specs.CoverChanges.{OnePage, SameEntries, found_made, found_other, frame_entries, frame_word_one, same_entries}
 use Rattle.rio_model.specs.CoverFills.{Made, frame_past, is_valid_made, keeps_begun, registry_made}
 use Rattle.rio_model.specs.CoverLookups.{cover_at, cover_past, cover_same, found_is, header_one, tag_one}

@@ -2,10 +2,10 @@
 
 ghost use Rattle.std.specs.Prelude.{◌≡◌, ◌≢◌, ◌⊎◌, ◌+◌, ◌<◌, ◌≤◌, ℕ, true, false, None, OnErr, OnOk, IsErr, length, slice_index};
 ghost use Rattle.rio_base.specs.Machine.{Lasts, StepEnds};
-ghost use Rattle.rio_model.specs.Cover.{Coherent, HeldEntry, Keeps, SameNames, frame_page};
+ghost use Rattle.rio_model.specs.Cover.{Coherent, Keeps, SameNames, frame_page};
 ghost use Rattle.rio_model.specs.CoverChanges.{SameEntries};
 ghost use Rattle.rio_model.specs.CoverFills.{Puts};
-ghost use Rattle.rio_model.specs.Registry.{IsValid, OneEntry, frames_of, gate_of, is_data, is_dirty, shadow_at, tag_at, tag_block};
+ghost use Rattle.rio_model.specs.Registry.{IsValid, frames_of, gate_of, is_data, is_dirty, shadow_at, tag_at, tag_block};
 ghost use Rattle.frame_pool.specs.Pools.{frames_in, is_pinned, order_of};
 ghost use Rattle.write_back.specs.Writing.{SameDisk};
 ghost use Rattle.page_cache.specs.Caches.{CacheSound, IsListed, SameTables};

@@ -1,7 +1,10 @@
-use Rattle.std.proofs.Common.{◌≡◌, ◌<◌, ◌∙◌, true, ap, arith, subst, sym}
+use Rattle.std.proofs.Common.{rules, ◌≡◌, ◌<◌, ◌∙◌, true, ap, arith, subst, sym}
 use Rattle.rio_model.specs.Registry.{is_valid, tag_at}
 use Rattle.page_cache.proofs.Roomy.{few_evicted}
 use Rattle.page_cache.proofs.cache.PageCache.make_room.Goals as goal
+
+pub returns-clause-chosen : goal.returns-clause-chosen
+returns-clause-chosen g c = search rules
 
 pub returns-in_err-evict_frame-clause-writes : goal.returns-in_err-evict_frame-clause-writes
 returns-in_err-evict_frame-clause-writes g c =

@@ -1,7 +1,6 @@
 use Rattle.page_cache.proofs.Wilds.{kept_on, place_of, strikes_of, wild_sound}
 use Rattle.page_cache.proofs.cache.PageCache.wild.Goals as goal
 use Rattle.std.proofs.Common.{ap, refl}
-use Rattle.rio_base.specs.Machine.{Contents}
 use Rattle.page_cache.specs.Caches.{cache_seen}
 
 pub wild-requires-clause-place : goal.wild-requires-clause-place

@@ -6,7 +6,7 @@ use Rattle.page_cache.proofs.StoreCalls.{cached_none}
 use Rattle.page_cache.proofs.Freed.{loose_none, marks_after, same_marks, settled, sound_marked}
 use Rattle.page_cache.proofs.Zeros.{cleared_then, frees_after, frees_keeps}
 use Rattle.page_cache.proofs.volume.PageCacheVolume.fresh.Goals as goal
-use Rattle.page_cache.proofs.Uses.{leaves_then, order_same, used_bound}
+use Rattle.page_cache.proofs.Uses.{leaves_then, used_bound}
 use Rattle.std.proofs.Common.{ap}
 use Rattle.frame_pool.specs.Pools.{order_of}
 use Rattle.page_cache.proofs.Goes.{ends_of, ends_ok}

@@ -1,4 +1,4 @@
-use Rattle.std.proofs.Common.{◌∙◌, ap, inl, inr}
+use Rattle.std.proofs.Common.{rules, ◌∙◌, ap, inl, inr}
 use Rattle.rio_base.specs.MachineRules.{lasts_trans, steps_trans}
 use Rattle.page_cache.specs.declared.tables.CacheTables.{CacheTables}
 use Rattle.page_cache.proofs.StoreCalls.{named_put, stored_put}
@@ -7,6 +7,9 @@ use Rattle.page_cache.proofs.volume.PageCacheVolume.store.Goals as goal
 use Rattle.page_cache.proofs.Goes.{ends_of, ends_ok}
 use Rattle.page_cache.proofs.Stills.{few_then}
 use Rattle.page_cache.proofs.Uses.{leaves_then, order_same, stay_found, used_then}
+
+pub returns-clause-writes : goal.returns-clause-writes
+returns-clause-writes g c = few_then c.args.b.0 (g.M.Machine.contents c.args.self.now.machine) (g.M.Machine.contents c.ready.new.self.machine) _ c.ready.ensures.writes (search rules)
 
 pub returns-in_err-k-clause-either : goal.returns-in_err-k-clause-either
 returns-in_err-k-clause-either g c = inl c.ready.ensures.keeps.reads
@@ -79,9 +82,6 @@ returns-clause-named g c = λ q. named_put c.args.b.0 c.args.name _ _ (g.M.Machi
 
 pub returns-clause-ends : goal.returns-clause-ends
 returns-clause-ends g c = ends_of _ _ _ _ _ (lasts_trans (g.M.Machine.contents c.args.self.now.machine) (g.M.Machine.contents c.ready.new.self.machine) (g.M.Machine.contents c.put_frame.new.self.machine) c.ready.ensures.lasts c.put_frame.ensures.lasts) (λ q. cc) (ends_ok _ _ _ _ _ _ (λ q. cc) (λ q. cc) (λ q. cc) c.in_ok-k.ensures.ends c.in_ok-put_frame.ensures.ends)
-
-pub returns-clause-writes : goal.returns-clause-writes
-returns-clause-writes g c = few_then c.args.b.0 (g.M.Machine.contents c.args.self.now.machine) (g.M.Machine.contents c.ready.new.self.machine) (g.M.Machine.contents c.put_frame.new.self.machine) c.ready.ensures.writes c.put_frame.ensures.still
 
 pub returns-clause-used : goal.returns-clause-used
 returns-clause-used g c = used_then c.args.b.0 (g.M.Machine.contents c.ready.new.self.machine).words (g.M.Machine.contents c.put_frame.new.self.machine).words c.args.self.now.tables c.ready.new.self.tables c.put_frame.new.self.tables c.in_ok-k.ensures.used (stay_found _ _ c.put_frame.ensures.cached.found) (order_same _ _ c.put_frame.ensures.tables)
