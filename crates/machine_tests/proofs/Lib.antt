@@ -1,5 +1,6 @@
 pub mod BlankImages
 pub mod DirtyPages
+pub mod Reading
 pub mod TestImages
 pub mod TwoEntries
 pub mod WalkNames

@@ -5,9 +5,9 @@ ghost use Rattle.std.specs.Prelude.{◌≡◌, ◌+◌, ◌<◌, ◌≤◌, true
 ghost use Rattle.rio_base.specs.Volume.{SameUpdate};
 ghost use Rattle.machine_tests.specs.Walks.{Walks};
 
+use crate::block_lists::{BLOCK_WORDS, BLOCKS};
 use crate::cache_walks::cache_of;
 use crate::crashes::crashed;
-use crate::plain_blocks::{BLOCK_WORDS, BLOCKS};
 use block_disk::{DiskChoice, MemDisk};
 use rio_base::{Block, Blocks, VolFail, Volume};
 use std::alloc::Global;

@@ -8,10 +8,11 @@ ghost use Rattle.rio_base.specs.Image.{AreImageSizes, entry_at};
 ghost use Rattle.machine_tests.specs.Blanks.{IsBlank};
 ghost use Rattle.machine_tests.specs.Walks.{Walks};
 
+use crate::block_lists::BLOCKS;
 use crate::crashes::{is_unwritten, judge_crash};
 use crate::draws::Draws;
 use crate::machines::{MemBoard, board_on};
-use crate::plain_blocks::{BLOCKS, PlainBlocks};
+use crate::plain_blocks::PlainBlocks;
 use crate::walk::{WalkEnd, read_all, walk};
 use block_disk::{DiskChoice, MemDisk};
 use board::Board;

@@ -2,7 +2,8 @@
 
 ghost use Rattle.std.specs.Prelude.{◌≡◌, IfOk, length};
 
-use crate::plain_blocks::{ALL_WORDS, BLOCKS, PlainBlocks, zeros};
+use crate::block_lists::{ALL_WORDS, BLOCKS, zeros};
+use crate::plain_blocks::PlainBlocks;
 use crate::standing::standing_words;
 use block_disk::{DiskChoice, MemDisk};
 use phys_memory::ListMem;
@@ -25,7 +26,7 @@ pub(crate) fn crashed(
     }
     disk.drop_fails();
     disk.after_crash(choice);
-    standing_words(alloc, words, &mut disk)
+    Ok(standing_words(alloc, words, &mut disk)?)
 }
 
 /// Crashes the disk so, and answers the first block that memory and disk then stand for otherwise than the plain lists

@@ -2,6 +2,7 @@
 //! memory: of what needs a whole machine in memory. So it stands above all crates that it tests.
 #![tactic(auto)]
 
+mod block_lists;
 #[cfg(test)]
 mod boards;
 #[cfg(test)]
@@ -27,7 +28,6 @@ mod runs;
 mod saving;
 #[cfg(test)]
 mod shadow_tests;
-#[cfg(test)]
 mod standing;
 #[cfg(test)]
 mod standing_tests;
@@ -41,3 +41,4 @@ mod windows;
 mod write_back_tests;
 
 pub use saving::save;
+pub use standing::{Unread, reading_words, standing_words};

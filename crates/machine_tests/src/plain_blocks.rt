@@ -2,17 +2,9 @@
 
 ghost use Rattle.std.specs.Prelude.{◌≡◌, ◌+◌, ◌<◌, ◌≤◌, IfOk, length};
 
+use crate::block_lists::{ALL_WORDS, BLOCK_WORDS, BLOCKS, zeros};
 use rio_base::Block;
 use std::alloc::{AllocError, AllocFailed, Global};
-
-/// How many blocks a walked volume has.
-pub(crate) const BLOCKS: u32 = 64;
-
-/// Words in a block.
-pub(crate) const BLOCK_WORDS: usize = 512;
-
-/// Words in all blocks.
-pub(crate) const ALL_WORDS: usize = 32_768;
 
 /// How many of the stores of the running action may stand where a stop cuts it off.
 #[derive(Clone, Copy, Debug, PartialEq, Eq)]
@@ -46,13 +38,6 @@ pub(crate) struct PlainBlocks {
     ghost words_count: { length words.items ≡ 32768 },
     ghost standing_count: { length standing.items ≡ 32768 },
     ghost told_count: { length told.items ≡ 64 },
-}
-
-/// So many zeros.
-pub(crate) fn zeros(alloc: Global, count: usize) -> Result<Vec<u64>, AllocError>
-    ensures { IfOk result (λ words. length words.items ≡ count) }
-{
-    vec![in alloc; 0; count]
 }
 
 /// So many marks that are set.

@@ -1,10 +1,13 @@
 //! What stands of a small memory and disk that are made by hand, and what the judge of a walk says of them.
 
 ghost use Rattle.std.specs.Prelude.{◌≡◌, ◌≤◌, IfOk, length};
+ghost use Rattle.block_disk.specs.MemDisks.{state_of};
 
-use crate::plain_blocks::{ALL_WORDS, PlainBlocks, Stands, zeros};
-use crate::standing::standing_words;
-use block_disk::MemDisk;
+use crate::block_lists::{ALL_WORDS, zeros};
+use crate::crashes::crashed;
+use crate::plain_blocks::{PlainBlocks, Stands};
+use crate::standing::{Unread, reading_words, standing_words};
+use block_disk::{DiskChoice, MemDisk};
 use image_codec::fresh_image;
 use rio_base::{Block, DiskBlocks};
 use std::alloc::{AllocError, Global};
@@ -23,26 +26,102 @@ fn image(alloc: Global, gate: u64) -> Result<Vec<u64>, Fail> {
     Ok(words)
 }
 
-/// What stands of a memory whose entries are those of [`image`], over a disk whose block 51 begins with 5.
-fn standing(alloc: Global, gate: u64) -> Result<Vec<u64>, Fail>
-    ensures { IfOk result (λ found. length found.items ≡ 32768) }
+/// A disk of zeros but for the blocks 9 and 51, which begin with 5 and are pending.
+fn written_disk(alloc: Global) -> Result<MemDisk, Fail>
+    ensures { IfOk result (λ disk. length (state_of disk).blocks ≡ 64) }
 {
     let mut disk = MemDisk::new(alloc, 64)?;
-    let mut block = vec![in alloc; 0; 512]?;
+    let mut block = zeros(alloc, 512)?;
     block[0] = 5;
     disk.write(Block(51), &block)?;
     disk.write(Block(9), &block)?;
-    standing_words(alloc, &image(alloc, gate)?, &mut disk)
+    Ok(disk)
+}
+
+/// What stands of a memory whose entries are those of [`image`], over such a disk.
+fn standing(alloc: Global, gate: u64) -> Result<Vec<u64>, Fail>
+    ensures { IfOk result (λ found. length found.items ≡ 32768) }
+{
+    let mut disk = written_disk(alloc)?;
+    Ok(standing_words(alloc, &image(alloc, gate)?, &mut disk)?)
+}
+
+/// What they read as.
+fn reading(alloc: Global, gate: u64) -> Result<Vec<u64>, Fail>
+    ensures { IfOk result (λ found. length found.items ≡ 32768) }
+{
+    let mut disk = written_disk(alloc)?;
+    Ok(reading_words(alloc, &image(alloc, gate)?, &mut disk)?)
+}
+
+/// The first word of block 9, the last of block 50, and the first of block 51.
+fn three_of(found: &[u64]) -> [u64; 3]
+    requires { length found.now ≡ 32768 }
+{
+    [found[4_608], found[26_111], found[26_112]]
 }
 
 #[test]
 fn pages_and_blocks_stand(rt: HostRuntime) -> Result<(), Fail> {
     for (gate, first) in [(0, 7), (1, 8)] {
         let found = standing(rt.alloc(), gate)?;
-        assert_eq!(rt; found[4_608], first, "gate {gate}");
-        assert_eq!(rt; found[26_111], 6, "gate {gate}");
-        assert_eq!(rt; found[26_112], 5, "gate {gate}");
+        assert_eq!(rt; three_of(&found), [first, 6, 5], "gate {gate}");
     }
+    Ok(())
+}
+
+#[test]
+fn frames_and_blocks_read_whatever_the_gate(rt: HostRuntime) -> Result<(), Fail> {
+    for gate in 0..2 {
+        let found = reading(rt.alloc(), gate)?;
+        assert_eq!(rt; three_of(&found), [7, 6, 5], "gate {gate}");
+    }
+    Ok(())
+}
+
+/// What stands of the memory with the gate 1, where 6 was written over the 5 of block 51 after a sync, and the disk then
+/// crashed so.
+fn pending_standing(alloc: Global, choice: DiskChoice) -> Result<Vec<u64>, Fail>
+    ensures { IfOk result (λ found. length found.items ≡ 32768) }
+{
+    let mut disk = written_disk(alloc)?;
+    let mut block = zeros(alloc, 512)?;
+    block[0] = 6;
+    disk.sync()?;
+    disk.write(Block(51), &block)?;
+    crashed(alloc, &image(alloc, 1)?, disk, choice)
+}
+
+#[test]
+fn a_pending_block_without_entry_stands_as_the_stop_leaves_it(rt: HostRuntime) -> Result<(), Fail> {
+    for (choice, first) in [
+        (DiskChoice::AsRead, 6),
+        (DiskChoice::AsSynced, 5),
+        (DiskChoice::Filled(0xab), 0xabab_abab_abab_abab),
+    ] {
+        let found = pending_standing(rt.alloc(), choice)?;
+        assert_eq!(rt; three_of(&found), [8, 6, first], "{choice:?}");
+    }
+    Ok(())
+}
+
+/// Whether a memory is told to be beyond its limits that has this word at a place, and else those of [`image`].
+fn is_beyond(alloc: Global, at: usize, v: u64) -> Result<bool, Fail> {
+    let mut words = image(alloc, 1)?;
+    let mut disk = written_disk(alloc)?;
+    if at < words.len() {
+        words[at] = v;
+    }
+    let found = standing_words(alloc, &words, &mut disk);
+    Ok(matches!(&found, Err(Unread::Beyond)))
+}
+
+#[test]
+fn a_memory_beyond_its_limits_is_refused(rt: HostRuntime) -> Result<(), Fail> {
+    assert!(rt; !is_beyond(rt.alloc(), 531, 16)?); // the last shadow page
+    assert!(rt; is_beyond(rt.alloc(), 531, 17)?);
+    assert!(rt; is_beyond(rt.alloc(), 2, 8_193)?);
+    assert!(rt; is_beyond(rt.alloc(), 2, 8_192)?); // frames would lie behind the last word
     Ok(())
 }
 

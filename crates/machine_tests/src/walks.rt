@@ -3,23 +3,13 @@
 ghost use Rattle.std.specs.Prelude.{◌≡◌, ◌<◌, false, IfOk, length};
 ghost use Rattle.rio_base.specs.ListVolumes.{ListSound, list_seen};
 
+use crate::block_lists::{ALL_WORDS, BLOCKS, put_block, zeros};
 use crate::draws::Draws;
-use crate::plain_blocks::{ALL_WORDS, BLOCK_WORDS, BLOCKS, PlainBlocks, zeros};
+use crate::plain_blocks::PlainBlocks;
 use crate::walk::{WalkEnd, read_all, walk};
 use rio_base::{Block, Blocks, FaultyVolume, ListVolume, Volume};
 use std::alloc::{AllocError, Global};
 use std::test::Fail;
-
-/// Puts the words of a block over those in the list of all words.
-fn put_block(all: &mut [u64], b: Block, words: &[u64])
-    requires all { length all.old ≡ 32768 }
-    requires block { b.0 < 64 }
-    requires words { length words.now ≡ 512 }
-    ensures { length all.new ≡ 32768 }
-{
-    let from = BLOCK_WORDS * b.0 as usize;
-    all[from..from + BLOCK_WORDS].copy_from_slice(words);
-}
 
 /// What stands in a volume: what it reads as when it goes on.
 fn restarted(alloc: Global, v: &mut ListVolume) -> Result<Vec<u64>, AllocError>
