@@ -4,3 +4,4 @@ pub mod Reading
 pub mod TestImages
 pub mod TwoEntries
 pub mod WalkNames
+pub mod WorkedPair

@@ -3,3 +3,4 @@ pub mod Covers
 pub mod Ready
 pub mod TwoEntries
 pub mod Walks
+pub mod WorkedPair
