@@ -1,4 +1,5 @@
 pub mod BlankImages
+pub mod CachePlaces
 pub mod DirtyPages
 pub mod Reading
 pub mod TestImages

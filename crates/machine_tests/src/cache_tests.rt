@@ -15,7 +15,7 @@ use std::test::Fail;
 
 /// Reads the first word of a block of metadata.
 #[tactic(auto, using(crate::proofs::WalkNames::walk_place, crate::proofs::WalkNames::can_touch, crate::proofs::WalkNames::walks_touched))]
-fn read_first<V: Volume>(v: &mut V, b: u32) -> Result<u64, VolFail>
+pub(crate) fn read_first<V: Volume>(v: &mut V, b: u32) -> Result<u64, VolFail>
     requires sound { V.sound v.old }
     requires walks { Walks (V.seen v.old) }
     requires block { b < 40 }

@@ -55,7 +55,8 @@ fn blank_board(
 ) -> Result<MemBoard, AllocError>
     requires sizes { AreImageSizes frames 1 }
     requires disk { length (state_of disk).blocks ≡ 64 }
-    ensures { IfOk result (λ m. IsBlank frames (⟦<Board<ListMem, MemDisk> as Machine>⟧.contents m) (⟦<Board<ListMem, MemDisk> as Machine>⟧.run m)) }
+    ensures blank { IfOk result (λ m. IsBlank frames (⟦<Board<ListMem, MemDisk> as Machine>⟧.contents m) (⟦<Board<ListMem, MemDisk> as Machine>⟧.run m)) }
+    ensures running { IfOk result (λ m. (⟦<Board<ListMem, MemDisk> as Machine>⟧.run m).stopped ≡ false) }
 {
     let words = blank_image(alloc, frames)?;
     Ok(board_on(ListMem::from_words(words), disk, stop_after))
@@ -76,6 +77,7 @@ pub(crate) fn cache_of(
     ensures sound { IfOk result (λ v. ⟦<PageCache<Board<ListMem, MemDisk>> as Blocks>⟧.sound v) }
     ensures walks { IfOk result (λ v. Walks (⟦<PageCache<Board<ListMem, MemDisk>> as Blocks>⟧.seen v)) }
     ensures idle { IfOk result (λ v. (⟦<PageCache<Board<ListMem, MemDisk>> as Volume>⟧.kept v).updating ≡ false) }
+    ensures running { IfOk result (λ v. (⟦<PageCache<Board<ListMem, MemDisk>> as Blocks>⟧.health v).stopped ≡ false) }
 {
     let machine = blank_board(alloc, frames, disk, stop_after)?;
     let tables = CacheTables::new(alloc, frames, BLOCKS)?;

@@ -136,7 +136,7 @@ pub(crate) struct Found {
 }
 
 /// The word at a place, or 0 past the last.
-fn word_in(mem: &ListMem, at: u32) -> u64 {
+pub(crate) fn word_in(mem: &ListMem, at: u32) -> u64 {
     if at < mem.len() {
         mem.load(WordAt(at))
     } else {

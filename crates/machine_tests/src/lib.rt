@@ -36,6 +36,8 @@ mod walk;
 #[cfg(test)]
 mod walks;
 #[cfg(test)]
+mod wild_tests;
+#[cfg(test)]
 mod windows;
 #[cfg(test)]
 mod write_back_tests;

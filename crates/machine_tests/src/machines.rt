@@ -21,6 +21,7 @@ pub(crate) fn board_on(mem: ListMem, disk: MemDisk, stop_after: Option<u64>) -> 
     ensures rest { (⟦<Board<ListMem, MemDisk> as Machine>⟧.run result).scratch ≡ drop (length (words_of mem) - 512) (words_of mem) }
     ensures closed { (⟦<Board<ListMem, MemDisk> as Machine>⟧.contents result).open_page ≡ None }
     ensures disk { (⟦<Board<ListMem, MemDisk> as Machine>⟧.contents result).disk ≡ (state_of disk).blocks }
+    ensures running { (⟦<Board<ListMem, MemDisk> as Machine>⟧.run result).stopped ≡ false }
 {
     Board::new(mem, disk, 1, stop_after)
 }

@@ -1,0 +1,161 @@
+//! Tests of wild stores on the memory of a page cache, now and armed to fall within a call. The cache has 32 frames, so
+//! that memory has 51 pages, of which the last is scratch.
+
+ghost use Rattle.std.specs.Prelude.{◌≡◌, ◌<◌, false, IfOk};
+ghost use Rattle.machine_tests.specs.Walks.{Walks};
+
+use crate::block_lists::{BLOCK_WORDS, BLOCKS};
+use crate::cache_tests::read_first;
+use crate::cache_walks::cache_of;
+use crate::cached::word_in;
+use crate::crashes::crashed;
+use crate::machines::MemBoard;
+use block_disk::{DiskChoice, MemDisk};
+use board::Board;
+use page_cache::PageCache;
+use phys_memory::ListMem;
+use rio_base::{Block, Blocks, Machine, VolFail, Volume, Wild, WordAt};
+use std::alloc::Global;
+use std::test::Fail;
+
+/// The first word of frame 3, and that of the scratch page.
+const IN_FRAME: WordAt = WordAt(10_752);
+
+const IN_SCRATCH: WordAt = WordAt(25_600);
+
+/// A cache with no block in it.
+fn cache(alloc: Global) -> Result<PageCache<MemBoard>, Fail>
+    ensures sound { IfOk result (λ v. ⟦<PageCache<Board<ListMem, MemDisk>> as Blocks>⟧.sound v) }
+    ensures walks { IfOk result (λ v. Walks (⟦<PageCache<Board<ListMem, MemDisk>> as Blocks>⟧.seen v)) }
+    ensures idle { IfOk result (λ v. (⟦<PageCache<Board<ListMem, MemDisk>> as Volume>⟧.kept v).updating ≡ false) }
+    ensures running { IfOk result (λ v. (⟦<PageCache<Board<ListMem, MemDisk>> as Blocks>⟧.health v).stopped ≡ false) }
+{
+    let disk = MemDisk::new(alloc, BLOCKS)?;
+    Ok(cache_of(alloc, 32, disk, None)?)
+}
+
+#[test]
+fn a_cache_tells_its_blocks_and_pages(rt: HostRuntime) -> Result<(), Fail> {
+    let v = cache(rt.alloc())?;
+    assert_eq!(rt; v.volume_blocks(), 64);
+    assert_eq!(rt; v.machine().pages(), 51);
+    let (_, _) = v.into_machine().into_parts();
+    Ok(())
+}
+
+/// A wild store of 9 now, to a place that every memory under a cache has.
+fn strike<M: Machine>(v: &mut PageCache<M>, at: WordAt) -> Wild
+    requires sound { ⟦<PageCache<M> as Blocks>⟧.sound v.old }
+    requires walks { Walks (⟦<PageCache<M> as Blocks>⟧.seen v.old) }
+    requires running { (⟦<PageCache<M> as Blocks>⟧.health v.old).stopped ≡ false }
+    requires place { at.0 < 26112 }
+    ensures sound { ⟦<PageCache<M> as Blocks>⟧.sound v.new }
+    ensures walks { Walks (⟦<PageCache<M> as Blocks>⟧.seen v.new) }
+{
+    v.wild(at, 9)
+}
+
+/// Arms such a store, to fall after the first step of a call.
+fn arm<M: Machine>(v: &mut PageCache<M>, at: WordAt)
+    requires sound { ⟦<PageCache<M> as Blocks>⟧.sound v.old }
+    requires walks { Walks (⟦<PageCache<M> as Blocks>⟧.seen v.old) }
+    requires idle { (⟦<PageCache<M> as Volume>⟧.kept v.old).updating ≡ false }
+    requires place { at.0 < 26112 }
+    ensures sound { ⟦<PageCache<M> as Blocks>⟧.sound v.new }
+    ensures walks { Walks (⟦<PageCache<M> as Blocks>⟧.seen v.new) }
+    ensures idle { (⟦<PageCache<M> as Volume>⟧.kept v.new).updating ≡ false }
+{
+    v.arm(1, at, 9);
+}
+
+/// What a wild store of 9 to a place meets, what block 5 then reads as, and the word at the place.
+fn after_wild(alloc: Global, at: WordAt) -> Result<(Wild, Result<u64, VolFail>, u64), Fail>
+    requires { at.0 < 26112 }
+{
+    let mut v = cache(alloc)?;
+    let met = strike(&mut v, at);
+    let read = read_first(&mut v, 5);
+    let (mem, _) = v.into_machine().into_parts();
+    Ok((met, read, word_in(&mem, at.0)))
+}
+
+#[test]
+fn a_wild_store_on_a_frame_stops_the_cache(rt: HostRuntime) -> Result<(), Fail> {
+    let found = after_wild(rt.alloc(), IN_FRAME)?;
+    assert_eq!(rt; found, (Wild::Trapped, Err(VolFail::Stopped), 0));
+    Ok(())
+}
+
+#[test]
+fn a_wild_store_on_scratch_leaves_the_cache(rt: HostRuntime) -> Result<(), Fail> {
+    let found = after_wild(rt.alloc(), IN_SCRATCH)?;
+    assert_eq!(rt; found, (Wild::Changed, Ok(0), 9));
+    Ok(())
+}
+
+/// Stores 7 as the first word of block 5.
+#[tactic(auto, using(crate::proofs::WalkNames::walk_place, crate::proofs::WalkNames::can_touch))]
+fn store_first<V: Volume>(v: &mut V) -> Result<(), VolFail>
+    requires sound { V.sound v.old }
+    requires walks { Walks (V.seen v.old) }
+    requires idle { (V.kept v.old).updating ≡ false }
+    ensures sound { V.sound v.new }
+{
+    v.store(Block(5), None, 0, 7)
+}
+
+/// What is found of a store of 7 to block 5, while a wild store of 9 is armed to fall after its first step.
+#[derive(Clone, Copy, Debug, PartialEq, Eq)]
+struct Armed {
+    end: Result<(), VolFail>,
+    /// Where the wild store trapped.
+    trapped: Option<WordAt>,
+    /// The word at the place of the wild store.
+    word: u64,
+    /// The first word of block 5 that stands.
+    stands: u64,
+}
+
+/// Makes the two stores, the wild one to this place.
+fn after_armed(alloc: Global, at: WordAt) -> Result<Armed, Fail>
+    requires { at.0 < 26112 }
+{
+    let mut v = cache(alloc)?;
+    arm(&mut v, at);
+    let end = store_first(&mut v);
+    let machine = v.into_machine();
+    let trapped = machine.trapped();
+    let (mem, disk) = machine.into_parts();
+    let word = word_in(&mem, at.0);
+    let found = crashed(alloc, &mem.into_words(), disk, DiskChoice::AsSynced)?;
+    Ok(Armed {
+        end,
+        trapped,
+        word,
+        stands: found[BLOCK_WORDS * 5],
+    })
+}
+
+#[test]
+fn an_armed_store_on_a_frame_stops_the_call(rt: HostRuntime) -> Result<(), Fail> {
+    let stopped = Armed {
+        end: Err(VolFail::Stopped),
+        trapped: Some(IN_FRAME),
+        word: 0,
+        stands: 0,
+    };
+    assert_eq!(rt; after_armed(rt.alloc(), IN_FRAME)?, stopped);
+    Ok(())
+}
+
+#[test]
+fn an_armed_store_on_scratch_leaves_the_call(rt: HostRuntime) -> Result<(), Fail> {
+    let done = Armed {
+        end: Ok(()),
+        trapped: None,
+        word: 9,
+        stands: 7,
+    };
+    assert_eq!(rt; after_armed(rt.alloc(), IN_SCRATCH)?, done);
+    Ok(())
+}
