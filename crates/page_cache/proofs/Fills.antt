@@ -99,9 +99,3 @@ layout_now c scratch s = layout_is c scratch s
 
 pub keeps_faults : (old new : Contents) (f : FaultCount) → new ≡ record old { faults = f } → Keeps old new
 keeps_faults old new f e = keeps_marks old new (ap (λ (m : Contents). m.words) e) (ap (λ (m : Contents). m.disk) e) (λ b p. sym (ap (λ (m : Contents). is_pending m.pending b) e) ∙ p)
-
-pub one_page_same : (p : ℕ) (old new : List ℕ) → new ≡ old → OnePage p old new
-one_page_same p old new e = rw e (record { count = refl; below = λ i less. refl; above = λ i more. refl })
-
-pub one_page_put : (p q w v : ℕ) (c d : Contents) → d ≡ record c { words = slice_set c.words (512 * q + w) v } → q ≡ p → w < 512 → OnePage p c.words d.words
-one_page_put p q w v c d e same small = subst (λ x. OnePage x c.words d.words) same (subst (λ ws. OnePage q c.words ws) (sym (ap (λ (m : Contents). m.words) e)) (one_page_set c.words q w v small))

@@ -40,11 +40,3 @@ copied_run k b w n p old new lent into h found page fits is copy = record {
   each = λ i less.
       ap (λ (xs : List ℕ). slice_index xs i) copy ∙ get_or-take n (drop w lent) i 0 less ∙ get_or-drop w lent i 0 ∙ ap (λ (xs : List ℕ). slice_index xs (w + i)) is ∙ page_word k b (w + i) p new found (omega (arith, fits, less)) page ∙ ap (λ (f : BlockWords). f b (w + i)) h.reads;
 }
-
--- a block of the open update is cached
-pub touched_cached : (words : List ℕ) (b : ℕ) → is_touched words b ≡ true → entry_of_block words b ≡ None → ⊥
-touched_cached words b e none = true_false (sym e ∙ ap (λ o. (gate_of words == 1) && has_shadow words o) none ∙ and_false (gate_of words == 1))
-  where
-    and_false : (a : Bool) → (a && false) ≡ false
-    and_false true = refl
-    and_false false = refl

@@ -62,9 +62,6 @@ sound_marked b n mark c t u s m = subst (CacheSound c n) (sym m.rest) (record {
 pub can_clear : (b k : ℕ) (c : Contents) (r : Running) (t : CacheTables) → CacheSound c (length r.scratch) t → entry_of_block c.words b ≡ Some k → CanChange k c r
 can_clear b k c r t s found = can_change k c r t s (found_is c.words b k found).0.within
 
-cleared_tag : (k : ℕ) (old new : List ℕ) → entry_of new k ≡ record (entry_of old k) { tag = 0 } → tag_at new k ≡ 0
-cleared_tag k old new e = ap (λ (x : Entry). x.tag) e
-
 pub cleared_frees : (n k b : ℕ) (old new : Contents) → Coherent old n → new ≡ record old { words = new.words } → OneEntry k old.words new.words → tag_at new.words k ≡ 0 → entry_of_block old.words b ≡ Some k → Frees b old new
 cleared_frees n k b old new s0 rest one tag found = record {
   others = record {

@@ -31,43 +31,9 @@ shut_unpinned n k c t s shut = from (cases_Bool (is_pinned t.pool k))
 pub pins_refl : (t : CacheTables) → SameButPins t t
 pins_refl t = record { frames = refl; blocks = refl; held = λ k. refl; forgotten = refl; buffer = refl; first = refl; room = refl }
 
-pub pins_trans : (a b c : CacheTables) → SameButPins a b → SameButPins b c → SameButPins a c
-pins_trans a b c h k = record {
-  frames = k.frames ∙ h.frames;
-  blocks = k.blocks ∙ h.blocks;
-  held = λ j. k.held j ∙ h.held j;
-  forgotten = k.forgotten ∙ h.forgotten;
-  buffer = k.buffer ∙ h.buffer;
-  first = k.first ∙ h.first;
-  room = k.room ∙ h.room;
-}
-
 -- frame k is one of those that were given a shadow, from place i on
 pub record ListedFrom (t : CacheTables) (i k : ℕ) : Type 0 where
   pub place : ℕ
   pub from : i ≤ place
   pub within : place < t.shadows
   pub here : slice_index t.shadowed place ≡ k
-
-pub listed_first : (t : CacheTables) (k : ℕ) → IsListed t k → ListedFrom t 0 k
-listed_first t k h = record { place = h.place; from = omega arith; within = h.within; here = h.here }
-
--- the frame at place i was unpinned
-pub unpinned_next : (a t u : CacheTables) (i k : ℕ) → ((j : ℕ) → is_pinned t.pool j ≡ true → ListedFrom a i j) → is_pinned u.pool (slice_index a.shadowed i) ≡ false → ((j : ℕ) → j ≢ slice_index a.shadowed i → is_pinned u.pool j ≡ is_pinned t.pool j) → is_pinned u.pool k ≡ true → ListedFrom a (i + 1) k
-unpinned_next a t u i k before gone others e = at (cases_eq k (slice_index a.shadowed i))
-  where
-    at : (k ≡ slice_index a.shadowed i) ⊎ (k ≢ slice_index a.shadowed i) → ListedFrom a (i + 1) k
-    at (inl q) = absurd (true_false (sym e ∙ ap (is_pinned u.pool) q ∙ gone))
-    at (inr ne) = let was = before k (sym (others k ne) ∙ e) in later was (cases_eq was.place i)
-      where
-        later : (was : ListedFrom a i k) → (was.place ≡ i) ⊎ (was.place ≢ i) → ListedFrom a (i + 1) k
-        later was (inl q) = absurd (ne (sym was.here ∙ ap (slice_index a.shadowed) q))
-        later was (inr m) = record { place = was.place; from = omega (arith, was.from, m); within = was.within; here = was.here }
-
--- all were
-pub unpinned_all : (a t : CacheTables) (i k : ℕ) → ((j : ℕ) → is_pinned t.pool j ≡ true → ListedFrom a i j) → a.shadows ≤ i → is_pinned t.pool k ≡ false
-unpinned_all a t i k left past = at (cases_Bool (is_pinned t.pool k))
-  where
-    at : (is_pinned t.pool k ≡ true) ⊎ (is_pinned t.pool k ≡ false) → is_pinned t.pool k ≡ false
-    at (inl e) = let l = left k e in absurd (omega (arith, l.from, l.within, past))
-    at (inr e) = e

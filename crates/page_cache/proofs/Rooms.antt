@@ -28,9 +28,6 @@ use Rattle.page_cache.proofs.Touched.{touches_entries, touches_one}
 
 -- ---- names of entries
 
-pub narrows_held : (k : ℕ) (old new : List ℕ) → OneEntry k old new → HeldEntry k old new → Narrows old new
-narrows_held k old new one h = narrows_cached old new (cached_held k old new one h)
-
 pub narrows_gone : (k n : ℕ) (c : Contents) (new : List ℕ) → Coherent c n → OneEntry k c.words new → tag_at new k ≡ 0 → Narrows c.words new
 narrows_gone k n c new s one gone = record { found = λ b j e. from b j e (found_is new b j e) }
   where
@@ -67,10 +64,6 @@ kept_bare k n m old new t s h l same closed one held bare = kept_at k n m old ne
     from : IsBare old.words k → gate_of old.words ≡ 1 → shadow_at old.words k ≢ 0 → ⊥
     from (inl shut) is some = shut is
     from (inr none) is some = some none
-
-bare_held : (k : ℕ) (old new : List ℕ) → gate_of new ≡ gate_of old → HeldEntry k old new → IsBare old k → IsBare new k
-bare_held k old new gate held (inl shut) = inl (λ e. shut (sym gate ∙ e))
-bare_held k old new gate held (inr none) = inr (held.shadow ∙ none)
 
 -- the open update is as before: entry k, which is no part of it, went
 pub touches_evicted : (k n : ℕ) (old new : Contents) → Coherent old n → Keeps old new → OneEntry k old.words new.words → IsBare old.words k → tag_at new.words k ≡ 0 → SameTouches old.words new.words
@@ -159,10 +152,6 @@ filled_sound k n m old mid new t u s h i l p same closed e one stay frames =
 pub read_sound : (n m : ℕ) (old new : Contents) (t u : CacheTables) → CacheSound old n t → Keeps old new → Lasts old new → m ≡ n → new.open_page ≡ None → new.words ≡ old.words → TablesStay t u → ((j : ℕ) → block_of u.pool j ≡ block_of t.pool j) → CacheSound new m u
 read_sound n m old new t u s h l same closed e stay frames =
     same_tags n m old new t u s (coherent_on new n m same (h.coherent n s.coherent)) (sizes_keep old new h l) closed (record { count = ap (λ (ws : List ℕ). length ws) e; each = λ i less. ap (λ (ws : List ℕ). slice_index ws i) e }) stay frames
-
--- a frame was used
-pub used_sound : (n : ℕ) (c : Contents) (t u : CacheTables) → CacheSound c n t → TablesStay t u → ((j : ℕ) → block_of u.pool j ≡ block_of t.pool j) → CacheSound c n u
-used_sound n c t u s stay frames = same_tags n n c c t u s s.coherent (record { frames = refl; gate = refl; disk = refl }) s.closed (record { count = refl; each = λ i less. refl }) stay frames
 
 -- an entry that isn't valid got other words but the tag
 pub begun_sound : (k n m : ℕ) (old new : Contents) (t : CacheTables) → CacheSound old n t → Keeps old new → Lasts old new → m ≡ n → new.open_page ≡ None → OneEntry k old.words new.words → is_valid (tag_at old.words k) ≡ false → tag_at new.words k ≡ tag_at old.words k → CacheSound new m t

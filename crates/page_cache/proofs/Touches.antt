@@ -23,9 +23,6 @@ use Rattle.page_cache.proofs.Updates.{blocks_named, sound_with, valid_before}
 
 -- ---- an entry gets the next shadow
 
-pub next_free : (n : ℕ) (c : Contents) (t : CacheTables) → CacheSound c n t → (j : ℕ) → IsValid c.words j → shadow_at c.words j ≢ t.shadows + 1
-next_free n c t s j v e = absurd (omega (arith, e, (s.shadows j v (λ z. absurd (omega (arith, z, e)))).0))
-
 pub shadow_kept : (k : ℕ) (old new : List ℕ) → ((j : ℕ) → j ≢ k → j < frames_of old → shadow_at new j ≡ shadow_at old j) → shadow_at new k ≡ shadow_at old k → (j : ℕ) → j < frames_of old → shadow_at new j ≡ shadow_at old j
 shadow_kept k old new others same j less = from (cases_eq j k)
   where
@@ -84,17 +81,10 @@ pages_held k old new one held = record { frames = frames_one k old new one; foun
 pub pages_named : (old new : List ℕ) → SameNames old new → SamePages old new
 pages_named old new names = record { frames = names.frames; found = λ b. found_named old new b names; named = λ k less. name_same old new k names less }
 
-pub pages_refl : (words : List ℕ) → SamePages words words
-pages_refl words = record { frames = refl; found = λ b. refl; named = λ k less. refl }
-
 pub pages_trans : (a b c : List ℕ) → SamePages a b → SamePages b c → SamePages a c
 pages_trans a b c h i = record { frames = i.frames ∙ h.frames; found = λ x. i.found x ∙ h.found x; named = λ k less. i.named k (subst (λ f. k < f) (sym h.frames) less) ∙ h.named k less }
 
 -- ---- a frame gets a shadow
-
--- it has one
-pub gives_none : (k : ℕ) (words : List ℕ) (t : CacheTables) → shadow_at words k ≢ 0 → GivesShadow k words words t t
-gives_none k words t some = record { some = some; others = λ j ne less. refl; count = rw (ne_eqb (shadow_at words k) 0 some) refl }
 
 -- it is dirty first, and then gets one
 pub gives_next : (k : ℕ) (a b c : List ℕ) (t u : CacheTables) → OneEntry k a b → HeldEntry k a b → shadow_at a k ≡ 0 → shadow_at c k ≢ 0 → ((j : ℕ) → j ≢ k → j < frames_of b → shadow_at c j ≡ shadow_at b j) → u.shadows ≡ t.shadows + 1 → GivesShadow k a c t u
@@ -106,32 +96,8 @@ gives_next k a b c t u one held bare some others count = record {
 
 -- ---- the whole of it
 
-some_none : (x : PageName) → Some x ≡ None → ⊥
-some_none x e = cc
-
 name_by : Bool → ℕ → ℕ → ℕ → Option PageName
 name_by named file index size = if named then Some (record { file = record { 0 = file }; index = index; size = size }) else None
-
-data_by : (d : Bool) (f i s : ℕ) → name_by d f i s ≡ None → d ≡ false
-unfolding name_by
-data_by false f i s e = refl
-data_by true f i s e = absurd (some_none (record { file = record { 0 = f }; index = i; size = s }) e)
-
-pub data_none : (words : List ℕ) (k : ℕ) → name_in words (Some k) ≡ None → is_data (tag_at words k) ≡ false
-unfolding name_by
-data_none words k e = data_by (is_data (tag_at words k)) (file_at words k) (index_at words k) (size_at words k) e
-
-page_none : (o : Option PageName) → SamePage o None → o ≡ None
-page_none None h = refl
-page_none (Some a) h = absurd h
-
--- a block that may be asked for as metadata has an entry of metadata, once it is fetched
-pub metadata_of : (b k : ℕ) (old new : Contents) → CanName (cache_seen old) b None → Adds b None old.words new.words → entry_of_block new.words b ≡ Some k → is_data (tag_at new.words k) ≡ false
-metadata_of b k old new can adds found = from (adds.named k found)
-  where
-    from : ((entry_of_block old.words b ≡ Some k) × (name_in new.words (Some k) ≡ name_in old.words (Some k))) ⊎ (name_in new.words (Some k) ≡ None) → is_data (tag_at new.words k) ≡ false
-    from (inl was) = data_none new.words k (was.1 ∙ ap (name_in old.words) (sym was.0) ∙ page_none (name_in old.words (entry_of_block old.words b)) (can.agrees (ap is_some was.0)))
-    from (inr none) = data_none new.words k none
 
 is_touched_at : (words : List ℕ) (b k : ℕ) → gate_of words ≡ 1 → entry_of_block words b ≡ Some k → is_touched words b ≡ not (shadow_at words k == 0)
 is_touched_at words b k is found = rw (eq-eqb _ _ is) (ap (has_shadow words) found)
@@ -183,15 +149,6 @@ touches_after b k old mid new t u v is h i touches tables pages gives found = re
 
     now : gate_of new.words ≡ 1
     now = i.header 4 (omega arith) ∙ was
-
--- a block was fetched, or not: the update is as before
-pub fetched_update : (old new : Contents) (t u : CacheTables) → Keeps old new → SameTouches old.words new.words → SameTables t u → SameUpdate (cache_kept old t) (cache_kept new u)
-fetched_update old new t u h touches tables = record {
-  updating = ap (λ g. g == 1) (h.header 4 (omega arith));
-  begun = h.stands;
-  touched = touches.touched;
-  touches = rw (h.header 4 (omega arith), tables.shadows) refl;
-}
 
 pub adds_pages : (b : ℕ) (name : Option PageName) (a c d : List ℕ) → Adds b name a c → SamePages c d → Adds b name a d
 adds_pages b name a c d h i = record {

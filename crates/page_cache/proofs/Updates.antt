@@ -111,23 +111,10 @@ sound_shut n m old new t u s same coherent rest closed names loses shut pins cou
 pub sound_same : (n m : ℕ) (old new : Contents) (t : CacheTables) → CacheSound old n t → m ≡ n → (Coherent old n → Coherent new n) → new ≡ record old { words = new.words } → new.open_page ≡ None → SameNames old.words new.words → SameShadows old.words new.words → gate_of new.words ≡ gate_of old.words → CacheSound new m t
 sound_same n m old new t s same coherent rest closed names shadows gate = sound_with n m old new t t s (coherent_on new n m same (coherent s.coherent)) closed (disk_of old new rest) names.frames (blocks_named old.words new.words names) (pins_refl t) (fit_same old.words new.words t (fit_of n old t s) names shadows gate)
 
--- the machine is as before
-pub sound_still : (n m : ℕ) (old new : Contents) (t : CacheTables) → CacheSound old n t → m ≡ n → new ≡ old → CacheSound new m t
-sound_still n m old new t s same e = subst (λ c. CacheSound c m t) (sym e) (subst (λ x. CacheSound old x t) (sym same) s)
-
 pub sound_begun : (n m : ℕ) (old new : Contents) (t u : CacheTables) → CacheSound old n t → m ≡ n → (Coherent old n → Coherent new n) → new ≡ record old { words = new.words } → new.open_page ≡ None → SameNames old.words new.words → AreBare new.words → SameButPins t u → u.shadows ≡ 0 → ((k : ℕ) → is_pinned u.pool k ≡ false) → CacheSound new m u
 sound_begun n m old new t u s same coherent rest closed names bare pins count none = sound_with n m old new t u s (coherent_on new n m same (coherent s.coherent)) closed (disk_of old new rest) names.frames (blocks_named old.words new.words names) pins (fit_begun new.words u bare count none)
 
 -- ---- the list of shadows
-
-pub listed_entries : (n : ℕ) (c : Contents) (t : CacheTables) (list : List ℕ) → CacheSound c n t → length list ≡ t.shadows → ((i : ℕ) → i < t.shadows → slice_index list i ≡ slice_index t.shadowed i) → AreEntries c.words list
-listed_entries n c t list s count each = λ i less. let small = subst (λ m. i < m) count less in subst (λ k. k < frames_of c.words) (sym (each i small)) (s.listed i small)
-
-pub lists_shadows : (n : ℕ) (c : Contents) (t : CacheTables) (list : List ℕ) → CacheSound c n t → length list ≡ t.shadows → ((i : ℕ) → i < t.shadows → slice_index list i ≡ slice_index t.shadowed i) → ListsShadows c.words list
-lists_shadows n c t list s count each = λ k v some.
-    let r = s.shadows k v some in
-    let less : shadow_at c.words k - 1 < t.shadows = omega (arith, r.0, some) in
-    (shadow_at c.words k - 1, subst (λ m. shadow_at c.words k - 1 < m) (sym count) less, each (shadow_at c.words k - 1) less ∙ r.1)
 
 -- ---- what a reader sees, and what stands
 
@@ -142,9 +129,6 @@ drops_named old new names = record {
       let was = (narrows_same old.words new.words names).found b k.0 k.1 in
       (ap is_some was.0, ap (name_in new.words) k.1 ∙ was.1 ∙ sym (ap (name_in old.words) was.0));
 }
-
-pub looks_reads : (old new : Contents) → new ≡ record old { words = new.words } → reads new ≡ reads old → Looks (cache_seen old) (cache_seen new)
-looks_reads old new rest e = record { count = disk_of old new rest; words = e; base = refl }
 
 bare_touch : (words : List ℕ) (o : Option ℕ) → ((k : ℕ) → o ≡ Some k → shadow_at words k ≡ 0) → has_shadow words o ≡ false
 bare_touch words None h = refl
@@ -164,9 +148,6 @@ begun_of old new t u h count = record {
 
 pub shut_zero : (words : List ℕ) → gate_of words ≡ 0 → gate_of words ≢ 1
 shut_zero words e one = absurd (omega (arith, e, one))
-
-pub not_updating : (words : List ℕ) → gate_of words ≡ 0 → (gate_of words == 1) ≡ false
-not_updating words e = ap (λ g. g == 1) e
 
 pub same_loses : (old new : List ℕ) → SameShadows old new → LosesShadows old new
 same_loses old new h k less = inl (h k less)

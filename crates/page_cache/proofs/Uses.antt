@@ -40,9 +40,6 @@ leaves_frame k t old new oldest h = record { left = λ c j e none. oldest ∙ ap
 
 -- ---- blocks that stay
 
-pub stay_refl : (words : List ℕ) → AllStay words words
-stay_refl words = record { stay = λ c k e. e }
-
 pub stay_trans : (a b c : List ℕ) → AllStay a b → AllStay b c → AllStay a c
 stay_trans a b c h i = record { stay = λ x k e. i.stay x k (h.stay x k e) }
 
