@@ -1,5 +1,5 @@
 -- A frame is filled and becomes a block's.
-use Rattle.std.specs.Prelude.{◌≡◌, ℕ, ◌+◌, ◌*◌, ◌%◌, ◌^◌, ◌<◌, ◌≤◌, Bool, true, false, List, length, slice_set, Option, Some, None, refl}
+use Rattle.std.specs.Prelude.{◌≡◌, ℕ, ◌*◌, ◌%◌, ◌^◌, ◌<◌, ◌≤◌, Bool, true, false, List, length, Option, Some, None, refl}
 use Rattle.std.proofs.Common.{◌∙◌, ap, sym, subst, arith}
 use Rattle.std.proofs.lemmas.Bool.{eq-eqb, ne_eqb}
 use Rattle.rio_base.specs.declared.places.PageName.{PageName}
@@ -11,7 +11,7 @@ use Rattle.rio_base.specs.Rules.{true_false}
 use Rattle.rio_model.specs.Registry.{HasLayout, KeepsMetadata, KeepsName, KeepsShadow, KeepsSize, KeepsTag, OneEntry, frames_of, is_data, is_dirty, is_valid, tag_at, tag_block, tag_of}
 use Rattle.registry.specs.Entries.{IsFree, entry_of, new_entry}
 use Rattle.registry.specs.declared.entry.Entry.{Entry}
-use Rattle.rio_model.specs.CoverChanges.{OnePage, one_page_set, same_entries, tag_same}
+use Rattle.rio_model.specs.CoverChanges.{OnePage, same_entries, tag_same}
 use Rattle.rio_model.specs.Cover.{Keeps, Coherent, frame_page}
 use Rattle.rio_model.specs.CoverFills.{Made, frame_past}
 use Rattle.rio_model.specs.CoverSteps.{keeps_marks, layout_is}

@@ -1,16 +1,15 @@
 -- Words of a block's frame, as they are read.
-use Rattle.std.specs.Prelude.{◌≡◌, ℕ, ◌+◌, ◌*◌, ◌<◌, ◌≤◌, ◌==◌, ◌&&◌, Bool, true, false, List, length, slice_index, take, drop, Some, None, refl}
+use Rattle.std.specs.Prelude.{◌≡◌, ℕ, ◌+◌, ◌*◌, ◌<◌, ◌≤◌, List, length, slice_index, take, drop, Some}
 use Rattle.std.proofs.Common.{◌∙◌, ap, sym, subst, arith}
 use Rattle.std.proofs.lemmas.List.{get_or-take, get_or-drop, length-drop, length-take-le}
 use Rattle.rio_base.specs.Blocks.{BlockWords, IsRun}
 use Rattle.rio_base.specs.Machine.{Contents}
 use Rattle.rio_base.specs.Memory.{page_at}
-use Rattle.rio_base.specs.Rules.{true_false}
-use Rattle.rio_model.specs.Registry.{frames_of, gate_of}
+use Rattle.rio_model.specs.Registry.{frames_of}
 use Rattle.rio_model.specs.Cover.{Keeps, entry_of_block, frame_page, reads}
 use Rattle.rio_model.specs.CoverLookups.{cover_at}
 use Rattle.page_cache.specs.declared.tables.CacheTables.{CacheTables}
-use Rattle.page_cache.specs.Caches.{CacheSound, has_shadow, is_touched}
+use Rattle.page_cache.specs.Caches.{CacheSound}
 
 -- where frame k lies
 pub page_is : (k n : ℕ) (c : Contents) (t : CacheTables) → CacheSound c n t → t.first_frame + k ≡ frame_page c.words k

@@ -1,5 +1,5 @@
 -- A block's entry is cleared without a write, and a block is marked as forgotten.
-use Rattle.std.specs.Prelude.{◌≡◌, ◌≢◌, ℕ, ◌<◌, ◌==◌, ◌||◌, Bool, true, false, if◌then◌else◌, ◌⊎◌, List, length, slice_index_or, slice_set, Some, None, Result, Ok, Err, IsErr, refl}
+use Rattle.std.specs.Prelude.{◌≡◌, ◌≢◌, ℕ, ◌<◌, ◌==◌, ◌||◌, Bool, true, false, if◌then◌else◌, ◌⊎◌, length, slice_index_or, slice_set, Some, None, Result, Ok, Err, IsErr, refl}
 use Rattle.std.proofs.Common.{◌∙◌, ap, sym, subst, inl, inr, arith, get_or-set_same, get_or-set_other}
 use Rattle.std.proofs.lemmas.Bool.{cases_Bool}
 use Rattle.std.proofs.lemmas.List.{length-set}
@@ -16,8 +16,6 @@ use Rattle.rio_model.specs.CoverLookups.{cover_same, found_is, header_one, tag_o
 use Rattle.rio_model.specs.CoverChanges.{found_cleared, found_other, frame_word_one}
 use Rattle.rio_model.specs.CoverSteps.{coherent_on, coherent_one, dirty_of, dirty_some, disk_same, loose_from, loose_parts, pending_same}
 use Rattle.registry.specs.Changes.{CanChange}
-use Rattle.registry.specs.Entries.{entry_of}
-use Rattle.registry.specs.declared.entry.Entry.{Entry}
 use Rattle.frame_pool.specs.Pools.{block_of, is_pinned}
 use Rattle.page_cache.specs.declared.tables.CacheTables.{CacheTables}
 use Rattle.page_cache.specs.Caches.{CacheSound, FewWrites, SameTables, cache_below, cache_health, cache_kept, was_forgotten}

@@ -23,7 +23,7 @@ use Rattle.page_cache.specs.declared.tables.CacheTables.{CacheTables}
 use Rattle.page_cache.specs.Caches.{Adds, CacheSound, FewWrites, SameTables, SameTouches, cache_below, cache_health, cache_kept, cache_seen, was_forgotten}
 use Rattle.page_cache.proofs.Goes.{goes_few}
 use Rattle.page_cache.proofs.Kept.{SameSizes, TablesStay, bound_held, bound_one, bound_tags, shadows_entries, shadows_gone, shadows_held, sizes_keep, sound_stays, tables_same}
-use Rattle.page_cache.proofs.Stores.{cached_entries, cached_held, name_other, narrows_cached}
+use Rattle.page_cache.proofs.Stores.{cached_entries, name_other, narrows_cached}
 use Rattle.page_cache.proofs.Touched.{touches_entries, touches_one}
 
 -- ---- names of entries
