@@ -5,8 +5,6 @@ use Rattle.undo_list.specs.declared.failures.UndoFail.{UndoFail}
 use Rattle.undo_list.specs.declared.failures.UndoFail.TheVariants.{Full as ListFull, Fault as ListFault, Stopped as ListStopped}
 use Rattle.recov_alloc.specs.declared.failures.HeapFail.{HeapFail}
 use Rattle.recov_alloc.specs.declared.failures.HeapFail.TheVariants.{UndoFull, Fault, Stopped}
-use Rattle.recov_alloc.specs.declared.failures.ReadFail.{ReadFail}
-use Rattle.recov_alloc.specs.declared.failures.ReadFail.TheVariants.{Fault as ReadFault, Stopped as ReadStopped}
 
 abbrev pub handed : VolFail → HeapFail
 handed WordFault = Fault
@@ -16,7 +14,3 @@ abbrev pub undo_handed : UndoFail → HeapFail
 undo_handed ListFull = UndoFull
 undo_handed ListFault = Fault
 undo_handed ListStopped = Stopped
-
-abbrev pub read_handed : VolFail → ReadFail
-read_handed WordFault = ReadFault
-read_handed WordStopped = ReadStopped

@@ -1,10 +1,9 @@
 //! Why a call on a region's heap failed.
 
 ghost use Rattle.std.specs.Prelude.{◌≡◌};
-ghost use Rattle.recov_alloc.specs.Failures.{handed, read_handed, undo_handed};
+ghost use Rattle.recov_alloc.specs.Failures.{handed, undo_handed};
 
 use rio_base::VolFail;
-use std::alloc::AllocFailed;
 use thiserror::Error;
 use undo_list::UndoFail;
 
@@ -48,40 +47,5 @@ impl From<UndoFail> for HeapFail {
             UndoFail::Fault => HeapFail::Fault,
             UndoFail::Stopped => HeapFail::Stopped,
         }
-    }
-}
-
-/// Why nothing was read.
-#[derive(Clone, Copy, Debug, PartialEq, Eq, Error)]
-pub enum ReadFail {
-    /// The disk failed in this call.
-    #[error("the disk failed")]
-    Fault,
-    /// The machine is stopped.
-    #[error("the machine is stopped")]
-    Stopped,
-    /// No memory was left for the answer.
-    #[error("out of memory")]
-    Memory,
-}
-
-impl From<VolFail> for ReadFail {
-    ghost from_gives = { λ fail made. made ≡ read_handed fail };
-
-    fn from(fail: VolFail) -> ReadFail {
-        match fail {
-            VolFail::Fault => ReadFail::Fault,
-            VolFail::Stopped => ReadFail::Stopped,
-        }
-    }
-}
-
-impl<T: Drop> From<AllocFailed<T>> for ReadFail {
-    ghost use Rattle.recov_alloc.specs.declared.failures.ReadFail.TheVariants.{Memory as NoMemory};
-
-    ghost from_gives = { λ fail made. made ≡ NoMemory };
-
-    fn from(_fail: AllocFailed<T>) -> ReadFail {
-        ReadFail::Memory
     }
 }

@@ -22,5 +22,5 @@ mod marking;
 mod plain_heap;
 
 pub use allocating::{allocate, release};
-pub use failures::{HeapFail, ReadFail};
+pub use failures::HeapFail;
 pub use listing::blocks;

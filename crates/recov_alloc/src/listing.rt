@@ -8,8 +8,7 @@ ghost use Rattle.rio_model.specs.Heap.{OfBlocks, heap_blocks, units_of};
 
 use crate::bits::zeros_from;
 use crate::extents::block_units;
-use crate::failures::ReadFail;
-use rio_base::{HeapList, RegionWords};
+use rio_base::{HeapList, ReadFail, RegionWords};
 use std::alloc::Global;
 use undo_list::{data_pages, word_at};
 

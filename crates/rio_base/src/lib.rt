@@ -30,7 +30,7 @@ mod word_lists;
 
 pub use blocks::Blocks;
 pub use disk_blocks::DiskBlocks;
-pub use failures::{DiskFail, Failed, RunFail, Stopped, VolFail};
+pub use failures::{DiskFail, Failed, ReadFail, RunFail, Stopped, VolFail};
 pub use faulty_volume::FaultyVolume;
 pub use host::Host;
 pub use list_region::ListRegion;
