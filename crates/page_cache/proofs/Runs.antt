@@ -10,7 +10,7 @@ use Rattle.rio_base.specs.Volume.{put, put_run}
 use Rattle.rio_model.specs.Registry.{IsValid, frames_of, is_dirty, page_of_entry, tag_at}
 use Rattle.rio_model.specs.Cover.{Coherent, cover_by, entry_of_block, frame_page, is_loose, reads}
 use Rattle.rio_model.specs.CoverChanges.{OnePage, SameEntries, found_entries, frame_entries, header_same, off_page, one_page_set, place_entries, same_entries, tag_same}
-use Rattle.rio_model.specs.CoverFills.{frame_off, frame_past, page_off, puts_frame, registry_same, valid_same}
+use Rattle.rio_model.specs.CoverFills.{coherent_page, frame_off, frame_past, page_off, puts_frame, registry_same, valid_same}
 use Rattle.rio_model.specs.CoverLookups.{found_is}
 use Rattle.rio_model.specs.CoverSteps.{disk_same, firm_by, pending_same}
 use Rattle.page_cache.specs.declared.tables.CacheTables.{CacheTables}
@@ -20,30 +20,6 @@ use Rattle.page_cache.proofs.Spans.{cover_run}
 use Rattle.page_cache.proofs.Stores.{holds_entries, sound_holds}
 
 -- ---- a dirty entry's page changes
-
--- a page that no clean entry has
-coherent_page : (n p : ℕ) (old new : Contents) → new ≡ record old { words = new.words } → OnePage p old.words new.words → SameEntries old.words new.words → ((j : ℕ) → IsValid old.words j → is_dirty (tag_at old.words j) ≡ false → (frame_page old.words j ≢ p) × (page_of_entry old.words j ≢ p)) → Coherent old n → Coherent new n
-coherent_page n p old new rest one same off s = record {
-  header = record { magic = header_same old.words new.words 0 same (omega arith) ∙ s.header.magic; version = header_same old.words new.words 1 same (omega arith) ∙ s.header.version };
-  sizes = rw (header_same old.words new.words 2 same (omega arith), header_same old.words new.words 3 same (omega arith)) s.sizes;
-  protected = same.count ∙ s.protected ∙ ap (λ f. 512 * (17 + registry_pages f + f)) (sym (header_same old.words new.words 2 same (omega arith)));
-  scratch_pages = s.scratch_pages ∙ ap (λ c. 512 * c) (sym (header_same old.words new.words 3 same (omega arith)));
-  rules = registry_same old.words new.words same s.rules;
-  entries = λ j. record {
-    on_disk = λ v. let w = valid_same old.words new.words j same v in rw (tag_same old.words new.words j same w.within, disk_same old new rest) ((s.entries j).on_disk w);
-    clean = λ v c w less. frame_now j v c w less ∙ (s.entries j).clean (valid_same old.words new.words j same v) (was_clean j v c) w less ∙ rw (tag_same old.words new.words j same (valid_same old.words new.words j same v).within, disk_same old new rest) refl;
-    unedited = λ v c w less. page_now j v c w less ∙ (s.entries j).unedited (valid_same old.words new.words j same v) (was_clean j v c) w less ∙ sym (frame_now j v c w less);
-  };
-}
-  where
-    was_clean : (j : ℕ) → IsValid new.words j → is_dirty (tag_at new.words j) ≡ false → is_dirty (tag_at old.words j) ≡ false
-    was_clean j v c = ap is_dirty (sym (tag_same old.words new.words j same (valid_same old.words new.words j same v).within)) ∙ c
-
-    frame_now : (j : ℕ) → IsValid new.words j → is_dirty (tag_at new.words j) ≡ false → (w : ℕ) → w < 512 → slice_index new.words (512 * frame_page new.words j + w) ≡ slice_index old.words (512 * frame_page old.words j + w)
-    frame_now j v c w less = ap (λ q. slice_index new.words (512 * q + w)) (frame_entries old.words new.words j same) ∙ off_page p (frame_page old.words j) w old.words new.words one (off j (valid_same old.words new.words j same v) (was_clean j v c)).0 less
-
-    page_now : (j : ℕ) → IsValid new.words j → is_dirty (tag_at new.words j) ≡ false → (w : ℕ) → w < 512 → slice_index new.words (512 * page_of_entry new.words j + w) ≡ slice_index old.words (512 * page_of_entry old.words j + w)
-    page_now j v c w less = let x = valid_same old.words new.words j same v in ap (λ q. slice_index new.words (512 * q + w)) (place_entries old.words new.words j same x.within) ∙ off_page p (page_of_entry old.words j) w old.words new.words one (off j x (was_clean j v c)).1 less
 
 firm_page : (old new : Contents) → new ≡ record old { words = new.words } → SameEntries old.words new.words → (b : ℕ) → is_loose new b ≡ true → is_loose old b ≡ true
 firm_page old new rest same b e = firm_by old new (pending_same old new rest) (λ c j f d. let v = found_is old.words c j f in (found_entries old.words new.words c same ∙ f, ap is_dirty (tag_same old.words new.words j same v.0.within) ∙ d)) b e

@@ -4,3 +4,7 @@ pub mod Listing
 pub mod FreeInodes
 pub mod NodeOrder
 pub mod InDirectory
+pub mod OneReading
+pub mod StateSteps
+pub mod FreshReads
+pub mod FreeByState

@@ -58,7 +58,7 @@ page_off words j k r v ne e = from (place_cases words j)
     from (inr h) = absurd (omega (arith, h.2, e, frame_behind words k, (r.shadows j v.within).most v.valid))
 
 -- a page that no clean entry has
-coherent_page : (n p : ℕ) (old new : Contents) → new ≡ record old { words = new.words } → OnePage p old.words new.words → SameEntries old.words new.words → ((j : ℕ) → IsValid old.words j → is_dirty (tag_at old.words j) ≡ false → (frame_page old.words j ≢ p) × (page_of_entry old.words j ≢ p)) → Coherent old n → Coherent new n
+pub coherent_page : (n p : ℕ) (old new : Contents) → new ≡ record old { words = new.words } → OnePage p old.words new.words → SameEntries old.words new.words → ((j : ℕ) → IsValid old.words j → is_dirty (tag_at old.words j) ≡ false → (frame_page old.words j ≢ p) × (page_of_entry old.words j ≢ p)) → Coherent old n → Coherent new n
 coherent_page n p old new rest one same off s = record {
   header = record { magic = header_same old.words new.words 0 same (omega arith) ∙ s.header.magic; version = header_same old.words new.words 1 same (omega arith) ∙ s.header.version };
   sizes = rw (header_same old.words new.words 2 same (omega arith), header_same old.words new.words 3 same (omega arith)) s.sizes;
