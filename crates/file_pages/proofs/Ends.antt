@@ -1,0 +1,148 @@
+-- How a call ends, told by another type of failure.
+use Rattle.std.proofs.Common.{◌≡◌, ◌≤◌, refl, sym, ap, subst, ◌∙◌}
+use Rattle.std.specs.Prelude.{Result, Ok, Err, IsErrOf}
+use Rattle.rio_base.specs.declared.failures.VolFail.{VolFail}
+use Rattle.rio_base.specs.declared.failures.VolFail.TheVariants.{Fault as VolFault, Stopped as VolStopped}
+use Rattle.rio_base.specs.Blocks.{Ends, EndsBy, Halts, Health}
+use Rattle.rio_base.specs.Rules.{ends_by, ends_by_after, ends_by_as, ends_by_well}
+use Rattle.file_pages.specs.Failures.{Unrefused, size_handed, size_of_read}
+use Rattle.rio_base.specs.declared.failures.ReadFail.{ReadFail}
+use Rattle.rio_base.specs.declared.failures.ReadFail.TheVariants.{Fault as ReadFault, Stopped as ReadStopped, Memory as ReadMemory}
+use Rattle.file_pages.specs.declared.failures.SizeFail.{SizeFail}
+use Rattle.file_pages.specs.declared.failures.SizeFail.TheVariants.{NoSpace, TooLarge, Fault as SizeFault, Stopped as SizeStopped, Memory as SizeMemory}
+
+abbrev pub EndsRead : {T : Type 0} → Health → Health → Result T ReadFail → Type 0
+EndsRead s t r = EndsBy s t (IsErrOf r ReadFault) (IsErrOf r ReadStopped)
+
+abbrev pub EndsSize : {T : Type 0} → Health → Health → Result T SizeFail → Type 0
+EndsSize s t r = EndsBy s t (IsErrOf r SizeFault) (IsErrOf r SizeStopped)
+
+read_as : {T U : Type 0} (s t : Health) (e : ReadFail) → EndsRead {T = T} s t (Err e) → EndsRead {T = U} s t (Err e)
+read_as s t ReadFault h = ends_by_as s t _ _ _ _ (λ a. refl) (λ a. cc) (λ a. cc) h
+read_as s t ReadStopped h = ends_by_as s t _ _ _ _ (λ a. cc) (λ a. refl) (λ a. refl) h
+read_as s t ReadMemory h = ends_by_as s t _ _ _ _ (λ a. cc) (λ a. cc) (λ a. cc) h
+
+size_as : {T U : Type 0} (s t : Health) (e : ReadFail) → EndsRead {T = T} s t (Err e) → EndsSize {T = U} s t (Err (size_of_read e))
+size_as s t ReadFault h = ends_by_as s t _ _ _ _ (λ a. refl) (λ a. cc) (λ a. cc) h
+size_as s t ReadStopped h = ends_by_as s t _ _ _ _ (λ a. cc) (λ a. refl) (λ a. refl) h
+size_as s t ReadMemory h = ends_by_as s t _ _ _ _ (λ a. cc) (λ a. cc) (λ a. cc) h
+
+-- a failure handed on
+pub ends_read : {T U : Type 0} (s t : Health) (r : Result T ReadFail) (q : Result U ReadFail) (e d : ReadFail) → r ≡ Err e → q ≡ Err d → d ≡ e → EndsRead s t r → EndsRead s t q
+ends_read s t r q e d re qd de h = subst (λ x. EndsRead s t x) (sym (qd ∙ ap Err de)) (read_as s t e (subst (λ x. EndsRead s t x) re h))
+
+pub ends_size : {T U : Type 0} (s t : Health) (r : Result T ReadFail) (q : Result U SizeFail) (e : ReadFail) (d : SizeFail) → r ≡ Err e → q ≡ Err d → d ≡ size_of_read e → EndsRead s t r → EndsSize s t q
+ends_size s t r q e d re qd de h = subst (λ x. EndsSize s t x) (sym (qd ∙ ap Err de)) (size_as s t e (subst (λ x. EndsRead s t x) re h))
+
+-- a call that ended well, and then memory that was refused, or an answer
+size_memory : {T U : Type 0} (s t : Health) (v : T) → EndsRead {T = T} s t (Ok v) → EndsSize {T = U} s t (Err SizeMemory)
+size_memory s t v h = ends_by_as s t _ _ _ _ (λ a. cc) (λ a. cc) (λ a. cc) h
+
+pub ends_size_memory : {T U : Type 0} (s t : Health) (r : Result T ReadFail) (q : Result U SizeFail) (v : T) (d : SizeFail) → r ≡ Ok v → q ≡ Err d → d ≡ SizeMemory → EndsRead s t r → EndsSize s t q
+ends_size_memory s t r q v d rv qd de h = subst (λ x. EndsSize s t x) (sym (qd ∙ ap Err de)) (size_memory s t v (subst (λ x. EndsRead s t x) rv h))
+
+pub ends_size_ok : {T U : Type 0} (s t : Health) (r : Result T ReadFail) (v : T) (u : U) → r ≡ Ok v → EndsRead s t r → EndsSize {T = U} s t (Ok u)
+ends_size_ok {T = T} {U = U} s t r v u rv h = by (subst (λ x. EndsRead s t x) rv h)
+  where
+    by : EndsRead {T = T} s t (Ok v) → EndsSize {T = U} s t (Ok u)
+    by g = ends_by_as s t _ _ _ _ (λ a. cc) (λ a. cc) (λ a. cc) g
+
+-- ---- a call of the volume
+
+size_of_vol : {T U : Type 0} (s t : Health) (e : VolFail) → Ends {T = T} s t (Err e) → EndsSize {T = U} s t (Err (size_handed e))
+size_of_vol s t VolFault h = ends_by_as s t _ _ _ _ (λ a. refl) (λ a. cc) (λ a. cc) (ends_by s t (Err VolFault) h)
+size_of_vol s t VolStopped h = ends_by_as s t _ _ _ _ (λ a. cc) (λ a. refl) (λ a. refl) (ends_by s t (Err VolStopped) h)
+
+pub ends_vol_size : {T U : Type 0} (s t : Health) (r : Result T VolFail) (q : Result U SizeFail) (e : VolFail) (d : SizeFail) → r ≡ Err e → q ≡ Err d → d ≡ size_handed e → Ends s t r → EndsSize s t q
+ends_vol_size s t r q e d re qd de h = subst (λ x. EndsSize s t x) (sym (qd ∙ ap Err de)) (size_of_vol s t e (subst (λ x. Ends s t x) re h))
+
+-- ---- calls that ended well
+
+pub ends_well_memory : {T : Type 0} (s t : Health) (q : Result T SizeFail) (d : SizeFail) → q ≡ Err d → d ≡ SizeMemory → s.faults ≤ t.faults → t.stopped ≡ s.stopped → EndsSize s t q
+ends_well_memory {T = T} s t q d qd de later same = subst (λ x. EndsSize s t x) (sym (qd ∙ ap Err de)) well
+  where
+    well : EndsSize {T = T} s t (Err SizeMemory)
+    well = ends_by_well s t _ _ later same (λ a. cc) (λ a. cc)
+
+pub ends_well_ok : {T : Type 0} (s t : Health) (v : T) → s.faults ≤ t.faults → t.stopped ≡ s.stopped → EndsSize s t (Ok v)
+ends_well_ok s t v later same = ends_by_well s t _ _ later same (λ a. cc) (λ a. cc)
+
+-- ---- one call and then another
+
+pub size_then : {T U : Type 0} (s t u : Health) (r : Result T SizeFail) (v : T) (q : Result U SizeFail) → r ≡ Ok v → EndsSize s t r → EndsSize t u q → EndsSize s u q
+size_then {T = T} s t u r v q rv h k = by (subst (λ x. EndsSize s t x) rv h)
+  where
+    by : EndsSize {T = T} s t (Ok v) → EndsSize s u q
+    by g = ends_by_after s t u _ _ g.later (g.runs (λ a. cc)) k
+
+size_err_as : {T U : Type 0} (s t : Health) (e : SizeFail) → EndsSize {T = T} s t (Err e) → EndsSize {T = U} s t (Err e)
+size_err_as s t NoSpace h = ends_by_as s t _ _ _ _ (λ a. cc) (λ a. cc) (λ a. cc) h
+size_err_as s t TooLarge h = ends_by_as s t _ _ _ _ (λ a. cc) (λ a. cc) (λ a. cc) h
+size_err_as s t SizeFault h = ends_by_as s t _ _ _ _ (λ a. refl) (λ a. cc) (λ a. cc) h
+size_err_as s t SizeStopped h = ends_by_as s t _ _ _ _ (λ a. cc) (λ a. refl) (λ a. refl) h
+size_err_as s t SizeMemory h = ends_by_as s t _ _ _ _ (λ a. cc) (λ a. cc) (λ a. cc) h
+
+pub size_err : {T U : Type 0} (s t : Health) (r : Result T SizeFail) (q : Result U SizeFail) (e d : SizeFail) → r ≡ Err e → q ≡ Err d → d ≡ e → EndsSize s t r → EndsSize s t q
+size_err s t r q e d re qd de h = subst (λ x. EndsSize s t x) (sym (qd ∙ ap Err de)) (size_err_as s t e (subst (λ x. EndsSize s t x) re h))
+
+-- a call whose one failure is the stop
+pub size_halted : {T U E : Type 0} (s t : Health) (r : Result T E) (q : Result U SizeFail) (e : E) (d : SizeFail) → r ≡ Err e → q ≡ Err d → d ≡ SizeStopped → Halts s t r → EndsSize s t q
+size_halted {T = T} {U = U} {E = E} s t r q e d re qd de h = subst (λ x. EndsSize s t x) (sym (qd ∙ ap Err de)) (by (subst (λ x. Halts s t x) re h))
+  where
+    by : Halts {T = T} {E = E} s t (Err e) → EndsSize {T = U} s t (Err SizeStopped)
+    by k = record { later = k.later; stays = k.stays; cause = λ f. cc; told = λ p. k.cause; runs = λ n. absurd (n refl) }
+
+-- ---- calls that were not refused for the size
+
+handed_other : {T : Type 0} (e : VolFail) → Unrefused {T = T} (Err (size_handed e))
+handed_other VolFault = ((λ a. cc), (λ a. cc))
+handed_other VolStopped = ((λ a. cc), (λ a. cc))
+
+pub unrefused_vol : {T : Type 0} (q : Result T SizeFail) (e : VolFail) (d : SizeFail) → q ≡ Err d → d ≡ size_handed e → Unrefused q
+unrefused_vol q e d qd de = subst (λ x. Unrefused x) (sym (qd ∙ ap Err de)) (handed_other e)
+
+read_other : {T : Type 0} (e : ReadFail) → Unrefused {T = T} (Err (size_of_read e))
+read_other ReadFault = ((λ a. cc), (λ a. cc))
+read_other ReadStopped = ((λ a. cc), (λ a. cc))
+read_other ReadMemory = ((λ a. cc), (λ a. cc))
+
+pub unrefused_read : {T : Type 0} (q : Result T SizeFail) (e : ReadFail) (d : SizeFail) → q ≡ Err d → d ≡ size_of_read e → Unrefused q
+unrefused_read q e d qd de = subst (λ x. Unrefused x) (sym (qd ∙ ap Err de)) (read_other e)
+
+pub unrefused_of : {T : Type 0} (q : Result T SizeFail) (d e : SizeFail) → q ≡ Err d → d ≡ e → Unrefused {T = T} (Err e) → Unrefused q
+unrefused_of q d e qd de h = subst (λ x. Unrefused x) (sym (qd ∙ ap Err de)) h
+
+memory_other : {T : Type 0} → Unrefused {T = T} (Err SizeMemory)
+memory_other = ((λ a. cc), (λ a. cc))
+
+pub unrefused_memory : {T : Type 0} (q : Result T SizeFail) (d : SizeFail) → q ≡ Err d → d ≡ SizeMemory → Unrefused q
+unrefused_memory q d qd de = unrefused_of q d SizeMemory qd de memory_other
+
+stop_other : {T : Type 0} → Unrefused {T = T} (Err SizeStopped)
+stop_other = ((λ a. cc), (λ a. cc))
+
+pub unrefused_stop : {T : Type 0} (q : Result T SizeFail) (d : SizeFail) → q ≡ Err d → d ≡ SizeStopped → Unrefused q
+unrefused_stop q d qd de = unrefused_of q d SizeStopped qd de stop_other
+
+err_other : {T U : Type 0} (e : SizeFail) → Unrefused {T = T} (Err e) → Unrefused {T = U} (Err e)
+err_other NoSpace h = absurd (h.0 refl)
+err_other TooLarge h = absurd (h.1 refl)
+err_other SizeFault h = ((λ a. cc), (λ a. cc))
+err_other SizeStopped h = ((λ a. cc), (λ a. cc))
+err_other SizeMemory h = ((λ a. cc), (λ a. cc))
+
+pub unrefused_err : {T U : Type 0} (r : Result U SizeFail) (q : Result T SizeFail) (e d : SizeFail) → r ≡ Err e → q ≡ Err d → d ≡ e → Unrefused r → Unrefused q
+unrefused_err r q e d re qd de h = unrefused_of q d e qd de (err_other e (subst (λ x. Unrefused x) re h))
+
+pub unrefused_ok : {T : Type 0} (v : T) → Unrefused (Ok v)
+unrefused_ok v = ((λ a. cc), (λ a. cc))
+
+-- the same failure handed on
+pub err_handed : {T U : Type 0} (w : SizeFail) (r : Result U SizeFail) (q : Result T SizeFail) (e d : SizeFail) → r ≡ Err e → q ≡ Err d → d ≡ e → IsErrOf q w → IsErrOf r w
+err_handed {T = T} {U = U} w r q e d re qd de is = subst (λ x. IsErrOf x w) (sym (re ∙ ap Err (sym de))) (by (subst (λ x. IsErrOf x w) qd is))
+  where
+    by : IsErrOf {T = T} (Err d) w → IsErrOf {T = U} (Err d) w
+    by h = ap (λ a. Err a) (inside h)
+      where
+        inside : IsErrOf {T = T} (Err d) w → d ≡ w
+        inside h = cc

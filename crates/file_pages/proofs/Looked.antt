@@ -1,0 +1,35 @@
+-- Block numbers as they are read from an inode and from an indirect block.
+use Rattle.std.specs.Prelude.{slice_index}
+use Rattle.std.proofs.Common.{List, ◌≡◌, ℕ, ◌+◌, ◌-◌, ◌/◌, ◌<◌, ◌≤◌, sym, ap, subst, ◌∙◌, arith}
+use Rattle.rio_base.specs.declared.places.VolumeShape.{VolumeShape}
+use Rattle.rio_base.specs.Blocks.{BlockWords, IsRun}
+use Rattle.rio_base.specs.Layout.{IsIno, half, inode_word}
+use Rattle.rio_model.specs.Placed.{AtPage, AtTable, HasSlot, placed_at, volume_layout, Owns}
+use Rattle.rio_model.specs.PlacedRules.{direct_of, first_table, later_of, lies_self, table_of}
+use Rattle.rio_model.specs.Sizes.{pages}
+use Rattle.rio_model.specs.VolumeRules.{IsNumbered}
+
+pub direct_value : (f : BlockWords) (i p w b : ℕ) → p < 24 → HasSlot (placed_at f i) (AtPage p) → w ≡ inode_word f i (2 + p / 2) → b ≡ half w p → b ≡ (placed_at f i).block (AtPage p)
+direct_value f i p w b few has word is = is ∙ ap (λ x. half x p) word ∙ direct_of f i (placed_at f i) p (lies_self f i) few has
+
+pub table_value : (f : BlockWords) (i p w b : ℕ) → 24 ≤ p → HasSlot (placed_at f i) (AtPage p) → w ≡ inode_word f i 14 → b ≡ half w 0 → b ≡ (placed_at f i).block (AtTable 0)
+table_value f i p w b past has word is = is ∙ ap (λ x. half x 0) word ∙ table_of f i (placed_at f i) 0 (lies_self f i) (first_table (placed_at f i) p has past)
+
+pub later_value : (f : BlockWords) (i p w b x : ℕ) → 24 ≤ p → HasSlot (placed_at f i) (AtPage p) → x ≡ (p - 24) / 2 → w ≡ f ((placed_at f i).block (AtTable 0)) x → b ≡ half w p → b ≡ (placed_at f i).block (AtPage p)
+later_value f i p w b x past has at word is = is ∙ ap (λ z. half z p) (word ∙ ap (f ((placed_at f i).block (AtTable 0))) at) ∙ later_of f i (placed_at f i) p (lies_self f i) past has
+
+-- a page that counts is one of 1,048
+pub page_most : (shape : VolumeShape) (f : BlockWords) (i p : ℕ) → IsNumbered shape f → IsIno shape i → HasSlot (placed_at f i) (AtPage p) → p < 1048
+page_most shape f i p h ino has = let within : p < pages (placed_at f i).size = has.within in let most = (h.sizes.each i ino has.used).most in omega (arith, within, most)
+
+pub owns_table : (shape : VolumeShape) (f : BlockWords) (i p : ℕ) → IsIno shape i → 24 ≤ p → HasSlot (placed_at f i) (AtPage p) → Owns (volume_layout shape f) i (AtTable 0)
+owns_table shape f i p ino past has = record { ino = ino; slot = first_table (placed_at f i) p has past }
+
+pub owns_seen : (shape : VolumeShape) (f g : BlockWords) (i p : ℕ) → g ≡ f → IsIno shape i → 24 ≤ p → HasSlot (placed_at f i) (AtPage p) → Owns (volume_layout shape g) i (AtTable 0)
+owns_seen shape f g i p same ino past has = subst (λ h. Owns (volume_layout shape h) i (AtTable 0)) (sym same) (owns_table shape f i p ino past has)
+
+-- a number in words of the indirect block that were read as a run
+pub run_number : (f : BlockWords) (i p w count : ℕ) (words : List ℕ) → IsRun f ((placed_at f i).block (AtTable 0)) w count words → 24 ≤ p → HasSlot (placed_at f i) (AtPage p) → w ≤ (p - 24) / 2 → (p - 24) / 2 < w + count → half (slice_index words ((p - 24) / 2 - w)) p ≡ (placed_at f i).block (AtPage p)
+run_number f i p w count words run past has low high =
+    let at : w + ((p - 24) / 2 - w) ≡ (p - 24) / 2 = omega (arith, low) in
+    ap (λ z. half z p) (run.each ((p - 24) / 2 - w) (omega (arith, low, high)) ∙ ap (f ((placed_at f i).block (AtTable 0))) at) ∙ later_of f i (placed_at f i) p (lies_self f i) past has

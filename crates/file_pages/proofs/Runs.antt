@@ -1,0 +1,28 @@
+-- Lists of edits and of numbers, one further.
+use Rattle.std.proofs.Common.{◌≡◌, ℕ, ◌+◌, ◌-◌, ◌<◌, ◌≤◌, ◌&&◌, cond, List, [], ◌∷◌, ◌++◌, map, sym, ap, ◌∙◌, arith, min}
+use Rattle.std.specs.Prelude.{slice_index, nat_lt, nat_le}
+use Rattle.std.proofs.lemmas.Bool.Decides.{nat_tests}
+use Rattle.std.proofs.lemmas.List.{map-append}
+use Rattle.std.proofs.lemmas.List.FromFn.{map-range_with_len_more}
+use Rattle.rio_model.specs.Updates.{WordEdit, run_edits}
+use Rattle.file_pages.specs.Changes.{word_edit}
+use Rattle.file_pages.specs.Growing.{new_direct}
+use Rattle.file_pages.specs.declared.changes.Edit.{Edit}
+
+abbrev edit_at : ℕ → (ℕ → ℕ) → ℕ → WordEdit
+edit_at b v w = record { block = b; word = w; value = v w }
+
+pub run_next : (b : ℕ) (v : ℕ → ℕ) (first w : ℕ) (xs ys : List Edit) (e : Edit) → first ≤ w → map word_edit xs ≡ run_edits b v first (w - first) → ys ≡ xs ++ e ∷ [] → word_edit e ≡ record { block = b; word = w; value = v w } → map word_edit ys ≡ run_edits b v first (w + 1 - first)
+run_next b v first w xs ys e low so more is =
+    let one : w + 1 - first ≡ (w - first) + 1 = omega (arith, low) in
+    let at : first + (w - first) ≡ w = omega (arith, low) in
+    ap (map word_edit) more ∙ map-append word_edit xs (e ∷ []) ∙ ap (λ zs. zs ++ word_edit e ∷ []) so ∙ ap (λ x. run_edits b v first (w - first) ++ x ∷ []) is ∙ sym (map-range_with_len_more (edit_at b v) first (w - first) w at) ∙ ap (run_edits b v first) (sym one)
+
+pub direct_done : (old : List ℕ) (have p want : ℕ) (taken : List ℕ) (q : ℕ) → q < 24 → p ≤ want → min want 24 ≤ p → new_direct old have p taken q ≡ new_direct old have want taken q
+direct_done old have p want taken q few low high = ap (λ t. cond t (slice_index taken (q - have)) (slice_index old q)) (test have p want q few low high)
+  where
+    test : (have p want q : ℕ) → q < 24 → p ≤ want → min want 24 ≤ p → (nat_le have q && nat_lt q p) ≡ (nat_le have q && nat_lt q want)
+    test have p want q few low high = ap (λ t. nat_le have q && t) (less p want q few low high)
+      where
+        less : (p want q : ℕ) → q < 24 → p ≤ want → min want 24 ≤ p → nat_lt q p ≡ nat_lt q want
+        less p want q few low high = grind (arith, nat_tests, few, low, high)

@@ -1,0 +1,156 @@
+-- Calls of one update, one after the other, and what the whole of it does.
+use Rattle.std.proofs.Common.{◌≡◌, ◌≢◌, ℕ, suc, ◌+◌, ◌/◌, ◌%◌, ◌<◌, ◌≤◌, ◌==◌, ◌||◌, Bool, inl, inr, true, false, List, [], ◌∷◌, length, map, drop, refl, sym, ap, subst, ◌∙◌, arith, slice_index_or}
+use Rattle.std.specs.Prelude.{slice_index, Option, None}
+use Rattle.std.specs.Int.{bit_at}
+use Rattle.std.specs.List.{AllByRecursion, Contains}
+use Rattle.std.proofs.lemmas.Bool.{cases_eq, cases_lt}
+use Rattle.std.proofs.lemmas.Bool.Decides.{nat_tests}
+use Rattle.std.proofs.lemmas.List.{get_or_default}
+use Rattle.std.proofs.Math.Seq.{drop-cons}
+use Rattle.rio_base.specs.declared.places.PageName.{PageName}
+use Rattle.rio_base.specs.declared.places.VolumeShape.{VolumeShape}
+use Rattle.rio_base.specs.Bitmap.{bitmap_block, first_bitmap, used_bit}
+use Rattle.rio_base.specs.BlockSets.{CachesBy, caches_by_one, caches_by_wider}
+use Rattle.rio_base.specs.Blocks.{BlockWords, Caches, CanName, IsPlace, SamePage, Seen}
+use Rattle.rio_base.specs.Layout.{IsIno, inode_block}
+use Rattle.rio_base.specs.Shapes.{IsShape, reserved}
+use Rattle.rio_base.specs.Volume.{Kept, SameUpdate, Touches, put}
+use Rattle.block_alloc.specs.Bitmap.{SetsBit, numbers}
+use Rattle.rio_model.specs.PlacedRules.{bits_low, inode_low, inode_no_bitmap}
+use Rattle.rio_model.specs.UpdateRules.{edited_out, inode_elsewhere}
+use Rattle.rio_model.specs.Updates.{Applied, WordEdit, edited, with_inode}
+use Rattle.rio_model.specs.VolumeRules.{bitmap_bits}
+use Rattle.inode_table.specs.Inodes.{inode_words}
+use Rattle.file_pages.specs.Changes.{size_update, word_edit}
+use Rattle.file_pages.specs.Updating.{IsEdited, IsUpdated, SetsBits}
+use Rattle.file_pages.specs.declared.changes.Edit.{Edit}
+use Rattle.file_pages.specs.declared.changes.SizeChange.{SizeChange}
+use Rattle.file_pages.proofs.Listed.{place_of}
+
+pub update_trans : (k l m : Kept) → SameUpdate k l → SameUpdate l m → SameUpdate k m
+update_trans k l m a b = record { updating = b.updating ∙ a.updating; begun = b.begun ∙ a.begun; touched = b.touched ∙ a.touched; touches = b.touches ∙ a.touches }
+
+-- ---- edits
+
+pub edit_in : (es : List Edit) (t : ℕ) (d : Edit) → t < length es → Contains es (slice_index_or es t d)
+edit_in es t d few = (t, few, get_or_default es t (slice_index_or es t d) d few)
+
+-- one edit more
+pub edited_next : (es : List Edit) (t : ℕ) (d : Edit) (f g : BlockWords) → t < length es → g ≡ put f (slice_index_or es t d).block.0 (slice_index_or es t d).word (slice_index_or es t d).value → edited g (map word_edit (drop (t + 1) es)) ≡ edited f (map word_edit (drop t es))
+edited_next es t d f g few e = let next : t + 1 ≡ suc t = omega arith in ap (λ n. edited g (map word_edit (drop n es))) next ∙ ap (λ h. edited h (map word_edit (drop (suc t) es))) e ∙ sym (ap (λ xs. edited f (map word_edit xs)) (drop-cons es t d few))
+
+pub make_place : (es : List Edit) (t n : ℕ) (d : Edit) (x : Seen) → t < length es → ((e : Edit) → Contains es e → e.block.0 < n) → x.count ≡ n → ((e : Edit) → Contains es e → e.word < 512) → IsPlace x (slice_index_or es t d).block.0 (slice_index_or es t d).word
+make_place es t n d x few blocks is words = record { block = subst (λ (m : ℕ). (slice_index_or es t d).block.0 < m) (sym is) (blocks _ (edit_in es t d few)); word = words _ (edit_in es t d few) }
+
+-- ---- touching
+
+pub touched_now : (b : ℕ) (k l : Kept) → Touches b k l → l.touched b ≡ true
+touched_now b k l h = ap (λ (f : ℕ → Bool). f b) h.touched ∙ same_or b b (k.touched b) refl
+  where
+    same_or : (c b : ℕ) (t : Bool) → c ≡ b → ((c == b) || t) ≡ true
+    same_or c b t e = grind (arith, nat_tests, e)
+
+pub touched_still : (b c : ℕ) (k l : Kept) → Touches b k l → k.touched c ≡ true → l.touched c ≡ true
+touched_still b c k l h was = ap (λ (f : ℕ → Bool). f c) h.touched ∙ ap (λ t. (c == b) || t) was ∙ or_true (c == b)
+  where
+    or_true : (t : Bool) → (t || true) ≡ true
+    or_true true = refl
+    or_true false = refl
+
+-- ---- bits
+
+-- blocks that a volume may have have their bits in block 1
+pub in_first : (shape : VolumeShape) (b : ℕ) → IsShape shape → b < shape.blocks → bitmap_block shape b ≡ 1
+in_first shape b h within = first_bitmap shape b (let most = h.blocks_to in omega (arith, within, most))
+
+pub caches_first : (shape : VolumeShape) (x y : Seen) (b : ℕ) → IsShape shape → b < shape.blocks → Caches x y (bitmap_block shape b) None → Caches x y 1 None
+caches_first shape x y b h within c = subst (λ a. Caches x y a None) (in_first shape b h within) c
+
+pub bit_here : (shape : VolumeShape) (f g : BlockWords) (b bit : ℕ) → IsShape shape → b < shape.blocks → SetsBit shape f g b bit → (c w : ℕ) → c ≢ 1 → g c w ≡ f c w
+bit_here shape f g b bit h within s c w away = s.elsewhere c w (inl (λ e. away (e ∙ in_first shape b h within)))
+
+pub sets_more : (shape : VolumeShape) (f g h : BlockWords) (bs : List ℕ) (n b bit : ℕ) → IsShape shape → b < shape.blocks → b ≡ slice_index bs n → SetsBits shape f g bs n bit → SetsBit shape g h b bit → SetsBits shape f h bs (n + 1) bit
+sets_more shape f g h bs n b bit fits within at a s = record {
+  elsewhere = λ c w away. bit_here shape g h b bit fits within s c w away ∙ a.elsewhere c w away;
+  set = λ t few. elim (cases_eq (slice_index bs t) b) [
+    | inl same ↦ ap (used_bit shape h) same ∙ s.same
+    | inr away ↦ s.others _ away ∙ a.set t (let not : t ≢ n = λ e. away (ap (slice_index bs) e ∙ sym at) in omega (arith, few, not))
+  ];
+  others = λ c out. s.others c (λ e. out n (omega arith) (sym at ∙ sym e)) ∙ a.others c (λ t few. out t (omega (arith, few)));
+}
+
+pub sets_none : (shape : VolumeShape) (f : BlockWords) (bs : List ℕ) (bit : ℕ) → SetsBits shape f f bs 0 bit
+sets_none shape f bs bit = record { elsewhere = λ b w away. refl; set = λ t few. absurd (omega (arith, few)); others = λ b out. refl }
+
+-- ---- the whole update
+
+not_listed : (bs : List ℕ) (b n : ℕ) → n ≡ length bs → (Contains bs b → ⊥) → (t : ℕ) → t < n → slice_index bs t ≢ b
+not_listed bs b n is out t few e = out (t, subst (λ (m : ℕ). t < m) is few, get_or_default bs t b 0 (subst (λ (m : ℕ). t < m) is few) ∙ e)
+
+-- the words of the bitmap that have a bit are in no inode
+bitmap_away : (shape : VolumeShape) (i b : ℕ) → IsShape shape → IsIno shape i → b < bitmap_bits shape → bitmap_block shape b ≢ inode_block i
+unfolding bitmap_block
+bitmap_away shape i b h ino within e = elim (cases_lt b 32768) [
+  | inl few ↦ (let first = first_bitmap shape b few in omega (arith, ino.from, ino.to, e, first))
+  | inr many ↦ absurd (far many)
+]
+  where
+    far : 32768 ≤ b → ⊥
+    far many = inode_no_bitmap shape i h ino (inr (let at = past many in (omega (arith, at, e, many), inode_low shape i h ino)))
+      where
+        past : 32768 ≤ b → bitmap_block shape b ≡ 1 + shape.inodes / 32 + b / 32768
+        past m = grind (arith, nat_tests, m)
+
+edits_out : (es : List Edit) (c : ℕ) → ((e : Edit) → Contains es e → e.block.0 ≢ c) → AllByRecursion (λ (e : WordEdit). e.block ≢ c) (map word_edit es)
+edits_out [] c out = tt
+edits_out (e ∷ es) c out = (out e (0, omega arith, refl), edits_out es c (λ d on. out d (suc on.0, omega (arith, on.1), on.2)))
+
+pub applied : (shape : VolumeShape) (i : ℕ) (c : SizeChange) (f m p q g : BlockWords) → IsShape shape → IsIno shape i → ((e : Edit) → Contains c.edits e → reserved shape ≤ e.block.0) → ((b : ℕ) → Contains (numbers c.taken) b → Contains (numbers c.freed) b → ⊥) → m ≡ edited f (map word_edit c.edits) → p ≡ with_inode m i (inode_words c.inode) → SetsBits shape p q (numbers c.taken) (length (numbers c.taken)) 1 → SetsBits shape q g (numbers c.freed) (length (numbers c.freed)) 0 → Applied shape (size_update i c) f g
+applied shape i c f m p q g fits ino from apart em ep marks clears = record {
+  words = λ b w off. clears.elsewhere b w (λ e. off (inl e)) ∙ marks.elsewhere b w (λ e. off (inl e)) ∙ ap (λ (h : BlockWords). h b w) ep ∙ ap (λ (h : BlockWords). with_inode h i (inode_words c.inode) b w) em;
+  taken = λ b on. clears.others b (not_listed (numbers c.freed) b _ refl (λ z. apart b on z)) ∙ set_of p q (numbers c.taken) 1 b marks on;
+  freed = λ b on. set_of q g (numbers c.freed) 0 b clears on;
+  others = λ b within out off. clears.others b (not_listed (numbers c.freed) b _ refl off) ∙ marks.others b (not_listed (numbers c.taken) b _ refl out) ∙ ap (λ (w : ℕ). bit_at w (b % 64)) (bit_word b within);
+}
+  where
+    set_of : (f g : BlockWords) (bs : List ℕ) (bit b : ℕ) → SetsBits shape f g bs (length bs) bit → Contains bs b → used_bit shape g b ≡ bit
+    set_of f g bs bit b h on = by_place (place_of bs b on)
+      where
+        by_place : ((t : ℕ) × (t < length bs) × (slice_index bs t ≡ b)) → used_bit shape g b ≡ bit
+        by_place (t, few, e) = subst (λ x. used_bit shape g x ≡ bit) e (h.set t few)
+
+    bit_word : (b : ℕ) → b < bitmap_bits shape → p (bitmap_block shape b) (b % 32768 / 64) ≡ f (bitmap_block shape b) (b % 32768 / 64)
+    bit_word b within = ap (λ (h : BlockWords). h (bitmap_block shape b) (b % 32768 / 64)) ep ∙ inode_elsewhere m i (inode_words c.inode) _ _ (bitmap_away shape i b fits ino within) ∙ ap (λ (h : BlockWords). h (bitmap_block shape b) (b % 32768 / 64)) em
+        ∙ edited_out (map word_edit c.edits) f _ _ (edits_out c.edits (bitmap_block shape b) (λ e on same. let above = from e on in let low = bits_low shape b within in omega (arith, above, low, same)))
+
+-- ---- touching the blocks of an update
+
+unnamed_kept : (bears : ℕ → Option PageName → Type 0) (x y : Seen) (b : ℕ) → ((name : Option PageName) → bears b name → name ≡ None) → CachesBy bears x y → (x.cached b ≡ true → x.names b ≡ None) → y.cached b ≡ true → y.names b ≡ None
+unnamed_kept bears x y b none h was on = elim (h.each b on) [ inl old ↦ old.1 ∙ was old.0 | inr new ↦ none _ new ]
+
+pub can_touch : (y : Seen) (b : ℕ) → (y.cached b ≡ true → y.names b ≡ None) → CanName y b None
+can_touch y b none = record { in_range = tt; agrees = λ on. subst (λ o. SamePage o None) (sym (none on)) tt }
+
+-- a block stays unnamed where another is cached as metadata
+pub unnamed_on : (x y : Seen) (a b : ℕ) → Caches x y a None → (x.cached b ≡ true → x.names b ≡ None) → y.cached b ≡ true → y.names b ≡ None
+unnamed_on x y a b h was = unnamed_kept (λ c name. name ≡ None) x y b (λ name e. e) (caches_by_one _ x y a None h refl) was
+
+-- blocks of the update, newly cached
+pub updated_bitmap : (i : ℕ) (edits : List Edit) (x y : Seen) → Caches x y 1 None → CachesBy (IsUpdated i edits) x y
+updated_bitmap i edits x y h = caches_by_one (IsUpdated i edits) x y 1 None h (inl refl, refl)
+
+pub updated_inode : (i b : ℕ) (edits : List Edit) (x y : Seen) → b ≡ inode_block i → Caches x y b None → CachesBy (IsUpdated i edits) x y
+updated_inode i b edits x y is h = caches_by_one (IsUpdated i edits) x y b None h (inr (inl is), refl)
+
+pub updated_edits : (i : ℕ) (es edits : List Edit) (x y : Seen) → es ≡ edits → CachesBy (λ b name. IsEdited es b × (name ≡ None)) x y → CachesBy (IsUpdated i edits) x y
+updated_edits i es edits x y same h = caches_by_wider (λ b name. IsEdited es b × (name ≡ None)) (IsUpdated i edits) x y (λ b name e. (inr (inr (subst (λ us. IsEdited us b) same e.0)), e.1)) h
+
+-- the first of edits that are all in one block
+pub first_place : (es : List Edit) (n count : ℕ) (d : Edit) → 0 < length es → ((e : Edit) → Contains es e → e.block.0 < n) → count ≡ n → (slice_index_or es 0 d).block.0 < count
+first_place es n count d some within is = subst (λ (m : ℕ). (slice_index_or es 0 d).block.0 < m) (sym is) (within _ (edit_in es 0 d some))
+
+pub first_touched : (es : List Edit) (d e : Edit) (k l : Kept) → 0 < length es → ((a b : Edit) → Contains es a → Contains es b → a.block.0 ≡ b.block.0) → Touches (slice_index_or es 0 d).block.0 k l → Contains es e → l.touched e.block.0 ≡ true
+first_touched es d e k l some one h on = subst (λ b. l.touched b ≡ true) (one _ e (edit_in es 0 d some) on) (touched_now _ k l h)
+
+pub some_length : (n : ℕ) → (n == 0) ≡ false → 0 < n
+some_length n h = grind (arith, nat_tests, h)

@@ -1,0 +1,61 @@
+use Rattle.std.proofs.Common.{◌/◌, ◌∙◌, refl, sym, ap, subst, arith}
+use Rattle.rio_base.specs.Rules.{◌then◌}
+use Rattle.file_pages.proofs.Stored.{names_grown, stores_page, stores_run, stored_read}
+use Rattle.file_pages.specs.Storing.{KeepsFront}
+use Rattle.file_pages.proofs.Tails.{clears_run, run_front, run_whole, run_zeros}
+use Rattle.file_pages.proofs.clearing.clear_page.Goals as goal
+
+pub returns-in_err-word-clause-stores : goal.returns-in_err-word-clause-stores
+returns-in_err-word-clause-stores g c =
+    let passed = g.met.V.Volume.passes_keeps _ _ c.word.ensures.passes in
+    stores_page c.args.shape.now _ _ _ _ c.args.i.0 c.args.page c.args.b.0 _ c.requires.ready c.requires.owns c.requires.block c.requires.file
+    (names_grown c.args.i.0 _ c.args.len c.args.page _ refl refl c.bytes_in_page-size.ensures.size c.requires.grows)
+    c.word.ensures.looks.count (record { others = λ b w away. ap (λ f. f b w) c.word.ensures.looks.words }) passed.firm (stored_read _ _ _ _ c.word.ensures.caches) (passed.updating ∙ c.requires.ready.idle)
+
+pub returns-in-Ok-clause-stores : goal.returns-in-Ok-clause-stores
+returns-in-Ok-clause-stores g c =
+    let run = c.store_run.ensures in
+    stores_run c.args.shape.now _ _ _ _ _ _ _ _ _ _ c.args.i.0 c.args.page c.args.b.0 _ _ _ _ c.requires.ready c.requires.owns c.requires.block c.requires.file
+    (names_grown c.args.i.0 _ c.args.len c.args.page _ refl refl c.bytes_in_page-size.ensures.size c.requires.grows)
+    c.word.ensures.looks c.word.ensures.caches (g.met.V.Volume.passes_keeps _ _ c.word.ensures.passes) run.count run.front run.firm run.caches run.idle
+
+pub returns-in-Ok-clause-goes : goal.returns-in-Ok-clause-goes
+returns-in-Ok-clause-goes g c = (g.met.V.Volume.passes_keeps _ _ c.word.ensures.passes).goes then c.store_run.ensures.goes
+
+pub returns-in-Ok-clause-front : goal.returns-in-Ok-clause-front
+returns-in-Ok-clause-front g c =
+    let front = c.store_run.ensures.front in
+    subst (λ f. KeepsFront f (g.V.Blocks.seen c.store_run.new.self).words c.args.b.0 c.args.at) c.word.ensures.looks.words (run_front (g.V.Blocks.seen c.word.new.self).words (g.V.Blocks.seen c.store_run.new.self).words c.args.b.0 c.args.at front.0 _ (clears_run _ c.args.b.0 c.args.at _ _ _ (omega (arith, c.requires.place)) (c.in_ok-word.ensures.value ∙ sym (ap (λ f. f c.args.b.0 (c.args.at / 8)) c.word.ensures.looks.words)) c.cleared_words-run.ensures.first c.cleared_words-run.ensures.rest) front.2)
+
+pub returns-in-Err-Fault-clause-stores : goal.returns-in-Err-Fault-clause-stores
+returns-in-Err-Fault-clause-stores g c =
+    let run = c.store_run.ensures in
+    stores_run c.args.shape.now _ _ _ _ _ _ _ _ _ _ c.args.i.0 c.args.page c.args.b.0 _ _ _ _ c.requires.ready c.requires.owns c.requires.block c.requires.file
+    (names_grown c.args.i.0 _ c.args.len c.args.page _ refl refl c.bytes_in_page-size.ensures.size c.requires.grows)
+    c.word.ensures.looks c.word.ensures.caches (g.met.V.Volume.passes_keeps _ _ c.word.ensures.passes) run.count run.front run.firm run.caches run.idle
+
+pub returns-in-Err-Fault-clause-goes : goal.returns-in-Err-Fault-clause-goes
+returns-in-Err-Fault-clause-goes g c = (g.met.V.Volume.passes_keeps _ _ c.word.ensures.passes).goes then c.store_run.ensures.goes
+
+pub returns-in-Err-Fault-clause-front : goal.returns-in-Err-Fault-clause-front
+returns-in-Err-Fault-clause-front g c =
+    let front = c.store_run.ensures.front in
+    subst (λ f. KeepsFront f (g.V.Blocks.seen c.store_run.new.self).words c.args.b.0 c.args.at) c.word.ensures.looks.words (run_front (g.V.Blocks.seen c.word.new.self).words (g.V.Blocks.seen c.store_run.new.self).words c.args.b.0 c.args.at front.0 _ (clears_run _ c.args.b.0 c.args.at _ _ _ (omega (arith, c.requires.place)) (c.in_ok-word.ensures.value ∙ sym (ap (λ f. f c.args.b.0 (c.args.at / 8)) c.word.ensures.looks.words)) c.cleared_words-run.ensures.first c.cleared_words-run.ensures.rest) front.2)
+
+pub returns-in-Err-Stopped-clause-stores : goal.returns-in-Err-Stopped-clause-stores
+returns-in-Err-Stopped-clause-stores g c =
+    let run = c.store_run.ensures in
+    stores_run c.args.shape.now _ _ _ _ _ _ _ _ _ _ c.args.i.0 c.args.page c.args.b.0 _ _ _ _ c.requires.ready c.requires.owns c.requires.block c.requires.file
+    (names_grown c.args.i.0 _ c.args.len c.args.page _ refl refl c.bytes_in_page-size.ensures.size c.requires.grows)
+    c.word.ensures.looks c.word.ensures.caches (g.met.V.Volume.passes_keeps _ _ c.word.ensures.passes) run.count run.front run.firm run.caches run.idle
+
+pub returns-in-Err-Stopped-clause-goes : goal.returns-in-Err-Stopped-clause-goes
+returns-in-Err-Stopped-clause-goes g c = (g.met.V.Volume.passes_keeps _ _ c.word.ensures.passes).goes then c.store_run.ensures.goes
+
+pub returns-in-Err-Stopped-clause-front : goal.returns-in-Err-Stopped-clause-front
+returns-in-Err-Stopped-clause-front g c =
+    let front = c.store_run.ensures.front in
+    subst (λ f. KeepsFront f (g.V.Blocks.seen c.store_run.new.self).words c.args.b.0 c.args.at) c.word.ensures.looks.words (run_front (g.V.Blocks.seen c.word.new.self).words (g.V.Blocks.seen c.store_run.new.self).words c.args.b.0 c.args.at front.0 _ (clears_run _ c.args.b.0 c.args.at _ _ _ (omega (arith, c.requires.place)) (c.in_ok-word.ensures.value ∙ sym (ap (λ f. f c.args.b.0 (c.args.at / 8)) c.word.ensures.looks.words)) c.cleared_words-run.ensures.first c.cleared_words-run.ensures.rest) front.2)
+
+pub returns-in-Ok-clause-cleared : goal.returns-in-Ok-clause-cleared
+returns-in-Ok-clause-cleared g c = run_zeros (g.V.Blocks.seen c.word.new.self).words (g.V.Blocks.seen c.store_run.new.self).words c.args.b.0 c.args.at _ _ (clears_run _ c.args.b.0 c.args.at _ _ _ (omega (arith, c.requires.place)) (c.in_ok-word.ensures.value ∙ sym (ap (λ f. f c.args.b.0 (c.args.at / 8)) c.word.ensures.looks.words)) c.cleared_words-run.ensures.first c.cleared_words-run.ensures.rest) (run_whole (c.args.at / 8) c.cleared_words-run.result (omega (arith, c.requires.place)) c.cleared_words-run.ensures.len) c.in-Ok.ensures.ok

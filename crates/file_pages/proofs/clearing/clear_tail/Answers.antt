@@ -1,0 +1,38 @@
+use Rattle.std.proofs.Common.{◌≡◌, ◌/◌, ◌%◌, true, subst, arith}
+use Rattle.rio_base.specs.Rules.{◌then◌}
+use Rattle.rio_model.specs.Placed.{placed_at, volume_layout}
+use Rattle.rio_model.specs.VolumeReady.{NamedNode}
+use Rattle.file_pages.specs.Storing.{KeepsFront, NamedAs, TailCleared, ZerosFrom}
+use Rattle.file_pages.specs.OrderRules.{leaves_looked, ready_left}
+use Rattle.file_pages.proofs.Stored.{bytes_front, last_page, on_both, stores_after, stores_looked}
+use Rattle.file_pages.proofs.clearing.clear_tail.Goals as goal
+
+pub returns-in_err-b-clause-stores : goal.returns-in_err-b-clause-stores
+returns-in_err-b-clause-stores g c = stores_looked c.args.shape.now _ _ _ _ _ _ _ _ c.args.i.0 c.requires.ino c.requires.ready c.block_of.ensures.looks (g.met.V.Volume.passes_keeps _ _ c.block_of.ensures.passes)
+
+pub clear_page-requires-clause-ready : goal.clear_page-requires-clause-ready
+clear_page-requires-clause-ready g c = ready_left c.args.shape.now _ _ _ _ c.requires.ready (leaves_looked c.args.shape.now _ _ _ _ _ _ _ _ c.requires.ready c.block_of.ensures.looks (g.met.V.Volume.passes_keeps _ _ c.block_of.ensures.passes))
+
+pub returns-clause-cleared : goal.returns-clause-cleared
+returns-clause-cleared g c =
+    let f = (g.V.Blocks.seen c.args.v.now).words in
+    let z = g.V.Blocks.seen c.clear_page.new.v in
+    let i = c.args.i.0 in
+    let size = c.args.size in
+    let b = c.in_ok-b.b.0 in
+    on_both (ZerosFrom z.words b (size % 4096)) (z.cached b ≡ true → NamedAs i c.args.len (size / 4096) (z.names b)) (TailCleared f z i size c.args.len) c.clear_page.result c.clear_page.ensures.cleared c.clear_page.ensures.named
+    (λ zeros named. last_page f z i size c.args.len b c.requires.file c.requires.size (omega (arith, c.if-at-eq0.false)) c.in_ok-b.ensures.value zeros named (subst (λ w. NamedNode i (placed_at w i) z) c.block_of.ensures.looks.looks.words c.clear_page.ensures.stores.named))
+
+pub returns-clause-bytes : goal.returns-clause-bytes
+returns-clause-bytes g c =
+    let f = (g.V.Blocks.seen c.args.v.now).words in
+    let z = g.V.Blocks.seen c.clear_page.new.v in
+    let b = c.in_ok-b.b.0 in
+    bytes_front (volume_layout c.args.shape.now f) f z.words c.args.i.0 c.args.size b c.requires.ready.mapped.laid c.requires.ino c.requires.file c.requires.size c.in_ok-b.ensures.value (omega (arith, c.if-at-eq0.false))
+    (subst (λ w. KeepsFront w z.words b (c.args.size % 4096)) c.block_of.ensures.looks.looks.words c.clear_page.ensures.front)
+
+pub returns-clause-stores : goal.returns-clause-stores
+returns-clause-stores g c = stores_after c.args.shape.now _ _ _ _ _ _ _ _ _ _ c.args.i.0 c.requires.ino c.requires.ready c.block_of.ensures.looks (g.met.V.Volume.passes_keeps _ _ c.block_of.ensures.passes) c.clear_page.ensures.stores
+
+pub returns-clause-goes : goal.returns-clause-goes
+returns-clause-goes g c = (g.met.V.Volume.passes_keeps _ _ c.block_of.ensures.passes).goes then c.clear_page.ensures.goes

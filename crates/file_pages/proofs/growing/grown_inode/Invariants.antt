@@ -1,0 +1,12 @@
+use Rattle.std.proofs.Common.{ℕ, ◌≡◌, ◌<◌, ◌≤◌, length}
+use Rattle.std.specs.Prelude.{slice_index}
+use Rattle.block_alloc.specs.Bitmap.{numbers}
+use Rattle.file_pages.specs.Growing.{new_direct}
+use Rattle.file_pages.proofs.growing.grown_inode.Given as goal
+
+abbrev pub invariant-loop-p : goal.invariant-loop-p
+invariant-loop-p l = record {
+  until : l.p ≤ l.want;
+  whole : length l.direct ≡ 24;
+  direct : (q : ℕ) → q < 24 → slice_index l.direct q ≡ new_direct l.old.direct l.have l.p (numbers l.taken) q;
+}

@@ -1,0 +1,13 @@
+use Rattle.std.proofs.Common.{◌≡◌, ◌-◌, ◌≤◌, map}
+use Rattle.block_alloc.specs.Bitmap.{numbers}
+use Rattle.rio_model.specs.Updates.{run_edits}
+use Rattle.file_pages.specs.Changes.{word_edit}
+use Rattle.file_pages.specs.Growing.{new_word}
+use Rattle.file_pages.proofs.growing.table_edits.Given as goal
+
+abbrev pub invariant-loop-w : goal.invariant-loop-w
+invariant-loop-w l = record {
+  from : l.first ≤ l.w;
+  to : l.w ≤ l.end;
+  edits : map word_edit l.edits.items ≡ run_edits l.table.0 (new_word l.last l.have l.want (numbers l.taken)) l.first (l.w - l.first);
+}

@@ -1,0 +1,70 @@
+use Rattle.std.proofs.Common.{◌-◌, ◌<◌, ◌≤◌, ◌++◌, ◌∙◌, ap, arith}
+use Rattle.rio_model.specs.Placed.{AtPage, AtTable, placed_at}
+use Rattle.rio_model.specs.PlacedRules.{first_table}
+use Rattle.rio_model.specs.Sizes.{pages}
+use Rattle.block_alloc.specs.Bitmap.{numbers}
+use Rattle.file_pages.specs.Changes.{given_node}
+use Rattle.file_pages.specs.LookingUp.{page_blocks}
+use Rattle.std.proofs.lemmas.Result.{err_from_is_err_and}
+use Rattle.file_pages.proofs.Ends.{ends_read}
+use Rattle.file_pages.proofs.Given.{given_most, given_of}
+use Rattle.file_pages.proofs.Listed.{blocks_joined}
+use Rattle.file_pages.proofs.numbers.page_blocks.Goals as goal
+
+pub returns-then-middle-end-clause-value : goal.returns-then-middle-end-clause-value
+returns-then-middle-end-clause-value g c =
+    let f = (g.V.Blocks.seen c.args.v.now).words in
+    let i = c.args.i.0 in
+    let all = given_of f i c.args.inode.now c.requires.inode in
+    c.in_ok-push_direct.ensures (placed_at f i) (λ p low high. all.direct p (omega (arith, low, high, c.min-middle.ensures, c.max.ensures)) (record { used = all.used; within = (let most = c.requires.within in omega (arith, high, most, c.min-middle.ensures, c.max.ensures)) }))
+    ∙ ap (λ xs. numbers xs ++ page_blocks (placed_at f i) c.args.first (c.min-middle.result - c.args.first)) c.new-blocks.ensures.items
+    ∙ ap (λ e. page_blocks (placed_at f i) c.args.first (e - c.args.first)) c.if-middle-end.true
+
+pub push_later-requires-clause-table : goal.push_later-requires-clause-table
+push_later-requires-clause-table g c =
+    let f = (g.V.Blocks.seen c.args.v.now).words in
+    let i = c.args.i.0 in
+    let all = given_of f i c.args.inode.now c.requires.inode in
+    let past : 24 ≤ c.min-middle.result = omega (arith, c.if-middle-end.false, c.min-middle.ensures, c.max.ensures) in
+    let most = c.requires.within in
+    all.indirect 0 (first_table (given_node f i c.args.inode.now) c.min-middle.result (record { used = all.used; within = (omega (arith, most, c.if-middle-end.false, c.min-middle.ensures, c.max.ensures)) }) past)
+
+pub push_later-requires-clause-owns : goal.push_later-requires-clause-owns
+push_later-requires-clause-owns g c =
+    let f = (g.V.Blocks.seen c.args.v.now).words in
+    let i = c.args.i.0 in
+    let all = given_of f i c.args.inode.now c.requires.inode in
+    let past : 24 ≤ c.min-middle.result = omega (arith, c.if-middle-end.false, c.min-middle.ensures, c.max.ensures) in
+    let most = c.requires.within in
+    record { ino = c.requires.ino; slot = all.back (AtTable 0) (first_table (given_node f i c.args.inode.now) c.min-middle.result (record { used = all.used; within = (omega (arith, most, c.if-middle-end.false, c.min-middle.ensures, c.max.ensures)) }) past) }
+
+pub push_later-requires-clause-within : goal.push_later-requires-clause-within
+push_later-requires-clause-within g c =
+    let f = (g.V.Blocks.seen c.args.v.now).words in
+    let i = c.args.i.0 in
+    let all = given_of f i c.args.inode.now c.requires.inode in
+    let most = c.requires.within in
+    let last : c.args.end - 1 < pages (placed_at f i).size = (all.back (AtPage (c.args.end - 1)) (record { used = all.used; within = (omega (arith, most, c.if-middle-end.false, c.min-middle.ensures, c.max.ensures)) })).within in
+    omega (arith, last)
+
+pub push_later-requires-clause-most : goal.push_later-requires-clause-most
+push_later-requires-clause-most g c =
+    let size = given_most c.args.shape.now (g.V.Blocks.seen c.args.v.now).words c.args.i.0 c.args.inode.now c.requires.can.numbered c.requires.ino c.requires.inode in
+    let most = c.requires.within in
+    omega (arith, size, most)
+
+pub returns-clause-value : goal.returns-clause-value
+returns-clause-value g c =
+    let f = (g.V.Blocks.seen c.args.v.now).words in
+    let i = c.args.i.0 in
+    let all = given_of f i c.args.inode.now c.requires.inode in
+    c.in_ok-blocks.ensures.value
+    ∙ ap (λ xs. xs ++ page_blocks (placed_at f i) c.min-middle.result (c.args.end - c.min-middle.result))
+    (c.in_ok-push_direct.ensures (placed_at f i) (λ p low high. all.direct p (omega (arith, low, high, c.min-middle.ensures, c.max.ensures)) (record { used = all.used; within = (let most = c.requires.within in omega (arith, high, most, c.min-middle.ensures, c.max.ensures)) }))
+    ∙ ap (λ xs. numbers xs ++ page_blocks (placed_at f i) c.args.first (c.min-middle.result - c.args.first)) c.new-blocks.ensures.items)
+    ∙ blocks_joined (placed_at f i) c.args.first c.min-middle.result c.args.end (omega (arith, c.min-middle.ensures, c.max.ensures, c.requires.order)) (omega (arith, c.min-middle.ensures))
+
+pub returns-in_err-blocks-clause-ends : goal.returns-in_err-blocks-clause-ends
+returns-in_err-blocks-clause-ends g c =
+    let p = err_from_is_err_and c.from_residual-in_err-blocks.result c.from_residual-in_err-blocks.ensures.1 in
+    ends_read _ _ _ c.from_residual-in_err-blocks.result _ p.0 c.in_err-blocks.was p.1 p.2 c.push_later.ensures.ends

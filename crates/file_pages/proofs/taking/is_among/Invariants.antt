@@ -1,0 +1,9 @@
+use Rattle.std.proofs.Common.{ℕ, ◌≢◌, ◌<◌}
+use Rattle.std.specs.Prelude.{slice_index}
+use Rattle.block_alloc.specs.Bitmap.{numbers}
+use Rattle.file_pages.proofs.taking.is_among.Given as goal
+
+abbrev pub invariant-loop-k : goal.invariant-loop-k
+invariant-loop-k l = record {
+  none : (q : ℕ) → q < l.k → slice_index (numbers l.blocks) q ≢ l.b.0;
+}

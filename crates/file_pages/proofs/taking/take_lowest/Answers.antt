@@ -1,0 +1,40 @@
+use Rattle.std.proofs.Common.{sym, subst, arith}
+use Rattle.std.proofs.lemmas.Result.{err_from_is_err_and}
+use Rattle.rio_base.specs.Bitmap.{free_blocks}
+use Rattle.file_pages.specs.LookingUpRules.{can_look_up, looked_low}
+use Rattle.file_pages.specs.Changes.{Apart}
+use Rattle.file_pages.proofs.FreeLists.{ends_short, ends_small, ends_take, ends_taken, first_apart, first_count, first_free, lists_apart}
+use Rattle.file_pages.proofs.taking.take_lowest.Goals as goal
+
+pub returns-in_err-blocks-clause-looks : goal.returns-in_err-blocks-clause-looks
+returns-in_err-blocks-clause-looks g c = looked_low c.args.shape.now _ _ 1 (can_look_up c.args.shape.now _ c.requires.ready.has_shape c.requires.ready.mapped c.requires.ready.named) (omega arith) c.take.ensures.looks c.take.ensures.caches
+
+pub returns-clause-looks : goal.returns-clause-looks
+returns-clause-looks g c = looked_low c.args.shape.now _ _ 1 (can_look_up c.args.shape.now _ c.requires.ready.has_shape c.requires.ready.mapped c.requires.ready.named) (omega arith) c.take.ensures.looks c.take.ensures.caches
+
+pub returns-in_err-blocks-clause-ends : goal.returns-in_err-blocks-clause-ends
+returns-in_err-blocks-clause-ends g c =
+    let p = err_from_is_err_and c.from_residual.result c.from_residual.ensures.1 in
+    ends_take _ _ _ c.from_residual.result _ p.0 c.in_err-blocks.was p.1 p.2 c.take.ensures.ends
+
+pub returns-clause-ends : goal.returns-clause-ends
+returns-clause-ends g c = ends_taken _ _ c.take.result c.in_ok-blocks.blocks _ c.in_ok-blocks.was c.take.ensures.ends
+
+pub returns-in_err-blocks-clause-no_space : goal.returns-in_err-blocks-clause-no_space
+returns-in_err-blocks-clause-no_space g c =
+    let p = err_from_is_err_and c.from_residual.result c.from_residual.ensures.1 in
+    ends_short _ _ c.from_residual.result _ p.0 c.in_err-blocks.was p.1 p.2 c.take.ensures.no_space
+
+pub returns-in_err-blocks-clause-small : goal.returns-in_err-blocks-clause-small
+returns-in_err-blocks-clause-small g c =
+    let p = err_from_is_err_and c.from_residual.result c.from_residual.ensures.1 in
+    ends_small c.from_residual.result _ p.0 p.1 p.2
+
+pub returns-clause-count : goal.returns-clause-count
+returns-clause-count g c = first_count _ (free_blocks c.args.shape.now (g.V.Blocks.seen c.args.v.now).words) c.in_ok-blocks.blocks c.in_ok-blocks.ensures.value c.in_ok-blocks.ensures.room
+
+pub returns-clause-free : goal.returns-clause-free
+returns-clause-free g c = first_free c.args.shape.now _ _ c.in_ok-blocks.blocks c.requires.ready.mapped c.in_ok-blocks.ensures.value c.in_ok-blocks.ensures.room
+
+pub returns-clause-apart : goal.returns-clause-apart
+returns-clause-apart g c = subst Apart (sym c.in_ok-blocks.ensures.value) (first_apart _ (free_blocks c.args.shape.now (g.V.Blocks.seen c.args.v.now).words) c.in_ok-blocks.ensures.room (lists_apart c.args.shape.now (g.V.Blocks.seen c.args.v.now).words))

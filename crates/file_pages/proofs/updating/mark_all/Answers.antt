@@ -1,0 +1,52 @@
+use Rattle.std.proofs.Common.{Bool, ◌<◌, ℕ, length, sym, ap, subst, ◌∙◌, le_trans}
+use Rattle.rio_base.specs.BlockRules.{caches_trans}
+use Rattle.rio_base.specs.Rules.{firm_trans, goes_trans}
+use Rattle.block_alloc.specs.Bitmap.{numbers}
+use Rattle.file_pages.proofs.Listed.{number_at, listed, as_many}
+use Rattle.file_pages.proofs.Updated.{caches_first, in_first, sets_more, update_trans}
+use Rattle.file_pages.proofs.updating.mark_all.Goals as goal
+
+pub loop-t-preserved : goal.loop-t-preserved
+loop-t-preserved g c =
+    let inv = c.loop-t.invariant in
+    let now = c.in_ok-mark.ensures in
+    let call = c.mark.ensures in
+    let bs = c.args.blocks.now in
+    let few : c.loop-t.t < length bs = c.loop-t-test.true in
+    let is = number_at bs c.loop-t.t _ few in
+    let within = subst (λ (b : ℕ). b < c.args.shape.now.blocks) (sym is) (c.requires.blocks _ (listed (numbers bs) c.loop-t.t (subst (λ (n : ℕ). c.loop-t.t < n) (sym (as_many bs)) few))) in
+    record {
+      bits = sets_more c.args.shape.now _ _ _ (numbers bs) c.loop-t.t _ _ c.requires.shape.sizes within is inv.bits now.marks.ok;
+      update = update_trans _ _ _ inv.update now.marks.update;
+      standing = call.marks.standing ∙ inv.standing;
+      firm = firm_trans _ _ _ inv.firm call.marks.firm;
+      shape = call.shape;
+      caches = caches_trans _ _ _ _ _ inv.caches (caches_first c.args.shape.now _ _ _ c.requires.shape.sizes within call.marks.caches);
+      goes = goes_trans _ _ _ _ _ _ inv.goes call.goes;
+      later = le_trans inv.later call.ends.later;
+      running = now.ends.cause ∙ inv.running;
+      sound = call.sound;
+    }
+
+pub mark-requires-clause-block : goal.mark-requires-clause-block
+mark-requires-clause-block g c =
+    let bs = c.args.blocks.now in
+    let few : c.loop-t.t < length bs = c.loop-t-test.true in
+    subst (λ (b : ℕ). b < c.args.shape.now.blocks) (sym (number_at bs c.loop-t.t _ few)) (c.requires.blocks _ (listed (numbers bs) c.loop-t.t (subst (λ (n : ℕ). c.loop-t.t < n) (sym (as_many bs)) few)))
+
+pub mark-requires-clause-touched : goal.mark-requires-clause-touched
+mark-requires-clause-touched g c =
+    let bs = c.args.blocks.now in
+    let few : c.loop-t.t < length bs = c.loop-t-test.true in
+    let within = subst (λ (b : ℕ). b < c.args.shape.now.blocks) (sym (number_at bs c.loop-t.t _ few)) (c.requires.blocks _ (listed (numbers bs) c.loop-t.t (subst (λ (n : ℕ). c.loop-t.t < n) (sym (as_many bs)) few))) in
+    ap (g.V.Volume.kept c.loop-t.v).touched (in_first c.args.shape.now _ c.requires.shape.sizes within) ∙ ap (λ (f : ℕ → Bool). f 1) c.loop-t.invariant.update.touched ∙ c.requires.touched
+
+pub returns-in_err-mark-clause-caches : goal.returns-in_err-mark-clause-caches
+returns-in_err-mark-clause-caches g c =
+    let bs = c.args.blocks.now in
+    let few : c.loop-t.t < length bs = c.loop-t-test.true in
+    let within = subst (λ (b : ℕ). b < c.args.shape.now.blocks) (sym (number_at bs c.loop-t.t _ few)) (c.requires.blocks _ (listed (numbers bs) c.loop-t.t (subst (λ (n : ℕ). c.loop-t.t < n) (sym (as_many bs)) few))) in
+    caches_trans _ _ _ _ _ c.loop-t.invariant.caches (caches_first c.args.shape.now _ _ _ c.requires.shape.sizes within c.mark.ensures.marks.caches)
+
+pub returns-in_err-mark-clause-goes : goal.returns-in_err-mark-clause-goes
+returns-in_err-mark-clause-goes g c = goes_trans _ _ _ _ _ _ c.loop-t.invariant.goes c.mark.ensures.goes

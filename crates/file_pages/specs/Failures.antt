@@ -1,0 +1,29 @@
+-- Failures of the volume below, handed on.
+use Rattle.std.specs.Prelude.{Result, IsErrOf}
+use Rattle.block_alloc.specs.declared.taking.TakeFail.{TakeFail}
+use Rattle.block_alloc.specs.declared.taking.TakeFail.TheVariants.{NoSpace as TakeNoSpace, Fault as TakeFault, Stopped as TakeStopped, Memory as TakeMemory}
+use Rattle.rio_base.specs.declared.failures.VolFail.{VolFail}
+use Rattle.rio_base.specs.declared.failures.VolFail.TheVariants.{Fault as DiskFault, Stopped as MachineStopped}
+use Rattle.rio_base.specs.declared.failures.ReadFail.{ReadFail}
+use Rattle.rio_base.specs.declared.failures.ReadFail.TheVariants.{Fault as ReadFault, Stopped as ReadStopped, Memory as ReadMemory}
+use Rattle.file_pages.specs.declared.failures.SizeFail.{SizeFail}
+use Rattle.file_pages.specs.declared.failures.SizeFail.TheVariants.{NoSpace as SizeNoSpace, TooLarge as SizeTooLarge, Fault as SizeFault, Stopped as SizeStopped, Memory as SizeMemory}
+
+abbrev pub size_handed : VolFail → SizeFail
+size_handed DiskFault = SizeFault
+size_handed MachineStopped = SizeStopped
+
+abbrev pub size_of_read : ReadFail → SizeFail
+size_of_read ReadFault = SizeFault
+size_of_read ReadStopped = SizeStopped
+size_of_read ReadMemory = SizeMemory
+
+abbrev pub size_of_take : TakeFail → SizeFail
+size_of_take TakeNoSpace = SizeNoSpace
+size_of_take TakeFault = SizeFault
+size_of_take TakeStopped = SizeStopped
+size_of_take TakeMemory = SizeMemory
+
+-- a call that was not refused for its size
+abbrev pub Unrefused : {T : Type 0} → Result T SizeFail → Type 0
+Unrefused r = (IsErrOf r SizeNoSpace → ⊥) × (IsErrOf r SizeTooLarge → ⊥)

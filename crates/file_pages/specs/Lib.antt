@@ -1,0 +1,13 @@
+pub mod Changes
+pub mod Failures
+pub mod Files
+pub mod Growing
+pub mod LookingUp
+pub mod LookingUpRules
+pub mod OrderRules
+pub mod Orders
+pub mod PageBytes
+pub mod Preparing
+pub mod Staging
+pub mod Storing
+pub mod Updating

@@ -1,0 +1,33 @@
+-- Bytes of pages, and bytes stored over them.
+use Rattle.std.specs.Prelude.{◌≡◌, ℕ, ◌+◌, ◌-◌, ◌/◌, ◌%◌, ◌<◌, ◌≤◌, ◌&&◌, nat_le, nat_lt, if◌then◌else◌, List, slice_index, Option, Some}
+use Rattle.std.specs.List.{flat_map}
+use Rattle.byteorder.specs.Endian.{little_bytes}
+use Rattle.rio_base.specs.declared.places.PageName.{PageName}
+use Rattle.rio_base.specs.Blocks.{BlockWords}
+use Rattle.rio_base.specs.Volume.{SameBut}
+use Rattle.rio_model.specs.Held.{byte_of}
+
+-- the bytes of words, in order
+abbrev pub bytes_of : List ℕ → List ℕ
+bytes_of words = flat_map (little_bytes 8) words
+
+-- byte y of a block
+abbrev pub block_byte : BlockWords → ℕ → ℕ → ℕ
+block_byte f b y = byte_of (f b (y / 8)) (y % 8)
+
+-- k bytes stand at a place, and around them what was there
+abbrev pub over : (ℕ → ℕ) → ℕ → List ℕ → ℕ → ℕ → ℕ
+over was at bytes k y = if nat_le at y && nat_lt y (at + k) then slice_index bytes (y - at) else was y
+
+-- the first k of these bytes are stored in a block from byte `at` on, and no other byte of any block differs
+pub record PutsBytes (f g : BlockWords) (b at : ℕ) (bytes : List ℕ) (k : ℕ) : Type 0 where
+  pub others : SameBut b f g
+  pub each : (y : ℕ) → y < 4096 → block_byte g b y ≡ over (block_byte f b) at bytes k y
+
+-- a name of the same page with as many bytes at least
+pub record NamesAs (given : PageName) (name : Option PageName) : Type 0 where
+  pub own : PageName
+  pub is : name ≡ Some own
+  pub file : own.file ≡ given.file
+  pub index : own.index ≡ given.index
+  pub size : given.size ≤ own.size

@@ -1,0 +1,29 @@
+//! The pages of a node: where they lie, what bytes a file has in them, and how a node's size changes.
+#![tactic(auto)]
+
+mod changes;
+mod clearing;
+mod committing;
+mod failures;
+mod forgetting;
+mod growing;
+mod lookup;
+mod numbers;
+mod planning;
+mod preparing;
+mod reading;
+mod resizing;
+mod shrinking;
+mod sizes;
+mod staging;
+mod taking;
+mod updating;
+
+pub use changes::{Edit, EditList, SizeChange};
+pub use failures::{SizeFail, WriteFail};
+pub use lookup::block_of;
+pub use numbers::blocks_of;
+pub use preparing::plan_size;
+pub use reading::read;
+pub use resizing::resize;
+pub use sizes::LARGEST_SIZE;

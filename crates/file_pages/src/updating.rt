@@ -1,0 +1,186 @@
+//! A change of size, made in one update.
+
+ghost use Rattle.std.specs.Prelude.{◌≡◌, ◌<◌, ◌≤◌, ◌⊎◌, ℕ, true, false, None, length, OnOk, IsErrOf};
+ghost use Rattle.std.specs.List.{Contains};
+ghost use Rattle.rio_base.specs.BlockSets.{CachesBy};
+ghost use Rattle.rio_base.specs.Blocks.{Looks, Caches, Drops, Ends, Halts};
+ghost use Rattle.rio_base.specs.Layout.{IsIno};
+ghost use Rattle.rio_base.specs.Shapes.{HasShape};
+ghost use Rattle.rio_base.specs.Volume.{Firm, Goes, SameUpdate};
+ghost use Rattle.rio_model.specs.Updates.{Applied, edited};
+ghost use Rattle.std.specs.Prelude.{map};
+ghost use Rattle.block_alloc.specs.Bitmap.{numbers};
+ghost use Rattle.file_pages.specs.Changes.{size_update, word_edit};
+ghost use Rattle.file_pages.specs.Updating.{CanChange, CanMake, EditsFit, IsEdited, IsTouched, IsUpdated, SetsBits};
+ghost use Rattle.file_pages.specs.declared.changes.Edit.{Edit};
+
+use crate::changes::{Edit, SizeChange};
+use block_alloc::{mark, unmark};
+use inode_table::{edit_inode, inode_block};
+use rio_base::{Block, Ino, Stopped, VolFail, Volume, VolumeShape};
+
+/// The bitmap of the blocks that a volume may have.
+const BITMAP: Block = Block(1);
+
+/// Touches the block of edits, which are all in one.
+#[tactic(auto, using(rio_base::specs::BlockSets::caches_by_refl, rio_base::specs::Rules::looks_refl, rio_base::specs::Rules::firm_refl, rio_base::specs::Rules::goes_refl))]
+fn touch_table<V: Volume>(v: &mut V, shape: &VolumeShape, edits: &[Edit]) -> Result<(), VolFail>
+    requires sound { V.sound v.old }
+    requires shape { HasShape shape.now (V.seen v.old) }
+    requires in_update { (V.kept v.old).updating ≡ true }
+    requires room { (V.kept v.old).touches ≤ 2 }
+    requires fit { EditsFit shape.now edits.now }
+    requires unnamed { (e : Edit) → Contains edits.now e → (V.seen v.old).cached e.block.0 ≡ true → (V.seen v.old).names e.block.0 ≡ None }
+    ensures ok { OnOk result ((e : Edit) → Contains edits.now e → (V.kept v.new).touched e.block.0 ≡ true) }
+    ensures more { OnOk result ((b : ℕ) → (V.kept v.old).touched b ≡ true → (V.kept v.new).touched b ≡ true) }
+    ensures begun { IsErrOf result VolFail.Stopped ⊎ ((V.kept v.new).begun ≡ (V.kept v.old).begun) }
+    ensures looks { Looks (V.seen v.old) (V.seen v.new) }
+    ensures standing { (V.kept v.new).standing ≡ (V.kept v.old).standing }
+    ensures firm { Firm (V.kept v.old) (V.kept v.new) }
+    ensures caches { CachesBy (λ b name. IsEdited edits.now b × (name ≡ None)) (V.seen v.old) (V.seen v.new) }
+    ensures in_update { (V.kept v.new).updating ≡ true }
+    ensures goes { Goes (V.health v.old) (V.below v.old) (V.health v.new) (V.below v.new) }
+    ensures ends { Ends (V.health v.old) (V.health v.new) result }
+    ensures sound { V.sound v.new }
+{
+    if edits.is_empty() {
+        return Ok(());
+    }
+    v.touch(edits[0].block)?;
+    Ok(())
+}
+
+/// Touches the blocks that a change of node `i` edits: the bitmap, the block of its inode, and its table, where numbers in
+/// it change. So an update touches three blocks at most.
+pub fn touch_change<V: Volume>(
+    v: &mut V,
+    shape: &VolumeShape,
+    i: Ino,
+    change: &SizeChange,
+) -> Result<(), VolFail>
+    requires sound { V.sound v.old }
+    requires shape { HasShape shape.now (V.seen v.old) }
+    requires in_update { (V.kept v.old).updating ≡ true }
+    requires room { (V.kept v.old).touches ≡ 0 }
+    requires ino { IsIno shape.now i.0 }
+    requires can { CanChange shape.now (V.seen v.old) change.now }
+    ensures ok { OnOk result (IsTouched (V.kept v.new) i.0 change.now.edits) }
+    ensures begun { IsErrOf result VolFail.Stopped ⊎ ((V.kept v.new).begun ≡ (V.kept v.old).begun) }
+    ensures looks { Looks (V.seen v.old) (V.seen v.new) }
+    ensures standing { (V.kept v.new).standing ≡ (V.kept v.old).standing }
+    ensures firm { Firm (V.kept v.old) (V.kept v.new) }
+    ensures caches { CachesBy (IsUpdated i.0 change.now.edits) (V.seen v.old) (V.seen v.new) }
+    ensures in_update { (V.kept v.new).updating ≡ true }
+    ensures goes { Goes (V.health v.old) (V.below v.old) (V.health v.new) (V.below v.new) }
+    ensures ends { Ends (V.health v.old) (V.health v.new) result }
+    ensures sound { V.sound v.new }
+{
+    v.touch(BITMAP)?;
+    v.touch(inode_block(shape, i))?;
+    touch_table(v, shape, change.edits.as_slice())?;
+    Ok(())
+}
+
+/// Makes edits in the open update.
+fn make_edits<V: Volume>(v: &mut V, edits: &[Edit]) -> Result<(), Stopped>
+    requires sound { V.sound v.old }
+    requires in_update { (V.kept v.old).updating ≡ true }
+    requires blocks { (e : Edit) → Contains edits.now e → e.block.0 < (V.seen v.old).count }
+    requires words { (e : Edit) → Contains edits.now e → e.word < 512 }
+    requires touched { (e : Edit) → Contains edits.now e → (V.kept v.old).touched e.block.0 ≡ true }
+    ensures ok { OnOk result ((V.seen v.new).words ≡ edited (V.seen v.old).words (map word_edit edits.now)) }
+    ensures update { OnOk result (SameUpdate (V.kept v.old) (V.kept v.new)) }
+    ensures in_update { (V.kept v.new).updating ≡ true }
+    ensures standing { (V.kept v.new).standing ≡ (V.kept v.old).standing }
+    ensures firm { Firm (V.kept v.old) (V.kept v.new) }
+    ensures count { (V.seen v.new).count ≡ (V.seen v.old).count }
+    ensures drops { Drops (V.seen v.old) (V.seen v.new) }
+    ensures goes { Goes (V.health v.old) (V.below v.old) (V.health v.new) (V.below v.new) }
+    ensures ends { Halts (V.health v.old) (V.health v.new) result }
+    ensures sound { V.sound v.new }
+{
+    for t in 0..edits.len() {
+        let edit = edits[t];
+        v.edit(edit.block, edit.word, edit.value)?;
+    }
+    Ok(())
+}
+
+/// Marks blocks as used, in the open update.
+fn mark_all<V: Volume>(v: &mut V, shape: &VolumeShape, blocks: &[Block]) -> Result<(), Stopped>
+    requires sound { V.sound v.old }
+    requires shape { HasShape shape.now (V.seen v.old) }
+    requires blocks { (b : ℕ) → Contains (numbers blocks.now) b → b < shape.now.blocks }
+    requires touched { (V.kept v.old).touched 1 ≡ true }
+    requires in_update { (V.kept v.old).updating ≡ true }
+    ensures ok { OnOk result (SetsBits shape.now (V.seen v.old).words (V.seen v.new).words (numbers blocks.now) (length blocks.now) 1) }
+    ensures update { OnOk result (SameUpdate (V.kept v.old) (V.kept v.new)) }
+    ensures in_update { (V.kept v.new).updating ≡ true }
+    ensures standing { (V.kept v.new).standing ≡ (V.kept v.old).standing }
+    ensures firm { Firm (V.kept v.old) (V.kept v.new) }
+    ensures shape { HasShape shape.now (V.seen v.new) }
+    ensures caches { Caches (V.seen v.old) (V.seen v.new) 1 None }
+    ensures goes { Goes (V.health v.old) (V.below v.old) (V.health v.new) (V.below v.new) }
+    ensures ends { Halts (V.health v.old) (V.health v.new) result }
+    ensures sound { V.sound v.new }
+{
+    for t in 0..blocks.len() {
+        mark(v, shape, blocks[t])?;
+    }
+    Ok(())
+}
+
+/// Marks blocks as free, in the open update.
+fn unmark_all<V: Volume>(v: &mut V, shape: &VolumeShape, blocks: &[Block]) -> Result<(), Stopped>
+    requires sound { V.sound v.old }
+    requires shape { HasShape shape.now (V.seen v.old) }
+    requires blocks { (b : ℕ) → Contains (numbers blocks.now) b → b < shape.now.blocks }
+    requires touched { (V.kept v.old).touched 1 ≡ true }
+    requires in_update { (V.kept v.old).updating ≡ true }
+    ensures ok { OnOk result (SetsBits shape.now (V.seen v.old).words (V.seen v.new).words (numbers blocks.now) (length blocks.now) 0) }
+    ensures update { OnOk result (SameUpdate (V.kept v.old) (V.kept v.new)) }
+    ensures in_update { (V.kept v.new).updating ≡ true }
+    ensures standing { (V.kept v.new).standing ≡ (V.kept v.old).standing }
+    ensures firm { Firm (V.kept v.old) (V.kept v.new) }
+    ensures shape { HasShape shape.now (V.seen v.new) }
+    ensures caches { Caches (V.seen v.old) (V.seen v.new) 1 None }
+    ensures goes { Goes (V.health v.old) (V.below v.old) (V.health v.new) (V.below v.new) }
+    ensures ends { Halts (V.health v.old) (V.health v.new) result }
+    ensures sound { V.sound v.new }
+{
+    for t in 0..blocks.len() {
+        unmark(v, shape, blocks[t])?;
+    }
+    Ok(())
+}
+
+/// Makes a prepared change of node `i`, in the open update. All its blocks must be touched.
+pub fn apply<V: Volume>(
+    v: &mut V,
+    shape: &VolumeShape,
+    i: Ino,
+    change: &SizeChange,
+) -> Result<(), Stopped>
+    requires sound { V.sound v.old }
+    requires shape { HasShape shape.now (V.seen v.old) }
+    requires in_update { (V.kept v.old).updating ≡ true }
+    requires ino { IsIno shape.now i.0 }
+    requires touched { IsTouched (V.kept v.old) i.0 change.now.edits }
+    requires makes { CanMake shape.now change.now }
+    ensures ok { OnOk result (Applied shape.now (size_update i.0 change.now) (V.seen v.old).words (V.seen v.new).words) }
+    ensures update { OnOk result (SameUpdate (V.kept v.old) (V.kept v.new)) }
+    ensures in_update { (V.kept v.new).updating ≡ true }
+    ensures standing { (V.kept v.new).standing ≡ (V.kept v.old).standing }
+    ensures firm { Firm (V.kept v.old) (V.kept v.new) }
+    ensures shape { HasShape shape.now (V.seen v.new) }
+    ensures caches { Caches (V.seen v.old) (V.seen v.new) 1 None }
+    ensures goes { Goes (V.health v.old) (V.below v.old) (V.health v.new) (V.below v.new) }
+    ensures ends { Halts (V.health v.old) (V.health v.new) result }
+    ensures sound { V.sound v.new }
+{
+    make_edits(v, change.edits.as_slice())?;
+    edit_inode(v, shape, i, &change.inode)?;
+    mark_all(v, shape, change.taken.as_slice())?;
+    unmark_all(v, shape, change.freed.as_slice())?;
+    Ok(())
+}

@@ -1,0 +1,2 @@
+pub mod Inodes
+pub mod InodeRules

@@ -1,0 +1,14 @@
+//! The inodes of a volume: read, stored in an update, and the least one that is free.
+#![tactic(auto)]
+
+mod finding;
+mod inode;
+#[cfg(test)]
+mod inode_tests;
+mod reading;
+mod storing;
+
+pub use finding::least_free;
+pub use inode::{Inode, inode_block};
+pub use reading::read_inode;
+pub use storing::edit_inode;
