@@ -5,7 +5,7 @@ use Rattle.std.specs.Int.{bit_at}
 use Rattle.std.proofs.lemmas.Nat.Bits.{shr_and_one}
 use Rattle.rio_base.specs.Regions.{AreWords}
 use Rattle.rio_model.specs.Heap.{used, starts, IsFirstFit, IsGap}
-use Rattle.recov_alloc.specs.Bits.{IsOnes, IsZeros}
+use Rattle.undo_list.specs.Bits.{IsOnes, IsZeros}
 use Rattle.recov_alloc.specs.Scans.{Before, FoundBy}
 
 pub none_before : (l : ℕ → ℕ) (n : ℕ) → 1 ≤ n → Before l n 0 0

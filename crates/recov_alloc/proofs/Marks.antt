@@ -7,7 +7,7 @@ use Rattle.rio_base.specs.Regions.{RegionContent, put_word}
 use Rattle.rio_model.specs.Undo.{Gains, IsRegion, Keeps, Sets, Undoes, live, saving, undo_records}
 use Rattle.rio_model.specs.UndoRules.{keeps_refl, undoes_trans}
 use Rattle.rio_model.specs.Heap.{AddsBlock, Allocates, IsBlock, IsFirstFit, OffBlock, Releases, RemovesBlock, starts, touched_pages, used}
-use Rattle.recov_alloc.specs.Bits.{WithBits}
+use Rattle.undo_list.specs.Bits.{WithBits}
 use Rattle.recov_alloc.specs.Marks.{MarksBlock, MarksUnits, StoresBits}
 
 -- ---- bits of one word

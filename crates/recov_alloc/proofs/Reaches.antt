@@ -8,7 +8,8 @@ use Rattle.std.proofs.Common.{append_assoc, append-nil}
 use Rattle.rio_base.specs.Regions.{AreWords}
 use Rattle.rio_model.specs.Heap.{used, starts, IsBlock, OfBlocks, blocks_from, run_length}
 use Rattle.rio_model.specs.HeapRules.{block_run}
-use Rattle.recov_alloc.specs.Bits.{GoesOn, IsZeros}
+use Rattle.undo_list.specs.Bits.{IsZeros}
+use Rattle.recov_alloc.specs.Bits.{GoesOn}
 use Rattle.recov_alloc.proofs.Fits.{used_bit, starts_bit}
 
 -- the units behind the first one, before x, are in its block

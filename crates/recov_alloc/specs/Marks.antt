@@ -3,7 +3,7 @@ use Rattle.std.specs.Prelude.{◌≡◌, ◌≢◌, ℕ, ◌+◌, ◌-◌, ◌*�
 use Rattle.rio_base.specs.Regions.{RegionContent}
 use Rattle.rio_model.specs.Undo.{CoversAll, undo_records}
 use Rattle.rio_model.specs.Heap.{OffBlock, starts, touched_pages, used}
-use Rattle.recov_alloc.specs.Bits.{WithBits}
+use Rattle.undo_list.specs.Bits.{WithBits}
 
 -- bits of one word are v, and no other bit and no other word differs
 pub record StoresBits (l m : ℕ → ℕ) (place from to v : ℕ) : Type 0 where

@@ -7,9 +7,8 @@ ghost use Rattle.rio_model.specs.Undo.{IsRegion, live};
 ghost use Rattle.rio_model.specs.Heap.{Finds, units_of};
 ghost use Rattle.recov_alloc.specs.Scans.{Before, RunFits, ScanEnds};
 
-use crate::bits::{ones_from, zeros_from};
 use rio_base::{RegionWords, VolFail};
-use undo_list::{data_pages, read_places};
+use undo_list::{data_pages, ones_from, read_places, zeros_from};
 
 /// Data pages whose map words one call reads. Each search clears a room of twice as many words, so it is small.
 const RUN_PAGES: u32 = 32;

@@ -6,11 +6,10 @@ ghost use Rattle.rio_base.specs.Regions.{Stays};
 ghost use Rattle.rio_model.specs.Undo.{IsRegion, live};
 ghost use Rattle.rio_model.specs.Heap.{OfBlocks, heap_blocks, units_of};
 
-use crate::bits::zeros_from;
 use crate::extents::block_units;
 use rio_base::{HeapList, ReadFail, RegionWords};
 use std::alloc::Global;
-use undo_list::{data_pages, word_at};
+use undo_list::{data_pages, word_at, zeros_from};
 
 /// The blocks of a region's heap, first unit and units of each, in rising order. `Memory` is that of the list.
 pub fn blocks<R: RegionWords>(alloc: Global, r: &mut R) -> Result<HeapList, ReadFail>

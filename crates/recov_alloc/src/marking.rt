@@ -7,9 +7,8 @@ ghost use Rattle.rio_model.specs.Undo.{IsRegion, Keeps, is_covered, live, places
 ghost use Rattle.rio_model.specs.Heap.{units_of};
 ghost use Rattle.recov_alloc.specs.Marks.{MapCovered, MarksBlock, MarksUnits, StoresBits};
 
-use crate::bits::with_bits;
 use rio_base::{RegionWords, VolFail};
-use undo_list::{put_covered, word_at};
+use undo_list::{put_covered, with_bits, word_at};
 
 /// Sets or clears bits `from` to `to - 1` of the word at a covered place, by one store.
 fn store_bits<R: RegionWords>(

@@ -1,7 +1,10 @@
 pub mod Outcomes
 pub mod Copies
 pub mod Chains
+pub mod Covers
+pub mod MarkedRecords
 pub mod Frames
 pub mod FaultyGoes
 pub mod FreshRegions
-pub mod Covers
+pub mod BitRuns
+pub mod MarkRuns

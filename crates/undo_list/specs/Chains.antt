@@ -1,7 +1,8 @@
 -- The records that a head names, read one after the other.
-use Rattle.std.specs.Prelude.{◌≡◌, ℕ, suc, ◌+◌, ◌-◌, ◌<◌, ◌≤◌, ◌⊎◌, true, false, List, ◌∷◌, length}
+use Rattle.std.specs.Prelude.{◌≡◌, ℕ, suc, ◌+◌, ◌-◌, ◌<◌, ◌≤◌, ◌⊎◌, List, ◌∷◌, length}
 use Rattle.rio_base.specs.Regions.{RegionContent}
-use Rattle.rio_model.specs.Undo.{UndoRecord, IsRecord, Links, Within, is_covered, places, taken, undo_word, undo_words}
+use Rattle.rio_model.specs.Undo.{UndoRecord, IsRecord, Links, Within, is_covered, places, taken, undo_records, undo_word, undo_words}
+use Rattle.undo_list.specs.Marks.{mark_of}
 use Rattle.undo_list.specs.declared.covering.Span.{Span}
 use Rattle.undo_list.specs.declared.records.SavedAt.{SavedAt}
 
@@ -32,10 +33,18 @@ pub record IsNewest (f : RegionContent) (rs : List UndoRecord) (v : SavedAt) : T
   pub count : v.count ≡ length newest.old
   pub older : v.older ≡ undo_word f v.at
 
--- of the places of a span those outside what is left are covered. An end that is left where it was is not
-pub record CoversBeside (records : List UndoRecord) (span left : Span) : Type 0 where
-  pub later : span.from ≤ left.from
-  pub sooner : left.to ≤ span.to
-  pub beside : (q : ℕ) → span.from ≤ q → q < span.to → (q < left.from) ⊎ (left.to ≤ q) → is_covered records q ≡ true
-  pub front : left.from < left.to → left.from ≡ span.from → is_covered records span.from ≡ false
-  pub last : left.from < left.to → left.to ≡ span.to → is_covered records (span.to - 1) ≡ false
+-- a record was read, of those from it on that are still to be looked at: of the places of a span just these records tell
+-- whether each is covered
+pub record Awaits (f : RegionContent) (v : SavedAt) (span : Span) : Type 0 where
+  pub newest : UndoRecord
+  pub rest : List UndoRecord
+  pub first : v.first ≡ newest.first
+  pub count : v.count ≡ length newest.old
+  pub within : v.first + v.count ≤ places f
+  pub chain : IsChain f v.older rest
+  pub same : (q : ℕ) → span.from ≤ q → q < span.to → is_covered (undo_records f) q ≡ is_covered (newest ∷ rest) q
+
+-- the places of a span that a record has become marked
+pub record MarksRecord (old new : List ℕ) (first count : ℕ) (span : Span) : Type 0 where
+  pub inside : (q : ℕ) → span.from ≤ q → q < span.to → first ≤ q → q < first + count → mark_of new (q - span.from) ≡ 1
+  pub outside : (q : ℕ) → span.from ≤ q → q < span.to → (q < first) ⊎ (first + count ≤ q) → mark_of new (q - span.from) ≡ mark_of old (q - span.from)

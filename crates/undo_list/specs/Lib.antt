@@ -1,5 +1,7 @@
+pub mod Bits
 pub mod Chains
 pub mod Copies
 pub mod Failures
 pub mod FaultyRegions
+pub mod Marks
 pub mod Stages

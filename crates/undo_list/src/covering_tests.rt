@@ -1,5 +1,4 @@
-//! Tests of which places records cover together, and of how often they are followed for it: a pass over all of them is one
-//! call for the head and three for each record.
+//! Tests of which places records cover together, and of how many records are read for it: each at most once.
 
 ghost use Rattle.std.specs.Prelude.{◌≡◌, ◌≤◌, ◌+◌, IfOk};
 ghost use Rattle.rio_base.specs.Regions.{Stays};
@@ -11,101 +10,242 @@ use rio_base::RegionWords;
 use std::alloc::Global;
 use std::test::Fail;
 
-/// The place of the first data word of a region of one map page.
-const DATA: u32 = 512;
-
-/// The calls of one pass over three records.
-const PASS: u64 = 10;
-
-/// Data words: the first, and how many.
+/// Places: the first, and how many.
 #[derive(Clone, Copy)]
-struct Words(u32, u32);
+struct Places(u32, u32);
 
-/// Saves some data words.
-fn save<R: RegionWords>(r: &mut R, words: Words) -> Result<(), Fail>
+/// The calls on the region that read so many records: one for the head and three for each.
+fn calls_for(records: u32) -> u64 {
+    1 + 3 * u64::from(records)
+}
+
+/// Saves some places of a region that has 1,024 or more.
+fn save<R: RegionWords>(r: &mut R, saved: Places) -> Result<(), Fail>
     requires ready { R.ready r.old }
     requires region { IsRegion (R.count r.old) (R.words r.old) }
     ensures region { IsRegion (R.count r.new) (R.words r.new) }
     ensures stays { Stays R.keeps_rest R.ready R.count R.health R.below r.old r.new }
 {
-    set_range(r, DATA + words.0.min(200), words.1.min(200))?;
+    let first = saved.0.min(1024);
+    set_range(r, first, saved.1.min(1024 - first))?;
     Ok(())
 }
 
-/// A region in which three ranges were saved, one after the other.
-fn with_saved(alloc: Global, a: Words, b: Words, c: Words) -> Result<FaultyRegion, Fail>
+/// A region in which four ranges were saved, one after the other.
+fn with_saved(alloc: Global, saved: [Places; 4]) -> Result<FaultyRegion, Fail>
     ensures ready { IfOk result FaultyReady }
     ensures region { IfOk result (λ r. IsRegion r.count (faulty_content r)) }
 {
-    let mut r = FaultyRegion::fresh(alloc, 1, 1)?;
+    let [a, b, c, d] = saved;
+    let mut r = FaultyRegion::fresh(alloc, 4, 1)?;
     save(&mut r, a)?;
     save(&mut r, b)?;
     save(&mut r, c)?;
+    save(&mut r, d)?;
     Ok(r)
 }
 
-/// Whether the first `count` data words are covered, and how many calls it took to tell.
-fn cover(r: &mut FaultyRegion, count: u32) -> Result<(bool, u64), Fail>
+/// Whether places are covered, and how many calls it took to tell.
+fn ask(r: &mut FaultyRegion, asked: Places) -> Result<(bool, u64), Fail>
     requires ready { FaultyReady r.old }
     requires region { IsRegion r.old.count (faulty_content r.old) }
 {
+    let first = asked.0.min(1024);
     let before = r.calls();
-    let all = covered(r, DATA, count.min(200))?;
+    let all = covered(r, first, asked.1.min(1024 - first))?;
     Ok((all, r.calls().saturating_sub(before)))
 }
 
+/// What is saved, what is asked, whether it is covered, and the records that are read.
+type Case = (&'static str, [Places; 4], Places, bool, u32);
+
+const CASES: [Case; 21] = [
+    (
+        "rising",
+        [Places(0, 4), Places(4, 4), Places(8, 4), Places(12, 4)],
+        Places(0, 16),
+        true,
+        4,
+    ),
+    (
+        "falling",
+        [Places(12, 4), Places(8, 4), Places(4, 4), Places(0, 4)],
+        Places(0, 16),
+        true,
+        4,
+    ),
+    (
+        "nested, the outer first",
+        [Places(0, 16), Places(1, 14), Places(2, 12), Places(3, 10)],
+        Places(0, 16),
+        true,
+        4,
+    ),
+    (
+        "nested, the inner first",
+        [Places(3, 10), Places(2, 12), Places(1, 14), Places(0, 16)],
+        Places(0, 16),
+        true,
+        1,
+    ),
+    (
+        "the middle out",
+        [Places(0, 1), Places(6, 4), Places(1, 6), Places(9, 7)],
+        Places(0, 16),
+        true,
+        4,
+    ),
+    (
+        "the middle last",
+        [Places(0, 1), Places(1, 5), Places(10, 6), Places(5, 6)],
+        Places(0, 16),
+        true,
+        4,
+    ),
+    (
+        "two middles last",
+        [Places(0, 4), Places(12, 4), Places(7, 5), Places(4, 3)],
+        Places(0, 16),
+        true,
+        4,
+    ),
+    (
+        "middles that overlap",
+        [Places(0, 5), Places(9, 7), Places(6, 5), Places(4, 4)],
+        Places(0, 16),
+        true,
+        4,
+    ),
+    (
+        "a middle twice",
+        [Places(0, 4), Places(8, 8), Places(4, 4), Places(4, 4)],
+        Places(0, 16),
+        true,
+        4,
+    ),
+    (
+        "ends between middles",
+        [Places(4, 4), Places(0, 4), Places(12, 4), Places(8, 4)],
+        Places(0, 16),
+        true,
+        4,
+    ),
+    (
+        "the oldest is not wanted",
+        [Places(0, 16), Places(0, 6), Places(10, 6), Places(5, 6)],
+        Places(0, 16),
+        true,
+        3,
+    ),
+    (
+        "places that begin within a record",
+        [Places(0, 9), Places(11, 9), Places(40, 0), Places(8, 4)],
+        Places(5, 10),
+        true,
+        4,
+    ),
+    (
+        "a hole at the front",
+        [Places(1, 3), Places(4, 4), Places(8, 4), Places(12, 4)],
+        Places(0, 16),
+        false,
+        4,
+    ),
+    (
+        "a hole at the end",
+        [Places(0, 4), Places(4, 4), Places(8, 4), Places(12, 3)],
+        Places(0, 16),
+        false,
+        4,
+    ),
+    (
+        "a hole of one in the middle",
+        [Places(0, 4), Places(10, 6), Places(7, 3), Places(4, 2)],
+        Places(0, 16),
+        false,
+        4,
+    ),
+    (
+        "an empty record in a hole",
+        [Places(0, 8), Places(9, 7), Places(8, 0), Places(4, 3)],
+        Places(0, 16),
+        false,
+        4,
+    ),
+    (
+        "many words of marks",
+        [
+            Places(0, 1),
+            Places(400, 112),
+            Places(190, 220),
+            Places(1, 190),
+        ],
+        Places(0, 512),
+        true,
+        4,
+    ),
+    (
+        "a hole before the 64th mark",
+        [
+            Places(0, 1),
+            Places(400, 112),
+            Places(64, 340),
+            Places(1, 62),
+        ],
+        Places(0, 512),
+        false,
+        4,
+    ),
+    (
+        "a hole behind the 64th mark",
+        [
+            Places(0, 1),
+            Places(400, 112),
+            Places(65, 340),
+            Places(1, 63),
+        ],
+        Places(0, 512),
+        false,
+        4,
+    ),
+    (
+        "more than 512 places",
+        [
+            Places(0, 10),
+            Places(1000, 24),
+            Places(5, 500),
+            Places(500, 510),
+        ],
+        Places(0, 1024),
+        true,
+        4,
+    ),
+    (
+        "a hole in more than 512 places",
+        [
+            Places(0, 10),
+            Places(1000, 24),
+            Places(5, 500),
+            Places(506, 510),
+        ],
+        Places(0, 1024),
+        false,
+        4,
+    ),
+];
+
 #[test]
-fn rising_ranges_are_followed_once(rt: HostRuntime) -> Result<(), Fail> {
-    let mut r = with_saved(rt.alloc(), Words(0, 4), Words(4, 4), Words(8, 4))?;
-    assert_eq!(rt; cover(&mut r, 12)?, (true, PASS));
+fn ranges_are_taken_together_in_one_pass(rt: HostRuntime) -> Result<(), Fail> {
+    for (name, saved, asked, all, records) in CASES {
+        let mut r = with_saved(rt.alloc(), saved)?;
+        assert_eq!(rt; ask(&mut r, asked)?, (all, calls_for(records)), "{name}");
+    }
     Ok(())
 }
 
 #[test]
-fn falling_ranges_are_followed_once(rt: HostRuntime) -> Result<(), Fail> {
-    let mut r = with_saved(rt.alloc(), Words(8, 4), Words(4, 4), Words(0, 4))?;
-    assert_eq!(rt; cover(&mut r, 12)?, (true, PASS));
-    Ok(())
-}
-
-#[test]
-fn nested_ranges_are_followed_once(rt: HostRuntime) -> Result<(), Fail> {
-    let mut r = with_saved(rt.alloc(), Words(0, 12), Words(2, 8), Words(4, 4))?;
-    assert_eq!(rt; cover(&mut r, 12)?, (true, PASS));
-    Ok(())
-}
-
-#[test]
-fn ranges_from_the_middle_out_are_followed_once(rt: HostRuntime) -> Result<(), Fail> {
-    let mut r = with_saved(rt.alloc(), Words(4, 4), Words(0, 5), Words(7, 5))?;
-    assert_eq!(rt; cover(&mut r, 12)?, (true, PASS));
-    Ok(())
-}
-
-#[test]
-fn a_middle_saved_last_is_found_by_a_second_pass(rt: HostRuntime) -> Result<(), Fail> {
-    let mut r = with_saved(rt.alloc(), Words(0, 4), Words(8, 4), Words(3, 6))?;
-    assert_eq!(rt; cover(&mut r, 12)?, (true, PASS + 4));
-    Ok(())
-}
-
-#[test]
-fn a_hole_at_the_front_is_told_by_one_pass(rt: HostRuntime) -> Result<(), Fail> {
-    let mut r = with_saved(rt.alloc(), Words(1, 3), Words(4, 4), Words(8, 4))?;
-    assert_eq!(rt; cover(&mut r, 12)?, (false, PASS));
-    Ok(())
-}
-
-#[test]
-fn a_hole_at_the_end_is_told_by_one_pass(rt: HostRuntime) -> Result<(), Fail> {
-    let mut r = with_saved(rt.alloc(), Words(0, 4), Words(4, 4), Words(8, 3))?;
-    assert_eq!(rt; cover(&mut r, 12)?, (false, PASS));
-    Ok(())
-}
-
-#[test]
-fn a_hole_in_the_middle_is_told_by_two_passes(rt: HostRuntime) -> Result<(), Fail> {
-    let mut r = with_saved(rt.alloc(), Words(0, 4), Words(8, 4), Words(5, 3))?;
-    assert_eq!(rt; cover(&mut r, 12)?, (false, 2 * PASS));
+fn no_places_are_covered_without_a_call(rt: HostRuntime) -> Result<(), Fail> {
+    let mut r = FaultyRegion::fresh(rt.alloc(), 1, 1)?;
+    assert_eq!(rt; ask(&mut r, Places(7, 0))?, (true, 0));
     Ok(())
 }

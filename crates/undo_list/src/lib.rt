@@ -2,11 +2,13 @@
 //! stored, and all records put back give the words of before.
 #![tactic(auto)]
 
+mod bits;
 mod covering;
 #[cfg(test)]
 mod covering_tests;
 mod failures;
 mod faulty_region;
+mod marks;
 mod places;
 mod ranges;
 mod records;
@@ -15,6 +17,7 @@ mod runs;
 #[cfg(test)]
 mod undo_tests;
 
+pub use bits::{ones_from, with_bits, zeros_from};
 pub use covering::covered;
 pub use failures::UndoFail;
 pub use faulty_region::FaultyRegion;

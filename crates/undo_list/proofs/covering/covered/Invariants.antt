@@ -1,20 +1,20 @@
 use Rattle.std.proofs.Common.{◌≡◌, ◌≤◌, ◌-◌}
 use Rattle.rio_base.specs.Regions.{Stays}
-use Rattle.rio_model.specs.Undo.{IsRegion, undo_records}
-use Rattle.undo_list.proofs.Covers.{Beside}
+use Rattle.rio_model.specs.Undo.{CoversAll, IsRegion, undo_records}
 use Rattle.undo_list.proofs.covering.covered.Given as goal
 
-abbrev pub invariant-loop-span : goal.invariant-loop-span
-invariant-loop-span g l =
+abbrev pub invariant-loop-done : goal.invariant-loop-done
+invariant-loop-done g l =
     let R = g.R.RegionWords in
     record {
+      within : l.done ≤ l.count;
       words : R.words l.r ≡ R.words l.fn.r;
       region : IsRegion (R.count l.r) (R.words l.r);
-      beside : Beside (undo_records (R.words l.fn.r)) l.place l.count l.span;
+      front : CoversAll (undo_records (R.words l.fn.r)) l.place l.done;
       stays : Stays R.keeps_rest R.ready R.count R.health R.below l.fn.r l.r;
       later : (R.health l.fn.r).faults ≤ (R.health l.r).faults;
       running : (R.health l.r).stopped ≡ (R.health l.fn.r).stopped;
     }
 
-abbrev pub decreases-loop-span : goal.decreases-loop-span
-decreases-loop-span g l = l.span.to - l.span.from
+abbrev pub decreases-loop-done : goal.decreases-loop-done
+decreases-loop-done g l = l.count - l.done

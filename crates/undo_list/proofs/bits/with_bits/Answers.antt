@@ -1,9 +1,9 @@
 use Rattle.std.proofs.Common.{◌-◌, ◌≤◌, ◌^◌, min, sym, subst, cond, bit_and}
 use Rattle.std.specs.Int.{bit_not, w64}
 use Rattle.std.specs.Int.RustNames.{bit_or}
-use Rattle.recov_alloc.specs.Bits.{WithBits}
-use Rattle.recov_alloc.proofs.BitRuns.{bits_cleared, bits_set, mask_order}
-use Rattle.recov_alloc.proofs.bits.with_bits.Goals as goal
+use Rattle.undo_list.specs.Bits.{WithBits}
+use Rattle.undo_list.proofs.BitRuns.{bits_cleared, bits_set, mask_order}
+use Rattle.undo_list.proofs.bits.with_bits.Goals as goal
 
 pub overflow_sub-mask : goal.overflow_sub-mask
 overflow_sub-mask c = let grows : 2 ^ min c.args.from 64 - 1 ≤ 2 ^ min c.args.to 64 - 1 = mask_order c.args.from c.args.to c.requires.order in subst (λ h. c.low_ones-2.result ≤ h) (sym c.low_ones.ensures) (subst (λ l. l ≤ 2 ^ min c.args.to 64 - 1) (sym c.low_ones-2.ensures) grows)
