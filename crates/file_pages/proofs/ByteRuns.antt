@@ -1,6 +1,6 @@
 -- Bytes of words in a list, and bytes over others.
 use Rattle.std.proofs.Common.{◌≡◌, ℕ, zero, suc, ◌+◌, ◌-◌, ◌*◌, ◌/◌, ◌%◌, ◌<◌, ◌≤◌, ◌==◌, ◌&&◌, ◌⊎◌, true, false, cond, List, [], ◌∷◌, ◌++◌, length, take, drop, get_or, slice_index, refl, sym, ap, subst, ◌∙◌, arith, inl, inr, length-drop}
-use Rattle.std.specs.Prelude.{if◌then◌else◌, nat_le, nat_lt, not, min}
+use Rattle.std.specs.Prelude.{if◌then◌else◌, nat_le, nat_lt, not}
 use Rattle.std.specs.Int.{w64, from_le_bytes}
 use Rattle.std.proofs.lemmas.Bool.{cases_lt}
 use Rattle.std.proofs.lemmas.Bool.Decides.{nat_tests}
@@ -15,11 +15,11 @@ use Rattle.rio_base.specs.Blocks.{BlockWords}
 use Rattle.rio_base.specs.Volume.{SameBut, put_run}
 use Rattle.rio_model.specs.Held.{byte_of}
 use Rattle.rio_model.specs.WordRules.{run_same_but}
-use Rattle.file_pages.specs.PageBytes.{PutsBytes, block_byte, bytes_of, over}
+use Rattle.file_pages.specs.PageBytes.{PutsBytes, block_byte, bytes_of, bytes_stored, over}
 
 -- ---- words read from bytes have those bytes
 
-fits_front : (n : ℕ) (xs : List ℕ) → ((i : ℕ) → get_or xs i 0 < 256) → (i : ℕ) → get_or (take n xs) i 0 < 256
+pub fits_front : (n : ℕ) (xs : List ℕ) → ((i : ℕ) → get_or xs i 0 < 256) → (i : ℕ) → get_or (take n xs) i 0 < 256
 fits_front n xs fits i = elim (cases_lt i n) [
   | inl below ↦ omega (arith, get_or-take n xs i 0 below, fits i)
   | inr above ↦ omega (arith, get_or_past (take n xs) i 0 (omega (arith, length-take n xs)))
@@ -113,10 +113,6 @@ get_mid a k xs ys y long fits = ap (λ zs. slice_index zs y) (put_mid-paste a k 
         not_less h = grind (arith, nat_tests, h)
 
 -- ---- a run of words stored
-
--- how many bytes are stored where n words are
-abbrev pub bytes_stored : ℕ → ℕ → ℕ → ℕ
-bytes_stored at len n = min len (8 * (at / 8 + n) - at)
 
 pub run_inside : (f : BlockWords) (b w n x : ℕ) (words : List ℕ) → w ≤ x → x < w + n → put_run f b w n words b x ≡ slice_index words (x - w)
 run_inside f b w n x words low high = let test : ((b == b) && (not (nat_lt x w) && nat_lt x (w + n))) ≡ true = grind (arith, nat_tests, low, high) in ap (λ t. cond t (slice_index words (x - w)) (f b x)) test

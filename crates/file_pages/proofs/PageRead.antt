@@ -1,27 +1,27 @@
 -- A page of a file read, and its bytes.
-use Rattle.std.proofs.Common.{◌≡◌, ◌≢◌, ℕ, zero, suc, ◌+◌, ◌-◌, ◌*◌, ◌/◌, ◌%◌, ◌<◌, ◌≤◌, ◌⊎◌, ◌++◌, true, List, [], ◌∷◌, map, take, drop, min, max, refl, sym, ap, subst, ◌∙◌, arith, inl, inr}
-use Rattle.std.specs.Prelude.{slice_index, Option, None, Some, Result, OnOk}
-use Rattle.std.specs.Int.{w64, to_le_bytes}
+use Rattle.std.proofs.Common.{◌≡◌, ◌≢◌, ℕ, zero, suc, ◌+◌, ◌-◌, ◌*◌, ◌/◌, ◌%◌, ◌<◌, ◌≤◌, ◌⊎◌, ◌++◌, true, List, [], ◌∷◌, map, take, drop, min, refl, sym, ap, subst, ◌∙◌, arith, inl, inr, length, length-drop}
+use Rattle.std.specs.Prelude.{slice_index, slice_index_or, None, Some, Result, OnOk}
 use Rattle.std.specs.List.{range_with_len}
 use Rattle.std.proofs.lemmas.Bool.{cases_eq, cases_lt}
-use Rattle.std.proofs.lemmas.List.{append_assoc, take_all}
-use Rattle.std.proofs.lemmas.List.FromFn.{length-map-range_with_len, map-range_with_len_more, take-map-range_with_len}
+use Rattle.std.proofs.lemmas.List.{append_assoc, get_or-drop, get_or-take, length-take-le, take_all}
+use Rattle.std.proofs.lemmas.List.FromFn.{fill_by_all, get_or-map-range_with_len, length-map-range_with_len, take-map-range_with_len}
+use Rattle.rio_base.specs.declared.places.Block.{Block}
 use Rattle.rio_base.specs.declared.places.PageName.{PageName}
+use Rattle.block_alloc.specs.Bitmap.{numbers}
 use Rattle.rio_base.specs.declared.places.VolumeShape.{VolumeShape}
 use Rattle.rio_base.specs.BlockRules.{shape_beside}
 use Rattle.rio_base.specs.BlockSets.{caches_by_one}
-use Rattle.rio_base.specs.Blocks.{BlockWords, Caches, CanName, IsRun, Looks, SamePage, Seen}
+use Rattle.rio_base.specs.Blocks.{BlockWords, Caches, IsRun, Looks, Seen}
 use Rattle.rio_base.specs.Shapes.{HasShape, reserved}
 use Rattle.rio_model.specs.Held.{byte_in, byte_of, bytes_in, held}
 use Rattle.rio_model.specs.Placed.{AtPage, AtTable, Placed, placed_at, Layout, volume_layout, Owns}
 use Rattle.rio_model.specs.PlacedRules.{numbered_of, table_page}
-use Rattle.rio_model.specs.VolumeReady.{AllNamed, Bears, NamesPage}
+use Rattle.rio_model.specs.VolumeReady.{AllNamed, NamesPage}
 use Rattle.rio_model.specs.VolumeRules.{IsMapped, IsNumbered}
-use Rattle.file_pages.specs.LookingUp.{LooksUp, TablesUnnamed}
-use Rattle.file_pages.specs.LookingUpRules.{look_trans, named_on}
-use Rattle.file_pages.specs.Storing.{NamedAs}
-use Rattle.file_pages.proofs.Looked.{page_most}
-use Rattle.file_pages.proofs.Stored.{as_bears}
+use Rattle.file_pages.specs.LookingUp.{LooksUp, TablesUnnamed, page_blocks}
+use Rattle.file_pages.specs.PageBytes.{block_byte, bytes_of}
+use Rattle.file_pages.proofs.ByteRuns.{byte_at}
+use Rattle.file_pages.proofs.Listed.{as_many, number_at}
 use Rattle.file_pages.proofs.Extended.{byte_at_block, split_map}
 
 -- a page read under its name: nothing reads otherwise, and it bears that name
@@ -43,14 +43,6 @@ looked_page shape x y i p b given h mapped named own at kind wide looks caches =
     by n t owns on (inl here) = absurd (table_page t p (mapped.laid.once.each n i (AtTable t) (AtPage p) owns own (here ∙ at)).1)
     by n t owns on (inr away) = let was = caches.others _ away on in was.1 ∙ named.each n owns.ino (AtTable t) owns.slot was.0
 
--- a byte more
-pub byte_next : (F : ℕ → ℕ) (from y : ℕ) (old xs ys : List ℕ) (b : ℕ) → from ≤ y → xs ≡ old ++ map F (range_with_len from (y - from)) → ys ≡ xs ++ b ∷ [] → b ≡ F y → ys ≡ old ++ map F (range_with_len from (y + 1 - from))
-byte_next F from y old xs ys b low so more is =
-    let one : y + 1 - from ≡ (y - from) + 1 = omega (arith, low) in
-    let at : from + (y - from) ≡ y = omega (arith, low) in
-    more ∙ ap (λ zs. zs ++ b ∷ []) so ∙ append_assoc old (map F (range_with_len from (y - from))) (b ∷ []) ∙ ap (λ c. old ++ (map F (range_with_len from (y - from)) ++ c ∷ [])) is ∙ ap (λ zs. old ++ zs) (sym (map-range_with_len_more F from (y - from) y at) ∙ ap (λ n. map F (range_with_len from n)) (sym one))
-
--- bytes of a page are bytes of the file
 same_bytes : (f g : ℕ → ℕ) (n a b : ℕ) → ((k : ℕ) → k < n → f (a + k) ≡ g (b + k)) → map f (range_with_len a n) ≡ map g (range_with_len b n)
 same_bytes f g zero a b each = refl
 same_bytes f g (suc n) a b each =
@@ -58,55 +50,68 @@ same_bytes f g (suc n) a b each =
     let rest : map f (range_with_len (a + 1) n) ≡ map g (range_with_len (b + 1) n) = same_bytes f g n (a + 1) (b + 1) (λ k few. (let ka : a + 1 + k ≡ a + suc k = omega arith in ap f ka) ∙ each (suc k) (omega (arith, few)) ∙ (let kb : b + suc k ≡ b + 1 + k = omega arith in ap g kb)) in
     (λ q. first q ∷ rest q)
 
-pub page_bytes : (f : BlockWords) (n : Placed) (p from to : ℕ) (words : List ℕ) → 0 < n.kind → from ≤ to → to ≤ 4096 → 4096 * p + to ≤ n.size → IsRun f (n.block (AtPage p)) 0 512 words → map (λ y. byte_of (slice_index words (y / 8)) (y % 8)) (range_with_len from (to - from)) ≡ bytes_in (held f n).word (4096 * p + from) (to - from)
-page_bytes f n p from to words used order small within run = same_bytes (λ y. byte_of (slice_index words (y / 8)) (y % 8)) (byte_in (held f n).word) (to - from) from (4096 * p + from) (λ k few. each k few)
+abbrev list_byte : List ℕ → ℕ → ℕ
+list_byte words y = byte_of (slice_index words (y / 8)) (y % 8)
+
+-- ---- bytes made of words
+
+by_each : (F : ℕ → ℕ) (xs : List ℕ) (a n : ℕ) → length xs ≡ n → ((k : ℕ) → k < n → slice_index xs k ≡ F (a + k)) → xs ≡ map F (range_with_len a n)
+by_each F xs a n long each = fill_by_all (λ k. F (a + k)) xs n 0 long each ∙ same_bytes (λ k. F (a + k)) F n 0 a (λ k few. let e : a + (0 + k) ≡ a + k = omega arith in ap F e)
+
+length_bytes_of : (words : List ℕ) → length (bytes_of words) ≡ 8 * length words
+length_bytes_of [] = refl
+length_bytes_of (w ∷ words) = let rest = length_bytes_of words in omega (arith, rest)
+
+pub line_run : (words bytes : List ℕ) (from to k : ℕ) → bytes ≡ bytes_of words → k ≡ to - from → from ≤ to → to ≤ 8 * length words → take k (drop from bytes) ≡ map (list_byte words) (range_with_len from (to - from))
+line_run words bytes from to k is many order within = by_each (list_byte words) (take k (drop from bytes)) from (to - from) (length-take-le k (drop from bytes) (let l = ap length is ∙ length_bytes_of words in omega (arith, many, order, within, l, length-drop from bytes)) ∙ many) (λ j few. each j few)
   where
-    each : (k : ℕ) → k < to - from → byte_of (slice_index words ((from + k) / 8)) ((from + k) % 8) ≡ byte_in (held f n).word (4096 * p + from + k)
+    each : (j : ℕ) → j < to - from → slice_index (take k (drop from bytes)) j ≡ list_byte words (from + j)
+    each j few =
+        let place : from + j ≡ 8 * ((from + j) / 8) + (from + j) % 8 = omega arith in
+        get_or-take k (drop from bytes) j 0 (omega (arith, few, many)) ∙ get_or-drop from bytes j 0
+        ∙ ap (λ zs. slice_index zs (from + j)) is ∙ ap (slice_index (bytes_of words)) place
+        ∙ byte_at words ((from + j) / 8) ((from + j) % 8) (omega (arith, few, within)) (omega arith)
+
+-- bytes of a part of the words are bytes of the words
+pub part_bytes : (words : List ℕ) (first k a n b : ℕ) → b ≡ 8 * first + a → a + n ≤ 8 * k → map (list_byte (take k (drop first words))) (range_with_len a n) ≡ map (list_byte words) (range_with_len b n)
+part_bytes words first k a n b at fits = same_bytes (list_byte (take k (drop first words))) (list_byte words) n a b (λ j few. each j few)
+  where
+    each : (j : ℕ) → j < n → list_byte (take k (drop first words)) (a + j) ≡ list_byte words (b + j)
+    each j few =
+        let word : first + (a + j) / 8 ≡ (b + j) / 8 = omega (arith, at) in
+        let rest : (a + j) % 8 ≡ (b + j) % 8 = omega (arith, at) in
+        ap (λ w. byte_of w ((a + j) % 8)) (get_or-take k (drop first words) ((a + j) / 8) 0 (omega (arith, few, fits)) ∙ get_or-drop first words ((a + j) / 8) 0)
+        ∙ (λ q. byte_of (slice_index words (word q)) (rest q))
+
+-- bytes after those that are there
+pub bytes_next : (F : ℕ → ℕ) (off at to a n : ℕ) (old xs ys : List ℕ) → off ≤ at → at ≤ to → xs ≡ old ++ map F (range_with_len off (at - off)) → ys ≡ xs ++ map F (range_with_len a n) → a ≡ at → n ≡ to - at → ys ≡ old ++ map F (range_with_len off (to - off))
+bytes_next F off at to a n old xs ys low high so more place many =
+    let from : a ≡ off + (at - off) = omega (arith, place, low) in
+    let all : (at - off) + n ≡ to - off = omega (arith, many, low, high) in
+    more ∙ ap (λ zs. zs ++ map F (range_with_len a n)) so ∙ append_assoc old (map F (range_with_len off (at - off))) (map F (range_with_len a n))
+    ∙ ap (λ zs. old ++ zs) ((λ q. map F (range_with_len off (at - off)) ++ map F (range_with_len (from q) n)) ∙ split_map F n (at - off) off ∙ ap (λ c. map F (range_with_len off c)) all)
+
+-- ---- bytes of a page
+
+pub run_block : (f g : BlockWords) (b from n : ℕ) (words : List ℕ) → f ≡ g → IsRun f b 0 512 words → from + n ≤ 4096 → map (list_byte words) (range_with_len from n) ≡ map (block_byte g b) (range_with_len from n)
+run_block f g b from n words same run small = same_bytes (list_byte words) (block_byte g b) n from from (λ k few. each k few)
+  where
+    each : (k : ℕ) → k < n → list_byte words (from + k) ≡ block_byte g b (from + k)
+    each k few = ap (λ w. byte_of w ((from + k) % 8)) (run.each ((from + k) / 8) (omega (arith, few, small)) ∙ (let z : 0 + (from + k) / 8 ≡ (from + k) / 8 = omega arith in ap (f b) z) ∙ ap (λ (h : BlockWords). h b ((from + k) / 8)) same)
+
+pub page_bytes : {T E : Type 0} (f : BlockWords) (n : Placed) (b p from to : ℕ) (old xs : List ℕ) (r : Result T E) → 0 < n.kind → to ≤ 4096 → 4096 * p + to ≤ n.size → b ≡ n.block (AtPage p) → OnOk r (xs ≡ old ++ map (block_byte f b) (range_with_len from (to - from))) → OnOk r (xs ≡ old ++ bytes_in (held f n).word (4096 * p + from) (to - from))
+page_bytes f n b p from to old xs r used small within at = subst (λ ys. OnOk r (xs ≡ old ++ ys)) (same_bytes (block_byte f b) (byte_in (held f n).word) (to - from) from (4096 * p + from) (λ k few. each k few))
+  where
+    each : (k : ℕ) → k < to - from → block_byte f b (from + k) ≡ byte_in (held f n).word (4096 * p + from + k)
     each k few =
-        let y = from + k in
         let x = 4096 * p + from + k in
-        let page : x / 4096 ≡ p = omega (arith, few, small) in
-        let rest : x % 4096 ≡ y = omega (arith, few, small) in
-        ap (λ w. byte_of w (y % 8)) (run.each (y / 8) (omega (arith, few, small)) ∙ (let z : 0 + y / 8 ≡ y / 8 = omega arith in ap (f (n.block (AtPage p))) z))
-        ∙ (λ q. byte_of (f (n.block (AtPage (sym page q))) (sym rest q / 8)) (sym rest q % 8))
+        let page : p ≡ x / 4096 = omega (arith, few, small) in
+        let rest : from + k ≡ x % 4096 = omega (arith, few, small) in
+        ap (λ c. block_byte f c (from + k)) at
+        ∙ (λ q. block_byte f (n.block (AtPage (page q))) (rest q))
         ∙ sym (byte_at_block f n x used (omega (arith, few, within)))
 
--- a byte of a word
-pub byte_is : (w t : ℕ) → slice_index (to_le_bytes w64 w) t ≡ byte_of w t
-unfolding byte_of
-byte_is w t = refl
-
--- ---- a look-up, and then a page read
-
-pub run_on : {T E : Type 0} (f g : BlockWords) (b c n m : ℕ) (words : List ℕ) (r : Result T E) → f ≡ g → b ≡ c → n ≡ m → OnOk r (IsRun f b 0 n words) → OnOk r (IsRun g c 0 m words)
-run_on f g b c n m words r ef eb en h = subst (λ k. OnOk r (IsRun g c 0 k words)) en (subst (λ a. OnOk r (IsRun g a 0 n words)) eb (subst (λ k. OnOk r (IsRun k b 0 n words)) ef h))
-
-pub looked_then : (shape : VolumeShape) (x y z : Seen) (i p b : ℕ) (given : PageName) → IsMapped shape x.words → AllNamed (volume_layout shape x.words) x → Owns (volume_layout shape x.words) i (AtPage p) → b ≡ (placed_at x.words i).block (AtPage p) → (placed_at x.words i).kind ≡ 2 → NamesPage i (placed_at x.words i).size p given → LooksUp shape x y → Looks y z → Caches y z b (Some given) → LooksUp shape x z
-looked_then shape x y z i p b given mapped named own at kind wide first looks caches =
-    let e = sym first.looks.words in
-    look_trans shape x y z first (looked_page shape y z i p b given first.still.has_shape (subst (IsMapped shape) e mapped) (subst (λ f. AllNamed (volume_layout shape f) y) e (named_on shape x y mapped named first)) (subst (λ f. Owns (volume_layout shape f) i (AtPage p)) e own) (subst (λ (f : BlockWords). b ≡ (placed_at f i).block (AtPage p)) e at) (subst (λ (f : BlockWords). (placed_at f i).kind ≡ 2) e kind) (subst (λ f. NamesPage i (placed_at f i).size p given) e wide) looks caches)
-
-pub can_page : (shape : VolumeShape) (x y : Seen) (i p b : ℕ) (given : PageName) → IsMapped shape x.words → AllNamed (volume_layout shape x.words) x → Owns (volume_layout shape x.words) i (AtPage p) → b ≡ (placed_at x.words i).block (AtPage p) → (placed_at x.words i).kind ≡ 2 → given.file.0 ≡ i → given.index ≡ p → given.size ≤ 4096 → LooksUp shape x y → CanName y b (Some given)
-can_page shape x y i p b given mapped named own at kind file index small first = record {
-  in_range = record {
-    file_from = (let from = own.ino.from in omega (arith, file, from));
-    file_to = (let to = own.ino.to in let most = mapped.superblock.sizes.inodes_to in omega (arith, file, to, most));
-    index = (let few = page_most shape x.words i p (numbered_of shape x.words mapped) own.ino own.slot in omega (arith, few, index));
-    size = small;
-  };
-  agrees = λ on. same (y.names b) (as_bears i (placed_at x.words i) p (y.names b) kind (subst (λ c. Bears i (placed_at x.words i) (AtPage p) (y.names c)) (sym at) ((named_on shape x y mapped named first).each i own.ino (AtPage p) own.slot (subst (λ c. y.cached c ≡ true) at on))));
-}
-  where
-    same : (name : Option PageName) → NamedAs i (placed_at x.words i).size p name → SamePage name (Some given)
-    same name (own, is, h) = subst (λ n. SamePage n (Some given)) (sym is) (ap (λ (n : ℕ). record { 0 = n }) (h.file ∙ sym file), h.index ∙ sym index)
-
--- ---- page by page
-
-pub pages_next : (F : ℕ → ℕ) (off end p from to : ℕ) (xs ys : List ℕ) → xs ≡ map F (range_with_len off (min end (max off (4096 * p)) - off)) → ys ≡ xs ++ map F (range_with_len (4096 * p + from) (to - from)) → from ≡ max off (4096 * p) - 4096 * p → to ≡ min end (4096 * p + 4096) - 4096 * p → 4096 * p < end → off < end → off / 4096 ≤ p → ys ≡ map F (range_with_len off (min end (max off (4096 * (p + 1))) - off))
-pages_next F off end p from to xs ys so more is_from is_to within some low =
-    let at : 4096 * p + from ≡ off + (min end (max off (4096 * p)) - off) = omega (arith, is_from, within, some) in
-    let all : (min end (max off (4096 * p)) - off) + (to - from) ≡ min end (max off (4096 * (p + 1))) - off = omega (arith, is_from, is_to, within, some, low) in
-    more ∙ (λ q. so q ++ map F (range_with_len (at q) (to - from))) ∙ split_map F (to - from) (min end (max off (4096 * p)) - off) off ∙ ap (λ n. map F (range_with_len off n)) all
+-- ---- all bytes
 
 drop_map : (F : ℕ → ℕ) (k n a : ℕ) → drop k (map F (range_with_len a n)) ≡ map F (range_with_len (a + k) (n - k))
 drop_map F zero n a = let at : a ≡ a + 0 = omega arith in let many : n ≡ n - 0 = omega arith in (λ q. map F (range_with_len (at q) (many q)))
@@ -119,3 +124,13 @@ read_value F size off len end is = sym (ap (take len) (drop_map F off size 0 ∙
     by : ((size - off < len) ⊎ (len ≤ size - off)) → take len (map F (range_with_len off (size - off))) ≡ map F (range_with_len off (end - off))
     by (inl more) = take_all len (map F (range_with_len off (size - off))) (omega (arith, length-map-range_with_len F off (size - off), more)) ∙ (let many : size - off ≡ end - off = omega (arith, is, more) in ap (λ n. map F (range_with_len off n)) many)
     by (inr fits) = take-map-range_with_len F off (size - off) len fits ∙ (let many : len ≡ end - off = omega (arith, is, fits) in ap (λ n. map F (range_with_len off n)) many)
+
+-- ---- the blocks of the pages
+
+pub many_blocks : (bs : List Block) (n : Placed) (first count : ℕ) → numbers bs ≡ page_blocks n first count → length bs ≡ count
+many_blocks bs n first count is = sym (as_many bs) ∙ ap length is ∙ length-map-range_with_len (λ q. n.block (AtPage q)) first count
+
+pub page_at : (f g : BlockWords) (i : ℕ) (bs : List Block) (first count t p : ℕ) (d : Block) → g ≡ f → numbers bs ≡ page_blocks (placed_at f i) first count → first + t ≡ p → t < length bs → (slice_index_or bs t d).0 ≡ (placed_at g i).block (AtPage p)
+page_at f g i bs first count t p d same is at few =
+    let many = many_blocks bs (placed_at f i) first count is in
+    number_at bs t d few ∙ ap (λ xs. slice_index xs t) is ∙ get_or-map-range_with_len (λ q. (placed_at f i).block (AtPage q)) first count t p 0 (omega (arith, few, many)) at ∙ (λ q. (placed_at (sym same q) i).block (AtPage p))

@@ -1,4 +1,5 @@
 pub mod Changes
+pub mod Extending
 pub mod Failures
 pub mod Files
 pub mod Growing
@@ -8,6 +9,9 @@ pub mod OrderRules
 pub mod Orders
 pub mod PageBytes
 pub mod Preparing
+pub mod Spans
 pub mod Staging
 pub mod Storing
+pub mod TestFiles
 pub mod Updating
+pub mod Writing

@@ -1,5 +1,5 @@
 -- Bytes of pages, and bytes stored over them.
-use Rattle.std.specs.Prelude.{◌≡◌, ℕ, ◌+◌, ◌-◌, ◌/◌, ◌%◌, ◌<◌, ◌≤◌, ◌&&◌, nat_le, nat_lt, if◌then◌else◌, List, slice_index, Option, Some}
+use Rattle.std.specs.Prelude.{◌≡◌, ℕ, ◌+◌, ◌-◌, ◌*◌, ◌/◌, ◌%◌, ◌<◌, ◌≤◌, ◌&&◌, ◌⊎◌, nat_le, nat_lt, if◌then◌else◌, min, List, slice_index, Option, Some}
 use Rattle.std.specs.List.{flat_map}
 use Rattle.byteorder.specs.Endian.{little_bytes}
 use Rattle.rio_base.specs.declared.places.PageName.{PageName}
@@ -15,9 +15,22 @@ bytes_of words = flat_map (little_bytes 8) words
 abbrev pub block_byte : BlockWords → ℕ → ℕ → ℕ
 block_byte f b y = byte_of (f b (y / 8)) (y % 8)
 
+-- byte y of a list of words
+abbrev pub list_byte : List ℕ → ℕ → ℕ
+list_byte words y = byte_of (slice_index words (y / 8)) (y % 8)
+
 -- k bytes stand at a place, and around them what was there
 abbrev pub over : (ℕ → ℕ) → ℕ → List ℕ → ℕ → ℕ → ℕ
 over was at bytes k y = if nat_le at y && nat_lt y (at + k) then slice_index bytes (y - at) else was y
+
+-- the first and the last of n words have these bytes, where `len` bytes from byte `skip` on leave some of them
+pub record EndsHave (was : ℕ → ℕ) (skip len n first last : ℕ) : Type 0 where
+  pub first_word : (y : ℕ) → y < 8 → (y < skip) ⊎ (skip + len ≤ y) → byte_of first y ≡ was y
+  pub last_word : (y : ℕ) → y < 8 → skip + len ≤ 8 * (n - 1) + y → byte_of last y ≡ was (8 * (n - 1) + y)
+
+-- how many of `len` bytes from byte `at` of a block on are stored, where the first n words are that they touch
+abbrev pub bytes_stored : ℕ → ℕ → ℕ → ℕ
+bytes_stored at len n = min len (8 * (at / 8 + n) - at)
 
 -- the first k of these bytes are stored in a block from byte `at` on, and no other byte of any block differs
 pub record PutsBytes (f g : BlockWords) (b at : ℕ) (bytes : List ℕ) (k : ℕ) : Type 0 where

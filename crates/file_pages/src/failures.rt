@@ -1,7 +1,7 @@
 //! Why calls on the pages of a node fail.
 
 ghost use Rattle.std.specs.Prelude.{◌≡◌};
-ghost use Rattle.file_pages.specs.Failures.{size_handed, size_of_read};
+ghost use Rattle.file_pages.specs.Failures.{bytes_handed, size_handed, size_of_read, write_handed, write_of_bytes, write_of_read, write_of_size};
 
 use rio_base::{ReadFail, Stopped, VolFail};
 use std::alloc::{AllocError, AllocFailed};
@@ -48,6 +48,74 @@ pub enum WriteFail {
     /// No memory was left.
     #[error("out of memory")]
     Memory,
+}
+
+/// Why bytes were not all stored.
+#[derive(Clone, Copy, Debug, PartialEq, Eq)]
+pub enum BytesFail {
+    /// The disk failed in this call, after so many of the bytes were stored, the first ones.
+    Fault(u64),
+    /// The machine is stopped.
+    Stopped,
+}
+
+impl From<VolFail> for BytesFail {
+    ghost from_gives = { λ fail made. made ≡ bytes_handed fail };
+
+    fn from(fail: VolFail) -> BytesFail {
+        match fail {
+            VolFail::Fault => BytesFail::Fault(0),
+            VolFail::Stopped => BytesFail::Stopped,
+        }
+    }
+}
+
+impl From<BytesFail> for WriteFail {
+    ghost from_gives = { λ fail made. made ≡ write_of_bytes fail };
+
+    fn from(fail: BytesFail) -> WriteFail {
+        match fail {
+            BytesFail::Fault(done) => WriteFail::Fault { done },
+            BytesFail::Stopped => WriteFail::Stopped,
+        }
+    }
+}
+
+impl From<VolFail> for WriteFail {
+    ghost from_gives = { λ fail made. made ≡ write_handed fail };
+
+    fn from(fail: VolFail) -> WriteFail {
+        match fail {
+            VolFail::Fault => WriteFail::Fault { done: 0 },
+            VolFail::Stopped => WriteFail::Stopped,
+        }
+    }
+}
+
+impl From<ReadFail> for WriteFail {
+    ghost from_gives = { λ fail made. made ≡ write_of_read fail };
+
+    fn from(fail: ReadFail) -> WriteFail {
+        match fail {
+            ReadFail::Fault => WriteFail::Fault { done: 0 },
+            ReadFail::Stopped => WriteFail::Stopped,
+            ReadFail::Memory => WriteFail::Memory,
+        }
+    }
+}
+
+impl From<SizeFail> for WriteFail {
+    ghost from_gives = { λ fail made. made ≡ write_of_size fail };
+
+    fn from(fail: SizeFail) -> WriteFail {
+        match fail {
+            SizeFail::NoSpace => WriteFail::NoSpace,
+            SizeFail::TooLarge => WriteFail::TooLarge,
+            SizeFail::Fault => WriteFail::Fault { done: 0 },
+            SizeFail::Stopped => WriteFail::Stopped,
+            SizeFail::Memory => WriteFail::Memory,
+        }
+    }
 }
 
 impl From<VolFail> for SizeFail {

@@ -1,21 +1,27 @@
-use Rattle.std.proofs.Common.{◌≡◌, ◌-◌, ◌/◌, ◌%◌, ◌∙◌, ◌++◌, ℕ, map, ap, arith}
+use Rattle.std.proofs.Common.{◌-◌, ◌*◌, ◌/◌, ◌%◌, ◌∙◌, ◌++◌, ap, arith, refl}
 use Rattle.std.specs.Prelude.{slice_index}
-use Rattle.std.specs.List.{range_with_len}
 use Rattle.rio_model.specs.Held.{byte_of}
-use Rattle.file_pages.proofs.PageRead.{byte_is, byte_next}
+use Rattle.file_pages.proofs.PageRead.{bytes_next, part_bytes}
 use Rattle.file_pages.proofs.reading.push_bytes.Goals as goal
 
-pub loop-y-preserved : goal.loop-y-preserved
-loop-y-preserved c =
-    let F = λ (y : ℕ). byte_of (slice_index c.args.words.now (y / 8)) (y % 8) in
+pub loop-at-preserved : goal.loop-at-preserved
+loop-at-preserved c =
+    let inv = c.loop-at.invariant in
+    let at = c.loop-at.at in
+    let first = at / 8 in
+    let last = c.min-last.result in
+    let end = c.min-end.result in
+    let a = at - 8 * first in
+    let words = c.args.words.now in
+    let low = inv.low in
+    let high = inv.high in
+    let more = c.loop-at-test.true in
+    let last_is = c.min-last.ensures in
+    let end_is = c.min-end.ensures in
+    let up = c.div_ceil.ensures in
     record {
-      low = omega (arith, c.loop-y.invariant.low);
-      high = omega (arith, c.loop-y-test.true);
-      out = byte_next F c.args.from c.loop-y.y c.args.out.now.items c.loop-y.out.items c.push.new.self.items _ c.loop-y.invariant.low c.loop-y.invariant.out c.in_ok-push.ensures.items (ap (λ xs. slice_index xs (c.loop-y.y % 8)) c.to_le_bytes-bytes.ensures ∙ byte_is _ (c.loop-y.y % 8));
+      low = omega (arith, low, more, last_is, end_is, up);
+      high = omega (arith, end_is);
+      out = bytes_next (λ y. byte_of (slice_index words (y / 8)) (y % 8)) c.args.from at end at (end - 8 * first - a) c.args.out.now.items c.loop-at.out.items c.push_line.new.out.items low (omega (arith, more, last_is, end_is, up)) inv.out
+          (c.in_ok-push_line.ensures ∙ ap (λ bs. c.loop-at.out.items ++ bs) (part_bytes words first (last - first) a (end - 8 * first - a) at (omega arith) (omega (arith, more, last_is, end_is, up)))) refl (omega (arith, more, last_is, end_is, up));
     }
-
-pub returns : goal.returns
-returns c =
-    let F = λ (y : ℕ). byte_of (slice_index c.args.words.now (y / 8)) (y % 8) in
-    let at : c.loop-y.y ≡ c.args.to = omega (arith, c.loop-y-test.false, c.loop-y.invariant.high) in
-    c.loop-y.invariant.out ∙ ap (λ y. c.args.out.now.items ++ map F (range_with_len c.args.from (y - c.args.from))) at

@@ -1,0 +1,84 @@
+-- The exits of a write past a file's end.
+use Rattle.std.proofs.Common.{◌≡◌, ℕ, List, length, refl, sym, ap, subst, ◌∙◌, arith, inl, inr}
+use Rattle.std.specs.Prelude.{Result, Err, IsErrOf}
+use Rattle.rio_base.specs.declared.failures.VolFail.{VolFail}
+use Rattle.rio_base.specs.declared.failures.VolFail.TheVariants.{Fault as VolFault, Stopped as VolStopped}
+use Rattle.rio_base.specs.declared.places.VolumeShape.{VolumeShape}
+use Rattle.rio_base.specs.Blocks.{BlockWords, Seen}
+use Rattle.rio_base.specs.Volume.{Kept, Settled}
+use Rattle.rio_model.specs.FileParts.{IsLead}
+use Rattle.rio_model.specs.Held.{held, held_bytes, held_of}
+use Rattle.rio_model.specs.Placed.{Placed, placed_at, volume_layout}
+use Rattle.rio_model.specs.VolumeReady.{LeavesInUse, Ready}
+use Rattle.file_pages.specs.Extending.{HoldsWritten, failed_after}
+use Rattle.file_pages.specs.Failures.{write_handed, write_of_bytes, write_of_size}
+use Rattle.file_pages.specs.Files.{FaultsAfter, HasSpaceFor, SetsBoth, file_bytes}
+use Rattle.file_pages.specs.OrderRules.{ready_left}
+use Rattle.file_pages.specs.Preparing.{Committed}
+use Rattle.file_pages.specs.Writing.{WriteLeaves, WriteStops}
+use Rattle.file_pages.specs.declared.changes.SizeChange.{SizeChange}
+use Rattle.file_pages.specs.declared.failures.BytesFail.{BytesFail}
+use Rattle.file_pages.specs.declared.failures.BytesFail.TheVariants.{Fault as BytesFault, Stopped as BytesStopped}
+use Rattle.file_pages.specs.declared.failures.SizeFail.{SizeFail}
+use Rattle.file_pages.specs.declared.failures.SizeFail.TheVariants.{NoSpace, TooLarge, Fault, Stopped, Memory}
+use Rattle.file_pages.specs.declared.failures.WriteFail.{WriteFail}
+use Rattle.file_pages.proofs.FileBytes.{put_none}
+use Rattle.file_pages.proofs.GrowEnds.{stored_stops}
+use Rattle.file_pages.proofs.Left.{both_left, stops_left}
+
+-- ---- no byte is there
+
+none_led : (old : List ℕ) (off : ℕ) (bytes : List ℕ) → IsLead old off bytes 0 old
+none_led old off bytes = record { most = omega arith; is = sym (put_none old off) }
+
+none_written : (shape : VolumeShape) (f : BlockWords) (y : Seen) (j : Kept) (i off : ℕ) (bytes : List ℕ) → SetsBoth shape f y j i (file_bytes shape f i) → FaultsAfter shape f y j i off bytes 0
+none_written shape f y j i off bytes both = record { new = file_bytes shape f i; lead = none_led (file_bytes shape f i) off bytes; both = both; space = λ some. absurd (omega (arith, some)) }
+
+-- the growth could not be prepared
+planned_as : (T : Type 0) (shape : VolumeShape) (x : Seen) (k : Kept) (y : Seen) (j : Kept) (i off : ℕ) (bytes : List ℕ) (e : SizeFail) → Ready shape x k → Settled x k → (held_of shape x.words i).kind ≡ 2 → LeavesInUse (volume_layout shape x.words) x k y j → WriteLeaves {T = T} shape x k y j i off bytes (Err (write_of_size e))
+planned_as T shape x k y j i off bytes NoSpace h settled kind m = m
+planned_as T shape x k y j i off bytes TooLarge h settled kind m = m
+planned_as T shape x k y j i off bytes Fault h settled kind m = (none_written shape x.words y j i off bytes (both_left shape x k y j i h settled kind m), ready_left shape x k y j h m)
+planned_as T shape x k y j i off bytes Stopped h settled kind m = stops_left shape x k y j i (WriteStops shape x.words i off bytes) h settled kind m (inl refl)
+planned_as T shape x k y j i off bytes Memory h settled kind m = m
+
+pub planned_err : {T : Type 0} (shape : VolumeShape) (x : Seen) (k : Kept) (y : Seen) (j : Kept) (i off : ℕ) (bytes : List ℕ) (q : Result T WriteFail) (e : SizeFail) (d : WriteFail) → q ≡ Err d → d ≡ write_of_size e → Ready shape x k → Settled x k → (held_of shape x.words i).kind ≡ 2 → LeavesInUse (volume_layout shape x.words) x k y j → WriteLeaves shape x k y j i off bytes q
+planned_err {T = T} shape x k y j i off bytes q e d qd de h settled kind m = subst (λ r. WriteLeaves shape x k y j i off bytes r) (sym (qd ∙ ap Err de)) (planned_as T shape x k y j i off bytes e h settled kind m)
+
+-- the last page could not be cleared
+tail_as : (T : Type 0) (shape : VolumeShape) (x : Seen) (k : Kept) (z : Seen) (l : Kept) (i off : ℕ) (bytes : List ℕ) (e : VolFail) → Ready shape z l → Settled z l → SetsBoth shape x.words z l i (file_bytes shape x.words i) → WriteLeaves {T = T} shape x k z l i off bytes (Err (write_handed e))
+tail_as T shape x k z l i off bytes VolFault ready settled both = (none_written shape x.words z l i off bytes both, ready)
+tail_as T shape x k z l i off bytes VolStopped ready settled both = stored_stops shape x.words z l i (file_bytes shape x.words i) (WriteStops shape x.words i off bytes) ready settled both (inl refl)
+
+pub tail_err : {T : Type 0} (shape : VolumeShape) (x : Seen) (k : Kept) (z : Seen) (l : Kept) (i off : ℕ) (bytes : List ℕ) (q : Result T WriteFail) (e : VolFail) (d : WriteFail) → q ≡ Err d → d ≡ write_handed e → Ready shape z l → Settled z l → SetsBoth shape x.words z l i (file_bytes shape x.words i) → WriteLeaves shape x k z l i off bytes q
+tail_err {T = T} shape x k z l i off bytes q e d qd de ready settled both = subst (λ r. WriteLeaves shape x k z l i off bytes r) (sym (qd ∙ ap Err de)) (tail_as T shape x k z l i off bytes e ready settled both)
+
+-- ---- the first bytes are there
+
+parts_as : (T : Type 0) (shape : VolumeShape) (x : Seen) (k : Kept) (w : Seen) (h : Kept) (i off : ℕ) (bytes : List ℕ) (e : BytesFail) → Ready shape w h → Settled w h → HasSpaceFor shape x.words (length (file_bytes shape x.words i)) off bytes → ((n : ℕ) → e ≡ BytesFault n → FaultsAfter shape x.words w h i off bytes n) → (n : ℕ) × FaultsAfter shape x.words w h i off bytes n → WriteLeaves {T = T} shape x k w h i off bytes (Err (write_of_bytes e))
+parts_as T shape x k w h i off bytes (BytesFault n) ready settled space fault front = (fault n refl, ready)
+parts_as T shape x k w h i off bytes BytesStopped ready settled space fault (n, led) = stored_stops shape x.words w h i led.new (WriteStops shape x.words i off bytes) ready settled led.both (inr (space, inr (inr (n, led.lead))))
+
+-- not all of them could be stored
+pub parts_err : {T U : Type 0} (shape : VolumeShape) (x : Seen) (k : Kept) (w : Seen) (h : Kept) (i off : ℕ) (bytes : List ℕ) (r : Result U BytesFail) (e : BytesFail) (q : Result T WriteFail) (d : WriteFail) → r ≡ Err e → q ≡ Err d → d ≡ write_of_bytes e → Ready shape w h → Settled w h → HasSpaceFor shape x.words (length (file_bytes shape x.words i)) off bytes → ((n : ℕ) → IsErrOf r (BytesFault n) → FaultsAfter shape x.words w h i off bytes n) → (n : ℕ) × FaultsAfter shape x.words w h i off bytes n → WriteLeaves shape x k w h i off bytes q
+parts_err {T = T} shape x k w h i off bytes r e q d re qd de ready settled space fault front = subst (λ p. WriteLeaves shape x k w h i off bytes p) (sym (qd ∙ ap Err de)) (parts_as T shape x k w h i off bytes e ready settled space (λ n is. fault n (subst (λ p. IsErrOf p (BytesFault n)) (sym (re ∙ ap Err is)) refl)) front)
+
+-- ---- all of them are there, and the update was made, refused or stopped
+
+made_as : (T U : Type 0) (shape : VolumeShape) (x : Seen) (k : Kept) (y : Seen) (j : Kept) (z : Seen) (l : Kept) (i off : ℕ) (bytes : List ℕ) (done : ℕ) (m : Placed) (c : SizeChange) (e : SizeFail) → HoldsWritten shape x.words y j i off bytes done m c → Committed {T = U} shape x.words y m z l i (Err e) → WriteLeaves {T = T} shape x k z l i off bytes (Err (failed_after done e))
+made_as T U shape x k y j z l i off bytes done m c NoSpace h made = absurd made
+made_as T U shape x k y j z l i off bytes done m c TooLarge h made = absurd made
+made_as T U shape x k y j z l i off bytes done m c Memory h made = absurd made
+made_as T U shape x k y j z l i off bytes done m c Fault h made = (record { new = held_bytes (held y.words (placed_at x.words i)); lead = h.lead; both = made.0; space = λ some. h.space }, made.1)
+made_as T U shape x k y j z l i off bytes done m c Stopped h made = record {
+  bytes = made.bytes;
+  is = elim made.is [
+    | inl was ↦ inr (h.space, inr (inr (done, subst (IsLead (file_bytes shape x.words i) off bytes done) (sym was) h.lead)))
+    | inr now ↦ inr (h.space, inr (inl (now ∙ h.all)))
+  ];
+  stands = made.stands;
+  ready = made.ready;
+}
+
+pub made_write : (T : Type 0) {U : Type 0} (shape : VolumeShape) (x : Seen) (k : Kept) (y : Seen) (j : Kept) (z : Seen) (l : Kept) (i off : ℕ) (bytes : List ℕ) (done : ℕ) (m : Placed) (c : SizeChange) (r : Result U SizeFail) (e : SizeFail) (d : WriteFail) → r ≡ Err e → d ≡ failed_after done e → HoldsWritten shape x.words y j i off bytes done m c → Committed shape x.words y m z l i r → WriteLeaves {T = T} shape x k z l i off bytes (Err d)
+made_write T {U = U} shape x k y j z l i off bytes done m c r e d re de h made = subst (λ p. WriteLeaves {T = T} shape x k z l i off bytes (Err p)) (sym de) (made_as T U shape x k y j z l i off bytes done m c e h (subst (λ p. Committed shape x.words y m z l i p) re made))

@@ -1,0 +1,99 @@
+use Rattle.std.proofs.Common.{◌-◌, ◌∙◌, ap, subst}
+use Rattle.std.proofs.lemmas.Result.{err_from_is_err_and}
+use Rattle.rio_base.specs.Rules.{◌then◌}
+use Rattle.block_alloc.specs.Bitmap.{numbers}
+use Rattle.rio_model.specs.NodeChanges.{grown}
+use Rattle.rio_model.specs.Placed.{volume_layout}
+use Rattle.rio_model.specs.VolumeReady.{LeavesInUse, Ready}
+use Rattle.file_pages.specs.Changes.{Grows, given_node}
+use Rattle.file_pages.specs.LookingUp.{page_blocks}
+use Rattle.file_pages.specs.LookingUpRules.{can_look_up}
+use Rattle.file_pages.specs.OrderRules.{leaves_looked, leaves_trans, ready_left}
+use Rattle.file_pages.proofs.Ends.{ends_size, size_then}
+use Rattle.file_pages.proofs.Extension.{extends_looked}
+use Rattle.file_pages.proofs.extending.plan_extension.Goals as goal
+
+pub returns-in_err-taken-clause-leaves : goal.returns-in_err-taken-clause-leaves
+returns-in_err-taken-clause-leaves g c =
+    let first = c.take_lowest.ensures in
+    leaves_looked c.args.shape.now _ _ _ _ (g.V.Blocks.seen c.args.v.now) (g.V.Blocks.seen c.take_lowest.new.v) (g.V.Volume.kept c.args.v.now) (g.V.Volume.kept c.take_lowest.new.v) c.requires.ready first.looks (g.met.V.Volume.passes_keeps _ _ first.passes)
+
+pub plan_growth-requires-clause-ready : goal.plan_growth-requires-clause-ready
+plan_growth-requires-clause-ready g c =
+    let first = c.take_lowest.ensures in
+    ready_left c.args.shape.now _ _ _ _ c.requires.ready (leaves_looked c.args.shape.now _ _ _ _ (g.V.Blocks.seen c.args.v.now) (g.V.Blocks.seen c.take_lowest.new.v) (g.V.Volume.kept c.args.v.now) (g.V.Volume.kept c.take_lowest.new.v) c.requires.ready first.looks (g.met.V.Volume.passes_keeps _ _ first.passes))
+
+pub returns-in_err-change-clause-goes : goal.returns-in_err-change-clause-goes
+returns-in_err-change-clause-goes g c = (g.met.V.Volume.passes_keeps _ _ c.take_lowest.ensures.passes).goes then c.plan_growth.ensures.goes
+
+pub span_blocks-requires-clause-can : goal.span_blocks-requires-clause-can
+span_blocks-requires-clause-can g c =
+    let shape = c.args.shape.now in
+    let x = g.V.Blocks.seen c.args.v.now in
+    let k = g.V.Volume.kept c.args.v.now in
+    let first = c.take_lowest.ensures in
+    let looked : LeavesInUse (volume_layout shape x.words) x k (g.V.Blocks.seen c.take_lowest.new.v) (g.V.Volume.kept c.take_lowest.new.v) = leaves_looked shape _ _ _ _ x (g.V.Blocks.seen c.take_lowest.new.v) k (g.V.Volume.kept c.take_lowest.new.v) c.requires.ready first.looks (g.met.V.Volume.passes_keeps _ _ first.passes) in
+    let y = g.V.Blocks.seen c.plan_growth.new.v in
+    let j = g.V.Volume.kept c.plan_growth.new.v in
+    let leaves : LeavesInUse (volume_layout shape x.words) x k y j = leaves_trans shape x k (g.V.Blocks.seen c.take_lowest.new.v) (g.V.Volume.kept c.take_lowest.new.v) y j c.requires.ready looked c.plan_growth.ensures.leaves in
+    let ready : Ready shape y j = ready_left shape x k y j c.requires.ready leaves in
+    can_look_up shape y ready.has_shape ready.mapped ready.named
+
+pub returns-in_err-blocks-clause-leaves : goal.returns-in_err-blocks-clause-leaves
+returns-in_err-blocks-clause-leaves g c =
+    let shape = c.args.shape.now in
+    let x = g.V.Blocks.seen c.args.v.now in
+    let k = g.V.Volume.kept c.args.v.now in
+    let first = c.take_lowest.ensures in
+    let looked : LeavesInUse (volume_layout shape x.words) x k (g.V.Blocks.seen c.take_lowest.new.v) (g.V.Volume.kept c.take_lowest.new.v) = leaves_looked shape _ _ _ _ x (g.V.Blocks.seen c.take_lowest.new.v) k (g.V.Volume.kept c.take_lowest.new.v) c.requires.ready first.looks (g.met.V.Volume.passes_keeps _ _ first.passes) in
+    let y = g.V.Blocks.seen c.plan_growth.new.v in
+    let j = g.V.Volume.kept c.plan_growth.new.v in
+    let leaves : LeavesInUse (volume_layout shape x.words) x k y j = leaves_trans shape x k (g.V.Blocks.seen c.take_lowest.new.v) (g.V.Volume.kept c.take_lowest.new.v) y j c.requires.ready looked c.plan_growth.ensures.leaves in
+    let ready : Ready shape y j = ready_left shape x k y j c.requires.ready leaves in
+    leaves_trans shape x k y j _ _ c.requires.ready leaves (leaves_looked shape _ _ _ _ y (g.V.Blocks.seen c.span_blocks.new.v) j (g.V.Volume.kept c.span_blocks.new.v) ready c.span_blocks.ensures.looks (g.met.V.Volume.passes_keeps _ _ c.span_blocks.ensures.passes))
+
+pub returns-in_err-blocks-clause-goes : goal.returns-in_err-blocks-clause-goes
+returns-in_err-blocks-clause-goes g c = (g.met.V.Volume.passes_keeps _ _ c.take_lowest.ensures.passes).goes then c.plan_growth.ensures.goes then (g.met.V.Volume.passes_keeps _ _ c.span_blocks.ensures.passes).goes
+
+pub returns-in_err-blocks-clause-ends : goal.returns-in_err-blocks-clause-ends
+returns-in_err-blocks-clause-ends g c =
+    let p = err_from_is_err_and c.from_residual-in_err-blocks.result c.from_residual-in_err-blocks.ensures.1 in
+    size_then _ _ _ c.take_lowest.result _ c.from_residual-in_err-blocks.result c.in_ok-taken.was c.take_lowest.ensures.ends
+    (size_then _ _ _ c.plan_growth.result _ c.from_residual-in_err-blocks.result c.in_ok-change.was c.plan_growth.ensures.ends
+    (ends_size _ _ c.span_blocks.result c.from_residual-in_err-blocks.result _ p.0 c.in_err-blocks.was p.1 p.2 c.span_blocks.ensures.ends))
+
+pub returns-clause-ok : goal.returns-clause-ok
+returns-clause-ok g c =
+    let shape = c.args.shape.now in
+    let x = g.V.Blocks.seen c.args.v.now in
+    let k = g.V.Volume.kept c.args.v.now in
+    let i = c.args.i.0 in
+    let len = c.args.len in
+    let given = c.args.inode.now in
+    let first = c.take_lowest.ensures in
+    let looked : LeavesInUse (volume_layout shape x.words) x k (g.V.Blocks.seen c.take_lowest.new.v) (g.V.Volume.kept c.take_lowest.new.v) = leaves_looked shape _ _ _ _ x (g.V.Blocks.seen c.take_lowest.new.v) k (g.V.Volume.kept c.take_lowest.new.v) c.requires.ready first.looks (g.met.V.Volume.passes_keeps _ _ first.passes) in
+    let y = g.V.Blocks.seen c.plan_growth.new.v in
+    let j = g.V.Volume.kept c.plan_growth.new.v in
+    let leaves : LeavesInUse (volume_layout shape x.words) x k y j = leaves_trans shape x k (g.V.Blocks.seen c.take_lowest.new.v) (g.V.Volume.kept c.take_lowest.new.v) y j c.requires.ready looked c.plan_growth.ensures.leaves in
+    let change = c.in_ok-change.change in
+    let grows : Grows shape x.words y j i given len (numbers c.in_ok-taken.taken) change = subst (λ f. Grows shape f y j i given len (numbers c.in_ok-taken.taken) change) first.looks.looks.words c.in_ok-change.ensures.ok in
+    extends_looked shape _ _ _ _ x k y j (g.V.Blocks.seen c.span_blocks.new.v) (g.V.Volume.kept c.span_blocks.new.v) i given len c.args.first (numbers c.in_ok-taken.taken) change (numbers c.in_ok-blocks.blocks.items) c.requires.ino c.requires.ready c.requires.inode c.requires.file leaves c.span_blocks.ensures.looks (g.met.V.Volume.passes_keeps _ _ c.span_blocks.ensures.passes) grows
+    (c.in_ok-blocks.ensures.value len
+    ∙ ap (λ bs. page_blocks (grown (given_node y.words i given) len (numbers bs)) c.args.first (c.page_count.result - c.args.first)) c.as_slice-new.ensures
+    ∙ ap (λ e. page_blocks (grown (given_node y.words i given) len (numbers change.taken)) c.args.first (e - c.args.first)) c.page_count.ensures.pages)
+
+pub returns-clause-leaves : goal.returns-clause-leaves
+returns-clause-leaves g c =
+    let shape = c.args.shape.now in
+    let x = g.V.Blocks.seen c.args.v.now in
+    let k = g.V.Volume.kept c.args.v.now in
+    let first = c.take_lowest.ensures in
+    let looked : LeavesInUse (volume_layout shape x.words) x k (g.V.Blocks.seen c.take_lowest.new.v) (g.V.Volume.kept c.take_lowest.new.v) = leaves_looked shape _ _ _ _ x (g.V.Blocks.seen c.take_lowest.new.v) k (g.V.Volume.kept c.take_lowest.new.v) c.requires.ready first.looks (g.met.V.Volume.passes_keeps _ _ first.passes) in
+    let y = g.V.Blocks.seen c.plan_growth.new.v in
+    let j = g.V.Volume.kept c.plan_growth.new.v in
+    let leaves : LeavesInUse (volume_layout shape x.words) x k y j = leaves_trans shape x k (g.V.Blocks.seen c.take_lowest.new.v) (g.V.Volume.kept c.take_lowest.new.v) y j c.requires.ready looked c.plan_growth.ensures.leaves in
+    let ready : Ready shape y j = ready_left shape x k y j c.requires.ready leaves in
+    leaves_trans shape x k y j _ _ c.requires.ready leaves (leaves_looked shape _ _ _ _ y (g.V.Blocks.seen c.span_blocks.new.v) j (g.V.Volume.kept c.span_blocks.new.v) ready c.span_blocks.ensures.looks (g.met.V.Volume.passes_keeps _ _ c.span_blocks.ensures.passes))
+
+pub returns-clause-goes : goal.returns-clause-goes
+returns-clause-goes g c = (g.met.V.Volume.passes_keeps _ _ c.take_lowest.ensures.passes).goes then c.plan_growth.ensures.goes then (g.met.V.Volume.passes_keeps _ _ c.span_blocks.ensures.passes).goes

@@ -1,0 +1,13 @@
+use Rattle.std.proofs.Common.{◌-◌, ◌∙◌, arith}
+use Rattle.block_alloc.specs.Bitmap.{numbers}
+use Rattle.file_pages.proofs.Listed.{block_next, number_at}
+use Rattle.file_pages.proofs.extending.push_taken.Goals as goal
+
+pub loop-p-preserved : goal.loop-p-preserved
+loop-p-preserved c =
+    let inv = c.loop-p.invariant in
+    record {
+      from = omega (arith, inv.from);
+      to = omega (arith, c.loop-p-test.true);
+      found = λ n is. block_next (numbers c.args.blocks.now.items) n c.args.first c.loop-p.p c.loop-p.blocks.items c.push.new.self.items _ inv.from (inv.found n is) c.in_ok-push.ensures.items (number_at c.args.taken.now (c.loop-p.p - c.args.have) _ (omega (arith, inv.from, c.requires.past, c.requires.within, c.loop-p-test.true)) ∙ is c.loop-p.p inv.from c.loop-p-test.true);
+    }

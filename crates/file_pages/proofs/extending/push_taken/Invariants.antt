@@ -1,0 +1,13 @@
+use Rattle.std.proofs.Common.{ℕ, ◌≡◌, ◌-◌, ◌<◌, ◌≤◌, ◌++◌}
+use Rattle.std.specs.Prelude.{slice_index}
+use Rattle.block_alloc.specs.Bitmap.{numbers}
+use Rattle.rio_model.specs.Placed.{AtPage, Placed}
+use Rattle.file_pages.specs.LookingUp.{page_blocks}
+use Rattle.file_pages.proofs.extending.push_taken.Given as goal
+
+abbrev pub invariant-loop-p : goal.invariant-loop-p
+invariant-loop-p l = record {
+  from : l.first ≤ l.p;
+  to : l.p ≤ l.end;
+  found : (n : Placed) → ((p : ℕ) → l.first ≤ p → p < l.end → slice_index (numbers l.taken) (p - l.have) ≡ n.block (AtPage p)) → numbers l.blocks.items ≡ numbers l.fn.blocks.items ++ page_blocks n l.first (l.p - l.first);
+}

@@ -1,0 +1,147 @@
+use Rattle.std.proofs.Common.{◌≡◌, ◌/◌, ◌≤◌, ◌∙◌, length, sym, ap, subst, arith, inl}
+use Rattle.std.proofs.lemmas.Result.{err_from_is_err_and}
+use Rattle.rio_base.specs.Rules.{◌then◌, ends_by_after}
+use Rattle.block_alloc.specs.Bitmap.{numbers}
+use Rattle.rio_model.specs.Placed.{Layout, placed_at, volume_layout}
+use Rattle.rio_model.specs.PlacedRules.{numbered_of}
+use Rattle.rio_model.specs.Sizes.{largest_size}
+use Rattle.rio_model.specs.VolumeReady.{LeavesInUse}
+use Rattle.file_pages.specs.OrderRules.{leaves_looked}
+use Rattle.file_pages.specs.Spans.{SpanNamed}
+use Rattle.file_pages.proofs.Given.{given_most}
+use Rattle.file_pages.proofs.Listed.{as_many}
+use Rattle.file_pages.proofs.Resized.{held_file}
+use Rattle.file_pages.proofs.Within.{Overwrites, over_done, over_err, overwrites_of, pages_apart, pages_named, pages_over, pages_places}
+use Rattle.file_pages.proofs.Written.{ends_write, none_read}
+use Rattle.file_pages.proofs.overwriting.write_within.Goals as goal
+
+pub returns-in_err-blocks-clause-leaves : goal.returns-in_err-blocks-clause-leaves
+returns-in_err-blocks-clause-leaves g c =
+    let shape = c.args.shape.now in
+    let x = g.V.Blocks.seen c.args.v.now in
+    let k = g.V.Volume.kept c.args.v.now in
+    let y = g.V.Blocks.seen c.page_blocks.new.v in
+    let j = g.V.Volume.kept c.page_blocks.new.v in
+    let i = c.args.i.0 in
+    let call = c.page_blocks.ensures in
+    let looked : LeavesInUse (volume_layout shape x.words) x k y j = leaves_looked shape _ _ _ _ x y k j c.requires.ready call.looks (g.met.V.Volume.passes_keeps _ _ call.passes) in
+    let p = err_from_is_err_and c.from_residual.result c.from_residual.ensures.1 in
+    none_read shape x k y j i c.args.off c.args.bytes.now c.from_residual.result _ p.0 p.1 p.2 c.requires.ready (g.met.V.Volume.settled _ c.requires.sound) (held_file shape x.words i c.requires.ino (sym c.requires.inode.kind ∙ c.requires.file)) looked
+
+pub store_span-requires-clause-places : goal.store_span-requires-clause-places
+store_span-requires-clause-places g c t few =
+    let shape = c.args.shape.now in
+    let x = g.V.Blocks.seen c.args.v.now in
+    let y = g.V.Blocks.seen c.page_blocks.new.v in
+    let i = c.args.i.0 in
+    let l : Layout = volume_layout shape x.words in
+    let blocks = numbers c.deref.result.now in
+    let file : (placed_at x.words i).kind ≡ 2 = sym c.requires.inode.kind ∙ c.requires.file in
+    let over = pages_over l i c.args.off (length c.args.bytes.now) c.args.inode.now.size c.div_ceil-end.result blocks c.requires.ino file c.requires.inode.size c.requires.some c.requires.within c.div_ceil-end.ensures (ap numbers c.deref.ensures.value ∙ c.in_ok-blocks.ensures.value) in
+    pages_places l i (c.args.off / 4096) blocks y.count c.requires.ready.mapped.laid over.0 (c.page_blocks.ensures.looks.looks.count ∙ c.requires.ready.has_shape.count) t (let many = as_many c.deref.result.now in omega (arith, few, many))
+
+pub store_span-requires-clause-apart : goal.store_span-requires-clause-apart
+store_span-requires-clause-apart g c =
+    let shape = c.args.shape.now in
+    let x = g.V.Blocks.seen c.args.v.now in
+    let i = c.args.i.0 in
+    let l : Layout = volume_layout shape x.words in
+    let blocks = numbers c.deref.result.now in
+    let file : (placed_at x.words i).kind ≡ 2 = sym c.requires.inode.kind ∙ c.requires.file in
+    let over = pages_over l i c.args.off (length c.args.bytes.now) c.args.inode.now.size c.div_ceil-end.result blocks c.requires.ino file c.requires.inode.size c.requires.some c.requires.within c.div_ceil-end.ensures (ap numbers c.deref.ensures.value ∙ c.in_ok-blocks.ensures.value) in
+    pages_apart l i (c.args.off / 4096) blocks c.requires.ready.mapped.laid over.0
+
+pub store_span-requires-clause-few : goal.store_span-requires-clause-few
+store_span-requires-clause-few g c =
+    let shape = c.args.shape.now in
+    let x = g.V.Blocks.seen c.args.v.now in
+    let i = c.args.i.0 in
+    let l : Layout = volume_layout shape x.words in
+    let blocks = numbers c.deref.result.now in
+    let file : (placed_at x.words i).kind ≡ 2 = sym c.requires.inode.kind ∙ c.requires.file in
+    let over = pages_over l i c.args.off (length c.args.bytes.now) c.args.inode.now.size c.div_ceil-end.result blocks c.requires.ino file c.requires.inode.size c.requires.some c.requires.within c.div_ceil-end.ensures (ap numbers c.deref.ensures.value ∙ c.in_ok-blocks.ensures.value) in
+    let most : c.args.inode.now.size ≤ largest_size = given_most shape x.words i c.args.inode.now (numbered_of shape x.words c.requires.ready.mapped) c.requires.ino (inl (c.requires.inode, omega (arith, c.requires.file))) in
+    let many = as_many c.deref.result.now in
+    let reach = over.2 in
+    omega (arith, most, many, reach)
+
+pub store_span-requires-clause-to : goal.store_span-requires-clause-to
+store_span-requires-clause-to g c =
+    let shape = c.args.shape.now in
+    let x = g.V.Blocks.seen c.args.v.now in
+    let i = c.args.i.0 in
+    let l : Layout = volume_layout shape x.words in
+    let blocks = numbers c.deref.result.now in
+    let file : (placed_at x.words i).kind ≡ 2 = sym c.requires.inode.kind ∙ c.requires.file in
+    let over = pages_over l i c.args.off (length c.args.bytes.now) c.args.inode.now.size c.div_ceil-end.result blocks c.requires.ino file c.requires.inode.size c.requires.some c.requires.within c.div_ceil-end.ensures (ap numbers c.deref.ensures.value ∙ c.in_ok-blocks.ensures.value) in
+    let many = as_many c.deref.result.now in
+    let reach = over.1 in
+    omega (arith, many, reach)
+
+pub store_span-requires-clause-named : goal.store_span-requires-clause-named
+store_span-requires-clause-named g c =
+    let shape = c.args.shape.now in
+    let x = g.V.Blocks.seen c.args.v.now in
+    let k = g.V.Volume.kept c.args.v.now in
+    let y = g.V.Blocks.seen c.page_blocks.new.v in
+    let j = g.V.Volume.kept c.page_blocks.new.v in
+    let i = c.args.i.0 in
+    let l : Layout = volume_layout shape x.words in
+    let blocks = numbers c.deref.result.now in
+    let call = c.page_blocks.ensures in
+    let file : (placed_at x.words i).kind ≡ 2 = sym c.requires.inode.kind ∙ c.requires.file in
+    let over = pages_over l i c.args.off (length c.args.bytes.now) c.args.inode.now.size c.div_ceil-end.result blocks c.requires.ino file c.requires.inode.size c.requires.some c.requires.within c.div_ceil-end.ensures (ap numbers c.deref.ensures.value ∙ c.in_ok-blocks.ensures.value) in
+    let looked : LeavesInUse (volume_layout shape x.words) x k y j = leaves_looked shape _ _ _ _ x y k j c.requires.ready call.looks (g.met.V.Volume.passes_keeps _ _ call.passes) in
+    subst (λ m. SpanNamed blocks (c.args.off / 4096) i m y) (sym c.requires.inode.size) (pages_named l y i (c.args.off / 4096) blocks (looked.named.each i c.requires.ino) file over.0)
+
+pub returns-in_err-store_span-clause-leaves : goal.returns-in_err-store_span-clause-leaves
+returns-in_err-store_span-clause-leaves g c =
+    let shape = c.args.shape.now in
+    let x = g.V.Blocks.seen c.args.v.now in
+    let k = g.V.Volume.kept c.args.v.now in
+    let y = g.V.Blocks.seen c.page_blocks.new.v in
+    let j = g.V.Volume.kept c.page_blocks.new.v in
+    let z = g.V.Blocks.seen c.store_span.new.v in
+    let l = g.V.Volume.kept c.store_span.new.v in
+    let i = c.args.i.0 in
+    let off = c.args.off in
+    let bytes = c.args.bytes.now in
+    let blocks = numbers c.deref.result.now in
+    let call = c.page_blocks.ensures in
+    let span = c.store_span.ensures in
+    let file : (placed_at x.words i).kind ≡ 2 = sym c.requires.inode.kind ∙ c.requires.file in
+    let over = pages_over (volume_layout shape x.words) i off (length bytes) c.args.inode.now.size c.div_ceil-end.result blocks c.requires.ino file c.requires.inode.size c.requires.some c.requires.within c.div_ceil-end.ensures (ap numbers c.deref.ensures.value ∙ c.in_ok-blocks.ensures.value) in
+    let done : Overwrites shape x z l i (off / 4096) blocks off bytes = overwrites_of shape _ _ _ _ x k y j z l i (off / 4096) blocks off bytes c.args.inode.now.size c.requires.ready c.requires.ino file call.looks (g.met.V.Volume.passes_keeps _ _ call.passes) over.0 (omega arith) over.1 c.requires.within c.requires.inode.size span.beside span.firm span.named span.idle (g.met.V.Volume.settled _ span.sound) in
+    let p = err_from_is_err_and c.from_residual-in_err-store_span.result c.from_residual-in_err-store_span.ensures.1 in
+    over_err shape x k z l i (off / 4096) blocks off bytes y.words c.store_span.result _ c.from_residual-in_err-store_span.result _ call.looks.looks.words c.in_err-store_span.was p.1 p.2 done span.fault span.front
+
+pub returns-clause-leaves : goal.returns-clause-leaves
+returns-clause-leaves g c =
+    let shape = c.args.shape.now in
+    let x = g.V.Blocks.seen c.args.v.now in
+    let k = g.V.Volume.kept c.args.v.now in
+    let y = g.V.Blocks.seen c.page_blocks.new.v in
+    let j = g.V.Volume.kept c.page_blocks.new.v in
+    let z = g.V.Blocks.seen c.store_span.new.v in
+    let l = g.V.Volume.kept c.store_span.new.v in
+    let i = c.args.i.0 in
+    let off = c.args.off in
+    let bytes = c.args.bytes.now in
+    let blocks = numbers c.deref.result.now in
+    let call = c.page_blocks.ensures in
+    let span = c.store_span.ensures in
+    let file : (placed_at x.words i).kind ≡ 2 = sym c.requires.inode.kind ∙ c.requires.file in
+    let over = pages_over (volume_layout shape x.words) i off (length bytes) c.args.inode.now.size c.div_ceil-end.result blocks c.requires.ino file c.requires.inode.size c.requires.some c.requires.within c.div_ceil-end.ensures (ap numbers c.deref.ensures.value ∙ c.in_ok-blocks.ensures.value) in
+    let done : Overwrites shape x z l i (off / 4096) blocks off bytes = overwrites_of shape _ _ _ _ x k y j z l i (off / 4096) blocks off bytes c.args.inode.now.size c.requires.ready c.requires.ino file call.looks (g.met.V.Volume.passes_keeps _ _ call.passes) over.0 (omega arith) over.1 c.requires.within c.requires.inode.size span.beside span.firm span.named span.idle (g.met.V.Volume.settled _ span.sound) in
+    over_done shape x z l i (off / 4096) blocks off bytes y.words call.looks.looks.words done c.requires.some c.in_ok-store_span.ensures.ok
+
+pub returns-in_err-store_span-clause-goes : goal.returns-in_err-store_span-clause-goes
+returns-in_err-store_span-clause-goes g c = (g.met.V.Volume.passes_keeps _ _ c.page_blocks.ensures.passes).goes then c.store_span.ensures.goes
+
+pub returns-clause-goes : goal.returns-clause-goes
+returns-clause-goes g c = (g.met.V.Volume.passes_keeps _ _ c.page_blocks.ensures.passes).goes then c.store_span.ensures.goes
+
+pub returns-in_err-store_span-clause-ends : goal.returns-in_err-store_span-clause-ends
+returns-in_err-store_span-clause-ends g c =
+    let p = err_from_is_err_and c.from_residual-in_err-store_span.result c.from_residual-in_err-store_span.ensures.1 in
+    ends_by_after _ _ _ _ _ c.page_blocks.ensures.ends.later (c.in_ok-blocks.ensures.ends.runs (λ a. cc)) (ends_write _ _ c.store_span.result c.from_residual-in_err-store_span.result _ p.0 c.in_err-store_span.was p.1 p.2 c.store_span.ensures.ends)

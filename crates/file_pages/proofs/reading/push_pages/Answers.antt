@@ -1,0 +1,52 @@
+use Rattle.std.proofs.Common.{◌≡◌, ◌+◌, ◌-◌, ◌*◌, ◌/◌, ◌∙◌, ◌++◌, map, sym, subst, arith, le_trans}
+use Rattle.std.specs.List.{range_with_len}
+use Rattle.rio_base.specs.Blocks.{BlockWords}
+use Rattle.rio_model.specs.Held.{byte_in, word_in}
+use Rattle.rio_model.specs.Placed.{placed_at, volume_layout}
+use Rattle.rio_model.specs.VolumeReady.{AllNamed}
+use Rattle.file_pages.specs.LookingUpRules.{look_trans, named_on}
+use Rattle.file_pages.proofs.PageRead.{bytes_next, page_at}
+use Rattle.file_pages.proofs.reading.push_pages.Goals as goal
+
+pub push_page-requires-clause-named : goal.push_page-requires-clause-named
+push_page-requires-clause-named g c =
+    let shape = c.args.shape.now in
+    let x = g.V.Blocks.seen c.args.v.now in
+    let y = g.V.Blocks.seen c.loop-at.v in
+    let inv = c.loop-at.invariant in
+    subst (λ f. AllNamed (volume_layout shape f) y) (sym inv.looks.looks.words) (named_on shape x y c.requires.mapped c.requires.named inv.looks)
+
+pub push_page-requires-clause-block : goal.push_page-requires-clause-block
+push_page-requires-clause-block g c =
+    let inv = c.loop-at.invariant in
+    let low = inv.low in
+    let few = c.loop-at-test.true in
+    page_at (g.V.Blocks.seen c.args.v.now).words _ c.args.i.0 c.args.blocks.now (c.args.off / 4096) _ _ _ _ inv.looks.looks.words c.requires.blocks (omega (arith, low)) (omega (arith, c.requires.all, low, few))
+
+pub returns-in_err-push_page-clause-looks : goal.returns-in_err-push_page-clause-looks
+returns-in_err-push_page-clause-looks g c = look_trans c.args.shape.now (g.V.Blocks.seen c.args.v.now) (g.V.Blocks.seen c.loop-at.v) _ c.loop-at.invariant.looks c.push_page.ensures.looks
+
+pub loop-at-preserved : goal.loop-at-preserved
+loop-at-preserved g c =
+    let shape = c.args.shape.now in
+    let x = g.V.Blocks.seen c.args.v.now in
+    let y = g.V.Blocks.seen c.loop-at.v in
+    let inv = c.loop-at.invariant in
+    let at = c.loop-at.at in
+    let to = c.min-to.result in
+    let p = at / 4096 in
+    let F = λ (f : BlockWords). byte_in (word_in f (placed_at f c.args.i.0)) in
+    let low = inv.low in
+    let more = c.loop-at-test.true in
+    let to_is = c.min-to.ensures in
+    record {
+      low = omega (arith, low, more, to_is);
+      high = omega (arith, to_is);
+      out = bytes_next (F x.words) c.args.off at to (4096 * p + (at - 4096 * p)) (to - 4096 * p - (at - 4096 * p)) c.args.out.now.items c.loop-at.out.items c.push_page.new.out.items low (omega (arith, more, to_is)) inv.out
+          (subst (λ f. c.push_page.new.out.items ≡ c.loop-at.out.items ++ map (F f) (range_with_len (4096 * p + (at - 4096 * p)) (to - 4096 * p - (at - 4096 * p)))) inv.looks.looks.words c.in_ok-push_page.ensures.value) (omega arith) (omega (arith, more, to_is));
+      looks = look_trans shape x y _ inv.looks c.push_page.ensures.looks;
+      passes = g.met.V.Blocks.passes_trans _ _ _ inv.passes c.push_page.ensures.passes;
+      later = le_trans inv.later c.push_page.ensures.ends.later;
+      running = c.in_ok-push_page.ensures.ends.runs (λ a. cc) ∙ inv.running;
+      sound = c.push_page.ensures.sound;
+    }

@@ -1,0 +1,48 @@
+//! Bytes written over bytes that a file has.
+
+ghost use Rattle.std.specs.Prelude.{◌≡◌, ◌+◌, ◌<◌, ◌≤◌, ℕ, length, IsErrOf};
+ghost use Rattle.rio_base.specs.Blocks.{EndsBy};
+ghost use Rattle.rio_base.specs.Layout.{IsIno};
+ghost use Rattle.rio_base.specs.Volume.{Goes};
+ghost use Rattle.rio_model.specs.VolumeReady.{Ready};
+ghost use Rattle.inode_table.specs.Inodes.{IsInode};
+ghost use Rattle.file_pages.specs.Writing.{WriteLeaves};
+
+use crate::failures::WriteFail;
+use crate::numbers::page_blocks;
+use crate::sizes::PAGE_BYTES;
+use crate::spans::store_span;
+use inode_table::Inode;
+use rio_base::{Ino, Volume, VolumeShape};
+use std::alloc::Global;
+
+/// Writes bytes of file `i` that lie within its size, from byte `off` on in rising order.
+pub fn write_within<V: Volume>(
+    alloc: Global,
+    v: &mut V,
+    shape: &VolumeShape,
+    i: Ino,
+    inode: &Inode,
+    off: u64,
+    bytes: &[u8],
+) -> Result<(), WriteFail>
+    requires sound { V.sound v.old }
+    requires ready { Ready shape.now (V.seen v.old) (V.kept v.old) }
+    requires ino { IsIno shape.now i.0 }
+    requires inode { IsInode (V.seen v.old).words i.0 inode.now }
+    requires file { inode.now.kind ≡ 2 }
+    requires some { 0 < length bytes.now }
+    requires within { off + length bytes.now ≤ inode.now.size }
+    ensures leaves { WriteLeaves shape.now (V.seen v.old) (V.kept v.old) (V.seen v.new) (V.kept v.new) i.0 off bytes.now result }
+    ensures spacious { IsErrOf result WriteFail.NoSpace → ⊥ }
+    ensures small { IsErrOf result WriteFail.TooLarge → ⊥ }
+    ensures goes { Goes (V.health v.old) (V.below v.old) (V.health v.new) (V.below v.new) }
+    ensures ends { EndsBy (V.health v.old) (V.health v.new) ((k : ℕ) × IsErrOf result (WriteFail.Fault k)) (IsErrOf result WriteFail.Stopped) }
+    ensures sound { V.sound v.new }
+{
+    let first = (off / PAGE_BYTES) as u32;
+    let end = (off + bytes.len() as u64).div_ceil(PAGE_BYTES) as u32;
+    let blocks = page_blocks(alloc, v, shape, i, inode, first, end)?;
+    store_span(v, i, inode.size, &blocks, first, off, bytes)?;
+    Ok(())
+}

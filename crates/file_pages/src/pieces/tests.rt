@@ -1,0 +1,74 @@
+//! Words made of bytes, byte by byte as they stand in a page.
+
+use super::{fill_words, stored_bytes};
+
+/// The words of the page in which bytes begin and end.
+const FIRST: u64 = 0xA7A6_A5A4_A3A2_A1A0;
+
+const LAST: u64 = 0xB7B6_B5B4_B3B2_B1B0;
+
+/// The words that bytes make, and how many they are: at most three.
+fn made(at: usize, bytes: &[u8]) -> Option<([u64; 3], usize)> {
+    if bytes.is_empty() || at > 4095 || bytes.len() > 4096 - at {
+        return None;
+    }
+    let count = (at + bytes.len()).div_ceil(8) - at / 8;
+    if count > 3 {
+        return None;
+    }
+    let mut words = [0; 3];
+    fill_words(FIRST, LAST, at, bytes, &mut words[..count]);
+    Some((words, count))
+}
+
+#[test]
+fn bytes_are_put_between_those_of_the_page(rt: HostRuntime) {
+    const BYTES: [u8; 16] = [1, 2, 3, 4, 5, 6, 7, 8, 9, 10, 11, 12, 13, 14, 15, 16];
+    let table: [(usize, usize, [u64; 3], usize); 9] = [
+        (0, 8, [0x0807_0605_0403_0201, 0, 0], 1),
+        (0, 3, [0xA7A6_A5A4_A303_0201, 0, 0], 1),
+        (3, 2, [0xA7A6_A502_01A2_A1A0, 0, 0], 1),
+        (4095, 1, [0x01A6_A5A4_A3A2_A1A0, 0, 0], 1),
+        (5, 5, [0x0302_01A4_A3A2_A1A0, 0xB7B6_B5B4_B3B2_0504, 0], 2),
+        (13, 11, [0x0302_01A4_A3A2_A1A0, 0x0B0A_0908_0706_0504, 0], 2),
+        (8, 16, [0x0807_0605_0403_0201, 0x100F_0E0D_0C0B_0A09, 0], 2),
+        (8, 9, [0x0807_0605_0403_0201, 0xB7B6_B5B4_B3B2_B109, 0], 2),
+        (
+            6,
+            14,
+            [
+                0x0201_A5A4_A3A2_A1A0,
+                0x0A09_0807_0605_0403,
+                0xB7B6_B5B4_0E0D_0C0B,
+            ],
+            3,
+        ),
+    ];
+    for (at, len, words, count) in table {
+        assert!(rt; len <= 16);
+        assert_eq!(rt;
+            made(at, &BYTES[..len]),
+            Some((words, count)),
+            "{len} bytes at {at}"
+        );
+    }
+}
+
+#[test]
+fn bytes_in_stored_words_are_counted(rt: HostRuntime) {
+    for (at, len, words, stored) in [
+        (0, 16, 1, 8),
+        (3, 10, 0, 0),
+        (3, 10, 1, 5),
+        (3, 10, 2, 10),
+        (5, 2, 1, 2),
+        (4090, 6, 1, 6),
+    ] {
+        assert!(rt; at <= 4096 && len <= 4096 - at && words <= 512);
+        assert_eq!(rt;
+            stored_bytes(at, len, words),
+            stored,
+            "{words} words of {len} bytes at {at}"
+        );
+    }
+}
