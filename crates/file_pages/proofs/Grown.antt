@@ -8,13 +8,12 @@ use Rattle.std.proofs.lemmas.List.FromFn.{get_or-map-range_with_len}
 use Rattle.rio_base.specs.declared.places.VolumeShape.{VolumeShape}
 use Rattle.rio_base.specs.Blocks.{BlockWords}
 use Rattle.rio_base.specs.Layout.{IsIno, half}
-use Rattle.rio_base.specs.Shapes.{reserved}
 use Rattle.block_alloc.specs.Bitmap.{numbers}
 use Rattle.inode_table.specs.declared.inode.Inode.{Inode}
 use Rattle.inode_table.specs.Inodes.{inode_words, pair_word, word_of_inode}
 use Rattle.rio_model.specs.GrowthRules.{BlocksFit, few_tables, grown_has, most_tables, node_grown_fits, one_table, page_new, page_old, same_old, sourced, table_new, table_old}
 use Rattle.rio_model.specs.NodeChanges.{Takes, grown}
-use Rattle.rio_model.specs.Placed.{Slot, AtPage, AtTable, Placed, HasSlot, Lies, placed_at, Layout, volume_layout, Owned}
+use Rattle.rio_model.specs.Placed.{Slot, AtPage, AtTable, Placed, HasSlot, Lies, placed_at, Layout, volume_layout}
 use Rattle.rio_model.specs.PlacedRules.{cases_lt, later_of, node_fits}
 use Rattle.rio_model.specs.Sizes.{pages, tables}
 use Rattle.rio_model.specs.UpdateRules.{high_half, low_half, run_edits_node, run_in, run_out}

@@ -1,12 +1,13 @@
 -- Calls of one update, one after the other, and what the whole of it does.
-use Rattle.std.proofs.Common.{◌≡◌, ◌≢◌, ℕ, suc, ◌+◌, ◌/◌, ◌%◌, ◌<◌, ◌≤◌, ◌==◌, ◌||◌, Bool, inl, inr, true, false, List, [], ◌∷◌, length, map, drop, refl, sym, ap, subst, ◌∙◌, arith, slice_index_or}
-use Rattle.std.specs.Prelude.{slice_index, Option, None}
+use Rattle.std.proofs.Common.{◌≡◌, ◌≢◌, ℕ, suc, ◌+◌, ◌/◌, ◌%◌, ◌<◌, ◌≤◌, ◌==◌, ◌||◌, Bool, inl, inr, true, false, List, [], ◌∷◌, length, map, drop, refl, sym, ap, subst, ◌∙◌, arith, slice_index_or, Result}
+use Rattle.std.specs.Prelude.{slice_index, Option, None, OnOk}
 use Rattle.std.specs.Int.{bit_at}
 use Rattle.std.specs.List.{AllByRecursion, Contains}
 use Rattle.std.proofs.lemmas.Bool.{cases_eq, cases_lt}
 use Rattle.std.proofs.lemmas.Bool.Decides.{nat_tests}
 use Rattle.std.proofs.lemmas.List.{get_or_default}
 use Rattle.std.proofs.Math.Seq.{drop-cons}
+use Rattle.rio_base.specs.declared.places.Block.{Block}
 use Rattle.rio_base.specs.declared.places.PageName.{PageName}
 use Rattle.rio_base.specs.declared.places.VolumeShape.{VolumeShape}
 use Rattle.rio_base.specs.Bitmap.{bitmap_block, first_bitmap, used_bit}
@@ -21,8 +22,9 @@ use Rattle.rio_model.specs.UpdateRules.{edited_out, inode_elsewhere}
 use Rattle.rio_model.specs.Updates.{Applied, WordEdit, edited, with_inode}
 use Rattle.rio_model.specs.VolumeRules.{bitmap_bits}
 use Rattle.inode_table.specs.Inodes.{inode_words}
-use Rattle.file_pages.specs.Changes.{size_update, word_edit}
-use Rattle.file_pages.specs.Updating.{IsEdited, IsUpdated, SetsBits}
+use Rattle.inode_table.specs.declared.inode.Inode.{Inode}
+use Rattle.file_pages.specs.Changes.{node_update, word_edit}
+use Rattle.file_pages.specs.Updating.{CanMake, CanUpdate, IsEdited, IsUpdated, SetsBits}
 use Rattle.file_pages.specs.declared.changes.Edit.{Edit}
 use Rattle.file_pages.specs.declared.changes.SizeChange.{SizeChange}
 use Rattle.file_pages.proofs.Listed.{place_of}
@@ -105,12 +107,12 @@ edits_out : (es : List Edit) (c : ℕ) → ((e : Edit) → Contains es e → e.b
 edits_out [] c out = tt
 edits_out (e ∷ es) c out = (out e (0, omega arith, refl), edits_out es c (λ d on. out d (suc on.0, omega (arith, on.1), on.2)))
 
-pub applied : (shape : VolumeShape) (i : ℕ) (c : SizeChange) (f m p q g : BlockWords) → IsShape shape → IsIno shape i → ((e : Edit) → Contains c.edits e → reserved shape ≤ e.block.0) → ((b : ℕ) → Contains (numbers c.taken) b → Contains (numbers c.freed) b → ⊥) → m ≡ edited f (map word_edit c.edits) → p ≡ with_inode m i (inode_words c.inode) → SetsBits shape p q (numbers c.taken) (length (numbers c.taken)) 1 → SetsBits shape q g (numbers c.freed) (length (numbers c.freed)) 0 → Applied shape (size_update i c) f g
-applied shape i c f m p q g fits ino from apart em ep marks clears = record {
-  words = λ b w off. clears.elsewhere b w (λ e. off (inl e)) ∙ marks.elsewhere b w (λ e. off (inl e)) ∙ ap (λ (h : BlockWords). h b w) ep ∙ ap (λ (h : BlockWords). with_inode h i (inode_words c.inode) b w) em;
-  taken = λ b on. clears.others b (not_listed (numbers c.freed) b _ refl (λ z. apart b on z)) ∙ set_of p q (numbers c.taken) 1 b marks on;
-  freed = λ b on. set_of q g (numbers c.freed) 0 b clears on;
-  others = λ b within out off. clears.others b (not_listed (numbers c.freed) b _ refl off) ∙ marks.others b (not_listed (numbers c.taken) b _ refl out) ∙ ap (λ (w : ℕ). bit_at w (b % 64)) (bit_word b within);
+pub applied : (shape : VolumeShape) (i : ℕ) (inode : Inode) (edits : List Edit) (taken freed : List Block) (f m p q g : BlockWords) → IsShape shape → IsIno shape i → ((e : Edit) → Contains edits e → reserved shape ≤ e.block.0) → ((b : ℕ) → Contains (numbers taken) b → Contains (numbers freed) b → ⊥) → m ≡ edited f (map word_edit edits) → p ≡ with_inode m i (inode_words inode) → SetsBits shape p q (numbers taken) (length (numbers taken)) 1 → SetsBits shape q g (numbers freed) (length (numbers freed)) 0 → Applied shape (node_update i inode edits taken freed) f g
+applied shape i inode edits taken freed f m p q g fits ino from apart em ep marks clears = record {
+  words = λ b w off. clears.elsewhere b w (λ e. off (inl e)) ∙ marks.elsewhere b w (λ e. off (inl e)) ∙ ap (λ (h : BlockWords). h b w) ep ∙ ap (λ (h : BlockWords). with_inode h i (inode_words inode) b w) em;
+  taken = λ b on. clears.others b (not_listed (numbers freed) b _ refl (λ z. apart b on z)) ∙ set_of p q (numbers taken) 1 b marks on;
+  freed = λ b on. set_of q g (numbers freed) 0 b clears on;
+  others = λ b within out off. clears.others b (not_listed (numbers freed) b _ refl off) ∙ marks.others b (not_listed (numbers taken) b _ refl out) ∙ ap (λ (w : ℕ). bit_at w (b % 64)) (bit_word b within);
 }
   where
     set_of : (f g : BlockWords) (bs : List ℕ) (bit b : ℕ) → SetsBits shape f g bs (length bs) bit → Contains bs b → used_bit shape g b ≡ bit
@@ -120,8 +122,19 @@ applied shape i c f m p q g fits ino from apart em ep marks clears = record {
         by_place (t, few, e) = subst (λ x. used_bit shape g x ≡ bit) e (h.set t few)
 
     bit_word : (b : ℕ) → b < bitmap_bits shape → p (bitmap_block shape b) (b % 32768 / 64) ≡ f (bitmap_block shape b) (b % 32768 / 64)
-    bit_word b within = ap (λ (h : BlockWords). h (bitmap_block shape b) (b % 32768 / 64)) ep ∙ inode_elsewhere m i (inode_words c.inode) _ _ (bitmap_away shape i b fits ino within) ∙ ap (λ (h : BlockWords). h (bitmap_block shape b) (b % 32768 / 64)) em
-        ∙ edited_out (map word_edit c.edits) f _ _ (edits_out c.edits (bitmap_block shape b) (λ e on same. let above = from e on in let low = bits_low shape b within in omega (arith, above, low, same)))
+    bit_word b within = ap (λ (h : BlockWords). h (bitmap_block shape b) (b % 32768 / 64)) ep ∙ inode_elsewhere m i (inode_words inode) _ _ (bitmap_away shape i b fits ino within) ∙ ap (λ (h : BlockWords). h (bitmap_block shape b) (b % 32768 / 64)) em
+        ∙ edited_out (map word_edit edits) f _ _ (edits_out edits (bitmap_block shape b) (λ e on same. let above = from e on in let low = bits_low shape b within in omega (arith, above, low, same)))
+
+-- ---- an update whose lists the code has as slices
+
+pub can_update : (shape : VolumeShape) (es us : List Edit) (ts ps fs qs : List Block) → es ≡ us → ts ≡ ps → fs ≡ qs → CanUpdate shape us (numbers ps) (numbers qs) → CanUpdate shape es (numbers ts) (numbers fs)
+can_update shape es us ts ps fs qs se st sf can = subst (λ xs. CanUpdate shape xs (numbers ts) (numbers fs)) (sym se) (subst (λ xs. CanUpdate shape us (numbers xs) (numbers fs)) (sym st) (subst (λ xs. CanUpdate shape us (numbers ps) (numbers xs)) (sym sf) can))
+
+pub applied_as : {T E : Type 0} (shape : VolumeShape) (i : ℕ) (inode : Inode) (es us : List Edit) (ts ps fs qs : List Block) (r : Result T E) (f g : BlockWords) → es ≡ us → ts ≡ ps → fs ≡ qs → OnOk r (Applied shape (node_update i inode es ts fs) f g) → OnOk r (Applied shape (node_update i inode us ps qs) f g)
+applied_as shape i inode es us ts ps fs qs r f g se st sf h = subst (λ xs. OnOk r (Applied shape (node_update i inode us ps xs) f g)) sf (subst (λ xs. OnOk r (Applied shape (node_update i inode us xs fs) f g)) st (subst (λ xs. OnOk r (Applied shape (node_update i inode xs ts fs) f g)) se h))
+
+pub size_can : (shape : VolumeShape) (c : SizeChange) → CanMake shape c → CanUpdate shape c.edits (numbers c.taken) (numbers c.freed)
+size_can shape c can = record { words = can.edits.words; from = can.edits.from; to = can.edits.to; taken = can.taken; freed = can.freed; apart = can.apart }
 
 -- ---- touching the blocks of an update
 

@@ -1,6 +1,7 @@
 -- A prepared change of a node's size, and what it makes of the node.
 use Rattle.std.specs.Prelude.{◌≡◌, ℕ, ◌-◌, ◌<◌, ◌≤◌, ◌⊎◌, Bool, ◌==◌, ◌||◌, true, false, not, None, List, [], ◌∷◌, length, map, slice_index, take}
 use Rattle.std.specs.List.{AllByRecursion, Contains, filter}
+use Rattle.rio_base.specs.declared.places.Block.{Block}
 use Rattle.rio_base.specs.declared.places.VolumeShape.{VolumeShape}
 use Rattle.rio_base.specs.Bitmap.{free_blocks}
 use Rattle.rio_base.specs.Blocks.{BlockWords, Seen}
@@ -20,9 +21,13 @@ use Rattle.file_pages.specs.declared.changes.SizeChange.{SizeChange}
 abbrev pub word_edit : Edit → WordEdit
 word_edit e = record { block = e.block.0; word = e.word; value = e.value }
 
--- the update that it is, of inode i
+-- the update of these edits, in which inode i is stored, and blocks are marked and unmarked
+abbrev pub node_update : ℕ → Inode → List Edit → List Block → List Block → Update
+node_update i inode edits taken freed = record { ino = i; inode = inode_words inode; edits = map word_edit edits; taken = numbers taken; freed = numbers freed }
+
+-- the update that a change of the size of node i is
 abbrev pub size_update : ℕ → SizeChange → Update
-size_update i c = record { ino = i; inode = inode_words c.inode; edits = map word_edit c.edits; taken = numbers c.taken; freed = numbers c.freed }
+size_update i c = node_update i c.inode c.edits c.taken c.freed
 
 -- the inode for which a change is prepared: inode i as it is, or that of a new node without bytes where inode i is free
 abbrev pub PlansFor : BlockWords → ℕ → Inode → Type 0

@@ -19,7 +19,17 @@ pub record EditsFit (shape : VolumeShape) (edits : List Edit) : Type 0 where
   pub to : (e : Edit) → Contains edits e → e.block.0 < shape.blocks
   pub one : (d e : Edit) → Contains edits d → Contains edits e → d.block.0 ≡ e.block.0
 
--- a change that can be made in an update
+-- edits that can be made in an update, of words of blocks past the reserved ones, and blocks that can be marked and unmarked
+-- beside them
+pub record CanUpdate (shape : VolumeShape) (edits : List Edit) (gained lost : List ℕ) : Type 0 where
+  pub words : (e : Edit) → Contains edits e → e.word < 512
+  pub from : (e : Edit) → Contains edits e → reserved shape ≤ e.block.0
+  pub to : (e : Edit) → Contains edits e → e.block.0 < shape.blocks
+  pub taken : (b : ℕ) → Contains gained b → b < shape.blocks
+  pub freed : (b : ℕ) → Contains lost b → b < shape.blocks
+  pub apart : (b : ℕ) → Contains gained b → Contains lost b → ⊥
+
+-- a change of size that can be made in an update
 pub record CanMake (shape : VolumeShape) (c : SizeChange) : Type 0 where
   pub edits : EditsFit shape c.edits
   pub taken : (b : ℕ) → Contains (numbers c.taken) b → b < shape.blocks

@@ -7,6 +7,8 @@ mod changes;
 mod clearing;
 mod committing;
 #[cfg(test)]
+mod ended_calls;
+#[cfg(test)]
 mod ended_tests;
 mod extending;
 mod failures;
@@ -40,6 +42,8 @@ mod taking;
 #[cfg(test)]
 mod test_volume;
 mod updating;
+#[cfg(test)]
+mod worked_calls;
 mod writing;
 
 pub use changes::{Edit, EditList, SizeChange};
@@ -50,4 +54,5 @@ pub use preparing::plan_size;
 pub use reading::read;
 pub use resizing::resize;
 pub use sizes::LARGEST_SIZE;
+pub use updating::make_update;
 pub use writing::write;

@@ -1,69 +1,38 @@
 //! Files across their first indirect block, and to the largest size.
 
-use crate::file_calls::{Answer, put, set_size, some_of};
-use crate::test_volume::{FILE, LARGE, SHAPE, used_count, with_files};
+use crate::file_calls::{Answer, Call};
+use crate::test_volume::{LARGE, SHAPE};
+use crate::worked_calls::{File, Row, check_fresh};
 use std::test::Fail;
 
 #[test]
 fn bytes_on_both_sides_of_page_24_stay(rt: HostRuntime) -> Result<(), Fail> {
-    let alloc = rt.alloc();
-    let mut v = with_files(alloc, &SHAPE)?;
-    assert_eq!(rt;
-        put(alloc, &mut v, &SHAPE, FILE, 98_300, b"abcdefgh".as_slice())?,
-        Answer::Done(8)
-    );
-    let over = some_of(alloc, &mut v, &SHAPE, FILE, 98_298, 99)?;
-    assert_eq!(rt; over.as_slice(), b"\0\0abcdefgh".as_slice());
-    assert_eq!(rt;
-        put(alloc, &mut v, &SHAPE, FILE, 98_302, b"CDEF".as_slice())?,
-        Answer::Done(4)
-    );
-    let over = some_of(alloc, &mut v, &SHAPE, FILE, 98_300, 99)?;
-    assert_eq!(rt; over.as_slice(), b"abCDEFgh".as_slice());
-    assert_eq!(rt;
-        set_size(alloc, &mut v, &SHAPE, FILE, 98_303)?,
-        Answer::Done(0)
-    );
-    let under = some_of(alloc, &mut v, &SHAPE, FILE, 98_300, 99)?;
-    assert_eq!(rt; under.as_slice(), b"abC".as_slice());
-    assert_eq!(rt;
-        set_size(alloc, &mut v, &SHAPE, FILE, 98_306)?,
-        Answer::Done(0)
-    );
-    let back = some_of(alloc, &mut v, &SHAPE, FILE, 98_300, 99)?;
-    assert_eq!(rt; back.as_slice(), b"abC\0\0\0".as_slice());
-    Ok(())
+    let rows = [
+        Row::Write(File::First, 98_300, b"abcdefgh", Answer::Done(8)),
+        Row::Read(File::First, 98_298, 99, b"\0\0abcdefgh"),
+        Row::Write(File::First, 98_302, b"CDEF", Answer::Done(4)),
+        Row::Read(File::First, 98_300, 99, b"abCDEFgh"),
+        Row::Make(File::First, Call::Resize(98_303), Answer::Done(0)),
+        Row::Read(File::First, 98_300, 99, b"abC"),
+        Row::Make(File::First, Call::Resize(98_306), Answer::Done(0)),
+        Row::Read(File::First, 98_300, 99, b"abC\0\0\0"),
+    ];
+    check_fresh(&rt, rt.alloc(), &SHAPE, &rows)
 }
 
 #[test]
 fn the_largest_file_is_made_and_cut(rt: HostRuntime) -> Result<(), Fail> {
-    let alloc = rt.alloc();
-    let mut v = with_files(alloc, &LARGE)?;
-    assert_eq!(rt;
-        put(alloc, &mut v, &LARGE, FILE, 98_300, b"abcdefgh".as_slice())?,
-        Answer::Done(8)
-    );
-    assert_eq!(rt;
-        put(alloc, &mut v, &LARGE, FILE, 4_292_606, b"yz".as_slice())?,
-        Answer::Done(2)
-    );
-    assert_eq!(rt; used_count(&mut v, &LARGE)?, 4 + 1049);
-    let end = some_of(alloc, &mut v, &LARGE, FILE, 4_292_605, 99)?;
-    assert_eq!(rt; end.as_slice(), b"\0yz".as_slice());
-    let start = some_of(alloc, &mut v, &LARGE, FILE, 98_300, 9)?;
-    assert_eq!(rt; start.as_slice(), b"abcdefgh\0".as_slice());
-    assert_eq!(rt;
-        set_size(alloc, &mut v, &LARGE, FILE, 98_305)?,
-        Answer::Done(0)
-    );
-    assert_eq!(rt; used_count(&mut v, &LARGE)?, 4 + 26);
-    assert_eq!(rt;
-        set_size(alloc, &mut v, &LARGE, FILE, 4_292_608)?,
-        Answer::Done(0)
-    );
-    let cut = some_of(alloc, &mut v, &LARGE, FILE, 98_300, 9)?;
-    assert_eq!(rt; cut.as_slice(), b"abcde\0\0\0\0".as_slice());
-    let end = some_of(alloc, &mut v, &LARGE, FILE, 4_292_605, 99)?;
-    assert_eq!(rt; end.as_slice(), b"\0\0\0".as_slice());
-    Ok(())
+    let rows = [
+        Row::Write(File::First, 98_300, b"abcdefgh", Answer::Done(8)),
+        Row::Write(File::First, 4_292_606, b"yz", Answer::Done(2)),
+        Row::Used(4 + 1049),
+        Row::Read(File::First, 4_292_605, 99, b"\0yz"),
+        Row::Read(File::First, 98_300, 9, b"abcdefgh\0"),
+        Row::Make(File::First, Call::Resize(98_305), Answer::Done(0)),
+        Row::Used(4 + 26),
+        Row::Make(File::First, Call::Resize(4_292_608), Answer::Done(0)),
+        Row::Read(File::First, 98_300, 9, b"abcde\0\0\0\0"),
+        Row::Read(File::First, 4_292_605, 99, b"\0\0\0"),
+    ];
+    check_fresh(&rt, rt.alloc(), &LARGE, &rows)
 }

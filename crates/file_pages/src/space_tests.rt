@@ -4,8 +4,9 @@ ghost use Rattle.std.specs.Prelude.{◌≤◌, IfOk};
 ghost use Rattle.rio_base.specs.ListVolumes.{ListSound, list_kept, list_seen};
 ghost use Rattle.file_pages.specs.TestFiles.{FilesReady};
 
-use crate::file_calls::{Answer, all_of, put, set_size};
-use crate::test_volume::{FILE, OTHER, SMALL, used_count, with_files};
+use crate::file_calls::{Answer, Call, put, set_size};
+use crate::test_volume::{FILE, OTHER, SMALL, with_files};
+use crate::worked_calls::{File, Row, check_rows};
 use rio_base::ListVolume;
 use std::alloc::Global;
 use std::test::Fail;
@@ -46,68 +47,46 @@ fn most_pages(free: u64) -> u64
     if free <= 6 { 18 + free } else { 17 + free }
 }
 
+/// The calls where so many blocks are free.
+fn rows_at(free: u64) -> [Row; 7]
+    requires { free ≤ 18 }
+{
+    let most = PAGE * most_pages(free);
+    let used = if free == 7 { 39 } else { 40 };
+    [
+        Row::Used(40 - free as u32),
+        Row::Make(File::First, Call::Resize(most + 1), Answer::NoSpace),
+        Row::Write(File::First, most, b"\x03", Answer::NoSpace),
+        Row::Write(File::First, most - 2, b"\x03\x04\x05", Answer::NoSpace),
+        Row::Len(File::First, 69_633), // 17 pages and a byte
+        Row::Write(File::First, most - 2, b"\x03\x04", Answer::Done(2)),
+        Row::Used(used),
+    ]
+}
+
 #[test]
 fn all_free_blocks_are_taken_and_none_more(rt: HostRuntime) -> Result<(), Fail> {
-    let alloc = rt.alloc();
     for free in 0..19 {
-        let mut v = with_gaps(alloc, free)?;
-        assert_eq!(rt; used_count(&mut v, &SMALL)?, 40 - free as u32);
-        let most = PAGE * most_pages(free);
-        assert_eq!(rt;
-            set_size(alloc, &mut v, &SMALL, FILE, most + 1)?,
-            Answer::NoSpace
-        );
-        assert_eq!(rt;
-            put(alloc, &mut v, &SMALL, FILE, most, &[3])?,
-            Answer::NoSpace
-        );
-        assert_eq!(rt;
-            put(alloc, &mut v, &SMALL, FILE, most - 2, &[3, 4, 5])?,
-            Answer::NoSpace
-        );
-        let old = all_of(alloc, &mut v, &SMALL, FILE)?;
-        assert_eq!(rt; old.as_slice().len(), 69_633); // 17 pages and a byte
-        assert_eq!(rt;
-            put(alloc, &mut v, &SMALL, FILE, most - 2, &[3, 4])?,
-            Answer::Done(2)
-        );
-        let used = if free == 7 { 39 } else { 40 };
-        assert_eq!(rt; used_count(&mut v, &SMALL)?, used);
+        let mut v = with_gaps(rt.alloc(), free)?;
+        check_rows(&rt, rt.alloc(), &mut v, &SMALL, &rows_at(free))?;
     }
     Ok(())
 }
 
 #[test]
 fn blocks_that_a_file_loses_are_free_for_the_next_call(rt: HostRuntime) -> Result<(), Fail> {
-    let alloc = rt.alloc();
-    let mut v = filled_up(alloc)?;
-    assert_eq!(rt; set_size(alloc, &mut v, &SMALL, OTHER, 1)?, Answer::Done(0));
-    assert_eq!(rt; used_count(&mut v, &SMALL)?, 23);
-    assert_eq!(rt;
-        set_size(alloc, &mut v, &SMALL, FILE, 34 * PAGE)?,
-        Answer::Done(0)
-    );
-    assert_eq!(rt; used_count(&mut v, &SMALL)?, 40);
-    assert_eq!(rt;
-        set_size(alloc, &mut v, &SMALL, OTHER, PAGE)?,
-        Answer::Done(0)
-    );
-    assert_eq!(rt;
-        set_size(alloc, &mut v, &SMALL, OTHER, PAGE + 1)?,
-        Answer::NoSpace
-    );
-    assert_eq!(rt;
-        set_size(alloc, &mut v, &SMALL, FILE, 24 * PAGE)?,
-        Answer::Done(0)
-    );
-    assert_eq!(rt; used_count(&mut v, &SMALL)?, 29);
-    assert_eq!(rt;
-        set_size(alloc, &mut v, &SMALL, OTHER, 12 * PAGE)?,
-        Answer::Done(0)
-    );
-    assert_eq!(rt;
-        set_size(alloc, &mut v, &SMALL, OTHER, 12 * PAGE + 1)?,
-        Answer::NoSpace
-    );
-    Ok(())
+    let rows = [
+        Row::Make(File::Second, Call::Resize(1), Answer::Done(0)),
+        Row::Used(23),
+        Row::Make(File::First, Call::Resize(34 * PAGE), Answer::Done(0)),
+        Row::Used(40),
+        Row::Make(File::Second, Call::Resize(PAGE), Answer::Done(0)),
+        Row::Make(File::Second, Call::Resize(PAGE + 1), Answer::NoSpace),
+        Row::Make(File::First, Call::Resize(24 * PAGE), Answer::Done(0)),
+        Row::Used(29),
+        Row::Make(File::Second, Call::Resize(12 * PAGE), Answer::Done(0)),
+        Row::Make(File::Second, Call::Resize(12 * PAGE + 1), Answer::NoSpace),
+    ];
+    let mut v = filled_up(rt.alloc())?;
+    check_rows(&rt, rt.alloc(), &mut v, &SMALL, &rows)
 }

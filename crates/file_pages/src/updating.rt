@@ -1,4 +1,4 @@
-//! A change of size, made in one update.
+//! An update of a node's blocks, and a change of size made as one.
 
 ghost use Rattle.std.specs.Prelude.{◌≡◌, ◌<◌, ◌≤◌, ◌⊎◌, ℕ, true, false, None, length, OnOk, IsErrOf};
 ghost use Rattle.std.specs.List.{Contains};
@@ -10,13 +10,13 @@ ghost use Rattle.rio_base.specs.Volume.{Firm, Goes, SameUpdate};
 ghost use Rattle.rio_model.specs.Updates.{Applied, edited};
 ghost use Rattle.std.specs.Prelude.{map};
 ghost use Rattle.block_alloc.specs.Bitmap.{numbers};
-ghost use Rattle.file_pages.specs.Changes.{size_update, word_edit};
-ghost use Rattle.file_pages.specs.Updating.{CanChange, CanMake, EditsFit, IsEdited, IsTouched, IsUpdated, SetsBits};
+ghost use Rattle.file_pages.specs.Changes.{node_update, size_update, word_edit};
+ghost use Rattle.file_pages.specs.Updating.{CanChange, CanMake, CanUpdate, EditsFit, IsEdited, IsTouched, IsUpdated, SetsBits};
 ghost use Rattle.file_pages.specs.declared.changes.Edit.{Edit};
 
 use crate::changes::{Edit, SizeChange};
 use block_alloc::{mark, unmark};
-use inode_table::{edit_inode, inode_block};
+use inode_table::{Inode, edit_inode, inode_block};
 use rio_base::{Block, Ino, Stopped, VolFail, Volume, VolumeShape};
 
 /// The bitmap of the blocks that a volume may have.
@@ -154,6 +154,42 @@ fn unmark_all<V: Volume>(v: &mut V, shape: &VolumeShape, blocks: &[Block]) -> Re
     Ok(())
 }
 
+/// Makes an update of one node's blocks in the open update: edits, inode `i`, which is stored, and the bits of the blocks
+/// that the node gains and loses. All blocks of it must be touched. It takes no memory, and other nodes may be changed in the
+/// same update.
+pub fn make_update<V: Volume>(
+    v: &mut V,
+    shape: &VolumeShape,
+    i: Ino,
+    inode: &Inode,
+    edits: &[Edit],
+    taken: &[Block],
+    freed: &[Block],
+) -> Result<(), Stopped>
+    requires sound { V.sound v.old }
+    requires shape { HasShape shape.now (V.seen v.old) }
+    requires in_update { (V.kept v.old).updating ≡ true }
+    requires ino { IsIno shape.now i.0 }
+    requires touched { IsTouched (V.kept v.old) i.0 edits.now }
+    requires can { CanUpdate shape.now edits.now (numbers taken.now) (numbers freed.now) }
+    ensures ok { OnOk result (Applied shape.now (node_update i.0 inode.now edits.now taken.now freed.now) (V.seen v.old).words (V.seen v.new).words) }
+    ensures update { OnOk result (SameUpdate (V.kept v.old) (V.kept v.new)) }
+    ensures in_update { (V.kept v.new).updating ≡ true }
+    ensures standing { (V.kept v.new).standing ≡ (V.kept v.old).standing }
+    ensures firm { Firm (V.kept v.old) (V.kept v.new) }
+    ensures shape { HasShape shape.now (V.seen v.new) }
+    ensures caches { Caches (V.seen v.old) (V.seen v.new) 1 None }
+    ensures goes { Goes (V.health v.old) (V.below v.old) (V.health v.new) (V.below v.new) }
+    ensures ends { Halts (V.health v.old) (V.health v.new) result }
+    ensures sound { V.sound v.new }
+{
+    make_edits(v, edits)?;
+    edit_inode(v, shape, i, inode)?;
+    mark_all(v, shape, taken)?;
+    unmark_all(v, shape, freed)?;
+    Ok(())
+}
+
 /// Makes a prepared change of node `i`, in the open update. All its blocks must be touched.
 pub fn apply<V: Volume>(
     v: &mut V,
@@ -178,9 +214,13 @@ pub fn apply<V: Volume>(
     ensures ends { Halts (V.health v.old) (V.health v.new) result }
     ensures sound { V.sound v.new }
 {
-    make_edits(v, change.edits.as_slice())?;
-    edit_inode(v, shape, i, &change.inode)?;
-    mark_all(v, shape, change.taken.as_slice())?;
-    unmark_all(v, shape, change.freed.as_slice())?;
-    Ok(())
+    make_update(
+        v,
+        shape,
+        i,
+        &change.inode,
+        change.edits.as_slice(),
+        change.taken.as_slice(),
+        change.freed.as_slice(),
+    )
 }

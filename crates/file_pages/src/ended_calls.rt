@@ -1,0 +1,170 @@
+//! Calls that are stopped, or in which a call below fails: what of the file stands, or reads, then.
+
+ghost use Rattle.std.specs.Prelude.{IfOk, OnOk};
+ghost use Rattle.rio_base.specs.ListVolumes.{ListSound, list_kept, list_seen};
+ghost use Rattle.file_pages.specs.TestFiles.{FilesReady, FilesStand, IsTestShape};
+
+use crate::WriteFail;
+use crate::file_calls::{Answer, Call, all_of, blocks_in, make};
+use crate::plain_file::{is_led, plain_call, same_up_to};
+use crate::test_volume::{FILE, start_again, used_count, with_files};
+use rio_base::{FaultyVolume, ListVolume, Octets, Volume, VolumeShape};
+use std::alloc::Global;
+use std::process::Abort;
+use std::test::Fail;
+
+/// More steps than any call here has.
+pub(crate) const MANY: u64 = 2000;
+
+/// A call that does not end, and the one that made the file what it is before.
+#[derive(Clone, Copy)]
+pub(crate) struct Case {
+    pub(crate) shape: VolumeShape,
+    pub(crate) first: Call,
+    pub(crate) call: Call,
+}
+
+/// A volume on whose file a call was made.
+pub(crate) fn after(alloc: Global, shape: &VolumeShape, first: Call) -> Result<ListVolume, Fail>
+    requires { IsTestShape shape.now }
+    ensures sound { IfOk result ListSound }
+    ensures files { IfOk result (λ v. FilesReady shape.now (list_seen v) (list_kept v)) }
+    ensures stand { IfOk result (λ v. FilesStand shape.now (list_seen v) (list_kept v)) }
+{
+    let mut v = with_files(alloc, shape)?;
+    make(alloc, &mut v, shape, FILE, first)?;
+    Ok(v)
+}
+
+/// Makes a call again that did not end. It is done now, and all blocks that are used are the file's or reserved.
+fn make_again<V: Volume>(
+    rt: &impl Abort,
+    alloc: Global,
+    v: &mut V,
+    case: &Case,
+    new: &[u8],
+) -> Result<(), Fail>
+    requires sound { V.sound v.old }
+    requires files { FilesReady case.now.shape (V.seen v.old) (V.kept v.old) }
+{
+    let answer = make(alloc, v, &case.shape, FILE, case.call)?;
+    assert!(rt; matches!(answer, Answer::Done(_)));
+    let bytes = all_of(alloc, v, &case.shape, FILE)?;
+    assert!(rt; bytes.as_slice() == new);
+    let used = used_count(v, &case.shape)?;
+    let blocks = blocks_in(alloc, v, &case.shape, FILE)?;
+    assert_eq!(rt; used as usize, blocks.as_slice().len().saturating_add(4));
+    Ok(())
+}
+
+/// Makes a call that stops after so many steps, and goes on with what stands. Says whether the call was done before.
+fn make_stopped(
+    rt: &impl Abort,
+    alloc: Global,
+    v: &mut ListVolume,
+    case: &Case,
+    steps: u64,
+) -> Result<bool, Fail>
+    requires sound { ListSound v.old }
+    requires stand { FilesStand case.now.shape (list_seen v.old) (list_kept v.old) }
+    ensures files { OnOk result (FilesReady case.now.shape (list_seen v.new) (list_kept v.new)) }
+    ensures sound { OnOk result (ListSound v.new) }
+{
+    start_again(v, &case.shape, Some(steps));
+    let ended = make(alloc, v, &case.shape, FILE, case.call);
+    start_again(v, &case.shape, None);
+    match ended {
+        Ok(answer) => assert!(rt; matches!(answer, Answer::Done(_))),
+        Err(fail) => assert!(rt; fail == WriteFail::Stopped),
+    }
+    Ok(ended.is_ok())
+}
+
+/// What stands of the file where a call stops after so many steps, and whether it is done before.
+pub(crate) fn stop_at(
+    rt: &impl Abort,
+    alloc: Global,
+    case: &Case,
+    steps: u64,
+    new: &[u8],
+) -> Result<(bool, Octets), Fail>
+    requires { IsTestShape case.now.shape }
+{
+    let mut v = after(alloc, &case.shape, case.first)?;
+    let done = make_stopped(rt, alloc, &mut v, case, steps)?;
+    let bytes = all_of(alloc, &mut v, &case.shape, FILE)?;
+    make_again(rt, alloc, &mut v, case, new)?;
+    Ok((done, bytes))
+}
+
+/// How many bytes of a call are done, and the bytes of the file then, where its `n`th call below that may need the disk
+/// fails. None where it is done before.
+pub(crate) fn fail_at(
+    rt: &impl Abort,
+    alloc: Global,
+    case: &Case,
+    n: u64,
+    new: &[u8],
+) -> Result<Option<(u64, Octets)>, Fail>
+    requires { IsTestShape case.now.shape }
+{
+    let mut v = FaultyVolume::new(after(alloc, &case.shape, case.first)?, n);
+    let answer = make(alloc, &mut v, &case.shape, FILE, case.call)?;
+    let Answer::Fault(done) = answer else {
+        assert!(rt; matches!(answer, Answer::Done(_)));
+        return Ok(None);
+    };
+    let bytes = all_of(alloc, &mut v, &case.shape, FILE)?;
+    make_again(rt, alloc, &mut v, case, new)?;
+    Ok(Some((done, bytes)))
+}
+
+/// Whether a file may stand so where a call stops that makes the new bytes of the old: as either, or led.
+fn may_stand(bytes: &[u8], old: &[u8], new: &[u8]) -> bool {
+    bytes == new || is_led(bytes, old, new, same_up_to(bytes, new))
+}
+
+/// Stops a call at each of its steps.
+pub(crate) fn stop_each(rt: &impl Abort, alloc: Global, case: &Case) -> Result<(), Fail>
+    requires { IsTestShape case.now.shape }
+{
+    let old = plain_call(alloc, &[], case.first)?;
+    let new = plain_call(alloc, &old, case.call)?;
+    for steps in 0..MANY {
+        let (done, bytes) = stop_at(rt, alloc, case, steps, &new)?;
+        if done {
+            assert!(rt; bytes.as_slice() == new.as_slice(), "after {steps} steps");
+            return Ok(());
+        }
+        assert!(rt;
+            may_stand(bytes.as_slice(), &old, &new),
+            "after {steps} steps"
+        );
+    }
+    Err("never done")?
+}
+
+/// The end of the first `done` bytes of a call.
+fn end_of(call: Call, done: u64) -> usize {
+    match call {
+        Call::Write(off, _, _) => off.saturating_add(done) as usize,
+        Call::Resize(_) => 0,
+    }
+}
+
+/// Lets each call below that may need the disk fail in turn, and says how many there are.
+pub(crate) fn fail_each(rt: &impl Abort, alloc: Global, case: &Case) -> Result<u64, Fail>
+    requires { IsTestShape case.now.shape }
+{
+    let old = plain_call(alloc, &[], case.first)?;
+    let new = plain_call(alloc, &old, case.call)?;
+    for n in 1..MANY {
+        let Some((done, bytes)) = fail_at(rt, alloc, case, n, &new)? else {
+            return Ok(n - 1);
+        };
+        let end = end_of(case.call, done);
+        assert!(rt; done == 0 || end <= old.len(), "at call {n}");
+        assert!(rt; is_led(bytes.as_slice(), &old, &new, end), "at call {n}");
+    }
+    Err("never done")?
+}
