@@ -1,0 +1,204 @@
+-- The words of a name, and names of entries compared with them.
+use Rattle.std.proofs.Common.{◌≡◌, ◌≢◌, ℕ, zero, suc, ◌+◌, ◌-◌, ◌*◌, ◌/◌, ◌%◌, ◌^◌, ◌<◌, ◌≤◌, min, List, ◌∷◌, length, map, drop, bit_and, get_or, replicate, slice_index, slice_set, refl, sym, ap, subst, ◌∙◌, arith, ◌⊎◌, inl, inr}
+use Rattle.std.specs.List.{range_with_len}
+use Rattle.std.proofs.lemmas.Bool.{cases_lt}
+use Rattle.std.proofs.lemmas.List.{get_or-drop, get_or-set_other, get_or-set_same, get_or_past, length-take-le}
+use Rattle.std.proofs.lemmas.List.FromFn.{fill_by_all, get_or-map-range_with_len, length-map-range_with_len}
+use borrow.Rule.Slice.PartMut.{put_mid, same_len_mid}
+use Rattle.byteorder.specs.Endian.{IsRead, little_number}
+use Rattle.rio_model.specs.Held.{byte_in, byte_of}
+use Rattle.file_pages.specs.PageBytes.{bytes_of, over}
+use Rattle.file_pages.proofs.ByteRuns.{byte_at, bytes_read, get_mid, over_in, over_out}
+use Rattle.directories.specs.declared.entries.NameKey.{NameKey}
+use Rattle.directories.specs.Entries.{IsEntryOf, IsKey, IsWordsOf, name_in}
+use Rattle.directories.proofs.WordBytes.{masked_byte, masked_is}
+
+-- ---- bytes of a run, one by one
+
+-- runs of the same bytes, from other places
+pub run_same : (f g : ℕ → ℕ) (n a b : ℕ) → ((k : ℕ) → k < n → f (a + k) ≡ g (b + k)) → map f (range_with_len a n) ≡ map g (range_with_len b n)
+run_same f g zero a b each = refl
+run_same f g (suc n) a b each =
+    let first : f a ≡ g b = (let za : a ≡ a + 0 = omega arith in ap f za) ∙ each 0 (omega arith) ∙ (let zb : b + 0 ≡ b = omega arith in ap g zb) in
+    let rest : map f (range_with_len (a + 1) n) ≡ map g (range_with_len (b + 1) n) = run_same f g n (a + 1) (b + 1) (λ k few. (let ka : a + 1 + k ≡ a + suc k = omega arith in ap f ka) ∙ each (suc k) (omega (arith, few)) ∙ (let kb : b + suc k ≡ b + 1 + k = omega arith in ap g kb)) in
+    (λ q. first q ∷ rest q)
+
+-- a list is the run of bytes that has its length and each of its bytes
+pub by_each : (F : ℕ → ℕ) (xs : List ℕ) (a n : ℕ) → length xs ≡ n → ((k : ℕ) → k < n → slice_index xs k ≡ F (a + k)) → xs ≡ map F (range_with_len a n)
+by_each F xs a n long each = fill_by_all (λ k. F (a + k)) xs n 0 long each ∙ run_same (λ k. F (a + k)) F n 0 a (λ k few. let e : a + (0 + k) ≡ a + k = omega arith in ap F e)
+
+-- ---- the words of a name
+
+pub zeros_at : (n i : ℕ) → slice_index (replicate n 0) i ≡ 0
+zeros_at zero i = refl
+zeros_at (suc n) zero = refl
+zeros_at (suc n) (suc i) = zeros_at n i
+
+number_small : (xs : List ℕ) → ((i : ℕ) → get_or xs i 0 < 256) → little_number 8 xs < 2 ^ 64
+number_small xs each = omega (arith, each 0, each 1, each 2, each 3, each 4, each 5, each 6, each 7)
+
+pub words_of_name : (name part zeros dst : List ℕ) (k : ℕ) → part ≡ name → k ≡ length part → length name ≤ 56 → length zeros ≡ 56 → ((i : ℕ) → slice_index zeros i ≡ 0) → ((i : ℕ) → get_or name i 0 < 256) → length dst ≡ 7 → IsRead little_number 8 (put_mid 0 k zeros part) dst → IsWordsOf name dst
+words_of_name name part zeros dst k is long few width none small seven read = record { bytes = λ y low. at y low; fits = λ t low. subst (λ z. z < 2 ^ 64) (sym (read t (omega (arith, low, seven)))) (number_small (drop (8 * t) src) (λ i. subst (λ z. z < 256) (sym (get_or-drop (8 * t) src i 0)) (each (8 * t + i)))) }
+  where
+    src : List ℕ
+    src = put_mid 0 k zeros part
+
+    fits : 0 + k ≤ length zeros
+    fits = let l = ap length is in omega (arith, long, few, width, l)
+
+    put : (y : ℕ) → slice_index src y ≡ slice_index name y
+    put y = get_mid 0 k zeros part y long fits ∙ by_place (cases_lt y k)
+      where
+        by_place : ((y < k) ⊎ (k ≤ y)) → over (slice_index zeros) 0 part k y ≡ slice_index name y
+        by_place (inl below) = over_in (slice_index zeros) 0 part k y (omega arith) (omega (arith, below)) ∙ (let back : y - 0 ≡ y = omega arith in ap (slice_index part) back) ∙ ap (λ xs. slice_index xs y) is
+        by_place (inr past) = over_out (slice_index zeros) 0 part k y (inr (omega (arith, past))) ∙ none y ∙ sym (get_or_past name y 0 (let l = ap length is in omega (arith, past, long, l)))
+
+    each : (i : ℕ) → get_or src i 0 < 256
+    each i = subst (λ z. z < 256) (sym (put i)) (small i)
+
+    whole : src ≡ bytes_of dst
+    whole = bytes_read src dst (same_len_mid 0 k zeros part (sym long ∙ sym (length-take-le k (drop 0 zeros) (let l = ap length is in omega (arith, long, few, width, l)))) ∙ width ∙ ap (λ n. 8 * n) (sym seven)) each read
+
+    at : (y : ℕ) → y < 56 → byte_of (slice_index dst (y / 8)) (y % 8) ≡ slice_index name y
+    at y low =
+        let place : 8 * (y / 8) + y % 8 ≡ y = omega arith in
+        sym (byte_at dst (y / 8) (y % 8) (omega (arith, low, seven)) (omega arith)) ∙ ap (slice_index (bytes_of dst)) place ∙ ap (λ xs. slice_index xs y) (sym whole) ∙ put y
+
+-- ---- the name of an entry
+
+pub name_length : (word : ℕ → ℕ) (k : ℕ) → length (name_in word k) ≡ word (8 * k) / 2 ^ 32 % 2 ^ 8
+name_length word k = length-map-range_with_len (byte_in word) (64 * k + 8) (word (8 * k) / 2 ^ 32 % 2 ^ 8)
+
+-- byte y of it
+pub name_byte : (word : ℕ → ℕ) (k y : ℕ) → y < word (8 * k) / 2 ^ 32 % 2 ^ 8 → slice_index (name_in word k) y ≡ byte_of (word (8 * k + 1 + y / 8)) (y % 8)
+name_byte word k y few =
+    let at : 64 * k + 8 + y ≡ 64 * k + 8 + y = refl in
+    let word_at : (64 * k + 8 + y) / 8 ≡ 8 * k + 1 + y / 8 = omega arith in
+    let byte_at : (64 * k + 8 + y) % 8 ≡ y % 8 = omega arith in
+    get_or-map-range_with_len (byte_in word) (64 * k + 8) (word (8 * k) / 2 ^ 32 % 2 ^ 8) y (64 * k + 8 + y) 0 few at ∙ (λ q. byte_of (word (word_at q)) (byte_at q))
+
+-- ---- a name compared with a key
+
+-- so many bytes of a name are in its word t
+abbrev part_of : List ℕ → ℕ → ℕ
+part_of name t = min (length name - 8 * t) 8
+
+key_byte : (name words : List ℕ) (t b : ℕ) → IsWordsOf name words → t < 7 → b < 8 → byte_of (slice_index words t) b ≡ slice_index name (8 * t + b)
+key_byte name words t b h few small =
+    let word_at : t ≡ (8 * t + b) / 8 = omega (arith, small) in
+    let byte_at : b ≡ (8 * t + b) % 8 = omega (arith, small) in
+    (λ q. byte_of (slice_index words (word_at q)) (byte_at q)) ∙ h.bytes (8 * t + b) (omega (arith, few, small))
+
+-- an entry of this name has the key's words
+pub key_has : (name : List ℕ) (key : NameKey) (word : ℕ → ℕ) (k t : ℕ) → IsKey name key → t < 7 → name_in word k ≡ name → bit_and (word (8 * k + 1 + t)) (slice_index key.masks t) ≡ slice_index key.words t
+key_has name key word k t h few is =
+    ap (bit_and (word (8 * k + 1 + t))) (h.masks t few)
+    ∙ masked_is (word (8 * k + 1 + t)) (slice_index key.words t) (part_of name t) (omega arith) (h.words.fits t few)
+    (λ b low. same b low)
+    (λ b past small. key_byte name key.words t b h.words few small ∙ get_or_past name (8 * t + b) 0 (omega (arith, past, small)))
+  where
+    same : (b : ℕ) → b < part_of name t → byte_of (word (8 * k + 1 + t)) b ≡ byte_of (slice_index key.words t) b
+    same b low =
+        let y = 8 * t + b in
+        let long = sym (name_length word k) ∙ ap length is in
+        let word_at : 8 * k + 1 + t ≡ 8 * k + 1 + y / 8 = omega (arith, low) in
+        let byte_at : b ≡ y % 8 = omega (arith, low) in
+        (λ q. byte_of (word (word_at q)) (byte_at q))
+        ∙ sym (name_byte word k y (omega (arith, low, long)))
+        ∙ ap (λ xs. slice_index xs y) is
+        ∙ sym (key_byte name key.words t b h.words few (omega (arith, low)))
+
+-- and one that has its length and the key's words has the name
+pub key_same : (name : List ℕ) (key : NameKey) (word : ℕ → ℕ) (k : ℕ) → IsKey name key → word (8 * k) / 2 ^ 32 % 2 ^ 8 ≡ length name → ((t : ℕ) → t < 7 → bit_and (word (8 * k + 1 + t)) (slice_index key.masks t) ≡ slice_index key.words t) → name_in word k ≡ name
+key_same name key word k h long all = sym (by_each (byte_in word) name (64 * k + 8) (word (8 * k) / 2 ^ 32 % 2 ^ 8) (sym long) each)
+  where
+    each : (y : ℕ) → y < word (8 * k) / 2 ^ 32 % 2 ^ 8 → slice_index name y ≡ byte_in word (64 * k + 8 + y)
+    each y low =
+        let t = y / 8 in
+        let b = y % 8 in
+        let most = h.few in
+        let few : t < 7 = omega (arith, low, long, most) in
+        let small : b < 8 = omega arith in
+        let place : 8 * t + b ≡ y = omega arith in
+        let word_at : 8 * k + 1 + t ≡ (64 * k + 8 + y) / 8 = omega arith in
+        let byte_at : b ≡ (64 * k + 8 + y) % 8 = omega arith in
+        ap (slice_index name) (sym place)
+        ∙ sym (key_byte name key.words t b h.words few small)
+        ∙ sym (masked_byte (word (8 * k + 1 + t)) (slice_index key.words t) (part_of name t) b (omega arith) (omega (arith, low, long, place)) (ap (bit_and (word (8 * k + 1 + t))) (sym (h.masks t few)) ∙ all t few))
+        ∙ (λ q. byte_of (word (word_at q)) (byte_at q))
+
+-- so an entry with another word has another name
+pub key_differs : (name : List ℕ) (key : NameKey) (word : ℕ → ℕ) (k at t : ℕ) → IsKey name key → t < 7 → at ≡ 8 * k + 1 + t → bit_and (word at) (slice_index key.masks t) ≢ slice_index key.words t → name_in word k ≢ name
+key_differs name key word k at t h few place other is = other (ap (λ w. bit_and (word w) (slice_index key.masks t)) place ∙ key_has name key word k t h few is)
+
+-- an entry has its name wherever its words lie
+pub name_moved : (u v : ℕ → ℕ) (a b : ℕ) (name : List ℕ) → length name ≤ 56 → ((t : ℕ) → t < 8 → u (8 * a + t) ≡ v (8 * b + t)) → name_in u a ≡ name → name_in v b ≡ name
+name_moved u v a b name few same is = ap (λ n. map (byte_in v) (range_with_len (64 * b + 8) n)) (sym long_same) ∙ run_same (byte_in v) (byte_in u) (word_length u a) (64 * b + 8) (64 * a + 8) each ∙ is
+  where
+    word_length : (ℕ → ℕ) → ℕ → ℕ
+    word_length w k = w (8 * k) / 2 ^ 32 % 2 ^ 8
+
+    first : u (8 * a) ≡ v (8 * b)
+    first = (let at_a : 8 * a ≡ 8 * a + 0 = omega arith in ap u at_a) ∙ same 0 (omega arith) ∙ (let at_b : 8 * b + 0 ≡ 8 * b = omega arith in ap v at_b)
+
+    long_same : word_length u a ≡ word_length v b
+    long_same = ap (λ w. w / 2 ^ 32 % 2 ^ 8) first
+
+    long : word_length u a ≡ length name
+    long = sym (name_length u a) ∙ ap length is
+
+    each : (y : ℕ) → y < word_length u a → byte_in v (64 * b + 8 + y) ≡ byte_in u (64 * a + 8 + y)
+    each y low =
+        let t = 1 + y / 8 in
+        let b_word : (64 * b + 8 + y) / 8 ≡ 8 * b + t = omega arith in
+        let a_word : 8 * a + t ≡ (64 * a + 8 + y) / 8 = omega arith in
+        let byte_at : (64 * b + 8 + y) % 8 ≡ (64 * a + 8 + y) % 8 = omega arith in
+        (λ q. byte_of (v (b_word q)) (byte_at q)) ∙ ap (λ w. byte_of w ((64 * a + 8 + y) % 8)) (sym (same t (omega (arith, low, long, few))) ∙ ap u a_word)
+
+-- one place more of a list filled
+pub set_next : (xs : List ℕ) (t v : ℕ) (F : ℕ → ℕ) → t < length xs → ((s : ℕ) → s < t → slice_index xs s ≡ F s) → v ≡ F t → (s : ℕ) → s < t + 1 → slice_index (slice_set xs t v) s ≡ F s
+set_next xs t v F within each is s low = elim (cases_lt s t) [
+  | inl below ↦ get_or-set_other xs t s v 0 (λ e. omega (arith, below, e)) ∙ each s below
+  | inr past ↦ (let same : s ≡ t = omega (arith, low, past) in ap (slice_index (slice_set xs t v)) same ∙ get_or-set_same xs t v 0 within ∙ is ∙ ap F (sym same))
+]
+
+-- ---- the words of an entry
+
+pub entry_of : (name words : List ℕ) (i w : ℕ) → IsWordsOf name words → length name ≤ 56 → i < 2 ^ 32 → w ≡ i + 2 ^ 32 * length name → IsEntryOf name i (w ∷ words)
+entry_of name words i w h few fits is = record {
+  named = sym (by_each (byte_in (slice_index (w ∷ words))) name (64 * 0 + 8) (w / 2 ^ 32 % 2 ^ 8) (sym long) each);
+  ino = low;
+}
+  where
+    long : w / 2 ^ 32 % 2 ^ 8 ≡ length name
+    long = omega (arith, is, few, fits)
+
+    low : w % 2 ^ 32 ≡ i
+    low = omega (arith, is, fits)
+
+    each : (y : ℕ) → y < w / 2 ^ 32 % 2 ^ 8 → slice_index name y ≡ byte_in (slice_index (w ∷ words)) (64 * 0 + 8 + y)
+    each y in_name =
+        let word_at : suc (y / 8) ≡ (64 * 0 + 8 + y) / 8 = omega arith in
+        let byte_at : y % 8 ≡ (64 * 0 + 8 + y) % 8 = omega arith in
+        sym (h.bytes y (omega (arith, in_name, long, few))) ∙ (λ q. byte_of (slice_index (w ∷ words) (word_at q)) (byte_at q))
+
+-- another inode before the same name
+pub with_ino_of : (entry rest : List ℕ) (i w : ℕ) → rest ≡ drop 1 entry → i < 2 ^ 32 → w ≡ i + 2 ^ 32 * (slice_index entry 0 / 2 ^ 32) → IsEntryOf (name_in (slice_index entry) 0) i (w ∷ rest)
+with_ino_of entry rest i w is fits first = record {
+  named = ap (λ n. map (byte_in (slice_index (w ∷ rest))) (range_with_len (64 * 0 + 8) n)) long ∙ run_same (byte_in (slice_index (w ∷ rest))) (byte_in (slice_index entry)) (slice_index entry 0 / 2 ^ 32 % 2 ^ 8) (64 * 0 + 8) (64 * 0 + 8) (λ y low. each y);
+  ino = low;
+}
+  where
+    long : w / 2 ^ 32 % 2 ^ 8 ≡ slice_index entry 0 / 2 ^ 32 % 2 ^ 8
+    long = omega (arith, first, fits)
+
+    low : w % 2 ^ 32 ≡ i
+    low = omega (arith, first, fits)
+
+    later : (n : ℕ) → slice_index (w ∷ rest) (suc n) ≡ slice_index entry (suc n)
+    later n = ap (λ xs. slice_index xs n) is ∙ get_or-drop 1 entry n 0 ∙ (let at : 1 + n ≡ suc n = omega arith in ap (slice_index entry) at)
+
+    each : (y : ℕ) → byte_in (slice_index (w ∷ rest)) (64 * 0 + 8 + y) ≡ byte_in (slice_index entry) (64 * 0 + 8 + y)
+    each y =
+        let at : (64 * 0 + 8 + y) / 8 ≡ suc (y / 8) = omega arith in
+        ap (λ z. byte_of z ((64 * 0 + 8 + y) % 8)) (ap (slice_index (w ∷ rest)) at ∙ later (y / 8) ∙ ap (slice_index entry) (sym at))

@@ -1,0 +1,23 @@
+-- What a plan of a directory's size supposes.
+use Rattle.std.proofs.Common.{◌≡◌, ℕ, ◌%◌, ◌≤◌, arith, inl, ◌∙◌}
+use Rattle.rio_base.specs.declared.places.VolumeShape.{VolumeShape}
+use Rattle.rio_base.specs.Blocks.{Seen}
+use Rattle.file_pages.specs.Changes.{PlansFor}
+use Rattle.inode_table.specs.declared.inode.Inode.{Inode}
+use Rattle.inode_table.specs.Inodes.{IsInode}
+use Rattle.rio_model.specs.Sizes.{largest_size}
+use Rattle.rio_model.specs.VolumeRules.{SizeFits}
+use Rattle.directories.specs.Reading.{CanReadDir}
+
+pub dir_kind : (shape : VolumeShape) (x : Seen) (d : ℕ) (inode : Inode) → CanReadDir shape x d → IsInode x.words d inode → inode.kind ≡ 1
+dir_kind shape x d inode can is = is.kind ∙ can.dir
+
+-- for the directory as it is
+pub plans_dir_inode : (shape : VolumeShape) (x : Seen) (d : ℕ) (inode : Inode) → CanReadDir shape x d → IsInode x.words d inode → PlansFor x.words d inode
+plans_dir_inode shape x d inode can is = inl (is, (let kind = dir_kind shape x d inode can is in omega (arith, kind)))
+
+-- and a size of whole entries
+pub dir_fits : (shape : VolumeShape) (x : Seen) (d len : ℕ) (inode : Inode) → CanReadDir shape x d → IsInode x.words d inode → len % 64 ≡ 0 → len ≤ largest_size → SizeFits inode.kind len
+dir_fits shape x d len inode can is whole most =
+    let kind = dir_kind shape x d inode can is in
+    record { most = most; directory = λ dir. whole; region = λ region. omega (arith, kind, region); region_pages = λ region. omega (arith, kind, region) }

@@ -1,0 +1,45 @@
+use Rattle.std.proofs.Common.{◌≡◌, ◌∙◌, ◌++◌, ◌-◌, ◌*◌, ◌/◌, ◌%◌, map, min, arith, le_trans, sym, ap, subst}
+use Rattle.std.specs.List.{range_with_len}
+use Rattle.std.proofs.lemmas.Result.{err_from_is_err_and}
+use Rattle.rio_base.specs.Blocks.{BlockWords}
+use Rattle.rio_base.specs.Rules.{ends_by_after}
+use Rattle.inode_table.specs.Inodes.{IsInode}
+use Rattle.rio_model.specs.Held.{entry_name, held_of}
+use Rattle.file_pages.specs.LookingUpRules.{look_refl, look_trans}
+use Rattle.file_pages.proofs.Ends.{ends_read}
+use Rattle.directories.proofs.CanRead.{can_look, dir_size}
+use Rattle.directories.proofs.Listed.{pages_next}
+use Rattle.directories.proofs.listing.slot_names.Goals as goal
+
+pub returns-in_err-names-clause-looks : goal.returns-in_err-names-clause-looks
+returns-in_err-names-clause-looks g c = look_refl c.args.shape.now _ (can_look c.args.shape.now _ c.args.dir.0 c.requires.can)
+
+pub returns-in_err-push_page_names-clause-looks : goal.returns-in_err-push_page_names-clause-looks
+returns-in_err-push_page_names-clause-looks g c = look_trans c.args.shape.now _ _ _ c.loop-p.invariant.looks c.push_page_names.ensures.looks
+
+pub returns-in_err-push_page_names-clause-passes : goal.returns-in_err-push_page_names-clause-passes
+returns-in_err-push_page_names-clause-passes g c = g.met.V.Blocks.passes_trans _ _ _ c.loop-p.invariant.passes c.push_page_names.ensures.passes
+
+pub returns-in_err-push_page_names-clause-ends : goal.returns-in_err-push_page_names-clause-ends
+returns-in_err-push_page_names-clause-ends g c =
+    let p = err_from_is_err_and c.from_residual-in_err-push_page_names.result c.from_residual-in_err-push_page_names.ensures.1 in
+    ends_by_after _ _ _ _ _ c.loop-p.invariant.later c.loop-p.invariant.running (ends_read _ _ c.push_page_names.result c.from_residual-in_err-push_page_names.result _ _ c.in_err-push_page_names.was p.1 p.2 c.push_page_names.ensures.ends)
+
+pub loop-p-preserved : goal.loop-p-preserved
+loop-p-preserved g c =
+    let inv = c.loop-p.invariant in
+    let shape = c.args.shape.now in
+    let x = g.V.Blocks.seen c.args.v.now in
+    let call = c.in_ok-push_page_names.ensures in
+    let size = c.requires.inode.size in
+    record {
+      names = pages_next (entry_name (held_of shape x.words c.args.dir.0)) c.loop-p.p _ c.args.inode.now.size c.loop-p.names.items c.push_page_names.new.names.items (ap (λ s. s % 64) size ∙ dir_size shape x c.args.dir.0 c.requires.can) (omega (arith, c.loop-p-test.true, c.div_ceil-pages.ensures)) (λ q. min (c.args.inode.now.size / 64 - 64 * c.loop-p.p) 64) inv.names
+          (call.value ∙ ap (λ (f : BlockWords). c.loop-p.names.items ++ map (entry_name (held_of shape f c.args.dir.0)) (range_with_len (64 * c.loop-p.p) (min (c.args.inode.now.size / 64 - 64 * c.loop-p.p) 64))) inv.looks.looks.words);
+      sound = call.sound;
+      looks = look_trans shape _ _ _ inv.looks call.looks;
+      can = call.can;
+      inode = subst (λ (f : BlockWords). IsInode f c.args.dir.0 c.args.inode.now) (sym call.looks.looks.words) inv.inode;
+      passes = g.met.V.Blocks.passes_trans _ _ _ inv.passes call.passes;
+      later = le_trans inv.later call.ends.later;
+      running = call.ends.runs (λ stop. cc) ∙ inv.running;
+    }

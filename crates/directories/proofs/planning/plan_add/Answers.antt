@@ -1,0 +1,292 @@
+use Rattle.std.proofs.Common.{◌≡◌, ◌+◌, ◌*◌, ◌/◌, ◌%◌, ◌<◌, ◌≤◌, ℕ, List, [], length, refl, sym, ap, subst, ◌∙◌, arith, inl, inr}
+use Rattle.std.specs.Prelude.{slice_index}
+use Rattle.std.proofs.lemmas.Result.{err_from_is_err_and}
+use Rattle.rio_base.specs.declared.places.Block.{Block}
+use Rattle.rio_base.specs.Blocks.{BlockWords}
+use Rattle.rio_base.specs.Rules.{◌then◌, ends_by_after}
+use Rattle.block_alloc.specs.Bitmap.{numbers}
+use Rattle.file_pages.specs.Changes.{PlansFor, PlansSize, free_beside, wanted_blocks}
+use Rattle.file_pages.specs.OrderRules.{leaves_looked, leaves_trans, ready_left}
+use Rattle.file_pages.specs.declared.failures.SizeFail.TheVariants.{NoSpace, TooLarge}
+use Rattle.file_pages.proofs.Listed.{as_many}
+use Rattle.file_pages.proofs.Ends.{ends_vol_size, ends_well_memory, ends_well_ok, err_handed, size_err, size_then, unrefused_memory, unrefused_vol}
+use Rattle.inode_table.specs.Inodes.{IsInode}
+use Rattle.rio_model.specs.Held.{held_of}
+use Rattle.rio_model.specs.Placed.{AtPage, placed_at, volume_layout}
+use Rattle.rio_model.specs.VolumeReady.{LeavesInUse}
+use Rattle.directories.specs.Reading.{CanReadDir}
+use Rattle.directories.specs.Rows.{HasRow}
+use Rattle.directories.specs.declared.storing.EntryWords.{EntryWords}
+use Rattle.directories.proofs.AddedRow.{IsNext, looked_twice, planned_before, room_left, row_planned, space_said, takes_page}
+use Rattle.directories.proofs.CanRead.{can_read, dir_size}
+use Rattle.directories.proofs.PlannedSizes.{dir_fits, plans_dir_inode}
+use Rattle.directories.proofs.planning.plan_add.Goals as goal
+
+pub returns-in_err-inode-clause-leaves : goal.returns-in_err-inode-clause-leaves
+returns-in_err-inode-clause-leaves g c =
+    let shape = c.args.shape.now in
+    let d = c.args.dir.0 in
+    let x = g.V.Blocks.seen c.args.v.now in
+    let k = g.V.Volume.kept c.args.v.now in
+    let ready = c.requires.ready in
+    let can = can_read shape x d ready.has_shape ready.mapped ready.named c.requires.entries c.requires.dir in
+    let x1 = g.V.Blocks.seen c.dir_inode.new.v in
+    let k1 = g.V.Volume.kept c.dir_inode.new.v in
+    let p1 = g.met.V.Volume.passes_keeps _ _ c.dir_inode.ensures.passes in
+    let looks1 = c.dir_inode.ensures.looks in
+    leaves_looked shape _ _ _ _ x x1 k k1 ready looks1 p1
+
+pub returns-in_err-inode-clause-goes : goal.returns-in_err-inode-clause-goes
+returns-in_err-inode-clause-goes g c =
+    (g.met.V.Volume.passes_keeps _ _ c.dir_inode.ensures.passes).goes
+
+pub returns-in_err-last-clause-leaves : goal.returns-in_err-last-clause-leaves
+returns-in_err-last-clause-leaves g c =
+    let shape = c.args.shape.now in
+    let d = c.args.dir.0 in
+    let x = g.V.Blocks.seen c.args.v.now in
+    let k = g.V.Volume.kept c.args.v.now in
+    let ready = c.requires.ready in
+    let can = can_read shape x d ready.has_shape ready.mapped ready.named c.requires.entries c.requires.dir in
+    let x1 = g.V.Blocks.seen c.dir_inode.new.v in
+    let k1 = g.V.Volume.kept c.dir_inode.new.v in
+    let p1 = g.met.V.Volume.passes_keeps _ _ c.dir_inode.ensures.passes in
+    let looks1 = c.dir_inode.ensures.looks in
+    let x2 = g.V.Blocks.seen c.last_block.new.v in
+    let k2 = g.V.Volume.kept c.last_block.new.v in
+    let p2 = g.met.V.Volume.passes_keeps _ _ c.last_block.ensures.passes in
+    let looks2 = c.last_block.ensures.looks in
+    let left = looked_twice shape _ _ _ _ _ _ x x1 x2 k k1 k2 ready looks1 p1 looks2 p2 in
+    let words : x2.words ≡ x.words = looks2.looks.words ∙ looks1.looks.words in
+    left
+
+pub returns-in_err-last-clause-goes : goal.returns-in_err-last-clause-goes
+returns-in_err-last-clause-goes g c =
+    let x1 = g.V.Blocks.seen c.dir_inode.new.v in
+    let k1 = g.V.Volume.kept c.dir_inode.new.v in
+    let p1 = g.met.V.Volume.passes_keeps _ _ c.dir_inode.ensures.passes in
+    let looks1 = c.dir_inode.ensures.looks in
+    let x2 = g.V.Blocks.seen c.last_block.new.v in
+    let k2 = g.V.Volume.kept c.last_block.new.v in
+    let p2 = g.met.V.Volume.passes_keeps _ _ c.last_block.ensures.passes in
+    p1.goes then p2.goes
+
+pub plan_size-requires-clause-ready : goal.plan_size-requires-clause-ready
+plan_size-requires-clause-ready g c =
+    let shape = c.args.shape.now in
+    let d = c.args.dir.0 in
+    let x = g.V.Blocks.seen c.args.v.now in
+    let k = g.V.Volume.kept c.args.v.now in
+    let ready = c.requires.ready in
+    let can = can_read shape x d ready.has_shape ready.mapped ready.named c.requires.entries c.requires.dir in
+    let x1 = g.V.Blocks.seen c.dir_inode.new.v in
+    let k1 = g.V.Volume.kept c.dir_inode.new.v in
+    let p1 = g.met.V.Volume.passes_keeps _ _ c.dir_inode.ensures.passes in
+    let looks1 = c.dir_inode.ensures.looks in
+    let x2 = g.V.Blocks.seen c.last_block.new.v in
+    let k2 = g.V.Volume.kept c.last_block.new.v in
+    let p2 = g.met.V.Volume.passes_keeps _ _ c.last_block.ensures.passes in
+    let looks2 = c.last_block.ensures.looks in
+    let left = looked_twice shape _ _ _ _ _ _ x x1 x2 k k1 k2 ready looks1 p1 looks2 p2 in
+    let words : x2.words ≡ x.words = looks2.looks.words ∙ looks1.looks.words in
+    ready_left shape x k x2 k2 ready left
+
+pub returns-in_err-change-clause-no_space : goal.returns-in_err-change-clause-no_space
+returns-in_err-change-clause-no_space g c =
+    let shape = c.args.shape.now in
+    let d = c.args.dir.0 in
+    let x = g.V.Blocks.seen c.args.v.now in
+    let k = g.V.Volume.kept c.args.v.now in
+    let ready = c.requires.ready in
+    let can = can_read shape x d ready.has_shape ready.mapped ready.named c.requires.entries c.requires.dir in
+    let x1 = g.V.Blocks.seen c.dir_inode.new.v in
+    let k1 = g.V.Volume.kept c.dir_inode.new.v in
+    let p1 = g.met.V.Volume.passes_keeps _ _ c.dir_inode.ensures.passes in
+    let looks1 = c.dir_inode.ensures.looks in
+    let x2 = g.V.Blocks.seen c.last_block.new.v in
+    let k2 = g.V.Volume.kept c.last_block.new.v in
+    let p2 = g.met.V.Volume.passes_keeps _ _ c.last_block.ensures.passes in
+    let looks2 = c.last_block.ensures.looks in
+    let left = looked_twice shape _ _ _ _ _ _ x x1 x2 k k1 k2 ready looks1 p1 looks2 p2 in
+    let words : x2.words ≡ x.words = looks2.looks.words ∙ looks1.looks.words in
+    let inode = c.in_ok-inode.inode in
+    let is = c.in_ok-inode.ensures.value in
+    let none : numbers c.from-skip.result ≡ [] = ap numbers (c.from-skip.ensures ∙ c.new.ensures.items) in
+    let p = err_from_is_err_and c.from_residual-in_err-change.result c.from_residual-in_err-change.ensures.1 in
+    λ no. space_said shape x x2 d inode (λ wanted free. free < wanted) can is words (subst (λ skip. length (free_beside shape x2.words skip) < wanted_blocks inode.size (inode.size + 64)) none (c.plan_size.ensures.no_space (err_handed NoSpace c.plan_size.result c.from_residual-in_err-change.result _ p.0 c.in_err-change.was p.1 p.2 no)).2)
+
+pub returns-in_err-change-clause-leaves : goal.returns-in_err-change-clause-leaves
+returns-in_err-change-clause-leaves g c =
+    let shape = c.args.shape.now in
+    let d = c.args.dir.0 in
+    let x = g.V.Blocks.seen c.args.v.now in
+    let k = g.V.Volume.kept c.args.v.now in
+    let ready = c.requires.ready in
+    let can = can_read shape x d ready.has_shape ready.mapped ready.named c.requires.entries c.requires.dir in
+    let x1 = g.V.Blocks.seen c.dir_inode.new.v in
+    let k1 = g.V.Volume.kept c.dir_inode.new.v in
+    let p1 = g.met.V.Volume.passes_keeps _ _ c.dir_inode.ensures.passes in
+    let looks1 = c.dir_inode.ensures.looks in
+    let x2 = g.V.Blocks.seen c.last_block.new.v in
+    let k2 = g.V.Volume.kept c.last_block.new.v in
+    let p2 = g.met.V.Volume.passes_keeps _ _ c.last_block.ensures.passes in
+    let looks2 = c.last_block.ensures.looks in
+    let left = looked_twice shape _ _ _ _ _ _ x x1 x2 k k1 k2 ready looks1 p1 looks2 p2 in
+    let words : x2.words ≡ x.words = looks2.looks.words ∙ looks1.looks.words in
+    let x3 = g.V.Blocks.seen c.plan_size.new.v in
+    let k3 = g.V.Volume.kept c.plan_size.new.v in
+    let leaves = leaves_trans shape x k x2 k2 x3 k3 ready left c.plan_size.ensures.leaves in
+    leaves
+
+pub returns-in_err-change-clause-goes : goal.returns-in_err-change-clause-goes
+returns-in_err-change-clause-goes g c =
+    let x1 = g.V.Blocks.seen c.dir_inode.new.v in
+    let k1 = g.V.Volume.kept c.dir_inode.new.v in
+    let p1 = g.met.V.Volume.passes_keeps _ _ c.dir_inode.ensures.passes in
+    let looks1 = c.dir_inode.ensures.looks in
+    let x2 = g.V.Blocks.seen c.last_block.new.v in
+    let k2 = g.V.Volume.kept c.last_block.new.v in
+    let p2 = g.met.V.Volume.passes_keeps _ _ c.last_block.ensures.passes in
+    (p1.goes then p2.goes) then c.plan_size.ensures.goes
+
+pub returns-in_err-change-clause-ends : goal.returns-in_err-change-clause-ends
+returns-in_err-change-clause-ends g c =
+    let p = err_from_is_err_and c.from_residual-in_err-change.result c.from_residual-in_err-change.ensures.1 in
+    ends_by_after _ _ _ _ _ c.dir_inode.ensures.ends.later c.in_ok-inode.ensures.ends.cause (ends_by_after _ _ _ _ _ c.last_block.ensures.ends.later c.in_ok-last.ensures.ends.cause (size_err _ _ _ c.from_residual-in_err-change.result _ p.0 c.in_err-change.was p.1 p.2 c.plan_size.ensures.ends))
+
+pub next_block-requires : goal.next_block-requires
+next_block-requires g c =
+    let inode = c.in_ok-inode.inode in
+    let is = c.in_ok-inode.ensures.value in
+    λ full. takes_page inode.size _ full (ap length c.as_slice.ensures ∙ sym (as_many c.in_ok-change.change.taken) ∙ c.in_ok-change.ensures.ok.count)
+
+pub returns-in_err-with_entries-clause-leaves : goal.returns-in_err-with_entries-clause-leaves
+returns-in_err-with_entries-clause-leaves g c =
+    let shape = c.args.shape.now in
+    let d = c.args.dir.0 in
+    let x = g.V.Blocks.seen c.args.v.now in
+    let k = g.V.Volume.kept c.args.v.now in
+    let ready = c.requires.ready in
+    let can = can_read shape x d ready.has_shape ready.mapped ready.named c.requires.entries c.requires.dir in
+    let x1 = g.V.Blocks.seen c.dir_inode.new.v in
+    let k1 = g.V.Volume.kept c.dir_inode.new.v in
+    let p1 = g.met.V.Volume.passes_keeps _ _ c.dir_inode.ensures.passes in
+    let looks1 = c.dir_inode.ensures.looks in
+    let x2 = g.V.Blocks.seen c.last_block.new.v in
+    let k2 = g.V.Volume.kept c.last_block.new.v in
+    let p2 = g.met.V.Volume.passes_keeps _ _ c.last_block.ensures.passes in
+    let looks2 = c.last_block.ensures.looks in
+    let left = looked_twice shape _ _ _ _ _ _ x x1 x2 k k1 k2 ready looks1 p1 looks2 p2 in
+    let words : x2.words ≡ x.words = looks2.looks.words ∙ looks1.looks.words in
+    let x3 = g.V.Blocks.seen c.plan_size.new.v in
+    let k3 = g.V.Volume.kept c.plan_size.new.v in
+    let leaves = leaves_trans shape x k x2 k2 x3 k3 ready left c.plan_size.ensures.leaves in
+    leaves
+
+pub returns-in_err-with_entries-clause-goes : goal.returns-in_err-with_entries-clause-goes
+returns-in_err-with_entries-clause-goes g c =
+    let x1 = g.V.Blocks.seen c.dir_inode.new.v in
+    let k1 = g.V.Volume.kept c.dir_inode.new.v in
+    let p1 = g.met.V.Volume.passes_keeps _ _ c.dir_inode.ensures.passes in
+    let looks1 = c.dir_inode.ensures.looks in
+    let x2 = g.V.Blocks.seen c.last_block.new.v in
+    let k2 = g.V.Volume.kept c.last_block.new.v in
+    let p2 = g.met.V.Volume.passes_keeps _ _ c.last_block.ensures.passes in
+    (p1.goes then p2.goes) then c.plan_size.ensures.goes
+
+pub returns-clause-ok : goal.returns-clause-ok
+returns-clause-ok g c =
+    let shape = c.args.shape.now in
+    let d = c.args.dir.0 in
+    let x = g.V.Blocks.seen c.args.v.now in
+    let k = g.V.Volume.kept c.args.v.now in
+    let ready = c.requires.ready in
+    let can = can_read shape x d ready.has_shape ready.mapped ready.named c.requires.entries c.requires.dir in
+    let x1 = g.V.Blocks.seen c.dir_inode.new.v in
+    let k1 = g.V.Volume.kept c.dir_inode.new.v in
+    let p1 = g.met.V.Volume.passes_keeps _ _ c.dir_inode.ensures.passes in
+    let looks1 = c.dir_inode.ensures.looks in
+    let x2 = g.V.Blocks.seen c.last_block.new.v in
+    let k2 = g.V.Volume.kept c.last_block.new.v in
+    let p2 = g.met.V.Volume.passes_keeps _ _ c.last_block.ensures.passes in
+    let looks2 = c.last_block.ensures.looks in
+    let left = looked_twice shape _ _ _ _ _ _ x x1 x2 k k1 k2 ready looks1 p1 looks2 p2 in
+    let words : x2.words ≡ x.words = looks2.looks.words ∙ looks1.looks.words in
+    let inode = c.in_ok-inode.inode in
+    let is = c.in_ok-inode.ensures.value in
+    let none : numbers c.from-skip.result ≡ [] = ap numbers (c.from-skip.ensures ∙ c.new.ensures.items) in
+    let x3 = g.V.Blocks.seen c.plan_size.new.v in
+    let k3 = g.V.Volume.kept c.plan_size.new.v in
+    let change = c.in_ok-change.change in
+    let e : EntryWords = record { block = c.next_block.result; first = c.first_word.result; words = c.entry_words.result } in
+    let made = c.in_ok-with_entries.ensures in
+    let room = room_left shape x d inode can is c.requires.room in
+    let first = c.first_word.ensures.is in
+    let next : IsNext shape x2 d inode change e = record {
+      last = λ part. ap (λ (b : Block). b.0) (c.next_block.ensures.last part) ∙ c.in_ok-last.ensures.value part ∙ ap (λ (f : BlockWords). (placed_at f d).block (AtPage (inode.size / 4096))) (sym looks2.looks.words);
+      taken = λ full. c.next_block.ensures.taken full ∙ ap (λ bs. slice_index (numbers bs) 0) c.as_slice.ensures;
+      first = omega (arith, first, room);
+    } in
+    planned_before shape x2.words x.words x3 k3 d c.args.name.now c.args.i.0 c.in_ok-with_entries.field-0 words
+    (row_planned shape x2 k2 x3 k3 c.args.dir inode change e c.args.name.now c.args.i.0 c.in_ok-with_entries.field-0 c.last_block.ensures.can (ready_left shape x k x2 k2 ready left) c.plan_size.ensures.leaves
+    (subst (λ (f : BlockWords). IsInode f d inode) (sym words) is)
+    (subst (λ skip. PlansSize shape x2.words x3 k3 d inode (inode.size + 64) skip change) none c.in_ok-change.ensures.ok)
+    (record { dir = made.dir; inode = made.inode; edits = made.edits; taken = made.taken; freed = made.freed })
+    next c.requires.is_name c.entry_words.ensures (λ n row. c.requires.absent n (subst (λ (f : BlockWords). HasRow (held_of shape f d) c.args.name.now n) words row)))
+
+pub returns-clause-space : goal.returns-clause-space
+returns-clause-space g c =
+    let shape = c.args.shape.now in
+    let d = c.args.dir.0 in
+    let x = g.V.Blocks.seen c.args.v.now in
+    let k = g.V.Volume.kept c.args.v.now in
+    let ready = c.requires.ready in
+    let can = can_read shape x d ready.has_shape ready.mapped ready.named c.requires.entries c.requires.dir in
+    let x1 = g.V.Blocks.seen c.dir_inode.new.v in
+    let k1 = g.V.Volume.kept c.dir_inode.new.v in
+    let p1 = g.met.V.Volume.passes_keeps _ _ c.dir_inode.ensures.passes in
+    let looks1 = c.dir_inode.ensures.looks in
+    let x2 = g.V.Blocks.seen c.last_block.new.v in
+    let k2 = g.V.Volume.kept c.last_block.new.v in
+    let p2 = g.met.V.Volume.passes_keeps _ _ c.last_block.ensures.passes in
+    let looks2 = c.last_block.ensures.looks in
+    let left = looked_twice shape _ _ _ _ _ _ x x1 x2 k k1 k2 ready looks1 p1 looks2 p2 in
+    let words : x2.words ≡ x.words = looks2.looks.words ∙ looks1.looks.words in
+    let inode = c.in_ok-inode.inode in
+    let is = c.in_ok-inode.ensures.value in
+    let none : numbers c.from-skip.result ≡ [] = ap numbers (c.from-skip.ensures ∙ c.new.ensures.items) in
+    space_said shape x x2 d inode (λ wanted free. wanted ≤ free) can is words (subst (λ skip. wanted_blocks inode.size (inode.size + 64) ≤ length (free_beside shape x2.words skip)) none c.in_ok-change.ensures.space.1)
+
+pub returns-clause-leaves : goal.returns-clause-leaves
+returns-clause-leaves g c =
+    let shape = c.args.shape.now in
+    let d = c.args.dir.0 in
+    let x = g.V.Blocks.seen c.args.v.now in
+    let k = g.V.Volume.kept c.args.v.now in
+    let ready = c.requires.ready in
+    let can = can_read shape x d ready.has_shape ready.mapped ready.named c.requires.entries c.requires.dir in
+    let x1 = g.V.Blocks.seen c.dir_inode.new.v in
+    let k1 = g.V.Volume.kept c.dir_inode.new.v in
+    let p1 = g.met.V.Volume.passes_keeps _ _ c.dir_inode.ensures.passes in
+    let looks1 = c.dir_inode.ensures.looks in
+    let x2 = g.V.Blocks.seen c.last_block.new.v in
+    let k2 = g.V.Volume.kept c.last_block.new.v in
+    let p2 = g.met.V.Volume.passes_keeps _ _ c.last_block.ensures.passes in
+    let looks2 = c.last_block.ensures.looks in
+    let left = looked_twice shape _ _ _ _ _ _ x x1 x2 k k1 k2 ready looks1 p1 looks2 p2 in
+    let words : x2.words ≡ x.words = looks2.looks.words ∙ looks1.looks.words in
+    let x3 = g.V.Blocks.seen c.plan_size.new.v in
+    let k3 = g.V.Volume.kept c.plan_size.new.v in
+    let leaves = leaves_trans shape x k x2 k2 x3 k3 ready left c.plan_size.ensures.leaves in
+    leaves
+
+pub returns-clause-goes : goal.returns-clause-goes
+returns-clause-goes g c =
+    let x1 = g.V.Blocks.seen c.dir_inode.new.v in
+    let k1 = g.V.Volume.kept c.dir_inode.new.v in
+    let p1 = g.met.V.Volume.passes_keeps _ _ c.dir_inode.ensures.passes in
+    let looks1 = c.dir_inode.ensures.looks in
+    let x2 = g.V.Blocks.seen c.last_block.new.v in
+    let k2 = g.V.Volume.kept c.last_block.new.v in
+    let p2 = g.met.V.Volume.passes_keeps _ _ c.last_block.ensures.passes in
+    (p1.goes then p2.goes) then c.plan_size.ensures.goes

@@ -1,0 +1,75 @@
+use Rattle.std.proofs.Common.{◌≡◌, ◌+◌, ◌-◌, ◌*◌, ◌/◌, arith}
+use Rattle.std.specs.Prelude.{[], ◌∷◌, slice_index}
+use Rattle.std.proofs.lemmas.Result.{err_from_is_err_and}
+use Rattle.rio_base.specs.Rules.{◌then◌, ends_by_after}
+use Rattle.file_pages.proofs.PlannedSize.{if_ok_map}
+use Rattle.file_pages.specs.LookingUpRules.{look_trans}
+use Rattle.file_pages.specs.OrderRules.{leaves_looked}
+use Rattle.directories.specs.Contents.{sized_to, with_entry}
+use Rattle.directories.specs.Plans.{PlansDir}
+use Rattle.directories.proofs.EndsAs.{ends_vol_read}
+use Rattle.directories.proofs.PlannedOn.{into_back, leaves_on, moved_back, ready_on}
+use Rattle.directories.proofs.PlannedRows.{PlansEntries, plans_back, two_planned}
+use Rattle.directories.proofs.removing.plan_filled.Goals as goal
+
+pub returns-in_err-stored-clause-leaves : goal.returns-in_err-stored-clause-leaves
+returns-in_err-stored-clause-leaves g c = leaves_looked c.args.shape.now _ _ _ _ _ _ _ _ c.requires.ready (c.words_for_slot.ensures.looks) (g.met.V.Volume.passes_keeps _ _ (c.words_for_slot.ensures.passes))
+
+pub returns-in_err-stored-clause-goes : goal.returns-in_err-stored-clause-goes
+returns-in_err-stored-clause-goes g c = (g.met.V.Volume.passes_keeps _ _ (c.words_for_slot.ensures.passes)).goes
+
+pub returns-in_err-moved-clause-leaves : goal.returns-in_err-moved-clause-leaves
+returns-in_err-moved-clause-leaves g c = leaves_looked c.args.shape.now _ _ _ _ _ _ _ _ c.requires.ready (look_trans c.args.shape.now _ _ _ c.words_for_slot.ensures.looks c.moved_words.ensures.looks) (g.met.V.Volume.passes_keeps _ _ (g.met.V.Blocks.passes_trans _ _ _ c.words_for_slot.ensures.passes c.moved_words.ensures.passes))
+
+pub returns-in_err-moved-clause-goes : goal.returns-in_err-moved-clause-goes
+returns-in_err-moved-clause-goes g c = (g.met.V.Volume.passes_keeps _ _ (g.met.V.Blocks.passes_trans _ _ _ c.words_for_slot.ensures.passes c.moved_words.ensures.passes)).goes
+
+pub plan_entries-requires-clause-ready : goal.plan_entries-requires-clause-ready
+plan_entries-requires-clause-ready g c = ready_on c.args.shape.now _ _ _ _ _ _ _ _ c.requires.ready (look_trans c.args.shape.now _ _ _ c.words_for_slot.ensures.looks c.moved_words.ensures.looks) (g.met.V.Volume.passes_keeps _ _ (g.met.V.Blocks.passes_trans _ _ _ c.words_for_slot.ensures.passes c.moved_words.ensures.passes))
+
+pub returns-clause-ok : goal.returns-clause-ok
+returns-clause-ok g c =
+    let shape = c.args.shape.now in
+    let x = g.V.Blocks.seen c.args.v.now in
+    let z = g.V.Blocks.seen c.words_for_slot.new.v in
+    let w = g.V.Blocks.seen c.moved_words.new.v in
+    let y = g.V.Blocks.seen c.plan_entries.new.v in
+    let j = g.V.Volume.kept c.plan_entries.new.v in
+    let d = c.args.dir.0 in
+    let size = c.args.inode.now.size in
+    let e = c.in_ok-stored.stored in
+    let m = c.in_ok-moved.moved in
+    let slot = c.args.entry.slot in
+    let own = c.args.entry.words in
+    let gap = c.args.gap in
+    let last = size / 64 - 1 in
+    let is = c.requires.inode.size in
+    let end = c.last_slot.ensures in
+    let room = c.requires.slot in
+    let looks = c.words_for_slot.ensures.looks in
+    let at : c.last_slot.result ≡ last = omega (arith, end) in
+    if_ok_map (PlansEntries shape w.words y j d (size - 64) (e ∷ m ∷ [])) (PlansDir shape x.words y j d (λ h k. k ≡ sized_to (size - 64) (with_entry (with_entry h slot (slice_index own)) gap (λ t. h.word (8 * last + t))))) c.plan_entries.result
+    (λ change plans. two_planned shape x y j d slot gap last (size - 64) e m own change c.requires.can (omega (arith, is, room)) c.requires.slot c.requires.gap c.in_ok-stored.ensures.into
+    (into_back shape x z d gap m looks c.in_ok-moved.ensures.into) c.in_ok-stored.ensures.words
+    (moved_back shape x z d c.last_slot.result last m.words at looks c.in_ok-moved.ensures.words)
+    (plans_back shape x w y j d (size - 64) (e ∷ m ∷ []) change (look_trans shape _ _ _ looks c.moved_words.ensures.looks) plans))
+    c.plan_entries.ensures.ok
+
+pub returns-clause-leaves : goal.returns-clause-leaves
+returns-clause-leaves g c = leaves_on c.args.shape.now _ _ _ _ _ _ _ _ _ _ c.requires.ready (look_trans c.args.shape.now _ _ _ c.words_for_slot.ensures.looks c.moved_words.ensures.looks) (g.met.V.Volume.passes_keeps _ _ (g.met.V.Blocks.passes_trans _ _ _ c.words_for_slot.ensures.passes c.moved_words.ensures.passes)) c.plan_entries.ensures.leaves
+
+pub returns-clause-goes : goal.returns-clause-goes
+returns-clause-goes g c = (g.met.V.Volume.passes_keeps _ _ (g.met.V.Blocks.passes_trans _ _ _ c.words_for_slot.ensures.passes c.moved_words.ensures.passes)).goes then c.plan_entries.ensures.goes
+
+pub returns-clause-ends : goal.returns-clause-ends
+returns-clause-ends g c = ends_by_after _ _ _ _ _ c.words_for_slot.ensures.ends.later c.in_ok-stored.ensures.ends.cause (ends_by_after _ _ _ _ _ c.moved_words.ensures.ends.later c.in_ok-moved.ensures.ends.cause c.plan_entries.ensures.ends)
+
+pub returns-in_err-stored-clause-ends : goal.returns-in_err-stored-clause-ends
+returns-in_err-stored-clause-ends g c =
+    let p = err_from_is_err_and c.from_residual.result c.from_residual.ensures.1 in
+    ends_vol_read _ _ c.words_for_slot.result c.from_residual.result _ _ c.in_err-stored.was p.1 p.2 c.words_for_slot.ensures.ends
+
+pub returns-in_err-moved-clause-ends : goal.returns-in_err-moved-clause-ends
+returns-in_err-moved-clause-ends g c =
+    let p = err_from_is_err_and c.from_residual-in_err-moved.result c.from_residual-in_err-moved.ensures.1 in
+    ends_by_after _ _ _ _ _ c.words_for_slot.ensures.ends.later c.in_ok-stored.ensures.ends.cause (ends_vol_read _ _ c.moved_words.result c.from_residual-in_err-moved.result _ _ c.in_err-moved.was p.1 p.2 c.moved_words.ensures.ends)

@@ -1,0 +1,155 @@
+use Rattle.std.proofs.Common.{◌≡◌, ◌+◌, ◌-◌, ◌*◌, ◌/◌, ap, arith, subst}
+use Rattle.std.specs.Prelude.{slice_index}
+use Rattle.std.proofs.lemmas.Result.{err_from_is_err_and}
+use Rattle.rio_base.specs.Rules.{◌then◌, ends_by_after}
+use Rattle.file_pages.proofs.PlannedSize.{if_ok_map}
+use Rattle.file_pages.specs.LookingUpRules.{look_trans}
+use Rattle.file_pages.specs.OrderRules.{leaves_looked}
+use Rattle.std.proofs.Common.{◌≢◌}
+use Rattle.rio_model.specs.Placed.{placed_at}
+use Rattle.std.proofs.Common.{refl}
+use Rattle.directories.specs.Contents.{sized_to, with_entry}
+use Rattle.directories.specs.Plans.{PlansDir}
+use Rattle.directories.specs.RowChanges.{ReplacesRow}
+use Rattle.directories.proofs.EndsAs.{ends_vol_read}
+use Rattle.directories.proofs.CanRead.{can_read}
+use Rattle.directories.proofs.PlannedOn.{leaves_on, moved_back, ready_on}
+use Rattle.directories.proofs.PlannedRows.{Replacing, dir_back, gone_dropped, last_moved, own_moved, slot_in, slot_named}
+use Rattle.directories.proofs.removing.plan_replace.Goals as goal
+
+pub returns-in_err-inode-clause-leaves : goal.returns-in_err-inode-clause-leaves
+returns-in_err-inode-clause-leaves g c = leaves_looked c.args.shape.now _ _ _ _ _ _ _ _ c.requires.ready (c.dir_inode.ensures.looks) (g.met.V.Volume.passes_keeps _ _ (c.dir_inode.ensures.passes))
+
+pub returns-in_err-inode-clause-goes : goal.returns-in_err-inode-clause-goes
+returns-in_err-inode-clause-goes g c = (g.met.V.Volume.passes_keeps _ _ (c.dir_inode.ensures.passes)).goes
+
+pub returns-in_err-own-clause-leaves : goal.returns-in_err-own-clause-leaves
+returns-in_err-own-clause-leaves g c = leaves_looked c.args.shape.now _ _ _ _ _ _ _ _ c.requires.ready (look_trans c.args.shape.now _ _ _ c.dir_inode.ensures.looks c.read_entry.ensures.looks) (g.met.V.Volume.passes_keeps _ _ (g.met.V.Blocks.passes_trans _ _ _ c.dir_inode.ensures.passes c.read_entry.ensures.passes))
+
+pub returns-in_err-own-clause-goes : goal.returns-in_err-own-clause-goes
+returns-in_err-own-clause-goes g c = (g.met.V.Volume.passes_keeps _ _ (g.met.V.Blocks.passes_trans _ _ _ c.dir_inode.ensures.passes c.read_entry.ensures.passes)).goes
+
+pub plan_entry-requires-clause-ready : goal.plan_entry-requires-clause-ready
+plan_entry-requires-clause-ready g c = ready_on c.args.shape.now _ _ _ _ _ _ _ _ c.requires.ready (look_trans c.args.shape.now _ _ _ c.dir_inode.ensures.looks c.read_entry.ensures.looks) (g.met.V.Volume.passes_keeps _ _ (g.met.V.Blocks.passes_trans _ _ _ c.dir_inode.ensures.passes c.read_entry.ensures.passes))
+
+pub returns-then-slot-last-clause-ok : goal.returns-then-slot-last-clause-ok
+returns-then-slot-last-clause-ok g c =
+    let shape = c.args.shape.now in
+    let x = g.V.Blocks.seen c.args.v.now in
+    let y = g.V.Blocks.seen c.plan_entry.new.v in
+    let j = g.V.Volume.kept c.plan_entry.new.v in
+    let d = c.args.dir.0 in
+    let size = c.in_ok-inode.inode.size in
+    let len = size - 64 in
+    let slot = c.args.slot in
+    let last = c.last_slot-last.result in
+    let ready = c.requires.ready in
+    let can = can_read shape x d ready.has_shape ready.mapped ready.named c.requires.entries c.requires.slot.dir in
+    let is = c.in_ok-inode.ensures.value.size in
+    let end = c.last_slot-last.ensures in
+    let within = slot_in shape x d slot size can is c.requires.slot in
+    let gone = c.args.gone in
+    let own = c.with_ino-words.result in
+    let gone_within = slot_in shape x d gone size can is c.requires.gone in
+    let read = moved_back shape x (g.V.Blocks.seen c.dir_inode.new.v) d slot slot c.in_ok-own.own refl c.dir_inode.ensures.looks c.in_ok-own.ensures.words in
+    let entry = slot_named shape x d slot c.args.i.0 c.in_ok-own.own own can (omega (arith, within, is)) read c.with_ino-words.ensures in
+    let replacing : Replacing (placed_at x.words d).size len slot gone last = record { less = ap (λ s. s - 64) is; end = omega (arith, end, is); slot_within = omega (arith, within, is); gone_within = omega (arith, gone_within, is); two = c.requires.two } in
+    if_ok_map (PlansDir shape (g.V.Blocks.seen c.read_entry.new.v).words y j d (λ h k. k ≡ sized_to len (with_entry h gone (slice_index own)))) (PlansDir shape x.words y j d (ReplacesRow slot c.args.i.0 gone)) c.plan_entry.result
+    (λ change plans. own_moved shape x y j d slot gone last c.args.i.0 len own change can replacing c.if-slot-last.true entry (dir_back shape x _ y j d _ change (look_trans c.args.shape.now _ _ _ c.dir_inode.ensures.looks c.read_entry.ensures.looks) plans))
+    c.plan_entry.ensures.ok
+
+pub returns-then-slot-last-clause-leaves : goal.returns-then-slot-last-clause-leaves
+returns-then-slot-last-clause-leaves g c = leaves_on c.args.shape.now _ _ _ _ _ _ _ _ _ _ c.requires.ready (look_trans c.args.shape.now _ _ _ c.dir_inode.ensures.looks c.read_entry.ensures.looks) (g.met.V.Volume.passes_keeps _ _ (g.met.V.Blocks.passes_trans _ _ _ c.dir_inode.ensures.passes c.read_entry.ensures.passes)) c.plan_entry.ensures.leaves
+
+pub returns-then-slot-last-clause-goes : goal.returns-then-slot-last-clause-goes
+returns-then-slot-last-clause-goes g c = (g.met.V.Volume.passes_keeps _ _ (g.met.V.Blocks.passes_trans _ _ _ c.dir_inode.ensures.passes c.read_entry.ensures.passes)).goes then c.plan_entry.ensures.goes
+
+pub returns-then-slot-last-clause-ends : goal.returns-then-slot-last-clause-ends
+returns-then-slot-last-clause-ends g c = ends_by_after _ _ _ _ _ c.dir_inode.ensures.ends.later c.in_ok-inode.ensures.ends.cause (ends_by_after _ _ _ _ _ c.read_entry.ensures.ends.later c.in_ok-own.ensures.ends.cause c.plan_entry.ensures.ends)
+
+pub plan_entry-requires-then-gone-last-clause-ready : goal.plan_entry-requires-then-gone-last-clause-ready
+plan_entry-requires-then-gone-last-clause-ready g c = ready_on c.args.shape.now _ _ _ _ _ _ _ _ c.requires.ready (look_trans c.args.shape.now _ _ _ c.dir_inode.ensures.looks c.read_entry.ensures.looks) (g.met.V.Volume.passes_keeps _ _ (g.met.V.Blocks.passes_trans _ _ _ c.dir_inode.ensures.passes c.read_entry.ensures.passes))
+
+pub returns-then-gone-last-clause-ok : goal.returns-then-gone-last-clause-ok
+returns-then-gone-last-clause-ok g c =
+    let shape = c.args.shape.now in
+    let x = g.V.Blocks.seen c.args.v.now in
+    let y = g.V.Blocks.seen c.plan_entry-then-gone-last.new.v in
+    let j = g.V.Volume.kept c.plan_entry-then-gone-last.new.v in
+    let d = c.args.dir.0 in
+    let size = c.in_ok-inode.inode.size in
+    let len = size - 64 in
+    let slot = c.args.slot in
+    let last = c.last_slot-last.result in
+    let ready = c.requires.ready in
+    let can = can_read shape x d ready.has_shape ready.mapped ready.named c.requires.entries c.requires.slot.dir in
+    let is = c.in_ok-inode.ensures.value.size in
+    let end = c.last_slot-last.ensures in
+    let within = slot_in shape x d slot size can is c.requires.slot in
+    let gone = c.args.gone in
+    let own = c.with_ino-words.result in
+    let gone_within = slot_in shape x d gone size can is c.requires.gone in
+    let read = moved_back shape x (g.V.Blocks.seen c.dir_inode.new.v) d slot slot c.in_ok-own.own refl c.dir_inode.ensures.looks c.in_ok-own.ensures.words in
+    let entry = slot_named shape x d slot c.args.i.0 c.in_ok-own.own own can (omega (arith, within, is)) read c.with_ino-words.ensures in
+    let replacing : Replacing (placed_at x.words d).size len slot gone last = record { less = ap (λ s. s - 64) is; end = omega (arith, end, is); slot_within = omega (arith, within, is); gone_within = omega (arith, gone_within, is); two = c.requires.two } in
+    if_ok_map (PlansDir shape (g.V.Blocks.seen c.read_entry.new.v).words y j d (λ h k. k ≡ sized_to len (with_entry h slot (slice_index own)))) (PlansDir shape x.words y j d (ReplacesRow slot c.args.i.0 gone)) c.plan_entry-then-gone-last.result
+    (λ change plans. gone_dropped shape x y j d slot gone last c.args.i.0 len own change can replacing c.if-slot-last.false c.if-gone-last.true entry (dir_back shape x _ y j d _ change (look_trans c.args.shape.now _ _ _ c.dir_inode.ensures.looks c.read_entry.ensures.looks) plans))
+    c.plan_entry-then-gone-last.ensures.ok
+
+pub returns-then-gone-last-clause-leaves : goal.returns-then-gone-last-clause-leaves
+returns-then-gone-last-clause-leaves g c = leaves_on c.args.shape.now _ _ _ _ _ _ _ _ _ _ c.requires.ready (look_trans c.args.shape.now _ _ _ c.dir_inode.ensures.looks c.read_entry.ensures.looks) (g.met.V.Volume.passes_keeps _ _ (g.met.V.Blocks.passes_trans _ _ _ c.dir_inode.ensures.passes c.read_entry.ensures.passes)) c.plan_entry-then-gone-last.ensures.leaves
+
+pub returns-then-gone-last-clause-goes : goal.returns-then-gone-last-clause-goes
+returns-then-gone-last-clause-goes g c = (g.met.V.Volume.passes_keeps _ _ (g.met.V.Blocks.passes_trans _ _ _ c.dir_inode.ensures.passes c.read_entry.ensures.passes)).goes then c.plan_entry-then-gone-last.ensures.goes
+
+pub returns-then-gone-last-clause-ends : goal.returns-then-gone-last-clause-ends
+returns-then-gone-last-clause-ends g c = ends_by_after _ _ _ _ _ c.dir_inode.ensures.ends.later c.in_ok-inode.ensures.ends.cause (ends_by_after _ _ _ _ _ c.read_entry.ensures.ends.later c.in_ok-own.ensures.ends.cause c.plan_entry-then-gone-last.ensures.ends)
+
+pub plan_filled-requires-clause-ready : goal.plan_filled-requires-clause-ready
+plan_filled-requires-clause-ready g c = ready_on c.args.shape.now _ _ _ _ _ _ _ _ c.requires.ready (look_trans c.args.shape.now _ _ _ c.dir_inode.ensures.looks c.read_entry.ensures.looks) (g.met.V.Volume.passes_keeps _ _ (g.met.V.Blocks.passes_trans _ _ _ c.dir_inode.ensures.passes c.read_entry.ensures.passes))
+
+pub returns-clause-ok : goal.returns-clause-ok
+returns-clause-ok g c =
+    let shape = c.args.shape.now in
+    let x = g.V.Blocks.seen c.args.v.now in
+    let y = g.V.Blocks.seen c.plan_filled.new.v in
+    let j = g.V.Volume.kept c.plan_filled.new.v in
+    let d = c.args.dir.0 in
+    let size = c.in_ok-inode.inode.size in
+    let len = size - 64 in
+    let slot = c.args.slot in
+    let last = c.last_slot-last.result in
+    let ready = c.requires.ready in
+    let can = can_read shape x d ready.has_shape ready.mapped ready.named c.requires.entries c.requires.slot.dir in
+    let is = c.in_ok-inode.ensures.value.size in
+    let end = c.last_slot-last.ensures in
+    let within = slot_in shape x d slot size can is c.requires.slot in
+    let gone = c.args.gone in
+    let own = c.with_ino-words.result in
+    let gone_within = slot_in shape x d gone size can is c.requires.gone in
+    let read = moved_back shape x (g.V.Blocks.seen c.dir_inode.new.v) d slot slot c.in_ok-own.own refl c.dir_inode.ensures.looks c.in_ok-own.ensures.words in
+    let entry = slot_named shape x d slot c.args.i.0 c.in_ok-own.own own can (omega (arith, within, is)) read c.with_ino-words.ensures in
+    let replacing : Replacing (placed_at x.words d).size len slot gone last = record { less = ap (λ s. s - 64) is; end = omega (arith, end, is); slot_within = omega (arith, within, is); gone_within = omega (arith, gone_within, is); two = c.requires.two } in
+    let at : last ≡ size / 64 - 1 = omega (arith, end) in
+    if_ok_map (PlansDir shape (g.V.Blocks.seen c.read_entry.new.v).words y j d (λ h k. k ≡ sized_to len (with_entry (with_entry h slot (slice_index own)) gone (λ t. h.word (8 * (size / 64 - 1) + t))))) (PlansDir shape x.words y j d (ReplacesRow slot c.args.i.0 gone)) c.plan_filled.result
+    (λ change plans. last_moved shape x y j d slot gone (size / 64 - 1) c.args.i.0 len own change can (subst (Replacing (placed_at x.words d).size len slot gone) at replacing) (subst (λ a. slot ≢ a) at c.if-slot-last.false) (subst (λ a. gone ≢ a) at c.if-gone-last.false) entry (dir_back shape x _ y j d _ change (look_trans c.args.shape.now _ _ _ c.dir_inode.ensures.looks c.read_entry.ensures.looks) plans))
+    c.plan_filled.ensures.ok
+
+pub returns-clause-leaves : goal.returns-clause-leaves
+returns-clause-leaves g c = leaves_on c.args.shape.now _ _ _ _ _ _ _ _ _ _ c.requires.ready (look_trans c.args.shape.now _ _ _ c.dir_inode.ensures.looks c.read_entry.ensures.looks) (g.met.V.Volume.passes_keeps _ _ (g.met.V.Blocks.passes_trans _ _ _ c.dir_inode.ensures.passes c.read_entry.ensures.passes)) c.plan_filled.ensures.leaves
+
+pub returns-clause-goes : goal.returns-clause-goes
+returns-clause-goes g c = (g.met.V.Volume.passes_keeps _ _ (g.met.V.Blocks.passes_trans _ _ _ c.dir_inode.ensures.passes c.read_entry.ensures.passes)).goes then c.plan_filled.ensures.goes
+
+pub returns-clause-ends : goal.returns-clause-ends
+returns-clause-ends g c = ends_by_after _ _ _ _ _ c.dir_inode.ensures.ends.later c.in_ok-inode.ensures.ends.cause (ends_by_after _ _ _ _ _ c.read_entry.ensures.ends.later c.in_ok-own.ensures.ends.cause c.plan_filled.ensures.ends)
+
+pub returns-in_err-inode-clause-ends : goal.returns-in_err-inode-clause-ends
+returns-in_err-inode-clause-ends g c =
+    let p = err_from_is_err_and c.from_residual.result c.from_residual.ensures.1 in
+    ends_vol_read _ _ c.dir_inode.result c.from_residual.result _ _ c.in_err-inode.was p.1 p.2 c.dir_inode.ensures.ends
+
+pub returns-in_err-own-clause-ends : goal.returns-in_err-own-clause-ends
+returns-in_err-own-clause-ends g c =
+    let p = err_from_is_err_and c.from_residual-in_err-own.result c.from_residual-in_err-own.ensures.1 in
+    ends_by_after _ _ _ _ _ c.dir_inode.ensures.ends.later c.in_ok-inode.ensures.ends.cause (ends_vol_read _ _ c.read_entry.result c.from_residual-in_err-own.result _ _ c.in_err-own.was p.1 p.2 c.read_entry.ensures.ends)

@@ -1,0 +1,8 @@
+use Rattle.std.proofs.Common.{◌≡◌, ◌-◌, ◌++◌, map, slice_index}
+use Rattle.file_pages.specs.Changes.{word_edit}
+use Rattle.rio_model.specs.Updates.{run_edits}
+use Rattle.directories.proofs.storing.push_edits.Given as goal
+
+-- the first t words are edits
+abbrev pub invariant-loop-t : goal.invariant-loop-t
+invariant-loop-t l = map word_edit l.edits.items ≡ map word_edit l.fn.edits.items ++ run_edits l.entry.block.0 (λ w. slice_index l.entry.words (w - l.entry.first)) l.entry.first l.t

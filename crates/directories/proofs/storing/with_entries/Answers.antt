@@ -1,0 +1,10 @@
+use Rattle.std.proofs.Common.{map}
+use Rattle.file_pages.specs.Changes.{word_edit}
+use Rattle.directories.proofs.PushedEdits.{entry_in, entry_pushed}
+use Rattle.directories.proofs.storing.with_entries.Goals as goal
+
+pub push_edits-requires : goal.push_edits-requires
+push_edits-requires c = c.requires _ (entry_in c.args.entries.now c.loop-k.k _ c.loop-k-test.true)
+
+pub loop-k-preserved : goal.loop-k-preserved
+loop-k-preserved c = entry_pushed (map word_edit c.args.change.edits) c.args.entries.now c.loop-k.k _ c.loop-k.edits.items c.push_edits.new.edits.items c.loop-k-test.true c.loop-k.invariant c.in_ok-push_edits.ensures

@@ -1,0 +1,10 @@
+pub mod Contents
+pub mod Entries
+pub mod Making
+pub mod MakingOrder
+pub mod MakingRules
+pub mod Plans
+pub mod Reading
+pub mod RowChanges
+pub mod Rows
+pub mod TestDirs

@@ -1,0 +1,23 @@
+//! Directories: rows of names, looked up, listed, and changed by changes that are prepared and then made in an update.
+#![tactic(auto)]
+
+mod applying;
+mod changes;
+#[cfg(test)]
+mod dir_tests;
+mod entries;
+mod finding;
+mod listing;
+mod pages;
+mod planning;
+mod removing;
+mod storing;
+#[cfg(test)]
+mod test_dirs;
+
+pub use applying::apply;
+pub use changes::DirChange;
+pub use finding::find;
+pub use listing::names;
+pub use planning::{plan_add, plan_set};
+pub use removing::{plan_remove, plan_replace};

@@ -1,0 +1,138 @@
+//! Words of entries, as edits of a prepared change.
+
+ghost use Rattle.std.specs.Prelude.{◌≡◌, ◌+◌, ◌*◌, ◌/◌, ◌%◌, ◌<◌, ◌≤◌, ◌++◌, ℕ, map, slice_index, IfOk, OnOk};
+ghost use Rattle.std.specs.List.{Contains};
+ghost use Rattle.rio_base.specs.Blocks.{Ends};
+ghost use Rattle.rio_model.specs.Placed.{AtPage, placed_at};
+ghost use Rattle.inode_table.specs.Inodes.{IsInode};
+ghost use Rattle.file_pages.specs.Changes.{word_edit};
+ghost use Rattle.file_pages.specs.LookingUp.{LooksUp};
+ghost use Rattle.directories.specs.Contents.{GoesInto, all_edits, entry_edits};
+ghost use Rattle.directories.specs.Reading.{CanReadDir};
+ghost use Rattle.directories.specs.declared.storing.EntryWords.{EntryWords as EntryWordsOf};
+
+use crate::changes::DirChange;
+use crate::entries::{ENTRY_WORDS, PAGE_ENTRIES};
+use crate::pages::{first_word, page_block, read_entry};
+use file_pages::{Edit, EditList, SizeChange};
+use inode_table::Inode;
+use rio_base::{Block, Blocks, Ino, VolFail, VolumeShape};
+use std::alloc::AllocError;
+
+/// The words of an entry, and the place where they are to be stored.
+#[derive(Clone, Copy, Debug)]
+pub struct EntryWords {
+    /// The block of its page.
+    pub block: Block,
+    /// Its first word there.
+    pub first: u16,
+    /// Its words.
+    pub words: [u64; ENTRY_WORDS],
+}
+
+/// The words of an entry, and the slot in which they are to be stored.
+#[derive(Clone, Copy, Debug)]
+pub struct SlotWords {
+    /// The slot.
+    pub slot: u32,
+    /// The words.
+    pub words: [u64; ENTRY_WORDS],
+}
+
+/// Words for slot `slot` of a directory, which has this inode.
+pub fn words_for_slot<V: Blocks>(
+    v: &mut V,
+    shape: &VolumeShape,
+    dir: Ino,
+    inode: &Inode,
+    slot: u32,
+    words: [u64; ENTRY_WORDS],
+) -> Result<EntryWords, VolFail>
+    requires sound { V.sound v.old }
+    requires can { CanReadDir shape.now (V.seen v.old) dir.0 }
+    requires inode { IsInode (V.seen v.old).words dir.0 inode.now }
+    requires slot { 64 * slot < inode.now.size }
+    ensures into { IfOk result (GoesInto (placed_at (V.seen v.old).words dir.0) slot) }
+    ensures words { IfOk result (λ e. e.words ≡ words) }
+    ensures within { IfOk result (λ e. e.first + 8 ≤ 512) }
+    ensures looks { LooksUp shape.now (V.seen v.old) (V.seen v.new) }
+    ensures can { CanReadDir shape.now (V.seen v.new) dir.0 }
+    ensures passes { V.passes v.old v.new }
+    ensures ends { Ends (V.health v.old) (V.health v.new) result }
+    ensures sound { V.sound v.new }
+{
+    let block = page_block(v, shape, dir, inode, slot / PAGE_ENTRIES)?;
+    Ok(EntryWords {
+        block,
+        first: first_word(slot),
+        words,
+    })
+}
+
+/// The words of the entry in slot `from`, for slot `to`.
+pub fn moved_words<V: Blocks>(
+    v: &mut V,
+    shape: &VolumeShape,
+    dir: Ino,
+    inode: &Inode,
+    from: u32,
+    to: u32,
+) -> Result<EntryWords, VolFail>
+    requires sound { V.sound v.old }
+    requires can { CanReadDir shape.now (V.seen v.old) dir.0 }
+    requires inode { IsInode (V.seen v.old).words dir.0 inode.now }
+    requires from { 64 * from < inode.now.size }
+    requires to { 64 * to < inode.now.size }
+    ensures into { IfOk result (GoesInto (placed_at (V.seen v.old).words dir.0) to) }
+    ensures words { IfOk result (λ e. (t : ℕ) → t < 8 → slice_index e.words t ≡ (V.seen v.old).words ((placed_at (V.seen v.old).words dir.0).block (AtPage (from / 64))) (8 * (from % 64) + t)) }
+    ensures within { IfOk result (λ e. e.first + 8 ≤ 512) }
+    ensures looks { LooksUp shape.now (V.seen v.old) (V.seen v.new) }
+    ensures can { CanReadDir shape.now (V.seen v.new) dir.0 }
+    ensures passes { V.passes v.old v.new }
+    ensures ends { Ends (V.health v.old) (V.health v.new) result }
+    ensures sound { V.sound v.new }
+{
+    let words = read_entry(v, shape, dir, inode, from)?;
+    words_for_slot(v, shape, dir, inode, to, words)
+}
+
+/// Adds the edits that store an entry.
+fn push_edits(edits: &mut Vec<Edit>, entry: &EntryWords) -> Result<(), AllocError>
+    requires { entry.now.first + 8 ≤ 512 }
+    ensures { OnOk result (map word_edit edits.new.items ≡ map word_edit edits.old.items ++ entry_edits entry.now) }
+{
+    for t in 0..ENTRY_WORDS {
+        edits.push(Edit {
+            block: entry.block,
+            word: entry.first + t as u16,
+            value: entry.words[t],
+        })?;
+    }
+    Ok(())
+}
+
+/// A change of a directory's size, with the words of entries that are to be stored.
+pub fn with_entries(
+    dir: Ino,
+    change: SizeChange,
+    entries: &[EntryWords],
+) -> Result<DirChange, AllocError>
+    requires { (e : EntryWordsOf) → Contains entries.now e → e.first + 8 ≤ 512 }
+    ensures dir { IfOk result (λ c. c.dir ≡ dir) }
+    ensures inode { IfOk result (λ c. c.inode ≡ change.inode) }
+    ensures edits { IfOk result (λ c. map word_edit c.edits ≡ map word_edit change.edits ++ all_edits entries.now) }
+    ensures taken { IfOk result (λ c. c.taken ≡ change.taken) }
+    ensures freed { IfOk result (λ c. c.freed ≡ change.freed) }
+{
+    let mut edits = change.edits.into_vec();
+    for k in 0..entries.len() {
+        push_edits(&mut edits, &entries[k])?;
+    }
+    Ok(DirChange {
+        dir,
+        inode: change.inode,
+        edits: EditList::from(edits),
+        taken: change.taken,
+        freed: change.freed,
+    })
+}
