@@ -1,0 +1,146 @@
+-- Requests that make or remove a row: what they answer, by what the look-ups before come to.
+use Rattle.std.proofs.Common.{◌≡◌, ◌≢◌, ℕ, ◌<◌, true, false, cond, List, [], ◌∷◌, refl, sym, ap, subst, ◌∙◌, arith, inl, inr}
+use Rattle.std.specs.Prelude.{Result, Ok, Err, Option, Some, None, is_some, length, not}
+use Rattle.std.specs.FinMap.{get}
+use Rattle.rio_base.specs.declared.places.Ino.{Ino}
+use Rattle.rio_base.specs.declared.places.VolumeShape.{VolumeShape}
+use Rattle.rio_base.specs.Blocks.{BlockWords}
+use Rattle.rio_base.specs.Rules.{true_false}
+use Rattle.rio_model.specs.declared.node.Node.{Node}
+use Rattle.rio_model.specs.declared.plain.Answered.{Answered}
+use Rattle.rio_model.specs.declared.reply.Reply.TheVariants.{Ok as Done}
+use Rattle.rio_model.specs.declared.state.State.{State}
+use Rattle.rio_model.specs.Answer.{answered, at_inode, front_of, last_of, least_free, names_in, refused}
+use Rattle.rio_model.specs.Held.{Held, held_of}
+use Rattle.rio_model.specs.Paths.{from_found, is_dir, walk_to_dir}
+use Rattle.rio_model.specs.VolumeReads.{ReadsAs}
+use Rattle.inode_table.specs.Inodes.{IsInode}
+use Rattle.inode_table.specs.declared.inode.Inode.{Inode}
+use Rattle.directories.specs.Rows.{Finds, HasRow}
+use Rattle.file_store.specs.Answers.{at_row, found, is_empty, is_open, make, make_new, make_row, rmdir_at, rmdir_node, unlink_at, unlink_node, without}
+use Rattle.file_store.specs.RowReads.{finds_some}
+use Rattle.file_store.specs.Walks.{Comes, RowComes}
+use Rattle.file_store.specs.declared.failures.FileFail.{FileFail}
+use Rattle.file_store.specs.declared.failures.FileFail.TheVariants.{Refused, Fault, Stopped, Memory}
+use Rattle.file_store.specs.declared.walking.Row.{Row}
+use Rattle.file_store.proofs.AnsweredAt.{FailsBy, fails_walk}
+use Rattle.file_store.proofs.LookedAt.{used_ino}
+use Rattle.file_store.proofs.Reached.{kind_held}
+use Rattle.file_store.proofs.RegionHeader.{used_size}
+use Rattle.file_store.proofs.RowRoom.{dir_size}
+
+-- ---- a row made
+
+-- what a path of one name or more makes
+made_last : (s : State) (names : List (List ℕ)) (node : Node) → 0 < length names → make s names node ≡ at_row s names (λ dir. make_row s dir (last_of names) node (get s.names (dir, last_of names)))
+made_last s [] node some = absurd (omega (arith, some))
+made_last s (name ∷ names) node some = refl
+
+-- the directory of the last name is not there
+pub fails_make : (s : State) (names front : List (List ℕ)) (node : Node) (r : Result Ino FileFail) (e : FileFail) → 0 < length names → front_of names ≡ front → r ≡ Err e → Comes (walk_to_dir s front) r → FailsBy s (make s names node) e
+fails_make s names front node r e some is re h =
+    subst (λ (a : Answered). FailsBy s a e) (sym (made_last s names node some))
+    (fails_walk s (walk_to_dir s (front_of names)) (λ dir. make_row s dir (last_of names) node (get s.names (dir, last_of names))) r e re (subst (λ q. Comes (walk_to_dir s q) r) (sym is) h))
+
+-- it is
+pub made_in : (s : State) (names front : List (List ℕ)) (name : List ℕ) (node : Node) (dir : ℕ) → 0 < length names → front_of names ≡ front → last_of names ≡ name → walk_to_dir s front ≡ Ok dir → make s names node ≡ make_row s dir name node (get s.names (dir, name))
+made_in s names front name node dir some is last at =
+    made_last s names node some
+    ∙ ap (λ (w : Result ℕ ℕ). at_inode s w (λ d. make_row s d (last_of names) node (get s.names (d, last_of names)))) (ap (walk_to_dir s) is ∙ at)
+    ∙ ap (λ n. make_row s dir n node (get s.names (dir, n))) last
+
+made_there : (s : State) (dir : ℕ) (name : List ℕ) (node : Node) (i : ℕ) → get s.names (dir, name) ≡ Some i → make_row s dir name node (get s.names (dir, name)) ≡ refused s 3
+made_there s dir name node i row = ap (make_row s dir name node) row
+
+pub made_anew : (s : State) (dir : ℕ) (name : List ℕ) (node : Node) → get s.names (dir, name) ≡ None → make_row s dir name node (get s.names (dir, name)) ≡ make_new s dir name node (least_free s)
+made_anew s dir name node none = ap (make_row s dir name node) none
+
+-- what was found of the name, in the blocks
+pub made_over : (shape : VolumeShape) (f : BlockWords) (s : State) (dir : ℕ) (name : List ℕ) (node : Node) (o : Option (Ino × ℕ)) → ReadsAs shape f s → (held_of shape f dir).kind ≡ 1 → Finds (held_of shape f dir) name o → is_some o ≡ true → make_row s dir name node (get s.names (dir, name)) ≡ refused s 3
+made_over shape f s dir name node (Some found) reads is h e = made_there s dir name node found.0.0 (finds_some (held_of shape f) s dir name found reads.reads is h)
+made_over shape f s dir name node None reads is h e = absurd (true_false (sym e))
+
+pub none_found : (h : Held) (name : List ℕ) (o : Option (Ino × ℕ)) → Finds h name o → is_some o ≡ false → (n : ℕ) → HasRow h name n → ⊥
+none_found h name None finds e = finds
+none_found h name (Some found) finds e = absurd (true_false e)
+
+-- ---- a row removed
+
+-- the row of the last name is not there
+pub fails_row : (s : State) (names : List (List ℕ)) (go : ℕ → ℕ → Answered) (r : Result Row FileFail) (e : FileFail) → r ≡ Err e → RowComes s names r → FailsBy s (at_row s names (λ dir. at_inode s (found s dir (last_of names)) (go dir))) e
+fails_row s names go r e re h = by e (subst (λ (v : Result Row FileFail). RowComes s names v) re h)
+  where
+    by : (f : FileFail) → RowComes s names (Err f) → FailsBy s (at_row s names (λ dir. at_inode s (found s dir (last_of names)) (go dir))) f
+    by (Refused c) (inl no_dir) = ap (λ (w : Result ℕ ℕ). at_inode s w (λ dir. at_inode s (found s dir (last_of names)) (go dir))) no_dir
+    by (Refused c) (inr (dir, at, none)) = ap (λ (w : Result ℕ ℕ). at_inode s w (λ d. at_inode s (found s d (last_of names)) (go d))) at ∙ ap (λ (w : Result ℕ ℕ). at_inode s w (go dir)) none
+    by (Fault n) none = none
+    by Stopped u = tt
+    by Memory u = tt
+
+-- it is
+pub row_taken : (s : State) (names : List (List ℕ)) (go : ℕ → ℕ → Answered) (dir i : ℕ) → walk_to_dir s (front_of names) ≡ Ok dir → get s.names (dir, last_of names) ≡ Some i → at_row s names (λ d. at_inode s (found s d (last_of names)) (go d)) ≡ go dir i
+row_taken s names go dir i at row =
+    ap (λ (w : Result ℕ ℕ). at_inode s w (λ d. at_inode s (found s d (last_of names)) (go d))) at
+    ∙ ap (λ (w : Result ℕ ℕ). at_inode s w (go dir)) (ap (λ o. from_found o Ok) row)
+
+unlinked_last : (s : State) (busy : List ℕ) (names : List (List ℕ)) → 0 < length names → unlink_at s busy names ≡ at_row s names (λ dir. at_inode s (found s dir (last_of names)) (unlink_node s busy dir (last_of names)))
+unlinked_last s busy [] some = absurd (omega (arith, some))
+unlinked_last s busy (name ∷ names) some = refl
+
+pub fails_unlink : (s : State) (busy : List ℕ) (names : List (List ℕ)) (r : Result Row FileFail) (e : FileFail) → 0 < length names → r ≡ Err e → RowComes s names r → FailsBy s (unlink_at s busy names) e
+fails_unlink s busy names r e some re h = subst (λ (a : Answered). FailsBy s a e) (sym (unlinked_last s busy names some)) (fails_row s names (λ dir. unlink_node s busy dir (last_of names)) r e re h)
+
+pub unlinked_at : (s : State) (busy : List ℕ) (names : List (List ℕ)) (row : Row) → 0 < length names → RowComes s names (Ok row) → unlink_at s busy names ≡ unlink_node s busy row.dir.0 (last_of names) row.ino.0
+unlinked_at s busy names row some h = unlinked_last s busy names some ∙ row_taken s names (λ dir. unlink_node s busy dir (last_of names)) row.dir.0 row.ino.0 h.0 h.1
+
+pub unlinked_dir : (s : State) (busy : List ℕ) (dir : ℕ) (name : List ℕ) (i : ℕ) → is_dir (get s.nodes i) ≡ true → unlink_node s busy dir name i ≡ refused s 5
+unlinked_dir s busy dir name i is = ap (λ b. cond b (refused s 5) (cond (is_open busy i (get s.nodes i)) (refused s 13) (answered (without s dir name i) Done))) is
+
+pub unlinked_open : (s : State) (busy : List ℕ) (dir : ℕ) (name : List ℕ) (i : ℕ) → is_dir (get s.nodes i) ≡ false → is_open busy i (get s.nodes i) ≡ true → unlink_node s busy dir name i ≡ refused s 13
+unlinked_open s busy dir name i leaf is = ap (λ b. cond b (refused s 5) (cond (is_open busy i (get s.nodes i)) (refused s 13) (answered (without s dir name i) Done))) leaf ∙ ap (λ b. cond b (refused s 13) (answered (without s dir name i) Done)) is
+
+pub unlinked_leaf : (s : State) (busy : List ℕ) (dir : ℕ) (name : List ℕ) (i : ℕ) → is_dir (get s.nodes i) ≡ false → is_open busy i (get s.nodes i) ≡ false → unlink_node s busy dir name i ≡ answered (without s dir name i) Done
+unlinked_leaf s busy dir name i leaf is = ap (λ b. cond b (refused s 5) (cond (is_open busy i (get s.nodes i)) (refused s 13) (answered (without s dir name i) Done))) leaf ∙ ap (λ b. cond b (refused s 13) (answered (without s dir name i) Done)) is
+
+-- ---- a directory removed
+
+rmdir_last : (s : State) (names : List (List ℕ)) → 0 < length names → rmdir_at s names ≡ at_row s names (λ dir. at_inode s (found s dir (last_of names)) (rmdir_node s dir (last_of names)))
+rmdir_last s [] some = absurd (omega (arith, some))
+rmdir_last s (name ∷ names) some = refl
+
+pub fails_rmdir : (s : State) (names : List (List ℕ)) (r : Result Row FileFail) (e : FileFail) → 0 < length names → r ≡ Err e → RowComes s names r → FailsBy s (rmdir_at s names) e
+fails_rmdir s names r e some re h = subst (λ (a : Answered). FailsBy s a e) (sym (rmdir_last s names some)) (fails_row s names (λ dir. rmdir_node s dir (last_of names)) r e re h)
+
+pub rmdir_taken : (s : State) (names : List (List ℕ)) (row : Row) → 0 < length names → RowComes s names (Ok row) → rmdir_at s names ≡ rmdir_node s row.dir.0 (last_of names) row.ino.0
+rmdir_taken s names row some h = rmdir_last s names some ∙ row_taken s names (λ dir. rmdir_node s dir (last_of names)) row.dir.0 row.ino.0 h.0 h.1
+
+pub rmdir_leaf : (s : State) (dir : ℕ) (name : List ℕ) (i : ℕ) → is_dir (get s.nodes i) ≡ false → rmdir_node s dir name i ≡ refused s 4
+rmdir_leaf s dir name i is = ap (λ b. cond (not b) (refused s 4) (cond (is_empty (names_in s i)) (answered (without s dir name i) Done) (refused s 6))) is
+
+pub rmdir_full : (s : State) (dir : ℕ) (name : List ℕ) (i : ℕ) → is_dir (get s.nodes i) ≡ true → is_empty (names_in s i) ≡ false → rmdir_node s dir name i ≡ refused s 6
+rmdir_full s dir name i is full = ap (λ b. cond (not b) (refused s 4) (cond (is_empty (names_in s i)) (answered (without s dir name i) Done) (refused s 6))) is ∙ ap (λ b. cond b (answered (without s dir name i) Done) (refused s 6)) full
+
+pub rmdir_bare : (s : State) (dir : ℕ) (name : List ℕ) (i : ℕ) → is_dir (get s.nodes i) ≡ true → is_empty (names_in s i) ≡ true → rmdir_node s dir name i ≡ answered (without s dir name i) Done
+rmdir_bare s dir name i is bare = ap (λ b. cond (not b) (refused s 4) (cond (is_empty (names_in s i)) (answered (without s dir name i) Done) (refused s 6))) is ∙ ap (λ b. cond b (answered (without s dir name i) Done) (refused s 6)) bare
+
+empty_if : (names : List (List ℕ)) → length names ≡ 0 → is_empty names ≡ true
+empty_if [] e = refl
+empty_if (name ∷ names) e = absurd (omega (arith, e))
+
+full_if : (names : List (List ℕ)) → length names ≢ 0 → is_empty names ≡ false
+full_if [] e = absurd (e refl)
+full_if (name ∷ names) e = refl
+
+-- names, by the size
+pub dir_bare : (shape : VolumeShape) (f : BlockWords) (s : State) (i : ℕ) → ReadsAs shape f s → (held_of shape f i).kind ≡ 1 → (held_of shape f i).size ≡ 0 → is_empty (names_in s i) ≡ true
+dir_bare shape f s i reads dir none = let size = dir_size shape f s i reads dir in empty_if (names_in s i) (omega (arith, size, none))
+
+pub dir_full : (shape : VolumeShape) (f : BlockWords) (s : State) (i : ℕ) → ReadsAs shape f s → (held_of shape f i).kind ≡ 1 → (held_of shape f i).size ≢ 0 → is_empty (names_in s i) ≡ false
+dir_full shape f s i reads dir some = let size = dir_size shape f s i reads dir in full_if (names_in s i) (λ none. some (omega (arith, size, none)))
+
+-- the size of an inode that was read
+pub inode_size_held : (shape : VolumeShape) (f : BlockWords) (i : ℕ) (n : Inode) → 0 < (held_of shape f i).kind → IsInode f i n → n.size ≡ (held_of shape f i).size
+inode_size_held shape f i n used is =
+    let ino = used_ino shape f i used in
+    let kind = kind_held shape f i ino in
+    is.size ∙ sym (used_size shape f i ino (omega (arith, kind, used)))

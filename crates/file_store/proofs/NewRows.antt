@@ -1,0 +1,55 @@
+-- A node and its row, made in one update: that the changes can be made, and the state that they come to.
+use Rattle.std.proofs.Common.{◌≡◌, ℕ, ◌⊎◌, List, [], ◌∷◌, refl}
+use Rattle.rio_base.specs.declared.places.VolumeShape.{VolumeShape}
+use Rattle.rio_base.specs.Blocks.{Seen}
+use Rattle.rio_base.specs.Layout.{IsIno}
+use Rattle.rio_base.specs.Volume.{Kept, Settled}
+use Rattle.rio_model.specs.declared.state.State.{State}
+use Rattle.rio_model.specs.Answer.{with_new}
+use Rattle.rio_model.specs.Held.{held_of}
+use Rattle.rio_model.specs.Paths.{IsName}
+use Rattle.rio_model.specs.Placed.{volume_layout}
+use Rattle.rio_model.specs.VolumeReads.{ReadsAs}
+use Rattle.rio_model.specs.VolumeReady.{LeavesInUse, Ready}
+use Rattle.file_pages.specs.OrderRules.{ready_left}
+use Rattle.directories.specs.Plans.{PlansDir}
+use Rattle.directories.specs.RowChanges.{AddsRow}
+use Rattle.directories.specs.Rows.{HasRow}
+use Rattle.directories.specs.declared.changes.DirChange.{DirChange}
+use Rattle.file_store.specs.Answers.{empty_node}
+use Rattle.file_store.specs.Changes.{IsMade, of_dir}
+use Rattle.file_store.specs.declared.changes.NodeChange.{NodeChange}
+use Rattle.file_store.proofs.LookedAt.{no_row}
+use Rattle.file_store.proofs.Reached.{reaches_made}
+use Rattle.file_store.proofs.Requested.{ReachesAll, Requested, dir_ino, dir_may, made_may}
+use Rattle.file_store.proofs.Stood.{Stood, stood_now}
+
+-- row c of directory d and node m of inode i, prepared
+pub record NewRow (shape : VolumeShape) (x : Seen) (k : Kept) (y : Seen) (j : Kept) (d : ℕ) (name : List ℕ) (i kind : ℕ) (c : DirChange) (m : NodeChange) : Type 0 where
+  pub ready : Ready shape x k
+  pub leaves : LeavesInUse (volume_layout shape x.words) x k y j
+  pub plan : PlansDir shape x.words y j d (AddsRow name i) c
+  pub made : IsMade i kind m
+  pub dir : (held_of shape x.words d).kind ≡ 1
+  pub ino : IsIno shape i
+  pub free : (held_of shape x.words i).kind ≡ 0
+  pub which : (kind ≡ 1) ⊎ (kind ≡ 2)
+  pub is_name : IsName name
+  pub absent : (n : ℕ) → HasRow (held_of shape x.words d) name n → ⊥
+
+new_stood : (shape : VolumeShape) (x : Seen) (k : Kept) (y : Seen) (j : Kept) (d : ℕ) (name : List ℕ) (i kind : ℕ) (c : DirChange) (m : NodeChange) → NewRow shape x k y j d name i kind c m → Stood shape x y j d (AddsRow name i) c
+new_stood shape x k y j d name i kind c m h = stood_now shape x x k y j d (AddsRow name i) c h.ready h.leaves (dir_ino shape x.words d h.dir) refl h.plan
+
+pub new_requested : (shape : VolumeShape) (x : Seen) (k : Kept) (y : Seen) (j : Kept) (d : ℕ) (name : List ℕ) (i kind : ℕ) (c : DirChange) (m : NodeChange) → Settled x k → NewRow shape x k y j d name i kind c m → Requested shape x k y j (of_dir c ∷ m ∷ [])
+new_requested shape x k y j d name i kind c m settled h =
+    let mapped = (ready_left shape x k y j h.ready h.leaves).mapped in
+    record {
+      ready = h.ready;
+      settled = settled;
+      leaves = h.leaves;
+      may = (dir_may shape x y j d (AddsRow name i) c mapped (dir_ino shape x.words d h.dir) (new_stood shape x k y j d name i kind c m h), (made_may shape y i kind m mapped h.ino h.made, tt));
+    }
+
+pub new_reaches : (shape : VolumeShape) (x : Seen) (k : Kept) (y : Seen) (j : Kept) (z : Seen) (d : ℕ) (name : List ℕ) (i kind : ℕ) (c : DirChange) (m : NodeChange) (s : State) → NewRow shape x k y j d name i kind c m → ReadsAs shape x.words s → ReachesAll shape x k y j z (of_dir c ∷ m ∷ []) (with_new s d name i (empty_node kind))
+new_reaches shape x k y j z d name i kind c m s h reads p g applied =
+    reaches_made shape x k y j z s d name i kind c m g p reads (new_stood shape x k y j d name i kind c m h) h.made (dir_ino shape x.words d h.dir) h.ino h.dir h.free h.which h.is_name (no_row shape x.words s d name reads h.absent) applied

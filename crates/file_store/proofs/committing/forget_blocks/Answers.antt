@@ -1,0 +1,38 @@
+use Rattle.std.proofs.Common.{◌∙◌, le_trans}
+use Rattle.rio_base.specs.BlockSets.{firm_outside_one, firm_outside_trans, same_outside_one, same_outside_trans}
+use Rattle.rio_base.specs.Rules.{drops_trans, goes_trans}
+use Rattle.file_store.proofs.Several.{number_in, number_place}
+use Rattle.file_store.proofs.committing.forget_blocks.Goals as goal
+
+pub forget-requires-clause-place : goal.forget-requires-clause-place
+forget-requires-clause-place g c = number_place c.args.blocks.now c.loop-t.t _ _ _ c.loop-t-test.true c.requires.places c.loop-t.invariant.count
+
+pub returns-in_err-forget-clause-words : goal.returns-in_err-forget-clause-words
+returns-in_err-forget-clause-words g c = same_outside_trans _ _ _ _ c.loop-t.invariant.words (same_outside_one _ _ _ _ (number_in c.args.blocks.now c.loop-t.t _ c.loop-t-test.true) c.forget.ensures.others)
+
+pub returns-in_err-forget-clause-standing : goal.returns-in_err-forget-clause-standing
+returns-in_err-forget-clause-standing g c = same_outside_trans _ _ _ _ c.loop-t.invariant.standing (same_outside_one _ _ _ _ (number_in c.args.blocks.now c.loop-t.t _ c.loop-t-test.true) c.forget.ensures.standing)
+
+pub returns-in_err-forget-clause-firm : goal.returns-in_err-forget-clause-firm
+returns-in_err-forget-clause-firm g c = firm_outside_trans _ _ _ _ c.loop-t.invariant.firm (firm_outside_one _ _ _ _ (number_in c.args.blocks.now c.loop-t.t _ c.loop-t-test.true) c.forget.ensures.firm)
+
+pub returns-in_err-forget-clause-drops : goal.returns-in_err-forget-clause-drops
+returns-in_err-forget-clause-drops g c = drops_trans _ _ _ c.loop-t.invariant.drops c.forget.ensures.drops
+
+pub loop-t-preserved : goal.loop-t-preserved
+loop-t-preserved g c =
+    let inv = c.loop-t.invariant in
+    let call = c.forget.ensures in
+    let mine = number_in c.args.blocks.now c.loop-t.t _ c.loop-t-test.true in
+    record {
+      words = same_outside_trans _ _ _ _ inv.words (same_outside_one _ _ _ _ mine call.others);
+      standing = same_outside_trans _ _ _ _ inv.standing (same_outside_one _ _ _ _ mine call.standing);
+      firm = firm_outside_trans _ _ _ _ inv.firm (firm_outside_one _ _ _ _ mine call.firm);
+      count = call.count ∙ inv.count;
+      drops = drops_trans _ _ _ inv.drops call.drops;
+      idle = call.idle;
+      goes = goes_trans _ _ _ _ _ _ inv.goes call.goes;
+      later = le_trans inv.later call.ends.later;
+      running = c.in_ok-forget.ensures.ends.cause ∙ inv.running;
+      sound = call.sound;
+    }

@@ -1,0 +1,202 @@
+use Rattle.std.proofs.Common.{◌≡◌, ◌<◌, ◌∙◌, le_refl, refl, sym, ap, subst}
+use Rattle.std.proofs.lemmas.Result.{err_from_is_err_and}
+use Rattle.rio_base.specs.Rules.{◌then◌, ends_by_well}
+use Rattle.rio_model.specs.declared.reply.Reply.TheVariants.{Ok as Done}
+use Rattle.rio_model.specs.Answer.{answered, last_of}
+use Rattle.rio_model.specs.Held.{held_of}
+use Rattle.rio_model.specs.Paths.{names_of}
+use Rattle.rio_model.specs.Placed.{volume_layout}
+use Rattle.rio_model.specs.VolumeReads.{ReadsAs}
+use Rattle.rio_model.specs.VolumeReady.{LeavesInUse}
+use Rattle.inode_table.specs.Inodes.{IsInode}
+use Rattle.file_pages.specs.OrderRules.{leaves_refl}
+use Rattle.file_store.specs.Answers.{unlink as unlink_of, unlink_at, without}
+use Rattle.file_store.specs.Ends.{NoneDone, SaysDone}
+use Rattle.file_store.specs.Walks.{IsRow, ino_numbers}
+use Rattle.file_store.specs.declared.failures.FileFail.TheVariants.{Refused}
+use Rattle.file_store.proofs.AmongInodes.{open_read}
+use Rattle.file_store.proofs.AnsweredAt.{ends_after, ends_look, fails_unrefused}
+use Rattle.file_store.proofs.AnsweredRows.{fails_unlink, unlinked_at, unlinked_dir, unlinked_leaf, unlinked_open}
+use Rattle.file_store.proofs.CallEnds.{after_well, ends_on, ends_refused, well}
+use Rattle.file_store.proofs.LookedAt.{dir_read, inode_kind_held, leaf_read}
+use Rattle.file_store.proofs.Requested.{ends_as}
+use Rattle.file_store.proofs.Unchanged.{can_again, leaves_then}
+use Rattle.file_store.proofs.removing.unlink.Goals as goal
+
+pub returns-then-is_root-clause-leaves : goal.returns-then-is_root-clause-leaves
+returns-then-is_root-clause-leaves g c =
+    let shape = c.args.shape.now in
+    let x = g.V.Blocks.seen c.args.v.now in
+    let k = g.V.Volume.kept c.args.v.now in
+    let names = names_of c.args.path.now in
+    let busy = ino_numbers c.args.busy.now in
+    λ s reads. ends_look {T = Unit {0}} SaysDone shape x k x k s (unlink_of s c.args.path.now busy) (NoneDone s) _ (Refused 9) (Refused 9) refl refl c.requires.can.ready (g.met.V.Volume.settled _ c.requires.sound) (leaves_refl shape x k c.requires.can.ready) reads (refl, refl) (ap (λ ns. unlink_at s busy ns) (c.is_root.ensures.root c.if-is_root.true))
+
+pub returns-then-is_root-clause-ends : goal.returns-then-is_root-clause-ends
+returns-then-is_root-clause-ends g c = ends_refused _ _ 9 (ends_by_well _ _ _ _ (le_refl _) refl (λ a. a) (λ a. a))
+
+pub walk_to_row-requires-clause-some : goal.walk_to_row-requires-clause-some
+walk_to_row-requires-clause-some g c = c.is_root.ensures.not c.if-is_root.false
+
+pub returns-in_err-row-clause-leaves : goal.returns-in_err-row-clause-leaves
+returns-in_err-row-clause-leaves g c =
+    let shape = c.args.shape.now in
+    let x = g.V.Blocks.seen c.args.v.now in
+    let k = g.V.Volume.kept c.args.v.now in
+    let names = names_of c.args.path.now in
+    let busy = ino_numbers c.args.busy.now in
+    let m = g.V.Blocks.seen c.walk_to_row.new.v in
+    let l = g.V.Volume.kept c.walk_to_row.new.v in
+    let p = err_from_is_err_and c.from_residual.result c.from_residual.ensures.1 in
+    λ s reads. ends_look {T = Unit {0}} SaysDone shape x k m l s (unlink_of s c.args.path.now busy) (NoneDone s) c.from_residual.result _ p.0 p.1 p.2 c.requires.can.ready (g.met.V.Volume.settled _ c.requires.sound) c.walk_to_row.ensures.leaves reads (refl, refl) (fails_unlink s busy names c.walk_to_row.result _ (c.is_root.ensures.not c.if-is_root.false) c.in_err-row.was (c.walk_to_row.ensures.value s reads))
+
+pub returns-in_err-row-clause-ends : goal.returns-in_err-row-clause-ends
+returns-in_err-row-clause-ends g c =
+    let p = err_from_is_err_and c.from_residual.result c.from_residual.ensures.1 in
+    ends_on _ _ c.walk_to_row.result c.from_residual.result _ p.0 c.in_err-row.was p.1 p.2 c.walk_to_row.ensures.ends
+
+pub inode_of-requires-clause-used : goal.inode_of-requires-clause-used
+inode_of-requires-clause-used g c = subst (λ f. 0 < (held_of c.args.shape.now f c.in_ok-row.row.ino.0).kind) (sym c.walk_to_row.ensures.words) c.in_ok-row.ensures.used
+
+pub returns-in_err-inode-clause-leaves : goal.returns-in_err-inode-clause-leaves
+returns-in_err-inode-clause-leaves g c =
+    let shape = c.args.shape.now in
+    let x = g.V.Blocks.seen c.args.v.now in
+    let k = g.V.Volume.kept c.args.v.now in
+    let names = names_of c.args.path.now in
+    let busy = ino_numbers c.args.busy.now in
+    let m = g.V.Blocks.seen c.walk_to_row.new.v in
+    let l = g.V.Volume.kept c.walk_to_row.new.v in
+    let n = g.V.Blocks.seen c.inode_of.new.v in
+    let q = g.V.Volume.kept c.inode_of.new.v in
+    let leaves : LeavesInUse (volume_layout shape x.words) x k n q = leaves_then shape x k m l n q c.walk_to_row.ensures.leaves c.walk_to_row.ensures.words c.inode_of.ensures.leaves in
+    let p = err_from_is_err_and c.from_residual-in_err-inode.result c.from_residual-in_err-inode.ensures.1 in
+    λ s reads. ends_look {T = Unit {0}} SaysDone shape x k n q s (unlink_of s c.args.path.now busy) (NoneDone s) c.from_residual-in_err-inode.result _ p.0 p.1 p.2 c.requires.can.ready (g.met.V.Volume.settled _ c.requires.sound) leaves reads (refl, refl) (fails_unrefused s (unlink_of s c.args.path.now busy) c.inode_of.result _ c.in_err-inode.was c.inode_of.ensures.other)
+
+pub returns-in_err-inode-clause-goes : goal.returns-in_err-inode-clause-goes
+returns-in_err-inode-clause-goes g c = c.walk_to_row.ensures.goes then c.inode_of.ensures.goes
+
+pub returns-in_err-inode-clause-ends : goal.returns-in_err-inode-clause-ends
+returns-in_err-inode-clause-ends g c =
+    let p = err_from_is_err_and c.from_residual-in_err-inode.result c.from_residual-in_err-inode.ensures.1 in
+    after_well _ _ _ _ _ (well _ _ c.walk_to_row.result _ c.in_ok-row.was c.walk_to_row.ensures.ends) (ends_on _ _ c.inode_of.result c.from_residual-in_err-inode.result _ p.0 c.in_err-inode.was p.1 p.2 c.inode_of.ensures.ends)
+
+pub returns-then-inode-eq-DIRECTORY-clause-leaves : goal.returns-then-inode-eq-DIRECTORY-clause-leaves
+returns-then-inode-eq-DIRECTORY-clause-leaves g c =
+    let shape = c.args.shape.now in
+    let x = g.V.Blocks.seen c.args.v.now in
+    let k = g.V.Volume.kept c.args.v.now in
+    let names = names_of c.args.path.now in
+    let busy = ino_numbers c.args.busy.now in
+    let m = g.V.Blocks.seen c.walk_to_row.new.v in
+    let l = g.V.Volume.kept c.walk_to_row.new.v in
+    let n = g.V.Blocks.seen c.inode_of.new.v in
+    let q = g.V.Volume.kept c.inode_of.new.v in
+    let leaves : LeavesInUse (volume_layout shape x.words) x k n q = leaves_then shape x k m l n q c.walk_to_row.ensures.leaves c.walk_to_row.ensures.words c.inode_of.ensures.leaves in
+    let row = c.in_ok-row.row in
+    let i = row.ino.0 in
+    let inode = c.in_ok-inode.inode in
+    let used = c.in_ok-row.ensures.used in
+    let is : IsInode x.words i inode = subst (λ f. IsInode f i inode) c.walk_to_row.ensures.words c.in_ok-inode.ensures.value in
+    let kind : inode.kind ≡ (held_of shape x.words i).kind = inode_kind_held shape x.words i inode used is in
+    λ s reads. ends_look {T = Unit {0}} SaysDone shape x k n q s (unlink_of s c.args.path.now busy) (NoneDone s) _ (Refused 5) (Refused 5) refl refl c.requires.can.ready (g.met.V.Volume.settled _ c.requires.sound) leaves reads (refl, refl) (unlinked_at s busy names row (c.is_root.ensures.not c.if-is_root.false) (c.in_ok-row.ensures.value s reads) ∙ unlinked_dir s busy row.dir.0 (last_of names) i (dir_read shape x.words s i reads (sym kind ∙ c.if-inode-eq-DIRECTORY.true)))
+
+pub returns-then-inode-eq-DIRECTORY-clause-goes : goal.returns-then-inode-eq-DIRECTORY-clause-goes
+returns-then-inode-eq-DIRECTORY-clause-goes g c = c.walk_to_row.ensures.goes then c.inode_of.ensures.goes
+
+pub returns-then-inode-eq-DIRECTORY-clause-ends : goal.returns-then-inode-eq-DIRECTORY-clause-ends
+returns-then-inode-eq-DIRECTORY-clause-ends g c = ends_refused _ _ 5 (after_well _ _ _ _ _ (well _ _ c.walk_to_row.result _ c.in_ok-row.was c.walk_to_row.ensures.ends) (well _ _ c.inode_of.result _ c.in_ok-inode.was c.inode_of.ensures.ends))
+
+pub returns-then-is_open-clause-leaves : goal.returns-then-is_open-clause-leaves
+returns-then-is_open-clause-leaves g c =
+    let shape = c.args.shape.now in
+    let x = g.V.Blocks.seen c.args.v.now in
+    let k = g.V.Volume.kept c.args.v.now in
+    let names = names_of c.args.path.now in
+    let busy = ino_numbers c.args.busy.now in
+    let m = g.V.Blocks.seen c.walk_to_row.new.v in
+    let l = g.V.Volume.kept c.walk_to_row.new.v in
+    let n = g.V.Blocks.seen c.inode_of.new.v in
+    let q = g.V.Volume.kept c.inode_of.new.v in
+    let leaves : LeavesInUse (volume_layout shape x.words) x k n q = leaves_then shape x k m l n q c.walk_to_row.ensures.leaves c.walk_to_row.ensures.words c.inode_of.ensures.leaves in
+    let row = c.in_ok-row.row in
+    let i = row.ino.0 in
+    let inode = c.in_ok-inode.inode in
+    let used = c.in_ok-row.ensures.used in
+    let is : IsInode x.words i inode = subst (λ f. IsInode f i inode) c.walk_to_row.ensures.words c.in_ok-inode.ensures.value in
+    let kind : inode.kind ≡ (held_of shape x.words i).kind = inode_kind_held shape x.words i inode used is in
+    λ s reads. ends_look {T = Unit {0}} SaysDone shape x k n q s (unlink_of s c.args.path.now busy) (NoneDone s) _ (Refused 13) (Refused 13) refl refl c.requires.can.ready (g.met.V.Volume.settled _ c.requires.sound) leaves reads (refl, refl) (unlinked_at s busy names row (c.is_root.ensures.not c.if-is_root.false) (c.in_ok-row.ensures.value s reads) ∙ unlinked_open s busy row.dir.0 (last_of names) i (leaf_read shape x.words s i reads (λ dir. c.if-inode-eq-DIRECTORY.false (kind ∙ dir))) (open_read shape x.words s busy i inode.kind reads used kind ∙ sym c.is_open.ensures ∙ c.if-is_open.true))
+
+pub returns-then-is_open-clause-goes : goal.returns-then-is_open-clause-goes
+returns-then-is_open-clause-goes g c = c.walk_to_row.ensures.goes then c.inode_of.ensures.goes
+
+pub returns-then-is_open-clause-ends : goal.returns-then-is_open-clause-ends
+returns-then-is_open-clause-ends g c = ends_refused _ _ 13 (after_well _ _ _ _ _ (well _ _ c.walk_to_row.result _ c.in_ok-row.was c.walk_to_row.ensures.ends) (well _ _ c.inode_of.result _ c.in_ok-inode.was c.inode_of.ensures.ends))
+
+pub remove_row-requires-clause-can : goal.remove_row-requires-clause-can
+remove_row-requires-clause-can g c =
+    let shape = c.args.shape.now in
+    let x = g.V.Blocks.seen c.args.v.now in
+    let k = g.V.Volume.kept c.args.v.now in
+    let names = names_of c.args.path.now in
+    let busy = ino_numbers c.args.busy.now in
+    let m = g.V.Blocks.seen c.walk_to_row.new.v in
+    let l = g.V.Volume.kept c.walk_to_row.new.v in
+    let n = g.V.Blocks.seen c.inode_of.new.v in
+    let q = g.V.Volume.kept c.inode_of.new.v in
+    let leaves : LeavesInUse (volume_layout shape x.words) x k n q = leaves_then shape x k m l n q c.walk_to_row.ensures.leaves c.walk_to_row.ensures.words c.inode_of.ensures.leaves in
+    can_again shape x k n q c.requires.can leaves (c.inode_of.ensures.words ∙ c.walk_to_row.ensures.words)
+
+pub remove_row-requires-clause-row : goal.remove_row-requires-clause-row
+remove_row-requires-clause-row g c =
+    (last_of (names_of c.args.path.now), subst (λ f. IsRow c.args.shape.now f (last_of (names_of c.args.path.now)) c.in_ok-row.row) (sym (c.inode_of.ensures.words ∙ c.walk_to_row.ensures.words)) c.in_ok-row.ensures.row)
+
+pub remove_row-requires-clause-used : goal.remove_row-requires-clause-used
+remove_row-requires-clause-used g c = subst (λ f. 0 < (held_of c.args.shape.now f c.in_ok-row.row.ino.0).kind) (sym (c.inode_of.ensures.words ∙ c.walk_to_row.ensures.words)) c.in_ok-row.ensures.used
+
+pub remove_row-requires-clause-bare : goal.remove_row-requires-clause-bare
+remove_row-requires-clause-bare g c =
+    let shape = c.args.shape.now in
+    let x = g.V.Blocks.seen c.args.v.now in
+    let k = g.V.Volume.kept c.args.v.now in
+    let names = names_of c.args.path.now in
+    let busy = ino_numbers c.args.busy.now in
+    let m = g.V.Blocks.seen c.walk_to_row.new.v in
+    let l = g.V.Volume.kept c.walk_to_row.new.v in
+    let row = c.in_ok-row.row in
+    let i = row.ino.0 in
+    let inode = c.in_ok-inode.inode in
+    let used = c.in_ok-row.ensures.used in
+    let is : IsInode x.words i inode = subst (λ f. IsInode f i inode) c.walk_to_row.ensures.words c.in_ok-inode.ensures.value in
+    let kind : inode.kind ≡ (held_of shape x.words i).kind = inode_kind_held shape x.words i inode used is in
+    subst (λ f. (held_of shape f i).kind ≡ 1 → (held_of shape f i).size ≡ 0) (sym (c.inode_of.ensures.words ∙ c.walk_to_row.ensures.words)) (λ dir. absurd (c.if-inode-eq-DIRECTORY.false (kind ∙ dir)))
+
+pub returns-clause-leaves : goal.returns-clause-leaves
+returns-clause-leaves g c =
+    let shape = c.args.shape.now in
+    let x = g.V.Blocks.seen c.args.v.now in
+    let k = g.V.Volume.kept c.args.v.now in
+    let names = names_of c.args.path.now in
+    let busy = ino_numbers c.args.busy.now in
+    let m = g.V.Blocks.seen c.walk_to_row.new.v in
+    let l = g.V.Volume.kept c.walk_to_row.new.v in
+    let n = g.V.Blocks.seen c.inode_of.new.v in
+    let q = g.V.Volume.kept c.inode_of.new.v in
+    let leaves : LeavesInUse (volume_layout shape x.words) x k n q = leaves_then shape x k m l n q c.walk_to_row.ensures.leaves c.walk_to_row.ensures.words c.inode_of.ensures.leaves in
+    let row = c.in_ok-row.row in
+    let i = row.ino.0 in
+    let inode = c.in_ok-inode.inode in
+    let used = c.in_ok-row.ensures.used in
+    let is : IsInode x.words i inode = subst (λ f. IsInode f i inode) c.walk_to_row.ensures.words c.in_ok-inode.ensures.value in
+    let kind : inode.kind ≡ (held_of shape x.words i).kind = inode_kind_held shape x.words i inode used is in
+    let y = g.V.Blocks.seen c.remove_row.new.v in
+    let j = g.V.Volume.kept c.remove_row.new.v in
+    λ s reads. ends_after SaysDone shape x k n q y j s (unlink_of s c.args.path.now busy) (NoneDone s) c.remove_row.result leaves (c.inode_of.ensures.words ∙ c.walk_to_row.ensures.words)
+    (ends_as SaysDone shape n q y j s (unlink_of s c.args.path.now busy) (answered (without s row.dir.0 (last_of names) i) Done) (NoneDone s) c.remove_row.result (unlinked_at s busy names row (c.is_root.ensures.not c.if-is_root.false) (c.in_ok-row.ensures.value s reads) ∙ unlinked_leaf s busy row.dir.0 (last_of names) i (leaf_read shape x.words s i reads (λ dir. c.if-inode-eq-DIRECTORY.false (kind ∙ dir))) (open_read shape x.words s busy i inode.kind reads used kind ∙ sym c.is_open.ensures ∙ c.if-is_open.false))
+    (c.remove_row.ensures.leaves s (last_of names) (subst (λ f. ReadsAs shape f s) (sym (c.inode_of.ensures.words ∙ c.walk_to_row.ensures.words)) reads) (subst (λ f. IsRow shape f (last_of names) row) (sym (c.inode_of.ensures.words ∙ c.walk_to_row.ensures.words)) c.in_ok-row.ensures.row)))
+
+pub returns-clause-goes : goal.returns-clause-goes
+returns-clause-goes g c = c.walk_to_row.ensures.goes then c.inode_of.ensures.goes then c.remove_row.ensures.goes
+
+pub returns-clause-ends : goal.returns-clause-ends
+returns-clause-ends g c = after_well _ _ _ _ _ (after_well _ _ _ _ _ (well _ _ c.walk_to_row.result _ c.in_ok-row.was c.walk_to_row.ensures.ends) (well _ _ c.inode_of.result _ c.in_ok-inode.was c.inode_of.ensures.ends)) c.remove_row.ensures.ends

@@ -1,0 +1,34 @@
+use Rattle.std.proofs.Common.{◌≡◌, ◌+◌, ◌-◌, ◌<◌, ◌≤◌, length}
+use Rattle.rio_base.specs.Blocks.{EndsBy}
+use Rattle.rio_base.specs.Volume.{Goes}
+use Rattle.rio_model.specs.Held.{held_of}
+use Rattle.rio_model.specs.Paths.{names_of, walk}
+use Rattle.rio_model.specs.Placed.{volume_layout}
+use Rattle.rio_model.specs.VolumeReads.{ReadsAs}
+use Rattle.rio_model.specs.VolumeReady.{LeavesInUse}
+use Rattle.rio_model.specs.declared.state.State.{State}
+use Rattle.file_store.specs.Ends.{CanServe}
+use Rattle.file_store.proofs.WalkedOn.{walk_left}
+use Rattle.file_store.proofs.walking.walk.Given as goal
+
+-- the walk so far ended at node i, and goes on at byte `at`
+abbrev pub invariant-loop-at : goal.invariant-loop-at
+invariant-loop-at g l =
+    let seen = g.V.Blocks.seen in
+    let kept = g.V.Volume.kept in
+    let health = g.V.Blocks.health in
+    let first = (seen l.fn.v).words in
+    record {
+      from : 1 ≤ l.at;
+      walked : (s : State) → ReadsAs l.shape first s → walk s 1 (names_of l.path) ≡ walk_left s l.path l.i.0 l.at;
+      used : 0 < (held_of l.shape first l.i.0).kind;
+      leaves : LeavesInUse (volume_layout l.shape first) (seen l.fn.v) (kept l.fn.v) (seen l.v) (kept l.v);
+      words : (seen l.v).words ≡ first;
+      can : CanServe l.shape (seen l.v) (kept l.v);
+      goes : Goes (health l.fn.v) (g.V.Volume.below l.fn.v) (health l.v) (g.V.Volume.below l.v);
+      well : EndsBy (health l.fn.v) (health l.v) ⊥ ⊥;
+      sound : g.V.Blocks.sound l.v;
+    }
+
+abbrev pub decreases-loop-at : goal.decreases-loop-at
+decreases-loop-at g l = length l.path + 1 - l.at

@@ -1,0 +1,31 @@
+-- What may follow the end of a request on files.
+use Rattle.std.proofs.Common.{ℕ, refl}
+use Rattle.std.specs.Prelude.{Result, Ok, Err, IsErrOf}
+use Rattle.rio_base.specs.declared.places.VolumeShape.{VolumeShape}
+use Rattle.rio_base.specs.Blocks.{Seen}
+use Rattle.rio_base.specs.Volume.{Kept}
+use Rattle.rio_model.specs.declared.plain.Answered.{Answered}
+use Rattle.rio_model.specs.declared.reply.Reply.{Reply}
+use Rattle.rio_model.specs.declared.state.State.{State}
+use Rattle.rio_model.specs.Placed.{volume_layout}
+use Rattle.rio_model.specs.VolumeReadRules.{reads_agree}
+use Rattle.rio_model.specs.VolumeReads.{ReadsAs}
+use Rattle.rio_model.specs.VolumeReady.{LeavesInUse}
+use Rattle.file_pages.specs.OrderRules.{ready_left}
+use Rattle.file_store.specs.Ends.{CanServe, FileEnds}
+use Rattle.file_store.specs.declared.failures.FileFail.{FileFail}
+use Rattle.file_store.specs.declared.failures.FileFail.TheVariants.{Refused, Fault, Stopped, Memory}
+
+can_left : (shape : VolumeShape) (x : Seen) (k : Kept) (y : Seen) (j : Kept) → CanServe shape x k → LeavesInUse (volume_layout shape x.words) x k y j → CanServe shape y j
+can_left shape x k y j can leaves = record { ready = ready_left shape x k y j can.ready leaves; state = can.state; reads = reads_agree shape x.words y.words can.state can.reads leaves.words }
+
+can_as : (T : Type 0) (says : T → Reply → Type 0) (shape : VolumeShape) (x : Seen) (k : Kept) (y : Seen) (j : Kept) (s : State) (a : Answered) (leads : ℕ → State → Type 0) (r : Result T FileFail) → CanServe shape x k → FileEnds says shape x k y j s a leads r → (IsErrOf r Stopped → ⊥) → CanServe shape y j
+can_as T says shape x k y j s a leads (Ok v) can h unstopped = record { ready = h.1.ready; state = a.next; reads = h.1.reads }
+can_as T says shape x k y j s a leads (Err (Refused c)) can h unstopped = can_left shape x k y j can h.2
+can_as T says shape x k y j s a leads (Err (Fault n)) can h unstopped = record { ready = h.2.ready; state = h.0; reads = h.2.reads }
+can_as T says shape x k y j s a leads (Err Stopped) can h unstopped = absurd (unstopped refl)
+can_as T says shape x k y j s a leads (Err Memory) can h unstopped = can_left shape x k y j can h
+
+-- another request, where this one was not stopped
+pub can_after : {T : Type 0} (says : T → Reply → Type 0) (shape : VolumeShape) (x : Seen) (k : Kept) (y : Seen) (j : Kept) (a : State → Answered) (leads : State → ℕ → State → Type 0) (r : Result T FileFail) → CanServe shape x k → ((s : State) → ReadsAs shape x.words s → FileEnds says shape x k y j s (a s) (leads s) r) → (IsErrOf r Stopped → ⊥) → CanServe shape y j
+can_after {T = T} says shape x k y j a leads r can h unstopped = can_as T says shape x k y j can.state (a can.state) (leads can.state) r can (h can.state can.reads) unstopped

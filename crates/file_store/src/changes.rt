@@ -1,0 +1,132 @@
+//! Changes of nodes that one update makes together.
+
+ghost use Rattle.std.specs.Prelude.{◌≡◌, [], ◌∷◌, IfOk};
+ghost use Rattle.file_store.specs.Changes.{IsGone, IsMade};
+
+use directories::DirChange;
+use file_pages::EditList;
+use inode_table::Inode;
+use rio_base::{BlockList, Ino};
+use std::alloc::{AllocError, Global};
+
+/// The kind of an inode that is free.
+pub const FREE: u8 = 0;
+
+/// The kind of a directory.
+pub const DIRECTORY: u8 = 1;
+
+/// The kind of a file.
+pub const FILE: u8 = 2;
+
+/// The kind of a region.
+pub const REGION: u8 = 3;
+
+/// A change of one node that is prepared and not yet made.
+#[derive(Debug, Drop)]
+pub struct NodeChange {
+    /// The node's inode number.
+    pub ino: Ino,
+    /// Its inode after the change.
+    pub inode: Inode,
+    /// Words of its blocks that change.
+    pub edits: EditList,
+    /// Blocks that it gains.
+    pub taken: BlockList,
+    /// Blocks that it loses.
+    pub freed: BlockList,
+}
+
+impl From<DirChange> for NodeChange {
+    ghost use Rattle.file_store.specs.Changes.{of_dir};
+
+    ghost from_gives = { λ change made. made ≡ of_dir change };
+
+    fn from(change: DirChange) -> NodeChange {
+        NodeChange {
+            ino: change.dir,
+            inode: change.inode,
+            edits: change.edits,
+            taken: change.taken,
+            freed: change.freed,
+        }
+    }
+}
+
+/// The inode of a node without bytes.
+fn empty_inode(kind: u8) -> Inode
+    ensures kind { result.kind ≡ kind }
+    ensures size { result.size ≡ 0 }
+{
+    Inode {
+        kind,
+        size: 0,
+        direct: [0; 24],
+        indirect: 0,
+        double: 0,
+    }
+}
+
+/// A new node without bytes.
+pub fn node_made(alloc: Global, i: Ino, kind: u8) -> NodeChange
+    ensures { IsMade i.0 kind result }
+{
+    NodeChange {
+        ino: i,
+        inode: empty_inode(kind),
+        edits: EditList::from(Vec::new(alloc)),
+        taken: BlockList::from(Vec::new(alloc)),
+        freed: BlockList::from(Vec::new(alloc)),
+    }
+}
+
+/// A node that goes, and its blocks with it.
+pub fn node_gone(alloc: Global, i: Ino, freed: BlockList) -> NodeChange
+    ensures { IsGone i.0 freed result }
+{
+    NodeChange {
+        ino: i,
+        inode: empty_inode(FREE),
+        edits: EditList::from(Vec::new(alloc)),
+        taken: BlockList::from(Vec::new(alloc)),
+        freed,
+    }
+}
+
+/// One change alone.
+pub fn one_change(alloc: Global, change: NodeChange) -> Result<Vec<NodeChange>, AllocError>
+    ensures { IfOk result (λ changes. changes.items ≡ change ∷ []) }
+{
+    let mut changes = Vec::with_capacity(alloc, 1)?;
+    changes.push(change)?;
+    Ok(changes)
+}
+
+/// Two changes, in this order.
+pub fn two_changes(
+    alloc: Global,
+    first: NodeChange,
+    second: NodeChange,
+) -> Result<Vec<NodeChange>, AllocError>
+    ensures { IfOk result (λ changes. changes.items ≡ first ∷ (second ∷ [])) }
+{
+    let mut changes = Vec::with_capacity(alloc, 2)?;
+    changes.push(first)?;
+    changes.push(second)?;
+    Ok(changes)
+}
+
+/// Three changes, in this order.
+pub fn three_changes(
+    alloc: Global,
+    first: NodeChange,
+    second: NodeChange,
+    third: NodeChange,
+) -> Result<Vec<NodeChange>, AllocError>
+    ensures { IfOk result (λ changes. changes.items ≡ first ∷ (second ∷ (third ∷ []))) }
+{
+    let mut changes = Vec::with_capacity(alloc, 3)?;
+    changes.push(first)?;
+    changes.push(second)?;
+    changes.push(third)?;
+    Ok(changes)
+}

@@ -1,0 +1,108 @@
+//! The bytes of a file at a path: written, read, and their number changed.
+
+ghost use Rattle.std.specs.Prelude.{◌≡◌, IfOk, IsErrOf};
+ghost use Rattle.rio_base.specs.Blocks.{EndsBy};
+ghost use Rattle.rio_base.specs.Volume.{Goes};
+ghost use Rattle.rio_model.specs.Held.{held_of};
+ghost use Rattle.rio_model.specs.Paths.{names_of, walk as walk_of};
+ghost use Rattle.rio_model.specs.Placed.{volume_layout};
+ghost use Rattle.rio_model.specs.VolumeReads.{ReadsAs};
+ghost use Rattle.rio_model.specs.VolumeReady.{LeavesInUse};
+ghost use Rattle.rio_model.specs.declared.state.State.{State};
+ghost use Rattle.file_store.specs.Answers.{write as write_of, truncate as truncate_of, read as read_of};
+ghost use Rattle.file_store.specs.Ends.{CanServe, FileEnds, IsPath, NoneDone, SaysBytes, SaysCount, SaysDone, WriteDone};
+ghost use Rattle.file_store.specs.Failures.{Faulted};
+ghost use Rattle.file_store.specs.Walks.{FileComes};
+
+use crate::changes::{DIRECTORY, REGION};
+use crate::failures::{FileFail, IS_A_DIRECTORY, IS_A_REGION};
+use crate::walking::{inode_of, walk};
+use rio_base::{Ino, Octets, Volume, VolumeShape};
+use std::alloc::Global;
+
+/// The file at a path.
+fn walk_to_file<V: Volume>(v: &mut V, shape: &VolumeShape, path: &[u8]) -> Result<Ino, FileFail>
+    requires sound { V.sound v.old }
+    requires can { CanServe shape.now (V.seen v.old) (V.kept v.old) }
+    ensures value { (s : State) → ReadsAs shape.now (V.seen v.old).words s → FileComes s (walk_of s 1 (names_of path.now)) result }
+    ensures file { IfOk result (λ i. (held_of shape.now (V.seen v.old).words i.0).kind ≡ 2) }
+    ensures leaves { LeavesInUse (volume_layout shape.now (V.seen v.old).words) (V.seen v.old) (V.kept v.old) (V.seen v.new) (V.kept v.new) }
+    ensures words { (V.seen v.new).words ≡ (V.seen v.old).words }
+    ensures can { CanServe shape.now (V.seen v.new) (V.kept v.new) }
+    ensures goes { Goes (V.health v.old) (V.below v.old) (V.health v.new) (V.below v.new) }
+    ensures ends { EndsBy (V.health v.old) (V.health v.new) (Faulted result) (IsErrOf result FileFail.Stopped) }
+    ensures sound { V.sound v.new }
+{
+    let i = walk(v, shape, path)?;
+    let inode = inode_of(v, shape, i)?;
+    match inode.kind {
+        DIRECTORY => Err(FileFail::Refused(IS_A_DIRECTORY)),
+        REGION => Err(FileFail::Refused(IS_A_REGION)),
+        _ => Ok(i),
+    }
+}
+
+/// Writes bytes to a file from byte `off` on.
+pub fn write<V: Volume>(
+    alloc: Global,
+    v: &mut V,
+    shape: &VolumeShape,
+    path: &[u8],
+    off: u64,
+    bytes: &[u8],
+) -> Result<u64, FileFail>
+    requires sound { V.sound v.old }
+    requires can { CanServe shape.now (V.seen v.old) (V.kept v.old) }
+    requires path { IsPath path.now }
+    ensures leaves { (s : State) → ReadsAs shape.now (V.seen v.old).words s → FileEnds SaysCount shape.now (V.seen v.old) (V.kept v.old) (V.seen v.new) (V.kept v.new) s (write_of s path.now off bytes.now) (WriteDone s path.now off bytes.now (write_of s path.now off bytes.now)) result }
+    ensures goes { Goes (V.health v.old) (V.below v.old) (V.health v.new) (V.below v.new) }
+    ensures ends { EndsBy (V.health v.old) (V.health v.new) (Faulted result) (IsErrOf result FileFail.Stopped) }
+    ensures sound { V.sound v.new }
+{
+    let i = walk_to_file(v, shape, path)?;
+    let count = file_pages::write(alloc, v, shape, i, off, bytes)?;
+    Ok(count)
+}
+
+/// Gives a file another size.
+pub fn truncate<V: Volume>(
+    alloc: Global,
+    v: &mut V,
+    shape: &VolumeShape,
+    path: &[u8],
+    len: u64,
+) -> Result<(), FileFail>
+    requires sound { V.sound v.old }
+    requires can { CanServe shape.now (V.seen v.old) (V.kept v.old) }
+    requires path { IsPath path.now }
+    ensures leaves { (s : State) → ReadsAs shape.now (V.seen v.old).words s → FileEnds SaysDone shape.now (V.seen v.old) (V.kept v.old) (V.seen v.new) (V.kept v.new) s (truncate_of s path.now len) (NoneDone s) result }
+    ensures goes { Goes (V.health v.old) (V.below v.old) (V.health v.new) (V.below v.new) }
+    ensures ends { EndsBy (V.health v.old) (V.health v.new) (Faulted result) (IsErrOf result FileFail.Stopped) }
+    ensures sound { V.sound v.new }
+{
+    let i = walk_to_file(v, shape, path)?;
+    file_pages::resize(alloc, v, shape, i, len)?;
+    Ok(())
+}
+
+/// Bytes of a file from byte `off` on.
+pub fn read<V: Volume>(
+    alloc: Global,
+    v: &mut V,
+    shape: &VolumeShape,
+    path: &[u8],
+    off: u64,
+    len: u64,
+) -> Result<Octets, FileFail>
+    requires sound { V.sound v.old }
+    requires can { CanServe shape.now (V.seen v.old) (V.kept v.old) }
+    requires path { IsPath path.now }
+    ensures leaves { (s : State) → ReadsAs shape.now (V.seen v.old).words s → FileEnds SaysBytes shape.now (V.seen v.old) (V.kept v.old) (V.seen v.new) (V.kept v.new) s (read_of s path.now off len) (NoneDone s) result }
+    ensures goes { Goes (V.health v.old) (V.below v.old) (V.health v.new) (V.below v.new) }
+    ensures ends { EndsBy (V.health v.old) (V.health v.new) (Faulted result) (IsErrOf result FileFail.Stopped) }
+    ensures sound { V.sound v.new }
+{
+    let i = walk_to_file(v, shape, path)?;
+    let bytes = file_pages::read(alloc, v, shape, i, off, len)?;
+    Ok(bytes)
+}

@@ -1,0 +1,92 @@
+//! A name moved.
+
+ghost use Rattle.std.specs.Prelude.{◌≡◌, ◌<◌, ℕ, List, IsErrOf};
+ghost use Rattle.std.specs.FinMap.{get};
+ghost use Rattle.rio_base.specs.Blocks.{EndsBy};
+ghost use Rattle.rio_base.specs.Volume.{Goes};
+ghost use Rattle.rio_model.specs.Held.{held_of};
+ghost use Rattle.rio_model.specs.Paths.{IsName};
+ghost use Rattle.rio_model.specs.VolumeReads.{ReadsAs};
+ghost use Rattle.rio_model.specs.declared.state.State.{State};
+ghost use Rattle.file_store.specs.Answers.{rename as rename_of, rename_row as rename_row_of};
+ghost use Rattle.file_store.specs.Ends.{CanServe, FileEnds, IsPath, NoneDone, SaysDone};
+ghost use Rattle.file_store.specs.Failures.{Faulted};
+ghost use Rattle.file_store.specs.WalkRules.{OutOfReach};
+ghost use Rattle.file_store.specs.Walks.{IsRow, ino_numbers};
+
+use crate::failures::{FileFail, INSIDE_ITSELF, IS_ROOT};
+use crate::moving::{move_row, replace_row};
+use crate::paths::{cut_last, is_below, is_root};
+use crate::walking::{Row, walk, walk_to_dir, walk_to_row};
+use directories::find;
+use rio_base::{Ino, InoList, Volume, VolumeShape};
+use std::alloc::Global;
+
+/// Moves a row to a name of a directory: to a new one, or over the row that has it.
+fn rename_row<V: Volume>(
+    alloc: Global,
+    v: &mut V,
+    shape: &VolumeShape,
+    from: Row,
+    dir: Ino,
+    name: &[u8],
+    busy: &InoList,
+) -> Result<(), FileFail>
+    requires sound { V.sound v.old }
+    requires can { CanServe shape.now (V.seen v.old) (V.kept v.old) }
+    requires from { (a : List ℕ) × IsRow shape.now (V.seen v.old).words a from }
+    requires used { 0 < (held_of shape.now (V.seen v.old).words from.ino.0).kind }
+    requires dir { (held_of shape.now (V.seen v.old).words dir.0).kind ≡ 1 }
+    requires is_name { IsName name.now }
+    ensures leaves { (s : State) (a : List ℕ) → ReadsAs shape.now (V.seen v.old).words s → IsRow shape.now (V.seen v.old).words a from → OutOfReach s from.ino.0 dir.0 → FileEnds SaysDone shape.now (V.seen v.old) (V.kept v.old) (V.seen v.new) (V.kept v.new) s (rename_row_of s (ino_numbers busy.now) from.dir.0 a dir.0 name.now from.ino.0 (get s.names (dir.0, name.now))) (NoneDone s) result }
+    ensures goes { Goes (V.health v.old) (V.below v.old) (V.health v.new) (V.below v.new) }
+    ensures ends { EndsBy (V.health v.old) (V.health v.new) (Faulted result) (IsErrOf result FileFail.Stopped) }
+    ensures sound { V.sound v.new }
+{
+    let found = find(v, shape, dir, name)?;
+    match found {
+        None => move_row(alloc, v, shape, from, dir, name),
+        Some(row) => {
+            let to = Row {
+                dir,
+                slot: row.1,
+                ino: row.0,
+            };
+            replace_row(alloc, v, shape, from, to, name, busy)
+        }
+    }
+}
+
+/// Moves a name to another path. A file or region that has it is removed, and its blocks become free.
+pub fn rename<V: Volume>(
+    alloc: Global,
+    v: &mut V,
+    shape: &VolumeShape,
+    path: &[u8],
+    to: &[u8],
+    busy: &InoList,
+) -> Result<(), FileFail>
+    requires sound { V.sound v.old }
+    requires can { CanServe shape.now (V.seen v.old) (V.kept v.old) }
+    requires path { IsPath path.now }
+    requires to { IsPath to.now }
+    ensures leaves { (s : State) → ReadsAs shape.now (V.seen v.old).words s → FileEnds SaysDone shape.now (V.seen v.old) (V.kept v.old) (V.seen v.new) (V.kept v.new) s (rename_of s path.now to.now (ino_numbers busy.now)) (NoneDone s) result }
+    ensures goes { Goes (V.health v.old) (V.below v.old) (V.health v.new) (V.below v.new) }
+    ensures ends { EndsBy (V.health v.old) (V.health v.new) (Faulted result) (IsErrOf result FileFail.Stopped) }
+    ensures sound { V.sound v.new }
+{
+    walk(v, shape, path)?;
+    if is_root(to) {
+        return Err(FileFail::Refused(IS_ROOT));
+    }
+    let (front, name) = cut_last(to);
+    let dir = walk_to_dir(v, shape, front)?;
+    if is_root(path) {
+        return Err(FileFail::Refused(IS_ROOT));
+    }
+    if is_below(to, path) {
+        return Err(FileFail::Refused(INSIDE_ITSELF));
+    }
+    let from = walk_to_row(v, shape, path)?;
+    rename_row(alloc, v, shape, from, dir, name, busy)
+}

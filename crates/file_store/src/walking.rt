@@ -1,0 +1,184 @@
+//! What stands at a path.
+
+ghost use Rattle.std.specs.Prelude.{◌≡◌, ◌<◌, ℕ, [], ◌∷◌, length, IfOk, OnOk, IsErrOf};
+ghost use Rattle.rio_base.specs.Blocks.{EndsBy};
+ghost use Rattle.rio_base.specs.Volume.{Goes};
+ghost use Rattle.rio_model.specs.Answer.{last_of};
+ghost use Rattle.rio_model.specs.Held.{held_of};
+ghost use Rattle.rio_model.specs.Paths.{names_of, walk as walk_of, walk_to_dir as walk_to_dir_of};
+ghost use Rattle.rio_model.specs.Placed.{volume_layout};
+ghost use Rattle.rio_model.specs.VolumeReads.{ReadsAs};
+ghost use Rattle.rio_model.specs.VolumeReady.{LeavesInUse};
+ghost use Rattle.rio_model.specs.declared.state.State.{State};
+ghost use Rattle.inode_table.specs.Inodes.{IsInode};
+ghost use Rattle.directories.specs.Rows.{HasRow, IsEntry};
+ghost use Rattle.file_store.specs.Ends.{CanServe, IsPath};
+ghost use Rattle.file_store.specs.Failures.{Faulted, Refuses, Unrefused};
+ghost use Rattle.file_store.specs.Walks.{Comes, IsRow, RowComes};
+
+use crate::changes::DIRECTORY;
+use crate::failures::{FileFail, NOT_A_DIRECTORY, NOT_FOUND};
+use crate::paths::{cut_last, name_end};
+use directories::find;
+use inode_table::{Inode, read_inode};
+use rio_base::{Ino, Volume, VolumeShape};
+
+/// The root directory.
+const ROOT: Ino = Ino(1);
+
+/// The inode of a node.
+pub fn inode_of<V: Volume>(v: &mut V, shape: &VolumeShape, i: Ino) -> Result<Inode, FileFail>
+    requires sound { V.sound v.old }
+    requires can { CanServe shape.now (V.seen v.old) (V.kept v.old) }
+    requires used { 0 < (held_of shape.now (V.seen v.old).words i.0).kind }
+    ensures value { IfOk result (IsInode (V.seen v.old).words i.0) }
+    ensures other { Unrefused result }
+    ensures leaves { LeavesInUse (volume_layout shape.now (V.seen v.old).words) (V.seen v.old) (V.kept v.old) (V.seen v.new) (V.kept v.new) }
+    ensures words { (V.seen v.new).words ≡ (V.seen v.old).words }
+    ensures can { CanServe shape.now (V.seen v.new) (V.kept v.new) }
+    ensures goes { Goes (V.health v.old) (V.below v.old) (V.health v.new) (V.below v.new) }
+    ensures ends { EndsBy (V.health v.old) (V.health v.new) (Faulted result) (IsErrOf result FileFail.Stopped) }
+    ensures sound { V.sound v.new }
+{
+    let inode = read_inode(v, shape, i)?;
+    Ok(inode)
+}
+
+/// Refuses a node that is no directory.
+fn must_be_dir<V: Volume>(v: &mut V, shape: &VolumeShape, i: Ino) -> Result<(), FileFail>
+    requires sound { V.sound v.old }
+    requires can { CanServe shape.now (V.seen v.old) (V.kept v.old) }
+    requires used { 0 < (held_of shape.now (V.seen v.old).words i.0).kind }
+    ensures ok { OnOk result ((held_of shape.now (V.seen v.old).words i.0).kind ≡ 1) }
+    ensures refused { Refuses result 4 ((held_of shape.now (V.seen v.old).words i.0).kind ≡ 1 → ⊥) }
+    ensures leaves { LeavesInUse (volume_layout shape.now (V.seen v.old).words) (V.seen v.old) (V.kept v.old) (V.seen v.new) (V.kept v.new) }
+    ensures words { (V.seen v.new).words ≡ (V.seen v.old).words }
+    ensures can { CanServe shape.now (V.seen v.new) (V.kept v.new) }
+    ensures goes { Goes (V.health v.old) (V.below v.old) (V.health v.new) (V.below v.new) }
+    ensures ends { EndsBy (V.health v.old) (V.health v.new) (Faulted result) (IsErrOf result FileFail.Stopped) }
+    ensures sound { V.sound v.new }
+{
+    let inode = inode_of(v, shape, i)?;
+    if inode.kind != DIRECTORY {
+        return Err(FileFail::Refused(NOT_A_DIRECTORY));
+    }
+    Ok(())
+}
+
+/// What a name of a directory names, and the slot of its row.
+pub fn row_of<V: Volume>(
+    v: &mut V,
+    shape: &VolumeShape,
+    dir: Ino,
+    name: &[u8],
+) -> Result<(Ino, u32), FileFail>
+    requires sound { V.sound v.old }
+    requires can { CanServe shape.now (V.seen v.old) (V.kept v.old) }
+    requires dir { (held_of shape.now (V.seen v.old).words dir.0).kind ≡ 1 }
+    ensures row { IfOk result (λ row. IsEntry (held_of shape.now (V.seen v.old).words dir.0) row.1 name.now row.0.0) }
+    ensures refused { Refuses result 2 ((n : ℕ) → HasRow (held_of shape.now (V.seen v.old).words dir.0) name.now n → ⊥) }
+    ensures leaves { LeavesInUse (volume_layout shape.now (V.seen v.old).words) (V.seen v.old) (V.kept v.old) (V.seen v.new) (V.kept v.new) }
+    ensures words { (V.seen v.new).words ≡ (V.seen v.old).words }
+    ensures can { CanServe shape.now (V.seen v.new) (V.kept v.new) }
+    ensures goes { Goes (V.health v.old) (V.below v.old) (V.health v.new) (V.below v.new) }
+    ensures ends { EndsBy (V.health v.old) (V.health v.new) (Faulted result) (IsErrOf result FileFail.Stopped) }
+    ensures sound { V.sound v.new }
+{
+    match find(v, shape, dir, name)? {
+        Some(row) => Ok(row),
+        None => Err(FileFail::Refused(NOT_FOUND)),
+    }
+}
+
+/// The step from a node by a name.
+fn step<V: Volume>(v: &mut V, shape: &VolumeShape, dir: Ino, name: &[u8]) -> Result<Ino, FileFail>
+    requires sound { V.sound v.old }
+    requires can { CanServe shape.now (V.seen v.old) (V.kept v.old) }
+    requires used { 0 < (held_of shape.now (V.seen v.old).words dir.0).kind }
+    ensures value { (s : State) → ReadsAs shape.now (V.seen v.old).words s → Comes (walk_of s dir.0 (name.now ∷ [])) result }
+    ensures used { IfOk result (λ i. 0 < (held_of shape.now (V.seen v.old).words i.0).kind) }
+    ensures leaves { LeavesInUse (volume_layout shape.now (V.seen v.old).words) (V.seen v.old) (V.kept v.old) (V.seen v.new) (V.kept v.new) }
+    ensures words { (V.seen v.new).words ≡ (V.seen v.old).words }
+    ensures can { CanServe shape.now (V.seen v.new) (V.kept v.new) }
+    ensures goes { Goes (V.health v.old) (V.below v.old) (V.health v.new) (V.below v.new) }
+    ensures ends { EndsBy (V.health v.old) (V.health v.new) (Faulted result) (IsErrOf result FileFail.Stopped) }
+    ensures sound { V.sound v.new }
+{
+    must_be_dir(v, shape, dir)?;
+    let (i, _) = row_of(v, shape, dir, name)?;
+    Ok(i)
+}
+
+/// The node at a path. No bytes are the root's path too.
+pub fn walk<V: Volume>(v: &mut V, shape: &VolumeShape, path: &[u8]) -> Result<Ino, FileFail>
+    requires sound { V.sound v.old }
+    requires can { CanServe shape.now (V.seen v.old) (V.kept v.old) }
+    ensures value { (s : State) → ReadsAs shape.now (V.seen v.old).words s → Comes (walk_of s 1 (names_of path.now)) result }
+    ensures used { IfOk result (λ i. 0 < (held_of shape.now (V.seen v.old).words i.0).kind) }
+    ensures leaves { LeavesInUse (volume_layout shape.now (V.seen v.old).words) (V.seen v.old) (V.kept v.old) (V.seen v.new) (V.kept v.new) }
+    ensures words { (V.seen v.new).words ≡ (V.seen v.old).words }
+    ensures can { CanServe shape.now (V.seen v.new) (V.kept v.new) }
+    ensures goes { Goes (V.health v.old) (V.below v.old) (V.health v.new) (V.below v.new) }
+    ensures ends { EndsBy (V.health v.old) (V.health v.new) (Faulted result) (IsErrOf result FileFail.Stopped) }
+    ensures sound { V.sound v.new }
+{
+    let mut i = ROOT;
+    let mut at = 1;
+    while at < path.len() {
+        let end = name_end(path, at);
+        i = step(v, shape, i, &path[at..end])?;
+        at = end + 1;
+    }
+    Ok(i)
+}
+
+/// The directory at a path.
+pub fn walk_to_dir<V: Volume>(v: &mut V, shape: &VolumeShape, path: &[u8]) -> Result<Ino, FileFail>
+    requires sound { V.sound v.old }
+    requires can { CanServe shape.now (V.seen v.old) (V.kept v.old) }
+    ensures value { (s : State) → ReadsAs shape.now (V.seen v.old).words s → Comes (walk_to_dir_of s (names_of path.now)) result }
+    ensures dir { IfOk result (λ i. (held_of shape.now (V.seen v.old).words i.0).kind ≡ 1) }
+    ensures leaves { LeavesInUse (volume_layout shape.now (V.seen v.old).words) (V.seen v.old) (V.kept v.old) (V.seen v.new) (V.kept v.new) }
+    ensures words { (V.seen v.new).words ≡ (V.seen v.old).words }
+    ensures can { CanServe shape.now (V.seen v.new) (V.kept v.new) }
+    ensures goes { Goes (V.health v.old) (V.below v.old) (V.health v.new) (V.below v.new) }
+    ensures ends { EndsBy (V.health v.old) (V.health v.new) (Faulted result) (IsErrOf result FileFail.Stopped) }
+    ensures sound { V.sound v.new }
+{
+    let dir = walk(v, shape, path)?;
+    must_be_dir(v, shape, dir)?;
+    Ok(dir)
+}
+
+/// A row: its directory and slot, and the node that it names.
+#[derive(Clone, Copy, Debug)]
+pub struct Row {
+    /// The directory.
+    pub dir: Ino,
+    /// The slot of its entry there.
+    pub slot: u32,
+    /// The node that it names.
+    pub ino: Ino,
+}
+
+/// The row of the last name of a path, which has one name or more.
+pub fn walk_to_row<V: Volume>(v: &mut V, shape: &VolumeShape, path: &[u8]) -> Result<Row, FileFail>
+    requires sound { V.sound v.old }
+    requires can { CanServe shape.now (V.seen v.old) (V.kept v.old) }
+    requires path { IsPath path.now }
+    requires some { 0 < length (names_of path.now) }
+    ensures value { (s : State) → ReadsAs shape.now (V.seen v.old).words s → RowComes s (names_of path.now) result }
+    ensures row { IfOk result (IsRow shape.now (V.seen v.old).words (last_of (names_of path.now))) }
+    ensures used { IfOk result (λ row. 0 < (held_of shape.now (V.seen v.old).words row.ino.0).kind) }
+    ensures leaves { LeavesInUse (volume_layout shape.now (V.seen v.old).words) (V.seen v.old) (V.kept v.old) (V.seen v.new) (V.kept v.new) }
+    ensures words { (V.seen v.new).words ≡ (V.seen v.old).words }
+    ensures can { CanServe shape.now (V.seen v.new) (V.kept v.new) }
+    ensures goes { Goes (V.health v.old) (V.below v.old) (V.health v.new) (V.below v.new) }
+    ensures ends { EndsBy (V.health v.old) (V.health v.new) (Faulted result) (IsErrOf result FileFail.Stopped) }
+    ensures sound { V.sound v.new }
+{
+    let (front, name) = cut_last(path);
+    let dir = walk_to_dir(v, shape, front)?;
+    let (ino, slot) = row_of(v, shape, dir, name)?;
+    Ok(Row { dir, slot, ino })
+}
