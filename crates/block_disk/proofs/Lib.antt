@@ -1,3 +1,4 @@
 pub mod Failing
 pub mod Replacing
 pub mod Rows
+pub mod WordBlocks

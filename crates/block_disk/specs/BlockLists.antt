@@ -1,11 +1,16 @@
 -- Lists of blocks, and which of them are pending.
-use Rattle.std.specs.Prelude.{◌≡◌, ◌<◌, ◌++◌, ℕ, Bool, false, List, map, length, take, drop, Vec, if◌then◌else◌}
+use Rattle.std.specs.Prelude.{◌≡◌, ◌<◌, ◌*◌, ◌/◌, ◌++◌, ℕ, Bool, false, List, map, length, take, drop, Vec, if◌then◌else◌}
+use Rattle.std.specs.List.{range_with_len}
 use Rattle.std.specs.declared.alloc.Global.{Global}
 use Rattle.rio_base.specs.Disks.{block_at, is_pending}
 
 -- the words of each block
 abbrev pub rows : List (Vec ℕ Global) → List (List ℕ)
 rows all = map (λ v. v.items) all
+
+-- the blocks that words make, 512 each
+abbrev pub blocks_of : List ℕ → List (List ℕ)
+blocks_of words = map (λ b. take 512 (drop (512 * b) words)) (range_with_len 0 (length words / 512))
 
 -- each block has 512 words
 abbrev pub AreWhole : List (List ℕ) → Type 0

@@ -1,8 +1,8 @@
 -- The disk in memory: its blocks, which of its calls are to fail, and what a crash makes of it.
-use Rattle.std.specs.Prelude.{◌≡◌, ◌<◌, ℕ, ◌+◌, ◌*◌, ◌-◌, ◌==◌, ◌&&◌, nat_lt, if◌then◌else◌, Bool, true, false, List, [], ◌∷◌, length, replicate, slice_set, Some, None, ◌≤◌, Result, Ok, Err}
+use Rattle.std.specs.Prelude.{◌≡◌, ◌<◌, ℕ, ◌+◌, ◌*◌, ◌-◌, ◌/◌, ◌==◌, ◌&&◌, nat_lt, if◌then◌else◌, Bool, true, false, List, [], ◌∷◌, length, replicate, slice_set, Some, None, ◌≤◌, Result, Ok, Err}
 use Rattle.rio_base.specs.Disks.{DiskContents, block_at, is_pending, raised}
 use Rattle.std.proofs.Common.{arith, subst}
-use Rattle.block_disk.specs.BlockLists.{rows, torn_words}
+use Rattle.block_disk.specs.BlockLists.{blocks_of, rows, torn_words}
 use Rattle.block_disk.specs.declared.mem_disk.MemDisk.{MemDisk}
 use Rattle.block_disk.specs.declared.disk_choice.DiskChoice.{DiskChoice}
 use Rattle.block_disk.specs.declared.disk_choice.DiskChoice.TheVariants.{AsRead, AsSynced, Filled}
@@ -49,6 +49,10 @@ new_state blocks = record {
   failing_block = 0;
   failing_reads = 0;
 }
+
+-- a disk of these words, with nothing pending
+abbrev pub words_state : List ℕ → MemDiskState
+words_state words = record (new_state (length words / 512)) { blocks = blocks_of words; synced = blocks_of words }
 
 -- ---- which calls fail
 

@@ -2,7 +2,7 @@
 
 ghost use Rattle.std.specs.Prelude.{◌≡◌, ◌<◌, ℕ, false, IfOk, length, replicate, slice_set};
 ghost use Rattle.rio_base.specs.Disks.{block_at};
-ghost use Rattle.block_disk.specs.BlockLists.{AreWhole, Replaced, rows, torn_words};
+ghost use Rattle.block_disk.specs.BlockLists.{AreWhole, Replaced, blocks_of, rows, torn_words};
 
 use std::alloc::{AllocError, Global};
 
@@ -17,6 +17,19 @@ pub fn zero_blocks(alloc: Global, count: usize) -> Result<Vec<Vec<u64>>, AllocEr
     let mut all = Vec::new(alloc);
     for _ in 0..count {
         all.push(vec![in alloc; 0; BLOCK_WORDS]?)?;
+    }
+    Ok(all)
+}
+
+/// The blocks that these words make. Words of a last part of a block are left out.
+#[tactic(auto, using(crate::proofs::WordBlocks::one_more))]
+pub fn word_blocks(alloc: Global, words: &[u64]) -> Result<Vec<Vec<u64>>, AllocError>
+    ensures { IfOk result (λ all. rows all.items ≡ blocks_of words.now) }
+{
+    let mut all = Vec::new(alloc);
+    for b in 0..words.len() / BLOCK_WORDS {
+        let from = BLOCK_WORDS * b;
+        all.push(Vec::from_slice(alloc, &words[from..from + BLOCK_WORDS])?)?;
     }
     Ok(all)
 }

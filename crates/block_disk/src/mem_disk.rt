@@ -1,13 +1,14 @@
-//! A disk in memory, for tests.
+//! A disk in memory.
 
-ghost use Rattle.std.specs.Prelude.{◌≡◌, ◌<◌, ◌^◌, ◌||◌, ℕ, [], ◌∷◌, ◌++◌, false, true, IsOk, IfOk, OnOk, OnErr, length, replicate, slice_set};
+ghost use Rattle.std.specs.Prelude.{◌≡◌, ◌<◌, ◌^◌, ◌/◌, ◌||◌, ℕ, [], ◌∷◌, ◌++◌, false, true, IsOk, IfOk, OnOk, OnErr, length, replicate, slice_set};
 ghost use Rattle.rio_base.specs.Counts.{HasCause};
 ghost use Rattle.rio_base.specs.Disks.{HasFaultCause, block_at, raised};
 ghost use Rattle.rio_base.specs.FailingCalls.{FailsIf, is_due};
 ghost use Rattle.block_disk.specs.BlockLists.{AreSettled, AreWhole, rows, torn_words};
 
 use crate::block_lists::{
-    clear_marks, copy_block, copy_pending, fill_pending, put_block, tear_block, zero_blocks,
+    BLOCK_WORDS, clear_marks, copy_block, copy_pending, fill_pending, put_block, tear_block,
+    word_blocks, zero_blocks,
 };
 use crate::disk_choice::DiskChoice;
 use rio_base::{Block, DiskBlocks, Failed};
@@ -35,7 +36,7 @@ pub struct MemDisk {
 }
 
 impl MemDisk {
-    ghost use Rattle.block_disk.specs.MemDisks.{state_of, contents_of, new_state, counted, is_read_due, reads_left, with_block, Crashed};
+    ghost use Rattle.block_disk.specs.MemDisks.{state_of, contents_of, new_state, words_state, counted, is_read_due, reads_left, with_block, Crashed};
 
     /// A disk of `blocks` blocks of zeros. Nothing is pending, and no call is to fail.
     pub fn new(alloc: Global, blocks: u32) -> Result<MemDisk, AllocError>
@@ -56,6 +57,36 @@ impl MemDisk {
             failing_block: Block(0),
             failing_reads: 0,
         })
+    }
+
+    /// A disk of these words, 512 in each block. Words of a last part of a block are left out. Nothing is pending, and no
+    /// call is to fail. The error means that there was no room for the blocks.
+    #[tactic(auto, using(crate::proofs::WordBlocks::blocks_many, crate::proofs::WordBlocks::blocks_whole))]
+    pub fn from_words(alloc: Global, words: &[u64]) -> Result<MemDisk, AllocError>
+        requires few { length words.now / 512 < 2 ^ 32 }
+        ensures { IfOk result (λ d. state_of d ≡ words_state words.now) }
+    {
+        let pending = vec![in alloc; false; words.len() / BLOCK_WORDS]?;
+        let synced = word_blocks(alloc, words)?;
+        let blocks = word_blocks(alloc, words)?;
+        Ok(MemDisk {
+            blocks,
+            synced,
+            pending,
+            calls: 0,
+            faults: 0,
+            writes: 0,
+            failing: Vec::new(alloc),
+            failing_block: Block(0),
+            failing_reads: 0,
+        })
+    }
+
+    /// How many blocks were written, up to the largest `u64`.
+    pub fn writes(&self) -> u64
+        ensures { result ≡ (state_of self.now).writes }
+    {
+        self.writes
     }
 
     /// The `n`th call of [`DiskBlocks::read`], [`DiskBlocks::write`] and [`DiskBlocks::sync`] from now fails, `n` from

@@ -1,10 +1,11 @@
 //! What no clause says of the disk in memory: that its calls succeed.
 
-ghost use Rattle.std.specs.Prelude.{◌≡◌, ◌<◌, length};
+ghost use Rattle.std.specs.Prelude.{◌≡◌, ◌<◌, IfOk, length};
 ghost use Rattle.block_disk.specs.MemDisks.{state_of};
 
 use crate::{DiskChoice, MemDisk};
 use rio_base::{Block, DiskBlocks, Failed};
+use std::alloc::{AllocError, Global};
 use std::test::Fail;
 
 /// The last word of a block, which is read into `into`.
@@ -26,6 +27,37 @@ fn a_new_disk_reads_as_zeros(rt: HostRuntime) -> Result<(), Fail> {
     assert_eq!(rt; last_word(&mut disk, Block(1), &mut into), Ok(0));
     let none = MemDisk::new(rt.alloc(), 0)?;
     assert_eq!(rt; none.count(), 0);
+    Ok(())
+}
+
+/// Words that are their own places: two blocks, and a part of a third.
+fn counted(alloc: Global) -> Result<Vec<u64>, AllocError>
+    ensures { IfOk result (λ words. length words.items ≡ 1030) }
+{
+    let mut words = vec![in alloc; 0; 1030]?;
+    for (at, word) in words.iter_mut().enumerate() {
+        *word = at as u64;
+    }
+    Ok(words)
+}
+
+/// A disk of them.
+#[tactic(auto, using(crate::proofs::WordBlocks::blocks_many))]
+fn counted_disk(alloc: Global) -> Result<MemDisk, AllocError>
+    ensures { IfOk result (λ d. length (state_of d).blocks ≡ 2) }
+{
+    let words = counted(alloc)?;
+    MemDisk::from_words(alloc, &words)
+}
+
+#[test]
+fn a_disk_of_words_reads_as_they_stand(rt: HostRuntime) -> Result<(), Fail> {
+    let mut disk = counted_disk(rt.alloc())?;
+    let mut into = vec![in rt.alloc(); 7; 512]?;
+    assert_eq!(rt; disk.count(), 2);
+    assert_eq!(rt; last_word(&mut disk, Block(1), &mut into), Ok(1023));
+    assert_eq!(rt; into[0], 512);
+    assert_eq!(rt; last_word(&mut disk, Block(0), &mut into), Ok(511));
     Ok(())
 }
 

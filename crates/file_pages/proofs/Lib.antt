@@ -3,6 +3,7 @@ pub mod Changed
 pub mod Dropped
 pub mod Ends
 pub mod FileBytes
+pub mod Forgotten
 pub mod Freed
 pub mod Given
 pub mod Grown

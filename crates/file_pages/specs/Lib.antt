@@ -2,6 +2,7 @@ pub mod Changes
 pub mod Extending
 pub mod Failures
 pub mod Files
+pub mod Forgetting
 pub mod Growing
 pub mod LookingUp
 pub mod LookingUpRules

@@ -1,10 +1,11 @@
 //! Blocks that a node has lost, dropped from the cache.
 
-ghost use Rattle.std.specs.Prelude.{◌≡◌, ◌<◌, ℕ, false, length, slice_index};
+ghost use Rattle.std.specs.Prelude.{◌≡◌, ◌<◌, ℕ, false, length, slice_index, OnOk};
 ghost use Rattle.std.specs.List.{Contains};
 ghost use Rattle.rio_base.specs.Blocks.{Halts};
 ghost use Rattle.rio_base.specs.Volume.{Goes};
 ghost use Rattle.block_alloc.specs.Bitmap.{numbers};
+ghost use Rattle.file_pages.specs.Forgetting.{Uncached};
 ghost use Rattle.file_pages.specs.Staging.{Beside};
 
 use rio_base::{Block, Stopped, Volume};
@@ -14,6 +15,7 @@ pub fn forget_all<V: Volume>(v: &mut V, blocks: &[Block]) -> Result<(), Stopped>
     requires sound { V.sound v.old }
     requires places { (t : ℕ) → t < length blocks.now → slice_index (numbers blocks.now) t < (V.seen v.old).count }
     requires idle { (V.kept v.old).updating ≡ false }
+    ensures forgotten { OnOk result (Uncached (Contains (numbers blocks.now)) (V.seen v.new)) }
     ensures beside { Beside (Contains (numbers blocks.now)) (V.seen v.old) (V.kept v.old) (V.seen v.new) (V.kept v.new) }
     ensures idle { (V.kept v.new).updating ≡ false }
     ensures goes { Goes (V.health v.old) (V.below v.old) (V.health v.new) (V.below v.new) }

@@ -13,6 +13,7 @@ ghost use Rattle.rio_model.specs.Sizes.{largest_size};
 ghost use Rattle.inode_table.specs.Inodes.{IsInode};
 ghost use Rattle.file_pages.specs.Changes.{wanted_blocks};
 ghost use Rattle.file_pages.specs.Files.{HasSpace, ResizeStops, SetsBoth, StopsAs, file_bytes};
+ghost use Rattle.file_pages.specs.Forgetting.{Forgets};
 ghost use Rattle.file_pages.specs.Preparing.{SizeLeaves};
 ghost use Rattle.file_pages.specs.Failures.{Unrefused};
 
@@ -45,6 +46,7 @@ fn shrink<V: Volume>(
     requires file { inode.now.kind ≡ 2 }
     requires less { len ≤ inode.now.size }
     ensures leaves { SizeLeaves shape.now (V.seen v.old) (V.kept v.old) (V.seen v.new) (V.kept v.new) i.0 len result }
+    ensures forgets { OnOk result (Forgets (volume_layout shape.now (V.seen v.old).words) (volume_layout shape.now (V.seen v.new).words) (V.seen v.new)) }
     ensures goes { Goes (V.health v.old) (V.below v.old) (V.health v.new) (V.below v.new) }
     ensures other { Unrefused result }
     ensures ends { EndsBy (V.health v.old) (V.health v.new) (IsErrOf result SizeFail.Fault) (IsErrOf result SizeFail.Stopped) }
@@ -78,6 +80,7 @@ fn grow<V: Volume>(
     ensures room { OnOk result (HasSpace shape.now (V.seen v.old).words inode.now.size len) }
     ensures no_space { IsErrOf result SizeFail.NoSpace → length (free_blocks shape.now (V.seen v.old).words) < wanted_blocks inode.now.size len }
     ensures small { IsErrOf result SizeFail.TooLarge → ⊥ }
+    ensures forgets { OnOk result (Forgets (volume_layout shape.now (V.seen v.old).words) (volume_layout shape.now (V.seen v.new).words) (V.seen v.new)) }
     ensures goes { Goes (V.health v.old) (V.below v.old) (V.health v.new) (V.below v.new) }
     ensures ends { EndsBy (V.health v.old) (V.health v.new) (IsErrOf result SizeFail.Fault) (IsErrOf result SizeFail.Stopped) }
     ensures sound { V.sound v.new }
@@ -108,6 +111,7 @@ fn change_size<V: Volume>(
     ensures room { OnOk result (HasSpace shape.now (V.seen v.old).words (placed_at (V.seen v.old).words i.0).size len) }
     ensures no_space { IsErrOf result SizeFail.NoSpace → (len ≤ largest_size) × (length (free_blocks shape.now (V.seen v.old).words) < wanted_blocks (placed_at (V.seen v.old).words i.0).size len) }
     ensures large { IsErrOf result SizeFail.TooLarge → largest_size < len }
+    ensures forgets { OnOk result (Forgets (volume_layout shape.now (V.seen v.old).words) (volume_layout shape.now (V.seen v.new).words) (V.seen v.new)) }
     ensures goes { Goes (V.health v.old) (V.below v.old) (V.health v.new) (V.below v.new) }
     ensures ends { EndsBy (V.health v.old) (V.health v.new) (IsErrOf result SizeFail.Fault) (IsErrOf result SizeFail.Stopped) }
     ensures sound { V.sound v.new }
@@ -146,6 +150,7 @@ pub fn resize<V: Volume>(
     ensures fault { IsErrOf result SizeFail.Fault → SetsBoth shape.now (V.seen v.old).words (V.seen v.new) (V.kept v.new) i.0 (file_bytes shape.now (V.seen v.old).words i.0) }
     ensures stopped { IsErrOf result SizeFail.Stopped → StopsAs shape.now (V.seen v.old).words (V.seen v.new) (V.kept v.new) i.0 (ResizeStops shape.now (V.seen v.old).words i.0 len) }
     ensures ready { IsErrOf result SizeFail.Stopped ⊎ Ready shape.now (V.seen v.new) (V.kept v.new) }
+    ensures forgets { OnOk result (Forgets (volume_layout shape.now (V.seen v.old).words) (volume_layout shape.now (V.seen v.new).words) (V.seen v.new)) }
     ensures goes { Goes (V.health v.old) (V.below v.old) (V.health v.new) (V.below v.new) }
     ensures ends { EndsBy (V.health v.old) (V.health v.new) (IsErrOf result SizeFail.Fault) (IsErrOf result SizeFail.Stopped) }
     ensures sound { V.sound v.new }

@@ -29,8 +29,9 @@ use Rattle.file_pages.specs.declared.failures.SizeFail.TheVariants.{NoSpace as S
 use Rattle.file_pages.specs.declared.failures.WriteFail.{WriteFail}
 use Rattle.file_pages.specs.declared.failures.WriteFail.TheVariants.{NoSpace as WriteNoSpace, TooLarge as WriteTooLarge, Fault as WriteFault, Stopped as WriteStopped, Memory as WriteMemory}
 use Rattle.directories.specs.Rows.{ListsNames}
-use Rattle.file_store.specs.Answers.{list, read, read_in, truncate, truncate_in, write, write_in}
-use Rattle.file_store.specs.Ends.{FileEnds, Left, NoneDone, SaysCount, SaysDone, WriteDone}
+use Rattle.rio_model.specs.Answers.{list, read, read_in, truncate, truncate_in, write, write_in}
+use Rattle.rio_model.specs.Parts.{NoneDone, WriteDone}
+use Rattle.file_store.specs.Ends.{FileEnds, Left, SaysCount, SaysDone}
 use Rattle.file_store.specs.declared.failures.FileFail.{FileFail}
 use Rattle.file_store.specs.declared.failures.FileFail.TheVariants.{Refused, Fault, Stopped, Memory}
 use Rattle.file_store.specs.Failures.{Unrefused, fail_of_read, fail_of_size, fail_of_write}

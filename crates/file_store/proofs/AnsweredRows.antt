@@ -17,7 +17,7 @@ use Rattle.rio_model.specs.VolumeReads.{ReadsAs}
 use Rattle.inode_table.specs.Inodes.{IsInode}
 use Rattle.inode_table.specs.declared.inode.Inode.{Inode}
 use Rattle.directories.specs.Rows.{Finds, HasRow}
-use Rattle.file_store.specs.Answers.{at_row, found, is_empty, is_open, make, make_new, make_row, rmdir_at, rmdir_node, unlink_at, unlink_node, without}
+use Rattle.rio_model.specs.Answers.{at_row, found, is_empty, is_open, make, make_new, make_row, rmdir_at, rmdir_node, unlink_at, unlink_node, without}
 use Rattle.file_store.specs.RowReads.{finds_some}
 use Rattle.file_store.specs.Walks.{Comes, RowComes}
 use Rattle.file_store.specs.declared.failures.FileFail.{FileFail}

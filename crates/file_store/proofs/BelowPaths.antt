@@ -8,10 +8,9 @@ use Rattle.std.proofs.lemmas.List.{drop_more, length-append, take-append-drop}
 use Rattle.std.proofs.lemmas.Slice.Eq.{bytes_eq-Decides}
 use Rattle.rio_base.specs.Pieces.{pieces}
 use Rattle.rio_base.specs.Rules.{true_false}
-use Rattle.rio_model.specs.Paths.{IsName, names_of}
+use Rattle.rio_model.specs.Paths.{IsName, IsPath, names_of, slashed}
 use Rattle.rio_model.proofs.PathPieces.{pieces_first}
-use Rattle.file_store.specs.Answers.{is_below}
-use Rattle.file_store.specs.Ends.{IsPath, slashed}
+use Rattle.rio_model.specs.Answers.{is_below}
 use Rattle.file_store.proofs.PathNames.{All_first, All_rest, is_slashed, lacks_name, named_all, slashed_append}
 
 -- ---- names that go on

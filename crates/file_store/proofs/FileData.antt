@@ -26,8 +26,9 @@ use Rattle.rio_model.proofs.NodeOrder.{same_nodes}
 use Rattle.rio_model.proofs.StateSteps.{file_set, get_here, get_there}
 use Rattle.file_pages.specs.Changes.{wanted_blocks}
 use Rattle.file_pages.specs.Files.{HasSpace, SetsBoth, file_bytes}
-use Rattle.file_store.specs.Answers.{truncate_in, wanted, with_room, with_size}
-use Rattle.file_store.specs.Ends.{FileEnds, Left, NoneDone, SaysDone, Stands}
+use Rattle.rio_model.specs.Answers.{truncate_in, wanted, with_room, with_size}
+use Rattle.rio_model.specs.Parts.{NoneDone}
+use Rattle.file_store.specs.Ends.{FileEnds, Left, SaysDone, Stands}
 
 -- file i of a state
 pub file_read : (shape : VolumeShape) (f : BlockWords) (s : State) (i : ℕ) → ReadsAs shape f s → (held_of shape f i).kind ≡ 2 → get s.nodes i ≡ Some (File (file_bytes shape f i))

@@ -23,8 +23,9 @@ use Rattle.rio_model.specs.VolumeReady.{LeavesInUse, Ready}
 use Rattle.file_pages.specs.Changes.{wanted_blocks}
 use Rattle.file_pages.specs.Files.{FaultsAfter, HasSpaceFor, ResizeStops, SetsBoth, StopsAs, file_bytes}
 use Rattle.file_pages.specs.Writing.{WriteStops}
-use Rattle.file_store.specs.Answers.{truncate_in, with_size, write_file, write_in}
-use Rattle.file_store.specs.Ends.{FileEnds, Left, NoneDone, PartOf, SaysCount, SaysDone, WriteDone}
+use Rattle.rio_model.specs.Answers.{truncate_in, with_size, write_file, write_in}
+use Rattle.rio_model.specs.Parts.{NoneDone, PartOf, WriteDone}
+use Rattle.file_store.specs.Ends.{FileEnds, Left, SaysCount, SaysDone}
 use Rattle.file_store.specs.declared.failures.FileFail.TheVariants.{Refused, Fault, Stopped}
 use Rattle.file_store.proofs.FileData.{file_read, left_set, no_space, room_true, stands_set, too_large, truncated, with_same}
 

@@ -47,7 +47,7 @@ in_head : (x b : ℕ) (xs : List ℕ) → Contains (x ∷ xs) b → (x ≡ b) �
 in_head x b xs (zero, few, at) = inl at
 in_head x b xs (suc t, few, at) = inr (t, omega (arith, few), at)
 
-decided : (xs : List ℕ) (b : ℕ) → Contains xs b ⊎ (Contains xs b → ⊥)
+pub decided : (xs : List ℕ) (b : ℕ) → Contains xs b ⊎ (Contains xs b → ⊥)
 decided [] b = inr (λ on. (let few = on.1 in omega (arith, few)))
 decided (x ∷ xs) b = by (cases_eq x b) (decided xs b)
   where

@@ -8,6 +8,7 @@ pub mod Ended
 pub mod FileData
 pub mod FileEnded
 pub mod Fitting
+pub mod Forgotten
 pub mod FreeFound
 pub mod FreshStore
 pub mod LookedAt

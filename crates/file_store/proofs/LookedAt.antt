@@ -22,7 +22,7 @@ use Rattle.file_pages.specs.OrderRules.{leaves_looked}
 use Rattle.inode_table.specs.declared.inode.Inode.{Inode}
 use Rattle.inode_table.specs.Inodes.{IsInode}
 use Rattle.directories.specs.Rows.{HasRow, IsEntry}
-use Rattle.file_store.specs.Answers.{found}
+use Rattle.rio_model.specs.Answers.{found}
 use Rattle.file_store.specs.declared.failures.FileFail.{FileFail}
 use Rattle.file_store.specs.declared.failures.FileFail.TheVariants.{Refused, Fault, Stopped, Memory}
 use Rattle.file_store.specs.Failures.{Refuses, Unrefused}

@@ -1,11 +1,12 @@
 -- A node and its row, made in one update: that the changes can be made, and the state that they come to.
-use Rattle.std.proofs.Common.{◌≡◌, ℕ, ◌⊎◌, List, [], ◌∷◌, refl}
+use Rattle.std.proofs.Common.{◌≡◌, ℕ, ◌+◌, ◌<◌, ◌⊎◌, List, [], ◌∷◌, refl, sym, ap, subst, ◌∙◌, arith, inl, inr}
+use Rattle.std.specs.Prelude.{Result, Err, IsErrOf, Some, length}
 use Rattle.rio_base.specs.declared.places.VolumeShape.{VolumeShape}
-use Rattle.rio_base.specs.Blocks.{Seen}
+use Rattle.rio_base.specs.Blocks.{BlockWords, Seen}
 use Rattle.rio_base.specs.Layout.{IsIno}
 use Rattle.rio_base.specs.Volume.{Kept, Settled}
 use Rattle.rio_model.specs.declared.state.State.{State}
-use Rattle.rio_model.specs.Answer.{with_new}
+use Rattle.rio_model.specs.Answer.{answered, with_new}
 use Rattle.rio_model.specs.Held.{held_of}
 use Rattle.rio_model.specs.Paths.{IsName}
 use Rattle.rio_model.specs.Placed.{volume_layout}
@@ -16,12 +17,19 @@ use Rattle.directories.specs.Plans.{PlansDir}
 use Rattle.directories.specs.RowChanges.{AddsRow}
 use Rattle.directories.specs.Rows.{HasRow}
 use Rattle.directories.specs.declared.changes.DirChange.{DirChange}
-use Rattle.file_store.specs.Answers.{empty_node}
+use Rattle.rio_model.specs.Answers.{empty_node, make_new, new_blocks, row_wanted, with_room}
+use Rattle.rio_model.specs.declared.reply.Reply.TheVariants.{Number}
+use Rattle.rio_base.specs.Bitmap.{free_blocks}
+use Rattle.file_pages.specs.Changes.{wanted_blocks}
+use Rattle.file_pages.specs.declared.failures.SizeFail.{SizeFail}
+use Rattle.file_pages.specs.declared.failures.SizeFail.TheVariants.{NoSpace, TooLarge}
+use Rattle.file_store.specs.Failures.{fail_of_size}
+use Rattle.file_store.proofs.AnsweredAt.{FailsBy}
 use Rattle.file_store.specs.Changes.{IsMade, of_dir}
 use Rattle.file_store.specs.declared.changes.NodeChange.{NodeChange}
 use Rattle.file_store.proofs.LookedAt.{no_row}
 use Rattle.file_store.proofs.Reached.{reaches_made}
-use Rattle.file_store.proofs.Requested.{ReachesAll, Requested, dir_ino, dir_may, made_may}
+use Rattle.file_store.proofs.Requested.{ReachesAll, Requested, dir_ino, dir_may, fails_add, made_may}
 use Rattle.file_store.proofs.Stood.{Stood, stood_now}
 
 -- row c of directory d and node m of inode i, prepared
@@ -53,3 +61,19 @@ new_requested shape x k y j d name i kind c m settled h =
 pub new_reaches : (shape : VolumeShape) (x : Seen) (k : Kept) (y : Seen) (j : Kept) (z : Seen) (d : ℕ) (name : List ℕ) (i kind : ℕ) (c : DirChange) (m : NodeChange) (s : State) → NewRow shape x k y j d name i kind c m → ReadsAs shape x.words s → ReachesAll shape x k y j z (of_dir c ∷ m ∷ []) (with_new s d name i (empty_node kind))
 new_reaches shape x k y j z d name i kind c m s h reads p g applied =
     reaches_made shape x k y j z s d name i kind c m g p reads (new_stood shape x k y j d name i kind c m h) h.made (dir_ino shape x.words d h.dir) h.ino h.dir h.free h.which h.is_name (no_row shape x.words s d name reads h.absent) applied
+
+-- ---- the blocks that it needs
+
+no_blocks : (kind : ℕ) → (kind ≡ 1) ⊎ (kind ≡ 2) → new_blocks (empty_node kind) ≡ 0
+no_blocks kind (inl is) = ap (λ k. new_blocks (empty_node k)) is
+no_blocks kind (inr is) = ap (λ k. new_blocks (empty_node k)) is
+
+-- an empty node takes none: those of the row are all
+pub new_needs : (s : State) (d : ℕ) (name : List ℕ) (i kind : ℕ) → (kind ≡ 1) ⊎ (kind ≡ 2) → make_new s d name (empty_node kind) (Some i) ≡ with_room s (row_wanted s d) (answered (with_new s d name i (empty_node kind)) (Number i))
+new_needs s d name i kind which = ap (λ n. with_room s n (answered (with_new s d name i (empty_node kind)) (Number i))) (ap (λ n. n + row_wanted s d) (no_blocks kind which) ∙ none)
+  where
+    none : 0 + row_wanted s d ≡ row_wanted s d
+    none = omega arith
+
+pub fails_new : {T : Type 0} (shape : VolumeShape) (f : BlockWords) (s : State) (d : ℕ) (name : List ℕ) (i kind : ℕ) (r : Result T SizeFail) (e : SizeFail) → (kind ≡ 1) ⊎ (kind ≡ 2) → r ≡ Err e → ReadsAs shape f s → (held_of shape f d).kind ≡ 1 → (IsErrOf r NoSpace → length (free_blocks shape f) < wanted_blocks (held_of shape f d).size ((held_of shape f d).size + 64)) → (IsErrOf r TooLarge → ⊥) → FailsBy s (make_new s d name (empty_node kind) (Some i)) (fail_of_size e)
+fails_new shape f s d name i kind r e which re reads dir few large = subst (λ a. FailsBy s a (fail_of_size e)) (sym (new_needs s d name i kind which)) (fails_add shape f s d (answered (with_new s d name i (empty_node kind)) (Number i)) r e re reads dir few large)

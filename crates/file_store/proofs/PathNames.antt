@@ -10,10 +10,9 @@ use Rattle.std.proofs.lemmas.List.Elements.{All-take}
 use Rattle.memchr.specs.Find.{IsFirstByte, IsLastByte, is_byte}
 use Rattle.rio_base.specs.Pieces.{Lacks, pieces}
 use Rattle.rio_model.specs.Answer.{front_of, last_of}
-use Rattle.rio_model.specs.Paths.{IsName, names_of}
+use Rattle.rio_model.specs.Paths.{AreNames, IsName, IsPath, names_of, slashed}
 use Rattle.rio_model.specs.WordRules.{differs}
 use Rattle.rio_model.proofs.PathPieces.{pieces_first, pieces_whole}
-use Rattle.file_store.specs.Ends.{IsPath, slashed}
 use Rattle.file_store.specs.WalkRules.{split_last}
 
 -- ---- bytes without a slash
@@ -74,11 +73,8 @@ pub names_slashed : (names : List (List ℕ)) → All IsName names → names_of 
 names_slashed [] all = refl
 names_slashed (n ∷ names) all = pieces_slashed n names (All_first n names all) (All_rest n names all)
 
-pub names_are : (path : List ℕ) (p : IsPath path) → names_of path ≡ p.names
-names_are path p = elim p.is [
-  | inl root ↦ ap names_of root.1 ∙ sym root.0
-  | inr some ↦ ap names_of some.1 ∙ names_slashed p.names p.named
-]
+names_are : (path : List ℕ) (names : List (List ℕ)) → AreNames path names → names_of path ≡ names
+names_are path names are = ap names_of are.is ∙ names_slashed names are.each
 
 slashed_long : (names : List (List ℕ)) → All IsName names → 0 < length names → 1 < length (slashed names)
 slashed_long [] all some = absurd (omega (arith, some))
@@ -90,27 +86,22 @@ slashed_long (n ∷ names) all some =
 -- ---- the root
 
 pub root_short : (path : List ℕ) → IsPath path → length path ≤ 1 → names_of path ≡ []
-root_short path p short = elim p.is [
-  | inl root ↦ ap names_of root.1
-  | inr some ↦ absurd (let long = slashed_long p.names p.named some.0 in let same : length path ≡ length (slashed p.names) = ap length some.1 in omega (arith, long, same, short))
-]
+root_short path (inl root) short = ap names_of root
+root_short path (inr (names, are, some, few)) short = absurd (let long = slashed_long names are.each some in let same : length path ≡ length (slashed names) = ap length are.is in omega (arith, long, same, short))
 
 pub root_long : (path : List ℕ) → IsPath path → 1 < length path → 0 < length (names_of path)
-root_long path p long = elim p.is [
-  | inl root ↦ absurd (let same : length path ≡ 1 = ap length root.1 in omega (arith, same, long))
-  | inr some ↦ subst (λ ns. 0 < length ns) (sym (names_are path p)) some.0
-]
+root_long path (inl root) long = absurd (let same : length path ≡ 1 = ap length root in omega (arith, same, long))
+root_long path (inr (names, are, some, few)) long = subst (λ ns. 0 < length ns) (sym (names_are path names are)) some
 
 -- ---- the last slash
 
 pub is_slashed : (path : List ℕ) → IsPath path → 0 < length (names_of path) → path ≡ slashed (names_of path)
-is_slashed path p some = elim p.is [
-  | inl root ↦ absurd (let none : length (names_of path) ≡ 0 = ap (λ xs. length (names_of xs)) root.1 in omega (arith, none, some))
-  | inr more ↦ more.1 ∙ sym (ap slashed (names_are path p))
-]
+is_slashed path (inl root) some = absurd (let none : length (names_of path) ≡ 0 = ap (λ xs. length (names_of xs)) root in omega (arith, none, some))
+is_slashed path (inr (names, are, more, few)) some = are.is ∙ sym (ap slashed (names_are path names are))
 
 pub named_all : (path : List ℕ) → IsPath path → All IsName (names_of path)
-named_all path p = subst (All IsName) (sym (names_are path p)) p.named
+named_all path (inl root) = subst (All IsName) (sym (ap names_of root)) (λ k d within. absurd (omega (arith, within)))
+named_all path (inr (names, are, some, few)) = subst (All IsName) (sym (names_are path names are)) are.each
 
 pub slashed_append : (a b : List (List ℕ)) → slashed (a ++ b) ≡ slashed a ++ slashed b
 slashed_append [] b = refl

@@ -30,7 +30,7 @@ use Rattle.directories.specs.Plans.{PlansDir}
 use Rattle.directories.specs.RowChanges.{AddsRow, RemovesRow, ReplacesRow, SetsRow}
 use Rattle.directories.specs.Rows.{IsEntry}
 use Rattle.directories.specs.declared.changes.DirChange.{DirChange}
-use Rattle.file_store.specs.Answers.{empty_node, moved, without}
+use Rattle.rio_model.specs.Answers.{empty_node, moved, without}
 use Rattle.file_store.specs.Changes.{AllApplied, IsGone, IsMade, IsTouchedBy, node_update, of_dir}
 use Rattle.file_store.specs.Committing.{Touched}
 use Rattle.file_store.specs.EmptyHeld.{empty_held}
@@ -215,6 +215,16 @@ reaches_gone shape x k y j z s d slot name i blocks c m g p reads plan gone is d
         by (inr off) (inr off_i) = inl (others n off off_i)
 
 -- ---- a row of another name in its slot
+
+-- names of cached pages are right once it is made, whatever the names come to
+pub order_renamed : (shape : VolumeShape) (x : Seen) (k : Kept) (y : Seen) (j : Kept) (z : Seen) (d slot : ℕ) (b : List ℕ) (i : ℕ) (c : DirChange) (g : BlockWords) → Prepared shape x k y j z (of_dir c ∷ []) → Stood shape x y j d (SetsRow slot b i) c → AllApplied shape (map node_update (of_dir c ∷ [])) y.words g → InOrder shape g z j
+order_renamed shape x k y j z d slot b i c g p plan (h, a1, e) = subst (λ f. InOrder shape f z j) (sym e) first.0.order
+  where
+    changes : List NodeChange
+    changes = of_dir c ∷ []
+
+    first : Steps shape y.words h d z j × SetsRow slot b i (held_of shape x.words d) (held_of shape h d)
+    first = stood_step shape x y j d (SetsRow slot b i) c (IsTouchedBy changes) z y.words h plan (unnamed_touch changes) p.touched.caches (order_now shape x k y j z changes p) (held_now shape x k y j z changes p d) plan.may a1
 
 pub reaches_renamed : (shape : VolumeShape) (x : Seen) (k : Kept) (y : Seen) (j : Kept) (z : Seen) (s : State) (d slot : ℕ) (a b : List ℕ) (i : ℕ) (c : DirChange) (g : BlockWords) → Prepared shape x k y j z (of_dir c ∷ []) → ReadsAs shape x.words s → Stood shape x y j d (SetsRow slot b i) c → (held_of shape x.words d).kind ≡ 1 → IsEntry (held_of shape x.words d) slot a i → IsName b → get s.names (d, b) ≡ None → TreeRule (moved s d a d b i) → AllApplied shape (map node_update (of_dir c ∷ [])) y.words g → Reaches shape x.words z j (of_dir c ∷ []) g (moved s d a d b i)
 reaches_renamed shape x k y j z s d slot a b i c g p reads plan dir entry named absent tree (h, a1, e) =

@@ -26,7 +26,7 @@ use Rattle.directories.specs.Plans.{dir_update}
 use Rattle.directories.specs.RowChanges.{AddsRow, RemovesRow, ReplacesRow, SetsRow}
 use Rattle.directories.specs.Rows.{IsEntry}
 use Rattle.directories.specs.declared.changes.DirChange.{DirChange}
-use Rattle.file_store.specs.Answers.{moved, replaced}
+use Rattle.rio_model.specs.Answers.{moved, replaced}
 use Rattle.file_store.specs.Changes.{AllApplied, IsGone, IsTouchedBy, node_update, of_dir}
 use Rattle.file_store.specs.EmptyHeld.{empty_held}
 use Rattle.file_store.specs.ReadSteps.{MovesRow, ReplacesAcross, ReplacesWithin, moved_as, replaced_across_as, replaced_within_as}
@@ -73,6 +73,23 @@ stays_beside h g d e dir_d dir_e others n = by (cases_eq n d) (cases_eq n e)
     by (inr off) (inr away) = others n off away
 
 -- ---- a row moved to another directory
+
+-- names of cached pages are right once it is made, whatever the names come to
+pub order_moved : (shape : VolumeShape) (x : Seen) (k : Kept) (y : Seen) (j : Kept) (z : Seen) (d slot e : ℕ) (b : List ℕ) (i : ℕ) (c m : DirChange) (g : BlockWords) → Prepared shape x k y j z (of_dir c ∷ of_dir m ∷ []) → (goes : Stood shape x y j d (RemovesRow slot) c) → Stood shape x y j e (AddsRow b i) m → goes.plan.node.size ≤ (placed_at goes.was d).size → IsIno shape d → IsIno shape e → d ≢ e → AllApplied shape (map node_update (of_dir c ∷ of_dir m ∷ [])) y.words g → InOrder shape g z j
+order_moved shape x k y j z d slot e b i c m g p goes comes less dno eno apart (h, a1, (h2, a2, end)) = subst (λ f. InOrder shape f z j) (sym end) second.0.order
+  where
+    changes : List NodeChange
+    changes = of_dir c ∷ of_dir m ∷ []
+
+    away : e ≢ d
+    away same = apart (sym same)
+
+    first : Steps shape y.words h d z j × RemovesRow slot (held_of shape x.words d) (held_of shape h d)
+    first = stood_step shape x y j d (RemovesRow slot) c (IsTouchedBy changes) z y.words h goes (unnamed_touch changes) p.touched.caches (order_now shape x k y j z changes p) (held_now shape x k y j z changes p d) goes.may a1
+
+    second : Steps shape h h2 e z j × AddsRow b i (held_of shape x.words e) (held_of shape h2 e)
+    second = stood_step shape x y j e (AddsRow b i) m (IsTouchedBy changes) z h h2 comes (unnamed_touch changes) p.touched.caches first.0.order (first.0.others e away ∙ held_now shape x k y j z changes p e)
+        (stood_still shape x y j d e (RemovesRow slot) (AddsRow b i) c m h goes comes (mapped_now shape x k y j z changes p) dno eno away less a1) a2
 
 pub reaches_moved : (shape : VolumeShape) (x : Seen) (k : Kept) (y : Seen) (j : Kept) (z : Seen) (s : State) (d slot : ℕ) (a : List ℕ) (e : ℕ) (b : List ℕ) (i : ℕ) (c m : DirChange) (g : BlockWords) → Prepared shape x k y j z (of_dir c ∷ of_dir m ∷ []) → ReadsAs shape x.words s → (goes : Stood shape x y j d (RemovesRow slot) c) → Stood shape x y j e (AddsRow b i) m → goes.plan.node.size ≤ (placed_at goes.was d).size → IsIno shape d → IsIno shape e → d ≢ e → (held_of shape x.words d).kind ≡ 1 → (held_of shape x.words e).kind ≡ 1 → IsEntry (held_of shape x.words d) slot a i → IsName b → get s.names (e, b) ≡ None → TreeRule (moved s d a e b i) → AllApplied shape (map node_update (of_dir c ∷ of_dir m ∷ [])) y.words g → Reaches shape x.words z j (of_dir c ∷ of_dir m ∷ []) g (moved s d a e b i)
 reaches_moved shape x k y j z s d slot a e b i c m g p reads goes comes less dno eno apart dir_d dir_e entry named absent tree (h, a1, (h2, a2, end)) =

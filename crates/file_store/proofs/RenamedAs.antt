@@ -21,7 +21,7 @@ use Rattle.rio_model.specs.VolumeRules.{TreeRule}
 use Rattle.rio_model.specs.WordRules.{differs}
 use Rattle.inode_table.specs.Inodes.{IsInode}
 use Rattle.inode_table.specs.declared.inode.Inode.{Inode}
-use Rattle.file_store.specs.Answers.{at_row, is_among, is_below, is_open, rename_at, rename_row, rename_to, replace_row, replaced}
+use Rattle.rio_model.specs.Answers.{at_row, is_among, is_below, is_open, rename_at, rename_row, rename_to, replace_row, replaced}
 use Rattle.file_store.specs.Ends.{FileEnds}
 use Rattle.file_store.specs.WalkRules.{OutOfReach, out_of_reach, path_row, walk_last, walk_last_err}
 use Rattle.file_store.specs.Walks.{Comes, RowComes}

@@ -31,7 +31,7 @@ use Rattle.directories.specs.Plans.{PlansDir}
 use Rattle.directories.specs.RowChanges.{AddsRow, RemovesRow, ReplacesRow, SetsRow}
 use Rattle.directories.specs.Rows.{HasRow, IsEntry}
 use Rattle.directories.specs.declared.changes.DirChange.{DirChange}
-use Rattle.file_store.specs.Answers.{move_row, moved, replaced, row_wanted, with_room}
+use Rattle.rio_model.specs.Answers.{move_row, moved, replaced, row_wanted, with_room}
 use Rattle.file_store.specs.Changes.{IsGone, of_dir}
 use Rattle.file_store.specs.Failures.{fail_of_size}
 use Rattle.file_store.specs.ReadTrees.{rows_fit}
@@ -43,9 +43,9 @@ use Rattle.file_store.specs.declared.walking.Row.{Row}
 use Rattle.file_store.proofs.AnsweredAt.{FailsBy}
 use Rattle.file_store.proofs.Ended.{Reaches}
 use Rattle.file_store.proofs.LookedAt.{dir_read, leaf_read, no_row, row_read, used_ino}
-use Rattle.file_store.proofs.Reached.{less_removed, less_replaced, less_set, reaches_renamed, root_held}
-use Rattle.file_store.proofs.ReachedMoves.{reaches_across, reaches_moved, reaches_within}
-use Rattle.file_store.proofs.Requested.{ReachesAll, Requested, dir_ino, dir_may, fails_add, gone_may}
+use Rattle.file_store.proofs.Reached.{less_removed, less_replaced, less_set, order_renamed, reaches_renamed, root_held}
+use Rattle.file_store.proofs.ReachedMoves.{order_moved, reaches_across, reaches_moved, reaches_within}
+use Rattle.file_store.proofs.Requested.{OrdersAll, ReachesAll, Requested, dir_ino, dir_may, fails_add, gone_may}
 use Rattle.file_store.proofs.RowRoom.{row_room}
 use Rattle.file_store.proofs.RowsGone.{kind_still}
 use Rattle.file_store.proofs.Stood.{Stood, stood_after, stood_now}
@@ -126,6 +126,9 @@ pub renamed_reaches : (shape : VolumeShape) (x : Seen) (k : Kept) (y : Seen) (j 
 renamed_reaches shape x k y j z row a b c s h reads is named none apart pre g applied =
     reaches_renamed shape x k y j z s row.dir.0 row.slot a b row.ino.0 c g pre reads (renamed_stood shape x k y j row b c h) is.dir is.entry named (no_row shape x.words s row.dir.0 b reads none) (moved_tree shape x.words s a row row.dir.0 b reads is is.dir none apart) applied
 
+pub renamed_order : (shape : VolumeShape) (x : Seen) (k : Kept) (y : Seen) (j : Kept) (z : Seen) (row : Row) (b : List ℕ) (c : DirChange) → RenamedRow shape x k y j row b c → OrdersAll shape x k y j z (of_dir c ∷ [])
+renamed_order shape x k y j z row b c h pre g applied = order_renamed shape x k y j z row.dir.0 row.slot b row.ino.0 c g pre (renamed_stood shape x k y j row b c h) applied
+
 -- ---- to another directory
 
 pub record MovedRow (shape : VolumeShape) (x : Seen) (k : Kept) (w : Seen) (p : Kept) (y : Seen) (j : Kept) (row : Row) (e : ℕ) (b : List ℕ) (c m : DirChange) : Type 0 where
@@ -165,6 +168,12 @@ moved_reaches shape x k w p y j z row e a b c m s h two reads is named none apar
     let dno = dir_ino shape x.words row.dir.0 h.dir in
     let goes = moved_goes shape x k w p y j row e b c m h in
     reaches_moved shape x k y j z s row.dir.0 row.slot a e b row.ino.0 c m g pre reads goes (moved_comes shape x k w p y j row e b c m h) (less_removed shape x y j row.dir.0 row.slot c goes dno) dno (dir_ino shape x.words e h.to) two is.dir h.to is.entry named (no_row shape x.words s e b reads none) (moved_tree shape x.words s a row e b reads is h.to none apart) applied
+
+pub moved_order : (shape : VolumeShape) (x : Seen) (k : Kept) (w : Seen) (p : Kept) (y : Seen) (j : Kept) (z : Seen) (row : Row) (e : ℕ) (b : List ℕ) (c m : DirChange) → MovedRow shape x k w p y j row e b c m → row.dir.0 ≢ e → OrdersAll shape x k y j z (of_dir c ∷ of_dir m ∷ [])
+moved_order shape x k w p y j z row e b c m h two pre g applied =
+    let dno = dir_ino shape x.words row.dir.0 h.dir in
+    let goes = moved_goes shape x k w p y j row e b c m h in
+    order_moved shape x k y j z row.dir.0 row.slot e b row.ino.0 c m g pre goes (moved_comes shape x k w p y j row e b c m h) (less_removed shape x y j row.dir.0 row.slot c goes dno) dno (dir_ino shape x.words e h.to) two applied
 
 -- ---- over a row of the same directory
 

@@ -26,13 +26,14 @@ use Rattle.rio_model.specs.VolumeRules.{IsMapped}
 use Rattle.file_pages.specs.Changes.{wanted_blocks}
 use Rattle.file_pages.specs.LookingUp.{node_blocks}
 use Rattle.file_pages.specs.OrderRules.{ready_left}
+use Rattle.file_pages.specs.Orders.{InOrder}
 use Rattle.file_pages.specs.declared.changes.Edit.{Edit}
 use Rattle.file_pages.specs.declared.failures.SizeFail.{SizeFail}
 use Rattle.file_pages.specs.declared.failures.SizeFail.TheVariants.{NoSpace, TooLarge, Fault as SizeFault, Stopped as SizeStopped, Memory as SizeMemory}
 use Rattle.directories.specs.MakingOrder.{plan_applies, plan_edits}
 use Rattle.directories.specs.Plans.{CanApply}
 use Rattle.directories.specs.declared.changes.DirChange.{DirChange}
-use Rattle.file_store.specs.Answers.{row_wanted, with_room}
+use Rattle.rio_model.specs.Answers.{row_wanted, with_room}
 use Rattle.file_store.specs.Changes.{AllApplied, CanCommit, CanMakeNode, IsGone, IsMade, node_update, of_dir}
 use Rattle.file_store.specs.Committing.{Commits, Touched}
 use Rattle.file_store.specs.Ends.{FileEnds}
@@ -181,7 +182,11 @@ committed shape x k y j z l items changes r is h commits touched = record {
 abbrev pub ReachesAll : VolumeShape → Seen → Kept → Seen → Kept → Seen → List NodeChange → State → Type 0
 ReachesAll shape x k y j z changes t = Prepared shape x k y j z changes → (g : BlockWords) → AllApplied shape (map node_update changes) y.words g → Reaches shape x.words z j changes g t
 
-prepared : (shape : VolumeShape) (x : Seen) (k : Kept) (y : Seen) (j : Kept) (z : Seen) (changes : List NodeChange) → Requested shape x k y j changes → Touched shape changes y z → Prepared shape x k y j z changes
+-- and blocks in which names of cached pages are right
+abbrev pub OrdersAll : VolumeShape → Seen → Kept → Seen → Kept → Seen → List NodeChange → Type 0
+OrdersAll shape x k y j z changes = Prepared shape x k y j z changes → (g : BlockWords) → AllApplied shape (map node_update changes) y.words g → InOrder shape g z j
+
+pub prepared : (shape : VolumeShape) (x : Seen) (k : Kept) (y : Seen) (j : Kept) (z : Seen) (changes : List NodeChange) → Requested shape x k y j changes → Touched shape changes y z → Prepared shape x k y j z changes
 prepared shape x k y j z changes h touched = record { ready = h.ready; leaves = h.leaves; touched = touched; fits = all_fit shape y changes h.may }
 
 -- ---- how the request ends

@@ -20,7 +20,7 @@ use Rattle.rio_model.specs.VolumeReads.{ReadsAs}
 use Rattle.rio_model.specs.VolumeRules.{IsMapped}
 use Rattle.rio_model.proofs.FreeByState.{free_by_state, names_counted}
 use Rattle.file_pages.specs.Changes.{wanted_blocks}
-use Rattle.file_store.specs.Answers.{row_wanted, with_room}
+use Rattle.rio_model.specs.Answers.{row_wanted, with_room}
 use Rattle.file_store.specs.ReadTrees.{ino_of, names_few}
 use Rattle.file_store.proofs.Reached.{kind_held}
 

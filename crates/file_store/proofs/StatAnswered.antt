@@ -17,7 +17,7 @@ use Rattle.rio_model.specs.VolumeReads.{ReadsAs, node_in, region_in}
 use Rattle.inode_table.specs.declared.inode.Inode.{Inode}
 use Rattle.inode_table.specs.Inodes.{IsInode}
 use Rattle.std.proofs.lemmas.List.FromFn.{length-map-range_with_len}
-use Rattle.file_store.specs.Answers.{stat, stat_node}
+use Rattle.rio_model.specs.Answers.{stat, stat_node}
 use Rattle.file_store.proofs.LookedAt.{file_left, inode_kind_held, used_ino}
 use Rattle.file_store.proofs.Reached.{kind_held}
 use Rattle.file_store.proofs.RegionHeader.{pages_read, used_size}

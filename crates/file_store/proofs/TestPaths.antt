@@ -3,8 +3,7 @@ use Rattle.std.proofs.Common.{◌≡◌, ℕ, zero, suc, ◌+◌, ◌-◌, ◌<�
 use Rattle.std.specs.Prelude.{All, slice_index}
 use Rattle.std.proofs.lemmas.List.{drop_more, length-append, take_all}
 use Rattle.std.proofs.lemmas.List.Elements.{All-append, All-cons, All-nil}
-use Rattle.rio_model.specs.Paths.{IsName}
-use Rattle.file_store.specs.Ends.{IsPath, slashed}
+use Rattle.rio_model.specs.Paths.{IsName, IsPath, slashed}
 use Rattle.file_store.proofs.PathNames.{slashed_append}
 
 -- the first `at` bytes are so many names, with a slash before each
@@ -48,9 +47,4 @@ names_more path at count end n inside slash from to name = record {
     far = omega (arith, from)
 
 pub names_all : (path : List ℕ) (at count : ℕ) → NamesTo path at count → length path ≤ at → 1 ≤ count → count ≤ 32 → IsPath path
-names_all path at count n past some few = record {
-  names = n.names;
-  named = n.named;
-  few = (let counted = n.counted in omega (arith, counted, few));
-  is = inr ((let counted = n.counted in omega (arith, counted, some)), sym (take_all at path past) ∙ n.is);
-}
+names_all path at count n past some few = inr (n.names, record { is = sym (take_all at path past) ∙ n.is; each = n.named }, (let counted = n.counted in omega (arith, counted, some)), (let counted = n.counted in omega (arith, counted, few)))

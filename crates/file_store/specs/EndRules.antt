@@ -1,5 +1,5 @@
 -- What may follow the end of a request on files.
-use Rattle.std.proofs.Common.{ℕ, refl}
+use Rattle.std.proofs.Common.{ℕ, ap, inl, refl}
 use Rattle.std.specs.Prelude.{Result, Ok, Err, IsErrOf}
 use Rattle.rio_base.specs.declared.places.VolumeShape.{VolumeShape}
 use Rattle.rio_base.specs.Blocks.{Seen}
@@ -7,12 +7,13 @@ use Rattle.rio_base.specs.Volume.{Kept}
 use Rattle.rio_model.specs.declared.plain.Answered.{Answered}
 use Rattle.rio_model.specs.declared.reply.Reply.{Reply}
 use Rattle.rio_model.specs.declared.state.State.{State}
+use Rattle.rio_model.specs.Held.{Held}
 use Rattle.rio_model.specs.Placed.{volume_layout}
-use Rattle.rio_model.specs.VolumeReadRules.{reads_agree}
+use Rattle.rio_model.specs.VolumeReadRules.{held_of_agree, reads_agree}
 use Rattle.rio_model.specs.VolumeReads.{ReadsAs}
-use Rattle.rio_model.specs.VolumeReady.{LeavesInUse}
+use Rattle.rio_model.specs.VolumeReady.{LeavesInUse, Ready}
 use Rattle.file_pages.specs.OrderRules.{ready_left}
-use Rattle.file_store.specs.Ends.{CanServe, FileEnds}
+use Rattle.file_store.specs.Ends.{CanServe, FileEnds, Left}
 use Rattle.file_store.specs.declared.failures.FileFail.{FileFail}
 use Rattle.file_store.specs.declared.failures.FileFail.TheVariants.{Refused, Fault, Stopped, Memory}
 
@@ -29,3 +30,11 @@ can_as T says shape x k y j s a leads (Err Memory) can h unstopped = can_left sh
 -- another request, where this one was not stopped
 pub can_after : {T : Type 0} (says : T → Reply → Type 0) (shape : VolumeShape) (x : Seen) (k : Kept) (y : Seen) (j : Kept) (a : State → Answered) (leads : State → ℕ → State → Type 0) (r : Result T FileFail) → CanServe shape x k → ((s : State) → ReadsAs shape x.words s → FileEnds says shape x k y j s (a s) (leads s) r) → (IsErrOf r Stopped → ⊥) → CanServe shape y j
 can_after {T = T} says shape x k y j a leads r can h unstopped = can_as T says shape x k y j can.state (a can.state) (leads can.state) r can (h can.state can.reads) unstopped
+
+-- a call that left all in use as it was left the state
+pub left_same : (shape : VolumeShape) (x : Seen) (k : Kept) (y : Seen) (j : Kept) (s : State) → Ready shape x k → LeavesInUse (volume_layout shape x.words) x k y j → ReadsAs shape x.words s → Left shape x.words y j s
+left_same shape x k y j s ready leaves reads = record {
+  ready = ready_left shape x k y j ready leaves;
+  reads = reads_agree shape x.words y.words s reads leaves.words;
+  spares = record { each = λ i region. inl (ap (λ (h : ℕ → Held). h i) (held_of_agree shape x.words y.words ready.mapped leaves.words)) };
+}

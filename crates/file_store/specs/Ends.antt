@@ -11,6 +11,7 @@ use Rattle.rio_model.specs.declared.state.State.{State}
 use Rattle.rio_model.specs.FileParts.{LeadsTo}
 use Rattle.rio_model.specs.Held.{Held, held_of}
 use Rattle.rio_model.specs.Paths.{IsName, names_of, walk}
+use Rattle.rio_model.specs.Parts.{PartOf}
 use Rattle.rio_model.specs.Placed.{volume_layout}
 use Rattle.rio_model.specs.VolumeReads.{ReadsAs}
 use Rattle.rio_model.specs.VolumeReady.{LeavesInUse, Ready, StandsReady}
@@ -25,18 +26,6 @@ pub record CanServe (shape : VolumeShape) (x : Seen) (k : Kept) : Type 0 where
   pub ready : Ready shape x k
   pub state : State
   pub reads : ReadsAs shape x.words state
-
--- names, each with a slash before it
-abbrev pub slashed : List (List ℕ) → List ℕ
-slashed [] = []
-slashed (name ∷ names) = 47 ∷ (name ++ slashed names)
-
--- the path of 1 to 32 names, or `/`
-pub record IsPath (path : List ℕ) : Type 0 where
-  pub names : List (List ℕ)
-  pub named : All IsName names
-  pub few : length names ≤ 32
-  pub is : ((names ≡ []) × (path ≡ 47 ∷ [])) ⊎ ((0 < length names) × (path ≡ slashed names))
 
 -- ---- what it leaves
 
@@ -55,10 +44,6 @@ pub record Stands (shape : VolumeShape) (y : Seen) (j : Kept) (t : State) : Type
   pub ready : StandsReady shape y j
   pub reads : ReadsAs shape j.standing t
 
--- what may stand of a request: nothing of it, all of it, or a part that leads up to it
-abbrev pub PartOf : State → Answered → (ℕ → State → Type 0) → State → Type 0
-PartOf s a leads t = (t ≡ s) ⊎ (t ≡ a.next) ⊎ ((k : ℕ) × leads k t)
-
 -- ends of a request that answers `a` in state s. x and k are before it, y and j after it. `says` is what an answer comes to
 -- as a reply, and `leads` which states a fault after so many bytes may leave. A refusal and want of memory leave all that is
 -- in use as it was
@@ -68,15 +53,6 @@ FileEnds says shape x k y j s a leads (Err (Refused c)) = (a.reply ≡ Some (Ref
 FileEnds says shape x k y j s a leads (Err (Fault n)) = (t : State) × leads n t × Left shape x.words y j t
 FileEnds says shape x k y j s a leads (Err Stopped) = (t : State) × PartOf s a leads t × Stands shape y j t
 FileEnds says shape x k y j s a leads (Err Memory) = LeavesInUse (volume_layout shape x.words) x k y j
-
--- ---- which states a fault leaves
-
-abbrev pub NoneDone : State → ℕ → State → Type 0
-NoneDone s k t = (k ≡ 0) × (t ≡ s)
-
--- the first k bytes of a write that is not refused, or nothing
-abbrev pub WriteDone : State → List ℕ → ℕ → List ℕ → Answered → ℕ → State → Type 0
-WriteDone s path off bytes a k t = NoneDone s k t ⊎ ((a.reply ≡ Some (Number (length bytes))) × ((i : ℕ) × (walk s 1 (names_of path) ≡ Ok i) × LeadsTo s i off bytes k t))
 
 -- ---- what answers come to
 

@@ -1,4 +1,3 @@
-pub mod Answers
 pub mod Changes
 pub mod Committing
 pub mod EmptyHeld

@@ -23,7 +23,7 @@ use Rattle.rio_model.specs.VolumeReadRules.{reads_dir}
 use Rattle.rio_model.specs.VolumeRules.{EntryRule}
 use Rattle.rio_model.specs.WordRules.{differs}
 use Rattle.rio_model.proofs.FreeByState.{names_counted}
-use Rattle.file_store.specs.Answers.{is_empty}
+use Rattle.rio_model.specs.Answers.{is_empty}
 use Rattle.file_store.specs.NameRules.{key_of, same_some}
 use Rattle.file_store.specs.RowCounts.{InShape, rows_fewer}
 use Rattle.file_store.specs.TreeRules.{RowsFit, dir_used}

@@ -11,7 +11,7 @@ use Rattle.rio_model.specs.Paths.{is_dir, walk}
 use Rattle.rio_model.specs.VolumeRules.{TreeRule}
 use Rattle.rio_model.proofs.NameOrder.{name_get_other, name_get_same}
 use Rattle.rio_model.proofs.StateSteps.{get_here, get_there}
-use Rattle.file_store.specs.Answers.{moved, replaced, without}
+use Rattle.rio_model.specs.Answers.{moved, replaced, without}
 use Rattle.file_store.specs.NameRules.{cases_key, some_none, same_some, row_kept, row_left, row_moved, row_put, row_stays, OneRow, one_left, one_moved, one_put, node_kept, node_left}
 use Rattle.file_store.specs.WalkRules.{Hangs, OutOfReach, Up, stepped, turned, up_walk, walk_append, walk_step, walk_up}
 

@@ -8,7 +8,7 @@ use Rattle.rio_model.specs.declared.state.State.{State}
 use Rattle.rio_model.specs.Answer.{front_of, last_of}
 use Rattle.rio_model.specs.Paths.{as_dir, from_found, is_dir, walk, walk_to_dir}
 use Rattle.rio_model.specs.VolumeRules.{TreeRule}
-use Rattle.file_store.specs.Answers.{found, is_below}
+use Rattle.rio_model.specs.Answers.{found, is_below}
 
 -- ---- over names and more names
 

@@ -11,7 +11,7 @@ use Rattle.rio_model.specs.Answer.{front_of, last_of}
 use Rattle.rio_model.specs.Held.{held_of}
 use Rattle.rio_model.specs.Paths.{walk_to_dir}
 use Rattle.directories.specs.Rows.{IsEntry}
-use Rattle.file_store.specs.Answers.{found}
+use Rattle.rio_model.specs.Answers.{found}
 use Rattle.file_store.specs.declared.failures.FileFail.{FileFail}
 use Rattle.file_store.specs.declared.failures.FileFail.TheVariants.{Refused, Fault, Stopped, Memory}
 use Rattle.file_store.specs.declared.walking.Row.{Row}

@@ -9,6 +9,7 @@ ghost use Rattle.rio_base.specs.Shapes.{HasShape};
 ghost use Rattle.rio_base.specs.Volume.{Firm, Goes, SameUpdate};
 ghost use Rattle.block_alloc.specs.Bitmap.{numbers};
 ghost use Rattle.rio_model.specs.Updates.{Applied};
+ghost use Rattle.file_pages.specs.Forgetting.{Uncached};
 ghost use Rattle.file_pages.specs.Updating.{IsTouched, IsUpdated};
 ghost use Rattle.file_pages.specs.declared.changes.Edit.{Edit as EditOf};
 ghost use Rattle.directories.specs.Plans.{InThreeBlocks};
@@ -220,6 +221,7 @@ fn forget_freed<V: Volume>(v: &mut V, changes: &[NodeChange]) -> Result<(), Stop
     requires sound { V.sound v.old }
     requires idle { (V.kept v.old).updating ≡ false }
     requires places { (b : ℕ) → IsFreed changes.now b → b < (V.seen v.old).count }
+    ensures forgotten { OnOk result (Uncached (IsFreed changes.now) (V.seen v.new)) }
     ensures words { SameOutside (IsFreed changes.now) (V.seen v.old).words (V.seen v.new).words }
     ensures standing { SameOutside (IsFreed changes.now) (V.kept v.old).standing (V.kept v.new).standing }
     ensures firm { FirmOutside (IsFreed changes.now) (V.kept v.old) (V.kept v.new) }
@@ -241,6 +243,7 @@ fn forget_blocks<V: Volume>(v: &mut V, blocks: &[Block]) -> Result<(), Stopped>
     requires sound { V.sound v.old }
     requires idle { (V.kept v.old).updating ≡ false }
     requires places { (b : ℕ) → Contains (numbers blocks.now) b → b < (V.seen v.old).count }
+    ensures forgotten { OnOk result (Uncached (Contains (numbers blocks.now)) (V.seen v.new)) }
     ensures words { SameOutside (Contains (numbers blocks.now)) (V.seen v.old).words (V.seen v.new).words }
     ensures standing { SameOutside (Contains (numbers blocks.now)) (V.kept v.old).standing (V.kept v.new).standing }
     ensures firm { FirmOutside (Contains (numbers blocks.now)) (V.kept v.old) (V.kept v.new) }
@@ -269,6 +272,7 @@ pub fn commit_changes<V: Volume>(
     requires can { CanCommit shape.now (V.seen v.old) changes.now }
     ensures commits { Commits shape.now changes.now (V.seen v.old) (V.kept v.old) (V.seen v.new) (V.kept v.new) result }
     ensures touched { Touched shape.now changes.now (V.seen v.old) (V.seen v.new) }
+    ensures forgotten { OnOk result (Uncached (IsFreed changes.now) (V.seen v.new)) }
     ensures goes { Goes (V.health v.old) (V.below v.old) (V.health v.new) (V.below v.new) }
     ensures ends { Ends (V.health v.old) (V.health v.new) result }
     ensures sound { V.sound v.new }

@@ -1,16 +1,18 @@
 //! The bytes of a file at a path: written, read, and their number changed.
 
-ghost use Rattle.std.specs.Prelude.{◌≡◌, IfOk, IsErrOf};
+ghost use Rattle.std.specs.Prelude.{◌≡◌, IfOk, IsErrOf, OnOk};
 ghost use Rattle.rio_base.specs.Blocks.{EndsBy};
 ghost use Rattle.rio_base.specs.Volume.{Goes};
 ghost use Rattle.rio_model.specs.Held.{held_of};
-ghost use Rattle.rio_model.specs.Paths.{names_of, walk as walk_of};
+ghost use Rattle.rio_model.specs.Paths.{IsPath, names_of, walk as walk_of};
 ghost use Rattle.rio_model.specs.Placed.{volume_layout};
 ghost use Rattle.rio_model.specs.VolumeReads.{ReadsAs};
 ghost use Rattle.rio_model.specs.VolumeReady.{LeavesInUse};
 ghost use Rattle.rio_model.specs.declared.state.State.{State};
-ghost use Rattle.file_store.specs.Answers.{write as write_of, truncate as truncate_of, read as read_of};
-ghost use Rattle.file_store.specs.Ends.{CanServe, FileEnds, IsPath, NoneDone, SaysBytes, SaysCount, SaysDone, WriteDone};
+ghost use Rattle.rio_model.specs.Answers.{write as write_of, truncate as truncate_of, read as read_of};
+ghost use Rattle.rio_model.specs.Parts.{NoneDone, WriteDone};
+ghost use Rattle.file_pages.specs.Forgetting.{Forgets};
+ghost use Rattle.file_store.specs.Ends.{CanServe, FileEnds, SaysBytes, SaysCount, SaysDone};
 ghost use Rattle.file_store.specs.Failures.{Faulted};
 ghost use Rattle.file_store.specs.Walks.{FileComes};
 
@@ -76,6 +78,7 @@ pub fn truncate<V: Volume>(
     requires can { CanServe shape.now (V.seen v.old) (V.kept v.old) }
     requires path { IsPath path.now }
     ensures leaves { (s : State) → ReadsAs shape.now (V.seen v.old).words s → FileEnds SaysDone shape.now (V.seen v.old) (V.kept v.old) (V.seen v.new) (V.kept v.new) s (truncate_of s path.now len) (NoneDone s) result }
+    ensures forgets { OnOk result (Forgets (volume_layout shape.now (V.seen v.old).words) (volume_layout shape.now (V.seen v.new).words) (V.seen v.new)) }
     ensures goes { Goes (V.health v.old) (V.below v.old) (V.health v.new) (V.below v.new) }
     ensures ends { EndsBy (V.health v.old) (V.health v.new) (Faulted result) (IsErrOf result FileFail.Stopped) }
     ensures sound { V.sound v.new }

@@ -8,8 +8,10 @@ ghost use Rattle.rio_model.specs.Placed.{volume_layout};
 ghost use Rattle.rio_model.specs.VolumeReads.{ReadsAs};
 ghost use Rattle.rio_model.specs.VolumeReady.{LeavesInUse};
 ghost use Rattle.rio_model.specs.declared.state.State.{State};
-ghost use Rattle.file_store.specs.Answers.{stat as stat_of, list as list_of};
-ghost use Rattle.file_store.specs.Ends.{CanServe, FileEnds, IsPath, NoneDone, SaysNames, SaysStat};
+ghost use Rattle.rio_model.specs.Answers.{stat as stat_of, list as list_of};
+ghost use Rattle.rio_model.specs.Parts.{NoneDone};
+ghost use Rattle.rio_model.specs.Paths.{IsPath};
+ghost use Rattle.file_store.specs.Ends.{CanServe, FileEnds, SaysNames, SaysStat};
 ghost use Rattle.file_store.specs.Failures.{Faulted, Unrefused};
 
 use crate::changes::REGION;

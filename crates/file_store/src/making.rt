@@ -1,17 +1,20 @@
 //! Directories and files made.
 
-ghost use Rattle.std.specs.Prelude.{◌≡◌, ◌⊎◌, ℕ, Some, IsErrOf};
+ghost use Rattle.std.specs.Prelude.{◌≡◌, ◌⊎◌, ℕ, Some, IsErrOf, OnOk};
 ghost use Rattle.rio_base.specs.Blocks.{EndsBy};
 ghost use Rattle.rio_base.specs.Layout.{IsIno};
 ghost use Rattle.rio_base.specs.Volume.{Goes};
 ghost use Rattle.rio_model.specs.Answer.{least_free};
 ghost use Rattle.rio_model.specs.Held.{held_of};
-ghost use Rattle.rio_model.specs.Paths.{IsName, names_of};
+ghost use Rattle.rio_model.specs.Paths.{IsName, IsPath, names_of};
 ghost use Rattle.rio_model.specs.VolumeReads.{ReadsAs};
 ghost use Rattle.rio_model.specs.declared.state.State.{State};
 ghost use Rattle.directories.specs.Rows.{HasRow};
-ghost use Rattle.file_store.specs.Answers.{empty_node, mkdir as mkdir_of, create as create_of, make as make_of, make_new as make_new_of};
-ghost use Rattle.file_store.specs.Ends.{CanServe, FileEnds, IsPath, NoneDone, SaysIno, SaysNumber};
+ghost use Rattle.rio_model.specs.Answers.{empty_node, mkdir as mkdir_of, create as create_of, make as make_of, make_new as make_new_of};
+ghost use Rattle.rio_model.specs.Parts.{NoneDone};
+ghost use Rattle.rio_model.specs.Placed.{volume_layout};
+ghost use Rattle.file_pages.specs.Forgetting.{Forgets};
+ghost use Rattle.file_store.specs.Ends.{CanServe, FileEnds, SaysIno, SaysNumber};
 ghost use Rattle.file_store.specs.Failures.{Faulted};
 
 use crate::changes::{DIRECTORY, FILE, NodeChange, node_made, two_changes};
@@ -43,6 +46,7 @@ fn make_row<V: Volume>(
     requires free { (held_of shape.now (V.seen v.old).words i.0).kind ≡ 0 }
     requires kind { (kind ≡ 1) ⊎ (kind ≡ 2) }
     ensures leaves { (s : State) → ReadsAs shape.now (V.seen v.old).words s → FileEnds (SaysNumber i.0) shape.now (V.seen v.old) (V.kept v.old) (V.seen v.new) (V.kept v.new) s (make_new_of s dir.0 name.now (empty_node kind) (Some i.0)) (NoneDone s) result }
+    ensures forgets { OnOk result (Forgets (volume_layout shape.now (V.seen v.old).words) (volume_layout shape.now (V.seen v.new).words) (V.seen v.new)) }
     ensures goes { Goes (V.health v.old) (V.below v.old) (V.health v.new) (V.below v.new) }
     ensures ends { EndsBy (V.health v.old) (V.health v.new) (Faulted result) (IsErrOf result FileFail.Stopped) }
     ensures sound { V.sound v.new }
@@ -69,6 +73,7 @@ fn make_new<V: Volume>(
     requires absent { (n : ℕ) → HasRow (held_of shape.now (V.seen v.old).words dir.0) name.now n → ⊥ }
     requires kind { (kind ≡ 1) ⊎ (kind ≡ 2) }
     ensures leaves { (s : State) → ReadsAs shape.now (V.seen v.old).words s → FileEnds SaysIno shape.now (V.seen v.old) (V.kept v.old) (V.seen v.new) (V.kept v.new) s (make_new_of s dir.0 name.now (empty_node kind) (least_free s)) (NoneDone s) result }
+    ensures forgets { OnOk result (Forgets (volume_layout shape.now (V.seen v.old).words) (volume_layout shape.now (V.seen v.new).words) (V.seen v.new)) }
     ensures goes { Goes (V.health v.old) (V.below v.old) (V.health v.new) (V.below v.new) }
     ensures ends { EndsBy (V.health v.old) (V.health v.new) (Faulted result) (IsErrOf result FileFail.Stopped) }
     ensures sound { V.sound v.new }
@@ -93,6 +98,7 @@ fn make<V: Volume>(
     requires path { IsPath path.now }
     requires kind { (kind ≡ 1) ⊎ (kind ≡ 2) }
     ensures leaves { (s : State) → ReadsAs shape.now (V.seen v.old).words s → FileEnds SaysIno shape.now (V.seen v.old) (V.kept v.old) (V.seen v.new) (V.kept v.new) s (make_of s (names_of path.now) (empty_node kind)) (NoneDone s) result }
+    ensures forgets { OnOk result (Forgets (volume_layout shape.now (V.seen v.old).words) (volume_layout shape.now (V.seen v.new).words) (V.seen v.new)) }
     ensures goes { Goes (V.health v.old) (V.below v.old) (V.health v.new) (V.below v.new) }
     ensures ends { EndsBy (V.health v.old) (V.health v.new) (Faulted result) (IsErrOf result FileFail.Stopped) }
     ensures sound { V.sound v.new }
@@ -119,6 +125,7 @@ pub fn mkdir<V: Volume>(
     requires can { CanServe shape.now (V.seen v.old) (V.kept v.old) }
     requires path { IsPath path.now }
     ensures leaves { (s : State) → ReadsAs shape.now (V.seen v.old).words s → FileEnds SaysIno shape.now (V.seen v.old) (V.kept v.old) (V.seen v.new) (V.kept v.new) s (mkdir_of s path.now) (NoneDone s) result }
+    ensures forgets { OnOk result (Forgets (volume_layout shape.now (V.seen v.old).words) (volume_layout shape.now (V.seen v.new).words) (V.seen v.new)) }
     ensures goes { Goes (V.health v.old) (V.below v.old) (V.health v.new) (V.below v.new) }
     ensures ends { EndsBy (V.health v.old) (V.health v.new) (Faulted result) (IsErrOf result FileFail.Stopped) }
     ensures sound { V.sound v.new }
@@ -137,6 +144,7 @@ pub fn create<V: Volume>(
     requires can { CanServe shape.now (V.seen v.old) (V.kept v.old) }
     requires path { IsPath path.now }
     ensures leaves { (s : State) → ReadsAs shape.now (V.seen v.old).words s → FileEnds SaysIno shape.now (V.seen v.old) (V.kept v.old) (V.seen v.new) (V.kept v.new) s (create_of s path.now) (NoneDone s) result }
+    ensures forgets { OnOk result (Forgets (volume_layout shape.now (V.seen v.old).words) (volume_layout shape.now (V.seen v.new).words) (V.seen v.new)) }
     ensures goes { Goes (V.health v.old) (V.below v.old) (V.health v.new) (V.below v.new) }
     ensures ends { EndsBy (V.health v.old) (V.health v.new) (Faulted result) (IsErrOf result FileFail.Stopped) }
     ensures sound { V.sound v.new }

@@ -1,6 +1,6 @@
 //! Rows moved: within a directory or to another one, to a new name or over another row.
 
-ghost use Rattle.std.specs.Prelude.{◌≡◌, ◌≢◌, ◌<◌, ℕ, List, IsErrOf};
+ghost use Rattle.std.specs.Prelude.{◌≡◌, ◌≢◌, ◌<◌, ℕ, List, IsErrOf, OnOk};
 ghost use Rattle.rio_base.specs.Blocks.{EndsBy};
 ghost use Rattle.rio_base.specs.Volume.{Goes};
 ghost use Rattle.rio_model.specs.Answer.{answered};
@@ -10,8 +10,11 @@ ghost use Rattle.rio_model.specs.VolumeReads.{ReadsAs};
 ghost use Rattle.rio_model.specs.declared.reply.Reply.TheVariants.{Ok as Done};
 ghost use Rattle.rio_model.specs.declared.state.State.{State};
 ghost use Rattle.directories.specs.Rows.{HasRow};
-ghost use Rattle.file_store.specs.Answers.{replaced, move_row as move_row_of, replace_row as replace_row_of};
-ghost use Rattle.file_store.specs.Ends.{CanServe, FileEnds, NoneDone, SaysDone};
+ghost use Rattle.rio_model.specs.Answers.{replaced, move_row as move_row_of, replace_row as replace_row_of};
+ghost use Rattle.rio_model.specs.Parts.{NoneDone};
+ghost use Rattle.rio_model.specs.Placed.{volume_layout};
+ghost use Rattle.file_pages.specs.Forgetting.{Forgets};
+ghost use Rattle.file_store.specs.Ends.{CanServe, FileEnds, SaysDone};
 ghost use Rattle.file_store.specs.Failures.{Faulted};
 ghost use Rattle.file_store.specs.WalkRules.{OutOfReach};
 ghost use Rattle.file_store.specs.Walks.{IsRow, ino_numbers};
@@ -41,6 +44,7 @@ fn rename_within<V: Volume>(
     requires is_name { IsName name.now }
     requires absent { (n : ℕ) → HasRow (held_of shape.now (V.seen v.old).words from.dir.0) name.now n → ⊥ }
     ensures leaves { (s : State) (a : List ℕ) → ReadsAs shape.now (V.seen v.old).words s → IsRow shape.now (V.seen v.old).words a from → OutOfReach s from.ino.0 from.dir.0 → FileEnds SaysDone shape.now (V.seen v.old) (V.kept v.old) (V.seen v.new) (V.kept v.new) s (move_row_of s from.dir.0 a from.dir.0 name.now from.ino.0) (NoneDone s) result }
+    ensures forgets { OnOk result (Forgets (volume_layout shape.now (V.seen v.old).words) (volume_layout shape.now (V.seen v.new).words) (V.seen v.new)) }
     ensures goes { Goes (V.health v.old) (V.below v.old) (V.health v.new) (V.below v.new) }
     ensures ends { EndsBy (V.health v.old) (V.health v.new) (Faulted result) (IsErrOf result FileFail.Stopped) }
     ensures sound { V.sound v.new }
@@ -69,6 +73,7 @@ fn move_across<V: Volume>(
     requires is_name { IsName name.now }
     requires absent { (n : ℕ) → HasRow (held_of shape.now (V.seen v.old).words dir.0) name.now n → ⊥ }
     ensures leaves { (s : State) (a : List ℕ) → ReadsAs shape.now (V.seen v.old).words s → IsRow shape.now (V.seen v.old).words a from → OutOfReach s from.ino.0 dir.0 → FileEnds SaysDone shape.now (V.seen v.old) (V.kept v.old) (V.seen v.new) (V.kept v.new) s (move_row_of s from.dir.0 a dir.0 name.now from.ino.0) (NoneDone s) result }
+    ensures forgets { OnOk result (Forgets (volume_layout shape.now (V.seen v.old).words) (volume_layout shape.now (V.seen v.new).words) (V.seen v.new)) }
     ensures goes { Goes (V.health v.old) (V.below v.old) (V.health v.new) (V.below v.new) }
     ensures ends { EndsBy (V.health v.old) (V.health v.new) (Faulted result) (IsErrOf result FileFail.Stopped) }
     ensures sound { V.sound v.new }
@@ -97,6 +102,7 @@ pub fn move_row<V: Volume>(
     requires is_name { IsName name.now }
     requires absent { (n : ℕ) → HasRow (held_of shape.now (V.seen v.old).words dir.0) name.now n → ⊥ }
     ensures leaves { (s : State) (a : List ℕ) → ReadsAs shape.now (V.seen v.old).words s → IsRow shape.now (V.seen v.old).words a from → OutOfReach s from.ino.0 dir.0 → FileEnds SaysDone shape.now (V.seen v.old) (V.kept v.old) (V.seen v.new) (V.kept v.new) s (move_row_of s from.dir.0 a dir.0 name.now from.ino.0) (NoneDone s) result }
+    ensures forgets { OnOk result (Forgets (volume_layout shape.now (V.seen v.old).words) (volume_layout shape.now (V.seen v.new).words) (V.seen v.new)) }
     ensures goes { Goes (V.health v.old) (V.below v.old) (V.health v.new) (V.below v.new) }
     ensures ends { EndsBy (V.health v.old) (V.health v.new) (Faulted result) (IsErrOf result FileFail.Stopped) }
     ensures sound { V.sound v.new }
@@ -127,6 +133,7 @@ fn replace_within<V: Volume>(
     requires leaf_to { (held_of shape.now (V.seen v.old).words to.ino.0).kind ≢ 1 }
     requires one { from.dir.0 ≡ to.dir.0 }
     ensures leaves { (s : State) (a b : List ℕ) → ReadsAs shape.now (V.seen v.old).words s → IsRow shape.now (V.seen v.old).words a from → IsRow shape.now (V.seen v.old).words b to → FileEnds SaysDone shape.now (V.seen v.old) (V.kept v.old) (V.seen v.new) (V.kept v.new) s (answered (replaced s from.dir.0 a to.dir.0 b from.ino.0 to.ino.0) Done) (NoneDone s) result }
+    ensures forgets { OnOk result (Forgets (volume_layout shape.now (V.seen v.old).words) (volume_layout shape.now (V.seen v.new).words) (V.seen v.new)) }
     ensures goes { Goes (V.health v.old) (V.below v.old) (V.health v.new) (V.below v.new) }
     ensures ends { EndsBy (V.health v.old) (V.health v.new) (Faulted result) (IsErrOf result FileFail.Stopped) }
     ensures sound { V.sound v.new }
@@ -163,6 +170,7 @@ fn replace_across<V: Volume>(
     requires leaf_to { (held_of shape.now (V.seen v.old).words to.ino.0).kind ≢ 1 }
     requires two { from.dir.0 ≢ to.dir.0 }
     ensures leaves { (s : State) (a : List ℕ) → ReadsAs shape.now (V.seen v.old).words s → IsRow shape.now (V.seen v.old).words a from → FileEnds SaysDone shape.now (V.seen v.old) (V.kept v.old) (V.seen v.new) (V.kept v.new) s (answered (replaced s from.dir.0 a to.dir.0 name.now from.ino.0 to.ino.0) Done) (NoneDone s) result }
+    ensures forgets { OnOk result (Forgets (volume_layout shape.now (V.seen v.old).words) (volume_layout shape.now (V.seen v.new).words) (V.seen v.new)) }
     ensures goes { Goes (V.health v.old) (V.below v.old) (V.health v.new) (V.below v.new) }
     ensures ends { EndsBy (V.health v.old) (V.health v.new) (Faulted result) (IsErrOf result FileFail.Stopped) }
     ensures sound { V.sound v.new }
@@ -194,6 +202,7 @@ pub fn replace_row<V: Volume>(
     requires used_to { 0 < (held_of shape.now (V.seen v.old).words to.ino.0).kind }
     requires is_name { IsName name.now }
     ensures leaves { (s : State) (a : List ℕ) → ReadsAs shape.now (V.seen v.old).words s → IsRow shape.now (V.seen v.old).words a from → FileEnds SaysDone shape.now (V.seen v.old) (V.kept v.old) (V.seen v.new) (V.kept v.new) s (replace_row_of s (ino_numbers busy.now) from.dir.0 a to.dir.0 name.now from.ino.0 to.ino.0) (NoneDone s) result }
+    ensures forgets { OnOk result (Forgets (volume_layout shape.now (V.seen v.old).words) (volume_layout shape.now (V.seen v.new).words) (V.seen v.new)) }
     ensures goes { Goes (V.health v.old) (V.below v.old) (V.health v.new) (V.below v.new) }
     ensures ends { EndsBy (V.health v.old) (V.health v.new) (Faulted result) (IsErrOf result FileFail.Stopped) }
     ensures sound { V.sound v.new }

@@ -1,6 +1,6 @@
 //! Files, regions and empty directories removed.
 
-ghost use Rattle.std.specs.Prelude.{◌≡◌, ◌<◌, ◌==◌, ◌&&◌, ℕ, List, IsErrOf};
+ghost use Rattle.std.specs.Prelude.{◌≡◌, ◌<◌, ◌==◌, ◌&&◌, ℕ, List, IsErrOf, OnOk};
 ghost use Rattle.rio_base.specs.Blocks.{EndsBy};
 ghost use Rattle.rio_base.specs.Volume.{Goes};
 ghost use Rattle.rio_model.specs.Answer.{answered};
@@ -8,8 +8,12 @@ ghost use Rattle.rio_model.specs.Held.{held_of};
 ghost use Rattle.rio_model.specs.VolumeReads.{ReadsAs};
 ghost use Rattle.rio_model.specs.declared.reply.Reply.TheVariants.{Ok as Done};
 ghost use Rattle.rio_model.specs.declared.state.State.{State};
-ghost use Rattle.file_store.specs.Answers.{without, unlink as unlink_of, rmdir as rmdir_of, is_among as is_among_of};
-ghost use Rattle.file_store.specs.Ends.{CanServe, FileEnds, IsPath, NoneDone, SaysDone};
+ghost use Rattle.rio_model.specs.Answers.{without, unlink as unlink_of, rmdir as rmdir_of, is_among as is_among_of};
+ghost use Rattle.rio_model.specs.Parts.{NoneDone};
+ghost use Rattle.rio_model.specs.Paths.{IsPath};
+ghost use Rattle.rio_model.specs.Placed.{volume_layout};
+ghost use Rattle.file_pages.specs.Forgetting.{Forgets};
+ghost use Rattle.file_store.specs.Ends.{CanServe, FileEnds, SaysDone};
 ghost use Rattle.file_store.specs.Failures.{Faulted};
 ghost use Rattle.file_store.specs.Walks.{IsRow, ino_numbers};
 
@@ -56,6 +60,7 @@ fn remove_row<V: Volume>(
     requires used { 0 < (held_of shape.now (V.seen v.old).words row.ino.0).kind }
     requires bare { (held_of shape.now (V.seen v.old).words row.ino.0).kind ≡ 1 → (held_of shape.now (V.seen v.old).words row.ino.0).size ≡ 0 }
     ensures leaves { (s : State) (name : List ℕ) → ReadsAs shape.now (V.seen v.old).words s → IsRow shape.now (V.seen v.old).words name row → FileEnds SaysDone shape.now (V.seen v.old) (V.kept v.old) (V.seen v.new) (V.kept v.new) s (answered (without s row.dir.0 name row.ino.0) Done) (NoneDone s) result }
+    ensures forgets { OnOk result (Forgets (volume_layout shape.now (V.seen v.old).words) (volume_layout shape.now (V.seen v.new).words) (V.seen v.new)) }
     ensures goes { Goes (V.health v.old) (V.below v.old) (V.health v.new) (V.below v.new) }
     ensures ends { EndsBy (V.health v.old) (V.health v.new) (Faulted result) (IsErrOf result FileFail.Stopped) }
     ensures sound { V.sound v.new }
@@ -83,6 +88,7 @@ pub fn unlink<V: Volume>(
     requires can { CanServe shape.now (V.seen v.old) (V.kept v.old) }
     requires path { IsPath path.now }
     ensures leaves { (s : State) → ReadsAs shape.now (V.seen v.old).words s → FileEnds SaysDone shape.now (V.seen v.old) (V.kept v.old) (V.seen v.new) (V.kept v.new) s (unlink_of s path.now (ino_numbers busy.now)) (NoneDone s) result }
+    ensures forgets { OnOk result (Forgets (volume_layout shape.now (V.seen v.old).words) (volume_layout shape.now (V.seen v.new).words) (V.seen v.new)) }
     ensures goes { Goes (V.health v.old) (V.below v.old) (V.health v.new) (V.below v.new) }
     ensures ends { EndsBy (V.health v.old) (V.health v.new) (Faulted result) (IsErrOf result FileFail.Stopped) }
     ensures sound { V.sound v.new }
@@ -112,6 +118,7 @@ pub fn rmdir<V: Volume>(
     requires can { CanServe shape.now (V.seen v.old) (V.kept v.old) }
     requires path { IsPath path.now }
     ensures leaves { (s : State) → ReadsAs shape.now (V.seen v.old).words s → FileEnds SaysDone shape.now (V.seen v.old) (V.kept v.old) (V.seen v.new) (V.kept v.new) s (rmdir_of s path.now) (NoneDone s) result }
+    ensures forgets { OnOk result (Forgets (volume_layout shape.now (V.seen v.old).words) (volume_layout shape.now (V.seen v.new).words) (V.seen v.new)) }
     ensures goes { Goes (V.health v.old) (V.below v.old) (V.health v.new) (V.below v.new) }
     ensures ends { EndsBy (V.health v.old) (V.health v.new) (Faulted result) (IsErrOf result FileFail.Stopped) }
     ensures sound { V.sound v.new }

@@ -1,15 +1,18 @@
 //! A name moved.
 
-ghost use Rattle.std.specs.Prelude.{◌≡◌, ◌<◌, ℕ, List, IsErrOf};
+ghost use Rattle.std.specs.Prelude.{◌≡◌, ◌<◌, ℕ, List, IsErrOf, OnOk};
 ghost use Rattle.std.specs.FinMap.{get};
 ghost use Rattle.rio_base.specs.Blocks.{EndsBy};
 ghost use Rattle.rio_base.specs.Volume.{Goes};
 ghost use Rattle.rio_model.specs.Held.{held_of};
-ghost use Rattle.rio_model.specs.Paths.{IsName};
+ghost use Rattle.rio_model.specs.Paths.{IsName, IsPath};
 ghost use Rattle.rio_model.specs.VolumeReads.{ReadsAs};
 ghost use Rattle.rio_model.specs.declared.state.State.{State};
-ghost use Rattle.file_store.specs.Answers.{rename as rename_of, rename_row as rename_row_of};
-ghost use Rattle.file_store.specs.Ends.{CanServe, FileEnds, IsPath, NoneDone, SaysDone};
+ghost use Rattle.rio_model.specs.Answers.{rename as rename_of, rename_row as rename_row_of};
+ghost use Rattle.rio_model.specs.Parts.{NoneDone};
+ghost use Rattle.rio_model.specs.Placed.{volume_layout};
+ghost use Rattle.file_pages.specs.Forgetting.{Forgets};
+ghost use Rattle.file_store.specs.Ends.{CanServe, FileEnds, SaysDone};
 ghost use Rattle.file_store.specs.Failures.{Faulted};
 ghost use Rattle.file_store.specs.WalkRules.{OutOfReach};
 ghost use Rattle.file_store.specs.Walks.{IsRow, ino_numbers};
@@ -39,6 +42,7 @@ fn rename_row<V: Volume>(
     requires dir { (held_of shape.now (V.seen v.old).words dir.0).kind ≡ 1 }
     requires is_name { IsName name.now }
     ensures leaves { (s : State) (a : List ℕ) → ReadsAs shape.now (V.seen v.old).words s → IsRow shape.now (V.seen v.old).words a from → OutOfReach s from.ino.0 dir.0 → FileEnds SaysDone shape.now (V.seen v.old) (V.kept v.old) (V.seen v.new) (V.kept v.new) s (rename_row_of s (ino_numbers busy.now) from.dir.0 a dir.0 name.now from.ino.0 (get s.names (dir.0, name.now))) (NoneDone s) result }
+    ensures forgets { OnOk result (Forgets (volume_layout shape.now (V.seen v.old).words) (volume_layout shape.now (V.seen v.new).words) (V.seen v.new)) }
     ensures goes { Goes (V.health v.old) (V.below v.old) (V.health v.new) (V.below v.new) }
     ensures ends { EndsBy (V.health v.old) (V.health v.new) (Faulted result) (IsErrOf result FileFail.Stopped) }
     ensures sound { V.sound v.new }
@@ -71,6 +75,7 @@ pub fn rename<V: Volume>(
     requires path { IsPath path.now }
     requires to { IsPath to.now }
     ensures leaves { (s : State) → ReadsAs shape.now (V.seen v.old).words s → FileEnds SaysDone shape.now (V.seen v.old) (V.kept v.old) (V.seen v.new) (V.kept v.new) s (rename_of s path.now to.now (ino_numbers busy.now)) (NoneDone s) result }
+    ensures forgets { OnOk result (Forgets (volume_layout shape.now (V.seen v.old).words) (volume_layout shape.now (V.seen v.new).words) (V.seen v.new)) }
     ensures goes { Goes (V.health v.old) (V.below v.old) (V.health v.new) (V.below v.new) }
     ensures ends { EndsBy (V.health v.old) (V.health v.new) (Faulted result) (IsErrOf result FileFail.Stopped) }
     ensures sound { V.sound v.new }

@@ -3,7 +3,8 @@
 ghost use Rattle.std.specs.Prelude.{◌≡◌, ◌≤◌, OnOk, IsErrOf};
 ghost use Rattle.rio_base.specs.ListVolumes.{ListSound, list_kept, list_seen};
 ghost use Rattle.file_store.specs.declared.failures.FileFail.TheVariants.{Stopped as FileStopped};
-ghost use Rattle.file_store.specs.Ends.{CanServe, IsPath};
+ghost use Rattle.rio_model.specs.Paths.{IsPath};
+ghost use Rattle.file_store.specs.Ends.{CanServe};
 ghost use Rattle.file_store.specs.TestVolumes.{CanStart};
 
 use crate::test_volume::{SHAPE, fresh, is_path, start_again};

@@ -4,8 +4,8 @@ ghost use Rattle.std.specs.Prelude.{◌≡◌, ◌≤◌, true, false, IfOk, OnO
 ghost use Rattle.rio_base.specs.ListVolumes.{IsNew, ListSound, list_kept, list_seen};
 ghost use Rattle.rio_base.specs.Shapes.{HasShape};
 ghost use Rattle.rio_base.specs.Volume.{Firm};
-ghost use Rattle.rio_model.specs.Paths.{IsName, IsNameByte};
-ghost use Rattle.file_store.specs.Ends.{CanServe, IsPath};
+ghost use Rattle.rio_model.specs.Paths.{IsName, IsNameByte, IsPath};
+ghost use Rattle.file_store.specs.Ends.{CanServe};
 ghost use Rattle.file_store.specs.TestVolumes.{CanStart, IsTestShape, fresh_words, marks_of};
 
 use crate::paths::name_end;

@@ -5,14 +5,14 @@ ghost use Rattle.rio_base.specs.Blocks.{EndsBy};
 ghost use Rattle.rio_base.specs.Volume.{Goes};
 ghost use Rattle.rio_model.specs.Answer.{last_of};
 ghost use Rattle.rio_model.specs.Held.{held_of};
-ghost use Rattle.rio_model.specs.Paths.{names_of, walk as walk_of, walk_to_dir as walk_to_dir_of};
+ghost use Rattle.rio_model.specs.Paths.{IsPath, names_of, walk as walk_of, walk_to_dir as walk_to_dir_of};
 ghost use Rattle.rio_model.specs.Placed.{volume_layout};
 ghost use Rattle.rio_model.specs.VolumeReads.{ReadsAs};
 ghost use Rattle.rio_model.specs.VolumeReady.{LeavesInUse};
 ghost use Rattle.rio_model.specs.declared.state.State.{State};
 ghost use Rattle.inode_table.specs.Inodes.{IsInode};
 ghost use Rattle.directories.specs.Rows.{HasRow, IsEntry};
-ghost use Rattle.file_store.specs.Ends.{CanServe, IsPath};
+ghost use Rattle.file_store.specs.Ends.{CanServe};
 ghost use Rattle.file_store.specs.Failures.{Faulted, Refuses, Unrefused};
 ghost use Rattle.file_store.specs.Walks.{Comes, IsRow, RowComes};
 

@@ -1,9 +1,13 @@
+pub mod Cuts
 pub mod Digits
 pub mod Gathering
 pub mod Held
 pub mod LineEnds
 pub mod Meanings
-pub mod Parts
+pub mod Names
+pub mod Numbers
+pub mod OneMeaning
+pub mod PathNames
 pub mod Passing
 pub mod Sendings
 pub mod Texts

@@ -1,10 +1,17 @@
 -- The grammar of request lines. A line has one of these forms or is no request.
-use Rattle.std.specs.Prelude.{◌≡◌, ◌<◌, ◌≤◌, ◌+◌, ◌*◌, ◌^◌, ℕ, List, ◌∷◌, ◌++◌, length, slice_index, codes, Option, Some, None}
+use Rattle.std.specs.Prelude.{◌≡◌, ◌<◌, ◌≤◌, ◌+◌, ◌*◌, ◌^◌, ◌⊎◌, ℕ, List, ◌∷◌, ◌++◌, length, All, slice_index, flat_map, codes, Option, Some, None}
 use Rattle.std.specs.Fmt.{decimal}
+use Rattle.std.specs.Int.{w64, to_be_bytes}
 use Rattle.hex.specs.Hex.{hex_digit_value}
 use Rattle.rio_model.specs.declared.request.Request.{Request}
-use Rattle.rio_model.specs.declared.request.Request.TheVariants.{Create, Write, Read, List as ListOf}
-use Rattle.rio_model.specs.Paths.{IsName}
+use Rattle.rio_model.specs.declared.request.Request.TheVariants.{Mkdir, Create, Region, Write, Read, Truncate, Unlink, Rmdir, Rename, Stat, List as ListOf, Sync, Begin, Range, Put, Get, Alloc, Free, Commit, Abort, Txns, Flush, Wild, Arm}
+use Rattle.rio_model.specs.Paths.{IsPath}
+
+-- ---- parts of a line
+
+-- decimal digits, at most 18, and none but 0 itself begins with 0
+abbrev pub IsNumber : List ℕ → ℕ → Type 0
+IsNumber digits n = (digits ≡ decimal n) × (n < 10 ^ 18)
 
 -- two digits stand for this byte, the high four bits first
 pub record AreDigitsOf (high low byte : ℕ) : Type 0 where
@@ -19,45 +26,84 @@ pub record IsHexOf (digits bytes : List ℕ) : Type 0 where
   pub two : length digits ≡ 2 * length bytes
   pub each : (k : ℕ) → k < length bytes → AreDigitsOf (slice_index digits (2 * k)) (slice_index digits (2 * k + 1)) (slice_index bytes k)
 
--- a number in a line: decimal digits, at most 18, and none but 0 itself begins with 0
-abbrev pub IsNumber : List ℕ → ℕ → Type 0
-IsNumber digits n = (digits ≡ decimal n) × (n < 10 ^ 18)
+-- ---- which texts write a part
 
--- the path of a name in the root directory
-abbrev pub IsInRoot : List ℕ → Type 0
-IsInRoot path = (name : List ℕ) × IsName name × (path ≡ 47 ∷ name)
+abbrev pub Path : List ℕ → List ℕ → Type 0
+Path path text = (text ≡ path) × IsPath path
 
--- `create P`
-pub record IsCreate (line path : List ℕ) : Type 0 where
-  pub is : line ≡ codes "create " ++ path
-  pub named : IsInRoot path
+abbrev pub Number : ℕ → List ℕ → Type 0
+Number n text = IsNumber text n
 
--- `write P 0 HEX`, with at most 1 MiB of data
-pub record IsWrite (line path : List ℕ) (off : ℕ) (bytes : List ℕ) : Type 0 where
-  pub digits : List ℕ
-  pub is : line ≡ codes "write " ++ (path ++ (codes " 0 " ++ digits))
-  pub named : IsInRoot path
-  pub start : off ≡ 0
-  pub hex : IsHexOf digits bytes
-  pub few : length bytes ≤ 1048576
+-- at most 1 MiB
+abbrev pub Data : List ℕ → List ℕ → Type 0
+Data bytes text = IsHexOf text bytes × (length bytes ≤ 1048576)
 
--- `read P OFF LEN`, with LEN at most 1 MiB
-pub record IsRead (line path : List ℕ) (off len : ℕ) : Type 0 where
-  pub off_digits : List ℕ
-  pub len_digits : List ℕ
-  pub is : line ≡ codes "read " ++ (path ++ (32 ∷ (off_digits ++ (32 ∷ len_digits))))
-  pub named : IsInRoot path
-  pub off_number : IsNumber off_digits off
-  pub len_number : IsNumber len_digits len
-  pub few : len ≤ 1048576
+-- 16 digits for the 8 bytes of a word, the highest first
+abbrev pub Value : ℕ → List ℕ → Type 0
+Value v text = IsHexOf text (to_be_bytes w64 v) × (v < 2 ^ 64)
+
+-- ---- parts with a space between them
+
+-- the first, a space and the rest
+pub record Then (First Rest : List ℕ → Type 0) (text : List ℕ) : Type 0 where
+  pub first : List ℕ
+  pub rest : List ℕ
+  pub is : text ≡ first ++ (32 ∷ rest)
+  pub first_is : First first
+  pub rest_is : Rest rest
+
+abbrev pub PathNumber : List ℕ → ℕ → List ℕ → Type 0
+PathNumber path n = Then (Path path) (Number n)
+
+abbrev pub PathNumbers : List ℕ → ℕ → ℕ → List ℕ → Type 0
+PathNumbers path m n = Then (Path path) (Then (Number m) (Number n))
+
+abbrev pub PathData : List ℕ → ℕ → List ℕ → List ℕ → Type 0
+PathData path n bytes = Then (Path path) (Then (Number n) (Data bytes))
+
+abbrev pub Paths : List ℕ → List ℕ → List ℕ → Type 0
+Paths path other = Then (Path path) (Path other)
+
+abbrev pub NumberValue : ℕ → ℕ → List ℕ → Type 0
+NumberValue n v = Then (Number n) (Value v)
+
+abbrev pub NumbersValue : ℕ → ℕ → ℕ → List ℕ → Type 0
+NumbersValue m n v = Then (Number m) (NumberValue n v)
+
+-- ---- the forms
+
+-- the line is this word, a space and these parts
+pub record Says (word : List ℕ) (Parts : List ℕ → Type 0) (line : List ℕ) : Type 0 where
+  pub text : List ℕ
+  pub is : line ≡ word ++ (32 ∷ text)
+  pub parts : Parts text
 
 -- the line asks for this
 abbrev pub Form : List ℕ → Request → Type 0
-Form line (Create path) = IsCreate line path
-Form line (Write path off bytes) = IsWrite line path off bytes
-Form line (Read path off len) = IsRead line path off len
-Form line (ListOf path) = (line ≡ codes "list /") × (path ≡ codes "/")
-Form line _ = ⊥
+Form line (Mkdir path) = Says (codes "mkdir") (Path path) line
+Form line (Create path) = Says (codes "create") (Path path) line
+Form line (Region path pages undo) = Says (codes "region") (PathNumbers path pages undo) line × (1 ≤ pages) × (1 ≤ undo)
+Form line (Write path off bytes) = Says (codes "write") (PathData path off bytes) line
+Form line (Read path off len) = Says (codes "read") (PathNumbers path off len) line × (len ≤ 1048576)
+Form line (Truncate path len) = Says (codes "truncate") (PathNumber path len) line
+Form line (Unlink path) = Says (codes "unlink") (Path path) line
+Form line (Rmdir path) = Says (codes "rmdir") (Path path) line
+Form line (Rename path to) = Says (codes "rename") (Paths path to) line
+Form line (Stat path) = Says (codes "stat") (Path path) line
+Form line (ListOf path) = Says (codes "list") (Path path) line
+Form line Sync = line ≡ codes "sync"
+Form line (Begin path) = Says (codes "begin") (Path path) line
+Form line (Range path off len) = Says (codes "range") (PathNumbers path off len) line
+Form line (Put path off bytes) = Says (codes "put") (PathData path off bytes) line
+Form line (Get path off len) = Says (codes "get") (PathNumbers path off len) line × (len ≤ 1048576)
+Form line (Alloc path units) = Says (codes "alloc") (PathNumber path units) line × (1 ≤ units)
+Form line (Free path at) = Says (codes "free") (PathNumber path at) line
+Form line (Commit path) = Says (codes "commit") (Path path) line
+Form line (Abort path) = Says (codes "abort") (Path path) line
+Form line Txns = line ≡ codes "txns"
+Form line (Flush count) = Says (codes "flush") (Number count) line
+Form line (Wild at value) = Says (codes "wild") (NumberValue at value) line
+Form line (Arm step at value) = Says (codes "arm") (NumbersValue step at value) line
 
 -- what a line asks for, or that it is no request
 abbrev pub Means : List ℕ → Option Request → Type 0

@@ -1,6 +1,8 @@
 pub mod Form
+pub mod Fronts
 pub mod Gathered
 pub mod Lines
 pub mod Reading
 pub mod Sending
 pub mod Text
+pub mod Words

@@ -1,202 +1,163 @@
 //! What a line asks for.
 
-ghost use Rattle.std.specs.Prelude.{◌≡◌, ◌≢◌, ◌↔◌, ◌<◌, ◌≤◌, ◌++◌, ◌∷◌, ℕ, List, length, codes, IsTrue, IfOk, MatchOption};
-ghost use Rattle.std.specs.Fmt.{decimal};
-ghost use Rattle.rio_base.specs.Pieces.{Lacks};
+ghost use Rattle.std.specs.Prelude.{◌≡◌, ◌≢◌, ◌<◌, ◌++◌, ◌∷◌, ℕ, List, length, codes, IfOk, MatchOption};
 ghost use Rattle.rio_model.specs.declared.request.Request.{Request as RequestOf};
-ghost use Rattle.rio_model.specs.Paths.{IsName, IsNameByte};
-ghost use Rattle.request_codec.specs.Form.{Form, Means, IsHexOf, IsNumber, IsInRoot};
+ghost use Rattle.request_codec.specs.Form.{Form, Means};
+ghost use Rattle.request_codec.specs.Words.{path_word, number_word, numbers_word, data_word, other_word};
 
-use crate::hex_digits::decode_into;
-use itoa::Buffer;
-use memchr::memchr;
+use crate::number::number_of;
+use crate::parts::{
+    at_space, number_value, numbers_value, path_data, path_number, path_numbers, paths,
+};
+use crate::path::is_path;
+use crate::words::{DataWord, NumberWord, NumbersWord, OtherWord, PathWord};
 use rio_base::Octets;
 use rio_model::Request;
 use std::alloc::{AllocError, Global};
-
-/// The longest name.
-const NAME_BYTES: usize = 56;
-
-/// The most data that a request carries or asks for.
-const DATA_BYTES: u64 = 1_048_576;
-
-/// The first number that has too many digits.
-const NUMBER_LIMIT: u64 = 1_000_000_000_000_000_000;
 
 /// Reads a line. `None` is the answer to a line that is no request.
 pub fn parse_line(alloc: Global, line: &[u8]) -> Result<Option<Request>, AllocError>
     ensures { IfOk result (λ found. Means line.now found) }
 {
-    if let Some(path) = after(line, b"create ") {
-        return parse_create(alloc, path);
+    let Some((word, text)) = at_space(line) else {
+        return Ok(parse_word(line));
+    };
+    if let Some(word) = PathWord::of(word) {
+        return parse_path(alloc, word, text);
     }
-    if let Some(rest) = after(line, b"write ") {
-        return parse_write(alloc, rest);
+    if let Some(word) = DataWord::of(word) {
+        return parse_data(alloc, word, text);
     }
-    if let Some(rest) = after(line, b"read ") {
-        return parse_read(alloc, rest);
+    if let Some(word) = NumbersWord::of(word) {
+        return parse_numbers(alloc, word, text);
     }
-    if line == b"list /".as_slice() {
-        return parse_list(alloc);
+    if let Some(word) = NumberWord::of(word) {
+        return parse_number(alloc, word, text);
+    }
+    if let Some(word) = OtherWord::of(word) {
+        return parse_other(alloc, word, text);
     }
     Ok(None)
 }
 
-/// What `create ` and these bytes ask for.
-fn parse_create(alloc: Global, path: &[u8]) -> Result<Option<Request>, AllocError>
-    ensures { IfOk result (λ found. Means (codes "create " ++ path.now) found) }
+/// A copy of a path.
+fn copied(alloc: Global, path: &[u8]) -> Result<Octets, AllocError>
+    ensures { IfOk result (λ copy. copy ≡ path.now) }
 {
-    if !is_in_root(path) {
-        return Ok(None);
-    }
-    let path = Octets::from(Vec::from_slice(alloc, path)?);
-    Ok(Some(Request::Create { path }))
+    Ok(Octets::from(Vec::from_slice(alloc, path)?))
 }
 
-/// What `write ` and these bytes ask for.
-fn parse_write(alloc: Global, rest: &[u8]) -> Result<Option<Request>, AllocError>
-    ensures { IfOk result (λ found. Means (codes "write " ++ rest.now) found) }
+/// What a word alone asks for.
+fn parse_word(word: &[u8]) -> Option<Request>
+    ensures { MatchOption result ((word.now ≢ codes "sync") × (word.now ≢ codes "txns")) (λ request. Form word.now request) }
 {
-    let Some((path, tail)) = at_space(rest) else {
-        return Ok(None);
-    };
-    let Some(digits) = after(tail, b"0 ") else {
-        return Ok(None);
-    };
-    if !is_in_root(path) {
-        return Ok(None);
-    }
-    let Some(bytes) = data_of(alloc, digits)? else {
-        return Ok(None);
-    };
-    let path = Octets::from(Vec::from_slice(alloc, path)?);
-    Ok(Some(Request::Write {
-        path,
-        off: 0,
-        bytes,
-    }))
-}
-
-/// What `read ` and these bytes ask for.
-fn parse_read(alloc: Global, rest: &[u8]) -> Result<Option<Request>, AllocError>
-    ensures { IfOk result (λ found. Means (codes "read " ++ rest.now) found) }
-{
-    let Some((path, tail)) = at_space(rest) else {
-        return Ok(None);
-    };
-    let Some((off, len)) = at_space(tail) else {
-        return Ok(None);
-    };
-    if !is_in_root(path) {
-        return Ok(None);
-    }
-    let Some(off) = number_of(off) else {
-        return Ok(None);
-    };
-    let Some(len) = number_of(len) else {
-        return Ok(None);
-    };
-    if len > DATA_BYTES {
-        return Ok(None);
-    }
-    let path = Octets::from(Vec::from_slice(alloc, path)?);
-    Ok(Some(Request::Read { path, off, len }))
-}
-
-/// What `list /` asks for.
-fn parse_list(alloc: Global) -> Result<Option<Request>, AllocError>
-    ensures { IfOk result (λ found. Means (codes "list /") found) }
-{
-    let path = Octets::from(Vec::from_slice(alloc, b"/")?);
-    Ok(Some(Request::List { path }))
-}
-
-/// What stands behind a word that a line begins with.
-fn after<'a>(line: &'a [u8], word: &[u8]) -> Option<&'a [u8]>
-    ensures { MatchOption result ((rest : List ℕ) → line.now ≢ word.now ++ rest) (λ rest. line.now ≡ word.now ++ rest.now) }
-{
-    line.strip_prefix(word)
-}
-
-/// What stands before and behind the first space.
-fn at_space(line: &[u8]) -> Option<(&[u8], &[u8])>
-    ensures { MatchOption result (Lacks 32 line.now) (λ parts. (line.now ≡ parts.0.now ++ (32 ∷ parts.1.now)) × Lacks 32 parts.0.now) }
-{
-    let at = memchr(b' ', line)?;
-    Some((&line[..at], &line[at + 1..]))
-}
-
-/// Whether this is the path of a name in the root directory.
-fn is_in_root(path: &[u8]) -> bool
-    ensures { IsTrue result ↔ IsInRoot path.now }
-{
-    match path {
-        [b'/', name @ ..] => is_name(name),
-        _ => false,
+    match word {
+        b"sync" => Some(Request::Sync),
+        b"txns" => Some(Request::Txns),
+        _ => None,
     }
 }
 
-/// Whether a name may be given to a file or a directory.
-fn is_name(name: &[u8]) -> bool
-    ensures { IsTrue result ↔ IsName name.now }
+/// What a word and this path ask for.
+fn parse_path(alloc: Global, word: PathWord, path: &[u8]) -> Result<Option<Request>, AllocError>
+    ensures { IfOk result (λ found. Means (path_word word ++ (32 ∷ path.now)) found) }
 {
-    if name.is_empty()
-        || name.len() > NAME_BYTES
-        || name == b".".as_slice()
-        || name == b"..".as_slice()
-    {
-        return false;
-    }
-    name.iter().all(|b| is_name_byte(*b))
-}
-
-/// Whether a byte may stand in a name.
-fn is_name_byte(b: u8) -> bool
-    ensures { IsTrue result ↔ IsNameByte b }
-{
-    b'!' <= b && b <= b'~' && b != b'/'
-}
-
-/// The number that these digits write. They are 1 to 18 decimal digits, and none but 0 itself begins with 0. `None` is the
-/// answer to all others.
-pub fn number_of(digits: &[u8]) -> Option<u64>
-    ensures { MatchOption result ((n : ℕ) → IsNumber digits.now n → ⊥) (λ n. IsNumber digits.now n) }
-{
-    let Ok(text) = str::from_utf8(digits) else {
-        return None;
-    };
-    let Ok(number) = text.parse::<u64>() else {
-        return None;
-    };
-    if number < NUMBER_LIMIT && is_text_of(digits, number) {
-        Some(number)
-    } else {
-        None
-    }
-}
-
-/// Whether a number is written like this.
-fn is_text_of(digits: &[u8], number: u64) -> bool
-    ensures { IsTrue result ↔ (digits.now ≡ decimal number) }
-{
-    let mut buffer = Buffer::new();
-    digits == buffer.format(number).as_bytes()
-}
-
-/// The bytes that these digits stand for, where there are no more than a request may carry.
-fn data_of(alloc: Global, digits: &[u8]) -> Result<Option<Octets>, AllocError>
-    ensures { IfOk result (λ found. MatchOption found ((bytes : List ℕ) → IsHexOf digits.now bytes → length bytes ≤ 1048576 → ⊥) (λ bytes. IsHexOf digits.now bytes × (length bytes ≤ 1048576))) }
-{
-    let count = digits.len() / 2;
-    if digits.len() != 2 * count || count as u64 > DATA_BYTES {
+    if !is_path(path) {
         return Ok(None);
     }
-    let mut bytes = vec![in alloc; 0u8; count]?;
-    if decode_into(digits, &mut bytes) {
-        Ok(Some(Octets::from(bytes)))
-    } else {
-        Ok(None)
+    let path = copied(alloc, path)?;
+    Ok(Some(word.request(path)))
+}
+
+/// What a word, a path and a number ask for.
+fn parse_number(alloc: Global, word: NumberWord, text: &[u8]) -> Result<Option<Request>, AllocError>
+    ensures { IfOk result (λ found. Means (number_word word ++ (32 ∷ text.now)) found) }
+{
+    let Some((path, number)) = path_number(text) else {
+        return Ok(None);
+    };
+    if !word.takes(number) {
+        return Ok(None);
     }
+    let path = copied(alloc, path)?;
+    Ok(Some(word.request(path, number)))
+}
+
+/// What a word, a path and two numbers ask for.
+fn parse_numbers(
+    alloc: Global,
+    word: NumbersWord,
+    text: &[u8],
+) -> Result<Option<Request>, AllocError>
+    ensures { IfOk result (λ found. Means (numbers_word word ++ (32 ∷ text.now)) found) }
+{
+    let Some((path, first, second)) = path_numbers(text) else {
+        return Ok(None);
+    };
+    if !word.takes(first, second) {
+        return Ok(None);
+    }
+    let path = copied(alloc, path)?;
+    Ok(Some(word.request(path, first, second)))
+}
+
+/// What a word, a path, a number and data ask for.
+fn parse_data(alloc: Global, word: DataWord, text: &[u8]) -> Result<Option<Request>, AllocError>
+    ensures { IfOk result (λ found. Means (data_word word ++ (32 ∷ text.now)) found) }
+{
+    let Some((path, off, bytes)) = path_data(alloc, text)? else {
+        return Ok(None);
+    };
+    let path = copied(alloc, path)?;
+    Ok(Some(word.request(path, off, bytes)))
+}
+
+/// What a word and what follows it ask for.
+fn parse_other(alloc: Global, word: OtherWord, text: &[u8]) -> Result<Option<Request>, AllocError>
+    ensures { IfOk result (λ found. Means (other_word word ++ (32 ∷ text.now)) found) }
+{
+    match word {
+        OtherWord::Rename => parse_rename(alloc, text),
+        OtherWord::Flush => Ok(parse_flush(text)),
+        OtherWord::Wild => Ok(parse_wild(text)),
+        OtherWord::Arm => Ok(parse_arm(text)),
+    }
+}
+
+/// What `rename` and two paths ask for.
+fn parse_rename(alloc: Global, text: &[u8]) -> Result<Option<Request>, AllocError>
+    ensures { IfOk result (λ found. Means (codes "rename" ++ (32 ∷ text.now)) found) }
+{
+    let Some((path, to)) = paths(text) else {
+        return Ok(None);
+    };
+    let path = copied(alloc, path)?;
+    let to = copied(alloc, to)?;
+    Ok(Some(Request::Rename { path, to }))
+}
+
+/// What `flush` and this number ask for.
+fn parse_flush(text: &[u8]) -> Option<Request>
+    ensures { Means (codes "flush" ++ (32 ∷ text.now)) result }
+{
+    let count = number_of(text)?;
+    Some(Request::Flush { count })
+}
+
+/// What `wild`, a number and a word ask for.
+fn parse_wild(text: &[u8]) -> Option<Request>
+    ensures { Means (codes "wild" ++ (32 ∷ text.now)) result }
+{
+    let (at, value) = number_value(text)?;
+    Some(Request::Wild { at, value })
+}
+
+/// What `arm`, two numbers and a word ask for.
+fn parse_arm(text: &[u8]) -> Option<Request>
+    ensures { Means (codes "arm" ++ (32 ∷ text.now)) result }
+{
+    let (step, at, value) = numbers_value(text)?;
+    Some(Request::Arm { step, at, value })
 }
 
 /// No line has two meanings.

@@ -8,3 +8,7 @@ pub mod OneReading
 pub mod StateSteps
 pub mod FreshReads
 pub mod FreeByState
+pub mod RowsGone
+pub mod Room
+pub mod FileAnswers
+pub mod AnswerSteps

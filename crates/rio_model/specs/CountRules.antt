@@ -261,7 +261,7 @@ left_over l f h low_marked k b within = elim (cases_lt b (reserved l.shape)) [
 
 -- ---- the sum over all inodes
 
-sum_last : (f : ℕ → ℕ) (n a : ℕ) → sum (map f (range_with_len a (suc n))) ≡ sum (map f (range_with_len a n)) + f (a + n)
+pub sum_last : (f : ℕ → ℕ) (n a : ℕ) → sum (map f (range_with_len a (suc n))) ≡ sum (map f (range_with_len a n)) + f (a + n)
 sum_last f n a =
     let more : suc n ≡ n + 1 = omega arith in
     let one : sum (map f (range_with_len a (suc n))) ≡ sum (map f (range_with_len a n) ++ f (a + n) ∷ []) = ap (λ x. sum (map f (range_with_len a x))) more ∙ ap sum (map-range_with_len_more f a n (a + n) refl) in

@@ -1,4 +1,6 @@
 pub mod Answer
+pub mod AnswerRules
+pub mod Answers
 pub mod Codes
 pub mod CountRules
 pub mod Cover
@@ -19,13 +21,16 @@ pub mod Names
 pub mod NodeChangeRules
 pub mod NodeChanges
 pub mod Nodes
+pub mod Parts
 pub mod Paths
 pub mod Placed
 pub mod PlacedRules
 pub mod Registry
 pub mod RegistryRules
+pub mod Requests
 pub mod Run
 pub mod Sizes
+pub mod Transactions
 pub mod Undo
 pub mod UndoRules
 pub mod UpdateRules

@@ -1,5 +1,5 @@
 -- Names and paths, and what stands at a path.
-use Rattle.std.specs.Prelude.{◌≢◌, ◌≤◌, ℕ, Bool, true, false, List, [], ◌∷◌, length, All, drop, codes, Option, Some, None, Result, Ok, Err, if◌then◌else◌}
+use Rattle.std.specs.Prelude.{◌≢◌, ◌≤◌, ℕ, Bool, true, false, List, [], ◌∷◌, length, All, drop, codes, flat_map, ◌≡◌, ◌⊎◌, Option, Some, None, Result, Ok, Err, if◌then◌else◌}
 use Rattle.std.specs.FinMap.{get}
 use Rattle.rio_base.specs.Pieces.{pieces}
 use Rattle.rio_model.specs.declared.node.Node.{Node}
@@ -19,6 +19,19 @@ pub record IsName (name : List ℕ) : Type 0 where
   pub bytes : All IsNameByte name
   pub not_dot : name ≢ codes "."
   pub not_dots : name ≢ codes ".."
+
+-- names, each with a slash before it
+abbrev pub slashed : List (List ℕ) → List ℕ
+slashed names = flat_map (λ name. 47 ∷ name) names
+
+-- a text that is these names
+pub record AreNames (text : List ℕ) (names : List (List ℕ)) : Type 0 where
+  pub is : text ≡ slashed names
+  pub each : All IsName names
+
+-- `/`, or 1 to 32 names with a slash before each
+abbrev pub IsPath : List ℕ → Type 0
+IsPath text = (text ≡ codes "/") ⊎ ((names : List (List ℕ)) × AreNames text names × (1 ≤ length names) × (length names ≤ 32))
 
 -- the names of a path, in order; `/` has none
 abbrev pub names_of : List ℕ → List (List ℕ)

@@ -1,7 +1,7 @@
 //! The two finite maps of a state, kept as rows. Contracts see the map, so the order of the rows doesn't matter.
 
 ghost use Rattle.std.specs.Prelude.{◌≡◌, map, MatchOption, OnOk, None};
-ghost use Rattle.std.specs.FinMap.{from_entries, get, insert};
+ghost use Rattle.std.specs.FinMap.{from_entries, get, insert, remove};
 ghost use Rattle.std.specs.Ordering.{eq_by_cmp};
 ghost use Rattle.rio_model.specs.Names.{name_cmp};
 
@@ -84,6 +84,13 @@ impl NameRows {
         self.rows.insert(0, row)?;
         Ok(())
     }
+
+    /// Lets a directory's name name nothing.
+    pub fn remove(&mut self, dir: Ino, name: &[u8])
+        ensures { self.new ≡ remove self.old (dir.0, name.now) }
+    {
+        self.rows.retain(|row| !row.is_at(dir, name));
+    }
 }
 
 impl From<Vec<NameRow>> for NameRows {
@@ -160,6 +167,13 @@ impl NodeRows {
     {
         self.rows.insert(0, row)?;
         Ok(())
+    }
+
+    /// Lets an inode stand for nothing.
+    pub fn remove(&mut self, ino: Ino)
+        ensures { self.new ≡ remove self.old ino.0 }
+    {
+        self.rows.retain(|row| row.ino.0 != ino.0);
     }
 }
 

@@ -1,10 +1,7 @@
-pub mod Names
-pub mod Files
-pub mod Added
-pub mod Steps
-pub mod TableSteps
-pub mod Listed
 pub mod Running
+pub mod Turns
+pub mod ServedRuns
+pub mod FreshCores
 pub mod ServeWords
 pub mod FormatWords
 pub mod Formatting
@@ -13,4 +10,7 @@ pub mod ImageFile
 pub mod Telling
 pub mod Entries
 pub mod Listings
-pub mod SentNames
+pub mod FreshMachineMemory
+pub mod FreshMachineDisks
+pub mod FreshMachineCaches
+pub mod TestServers

@@ -2,7 +2,8 @@
 use Rattle.std.proofs.Common.{◌≡◌, ◌≢◌, ℕ, ◌+◌, ◌-◌, ◌<◌, ◌≤◌, ◌^◌, true, false, cond, List, [], ◌∷◌, ◌++◌, length, take, refl, sym, ap, subst, ◌∙◌, inl, inr, arith, length-append, append_assoc}
 use Rattle.std.specs.Prelude.{Option, Some, None, ◌⊎◌}
 use Rattle.std.proofs.lemmas.List.{append-nil, take_at}
-use Rattle.rio_base.specs.Pieces.{onto, pieces}
+use Rattle.rio_base.specs.Counts.{RoseBy}
+use Rattle.rio_base.specs.Pieces.{Lacks, onto, pieces}
 use Rattle.rio_base.specs.Streams.{appended, prepended}
 use Rattle.rio_model.specs.declared.reply.Reply.{Reply}
 use Rattle.rio_model.specs.declared.request.Request.{Request}
@@ -16,12 +17,19 @@ use Rattle.request_codec.specs.Reading.{Reading}
 use Rattle.request_codec.specs.Lines.{Fails, Gives, HasEnded, HasNoEnd, Passes, TakesLine, ended, lines}
 use Rattle.request_codec.specs.Text.{text_of}
 use Rattle.rio_server.specs.declared.ends.ServeEnd.{ServeEnd}
-use Rattle.rio_server.specs.declared.ends.ServeEnd.TheVariants.{End, SourceFault, SinkFault, InputLimit, Memory}
-use Rattle.rio_server.specs.ServeRun.{Answers, AreFirst, EachMeans, Finishes, Replied, Serves, ended_lines, texts}
+use Rattle.rio_server.specs.declared.ends.ServeEnd.TheVariants.{End, SourceFault, SinkFault, InputLimit, Memory, Stopped}
+use Rattle.rio_server.specs.ServeRun.{Answers, AreFirst, EachMeans, Finishes, Replied, Serves, ServesCounted, StopsOn, ended_lines, fault_of, faults_in, texts}
 use Rattle.rio_server.specs.Asking.{AsksFor, Stops}
-use Rattle.rio_server.proofs.Steps.{pieces-one}
 
-appended-nil : (told : Option (List ℕ)) → told ≡ appended told []
+-- bytes without the separator are one piece
+pieces-one : (sep : ℕ) (xs : List ℕ) → Lacks sep xs → xs ≢ [] → pieces sep xs ≡ xs ∷ []
+pieces-one sep [] h n = absurd (n refl)
+pieces-one sep (x ∷ []) h n = ap (λ b. cond b ([] ∷ []) ((x ∷ []) ∷ [])) h.0
+pieces-one sep (x ∷ y ∷ xs) h n =
+    ap (λ b. cond b ([] ∷ pieces sep (y ∷ xs)) (onto x (pieces sep (y ∷ xs)))) h.0
+    ∙ ap (onto x) (pieces-one sep (y ∷ xs) h.1 (λ e. cc))
+
+pub appended-nil : (told : Option (List ℕ)) → told ≡ appended told []
 appended-nil None = refl
 appended-nil (Some front) = ap Some (sym (append-nil front))
 
@@ -29,7 +37,7 @@ appended-append : (told : Option (List ℕ)) (xs ys : List ℕ) → appended (ap
 appended-append None xs ys = refl
 appended-append (Some front) xs ys = ap Some (append_assoc front xs ys)
 
-prepended-nil : (told : Option (List ℕ)) → told ≡ prepended [] told
+pub prepended-nil : (told : Option (List ℕ)) → told ≡ prepended [] told
 prepended-nil None = refl
 prepended-nil (Some rest) = refl
 
@@ -264,7 +272,7 @@ input_end s t start mid reader left told now written written_now fresh none with
     by_cover (inr both) = both.1
 
 -- there was no memory for the reader itself
-pub no_start : (s : State) (left written : Option (List ℕ)) → Serves s s Memory left left written written
+unfoldable pub no_start : (s : State) (left written : Option (List ℕ)) → Serves s s Memory left left written written
 no_start s left written = record {
   taken = [];
   out = [];
@@ -309,6 +317,7 @@ stop_end s t start mid reader left told now written written_now InputLimit fresh
 stop_end s t start mid reader left told now written written_now Memory fresh none took stops =
     stop_here s t start mid reader left told now written written_now written_now fresh took stops.unended stops.part stops.passed Memory (λ given is count. (few_given start reader given none count stops.within, refl)) refl
 stop_end s t start mid reader left told now written written_now SinkFault fresh none took stops = absurd stops
+stop_end s t start mid reader left told now written written_now Stopped fresh none took stops = absurd stops
 
 eaten_falls : (mid reader : Reading) (told now : Option (List ℕ)) (eaten : List ℕ) → Passes mid told eaten reader now → 0 < length eaten → reader.taken ≤ 2 ^ 40 → (2 ^ 40 - reader.taken) + length reader.held < (2 ^ 40 - mid.taken) + length mid.held
 eaten_falls mid reader told now eaten p some within =
@@ -327,3 +336,103 @@ budget_falls mid reader told now line takes within = by_case takes.passed
     by_case : Passes mid told (ended line) reader now ⊎ (Passes mid told line reader now × (line ≢ []) × HasEnded reader now) → (2 ^ 40 - reader.taken) + length reader.held < (2 ^ 40 - mid.taken) + length mid.held
     by_case (inl p) = eaten_falls mid reader told now (ended line) p (omega (arith, length-append line (10 ∷ []))) within
     by_case (inr p) = eaten_falls mid reader told now line p.0 (some line p.1) within
+
+-- ---- a stop on a request
+
+-- what the reader passed over, whatever was replied
+record Over (start : Reading) (left : Option (List ℕ)) (reader : Reading) (now : Option (List ℕ)) (answered : List (List ℕ)) : Type 0 where
+  pub fed : List ℕ
+  pub passed : Passes start left fed reader now
+  pub whole : AllWhole answered
+  pub cover : (fed ≡ ended_lines answered) ⊎ ((reader.ended ≡ true) × (lines fed ≡ answered))
+
+over_more : (s t : State) (start mid reader : Reading) (left told now : Option (List ℕ)) (answered : List (List ℕ)) (replies : List Reply) (line : List ℕ) → Fed s t start left mid told answered replies → mid.ended ≡ false → TakesLine mid told line reader now → Over start left reader now (answered ++ line ∷ [])
+over_more s t start mid reader left told now answered replies line h unended takes = by_cover h.cover takes.passed
+  where
+    by_cover : (h.fed ≡ ended_lines answered) ⊎ ((mid.ended ≡ true) × (lines h.fed ≡ answered)) → Passes mid told (ended line) reader now ⊎ (Passes mid told line reader now × (line ≢ []) × HasEnded reader now) → Over start left reader now (answered ++ line ∷ [])
+    by_cover (inr closed) p = absurd (let e = closed.0 in cc (unended, e))
+    by_cover (inl is) (inl p) = record {
+      fed = h.fed ++ ended line;
+      passed = passes_trans start mid reader left told now h.fed (ended line) h.passed p;
+      whole = all_whole-more answered line h.whole takes.whole;
+      cover = inl (ap (λ zs. zs ++ ended line) is ∙ sym (ended_lines-more answered line));
+    }
+    by_cover (inl is) (inr p) = record {
+      fed = h.fed ++ line;
+      passed = passes_trans start mid reader left told now h.fed line h.passed p.0;
+      whole = all_whole-more answered line h.whole takes.whole;
+      cover = inr (p.2.told, ap (λ zs. lines (zs ++ line)) is ∙ lines_first answered line h.whole ∙ ap (λ zs. answered ++ zs) (pieces-one 10 line takes.whole p.1));
+    }
+
+over_first : (start reader : Reading) (left now : Option (List ℕ)) (answered : List (List ℕ)) (h : Over start left reader now answered) → start.held ≡ [] → (reader.ended ≡ true → HasEnded reader now) → AreFirst h.passed.given now answered
+over_first start reader left now answered h fresh closed = by_cover h.cover
+  where
+    by_cover : (h.fed ≡ ended_lines answered) ⊎ ((reader.ended ≡ true) × (lines h.fed ≡ answered)) → AreFirst h.passed.given now answered
+    by_cover (inl is) = first_ended h.passed.given reader.held now answered h.whole (given_is start reader left now h.fed h.passed fresh ∙ ap (λ zs. zs ++ reader.held) is)
+    by_cover (inr both) =
+        let over = closed both.0 in
+        let all : h.passed.given ≡ h.fed = given_is start reader left now h.fed h.passed fresh ∙ ap (λ zs. h.fed ++ zs) over.empty ∙ append-nil h.fed in
+        record { more = []; front = ap lines all ∙ both.1 ∙ sym (append-nil answered); whole = inr over.spent }
+
+pub stopped_end : (s t : State) (start mid reader : Reading) (left told now written written_mid : Option (List ℕ)) (request : Option Request) (r : Request) → start.held ≡ [] → Took s t start left mid told written written_mid → AsksFor mid told request reader now → request ≡ Some r → StopsOn s t r left now written written_mid
+stopped_end s t start mid reader left told now written written_mid request r fresh took asks is =
+    let over = over_more s t start mid reader left told now took.answered took.replies asks.line took.so_far asks.unended asks.takes in
+    record {
+      taken = over.passed.given;
+      gave = over.passed.gave;
+      answered = took.answered;
+      replies = took.replies;
+      line = asks.line;
+      means = subst (Means asks.line) is asks.means;
+      first = over_first start reader left now (took.answered ++ asks.line ∷ []) over fresh asks.closed;
+      replied = took.so_far.replied;
+      wrote = took.wrote;
+    }
+
+-- ---- counts of faults
+
+faults-more : (replies : List Reply) (reply : Reply) → faults_in (replies ++ reply ∷ []) ≡ faults_in replies + fault_of reply
+faults-more [] reply = let e : fault_of reply + 0 ≡ 0 + fault_of reply = omega arith in e
+faults-more (r ∷ replies) reply = let rest = faults-more replies reply in omega (arith, rest)
+
+rose-more : (n m a b c : ℕ) → RoseBy n a b → RoseBy m b c → b ≤ c → RoseBy (n + m) a c
+rose-more n m a b c (inl h) (inl k) later = inl (omega (arith, h, k))
+rose-more n m a b c h (inr k) later = inr k
+rose-more n m a b c (inr h) (inl k) later = inr (omega (arith, h, later))
+
+pub record TookCounted (s t : State) (start : Reading) (left : Option (List ℕ)) (reader : Reading) (now written written_now : Option (List ℕ)) (before after : ℕ) : Type 0 where
+  pub took : Took s t start left reader now written written_now
+  pub counted : RoseBy (faults_in took.replies) before after
+
+pub count_start : (s : State) (start : Reading) (left written : Option (List ℕ)) (before : ℕ) → start.ended ≡ false → TookCounted s s start left start left written written before before
+unfolding took_start
+count_start s start left written before unended = record { took = took_start s start left written unended; counted = inl (omega arith) }
+
+pub count_more : (s t u : State) (start mid reader : Reading) (left told now written written_mid written_now : Option (List ℕ)) (request : Option Request) (reply : Reply) (a b c : ℕ) → TookCounted s t start left mid told written written_mid a b → AsksFor mid told request reader now → Step t request reply u → written_now ≡ appended written_mid (text_of reply) → RoseBy (fault_of reply) b c → b ≤ c → TookCounted s u start left reader now written written_now a c
+unfolding took_more
+count_more s t u start mid reader left told now written written_mid written_now request reply a b c h asks step wrote rose later = record {
+  took = took_more s t u start mid reader left told now written written_mid written_now request reply h.took asks step wrote;
+  counted = subst (λ n. RoseBy n a c) (sym (faults-more h.took.replies reply)) (rose-more (faults_in h.took.replies) (fault_of reply) a b c h.counted rose later);
+}
+
+pub count_sink : (s t u : State) (start mid reader : Reading) (left told now written written_mid written_now : Option (List ℕ)) (request : Option Request) (reply : Reply) (a b c : ℕ) → start.held ≡ [] → start.taken ≡ 0 → TookCounted s t start left mid told written written_mid a b → AsksFor mid told request reader now → Step t request reply u → ((k : ℕ) × (k ≤ length (text_of reply)) × (written_now ≡ appended written_mid (take k (text_of reply)))) → RoseBy (fault_of reply) b c → b ≤ c → ServesCounted s u SinkFault left now written written_now a c
+unfolding sink_end
+count_sink s t u start mid reader left told now written written_mid written_now request reply a b c fresh none h asks step wrote rose later = record {
+  serves = sink_end s t u start mid reader left told now written written_mid written_now request reply fresh none h.took asks step wrote;
+  counted = subst (λ n. RoseBy n a c) (sym (faults-more h.took.replies reply)) (rose-more (faults_in h.took.replies) (fault_of reply) a b c h.counted rose later);
+}
+
+pub count_end : (s t : State) (start mid reader : Reading) (left told now written written_now : Option (List ℕ)) (end : ServeEnd) (a b : ℕ) → start.held ≡ [] → start.taken ≡ 0 → TookCounted s t start left mid told written written_now a b → Stops mid told end reader now → ServesCounted s t end left now written written_now a b
+unfolding stop_end input_end fail_end stop_here
+count_end s t start mid reader left told now written written_now end a b fresh none h stops = record {
+  serves = stop_end s t start mid reader left told now written written_now end fresh none h.took stops;
+  counted = subst (λ rs. RoseBy (faults_in rs) a b) (sym (same end stops)) h.counted;
+}
+  where
+    same : (e : ServeEnd) (z : Stops mid told e reader now) → (stop_end s t start mid reader left told now written written_now e fresh none h.took z).run.replies ≡ h.took.replies
+    same End z = refl
+    same SourceFault z = refl
+    same InputLimit z = refl
+    same Memory z = refl
+    same SinkFault z = absurd z
+    same Stopped z = absurd z

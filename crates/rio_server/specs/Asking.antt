@@ -1,21 +1,21 @@
 -- What the next line of an input asks for, or why there is none.
 use Rattle.std.specs.Prelude.{◌≡◌, ◌≤◌, ◌^◌, ℕ, true, false, List, Option, IfSome}
 use Rattle.rio_model.specs.declared.request.Request.{Request}
+use Rattle.rio_model.specs.Requests.{IsRequest}
 use Rattle.request_codec.specs.declared.lines.NextLine.TheVariants.{End as NoLine}
 use Rattle.request_codec.specs.declared.lines.LineFail.TheVariants.{Fault, Limit}
 use Rattle.request_codec.specs.Form.{Means}
 use Rattle.request_codec.specs.Lines.{Fails, Gives, HasEnded, Passes, TakesLine}
 use Rattle.request_codec.specs.Reading.{Reading}
 use Rattle.rio_server.specs.declared.ends.ServeEnd.{ServeEnd}
-use Rattle.rio_server.specs.declared.ends.ServeEnd.TheVariants.{End, SourceFault, SinkFault, InputLimit, Memory}
-use Rattle.rio_server.specs.Served.{IsServed}
+use Rattle.rio_server.specs.declared.ends.ServeEnd.TheVariants.{End, SourceFault, SinkFault, InputLimit, Memory, Stopped}
 
 -- a line was taken, and it asks for this
 pub record AsksFor (old : Reading) (left : Option (List ℕ)) (request : Option Request) (new : Reading) (left_after : Option (List ℕ)) : Type 0 where
   pub line : List ℕ
   pub takes : TakesLine old left line new left_after
   pub means : Means line request
-  pub served : IfSome request IsServed
+  pub asked : IfSome request IsRequest
   pub unended : old.ended ≡ false
   pub within : new.taken ≤ 2 ^ 40
   pub closed : new.ended ≡ true → HasEnded new left_after
@@ -34,3 +34,4 @@ Stops old left SourceFault new left_after = Fails old left Fault new left_after 
 Stops old left InputLimit new left_after = Fails old left Limit new left_after × (old.ended ≡ false)
 Stops old left Memory new left_after = LacksLine old left new left_after
 Stops old left SinkFault new left_after = ⊥
+Stops old left Stopped new left_after = ⊥

@@ -1,5 +1,5 @@
-pub mod Table
 pub mod Served
+pub mod FreshMachines
 pub mod ServeRun
 pub mod Asking
 pub mod Command

@@ -1,15 +1,19 @@
 -- One served run: what was read, what was replied, and where it ended.
-use Rattle.std.specs.Prelude.{◌≡◌, ◌+◌, ◌≤◌, ◌^◌, ℕ, List, [], ◌∷◌, ◌++◌, length, take, flat_map, Option, Result, OnOk, OnErr, ◌⊎◌}
+use Rattle.std.specs.Prelude.{◌≡◌, ◌+◌, ◌≤◌, ◌^◌, ℕ, List, [], ◌∷◌, ◌++◌, length, take, flat_map, Option, Some, Result, Ok, Err, ◌⊎◌}
+use Rattle.rio_base.specs.declared.failures.Stopped.{Stopped as MachineStopped}
+use Rattle.rio_base.specs.Counts.{RoseBy}
 use Rattle.rio_base.specs.Streams.{appended, prepended, IsSpent}
 use Rattle.rio_model.specs.declared.reply.Reply.{Reply}
+use Rattle.rio_model.specs.declared.reply.Reply.TheVariants.{Fault}
 use Rattle.rio_model.specs.declared.request.Request.{Request}
 use Rattle.rio_model.specs.declared.state.State.{State}
+use Rattle.rio_model.specs.Parts.{IsPart}
 use Rattle.rio_model.specs.Run.{Run, Step}
 use Rattle.request_codec.specs.Form.{Means}
 use Rattle.request_codec.specs.Lines.{HasNoEnd, ended, lines}
 use Rattle.request_codec.specs.Text.{text_of}
 use Rattle.rio_server.specs.declared.ends.ServeEnd.{ServeEnd}
-use Rattle.rio_server.specs.declared.ends.ServeEnd.TheVariants.{End, SourceFault, SinkFault, InputLimit, Memory}
+use Rattle.rio_server.specs.declared.ends.ServeEnd.TheVariants.{End, SourceFault, SinkFault, InputLimit, Memory, Stopped}
 
 -- what each line means, line by line
 abbrev pub EachMeans : List (List ℕ) → List (Option Request) → Type 0
@@ -58,6 +62,8 @@ Finishes InputLimit taken left answered replies out = (length taken ≡ 2 ^ 40 +
 Finishes Memory taken left answered replies out = (length taken ≤ 2 ^ 40) × (out ≡ texts replies)
 -- the sink refused a reply
 Finishes SinkFault taken left answered replies out = (length taken ≤ 2 ^ 40) × IsCut replies out
+-- a run that the machine stopped ends on a request without a reply: see StopsOn
+Finishes Stopped taken left answered replies out = ⊥
 
 -- A run from s to t that took these bytes and wrote `out`.
 pub record ServeRun (s t : State) (taken : List ℕ) (left : Option (List ℕ)) (end : ServeEnd) (out : List ℕ) : Type 0 where
@@ -79,9 +85,49 @@ pub record Serves (s t : State) (end : ServeEnd) (left left_after written writte
 abbrev pub Answers : State → List ℕ → Reply → State → Type 0
 Answers s line reply t = (request : Option Request) × Means line request × Step s request reply t
 
--- The request has its reply, and it was written, or, where a call failed, a front of it.
-pub record Tells {T E : Type 0} (told : Result T E) (s : State) (request : Option Request) (t : State) (written written_after : Option (List ℕ)) : Type 0 where
-  pub reply : Reply
-  pub step : Step s request reply t
-  pub whole : OnOk told (written_after ≡ appended written (text_of reply))
-  pub cut : OnErr told ((k : ℕ) × (k ≤ length (text_of reply)) × (written_after ≡ appended written (take k (text_of reply))))
+-- ---- replies that tell of a device fault
+
+abbrev pub fault_of : Reply → ℕ
+fault_of (Fault done) = 1
+fault_of _ = 0
+
+abbrev pub faults_in : List Reply → ℕ
+faults_in [] = 0
+faults_in (reply ∷ replies) = fault_of reply + faults_in replies
+
+-- a run, in which the count of the disk's faults rose by as many as its replies tell of
+pub record ServesCounted (s t : State) (end : ServeEnd) (left left_after written written_after : Option (List ℕ)) (before after : ℕ) : Type 0 where
+  pub serves : Serves s t end left left_after written written_after
+  pub counted : RoseBy (faults_in serves.run.replies) before after
+
+-- ---- a run that was stopped on a request
+
+-- t is the state after the answered lines. The line after them asks for r, and no reply to it was written
+pub record StopsOn (s t : State) (r : Request) (left left_after written written_after : Option (List ℕ)) : Type 0 where
+  pub taken : List ℕ
+  pub gave : left ≡ prepended taken left_after
+  pub answered : List (List ℕ)
+  pub replies : List Reply
+  pub line : List ℕ
+  pub means : Means line (Some r)
+  pub first : AreFirst taken left_after (answered ++ line ∷ [])
+  pub replied : Replied s answered replies t
+  pub wrote : written_after ≡ appended written (texts replies)
+
+-- ---- one line
+
+-- how a line is answered from state s. `holds` and `stands` tell of the server afterwards which state it holds, and where
+-- it is stopped which state stands
+abbrev pub AnswersLine : (State → Type 0) → (State → Type 0) → State → Option Request → Result Reply MachineStopped → Type 0
+AnswersLine holds stands s request (Ok reply) = (t : State) × Step s request reply t × holds t
+AnswersLine holds stands s request (Err stopped) = (r : Request) × (request ≡ Some r) × (t : State) × IsPart s r t × stands t
+
+-- ---- every end
+
+-- A run from state s. `holds` and `stands` tell of the server afterwards which state it holds, and where it is stopped
+-- which state stands. The numbers are the faults of its disk before and after.
+abbrev pub RunEnds : (State → Type 0) → (State → Type 0) → State → ServeEnd → Option (List ℕ) → Option (List ℕ) → Option (List ℕ) → Option (List ℕ) → ℕ → ℕ → Type 0
+RunEnds holds stands s Stopped left left_after written written_after before after =
+    (mid : State) × (r : Request) × (t : State) × StopsOn s mid r left left_after written written_after × IsPart mid r t × stands t
+RunEnds holds stands s end left left_after written written_after before after =
+    (t : State) × holds t × ServesCounted s t end left left_after written written_after before after

@@ -13,6 +13,8 @@ pub enum ServeEnd {
     InputLimit,
     /// There was no memory for a line.
     Memory,
+    /// The machine stopped. A served run of the program gives its machine no cause to.
+    Stopped,
 }
 
 /// How formatting ended.

@@ -1,6 +1,6 @@
 //! Whole runs of the program.
 
-ghost use Rattle.std.specs.Prelude.{◌≡◌, ◌≢◌, ◌≤◌, ◌<◌, ◌^◌, ◌⊎◌, ℕ, List, Some, length};
+ghost use Rattle.std.specs.Prelude.{◌≡◌, ◌≢◌, ◌≤◌, ◌<◌, ◌^◌, ◌⊎◌, ℕ, List, Some, None, false, length};
 ghost use Rattle.std.specs.String.{string_bytes};
 ghost use Rattle.rio_base.specs.Counts.{Rose};
 ghost use Rattle.rio_server.specs.Command.{IsServe, RunServes, WritesLine, last_line, status_of, usage_line};
@@ -8,18 +8,19 @@ ghost use Rattle.rio_server.specs.declared.format_words.FormatSizes.{FormatSizes
 ghost use Rattle.rio_server.specs.Commands.{IsCommand};
 ghost use Rattle.rio_server.specs.Format.{Formats, IsFormat};
 ghost use Rattle.rio_server.specs.Registry.{IsAbsent, IsRegistry, Lists};
-ghost use Rattle.rio_server.specs.Table.{served_fresh};
+ghost use Rattle.rio_server.specs.Served.{served_fresh};
 
 use crate::ends::ServeEnd;
 use crate::format::format;
 use crate::format_words::format_of;
+use crate::fresh_machine::served_core;
 use crate::last_line::say;
 use crate::registry_command::show_registry;
 use crate::registry_words::registry_of;
-use crate::serve::serve;
 use crate::serve_words::serve_of;
-use crate::table::Table;
+use crate::serving::serve_with;
 use rio_base::{Host, Sink, Source};
+use rio_core::Server;
 use std::alloc::Global;
 
 /// What is printed where the words are no command.
@@ -28,7 +29,8 @@ const USAGE: &[u8; 49] = b"usage: rio format, serve, registry, check, drill\n";
 /// Runs the program on the words after its name. Answers its exit status, and hands the host back.
 ///
 /// `serve IMAGE DISK` answers the request lines of the source until that ends, each reply written to the sink before the
-/// next line is read. The two files aren't looked at yet, and each run begins with the root directory alone.
+/// next line is read. The two files aren't looked at yet: each run begins with the root directory alone, in a fresh memory
+/// of 64 frames over a fresh volume of 256 blocks and 64 inodes.
 ///
 /// `format IMAGE DISK --frames F --blocks B --inodes I --scratch C` writes a fresh memory image and a fresh volume as
 /// these two files of the host, DISK first.
@@ -115,8 +117,39 @@ fn serve_from_root<S: Source, K: Sink>(alloc: Global, source: &mut S, sink: &mut
     ensures complete { (input : List ℕ) → S.left source.old ≡ Some input → length input ≤ 2 ^ 40
         → (Rose (S.faults source.old) (S.faults source.new) → ⊥) → (Rose (K.faults sink.old) (K.faults sink.new) → ⊥) → (result ≡ 0) ⊎ (result ≡ 6) }
 {
-    let mut table = Table::new(alloc);
-    let end = serve(alloc, &mut table, source, sink);
+    let Ok(mut core) = served_core(alloc) else {
+        return conclude(ServeEnd::Memory, sink);
+    };
+    let status = serve_from_core(alloc, &mut core, source, sink);
+    let (_, _) = core.into_machine().into_parts();
+    status
+}
+
+/// Serves from a core that holds the root directory alone, on a machine that has no cause to stop and whose disk never
+/// fails, and writes the last line.
+fn serve_from_core<C: Server, S: Source, K: Sink>(
+    alloc: Global,
+    core: &mut C,
+    source: &mut S,
+    sink: &mut K,
+) -> u8
+    requires sound { C.sound core.old }
+    requires holds { C.holds core.old served_fresh }
+    requires health { C.health core.old ≡ record { faults = 0; stopped = false } }
+    requires unset { (C.below core.old).causes.stop_set ≡ false }
+    requires unarmed { (C.below core.old).causes.armed ≡ None }
+    requires limit { (C.below core.old).limit ≡ Some 0 }
+    ensures served { RunServes served_fresh result (Rose (K.faults sink.old) (K.faults sink.new)) (S.left source.old) (S.left source.new) (K.written sink.old) (K.written sink.new) }
+    ensures source_fault { result ≡ 8 → Rose (S.faults source.old) (S.faults source.new) }
+    ensures sink_fault { result ≡ 9 → Rose (K.faults sink.old) (K.faults sink.new) }
+    ensures steady { result ≡ 0 → K.faults sink.new ≡ K.faults sink.old }
+    ensures limit { (input : List ℕ) → S.left source.old ≡ Some input → result ≡ 11 → 2 ^ 40 < length input }
+    ensures over { (input : List ℕ) → S.left source.old ≡ Some input → 2 ^ 40 < length input → result ≢ 0 }
+    ensures complete { (input : List ℕ) → S.left source.old ≡ Some input → length input ≤ 2 ^ 40
+        → (Rose (S.faults source.old) (S.faults source.new) → ⊥) → (Rose (K.faults sink.old) (K.faults sink.new) → ⊥) → (result ≡ 0) ⊎ (result ≡ 6) }
+    ensures sound { C.sound core.new }
+{
+    let end = serve_with(alloc, core, source, sink);
     conclude(end, sink)
 }
 
@@ -140,6 +173,7 @@ fn conclude<K: Sink>(end: ServeEnd, sink: &mut K) -> u8
         ServeEnd::Memory => say(b"out of memory\n", 6, sink),
         ServeEnd::SourceFault => say(b"source fault\n", 8, sink),
         ServeEnd::SinkFault => 9,
+        ServeEnd::Stopped => 10,
         ServeEnd::InputLimit => say(b"input limit\n", 11, sink),
     }
 }

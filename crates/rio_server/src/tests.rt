@@ -45,8 +45,9 @@ fn first_lines_have_their_replies(rt: HostRuntime) -> Result<(), Fail> {
 #[test]
 fn rows_of_requests_have_their_replies(rt: HostRuntime) -> Result<(), Fail> {
     let input = b"create /f\ncreate /f\nread /g 0 1\nmkdir /a\n\
-        write /f 0 68656c6c6f\nwrite /f 0 4a\nread /f 0 9\ncreate /b\ncreate /a\nlist /\n";
-    let wanted = b"ok 2\nerr 3\nerr 2\nerr 1\nok 5\nok 1\nok 4a656c6c6f\nok 3\nok 4\nok 3 a b f\n";
+        write /f 0 68656c6c6f\nwrite /f 0 4a\nread /f 0 9\ncreate /b\ncreate /a/c\nlist /\nflush 3\n";
+    let wanted =
+        b"ok 2\nerr 3\nerr 2\nok 3\nok 5\nok 1\nok 4a656c6c6f\nok 4\nok 5\nok 3 a b f\nok\n";
     for most in [1usize, 2, 3, 7, 65536] {
         let ran = served(rt.alloc(), input, most)?;
         assert_eq!(rt; ran.status, 0, "in pieces of {most}");
@@ -84,10 +85,10 @@ fn lines_that_are_no_requests_are_refused(rt: HostRuntime) -> Result<(), Fail> {
         "write /f 0 6",
         "truncate /f 01",
         "mkdir /..",
-        "sync",
+        "sync ",
         "create  /f",
         "create /f\r",
-        "list /f",
+        "list f",
     ];
     for line in lines {
         let ran = served(rt.alloc(), line.as_bytes(), 4096)?;

@@ -1,8 +1,10 @@
 //! Names of paths, and what stands at them.
 
-ghost use Rattle.std.specs.Prelude.{◌≡◌, IfOk, MatchResult, Ok as Good, Err as Bad};
+ghost use Rattle.std.specs.Prelude.{◌≡◌, ◌<◌, length, IfOk, MatchResult, Ok as Good, Err as Bad};
 ghost use Rattle.std.specs.FinMap.{get};
 ghost use Rattle.rio_base.specs.Pieces.{pieces as pieces_of};
+ghost use Rattle.rio_model.specs.Answer.{front_of, last_of as defined_last};
+ghost use Rattle.rio_model.specs.Answers.{found as found_of};
 ghost use Rattle.rio_model.specs.Paths.{names_of as defined_names, is_dir as is_dir_of, walk as walk_of, walk_to_dir as walk_to_dir_of};
 
 use crate::node::Node;
@@ -41,7 +43,7 @@ fn pieces(alloc: Global, bytes: &[u8]) -> Result<Vec<Octets>, AllocError>
 }
 
 /// Whether an inode is a directory.
-fn is_dir(s: &State, at: Ino) -> bool
+pub fn is_dir(s: &State, at: Ino) -> bool
     ensures { result ≡ is_dir_of (get s.now.nodes at.0) }
 {
     match s.nodes.get(at) {
@@ -74,5 +76,32 @@ pub fn walk_to_dir(s: &State, names: &[Octets]) -> Result<Ino, u8>
     match walk(s, names) {
         Ok(at) => { if is_dir(s, at) { Ok(at) } else { Err(4) } }
         Err(number) => Err(number),
+    }
+}
+
+/// The directory that holds, or is to hold, the last of these names, or a refusal.
+pub fn directory_of(s: &State, names: &[Octets]) -> Result<Ino, u8>
+    requires { 0 < length names.now }
+    ensures { MatchResult result (λ i. walk_to_dir_of s.now (front_of names.now) ≡ Good i.0) (λ number. walk_to_dir_of s.now (front_of names.now) ≡ Bad number) }
+{
+    let last = names.len() - 1;
+    walk_to_dir(s, &names[..last])
+}
+
+/// The last of these names.
+pub fn last_of(names: &[Octets]) -> &Octets
+    requires { 0 < length names.now }
+    ensures { result.now ≡ defined_last names.now }
+{
+    &names[names.len() - 1]
+}
+
+/// What a directory's name names, or a refusal.
+pub fn found(s: &State, dir: Ino, name: &Octets) -> Result<Ino, u8>
+    ensures { MatchResult result (λ i. found_of s.now dir.0 name.now ≡ Good i.0) (λ number. found_of s.now dir.0 name.now ≡ Bad number) }
+{
+    match s.names.get(dir, name.as_slice()) {
+        Some(ino) => Ok(ino),
+        None => Err(2),
     }
 }

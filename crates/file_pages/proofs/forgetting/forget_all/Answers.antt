@@ -1,7 +1,8 @@
-use Rattle.std.proofs.Common.{◌<◌, length, sym, subst, ◌∙◌, le_trans}
+use Rattle.std.proofs.Common.{◌≡◌, ◌<◌, ◌≤◌, false, length, sym, subst, ◌∙◌, le_trans, arith}
 use Rattle.std.specs.List.{Contains}
 use Rattle.rio_base.specs.Rules.{goes_trans}
 use Rattle.block_alloc.specs.Bitmap.{numbers}
+use Rattle.file_pages.proofs.Forgotten.{forgotten_all, forgotten_more}
 use Rattle.file_pages.proofs.Listed.{as_many, block_place, number_at, listed}
 use Rattle.file_pages.proofs.Staged.{beside_drops, beside_trans, beside_wider}
 use Rattle.file_pages.proofs.forgetting.forget_all.Goals as goal
@@ -26,7 +27,9 @@ loop-t-preserved g c =
     let few : c.loop-t.t < length c.args.blocks.now = c.loop-t-test.true in
     let is = number_at c.args.blocks.now c.loop-t.t _ few in
     let call = c.forget.ensures in
+    let y = g.V.Blocks.seen c.forget.new.self in
     record {
+      forgotten = forgotten_more blocks c.loop-t.t _ y call.drops inv.forgotten (subst (λ b. y.cached b ≡ false) is c.in_ok-forget.ensures.ok.1);
       beside = beside_trans _ _ _ _ _ _ _ inv.beside (beside_wider _ (Contains blocks) _ _ _ _ (λ b e. subst (Contains blocks) (sym is ∙ sym e) (listed blocks c.loop-t.t (subst (λ n. c.loop-t.t < n) (sym (as_many c.args.blocks.now)) few))) (beside_drops _ _ _ _ _ call.count call.others call.standing call.firm call.drops));
       idle = call.idle;
       goes = goes_trans _ _ _ _ _ _ inv.goes call.goes;
@@ -34,3 +37,8 @@ loop-t-preserved g c =
       running = c.in_ok-forget.ensures.ends.cause ∙ inv.running;
       sound = call.sound;
     }
+
+pub returns-clause-forgotten : goal.returns-clause-forgotten
+returns-clause-forgotten g c =
+    let all : length c.args.blocks.now ≤ c.loop-t.t = omega (arith, c.loop-t-test.false) in
+    forgotten_all c.args.blocks.now c.loop-t.t (g.V.Blocks.seen c.loop-t.v) all c.loop-t.invariant.forgotten

@@ -1,4 +1,5 @@
-use Rattle.std.proofs.Common.{◌≡◌, ◌≤◌, false}
+use Rattle.std.proofs.Common.{◌≡◌, ◌<◌, ◌≤◌, ℕ, false}
+use Rattle.std.specs.Prelude.{slice_index}
 use Rattle.std.specs.List.{Contains}
 use Rattle.rio_base.specs.Volume.{Goes}
 use Rattle.block_alloc.specs.Bitmap.{numbers}
@@ -11,6 +12,7 @@ invariant-loop-t g l =
     let kept = g.V.Volume.kept in
     let health = g.V.Blocks.health in
     record {
+      forgotten : (s : ℕ) → s < l.t → (seen l.v).cached (slice_index (numbers l.blocks) s) ≡ false;
       beside : Beside (Contains (numbers l.blocks)) (seen l.fn.v) (kept l.fn.v) (seen l.v) (kept l.v);
       idle : (kept l.v).updating ≡ false;
       goes : Goes (health l.fn.v) (g.V.Volume.below l.fn.v) (health l.v) (g.V.Volume.below l.v);

@@ -10,6 +10,7 @@ use Rattle.rio_model.specs.Sizes.{largest_size}
 use Rattle.rio_model.specs.VolumeReady.{LeavesInUse}
 use Rattle.file_pages.specs.Changes.{wanted_blocks}
 use Rattle.file_pages.specs.Files.{HasSpace}
+use Rattle.file_pages.specs.Forgetting.{Forgets}
 use Rattle.file_pages.specs.OrderRules.{leaves_looked, leaves_trans, ready_left}
 use Rattle.file_pages.proofs.Ends.{ends_vol_size, unrefused_vol}
 use Rattle.file_pages.proofs.Given.{given_most}
@@ -251,3 +252,15 @@ returns-else-len-inode-clause-goes g c =
 pub returns-else-len-inode-clause-ends : goal.returns-else-len-inode-clause-ends
 returns-else-len-inode-clause-ends g c =
     ends_by_after _ _ _ _ _ c.look_inode.ensures.ends.later c.in_ok-inode.ensures.ends.cause c.grow.ensures.ends
+
+pub returns-then-len-inode-clause-forgets : goal.returns-then-len-inode-clause-forgets
+returns-then-len-inode-clause-forgets g c =
+    let shape = c.args.shape.now in
+    let y = g.V.Blocks.seen c.shrink.new.v in
+    subst (λ f. OnOk c.shrink.result (Forgets (volume_layout shape f) (volume_layout shape y.words) y)) c.look_inode.ensures.looks.looks.words c.shrink.ensures.forgets
+
+pub returns-else-len-inode-clause-forgets : goal.returns-else-len-inode-clause-forgets
+returns-else-len-inode-clause-forgets g c =
+    let shape = c.args.shape.now in
+    let y = g.V.Blocks.seen c.grow.new.v in
+    subst (λ f. OnOk c.grow.result (Forgets (volume_layout shape f) (volume_layout shape y.words) y)) c.look_inode.ensures.looks.looks.words c.grow.ensures.forgets

@@ -1,8 +1,9 @@
-use Rattle.std.proofs.Common.{◌<◌, ℕ, length, subst, inl, inr}
+use Rattle.std.proofs.Common.{◌<◌, ℕ, length, subst, arith, inl, inr}
 use Rattle.std.proofs.lemmas.Result.{err_from_is_err_and}
 use Rattle.rio_base.specs.Rules.{◌then◌}
 use Rattle.block_alloc.specs.Bitmap.{numbers}
 use Rattle.rio_model.specs.Placed.{volume_layout}
+use Rattle.rio_model.specs.PlacedRules.{layout_refl}
 use Rattle.rio_model.specs.VolumeReady.{LeavesInUse}
 use Rattle.file_pages.specs.Changes.{Grows, planned_node}
 use Rattle.file_pages.specs.Files.{SetsBoth, file_bytes}
@@ -13,6 +14,7 @@ use Rattle.file_pages.proofs.Ends.{err_handed, size_err, unrefused_err}
 use Rattle.file_pages.specs.declared.failures.SizeFail.TheVariants.{NoSpace, TooLarge}
 use Rattle.rio_base.specs.Bitmap.{free_blocks}
 use Rattle.file_pages.proofs.Extended.{grow_new, grow_old, grow_prepared}
+use Rattle.file_pages.proofs.Forgotten.{grown_frees, prepared_forgets}
 use Rattle.file_pages.proofs.GrowEnds.{cleared_both, cleared_err, has_space}
 use Rattle.file_pages.proofs.Prepared.{leaves_err, made_err, made_ok, prepared_can}
 use Rattle.file_pages.proofs.resizing.grow.Goals as goal
@@ -214,6 +216,29 @@ returns-clause-leaves g c =
     let new = grow_new shape x k y j z l i given len (numbers c.in_ok-taken.taken) change c.requires.ino c.requires.ready c.requires.inode c.requires.file c.requires.grows leaves grows c.in_ok-clear_tail.ensures.cleared c.clear_tail.ensures.stores c.clear_tail.ensures.bytes in
     let done = made_ok shape x.words z m (g.V.Blocks.seen c.commit_change.new.v) (g.V.Volume.kept c.commit_change.new.v) i c.commit_change.result _ c.in_ok-commit_change.was (c.commit_change.ensures.leaves x.words m prepared) in
     (subst (SetsBoth shape x.words (g.V.Blocks.seen c.commit_change.new.v) (g.V.Volume.kept c.commit_change.new.v) i) new done.0, done.1)
+
+pub returns-clause-forgets : goal.returns-clause-forgets
+returns-clause-forgets g c =
+    let shape = c.args.shape.now in
+    let x = g.V.Blocks.seen c.args.v.now in
+    let k = g.V.Volume.kept c.args.v.now in
+    let i = c.args.i.0 in
+    let len = c.args.len in
+    let given = c.args.inode.now in
+    let first = c.take_lowest.ensures in
+    let looked : LeavesInUse (volume_layout shape x.words) x k (g.V.Blocks.seen c.take_lowest.new.v) (g.V.Volume.kept c.take_lowest.new.v) = leaves_looked shape _ _ _ _ x (g.V.Blocks.seen c.take_lowest.new.v) k (g.V.Volume.kept c.take_lowest.new.v) c.requires.ready first.looks (g.met.V.Volume.passes_keeps _ _ first.passes) in
+    let y = g.V.Blocks.seen c.plan_growth.new.v in
+    let j = g.V.Volume.kept c.plan_growth.new.v in
+    let leaves : LeavesInUse (volume_layout shape x.words) x k y j = leaves_trans shape x k (g.V.Blocks.seen c.take_lowest.new.v) (g.V.Volume.kept c.take_lowest.new.v) y j c.requires.ready looked c.plan_growth.ensures.leaves in
+    let z = g.V.Blocks.seen c.clear_tail.new.v in
+    let l = g.V.Volume.kept c.clear_tail.new.v in
+    let settled = g.met.V.Volume.settled _ c.clear_tail.ensures.sound in
+    let change = c.in_ok-change.change in
+    let m = planned_node x.words i given len change in
+    let grows : Grows shape x.words y j i given len (numbers c.in_ok-taken.taken) change = subst (λ f. Grows shape f y j i given len (numbers c.in_ok-taken.taken) change) first.looks.looks.words c.in_ok-change.ensures.ok in
+    let prepared : Prepared shape x.words z l i m change = grow_prepared shape x k y j z l i given len (numbers c.in_ok-taken.taken) change c.requires.ino c.requires.ready settled c.requires.inode c.requires.file c.requires.grows leaves grows c.in_ok-clear_tail.ensures.cleared c.clear_tail.ensures.stores in
+    let w = g.V.Blocks.seen c.commit_change.new.v in
+    prepared_forgets shape x.words z l i m change w.words w prepared (c.in_ok-commit_change.ensures.change x.words m prepared) (layout_refl _) (λ b on. absurd (grown_frees shape x.words i given len change (inl (c.requires.inode, omega (arith, c.requires.file))) c.requires.grows grows.turns b on))
 
 pub returns-clause-space : goal.returns-clause-space
 returns-clause-space g c =

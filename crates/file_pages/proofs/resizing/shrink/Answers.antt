@@ -6,11 +6,14 @@ use Rattle.block_alloc.specs.Bitmap.{numbers}
 use Rattle.rio_model.specs.Placed.{volume_layout}
 use Rattle.rio_model.specs.VolumeReady.{LeavesInUse}
 use Rattle.file_pages.specs.Changes.{planned_node}
+use Rattle.file_pages.specs.Forgetting.{Uncached}
 use Rattle.file_pages.specs.OrderRules.{leaves_beside, leaves_looked, ready_left}
 use Rattle.file_pages.specs.LookingUpRules.{can_look_up}
 use Rattle.file_pages.specs.Preparing.{Prepared}
 use Rattle.file_pages.proofs.Dropped.{dropped_ok, dropped_stopped, file_fits, file_kind, freed_free, freed_place, new_bytes, old_bytes}
 use Rattle.file_pages.proofs.Ends.{ends_well_ok, size_err, size_halted, size_then, unrefused_err, unrefused_ok, unrefused_stop}
+use Rattle.file_pages.proofs.Extended.{layout_left}
+use Rattle.file_pages.proofs.Forgotten.{prepared_forgets}
 use Rattle.file_pages.proofs.Prepared.{leaves_err, made_err, made_ok, prepared_can, shrink_prepared}
 use Rattle.file_pages.proofs.resizing.shrink.Goals as goal
 
@@ -180,6 +183,30 @@ returns-clause-leaves g c =
     let bytes = new_bytes shape x.words y.words i given len change c.requires.ino call.looks.looks.words c.requires.inode c.requires.file c.requires.less in
     let settled = g.met.V.Volume.settled _ c.commit_change.ensures.sound in
     dropped_ok shape x k z l _ _ i len _ bytes done.0 done.1 settled dropped
+
+pub returns-clause-forgets : goal.returns-clause-forgets
+returns-clause-forgets g c =
+    let shape = c.args.shape.now in
+    let x = g.V.Blocks.seen c.args.v.now in
+    let k = g.V.Volume.kept c.args.v.now in
+    let y = g.V.Blocks.seen c.plan_shrink.new.v in
+    let j = g.V.Volume.kept c.plan_shrink.new.v in
+    let z = g.V.Blocks.seen c.commit_change.new.v in
+    let l = g.V.Volume.kept c.commit_change.new.v in
+    let i = c.args.i.0 in
+    let len = c.args.len in
+    let given = c.args.inode.now in
+    let change = c.in_ok-change.change in
+    let call = c.plan_shrink.ensures in
+    let leaves : LeavesInUse (volume_layout shape x.words) x k y j = leaves_looked shape _ _ _ _ x y k j c.requires.ready call.looks (g.met.V.Volume.passes_keeps _ _ call.passes) in
+    let m = planned_node x.words i given len change in
+    let prepared : Prepared shape x.words y j i m change = shrink_prepared shape x k y j i given len change c.requires.ino c.requires.ready (g.met.V.Volume.settled _ call.sound) leaves (inl (c.requires.inode, omega (arith, c.requires.file))) (sym c.requires.inode.kind ∙ c.requires.file) c.requires.file c.requires.inode.size c.requires.less c.in_ok-change.ensures.ok in
+    let done = made_ok shape x.words y m z l i c.commit_change.result _ c.in_ok-commit_change.was (c.commit_change.ensures.leaves x.words m prepared) in
+    let freed = numbers c.as_slice.result.now in
+    let free = λ (b : ℕ) (on : Contains freed b). freed_free shape x.words y.words z.words i m change b call.looks.looks.words (ready_left shape x k y j c.requires.ready leaves).mapped (c.in_ok-commit_change.ensures.change x.words m prepared) c.in_ok-change.ensures.ok.turns (subst (λ bs. Contains (numbers bs) b) c.as_slice.ensures on) in
+    let dropped = leaves_beside shape (Contains freed) z l (g.V.Blocks.seen c.forget_all.new.v) (g.V.Volume.kept c.forget_all.new.v) done.1 free c.forget_all.ensures.beside c.forget_all.ensures.idle in
+    let w = g.V.Blocks.seen c.forget_all.new.v in
+    prepared_forgets shape x.words y j i m change z.words w prepared (c.in_ok-commit_change.ensures.change x.words m prepared) (layout_left shape z l w _ done.1 dropped) (subst (λ bs. Uncached (Contains (numbers bs)) w) c.as_slice.ensures c.in_ok-forget_all.ensures.forgotten)
 
 pub returns-in_err-forget_all-clause-goes : goal.returns-in_err-forget_all-clause-goes
 returns-in_err-forget_all-clause-goes g c = (g.met.V.Volume.passes_keeps _ _ c.plan_shrink.ensures.passes).goes then c.commit_change.ensures.goes then c.forget_all.ensures.goes

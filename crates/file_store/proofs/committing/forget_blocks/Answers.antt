@@ -1,6 +1,9 @@
-use Rattle.std.proofs.Common.{◌∙◌, le_trans}
+use Rattle.std.proofs.Common.{◌≡◌, ◌≤◌, false, length, subst, ◌∙◌, le_trans, arith}
 use Rattle.rio_base.specs.BlockSets.{firm_outside_one, firm_outside_trans, same_outside_one, same_outside_trans}
 use Rattle.rio_base.specs.Rules.{drops_trans, goes_trans}
+use Rattle.block_alloc.specs.Bitmap.{numbers}
+use Rattle.file_pages.proofs.Forgotten.{forgotten_all, forgotten_more}
+use Rattle.file_pages.proofs.Listed.{number_at}
 use Rattle.file_store.proofs.Several.{number_in, number_place}
 use Rattle.file_store.proofs.committing.forget_blocks.Goals as goal
 
@@ -24,7 +27,9 @@ loop-t-preserved g c =
     let inv = c.loop-t.invariant in
     let call = c.forget.ensures in
     let mine = number_in c.args.blocks.now c.loop-t.t _ c.loop-t-test.true in
+    let y = g.V.Blocks.seen c.forget.new.self in
     record {
+      forgotten = forgotten_more (numbers c.args.blocks.now) c.loop-t.t _ y call.drops inv.forgotten (subst (λ b. y.cached b ≡ false) (number_at c.args.blocks.now c.loop-t.t _ c.loop-t-test.true) c.in_ok-forget.ensures.ok.1);
       words = same_outside_trans _ _ _ _ inv.words (same_outside_one _ _ _ _ mine call.others);
       standing = same_outside_trans _ _ _ _ inv.standing (same_outside_one _ _ _ _ mine call.standing);
       firm = firm_outside_trans _ _ _ _ inv.firm (firm_outside_one _ _ _ _ mine call.firm);
@@ -36,3 +41,8 @@ loop-t-preserved g c =
       running = c.in_ok-forget.ensures.ends.cause ∙ inv.running;
       sound = call.sound;
     }
+
+pub returns-clause-forgotten : goal.returns-clause-forgotten
+returns-clause-forgotten g c =
+    let all : length c.args.blocks.now ≤ c.loop-t.t = omega (arith, c.loop-t-test.false) in
+    forgotten_all c.args.blocks.now c.loop-t.t (g.V.Blocks.seen c.loop-t.v) all c.loop-t.invariant.forgotten

@@ -1,4 +1,5 @@
-use Rattle.std.proofs.Common.{◌≡◌, ◌≤◌, false}
+use Rattle.std.proofs.Common.{◌≡◌, ◌<◌, ◌≤◌, ℕ, false}
+use Rattle.std.specs.Prelude.{slice_index}
 use Rattle.std.specs.List.{Contains}
 use Rattle.rio_base.specs.BlockSets.{FirmOutside, SameOutside}
 use Rattle.rio_base.specs.Blocks.{Drops}
@@ -12,6 +13,7 @@ invariant-loop-t g l =
     let kept = g.V.Volume.kept in
     let health = g.V.Blocks.health in
     record {
+      forgotten : (s : ℕ) → s < l.t → (seen l.v).cached (slice_index (numbers l.blocks) s) ≡ false;
       words : SameOutside (Contains (numbers l.blocks)) (seen l.fn.v).words (seen l.v).words;
       standing : SameOutside (Contains (numbers l.blocks)) (kept l.fn.v).standing (kept l.v).standing;
       firm : FirmOutside (Contains (numbers l.blocks)) (kept l.fn.v) (kept l.v);

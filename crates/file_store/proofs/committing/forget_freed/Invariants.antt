@@ -3,6 +3,7 @@ use Rattle.rio_base.specs.BlockSets.{FirmOutside, SameOutside}
 use Rattle.rio_base.specs.Blocks.{Drops}
 use Rattle.rio_base.specs.Volume.{Goes}
 use Rattle.file_store.specs.Changes.{IsFreed}
+use Rattle.file_store.proofs.Forgotten.{ForgottenTo}
 use Rattle.file_store.proofs.committing.forget_freed.Given as goal
 
 abbrev pub invariant-loop-change : goal.invariant-loop-change
@@ -11,6 +12,7 @@ invariant-loop-change g l =
     let kept = g.V.Volume.kept in
     let health = g.V.Blocks.health in
     record {
+      forgotten : ForgottenTo (seen l.v) l.changes l.change-index;
       words : SameOutside (IsFreed l.changes) (seen l.fn.v).words (seen l.v).words;
       standing : SameOutside (IsFreed l.changes) (kept l.fn.v).standing (kept l.v).standing;
       firm : FirmOutside (IsFreed l.changes) (kept l.fn.v) (kept l.v);

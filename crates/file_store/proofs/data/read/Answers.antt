@@ -7,8 +7,9 @@ use Rattle.rio_model.specs.Answer.{answered, bytes_from}
 use Rattle.std.specs.Prelude.{drop, take}
 use Rattle.rio_base.specs.Rules.{◌then◌}
 use Rattle.file_pages.specs.Files.{file_bytes}
-use Rattle.file_store.specs.Answers.{read as read_of}
-use Rattle.file_store.specs.Ends.{NoneDone, SaysBytes}
+use Rattle.rio_model.specs.Answers.{read as read_of}
+use Rattle.rio_model.specs.Parts.{NoneDone}
+use Rattle.file_store.specs.Ends.{SaysBytes}
 use Rattle.file_store.proofs.AnsweredAt.{ends_answered, ends_look, fails_file, fails_read, read_answer}
 use Rattle.file_store.proofs.CallEnds.{after_well, ends_ok, ends_on, ends_read, well, well_read}
 use Rattle.file_store.proofs.Unchanged.{leaves_read, leaves_then}

@@ -9,8 +9,11 @@ use Rattle.rio_model.specs.declared.node.Node.TheVariants.{File}
 use Rattle.rio_model.specs.Answer.{answered, with_node}
 use Rattle.rio_model.specs.FileParts.{resized}
 use Rattle.std.specs.Prelude.{length}
-use Rattle.file_store.specs.Answers.{truncate as truncate_of, with_size}
-use Rattle.file_store.specs.Ends.{NoneDone, SaysDone}
+use Rattle.rio_model.specs.Answers.{truncate as truncate_of, with_size}
+use Rattle.rio_model.specs.Parts.{NoneDone}
+use Rattle.rio_model.specs.Placed.{volume_layout}
+use Rattle.file_pages.specs.Forgetting.{Forgets}
+use Rattle.file_store.specs.Ends.{SaysDone}
 use Rattle.file_store.proofs.AnsweredAt.{ends_after, ends_look, fails_file, size_ends_err, size_ends_ok}
 use Rattle.file_store.proofs.CallEnds.{after_well, ends_ok, ends_on, ends_size, well, well_size}
 use Rattle.file_store.proofs.data.truncate.Goals as goal
@@ -74,6 +77,12 @@ returns-clause-leaves g c =
     (size_ends_ok shape m l y j s path i len c.resize.result _ tt c.in_ok-resize.was
     (subst (λ f. ReadsAs shape f s) (sym way.words) reads) (c.in_ok-i.ensures.value s reads) (subst (λ f. (held_of shape f i).kind ≡ 2) (sym way.words) c.in_ok-i.ensures.file)
     (record { ok = call.ok; space = call.space; too_large = call.too_large; no_space = call.no_space; refused = call.refused; fault = call.fault; stopped = call.stopped; ready = call.ready }))
+
+pub returns-clause-forgets : goal.returns-clause-forgets
+returns-clause-forgets g c =
+    let shape = c.args.shape.now in
+    let z = g.V.Blocks.seen c.resize.new.v in
+    subst (λ f. Forgets (volume_layout shape f) (volume_layout shape z.words) z) c.walk_to_file.ensures.words c.in_ok-resize.ensures.forgets
 
 pub returns-clause-goes : goal.returns-clause-goes
 returns-clause-goes g c = c.walk_to_file.ensures.goes then c.resize.ensures.goes

@@ -6,8 +6,9 @@ use Rattle.rio_model.specs.declared.reply.Reply.TheVariants.{Names as NamesOf}
 use Rattle.rio_model.specs.Answer.{answered, names_in}
 use Rattle.rio_base.specs.Rules.{◌then◌}
 use Rattle.directories.specs.Rows.{ListsNames}
-use Rattle.file_store.specs.Answers.{list as list_of}
-use Rattle.file_store.specs.Ends.{NoneDone, SaysNames}
+use Rattle.rio_model.specs.Answers.{list as list_of}
+use Rattle.rio_model.specs.Parts.{NoneDone}
+use Rattle.file_store.specs.Ends.{SaysNames}
 use Rattle.file_store.proofs.AnsweredAt.{ends_answered, ends_look, fails_read, fails_walk, list_answer}
 use Rattle.file_store.proofs.CallEnds.{after_well, ends_ok, ends_on, ends_read, well, well_read}
 use Rattle.file_store.proofs.Unchanged.{leaves_read, leaves_then}

@@ -5,8 +5,9 @@ use Rattle.rio_model.specs.Held.{held_of}
 use Rattle.rio_model.specs.Paths.{names_of, walk}
 use Rattle.rio_model.specs.declared.reply.Reply.TheVariants.{Stat}
 use Rattle.inode_table.specs.Inodes.{IsInode}
-use Rattle.file_store.specs.Answers.{stat as stat_of, stat_node}
-use Rattle.file_store.specs.Ends.{NoneDone, SaysStat}
+use Rattle.rio_model.specs.Answers.{stat as stat_of, stat_node}
+use Rattle.rio_model.specs.Parts.{NoneDone}
+use Rattle.file_store.specs.Ends.{SaysStat}
 use Rattle.file_store.proofs.AnsweredAt.{ends_answered, ends_look, fails_unrefused, fails_walk}
 use Rattle.file_store.proofs.CallEnds.{after_well, ends_ok, ends_on, well}
 use Rattle.file_store.proofs.LookedAt.{inode_kind_held}

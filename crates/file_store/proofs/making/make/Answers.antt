@@ -1,4 +1,5 @@
 use Rattle.std.proofs.Common.{◌≡◌, ◌∙◌, ℕ, le_refl, refl, sym, ap, subst}
+use Rattle.std.specs.Prelude.{OnOk}
 use Rattle.std.proofs.lemmas.Result.{err_from_is_err_and}
 use Rattle.rio_base.specs.Rules.{◌then◌, ends_by_well}
 use Rattle.rio_model.specs.Answer.{least_free as least_of}
@@ -9,8 +10,10 @@ use Rattle.rio_model.specs.VolumeReads.{ReadsAs}
 use Rattle.rio_model.specs.VolumeReady.{LeavesInUse}
 use Rattle.directories.specs.Rows.{Finds, HasRow}
 use Rattle.file_pages.specs.OrderRules.{leaves_refl}
-use Rattle.file_store.specs.Answers.{empty_node, make as make_of, make_new as make_new_of}
-use Rattle.file_store.specs.Ends.{NoneDone, SaysIno}
+use Rattle.rio_model.specs.Answers.{empty_node, make as make_of, make_new as make_new_of}
+use Rattle.rio_model.specs.Parts.{NoneDone}
+use Rattle.file_pages.specs.Forgetting.{Forgets}
+use Rattle.file_store.specs.Ends.{SaysIno}
 use Rattle.file_store.specs.declared.failures.FileFail.TheVariants.{Refused}
 use Rattle.file_store.proofs.AnsweredAt.{ends_after, ends_look}
 use Rattle.file_store.proofs.AnsweredRows.{fails_make, made_anew, made_in, made_over, none_found}
@@ -161,6 +164,12 @@ returns-clause-leaves g c =
     (ends_as SaysIno shape n q y j s (make_of s names node) (make_new_of s dir name node (least_of s)) (NoneDone s) c.make_new.result
     (made_in s names (names_of c.cut_last.result.0.now) name node dir (c.is_root.ensures.not c.if-is_root.false) c.cut_last.ensures.front c.cut_last.ensures.last (c.in_ok-dir.ensures.value s reads) ∙ made_anew s dir name node (no_row shape x.words s dir name reads (none_found (held_of shape x.words dir) name c.in_ok-find.field-0 finds (sym c.is_some.ensures ∙ c.if-is_some.false))))
     (c.make_new.ensures.leaves s (subst (λ f. ReadsAs shape f s) (sym (c.find.ensures.looks.words ∙ c.walk_to_dir.ensures.words)) reads)))
+
+pub returns-clause-forgets : goal.returns-clause-forgets
+returns-clause-forgets g c =
+    let shape = c.args.shape.now in
+    let z = g.V.Blocks.seen c.make_new.new.v in
+    subst (λ f. OnOk c.make_new.result (Forgets (volume_layout shape f) (volume_layout shape z.words) z)) (c.find.ensures.looks.words ∙ c.walk_to_dir.ensures.words) c.make_new.ensures.forgets
 
 pub returns-clause-goes : goal.returns-clause-goes
 returns-clause-goes g c = c.walk_to_dir.ensures.goes then (g.met.V.Volume.passes_keeps _ _ c.find.ensures.passes).goes then c.make_new.ensures.goes

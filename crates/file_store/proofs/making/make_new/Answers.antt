@@ -9,8 +9,10 @@ use Rattle.rio_model.specs.VolumeReads.{ReadsAs}
 use Rattle.rio_model.specs.VolumeReady.{LeavesInUse}
 use Rattle.inode_table.specs.Inodes.{FindsFree}
 use Rattle.directories.specs.Rows.{HasRow}
-use Rattle.file_store.specs.Answers.{empty_node, make_new as make_new_of}
-use Rattle.file_store.specs.Ends.{NoneDone, SaysIno, SaysNumber}
+use Rattle.rio_model.specs.Answers.{empty_node, make_new as make_new_of}
+use Rattle.rio_model.specs.Parts.{NoneDone}
+use Rattle.file_pages.specs.Forgetting.{Forgets}
+use Rattle.file_store.specs.Ends.{SaysIno, SaysNumber}
 use Rattle.file_store.specs.declared.failures.FileFail.TheVariants.{Refused}
 use Rattle.file_store.proofs.AnsweredAt.{ends_after, ends_look}
 use Rattle.file_store.proofs.CallEnds.{after_well, ends_ok, ends_on, ends_refused, ends_vol, well, well_vol}
@@ -133,6 +135,12 @@ returns-clause-leaves g c =
     λ s reads. ends_after SaysIno shape x k m l y j s (make_new_of s dir name node (least_of s)) (NoneDone s) (Ok c.in-Some.i) leaves c.least_free.ensures.looks.words
     (ends_as SaysIno shape m l y j s (make_new_of s dir name node (least_of s)) (make_new_of s dir name node (Some i)) (NoneDone s) (Ok c.in-Some.i) (ap (make_new_of s dir name node) (least_some shape x.words s i reads value.0 value.1 value.2))
     (c.in_ok-make_row.ensures.leaves s (subst (λ f. ReadsAs shape f s) (sym c.least_free.ensures.looks.words) reads)))
+
+pub returns-clause-forgets : goal.returns-clause-forgets
+returns-clause-forgets g c =
+    let shape = c.args.shape.now in
+    let z = g.V.Blocks.seen c.make_row.new.v in
+    subst (λ f. Forgets (volume_layout shape f) (volume_layout shape z.words) z) c.least_free.ensures.looks.words c.in_ok-make_row.ensures.forgets
 
 pub returns-clause-goes : goal.returns-clause-goes
 returns-clause-goes g c = (g.met.V.Volume.passes_keeps _ _ c.least_free.ensures.passes).goes then c.make_row.ensures.goes

@@ -4,14 +4,16 @@ use Rattle.std.specs.Prelude.{Some}
 use Rattle.rio_base.specs.Rules.{◌then◌}
 use Rattle.rio_model.specs.Answer.{answered, with_new}
 use Rattle.rio_model.specs.declared.reply.Reply.TheVariants.{Number}
-use Rattle.file_store.specs.Answers.{empty_node, make_new}
+use Rattle.rio_model.specs.Answers.{empty_node, make_new}
 use Rattle.file_store.specs.Changes.{of_dir}
-use Rattle.file_store.specs.Ends.{NoneDone, SaysNumber}
+use Rattle.rio_model.specs.Parts.{NoneDone}
+use Rattle.file_store.specs.Ends.{SaysNumber}
 use Rattle.file_store.specs.declared.failures.FileFail.TheVariants.{Memory}
 use Rattle.file_store.proofs.AnsweredAt.{ends_look}
 use Rattle.file_store.proofs.CallEnds.{after_well, ends_ok, ends_size, ends_vol, well_size, well_vol}
-use Rattle.file_store.proofs.NewRows.{NewRow, new_reaches, new_requested}
-use Rattle.file_store.proofs.Requested.{can_commit, committed, ends_committed, ends_memory, ends_uncommitted, fails_add}
+use Rattle.file_store.proofs.Forgotten.{forgets_reached}
+use Rattle.file_store.proofs.NewRows.{NewRow, fails_new, new_needs, new_reaches, new_requested}
+use Rattle.file_store.proofs.Requested.{can_commit, committed, ends_committed, ends_memory, ends_uncommitted}
 use Rattle.file_store.proofs.RowRoom.{row_fits, row_room}
 use Rattle.file_store.proofs.making.make_row.Goals as goal
 
@@ -27,7 +29,7 @@ returns-in_err-row-clause-leaves g c =
     let x = g.V.Blocks.seen c.args.v.now in
     let p = err_from_is_err_and c.from_residual.result c.from_residual.ensures.1 in
     λ s reads. ends_look (SaysNumber c.args.i.0) shape x (g.V.Volume.kept c.args.v.now) (g.V.Blocks.seen c.plan_add.new.v) (g.V.Volume.kept c.plan_add.new.v) s (make_new s c.args.dir.0 c.args.name.now (empty_node c.args.kind) (Some c.args.i.0)) (NoneDone s) c.from_residual.result _ p.0 p.1 p.2 c.requires.can.ready (g.met.V.Volume.settled _ c.requires.sound) c.plan_add.ensures.leaves reads (refl, refl)
-    (fails_add shape x.words s c.args.dir.0 (answered (with_new s c.args.dir.0 c.args.name.now c.args.i.0 (empty_node c.args.kind)) (Number c.args.i.0)) c.plan_add.result _ c.in_err-row.was reads c.requires.dir c.plan_add.ensures.no_space c.plan_add.ensures.fits)
+    (fails_new shape x.words s c.args.dir.0 c.args.name.now c.args.i.0 c.args.kind c.plan_add.result _ c.requires.kind c.in_err-row.was reads c.requires.dir c.plan_add.ensures.no_space c.plan_add.ensures.fits)
 
 pub returns-in_err-row-clause-ends : goal.returns-in_err-row-clause-ends
 returns-in_err-row-clause-ends g c =
@@ -71,7 +73,7 @@ returns-in_err-commit_changes-clause-leaves g c =
     let p = err_from_is_err_and c.from_residual-in_err-commit_changes.result c.from_residual-in_err-commit_changes.ensures.1 in
     λ s reads. ends_uncommitted (SaysNumber c.args.i.0) shape x k y j z l changes c.commit_changes.result c.from_residual-in_err-commit_changes.result _ p.0 s (make_new s c.args.dir.0 c.args.name.now (empty_node c.args.kind) (Some c.args.i.0)) (with_new s c.args.dir.0 c.args.name.now c.args.i.0 (empty_node c.args.kind)) (Number c.args.i.0) (NoneDone s) c.in_err-commit_changes.was p.1 p.2 done
     (new_reaches shape x k y j z c.args.dir.0 c.args.name.now c.args.i.0 c.args.kind c.in_ok-row.row m s row reads)
-    (row_room shape x.words s c.args.dir.0 (answered (with_new s c.args.dir.0 c.args.name.now c.args.i.0 (empty_node c.args.kind)) (Number c.args.i.0)) reads c.requires.dir c.in_ok-row.ensures.space) reads (refl, refl)
+    (new_needs s c.args.dir.0 c.args.name.now c.args.i.0 c.args.kind c.requires.kind ∙ row_room shape x.words s c.args.dir.0 (answered (with_new s c.args.dir.0 c.args.name.now c.args.i.0 (empty_node c.args.kind)) (Number c.args.i.0)) reads c.requires.dir c.in_ok-row.ensures.space) reads (refl, refl)
 
 pub returns-in_err-commit_changes-clause-goes : goal.returns-in_err-commit_changes-clause-goes
 returns-in_err-commit_changes-clause-goes g c = c.plan_add.ensures.goes then c.commit_changes.ensures.goes
@@ -96,7 +98,25 @@ returns-clause-leaves g c =
     let done = committed shape x k y j z l _ changes c.commit_changes.result (c.deref.ensures.value ∙ c.in_ok-changes.ensures ∙ ap (λ a. a ∷ m ∷ []) c.from.ensures) (new_requested shape x k y j c.args.dir.0 c.args.name.now c.args.i.0 c.args.kind c.in_ok-row.row m (g.met.V.Volume.settled _ c.requires.sound) row) c.commit_changes.ensures.commits c.commit_changes.ensures.touched in
     λ s reads. ends_committed {T = Unit {0}} (SaysNumber c.args.i.0) _ shape x k y j z l changes c.commit_changes.result _ s (make_new s c.args.dir.0 c.args.name.now (empty_node c.args.kind) (Some c.args.i.0)) (with_new s c.args.dir.0 c.args.name.now c.args.i.0 (empty_node c.args.kind)) (Number c.args.i.0) (NoneDone s) c.in_ok-commit_changes.was done
     (new_reaches shape x k y j z c.args.dir.0 c.args.name.now c.args.i.0 c.args.kind c.in_ok-row.row m s row reads)
-    (row_room shape x.words s c.args.dir.0 (answered (with_new s c.args.dir.0 c.args.name.now c.args.i.0 (empty_node c.args.kind)) (Number c.args.i.0)) reads c.requires.dir c.in_ok-row.ensures.space) refl
+    (new_needs s c.args.dir.0 c.args.name.now c.args.i.0 c.args.kind c.requires.kind ∙ row_room shape x.words s c.args.dir.0 (answered (with_new s c.args.dir.0 c.args.name.now c.args.i.0 (empty_node c.args.kind)) (Number c.args.i.0)) reads c.requires.dir c.in_ok-row.ensures.space) refl
+
+pub returns-clause-forgets : goal.returns-clause-forgets
+returns-clause-forgets g c =
+    let shape = c.args.shape.now in
+    let x = g.V.Blocks.seen c.args.v.now in
+    let k = g.V.Volume.kept c.args.v.now in
+    let y = g.V.Blocks.seen c.plan_add.new.v in
+    let j = g.V.Volume.kept c.plan_add.new.v in
+    let z = g.V.Blocks.seen c.commit_changes.new.v in
+    let l = g.V.Volume.kept c.commit_changes.new.v in
+    let m = c.node_made.result in
+    let changes = of_dir c.in_ok-row.row ∷ m ∷ [] in
+    let row : NewRow shape x k y j c.args.dir.0 c.args.name.now c.args.i.0 c.args.kind c.in_ok-row.row m = record { ready = c.requires.can.ready; leaves = c.plan_add.ensures.leaves; plan = c.in_ok-row.ensures.ok; made = c.node_made.ensures; dir = c.requires.dir; ino = c.requires.ino; free = c.requires.free; which = c.requires.kind; is_name = c.requires.is_name; absent = c.requires.absent } in
+    let done = committed shape x k y j z l _ changes c.commit_changes.result (c.deref.ensures.value ∙ c.in_ok-changes.ensures ∙ ap (λ a. a ∷ m ∷ []) c.from.ensures) (new_requested shape x k y j c.args.dir.0 c.args.name.now c.args.i.0 c.args.kind c.in_ok-row.row m (g.met.V.Volume.settled _ c.requires.sound) row) c.commit_changes.ensures.commits c.commit_changes.ensures.touched in
+    let s = c.requires.can.state in
+    let is = c.deref.ensures.value ∙ c.in_ok-changes.ensures ∙ ap (λ a. a ∷ m ∷ []) c.from.ensures in
+    forgets_reached shape x k y j z l _ changes c.commit_changes.result _ (with_new s c.args.dir.0 c.args.name.now c.args.i.0 (empty_node c.args.kind)) c.in_ok-commit_changes.was is done
+    (new_reaches shape x k y j z c.args.dir.0 c.args.name.now c.args.i.0 c.args.kind c.in_ok-row.row m s row c.requires.can.reads) c.in_ok-commit_changes.ensures.forgotten
 
 pub returns-clause-goes : goal.returns-clause-goes
 returns-clause-goes g c = c.plan_add.ensures.goes then c.commit_changes.ensures.goes

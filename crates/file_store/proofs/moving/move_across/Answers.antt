@@ -10,13 +10,15 @@ use Rattle.rio_model.specs.VolumeRules.{EntryRule}
 use Rattle.rio_model.specs.declared.reply.Reply.TheVariants.{Ok as Done}
 use Rattle.file_pages.specs.OrderRules.{leaves_trans, ready_left}
 use Rattle.directories.specs.Rows.{HasRow}
-use Rattle.file_store.specs.Answers.{moved, move_row as move_row_of}
+use Rattle.rio_model.specs.Answers.{moved, move_row as move_row_of}
 use Rattle.file_store.specs.Changes.{of_dir}
-use Rattle.file_store.specs.Ends.{NoneDone, SaysDone}
+use Rattle.rio_model.specs.Parts.{NoneDone}
+use Rattle.file_store.specs.Ends.{SaysDone}
 use Rattle.file_store.specs.declared.failures.FileFail.TheVariants.{Memory}
 use Rattle.file_store.proofs.AnsweredAt.{ends_look, fails_read}
 use Rattle.file_store.proofs.CallEnds.{after_well, ends_ok, ends_read, ends_size, ends_vol, well_read, well_size, well_vol}
-use Rattle.file_store.proofs.RenamedRows.{MovedRow, fails_move, held_left, move_room, moved_reaches, moved_requested}
+use Rattle.file_store.proofs.Forgotten.{forgets_committed}
+use Rattle.file_store.proofs.RenamedRows.{MovedRow, fails_move, held_left, move_room, moved_order, moved_reaches, moved_requested}
 use Rattle.file_store.proofs.Requested.{can_commit, committed, ends_committed, ends_memory, ends_uncommitted}
 use Rattle.file_store.proofs.RowRoom.{row_fits}
 use Rattle.file_store.proofs.moving.move_across.Goals as goal
@@ -247,6 +249,29 @@ returns-clause-leaves g c =
     λ s a reads row_is apart. ends_committed {T = Unit {0}} SaysDone _ shape x k y j z l changes c.commit_changes.result _ s (move_row_of s from.dir.0 a dir name from.ino.0) (moved s from.dir.0 a dir name from.ino.0) Done (NoneDone s) c.in_ok-commit_changes.was
     (committed shape x k y j z l _ changes c.commit_changes.result is (moved_requested shape x k w p y j from dir name c.in_ok-goes.goes c.in_ok-comes.comes (g.met.V.Volume.settled _ c.requires.sound) row) c.commit_changes.ensures.commits c.commit_changes.ensures.touched)
     (moved_reaches shape x k w p y j z from dir a name c.in_ok-goes.goes c.in_ok-comes.comes s row c.requires.two reads row_is c.requires.is_name c.requires.absent apart) (move_room shape w.words s from.dir.0 a dir name from.ino.0 (reads_agree shape x.words w.words s reads by_w.words) c.requires.two (subst (λ (h : ℕ → Held). (h dir).kind ≡ 1) (sym (held_left shape x k w p c.requires.can.ready by_w)) c.requires.dir) c.in_ok-comes.ensures.space) refl
+
+pub returns-clause-forgets : goal.returns-clause-forgets
+returns-clause-forgets g c =
+    let shape = c.args.shape.now in
+    let x = g.V.Blocks.seen c.args.v.now in
+    let k = g.V.Volume.kept c.args.v.now in
+    let w = g.V.Blocks.seen c.plan_remove.new.v in
+    let p = g.V.Volume.kept c.plan_remove.new.v in
+    let y = g.V.Blocks.seen c.plan_add.new.v in
+    let j = g.V.Volume.kept c.plan_add.new.v in
+    let by_w : LeavesInUse (volume_layout shape x.words) x k w p = c.plan_remove.ensures.leaves in
+    let by_y : LeavesInUse (volume_layout shape w.words) w p y j = c.plan_add.ensures.leaves in
+    let z = g.V.Blocks.seen c.commit_changes.new.v in
+    let l = g.V.Volume.kept c.commit_changes.new.v in
+    let from = c.args.from in
+    let dir = c.args.dir.0 in
+    let name = c.args.name.now in
+    let row : MovedRow shape x k w p y j from dir name c.in_ok-goes.goes c.in_ok-comes.comes = record { ready = c.requires.can.ready; leaves = by_w; later = by_y; goes = c.in_ok-goes.ensures.ok; comes = c.in_ok-comes.ensures.ok; dir = c.requires.from.1.dir; to = c.requires.dir } in
+    let changes = of_dir c.in_ok-goes.goes ∷ of_dir c.in_ok-comes.comes ∷ [] in
+    let is = c.deref.ensures.value ∙ c.in_ok-changes.ensures ∙ ap (λ a. a ∷ c.from-2.result ∷ []) c.from.ensures ∙ ap (λ a. of_dir c.in_ok-goes.goes ∷ a ∷ []) c.from-2.ensures in
+    forgets_committed shape x k y j z l _ changes c.commit_changes.result _ c.in_ok-commit_changes.was is
+    (committed shape x k y j z l _ changes c.commit_changes.result is (moved_requested shape x k w p y j from dir name c.in_ok-goes.goes c.in_ok-comes.comes (g.met.V.Volume.settled _ c.requires.sound) row) c.commit_changes.ensures.commits c.commit_changes.ensures.touched)
+    (moved_order shape x k w p y j z from dir name c.in_ok-goes.goes c.in_ok-comes.comes row c.requires.two) c.in_ok-commit_changes.ensures.forgotten
 
 pub returns-clause-goes : goal.returns-clause-goes
 returns-clause-goes g c = c.plan_remove.ensures.goes then c.plan_add.ensures.goes then c.commit_changes.ensures.goes

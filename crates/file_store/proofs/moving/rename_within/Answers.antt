@@ -5,13 +5,15 @@ use Rattle.rio_model.specs.Held.{entry_ino, held_of}
 use Rattle.rio_model.specs.Placed.{volume_layout}
 use Rattle.rio_model.specs.VolumeReady.{LeavesInUse}
 use Rattle.rio_model.specs.declared.reply.Reply.TheVariants.{Ok as Done}
-use Rattle.file_store.specs.Answers.{moved, move_row as move_row_of}
+use Rattle.rio_model.specs.Answers.{moved, move_row as move_row_of}
 use Rattle.file_store.specs.Changes.{of_dir}
-use Rattle.file_store.specs.Ends.{NoneDone, SaysDone}
+use Rattle.rio_model.specs.Parts.{NoneDone}
+use Rattle.file_store.specs.Ends.{SaysDone}
 use Rattle.file_store.specs.declared.failures.FileFail.TheVariants.{Memory}
 use Rattle.file_store.proofs.AnsweredAt.{ends_look, fails_read}
 use Rattle.file_store.proofs.CallEnds.{after_well, ends_ok, ends_read, ends_vol, well_read, well_vol}
-use Rattle.file_store.proofs.RenamedRows.{RenamedRow, move_within, renamed_reaches, renamed_requested}
+use Rattle.file_store.proofs.Forgotten.{forgets_committed}
+use Rattle.file_store.proofs.RenamedRows.{RenamedRow, move_within, renamed_order, renamed_reaches, renamed_requested}
 use Rattle.file_store.proofs.Requested.{can_commit, committed, ends_committed, ends_memory, ends_uncommitted}
 use Rattle.file_store.proofs.moving.rename_within.Goals as goal
 
@@ -145,6 +147,25 @@ returns-clause-leaves g c =
     λ s a reads row_is apart. ends_committed {T = Unit {0}} SaysDone _ shape x k y j z l changes c.commit_changes.result _ s (move_row_of s from.dir.0 a from.dir.0 name from.ino.0) (moved s from.dir.0 a from.dir.0 name from.ino.0) Done (NoneDone s) c.in_ok-commit_changes.was
     (committed shape x k y j z l _ changes c.commit_changes.result is (renamed_requested shape x k y j from name c.in_ok-set.set (g.met.V.Volume.settled _ c.requires.sound) row) c.commit_changes.ensures.commits c.commit_changes.ensures.touched)
     (renamed_reaches shape x k y j z from a name c.in_ok-set.set s row reads row_is c.requires.is_name c.requires.absent apart) (move_within s from.dir.0 a name from.ino.0) refl
+
+pub returns-clause-forgets : goal.returns-clause-forgets
+returns-clause-forgets g c =
+    let shape = c.args.shape.now in
+    let x = g.V.Blocks.seen c.args.v.now in
+    let k = g.V.Volume.kept c.args.v.now in
+    let y = g.V.Blocks.seen c.plan_set.new.v in
+    let j = g.V.Volume.kept c.plan_set.new.v in
+    let by_y : LeavesInUse (volume_layout shape x.words) x k y j = c.plan_set.ensures.leaves in
+    let z = g.V.Blocks.seen c.commit_changes.new.v in
+    let l = g.V.Volume.kept c.commit_changes.new.v in
+    let from = c.args.from in
+    let name = c.args.name.now in
+    let row : RenamedRow shape x k y j from name c.in_ok-set.set = record { ready = c.requires.can.ready; leaves = by_y; plan = c.in_ok-set.ensures.ok; dir = c.requires.from.1.dir } in
+    let changes = of_dir c.in_ok-set.set ∷ [] in
+    let is = c.deref.ensures.value ∙ c.in_ok-changes.ensures ∙ ap (λ a. a ∷ []) c.from.ensures in
+    forgets_committed shape x k y j z l _ changes c.commit_changes.result _ c.in_ok-commit_changes.was is
+    (committed shape x k y j z l _ changes c.commit_changes.result is (renamed_requested shape x k y j from name c.in_ok-set.set (g.met.V.Volume.settled _ c.requires.sound) row) c.commit_changes.ensures.commits c.commit_changes.ensures.touched)
+    (renamed_order shape x k y j z from name c.in_ok-set.set row) c.in_ok-commit_changes.ensures.forgotten
 
 pub returns-clause-goes : goal.returns-clause-goes
 returns-clause-goes g c = c.plan_set.ensures.goes then c.commit_changes.ensures.goes

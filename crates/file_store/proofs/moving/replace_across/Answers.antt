@@ -10,12 +10,14 @@ use Rattle.rio_model.specs.declared.reply.Reply.TheVariants.{Ok as Done}
 use Rattle.file_pages.specs.LookingUpRules.{can_look_up}
 use Rattle.file_pages.specs.OrderRules.{leaves_looked, leaves_trans, ready_left}
 use Rattle.directories.specs.Rows.{InNoOther}
-use Rattle.file_store.specs.Answers.{replaced}
+use Rattle.rio_model.specs.Answers.{replaced}
 use Rattle.file_store.specs.Changes.{of_dir}
-use Rattle.file_store.specs.Ends.{NoneDone, SaysDone}
+use Rattle.rio_model.specs.Parts.{NoneDone}
+use Rattle.file_store.specs.Ends.{SaysDone}
 use Rattle.file_store.specs.declared.failures.FileFail.TheVariants.{Memory}
 use Rattle.file_store.proofs.AnsweredAt.{ends_look, fails_read}
 use Rattle.file_store.proofs.CallEnds.{after_well, ends_ok, ends_read, ends_vol, well_read, well_vol}
+use Rattle.file_store.proofs.Forgotten.{forgets_reached}
 use Rattle.file_store.proofs.LookedAt.{used_ino}
 use Rattle.file_store.proofs.RenamedRows.{AcrossRow, across_reaches, across_requested, held_left}
 use Rattle.file_store.proofs.Requested.{can_commit, committed, ends_committed, ends_memory, ends_uncommitted}
@@ -331,6 +333,35 @@ returns-clause-leaves g c =
     λ s a reads row_is. ends_committed {T = Unit {0}} SaysDone _ shape x k y j z l changes c.commit_changes.result _ s (answered (replaced s from.dir.0 a to.dir.0 name from.ino.0 to.ino.0) Done) (replaced s from.dir.0 a to.dir.0 name from.ino.0 to.ino.0) Done (NoneDone s) c.in_ok-commit_changes.was
     (committed shape x k y j z l _ changes c.commit_changes.result is (across_requested shape x k w p u q y j from to name c.in_ok-freed.freed c.in_ok-goes.goes c.in_ok-comes.comes c.node_gone-gone.result (g.met.V.Volume.settled _ c.requires.sound) row) c.commit_changes.ensures.commits c.commit_changes.ensures.touched)
     (across_reaches shape x k w p u q y j z a name from to c.in_ok-freed.freed c.in_ok-goes.goes c.in_ok-comes.comes c.node_gone-gone.result s row c.requires.two reads (record { old = row_is; over = c.requires.to; other = c.requires.other; leaf = c.requires.leaf; leaf_to = c.requires.leaf_to })) refl refl
+
+pub returns-clause-forgets : goal.returns-clause-forgets
+returns-clause-forgets g c =
+    let shape = c.args.shape.now in
+    let x = g.V.Blocks.seen c.args.v.now in
+    let k = g.V.Volume.kept c.args.v.now in
+    let w = g.V.Blocks.seen c.plan_remove.new.v in
+    let p = g.V.Volume.kept c.plan_remove.new.v in
+    let u = g.V.Blocks.seen c.plan_set.new.v in
+    let q = g.V.Volume.kept c.plan_set.new.v in
+    let y = g.V.Blocks.seen c.blocks_of.new.v in
+    let j = g.V.Volume.kept c.blocks_of.new.v in
+    let by_w : LeavesInUse (volume_layout shape x.words) x k w p = c.plan_remove.ensures.leaves in
+    let by_u : LeavesInUse (volume_layout shape w.words) w p u q = c.plan_set.ensures.leaves in
+    let to_u : LeavesInUse (volume_layout shape x.words) x k u q = leaves_trans shape x k w p u q c.requires.can.ready by_w by_u in
+    let by_y : LeavesInUse (volume_layout shape u.words) u q y j = leaves_looked shape _ _ _ _ u y q j (ready_left shape x k u q c.requires.can.ready to_u) c.blocks_of.ensures.looks (g.met.V.Volume.passes_keeps _ _ c.blocks_of.ensures.passes) in
+    let z = g.V.Blocks.seen c.commit_changes.new.v in
+    let l = g.V.Volume.kept c.commit_changes.new.v in
+    let from = c.args.from in
+    let to = c.args.to in
+    let name = c.args.name.now in
+    let row : AcrossRow shape x k w p u q y j from to name c.in_ok-freed.freed c.in_ok-goes.goes c.in_ok-comes.comes c.node_gone-gone.result = record { ready = c.requires.can.ready; leaves = by_w; later = by_u; last = by_y; words = c.blocks_of.ensures.looks.looks.words; goes = c.in_ok-goes.ensures.ok; comes = c.in_ok-comes.ensures.ok; listed = c.in_ok-freed.ensures.value; gone = c.node_gone-gone.ensures; dir = c.requires.from.1.dir; to_dir = c.requires.to.dir; used = c.requires.used_to } in
+    let changes = of_dir c.in_ok-goes.goes ∷ of_dir c.in_ok-comes.comes ∷ c.node_gone-gone.result ∷ [] in
+    let is = c.deref.ensures.value ∙ c.in_ok-changes.ensures ∙ ap (λ a. a ∷ c.from-2.result ∷ c.node_gone-gone.result ∷ []) c.from.ensures ∙ ap (λ a. of_dir c.in_ok-goes.goes ∷ a ∷ c.node_gone-gone.result ∷ []) c.from-2.ensures in
+    let s = c.requires.can.state in
+    let a = c.requires.from.0 in
+    forgets_reached shape x k y j z l _ changes c.commit_changes.result _ (replaced s from.dir.0 a to.dir.0 name from.ino.0 to.ino.0) c.in_ok-commit_changes.was is
+    (committed shape x k y j z l _ changes c.commit_changes.result is (across_requested shape x k w p u q y j from to name c.in_ok-freed.freed c.in_ok-goes.goes c.in_ok-comes.comes c.node_gone-gone.result (g.met.V.Volume.settled _ c.requires.sound) row) c.commit_changes.ensures.commits c.commit_changes.ensures.touched)
+    (across_reaches shape x k w p u q y j z a name from to c.in_ok-freed.freed c.in_ok-goes.goes c.in_ok-comes.comes c.node_gone-gone.result s row c.requires.two c.requires.can.reads (record { old = c.requires.from.1; over = c.requires.to; other = c.requires.other; leaf = c.requires.leaf; leaf_to = c.requires.leaf_to })) c.in_ok-commit_changes.ensures.forgotten
 
 pub returns-clause-goes : goal.returns-clause-goes
 returns-clause-goes g c = c.plan_remove.ensures.goes then c.plan_set.ensures.goes then (g.met.V.Volume.passes_keeps _ _ c.blocks_of.ensures.passes).goes then c.commit_changes.ensures.goes

@@ -1,4 +1,5 @@
 use Rattle.std.proofs.Common.{◌≡◌, ◌≢◌, inl, inr, ◌∙◌, refl, sym, subst}
+use Rattle.std.specs.Prelude.{OnOk}
 use Rattle.std.proofs.lemmas.Result.{err_from_is_err_and}
 use Rattle.rio_base.specs.Rules.{◌then◌}
 use Rattle.rio_model.specs.Answer.{answered}
@@ -9,8 +10,10 @@ use Rattle.rio_model.specs.VolumeReady.{LeavesInUse}
 use Rattle.rio_model.specs.declared.reply.Reply.TheVariants.{Ok as Done}
 use Rattle.inode_table.specs.Inodes.{IsInode}
 use Rattle.file_pages.specs.OrderRules.{leaves_refl}
-use Rattle.file_store.specs.Answers.{replaced, replace_row as replace_row_of}
-use Rattle.file_store.specs.Ends.{NoneDone, SaysDone}
+use Rattle.rio_model.specs.Answers.{replaced, replace_row as replace_row_of}
+use Rattle.rio_model.specs.Parts.{NoneDone}
+use Rattle.file_pages.specs.Forgetting.{Forgets}
+use Rattle.file_store.specs.Ends.{SaysDone}
 use Rattle.file_store.specs.Walks.{IsRow, ino_numbers}
 use Rattle.file_store.proofs.AnsweredAt.{ends_answered, ends_look, fails_unrefused}
 use Rattle.file_store.proofs.CallEnds.{after_well, ends_on, ends_refused, well}
@@ -27,6 +30,9 @@ returns-then-from-to-clause-leaves g c =
     let to = c.args.to in
     let busy = ino_numbers c.args.busy.now in
     λ s a reads is. ends_answered {T = Unit {0}} SaysDone _ shape x k x k s (replace_row_of s busy from.dir.0 a to.dir.0 c.args.name.now from.ino.0 to.ino.0) Done (NoneDone s) c.requires.can.ready (leaves_refl shape x k c.requires.can.ready) reads (replace_same s busy from.dir.0 a to.dir.0 c.args.name.now from.ino.0 to.ino.0 c.if-from-to.true) refl
+
+pub returns-then-from-to-clause-forgets : goal.returns-then-from-to-clause-forgets
+returns-then-from-to-clause-forgets g c = λ b lost. absurd (lost.1 lost.0)
 
 pub returns-in_err-moved-clause-leaves : goal.returns-in_err-moved-clause-leaves
 returns-in_err-moved-clause-leaves g c =
@@ -198,6 +204,12 @@ returns-then-from-to-2-clause-leaves g c =
     (replace_done shape x.words s busy from a to c.args.name.now c.in_ok-moved.moved c.in_ok-gone.gone reads read c.if-from-to.false c.if-moved-eq-DIRECTORY.false c.if-gone-eq-DIRECTORY.false (sym c.is_open.ensures ∙ c.if-is_open.false)) leaves same
     (c.replace_within.ensures.leaves s a c.args.name.now (subst (λ f. ReadsAs shape f s) (sym same) reads) (subst (λ f. IsRow shape f a from) (sym same) is) (subst (λ f. IsRow shape f c.args.name.now to) (sym same) c.requires.to))
 
+pub returns-then-from-to-2-clause-forgets : goal.returns-then-from-to-2-clause-forgets
+returns-then-from-to-2-clause-forgets g c =
+    let shape = c.args.shape.now in
+    let z = g.V.Blocks.seen c.replace_within.new.v in
+    subst (λ f. OnOk c.replace_within.result (Forgets (volume_layout shape f) (volume_layout shape z.words) z)) (c.inode_of-2.ensures.words ∙ c.inode_of.ensures.words) c.replace_within.ensures.forgets
+
 pub returns-then-from-to-2-clause-goes : goal.returns-then-from-to-2-clause-goes
 returns-then-from-to-2-clause-goes g c = c.inode_of.ensures.goes then c.inode_of-2.ensures.goes then c.replace_within.ensures.goes
 
@@ -223,6 +235,12 @@ returns-else-from-to-2-clause-leaves g c =
     λ s a reads is. ends_by_call SaysDone shape x k y j made (g.V.Volume.kept c.replace_across.new.v) s (replace_row_of s busy from.dir.0 a to.dir.0 c.args.name.now from.ino.0 to.ino.0) (answered (replaced s from.dir.0 a to.dir.0 c.args.name.now from.ino.0 to.ino.0) Done) (NoneDone s) c.replace_across.result
     (replace_done shape x.words s busy from a to c.args.name.now c.in_ok-moved.moved c.in_ok-gone.gone reads read c.if-from-to.false c.if-moved-eq-DIRECTORY.false c.if-gone-eq-DIRECTORY.false (sym c.is_open.ensures ∙ c.if-is_open.false)) leaves same
     (c.replace_across.ensures.leaves s a (subst (λ f. ReadsAs shape f s) (sym same) reads) (subst (λ f. IsRow shape f a from) (sym same) is))
+
+pub returns-else-from-to-2-clause-forgets : goal.returns-else-from-to-2-clause-forgets
+returns-else-from-to-2-clause-forgets g c =
+    let shape = c.args.shape.now in
+    let z = g.V.Blocks.seen c.replace_across.new.v in
+    subst (λ f. OnOk c.replace_across.result (Forgets (volume_layout shape f) (volume_layout shape z.words) z)) (c.inode_of-2.ensures.words ∙ c.inode_of.ensures.words) c.replace_across.ensures.forgets
 
 pub returns-else-from-to-2-clause-goes : goal.returns-else-from-to-2-clause-goes
 returns-else-from-to-2-clause-goes g c = c.inode_of.ensures.goes then c.inode_of-2.ensures.goes then c.replace_across.ensures.goes

@@ -7,12 +7,14 @@ use Rattle.rio_model.specs.VolumeReady.{LeavesInUse, Ready}
 use Rattle.rio_model.specs.declared.reply.Reply.TheVariants.{Ok as Done}
 use Rattle.file_pages.specs.LookingUpRules.{can_look_up}
 use Rattle.file_pages.specs.OrderRules.{leaves_looked, leaves_trans, ready_left}
-use Rattle.file_store.specs.Answers.{without}
+use Rattle.rio_model.specs.Answers.{without}
 use Rattle.file_store.specs.Changes.{of_dir}
-use Rattle.file_store.specs.Ends.{NoneDone, SaysDone}
+use Rattle.rio_model.specs.Parts.{NoneDone}
+use Rattle.file_store.specs.Ends.{SaysDone}
 use Rattle.file_store.specs.declared.failures.FileFail.TheVariants.{Memory}
 use Rattle.file_store.proofs.AnsweredAt.{ends_look, fails_read}
 use Rattle.file_store.proofs.CallEnds.{after_well, ends_ok, ends_read, ends_vol, well_read, well_vol}
+use Rattle.file_store.proofs.Forgotten.{forgets_reached}
 use Rattle.file_store.proofs.LookedAt.{used_ino}
 use Rattle.file_store.proofs.Requested.{can_commit, committed, ends_committed, ends_memory, ends_uncommitted}
 use Rattle.file_store.proofs.RowsGone.{GoneRow, gone_reaches, gone_requested, kind_still}
@@ -193,6 +195,28 @@ returns-clause-leaves g c =
     let settled = g.met.V.Volume.settled _ c.requires.sound in
     λ s name reads is_row. (let gone : GoneRow shape x k w p y j c.args.row.dir.0 c.args.row.slot name i c.in_ok-freed.freed c.in_ok-goes.goes m = record { ready = c.requires.can.ready; leaves = c.plan_remove.ensures.leaves; later = later; words = c.blocks_of.ensures.looks.looks.words; plan = c.in_ok-goes.ensures.ok; listed = c.in_ok-freed.ensures.value; gone = c.node_gone.ensures; dir = is_row.dir; entry = is_row.entry; used = c.requires.used; bare = c.requires.bare } in
     ends_committed {T = Unit {0}} SaysDone _ shape x k y j z l changes c.commit_changes.result _ s (answered (without s c.args.row.dir.0 name i) Done) (without s c.args.row.dir.0 name i) Done (NoneDone s) c.in_ok-commit_changes.was (committed shape x k y j z l _ changes c.commit_changes.result is (gone_requested shape x k w p y j c.args.row.dir.0 c.args.row.slot name i c.in_ok-freed.freed c.in_ok-goes.goes m settled gone) c.commit_changes.ensures.commits c.commit_changes.ensures.touched) (gone_reaches shape x k w p y j z c.args.row.dir.0 c.args.row.slot name i c.in_ok-freed.freed c.in_ok-goes.goes m s gone reads) refl refl)
+
+pub returns-clause-forgets : goal.returns-clause-forgets
+returns-clause-forgets g c =
+    let shape = c.args.shape.now in
+    let x = g.V.Blocks.seen c.args.v.now in
+    let k = g.V.Volume.kept c.args.v.now in
+    let w = g.V.Blocks.seen c.plan_remove.new.v in
+    let p = g.V.Volume.kept c.plan_remove.new.v in
+    let y = g.V.Blocks.seen c.blocks_of.new.v in
+    let j = g.V.Volume.kept c.blocks_of.new.v in
+    let later : LeavesInUse (volume_layout shape w.words) w p y j = leaves_looked shape _ _ _ _ w y p j (ready_left shape x k w p c.requires.can.ready c.plan_remove.ensures.leaves) c.blocks_of.ensures.looks (g.met.V.Volume.passes_keeps _ _ c.blocks_of.ensures.passes) in
+    let z = g.V.Blocks.seen c.commit_changes.new.v in
+    let l = g.V.Volume.kept c.commit_changes.new.v in
+    let m = c.node_gone.result in
+    let i = c.args.row.ino.0 in
+    let changes = of_dir c.in_ok-goes.goes ∷ m ∷ [] in
+    let is = c.deref.ensures.value ∙ c.in_ok-changes.ensures ∙ ap (λ a. a ∷ m ∷ []) c.from.ensures in
+    let settled = g.met.V.Volume.settled _ c.requires.sound in
+    let s = c.requires.can.state in
+    let name = c.requires.row.0 in
+    let gone : GoneRow shape x k w p y j c.args.row.dir.0 c.args.row.slot name i c.in_ok-freed.freed c.in_ok-goes.goes m = record { ready = c.requires.can.ready; leaves = c.plan_remove.ensures.leaves; later = later; words = c.blocks_of.ensures.looks.looks.words; plan = c.in_ok-goes.ensures.ok; listed = c.in_ok-freed.ensures.value; gone = c.node_gone.ensures; dir = c.requires.row.1.dir; entry = c.requires.row.1.entry; used = c.requires.used; bare = c.requires.bare } in
+    forgets_reached shape x k y j z l _ changes c.commit_changes.result _ (without s c.args.row.dir.0 name i) c.in_ok-commit_changes.was is (committed shape x k y j z l _ changes c.commit_changes.result is (gone_requested shape x k w p y j c.args.row.dir.0 c.args.row.slot name i c.in_ok-freed.freed c.in_ok-goes.goes m settled gone) c.commit_changes.ensures.commits c.commit_changes.ensures.touched) (gone_reaches shape x k w p y j z c.args.row.dir.0 c.args.row.slot name i c.in_ok-freed.freed c.in_ok-goes.goes m s gone c.requires.can.reads) c.in_ok-commit_changes.ensures.forgotten
 
 pub returns-clause-goes : goal.returns-clause-goes
 returns-clause-goes g c = c.plan_remove.ensures.goes then (g.met.V.Volume.passes_keeps _ _ c.blocks_of.ensures.passes).goes then c.commit_changes.ensures.goes

@@ -1,4 +1,5 @@
 use Rattle.std.proofs.Common.{◌≡◌, ◌<◌, ◌∙◌, le_refl, refl, sym, ap, subst}
+use Rattle.std.specs.Prelude.{OnOk}
 use Rattle.std.proofs.lemmas.Result.{err_from_is_err_and}
 use Rattle.rio_base.specs.Rules.{◌then◌, ends_by_well}
 use Rattle.rio_model.specs.declared.reply.Reply.TheVariants.{Ok as Done}
@@ -10,8 +11,10 @@ use Rattle.rio_model.specs.VolumeReads.{ReadsAs}
 use Rattle.rio_model.specs.VolumeReady.{LeavesInUse}
 use Rattle.inode_table.specs.Inodes.{IsInode}
 use Rattle.file_pages.specs.OrderRules.{leaves_refl}
-use Rattle.file_store.specs.Answers.{unlink as unlink_of, unlink_at, without}
-use Rattle.file_store.specs.Ends.{NoneDone, SaysDone}
+use Rattle.rio_model.specs.Answers.{unlink as unlink_of, unlink_at, without}
+use Rattle.rio_model.specs.Parts.{NoneDone}
+use Rattle.file_pages.specs.Forgetting.{Forgets}
+use Rattle.file_store.specs.Ends.{SaysDone}
 use Rattle.file_store.specs.Walks.{IsRow, ino_numbers}
 use Rattle.file_store.specs.declared.failures.FileFail.TheVariants.{Refused}
 use Rattle.file_store.proofs.AmongInodes.{open_read}
@@ -194,6 +197,12 @@ returns-clause-leaves g c =
     λ s reads. ends_after SaysDone shape x k n q y j s (unlink_of s c.args.path.now busy) (NoneDone s) c.remove_row.result leaves (c.inode_of.ensures.words ∙ c.walk_to_row.ensures.words)
     (ends_as SaysDone shape n q y j s (unlink_of s c.args.path.now busy) (answered (without s row.dir.0 (last_of names) i) Done) (NoneDone s) c.remove_row.result (unlinked_at s busy names row (c.is_root.ensures.not c.if-is_root.false) (c.in_ok-row.ensures.value s reads) ∙ unlinked_leaf s busy row.dir.0 (last_of names) i (leaf_read shape x.words s i reads (λ dir. c.if-inode-eq-DIRECTORY.false (kind ∙ dir))) (open_read shape x.words s busy i inode.kind reads used kind ∙ sym c.is_open.ensures ∙ c.if-is_open.false))
     (c.remove_row.ensures.leaves s (last_of names) (subst (λ f. ReadsAs shape f s) (sym (c.inode_of.ensures.words ∙ c.walk_to_row.ensures.words)) reads) (subst (λ f. IsRow shape f (last_of names) row) (sym (c.inode_of.ensures.words ∙ c.walk_to_row.ensures.words)) c.in_ok-row.ensures.row)))
+
+pub returns-clause-forgets : goal.returns-clause-forgets
+returns-clause-forgets g c =
+    let shape = c.args.shape.now in
+    let z = g.V.Blocks.seen c.remove_row.new.v in
+    subst (λ f. OnOk c.remove_row.result (Forgets (volume_layout shape f) (volume_layout shape z.words) z)) (c.inode_of.ensures.words ∙ c.walk_to_row.ensures.words) c.remove_row.ensures.forgets
 
 pub returns-clause-goes : goal.returns-clause-goes
 returns-clause-goes g c = c.walk_to_row.ensures.goes then c.inode_of.ensures.goes then c.remove_row.ensures.goes

@@ -1,4 +1,5 @@
 use Rattle.std.proofs.Common.{◌≡◌, ◌<◌, ◌∙◌, refl, sym, ap, subst}
+use Rattle.std.specs.Prelude.{OnOk}
 use Rattle.std.specs.FinMap.{get}
 use Rattle.std.proofs.lemmas.Result.{err_from_is_err_and}
 use Rattle.rio_base.specs.Rules.{◌then◌}
@@ -8,8 +9,10 @@ use Rattle.rio_model.specs.Paths.{names_of, walk_to_dir as walk_to_dir_of}
 use Rattle.rio_model.specs.Placed.{volume_layout}
 use Rattle.rio_model.specs.VolumeReads.{ReadsAs}
 use Rattle.rio_model.specs.VolumeReady.{LeavesInUse}
-use Rattle.file_store.specs.Answers.{rename as rename_of, rename_row as rename_row_of}
-use Rattle.file_store.specs.Ends.{NoneDone, SaysDone}
+use Rattle.rio_model.specs.Answers.{rename as rename_of, rename_row as rename_row_of}
+use Rattle.rio_model.specs.Parts.{NoneDone}
+use Rattle.file_pages.specs.Forgetting.{Forgets}
+use Rattle.file_store.specs.Ends.{SaysDone}
 use Rattle.file_store.specs.Walks.{IsRow, ino_numbers}
 use Rattle.file_store.proofs.AnsweredAt.{ends_look}
 use Rattle.file_store.proofs.CallEnds.{after_well, ends_on, ends_refused, well}
@@ -187,6 +190,12 @@ returns-clause-leaves g c =
     ends_by_call SaysDone shape x k y j z l s (rename_of s c.args.path.now c.args.to.now busy) (rename_row_of s busy from.dir.0 (last_of path) c.in_ok-dir.dir.0 name from.ino.0 (get s.names (c.in_ok-dir.dir.0, name))) (NoneDone s) c.rename_row.result
     (rename_moves s busy path to c.in_ok-walk.field-0.0 c.in_ok-dir.dir.0 from name walked (c.is_root-2.ensures.not c.if-is_root-2.false) beside row c.cut_last.ensures.last) leaves same
     (c.rename_row.ensures.leaves s (last_of path) (subst (λ f. ReadsAs shape f s) (sym same) reads) (subst (λ f. IsRow shape f (last_of path) from) (sym c.walk_to_row.ensures.words) c.in_ok-from.ensures.row) (rename_out s path to c.in_ok-walk.field-0.0 c.in_ok-dir.dir.0 from reads.tree walked (c.is_root-2.ensures.not c.if-is_root-2.false) beside row)))
+
+pub returns-clause-forgets : goal.returns-clause-forgets
+returns-clause-forgets g c =
+    let shape = c.args.shape.now in
+    let z = g.V.Blocks.seen c.rename_row.new.v in
+    subst (λ f. OnOk c.rename_row.result (Forgets (volume_layout shape f) (volume_layout shape z.words) z)) (c.walk_to_row.ensures.words ∙ c.walk_to_dir.ensures.words ∙ c.walk.ensures.words) c.rename_row.ensures.forgets
 
 pub returns-clause-goes : goal.returns-clause-goes
 returns-clause-goes g c = c.walk.ensures.goes then c.walk_to_dir.ensures.goes then c.walk_to_row.ensures.goes then c.rename_row.ensures.goes

@@ -1,5 +1,5 @@
 use Rattle.std.proofs.Common.{◌≡◌, ◌<◌, List, ℕ, refl, sym, ap, subst}
-use Rattle.std.specs.Prelude.{None, Some}
+use Rattle.std.specs.Prelude.{None, OnOk, Some}
 use Rattle.std.specs.FinMap.{get}
 use Rattle.std.proofs.lemmas.Result.{err_from_is_err_and}
 use Rattle.rio_base.specs.Rules.{◌then◌}
@@ -8,8 +8,10 @@ use Rattle.rio_model.specs.Placed.{volume_layout}
 use Rattle.rio_model.specs.VolumeReads.{ReadsAs}
 use Rattle.rio_model.specs.VolumeReady.{LeavesInUse}
 use Rattle.directories.specs.Rows.{Finds, HasRow, IsEntry}
-use Rattle.file_store.specs.Answers.{rename_row as rename_row_of}
-use Rattle.file_store.specs.Ends.{NoneDone, SaysDone}
+use Rattle.rio_model.specs.Answers.{rename_row as rename_row_of}
+use Rattle.rio_model.specs.Parts.{NoneDone}
+use Rattle.file_pages.specs.Forgetting.{Forgets}
+use Rattle.file_store.specs.Ends.{SaysDone}
 use Rattle.file_store.specs.Walks.{IsRow, ino_numbers}
 use Rattle.file_store.proofs.AnsweredAt.{ends_look}
 use Rattle.file_store.proofs.CallEnds.{after_well, ends_vol, well_vol}
@@ -135,6 +137,12 @@ returns-in-None-clause-leaves g c =
     let z = g.V.Blocks.seen c.move_row.new.v in
     λ s a reads is apart. ends_by_call SaysDone shape x k y j z (g.V.Volume.kept c.move_row.new.v) s (rename_row_of s busy from.dir.0 a dir name from.ino.0 (get s.names (dir, name))) (rename_row_of s busy from.dir.0 a dir name from.ino.0 None) (NoneDone s) c.move_row.result (ap (rename_row_of s busy from.dir.0 a dir name from.ino.0) (no_row shape x.words s dir name reads none)) leaves same (c.move_row.ensures.leaves s a (subst (λ f. ReadsAs shape f s) (sym same) reads) (subst (λ f. IsRow shape f a from) (sym same) is) apart)
 
+pub returns-in-None-clause-forgets : goal.returns-in-None-clause-forgets
+returns-in-None-clause-forgets g c =
+    let shape = c.args.shape.now in
+    let z = g.V.Blocks.seen c.move_row.new.v in
+    subst (λ f. OnOk c.move_row.result (Forgets (volume_layout shape f) (volume_layout shape z.words) z)) c.find.ensures.looks.words c.move_row.ensures.forgets
+
 pub returns-in-None-clause-goes : goal.returns-in-None-clause-goes
 returns-in-None-clause-goes g c = (g.met.V.Volume.passes_keeps _ _ c.find.ensures.passes).goes then c.move_row.ensures.goes
 
@@ -158,6 +166,12 @@ returns-in-Some-clause-leaves g c =
     let entry : IsEntry (held_of shape x.words c.args.dir.0) row.1 c.args.name.now row.0.0 = subst (λ o. Finds (held_of shape x.words c.args.dir.0) c.args.name.now o) c.in-Some.is c.in_ok-found.ensures.value in
     let z = g.V.Blocks.seen c.replace_row.new.v in
     λ s a reads is apart. ends_by_call SaysDone shape x k y j z (g.V.Volume.kept c.replace_row.new.v) s (rename_row_of s busy from.dir.0 a dir name from.ino.0 (get s.names (dir, name))) (rename_row_of s busy from.dir.0 a dir name from.ino.0 (Some row.0.0)) (NoneDone s) c.replace_row.result (ap (rename_row_of s busy from.dir.0 a dir name from.ino.0) (row_read shape x.words s dir row.1 name row.0.0 reads c.requires.dir entry)) leaves same (c.replace_row.ensures.leaves s a (subst (λ f. ReadsAs shape f s) (sym same) reads) (subst (λ f. IsRow shape f a from) (sym same) is))
+
+pub returns-in-Some-clause-forgets : goal.returns-in-Some-clause-forgets
+returns-in-Some-clause-forgets g c =
+    let shape = c.args.shape.now in
+    let z = g.V.Blocks.seen c.replace_row.new.v in
+    subst (λ f. OnOk c.replace_row.result (Forgets (volume_layout shape f) (volume_layout shape z.words) z)) c.find.ensures.looks.words c.replace_row.ensures.forgets
 
 pub returns-in-Some-clause-goes : goal.returns-in-Some-clause-goes
 returns-in-Some-clause-goes g c = (g.met.V.Volume.passes_keeps _ _ c.find.ensures.passes).goes then c.replace_row.ensures.goes

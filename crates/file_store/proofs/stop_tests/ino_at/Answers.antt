@@ -1,6 +1,7 @@
-use Rattle.file_store.specs.Answers.{stat as stat_of}
+use Rattle.rio_model.specs.Answers.{stat as stat_of}
 use Rattle.file_store.specs.EndRules.{can_after}
-use Rattle.file_store.specs.Ends.{NoneDone, SaysStat}
+use Rattle.rio_model.specs.Parts.{NoneDone}
+use Rattle.file_store.specs.Ends.{SaysStat}
 use Rattle.file_store.proofs.TestEnds.{answered_goes, fail_goes, on_ok}
 use Rattle.file_store.proofs.stop_tests.ino_at.Goals as goal
 

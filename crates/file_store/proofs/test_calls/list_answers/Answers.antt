@@ -1,6 +1,7 @@
-use Rattle.file_store.specs.Answers.{list as list_of}
+use Rattle.rio_model.specs.Answers.{list as list_of}
 use Rattle.file_store.specs.EndRules.{can_after}
-use Rattle.file_store.specs.Ends.{NoneDone, SaysNames}
+use Rattle.rio_model.specs.Parts.{NoneDone}
+use Rattle.file_store.specs.Ends.{SaysNames}
 use Rattle.file_store.proofs.test_calls.list_answers.Goals as goal
 
 pub returns-clause-can : goal.returns-clause-can

@@ -1,6 +1,7 @@
-use Rattle.file_store.specs.Answers.{read as read_of}
+use Rattle.rio_model.specs.Answers.{read as read_of}
 use Rattle.file_store.specs.EndRules.{can_after}
-use Rattle.file_store.specs.Ends.{NoneDone, SaysBytes}
+use Rattle.rio_model.specs.Parts.{NoneDone}
+use Rattle.file_store.specs.Ends.{SaysBytes}
 use Rattle.file_store.proofs.test_calls.read_answers.Goals as goal
 
 pub returns-clause-can : goal.returns-clause-can

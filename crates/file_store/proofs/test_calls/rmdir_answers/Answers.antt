@@ -1,6 +1,7 @@
-use Rattle.file_store.specs.Answers.{rmdir as rmdir_of}
+use Rattle.rio_model.specs.Answers.{rmdir as rmdir_of}
 use Rattle.file_store.specs.EndRules.{can_after}
-use Rattle.file_store.specs.Ends.{NoneDone, SaysDone}
+use Rattle.rio_model.specs.Parts.{NoneDone}
+use Rattle.file_store.specs.Ends.{SaysDone}
 use Rattle.file_store.proofs.test_calls.rmdir_answers.Goals as goal
 
 pub returns-clause-can : goal.returns-clause-can

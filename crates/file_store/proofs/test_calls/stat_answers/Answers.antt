@@ -1,6 +1,7 @@
-use Rattle.file_store.specs.Answers.{stat as stat_of}
+use Rattle.rio_model.specs.Answers.{stat as stat_of}
 use Rattle.file_store.specs.EndRules.{can_after}
-use Rattle.file_store.specs.Ends.{NoneDone, SaysStat}
+use Rattle.rio_model.specs.Parts.{NoneDone}
+use Rattle.file_store.specs.Ends.{SaysStat}
 use Rattle.file_store.proofs.test_calls.stat_answers.Goals as goal
 
 pub returns-clause-can : goal.returns-clause-can

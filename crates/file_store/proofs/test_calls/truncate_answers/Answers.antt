@@ -1,6 +1,7 @@
-use Rattle.file_store.specs.Answers.{truncate as truncate_of}
+use Rattle.rio_model.specs.Answers.{truncate as truncate_of}
 use Rattle.file_store.specs.EndRules.{can_after}
-use Rattle.file_store.specs.Ends.{NoneDone, SaysDone}
+use Rattle.rio_model.specs.Parts.{NoneDone}
+use Rattle.file_store.specs.Ends.{SaysDone}
 use Rattle.file_store.proofs.test_calls.truncate_answers.Goals as goal
 
 pub returns-clause-can : goal.returns-clause-can

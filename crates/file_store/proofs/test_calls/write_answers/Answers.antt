@@ -1,6 +1,7 @@
-use Rattle.file_store.specs.Answers.{write as write_of}
+use Rattle.rio_model.specs.Answers.{write as write_of}
 use Rattle.file_store.specs.EndRules.{can_after}
-use Rattle.file_store.specs.Ends.{SaysCount, WriteDone}
+use Rattle.rio_model.specs.Parts.{WriteDone}
+use Rattle.file_store.specs.Ends.{SaysCount}
 use Rattle.file_store.proofs.test_calls.write_answers.Goals as goal
 
 pub returns-clause-can : goal.returns-clause-can

@@ -1,5 +1,5 @@
 use Rattle.std.proofs.Common.{arith}
-use Rattle.request_codec.proofs.Meanings.{form_length}
+use Rattle.request_codec.proofs.OneMeaning.{form_length}
 use Rattle.request_codec.proofs.parse.long_lines_mean_nothing.Goals as goal
 
 pub returns : goal.returns

@@ -1,4 +1,4 @@
-use Rattle.request_codec.proofs.Meanings.{meaning}
+use Rattle.request_codec.proofs.OneMeaning.{meaning}
 use Rattle.request_codec.proofs.parse.one_meaning.Goals as goal
 
 pub returns : goal.returns

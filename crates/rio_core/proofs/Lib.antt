@@ -1,0 +1,5 @@
+pub mod RequestEnds
+pub mod Holding
+pub mod ReplyEnds
+pub mod Served
+pub mod Unserved

@@ -1,0 +1,19 @@
+-- What the outcome of a call on files is as a reply.
+use Rattle.std.specs.Prelude.{◌≡◌, Result, Ok, Err}
+use Rattle.rio_base.specs.declared.failures.Stopped.{Stopped as MachineStopped}
+use Rattle.file_store.specs.declared.failures.FileFail.{FileFail}
+use Rattle.file_store.specs.declared.failures.FileFail.TheVariants.{Refused, Fault, Stopped, Memory}
+use Rattle.rio_model.specs.declared.reply.Reply.{Reply}
+use Rattle.rio_model.specs.declared.reply.Reply.TheVariants.{Err as RefusedBy, Fault as Faulted}
+
+-- 31 for want of memory; a stop has no reply
+abbrev pub RepliesFail : FileFail → Result Reply MachineStopped → Type 0
+RepliesFail (Refused c) told = told ≡ Ok (RefusedBy c)
+RepliesFail (Fault done) told = told ≡ Ok (Faulted done)
+RepliesFail Memory told = told ≡ Ok (RefusedBy 31)
+RepliesFail Stopped (Ok reply) = ⊥
+RepliesFail Stopped (Err e) = Unit {0}
+
+abbrev pub Replies : {T : Type 0} → (T → Reply → Type 0) → Result T FileFail → Result Reply MachineStopped → Type 0
+Replies says (Ok value) told = (reply : Reply) × (told ≡ Ok reply) × says value reply
+Replies says (Err fail) told = RepliesFail fail told

@@ -1,0 +1,138 @@
+//! Drawn request lines for walks: for the same seed the same. They name 40 files in 4 directories, and the directories.
+
+ghost use Rattle.std.specs.Prelude.{◌<◌};
+
+use std::alloc::{AllocError, Global};
+
+/// The largest size and offset that is drawn, in bytes.
+const LARGEST: u32 = 200_000;
+
+/// Draws by a linear congruential generator.
+#[derive(Drop)]
+pub(crate) struct Draws {
+    state: u64,
+}
+
+impl Draws {
+    /// Draws from this seed on.
+    pub(crate) fn new(seed: u64) -> Draws {
+        Draws { state: seed }
+    }
+
+    /// A number below `n`.
+    pub(crate) fn below(&mut self, n: u32) -> u32
+        requires { 0 < n }
+        ensures { result < n }
+    {
+        self.state = self
+            .state
+            .wrapping_mul(6_364_136_223_846_793_005)
+            .wrapping_add(1_442_695_040_888_963_407);
+        let high = (self.state >> 32) as u32; // the low bits of such a generator have short periods
+        high % n
+    }
+}
+
+/// The path of a directory.
+pub(crate) fn dir_path(alloc: Global, dir: u32) -> Result<String, AllocError> {
+    format!(in alloc; "/d{dir}")
+}
+
+/// The path of a file.
+pub(crate) fn file_path(alloc: Global, dir: u32, file: u32) -> Result<String, AllocError> {
+    format!(in alloc; "/d{dir}/n{file}")
+}
+
+/// A size or an offset. Most are small.
+fn drawn_size(draws: &mut Draws) -> u32 {
+    let size = draws.below(LARGEST);
+    size >> draws.below(10)
+}
+
+fn drawn_dir(alloc: Global, draws: &mut Draws) -> Result<String, AllocError> {
+    let dir = draws.below(4);
+    dir_path(alloc, dir)
+}
+
+fn drawn_file(alloc: Global, draws: &mut Draws) -> Result<String, AllocError> {
+    let dir = draws.below(4);
+    let file = draws.below(10);
+    file_path(alloc, dir, file)
+}
+
+/// A path of either kind.
+fn drawn_path(alloc: Global, draws: &mut Draws) -> Result<String, AllocError> {
+    if draws.below(6) == 0 {
+        return drawn_dir(alloc, draws);
+    }
+    drawn_file(alloc, draws)
+}
+
+/// A write of up to 5,000 bytes, each of them drawn.
+fn drawn_write(alloc: Global, draws: &mut Draws) -> Result<String, AllocError> {
+    let path = drawn_path(alloc, draws)?;
+    let off = drawn_size(draws);
+    let count = draws.below(5000) >> draws.below(12);
+    let mut line = format!(in alloc; "write {path} {off} ")?;
+    for _ in 0..count {
+        let byte = draws.below(256);
+        line.push_str(format!(in alloc; "{byte:02x}")?.as_str())?;
+    }
+    Ok(line)
+}
+
+/// A read, or a change of a size.
+fn drawn_of_bytes(alloc: Global, draws: &mut Draws, kind: u32) -> Result<String, AllocError> {
+    let path = drawn_path(alloc, draws)?;
+    let off = drawn_size(draws);
+    match kind {
+        0 => {
+            let len = draws.below(8000);
+            format!(in alloc; "read {path} {off} {len}")
+        }
+        1 => format!(in alloc; "read {path} 0 1048576"),
+        _ => format!(in alloc; "truncate {path} {off}"),
+    }
+}
+
+/// A line on one or two paths.
+fn drawn_of_paths(alloc: Global, draws: &mut Draws, kind: u32) -> Result<String, AllocError> {
+    let path = drawn_path(alloc, draws)?;
+    match kind {
+        0 | 1 | 2 | 3 => format!(in alloc; "create {path}"),
+        4 => format!(in alloc; "unlink {path}"),
+        5 => {
+            let to = drawn_path(alloc, draws)?;
+            format!(in alloc; "rename {path} {to}")
+        }
+        6 => format!(in alloc; "stat {path}"),
+        _ => {
+            let dir = drawn_dir(alloc, draws)?;
+            let word = ["mkdir", "rmdir", "list"][draws.below(3) as usize];
+            format!(in alloc; "{word} {dir}")
+        }
+    }
+}
+
+/// A line without its end. It is no flush.
+pub(crate) fn drawn_line(alloc: Global, draws: &mut Draws) -> Result<String, AllocError> {
+    match draws.below(16) {
+        0 => String::from_str(alloc, "list /"),
+        1 => String::from_str(alloc, "sync"),
+        2 | 3 | 4 => drawn_write(alloc, draws),
+        5 | 6 => {
+            let kind = draws.below(3);
+            drawn_of_bytes(alloc, draws, kind)
+        }
+        _ => {
+            let kind = draws.below(9);
+            drawn_of_paths(alloc, draws, kind)
+        }
+    }
+}
+
+/// A line that cleans up to 40 frames.
+pub(crate) fn drawn_flush(alloc: Global, draws: &mut Draws) -> Result<String, AllocError> {
+    let count = draws.below(41);
+    format!(in alloc; "flush {count}")
+}

@@ -1,0 +1,63 @@
+//! A server that answers each line by the plain definition, over the state alone.
+
+use crate::test_cores::Sizes;
+use request_codec::{parse_line, write_reply};
+use rio_base::{Ino, MemSink, VolumeShape};
+use rio_model::{
+    Answered, NameRows, Node, NodeRow, NodeRows, Reply, Request, State, TxnList, answer,
+};
+use std::alloc::{AllocError, Global};
+
+/// The state with the root directory alone.
+pub(crate) fn root_alone(alloc: Global, sizes: Sizes) -> Result<State, AllocError> {
+    let root = NodeRow {
+        ino: Ino(1),
+        node: Node::Dir,
+    };
+    Ok(State {
+        names: NameRows::from(Vec::new(alloc)),
+        nodes: NodeRows::from(vec![in alloc; root]?),
+        txns: TxnList::from(Vec::new(alloc)),
+        shape: VolumeShape {
+            version: 1,
+            blocks: sizes.blocks,
+            inodes: sizes.inodes,
+        },
+        pages: sizes.frames.saturating_add(19),
+        scratch: 1,
+    })
+}
+
+/// The text of a reply.
+pub(crate) fn text_of(alloc: Global, reply: &Reply) -> Result<Vec<u8>, AllocError> {
+    let mut sink = MemSink::new(alloc);
+    let _sent = write_reply(reply, &mut sink);
+    Vec::from_slice(alloc, sink.bytes().as_slice())
+}
+
+/// What a line comes to. A line that is no request is refused.
+fn answered(alloc: Global, s: State, request: &Option<Request>) -> Result<Answered, AllocError> {
+    match request {
+        Some(request) => answer(alloc, &s, request),
+        None => Ok(Answered {
+            next: s,
+            reply: Some(Reply::Err(1)),
+        }),
+    }
+}
+
+/// Answers a line: the state after it, and its reply behind those before it.
+pub(crate) fn answer_line(
+    alloc: Global,
+    s: State,
+    line: &str,
+    replies: &mut Vec<u8>,
+) -> Result<State, AllocError> {
+    let request = parse_line(alloc, line.as_bytes())?;
+    let Answered { next, reply } = answered(alloc, s, &request)?;
+    if let Some(reply) = &reply {
+        let text = text_of(alloc, reply)?;
+        replies.extend_from_slice(text.as_slice())?;
+    }
+    Ok(next)
+}
