@@ -14,7 +14,7 @@ use Rattle.rio_model.specs.VolumeReadRules.{reads_dir, reads_file, reads_region}
 use Rattle.rio_model.specs.VolumeReads.{ReadsAs}
 use Rattle.file_pages.specs.Changes.{is_among as is_block_among}
 use Rattle.file_pages.proofs.Skipped.{among_at as block_at, among_none as block_none}
-use Rattle.rio_model.specs.Answers.{is_among, is_open}
+use Rattle.rio_requests.specs.Answers.{is_among, is_open}
 use Rattle.file_store.specs.Walks.{ino_numbers}
 use Rattle.file_store.proofs.LookedAt.{file_left}
 

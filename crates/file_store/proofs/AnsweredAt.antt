@@ -9,11 +9,12 @@ use Rattle.rio_base.specs.declared.places.VolumeShape.{VolumeShape}
 use Rattle.rio_base.specs.Bitmap.{free_blocks}
 use Rattle.rio_base.specs.Blocks.{BlockWords, Seen}
 use Rattle.rio_base.specs.Volume.{Kept, Settled}
-use Rattle.rio_model.specs.declared.plain.Answered.{Answered}
-use Rattle.rio_model.specs.declared.reply.Reply.{Reply}
-use Rattle.rio_model.specs.declared.reply.Reply.TheVariants.{Bytes, Names as NamesOf}
+use Rattle.rio_requests.specs.declared.plain.Answered.{Answered}
+use Rattle.rio_requests.specs.declared.reply.Reply.{Reply}
+use Rattle.rio_requests.specs.declared.reply.Reply.TheVariants.{Bytes, Names as NamesOf}
 use Rattle.rio_model.specs.declared.state.State.{State}
-use Rattle.rio_model.specs.Answer.{answered, at_inode, names_in, on_file, refused}
+use Rattle.rio_requests.specs.Answer.{answered, at_inode, on_file, refused}
+use Rattle.rio_model.specs.States.{names_in}
 use Rattle.rio_model.specs.FileParts.{resized, written}
 use Rattle.rio_model.specs.Held.{held_of}
 use Rattle.rio_model.specs.Paths.{names_of, walk, walk_to_dir}
@@ -29,8 +30,8 @@ use Rattle.file_pages.specs.declared.failures.SizeFail.TheVariants.{NoSpace as S
 use Rattle.file_pages.specs.declared.failures.WriteFail.{WriteFail}
 use Rattle.file_pages.specs.declared.failures.WriteFail.TheVariants.{NoSpace as WriteNoSpace, TooLarge as WriteTooLarge, Fault as WriteFault, Stopped as WriteStopped, Memory as WriteMemory}
 use Rattle.directories.specs.Rows.{ListsNames}
-use Rattle.rio_model.specs.Answers.{list, read, read_in, truncate, truncate_in, write, write_in}
-use Rattle.rio_model.specs.Parts.{NoneDone, WriteDone}
+use Rattle.rio_requests.specs.Answers.{list, read, read_in, truncate, truncate_in, write, write_in}
+use Rattle.rio_requests.specs.Parts.{NoneDone, WriteDone}
 use Rattle.file_store.specs.Ends.{FileEnds, Left, SaysCount, SaysDone}
 use Rattle.file_store.specs.declared.failures.FileFail.{FileFail}
 use Rattle.file_store.specs.declared.failures.FileFail.TheVariants.{Refused, Fault, Stopped, Memory}

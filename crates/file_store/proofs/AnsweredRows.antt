@@ -6,60 +6,29 @@ use Rattle.rio_base.specs.declared.places.Ino.{Ino}
 use Rattle.rio_base.specs.declared.places.VolumeShape.{VolumeShape}
 use Rattle.rio_base.specs.Blocks.{BlockWords}
 use Rattle.rio_base.specs.Rules.{true_false}
-use Rattle.rio_model.specs.declared.node.Node.{Node}
-use Rattle.rio_model.specs.declared.plain.Answered.{Answered}
-use Rattle.rio_model.specs.declared.reply.Reply.TheVariants.{Ok as Done}
+use Rattle.rio_requests.specs.declared.plain.Answered.{Answered}
+use Rattle.rio_requests.specs.declared.reply.Reply.TheVariants.{Ok as Done}
 use Rattle.rio_model.specs.declared.state.State.{State}
-use Rattle.rio_model.specs.Answer.{answered, at_inode, front_of, last_of, least_free, names_in, refused}
+use Rattle.rio_requests.specs.Answer.{answered, at_inode, refused}
+use Rattle.rio_model.specs.States.{front_of, last_of, names_in}
 use Rattle.rio_model.specs.Held.{Held, held_of}
 use Rattle.rio_model.specs.Paths.{from_found, is_dir, walk_to_dir}
 use Rattle.rio_model.specs.VolumeReads.{ReadsAs}
 use Rattle.inode_table.specs.Inodes.{IsInode}
 use Rattle.inode_table.specs.declared.inode.Inode.{Inode}
 use Rattle.directories.specs.Rows.{Finds, HasRow}
-use Rattle.rio_model.specs.Answers.{at_row, found, is_empty, is_open, make, make_new, make_row, rmdir_at, rmdir_node, unlink_at, unlink_node, without}
-use Rattle.file_store.specs.RowReads.{finds_some}
-use Rattle.file_store.specs.Walks.{Comes, RowComes}
+use Rattle.rio_requests.specs.Answers.{at_row, found, is_empty, is_open, rmdir_at, rmdir_node, unlink_at, unlink_node, without}
+use Rattle.file_store.specs.Walks.{RowComes}
 use Rattle.file_store.specs.declared.failures.FileFail.{FileFail}
 use Rattle.file_store.specs.declared.failures.FileFail.TheVariants.{Refused, Fault, Stopped, Memory}
 use Rattle.file_store.specs.declared.walking.Row.{Row}
-use Rattle.file_store.proofs.AnsweredAt.{FailsBy, fails_walk}
+use Rattle.file_store.proofs.AnsweredAt.{FailsBy}
 use Rattle.file_store.proofs.LookedAt.{used_ino}
 use Rattle.file_store.proofs.Reached.{kind_held}
 use Rattle.file_store.proofs.RegionHeader.{used_size}
 use Rattle.file_store.proofs.RowRoom.{dir_size}
 
--- ---- a row made
-
--- what a path of one name or more makes
-made_last : (s : State) (names : List (List ℕ)) (node : Node) → 0 < length names → make s names node ≡ at_row s names (λ dir. make_row s dir (last_of names) node (get s.names (dir, last_of names)))
-made_last s [] node some = absurd (omega (arith, some))
-made_last s (name ∷ names) node some = refl
-
--- the directory of the last name is not there
-pub fails_make : (s : State) (names front : List (List ℕ)) (node : Node) (r : Result Ino FileFail) (e : FileFail) → 0 < length names → front_of names ≡ front → r ≡ Err e → Comes (walk_to_dir s front) r → FailsBy s (make s names node) e
-fails_make s names front node r e some is re h =
-    subst (λ (a : Answered). FailsBy s a e) (sym (made_last s names node some))
-    (fails_walk s (walk_to_dir s (front_of names)) (λ dir. make_row s dir (last_of names) node (get s.names (dir, last_of names))) r e re (subst (λ q. Comes (walk_to_dir s q) r) (sym is) h))
-
--- it is
-pub made_in : (s : State) (names front : List (List ℕ)) (name : List ℕ) (node : Node) (dir : ℕ) → 0 < length names → front_of names ≡ front → last_of names ≡ name → walk_to_dir s front ≡ Ok dir → make s names node ≡ make_row s dir name node (get s.names (dir, name))
-made_in s names front name node dir some is last at =
-    made_last s names node some
-    ∙ ap (λ (w : Result ℕ ℕ). at_inode s w (λ d. make_row s d (last_of names) node (get s.names (d, last_of names)))) (ap (walk_to_dir s) is ∙ at)
-    ∙ ap (λ n. make_row s dir n node (get s.names (dir, n))) last
-
-made_there : (s : State) (dir : ℕ) (name : List ℕ) (node : Node) (i : ℕ) → get s.names (dir, name) ≡ Some i → make_row s dir name node (get s.names (dir, name)) ≡ refused s 3
-made_there s dir name node i row = ap (make_row s dir name node) row
-
-pub made_anew : (s : State) (dir : ℕ) (name : List ℕ) (node : Node) → get s.names (dir, name) ≡ None → make_row s dir name node (get s.names (dir, name)) ≡ make_new s dir name node (least_free s)
-made_anew s dir name node none = ap (make_row s dir name node) none
-
--- what was found of the name, in the blocks
-pub made_over : (shape : VolumeShape) (f : BlockWords) (s : State) (dir : ℕ) (name : List ℕ) (node : Node) (o : Option (Ino × ℕ)) → ReadsAs shape f s → (held_of shape f dir).kind ≡ 1 → Finds (held_of shape f dir) name o → is_some o ≡ true → make_row s dir name node (get s.names (dir, name)) ≡ refused s 3
-made_over shape f s dir name node (Some found) reads is h e = made_there s dir name node found.0.0 (finds_some (held_of shape f) s dir name found reads.reads is h)
-made_over shape f s dir name node None reads is h e = absurd (true_false (sym e))
-
+-- no row of a name that is not found
 pub none_found : (h : Held) (name : List ℕ) (o : Option (Ino × ℕ)) → Finds h name o → is_some o ≡ false → (n : ℕ) → HasRow h name n → ⊥
 none_found h name None finds e = finds
 none_found h name (Some found) finds e = absurd (true_false e)

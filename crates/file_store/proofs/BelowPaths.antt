@@ -10,7 +10,7 @@ use Rattle.rio_base.specs.Pieces.{pieces}
 use Rattle.rio_base.specs.Rules.{true_false}
 use Rattle.rio_model.specs.Paths.{IsName, IsPath, names_of, slashed}
 use Rattle.rio_model.proofs.PathPieces.{pieces_first}
-use Rattle.rio_model.specs.Answers.{is_below}
+use Rattle.rio_requests.specs.Answers.{is_below}
 use Rattle.file_store.proofs.PathNames.{All_first, All_rest, is_slashed, lacks_name, named_all, slashed_append}
 
 -- ---- names that go on

@@ -9,8 +9,8 @@ use Rattle.rio_base.specs.BlockSets.{FirmOutside, SameOutside}
 use Rattle.rio_base.specs.Blocks.{BlockWords, Seen}
 use Rattle.rio_base.specs.Shapes.{reserved}
 use Rattle.rio_base.specs.Volume.{Firm, Kept, Settled}
-use Rattle.rio_model.specs.declared.plain.Answered.{Answered}
-use Rattle.rio_model.specs.declared.reply.Reply.{Reply}
+use Rattle.rio_requests.specs.declared.plain.Answered.{Answered}
+use Rattle.rio_requests.specs.declared.reply.Reply.{Reply}
 use Rattle.rio_model.specs.declared.state.State.{State}
 use Rattle.rio_model.specs.Held.{Held, held_of}
 use Rattle.rio_model.specs.Placed.{volume_layout, Owned, Agrees}

@@ -10,10 +10,11 @@ use Rattle.rio_base.specs.Blocks.{BlockWords, Seen}
 use Rattle.rio_base.specs.Volume.{Kept}
 use Rattle.rio_model.specs.declared.node.Node.{Node}
 use Rattle.rio_model.specs.declared.node.Node.TheVariants.{File}
-use Rattle.rio_model.specs.declared.plain.Answered.{Answered}
-use Rattle.rio_model.specs.declared.reply.Reply.TheVariants.{Ok as Done}
+use Rattle.rio_requests.specs.declared.plain.Answered.{Answered}
+use Rattle.rio_requests.specs.declared.reply.Reply.TheVariants.{Ok as Done}
 use Rattle.rio_model.specs.declared.state.State.{State}
-use Rattle.rio_model.specs.Answer.{answered, on_file, refused, with_node}
+use Rattle.rio_requests.specs.Answer.{answered, on_file, refused}
+use Rattle.rio_model.specs.States.{with_node}
 use Rattle.rio_model.specs.FileParts.{resized}
 use Rattle.rio_model.specs.Held.{held_of}
 use Rattle.rio_model.specs.NodeChanges.{SetsFile}
@@ -26,8 +27,8 @@ use Rattle.rio_model.proofs.NodeOrder.{same_nodes}
 use Rattle.rio_model.proofs.StateSteps.{file_set, get_here, get_there}
 use Rattle.file_pages.specs.Changes.{wanted_blocks}
 use Rattle.file_pages.specs.Files.{HasSpace, SetsBoth, file_bytes}
-use Rattle.rio_model.specs.Answers.{truncate_in, wanted, with_room, with_size}
-use Rattle.rio_model.specs.Parts.{NoneDone}
+use Rattle.rio_requests.specs.Answers.{truncate_in, wanted, with_room, with_size}
+use Rattle.rio_requests.specs.Parts.{NoneDone}
 use Rattle.file_store.specs.Ends.{FileEnds, Left, SaysDone, Stands}
 
 -- file i of a state

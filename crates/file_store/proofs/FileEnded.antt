@@ -8,11 +8,12 @@ use Rattle.rio_base.specs.Bitmap.{free_blocks}
 use Rattle.rio_base.specs.Blocks.{BlockWords, Seen}
 use Rattle.rio_base.specs.Volume.{Kept}
 use Rattle.rio_model.specs.declared.node.Node.TheVariants.{File}
-use Rattle.rio_model.specs.declared.plain.Answered.{Answered}
-use Rattle.rio_model.specs.declared.reply.Reply.{Reply}
-use Rattle.rio_model.specs.declared.reply.Reply.TheVariants.{Number}
+use Rattle.rio_requests.specs.declared.plain.Answered.{Answered}
+use Rattle.rio_requests.specs.declared.reply.Reply.{Reply}
+use Rattle.rio_requests.specs.declared.reply.Reply.TheVariants.{Number}
 use Rattle.rio_model.specs.declared.state.State.{State}
-use Rattle.rio_model.specs.Answer.{answered, on_file, refused, with_node}
+use Rattle.rio_requests.specs.Answer.{answered, on_file, refused}
+use Rattle.rio_model.specs.States.{with_node}
 use Rattle.rio_model.specs.FileParts.{IsLead, WritePart, put_at, written}
 use Rattle.rio_model.specs.Held.{held_of}
 use Rattle.rio_model.specs.Paths.{names_of, walk}
@@ -23,8 +24,8 @@ use Rattle.rio_model.specs.VolumeReady.{LeavesInUse, Ready}
 use Rattle.file_pages.specs.Changes.{wanted_blocks}
 use Rattle.file_pages.specs.Files.{FaultsAfter, HasSpaceFor, ResizeStops, SetsBoth, StopsAs, file_bytes}
 use Rattle.file_pages.specs.Writing.{WriteStops}
-use Rattle.rio_model.specs.Answers.{truncate_in, with_size, write_file, write_in}
-use Rattle.rio_model.specs.Parts.{NoneDone, PartOf, WriteDone}
+use Rattle.rio_requests.specs.Answers.{truncate_in, with_size, write_file, write_in}
+use Rattle.rio_requests.specs.Parts.{NoneDone, PartOf, WriteDone}
 use Rattle.file_store.specs.Ends.{FileEnds, Left, SaysCount, SaysDone}
 use Rattle.file_store.specs.declared.failures.FileFail.TheVariants.{Refused, Fault, Stopped}
 use Rattle.file_store.proofs.FileData.{file_read, left_set, no_space, room_true, stands_set, too_large, truncated, with_same}

@@ -12,7 +12,7 @@ use Rattle.rio_base.specs.Shapes.{HasShape}
 use Rattle.rio_base.specs.Volume.{Below, Kept, Passes}
 use Rattle.inode_table.specs.Inodes.{AreUsed, IsMetadata}
 use Rattle.rio_model.specs.declared.state.State.{State}
-use Rattle.rio_model.specs.Answer.{least_free}
+use Rattle.rio_model.specs.States.{least_free}
 use Rattle.rio_model.specs.Held.{held_of}
 use Rattle.rio_model.specs.Placed.{volume_layout}
 use Rattle.rio_model.specs.VolumeReadRules.{reads_dir, reads_file, reads_none, reads_region}

@@ -10,7 +10,7 @@ use Rattle.rio_base.specs.Blocks.{BlockWords, Caches, Health, Looks, Seen}
 use Rattle.rio_base.specs.Layout.{IsIno, inode_block}
 use Rattle.rio_base.specs.Volume.{Below, Kept, Passes}
 use Rattle.rio_model.specs.declared.state.State.{State}
-use Rattle.rio_model.specs.Answer.{front_of, last_of}
+use Rattle.rio_model.specs.States.{front_of, last_of}
 use Rattle.rio_model.specs.Held.{entry_ino, held, held_of, nothing}
 use Rattle.rio_model.specs.Paths.{as_dir, from_found, is_dir, walk, walk_to_dir}
 use Rattle.rio_model.specs.Placed.{placed_at, volume_layout}
@@ -22,7 +22,7 @@ use Rattle.file_pages.specs.OrderRules.{leaves_looked}
 use Rattle.inode_table.specs.declared.inode.Inode.{Inode}
 use Rattle.inode_table.specs.Inodes.{IsInode}
 use Rattle.directories.specs.Rows.{HasRow, IsEntry}
-use Rattle.rio_model.specs.Answers.{found}
+use Rattle.rio_requests.specs.Answers.{found}
 use Rattle.file_store.specs.declared.failures.FileFail.{FileFail}
 use Rattle.file_store.specs.declared.failures.FileFail.TheVariants.{Refused, Fault, Stopped, Memory}
 use Rattle.file_store.specs.Failures.{Refuses, Unrefused}

@@ -6,7 +6,8 @@ use Rattle.rio_base.specs.Blocks.{BlockWords, Seen}
 use Rattle.rio_base.specs.Layout.{IsIno}
 use Rattle.rio_base.specs.Volume.{Kept, Settled}
 use Rattle.rio_model.specs.declared.state.State.{State}
-use Rattle.rio_model.specs.Answer.{answered, with_new}
+use Rattle.rio_requests.specs.Answer.{answered}
+use Rattle.rio_model.specs.States.{with_new}
 use Rattle.rio_model.specs.Held.{held_of}
 use Rattle.rio_model.specs.Paths.{IsName}
 use Rattle.rio_model.specs.Placed.{volume_layout}
@@ -17,8 +18,8 @@ use Rattle.directories.specs.Plans.{PlansDir}
 use Rattle.directories.specs.RowChanges.{AddsRow}
 use Rattle.directories.specs.Rows.{HasRow}
 use Rattle.directories.specs.declared.changes.DirChange.{DirChange}
-use Rattle.rio_model.specs.Answers.{empty_node, make_new, new_blocks, row_wanted, with_room}
-use Rattle.rio_model.specs.declared.reply.Reply.TheVariants.{Number}
+use Rattle.rio_requests.specs.Answers.{empty_node, make_new, new_blocks, row_wanted, with_room}
+use Rattle.rio_requests.specs.declared.reply.Reply.TheVariants.{Number}
 use Rattle.rio_base.specs.Bitmap.{free_blocks}
 use Rattle.file_pages.specs.Changes.{wanted_blocks}
 use Rattle.file_pages.specs.declared.failures.SizeFail.{SizeFail}

@@ -9,7 +9,7 @@ use Rattle.std.proofs.lemmas.List.{drop-drop, drop_all, drop_more, get_or-append
 use Rattle.std.proofs.lemmas.List.Elements.{All-take}
 use Rattle.memchr.specs.Find.{IsFirstByte, IsLastByte, is_byte}
 use Rattle.rio_base.specs.Pieces.{Lacks, pieces}
-use Rattle.rio_model.specs.Answer.{front_of, last_of}
+use Rattle.rio_model.specs.States.{front_of, last_of}
 use Rattle.rio_model.specs.Paths.{AreNames, IsName, IsPath, names_of, slashed}
 use Rattle.rio_model.specs.WordRules.{differs}
 use Rattle.rio_model.proofs.PathPieces.{pieces_first, pieces_whole}

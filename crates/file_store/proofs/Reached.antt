@@ -12,7 +12,7 @@ use Rattle.rio_base.specs.Layout.{IsIno}
 use Rattle.rio_base.specs.Volume.{Kept}
 use Rattle.block_alloc.specs.Bitmap.{numbers}
 use Rattle.rio_model.specs.declared.state.State.{State}
-use Rattle.rio_model.specs.Answer.{with_new}
+use Rattle.rio_model.specs.States.{with_new}
 use Rattle.rio_model.specs.Held.{Held, held_of}
 use Rattle.rio_model.specs.HeldRules.{held_ino}
 use Rattle.rio_model.specs.Paths.{IsName, is_dir}
@@ -30,7 +30,7 @@ use Rattle.directories.specs.Plans.{PlansDir}
 use Rattle.directories.specs.RowChanges.{AddsRow, RemovesRow, ReplacesRow, SetsRow}
 use Rattle.directories.specs.Rows.{IsEntry}
 use Rattle.directories.specs.declared.changes.DirChange.{DirChange}
-use Rattle.rio_model.specs.Answers.{empty_node, moved, without}
+use Rattle.rio_requests.specs.Answers.{empty_node, moved, without}
 use Rattle.file_store.specs.Changes.{AllApplied, IsGone, IsMade, IsTouchedBy, node_update, of_dir}
 use Rattle.file_store.specs.Committing.{Touched}
 use Rattle.file_store.specs.EmptyHeld.{empty_held}
@@ -83,10 +83,10 @@ root_held shape f mapped = kind_held shape f 1 (root_ino shape mapped.laid.shape
 dir_read : (shape : VolumeShape) (f : BlockWords) (s : State) (d : ℕ) → ReadsAs shape f s → (held_of shape f d).kind ≡ 1 → is_dir (get s.nodes d) ≡ true
 dir_read shape f s d reads dir = ap is_dir (reads.reads.nodes d ∙ reads_dir (held_of shape f d) dir)
 
-unused_read : (shape : VolumeShape) (f : BlockWords) (s : State) (i : ℕ) → ReadsAs shape f s → (held_of shape f i).kind ≡ 0 → get s.nodes i ≡ None
+pub unused_read : (shape : VolumeShape) (f : BlockWords) (s : State) (i : ℕ) → ReadsAs shape f s → (held_of shape f i).kind ≡ 0 → get s.nodes i ≡ None
 unused_read shape f s i reads free = reads.reads.nodes i ∙ reads_none (held_of shape f i) free
 
-fit_read : (shape : VolumeShape) (f : BlockWords) (s : State) → ReadsAs shape f s → RowsFit s
+pub fit_read : (shape : VolumeShape) (f : BlockWords) (s : State) → ReadsAs shape f s → RowsFit s
 fit_read shape f s reads = rows_fit _ s reads.reads reads.entries
 
 -- what is reached, once its parts are known

@@ -26,7 +26,7 @@ use Rattle.directories.specs.Plans.{dir_update}
 use Rattle.directories.specs.RowChanges.{AddsRow, RemovesRow, ReplacesRow, SetsRow}
 use Rattle.directories.specs.Rows.{IsEntry}
 use Rattle.directories.specs.declared.changes.DirChange.{DirChange}
-use Rattle.rio_model.specs.Answers.{moved, replaced}
+use Rattle.rio_requests.specs.Answers.{moved, replaced}
 use Rattle.file_store.specs.Changes.{AllApplied, IsGone, IsTouchedBy, node_update, of_dir}
 use Rattle.file_store.specs.EmptyHeld.{empty_held}
 use Rattle.file_store.specs.ReadSteps.{MovesRow, ReplacesAcross, ReplacesWithin, moved_as, replaced_across_as, replaced_within_as}

@@ -7,11 +7,12 @@ use Rattle.rio_base.specs.declared.places.Ino.{Ino}
 use Rattle.rio_base.specs.declared.places.VolumeShape.{VolumeShape}
 use Rattle.rio_base.specs.Blocks.{BlockWords, Seen}
 use Rattle.rio_base.specs.Volume.{Kept}
-use Rattle.rio_model.specs.declared.plain.Answered.{Answered}
-use Rattle.rio_model.specs.declared.reply.Reply.{Reply}
-use Rattle.rio_model.specs.declared.reply.Reply.TheVariants.{Ok as Done}
+use Rattle.rio_requests.specs.declared.plain.Answered.{Answered}
+use Rattle.rio_requests.specs.declared.reply.Reply.{Reply}
+use Rattle.rio_requests.specs.declared.reply.Reply.TheVariants.{Ok as Done}
 use Rattle.rio_model.specs.declared.state.State.{State}
-use Rattle.rio_model.specs.Answer.{answered, at_inode, front_of, last_of, refused}
+use Rattle.rio_requests.specs.Answer.{answered, at_inode, refused}
+use Rattle.rio_model.specs.States.{front_of, last_of}
 use Rattle.rio_model.specs.Held.{held_of}
 use Rattle.rio_model.specs.Paths.{is_dir, walk, walk_to_dir}
 use Rattle.rio_model.specs.Placed.{volume_layout}
@@ -21,7 +22,7 @@ use Rattle.rio_model.specs.VolumeRules.{TreeRule}
 use Rattle.rio_model.specs.WordRules.{differs}
 use Rattle.inode_table.specs.Inodes.{IsInode}
 use Rattle.inode_table.specs.declared.inode.Inode.{Inode}
-use Rattle.rio_model.specs.Answers.{at_row, is_among, is_below, is_open, rename_at, rename_row, rename_to, replace_row, replaced}
+use Rattle.rio_requests.specs.Answers.{at_row, is_among, is_below, is_open, rename_at, rename_row, rename_to, replace_row, replaced}
 use Rattle.file_store.specs.Ends.{FileEnds}
 use Rattle.file_store.specs.WalkRules.{OutOfReach, out_of_reach, path_row, walk_last, walk_last_err}
 use Rattle.file_store.specs.Walks.{Comes, RowComes}

@@ -10,9 +10,9 @@ use Rattle.rio_base.specs.Blocks.{BlockWords, Seen}
 use Rattle.rio_base.specs.Layout.{IsIno}
 use Rattle.rio_base.specs.Volume.{Kept, Settled}
 use Rattle.block_alloc.specs.Bitmap.{numbers}
-use Rattle.rio_model.specs.declared.reply.Reply.TheVariants.{Ok as Done}
+use Rattle.rio_requests.specs.declared.reply.Reply.TheVariants.{Ok as Done}
 use Rattle.rio_model.specs.declared.state.State.{State}
-use Rattle.rio_model.specs.Answer.{answered, refused}
+use Rattle.rio_requests.specs.Answer.{answered, refused}
 use Rattle.rio_model.specs.Held.{Held, held_of}
 use Rattle.rio_model.specs.Paths.{IsName}
 use Rattle.rio_model.specs.Placed.{placed_at, volume_layout}
@@ -31,7 +31,7 @@ use Rattle.directories.specs.Plans.{PlansDir}
 use Rattle.directories.specs.RowChanges.{AddsRow, RemovesRow, ReplacesRow, SetsRow}
 use Rattle.directories.specs.Rows.{HasRow, IsEntry}
 use Rattle.directories.specs.declared.changes.DirChange.{DirChange}
-use Rattle.rio_model.specs.Answers.{move_row, moved, replaced, row_wanted, with_room}
+use Rattle.rio_requests.specs.Answers.{move_row, moved, replaced, row_wanted, with_room}
 use Rattle.file_store.specs.Changes.{IsGone, of_dir}
 use Rattle.file_store.specs.Failures.{fail_of_size}
 use Rattle.file_store.specs.ReadTrees.{rows_fit}

@@ -13,10 +13,10 @@ use Rattle.rio_base.specs.Layout.{IsIno}
 use Rattle.rio_base.specs.Rules.{ends_by_as}
 use Rattle.rio_base.specs.Volume.{Kept, Settled}
 use Rattle.block_alloc.specs.Bitmap.{numbers}
-use Rattle.rio_model.specs.declared.plain.Answered.{Answered}
-use Rattle.rio_model.specs.declared.reply.Reply.{Reply}
+use Rattle.rio_requests.specs.declared.plain.Answered.{Answered}
+use Rattle.rio_requests.specs.declared.reply.Reply.{Reply}
 use Rattle.rio_model.specs.declared.state.State.{State}
-use Rattle.rio_model.specs.Answer.{answered}
+use Rattle.rio_requests.specs.Answer.{answered}
 use Rattle.rio_model.specs.Held.{Held, held_of}
 use Rattle.rio_model.specs.Placed.{Slot, AtPage, AtTable, Placed, HasSlot, Owns, Agrees, placed_at, volume_layout}
 use Rattle.rio_model.specs.PlacedRules.{SameLayout, SamePlaced, lays_agree, lays_same, lays_self, owned_below, owned_on, owns_back}
@@ -33,7 +33,7 @@ use Rattle.file_pages.specs.declared.failures.SizeFail.TheVariants.{NoSpace, Too
 use Rattle.directories.specs.MakingOrder.{plan_applies, plan_edits}
 use Rattle.directories.specs.Plans.{CanApply}
 use Rattle.directories.specs.declared.changes.DirChange.{DirChange}
-use Rattle.rio_model.specs.Answers.{row_wanted, with_room}
+use Rattle.rio_requests.specs.Answers.{row_wanted, with_room}
 use Rattle.file_store.specs.Changes.{AllApplied, CanCommit, CanMakeNode, IsGone, IsMade, node_update, of_dir}
 use Rattle.file_store.specs.Committing.{Commits, Touched}
 use Rattle.file_store.specs.Ends.{FileEnds}

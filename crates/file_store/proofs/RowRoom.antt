@@ -7,9 +7,10 @@ use Rattle.rio_base.specs.Bitmap.{free_blocks}
 use Rattle.rio_base.specs.Blocks.{BlockWords}
 use Rattle.rio_base.specs.Layout.{IsIno}
 use Rattle.rio_base.specs.Rules.{true_false}
-use Rattle.rio_model.specs.declared.plain.Answered.{Answered}
+use Rattle.rio_requests.specs.declared.plain.Answered.{Answered}
 use Rattle.rio_model.specs.declared.state.State.{State}
-use Rattle.rio_model.specs.Answer.{names_in, refused}
+use Rattle.rio_requests.specs.Answer.{refused}
+use Rattle.rio_model.specs.States.{names_in}
 use Rattle.rio_model.specs.Held.{Held, held_of}
 use Rattle.rio_model.specs.HeldRules.{held_ino}
 use Rattle.rio_model.specs.Paths.{is_dir}
@@ -20,7 +21,7 @@ use Rattle.rio_model.specs.VolumeReads.{ReadsAs}
 use Rattle.rio_model.specs.VolumeRules.{IsMapped}
 use Rattle.rio_model.proofs.FreeByState.{free_by_state, names_counted}
 use Rattle.file_pages.specs.Changes.{wanted_blocks}
-use Rattle.rio_model.specs.Answers.{row_wanted, with_room}
+use Rattle.rio_requests.specs.Answers.{row_wanted, with_room}
 use Rattle.file_store.specs.ReadTrees.{ino_of, names_few}
 use Rattle.file_store.proofs.Reached.{kind_held}
 

@@ -20,7 +20,7 @@ use Rattle.directories.specs.Plans.{PlansDir}
 use Rattle.directories.specs.RowChanges.{RemovesRow}
 use Rattle.directories.specs.Rows.{IsEntry}
 use Rattle.directories.specs.declared.changes.DirChange.{DirChange}
-use Rattle.rio_model.specs.Answers.{without}
+use Rattle.rio_requests.specs.Answers.{without}
 use Rattle.file_store.specs.Changes.{IsGone, of_dir}
 use Rattle.file_store.specs.RowReads.{bare_names, by_each, sound_of}
 use Rattle.file_store.specs.TreeRules.{tree_without}

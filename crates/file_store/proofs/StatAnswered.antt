@@ -6,9 +6,10 @@ use Rattle.std.proofs.lemmas.Bool.{cases_eq}
 use Rattle.rio_base.specs.declared.places.VolumeShape.{VolumeShape}
 use Rattle.rio_base.specs.Blocks.{BlockWords}
 use Rattle.rio_base.specs.Layout.{IsIno}
-use Rattle.rio_model.specs.declared.reply.Reply.TheVariants.{Stat}
+use Rattle.rio_requests.specs.declared.reply.Reply.TheVariants.{Stat}
 use Rattle.rio_model.specs.declared.state.State.{State}
-use Rattle.rio_model.specs.Answer.{answered, at_inode, names_in}
+use Rattle.rio_requests.specs.Answer.{answered, at_inode}
+use Rattle.rio_model.specs.States.{names_in}
 use Rattle.rio_model.specs.Held.{Held, byte_in, held_bytes, held_of}
 use Rattle.rio_model.specs.Paths.{names_of, walk}
 use Rattle.rio_model.specs.Sizes.{data_pages}
@@ -17,7 +18,7 @@ use Rattle.rio_model.specs.VolumeReads.{ReadsAs, node_in, region_in}
 use Rattle.inode_table.specs.declared.inode.Inode.{Inode}
 use Rattle.inode_table.specs.Inodes.{IsInode}
 use Rattle.std.proofs.lemmas.List.FromFn.{length-map-range_with_len}
-use Rattle.rio_model.specs.Answers.{stat, stat_node}
+use Rattle.rio_requests.specs.Answers.{stat, stat_node}
 use Rattle.file_store.proofs.LookedAt.{file_left, inode_kind_held, used_ino}
 use Rattle.file_store.proofs.Reached.{kind_held}
 use Rattle.file_store.proofs.RegionHeader.{pages_read, used_size}

@@ -156,7 +156,7 @@ pub record Steps (shape : VolumeShape) (g h : BlockWords) (i : ℕ) (z : Seen) (
   pub others : (x : ℕ) → x ≢ i → held_of shape h x ≡ held_of shape g x
   pub lies : (x : ℕ) → IsIno shape x → x ≢ i → SamePlaced (placed_at g x) (placed_at h x)
 
-step_of : (shape : VolumeShape) (g h : BlockWords) (i : ℕ) (m : Placed) (z : Seen) (j : Kept) → InOrder shape g z j → Change (volume_layout shape g) g h i m → NamedNode i m z → ((s : Slot) → HasSlot m s → j.loose (m.block s) ≡ false) → Steps shape g h i z j
+pub step_of : (shape : VolumeShape) (g h : BlockWords) (i : ℕ) (m : Placed) (z : Seen) (j : Kept) → InOrder shape g z j → Change (volume_layout shape g) g h i m → NamedNode i m z → ((s : Slot) → HasSlot m s → j.loose (m.block s) ≡ false) → Steps shape g h i z j
 step_of shape g h i m z j order change named firm = record {
   order = order_step shape g h i m z j order change named firm;
   others = λ x away. held_there shape g h i m order.mapped change x away;

@@ -4,8 +4,8 @@ use Rattle.std.specs.Prelude.{Result, Ok, Err, IsErrOf, OnOk, None}
 use Rattle.rio_base.specs.declared.places.VolumeShape.{VolumeShape}
 use Rattle.rio_base.specs.Blocks.{Caches, Health, Looks, Seen}
 use Rattle.rio_base.specs.Volume.{Below, Kept, Passes}
-use Rattle.rio_model.specs.declared.plain.Answered.{Answered}
-use Rattle.rio_model.specs.declared.reply.Reply.{Reply}
+use Rattle.rio_requests.specs.declared.plain.Answered.{Answered}
+use Rattle.rio_requests.specs.declared.reply.Reply.{Reply}
 use Rattle.rio_model.specs.declared.state.State.{State}
 use Rattle.rio_model.specs.VolumeReads.{ReadsAs}
 use Rattle.file_pages.specs.LookingUpRules.{can_look_up, looked_low}

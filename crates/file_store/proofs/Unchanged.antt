@@ -5,8 +5,8 @@ use Rattle.rio_base.specs.declared.places.VolumeShape.{VolumeShape}
 use Rattle.rio_base.specs.Blocks.{BlockWords, Health, Looks, Seen}
 use Rattle.rio_base.specs.Shapes.{HasShape}
 use Rattle.rio_base.specs.Volume.{Below, Kept, Passes, Settled}
-use Rattle.rio_model.specs.declared.plain.Answered.{Answered}
-use Rattle.rio_model.specs.declared.reply.Reply.{Reply}
+use Rattle.rio_requests.specs.declared.plain.Answered.{Answered}
+use Rattle.rio_requests.specs.declared.reply.Reply.{Reply}
 use Rattle.rio_model.specs.declared.state.State.{State}
 use Rattle.rio_model.specs.Placed.{volume_layout}
 use Rattle.rio_model.specs.VolumeReads.{ReadsAs}

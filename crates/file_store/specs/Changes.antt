@@ -3,6 +3,7 @@ use Rattle.std.specs.Prelude.{◌≡◌, ℕ, ◌<◌, ◌≤◌, ◌⊎◌, tru
 use Rattle.std.specs.List.{Contains}
 use Rattle.directories.specs.declared.changes.DirChange.{DirChange}
 use Rattle.rio_base.specs.declared.places.Block.{Block}
+use Rattle.rio_base.specs.declared.places.Ino.{Ino}
 use Rattle.rio_base.specs.declared.places.PageName.{PageName}
 use Rattle.rio_base.specs.declared.places.VolumeShape.{VolumeShape}
 use Rattle.rio_base.specs.Blocks.{BlockWords, Seen}
@@ -11,6 +12,7 @@ use Rattle.rio_base.specs.Volume.{Kept}
 use Rattle.rio_base.specs.Shapes.{reserved}
 use Rattle.block_alloc.specs.Bitmap.{numbers}
 use Rattle.file_pages.specs.declared.changes.Edit.{Edit}
+use Rattle.file_pages.specs.declared.changes.SizeChange.{SizeChange}
 use Rattle.file_pages.specs.Changes.{word_edit}
 use Rattle.inode_table.specs.Inodes.{inode_words}
 use Rattle.rio_model.specs.Updates.{Applied, Update}
@@ -81,6 +83,10 @@ pub record AllTouched (k : Kept) (changes : List NodeChange) : Type 0 where
 -- a directory's
 abbrev pub of_dir : DirChange → NodeChange
 of_dir c = record { ino = c.dir; inode = c.inode; edits = c.edits; taken = c.taken; freed = c.freed }
+
+-- a change of a node's size
+abbrev pub of_size : Ino → SizeChange → NodeChange
+of_size i c = record { ino = i; inode = c.inode; edits = c.edits; taken = c.taken; freed = c.freed }
 
 -- a new node of this kind, without bytes
 pub record IsMade (i kind : ℕ) (c : NodeChange) : Type 0 where

@@ -4,14 +4,14 @@ use Rattle.rio_base.specs.declared.places.Ino.{Ino}
 use Rattle.rio_base.specs.declared.places.VolumeShape.{VolumeShape}
 use Rattle.rio_base.specs.Blocks.{BlockWords, Seen}
 use Rattle.rio_base.specs.Volume.{Kept}
-use Rattle.rio_model.specs.declared.plain.Answered.{Answered}
-use Rattle.rio_model.specs.declared.reply.Reply.{Reply}
-use Rattle.rio_model.specs.declared.reply.Reply.TheVariants.{Ok as Done, Number, Bytes, Stat, Names as NamesOf, Err as RefusedBy}
+use Rattle.rio_requests.specs.declared.plain.Answered.{Answered}
+use Rattle.rio_requests.specs.declared.reply.Reply.{Reply}
+use Rattle.rio_requests.specs.declared.reply.Reply.TheVariants.{Ok as Done, Number, Bytes, Stat, Names as NamesOf, Err as RefusedBy}
 use Rattle.rio_model.specs.declared.state.State.{State}
 use Rattle.rio_model.specs.FileParts.{LeadsTo}
 use Rattle.rio_model.specs.Held.{Held, held_of}
 use Rattle.rio_model.specs.Paths.{IsName, names_of, walk}
-use Rattle.rio_model.specs.Parts.{PartOf}
+use Rattle.rio_requests.specs.Parts.{PartOf}
 use Rattle.rio_model.specs.Placed.{volume_layout}
 use Rattle.rio_model.specs.VolumeReads.{ReadsAs}
 use Rattle.rio_model.specs.VolumeReady.{LeavesInUse, Ready, StandsReady}

@@ -7,6 +7,7 @@ pub mod Failures
 pub mod NameRules
 pub mod NameSteps
 pub mod NamesListed
+pub mod NewRegions
 pub mod ReadSteps
 pub mod ReadTrees
 pub mod RowCounts
@@ -15,3 +16,4 @@ pub mod TestVolumes
 pub mod TreeRules
 pub mod WalkRules
 pub mod Walks
+pub mod Views

@@ -21,7 +21,7 @@ use Rattle.std.proofs.lemmas.Map.Views.{Contains-from_any, list_any-from_Contain
 use Rattle.std.proofs.lemmas.Option.{none-some}
 use Rattle.rio_base.specs.Rules.{true_false}
 use Rattle.rio_model.specs.declared.state.State.{State}
-use Rattle.rio_model.specs.Answer.{names_in}
+use Rattle.rio_model.specs.States.{names_in}
 use Rattle.rio_model.specs.Held.{Held, entry_name}
 use Rattle.rio_model.specs.VolumeReads.{Reads}
 use Rattle.rio_model.specs.VolumeRules.{NamesApartRule}

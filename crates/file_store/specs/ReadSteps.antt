@@ -4,7 +4,7 @@ use Rattle.std.specs.FinMap.{get, remove}
 use Rattle.rio_base.specs.declared.places.VolumeShape.{VolumeShape}
 use Rattle.rio_base.specs.Blocks.{BlockWords}
 use Rattle.rio_model.specs.declared.state.State.{State}
-use Rattle.rio_model.specs.Answer.{with_new}
+use Rattle.rio_model.specs.States.{with_new}
 use Rattle.rio_model.specs.Held.{Held, held_of, entry_name}
 use Rattle.rio_model.specs.Names.{NameKey}
 use Rattle.rio_model.specs.Paths.{IsName}
@@ -12,7 +12,7 @@ use Rattle.rio_model.specs.VolumeReads.{node_in, ReadsAs}
 use Rattle.rio_model.specs.VolumeRules.{IsMapped, TreeRule}
 use Rattle.rio_model.proofs.NameOrder.{name_get_other}
 use Rattle.rio_model.proofs.StateSteps.{get_here, get_there}
-use Rattle.rio_model.specs.Answers.{empty_node, moved, replaced, without}
+use Rattle.rio_requests.specs.Answers.{empty_node, moved, replaced, without}
 use Rattle.file_store.specs.EmptyHeld.{empty_held}
 use Rattle.file_store.specs.NameSteps.{ChangesNames, by_one, by_two, by_three, dirs_apart, gone_here, gone_there, insert_back, insert_some, moved_back, moved_other, remove_back, remove_other, remove_some, row_arrives, row_changes, row_comes, row_leaves, row_removed, same_name}
 use Rattle.directories.specs.RowChanges.{AddsRow, NameAt, NoName, RemovesRow, ReplacesRow, SetsRow, TheRow}

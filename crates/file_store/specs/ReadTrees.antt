@@ -12,7 +12,7 @@ use Rattle.rio_base.specs.Layout.{IsIno}
 use Rattle.rio_model.specs.declared.node.Node.{Node}
 use Rattle.rio_model.specs.declared.node.Node.TheVariants.{Dir, File, Region}
 use Rattle.rio_model.specs.declared.state.State.{State}
-use Rattle.rio_model.specs.Answer.{least_free, names_below, names_in}
+use Rattle.rio_model.specs.States.{least_free, names_below, names_in}
 use Rattle.rio_model.specs.Held.{Held, held, held_bytes, held_of, nothing, entry_ino}
 use Rattle.rio_model.specs.HeldRules.{held_ino}
 use Rattle.rio_model.specs.Names.{NameKey, name_cmp}
@@ -23,7 +23,7 @@ use Rattle.rio_model.specs.VolumeReadRules.{reads_dir}
 use Rattle.rio_model.specs.VolumeRules.{EntryRule}
 use Rattle.rio_model.specs.WordRules.{differs}
 use Rattle.rio_model.proofs.FreeByState.{names_counted}
-use Rattle.rio_model.specs.Answers.{is_empty}
+use Rattle.rio_requests.specs.Answers.{is_empty}
 use Rattle.file_store.specs.NameRules.{key_of, same_some}
 use Rattle.file_store.specs.RowCounts.{InShape, rows_fewer}
 use Rattle.file_store.specs.TreeRules.{RowsFit, dir_used}

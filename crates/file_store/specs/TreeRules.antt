@@ -5,13 +5,13 @@ use Rattle.std.proofs.lemmas.Bool.{cases_eq}
 use Rattle.rio_base.specs.Rules.{true_false}
 use Rattle.rio_model.specs.declared.node.Node.{Node}
 use Rattle.rio_model.specs.declared.state.State.{State}
-use Rattle.rio_model.specs.Answer.{with_new}
+use Rattle.rio_model.specs.States.{with_new}
 use Rattle.rio_model.specs.Names.{NameKey}
 use Rattle.rio_model.specs.Paths.{is_dir, walk}
 use Rattle.rio_model.specs.VolumeRules.{TreeRule}
 use Rattle.rio_model.proofs.NameOrder.{name_get_other, name_get_same}
 use Rattle.rio_model.proofs.StateSteps.{get_here, get_there}
-use Rattle.rio_model.specs.Answers.{moved, replaced, without}
+use Rattle.rio_requests.specs.Answers.{moved, replaced, without}
 use Rattle.file_store.specs.NameRules.{cases_key, some_none, same_some, row_kept, row_left, row_moved, row_put, row_stays, OneRow, one_left, one_moved, one_put, node_kept, node_left}
 use Rattle.file_store.specs.WalkRules.{Hangs, OutOfReach, Up, stepped, turned, up_walk, walk_append, walk_step, walk_up}
 

@@ -5,10 +5,10 @@ use Rattle.std.proofs.lemmas.List.{drop_more, drop_all, take-append-drop}
 use Rattle.std.proofs.lemmas.Slice.Eq.{bytes_eq-Decides}
 use Rattle.rio_base.specs.Rules.{true_false}
 use Rattle.rio_model.specs.declared.state.State.{State}
-use Rattle.rio_model.specs.Answer.{front_of, last_of}
+use Rattle.rio_model.specs.States.{front_of, last_of}
 use Rattle.rio_model.specs.Paths.{as_dir, from_found, is_dir, walk, walk_to_dir}
 use Rattle.rio_model.specs.VolumeRules.{TreeRule}
-use Rattle.rio_model.specs.Answers.{found, is_below}
+use Rattle.rio_requests.specs.Answers.{found, is_below}
 
 -- ---- over names and more names
 

@@ -1,5 +1,5 @@
 -- What look-ups by path answer, by the state that the blocks read as.
-use Rattle.std.specs.Prelude.{◌≡◌, ℕ, ◌⊎◌, List, Some, map, Result, Ok, Err}
+use Rattle.std.specs.Prelude.{◌≡◌, ℕ, ◌⊎◌, List, None, Some, map, Result, Ok, Err}
 use Rattle.std.specs.FinMap.{get}
 use Rattle.rio_base.specs.declared.places.Ino.{Ino}
 use Rattle.rio_base.specs.declared.places.VolumeShape.{VolumeShape}
@@ -7,11 +7,11 @@ use Rattle.rio_base.specs.Blocks.{BlockWords}
 use Rattle.rio_model.specs.declared.node.Node.TheVariants.{Dir, Region}
 use Rattle.rio_model.specs.declared.node.RegionNode.{RegionNode}
 use Rattle.rio_model.specs.declared.state.State.{State}
-use Rattle.rio_model.specs.Answer.{front_of, last_of}
+use Rattle.rio_model.specs.States.{front_of, last_of}
 use Rattle.rio_model.specs.Held.{held_of}
 use Rattle.rio_model.specs.Paths.{walk_to_dir}
 use Rattle.directories.specs.Rows.{IsEntry}
-use Rattle.rio_model.specs.Answers.{found}
+use Rattle.rio_requests.specs.Answers.{found}
 use Rattle.file_store.specs.declared.failures.FileFail.{FileFail}
 use Rattle.file_store.specs.declared.failures.FileFail.TheVariants.{Refused, Fault, Stopped, Memory}
 use Rattle.file_store.specs.declared.walking.Row.{Row}
@@ -48,6 +48,14 @@ FileComes s walked (Err (Refused c)) = (walked ≡ Err c) ⊎ ((i : ℕ) × (wal
 FileComes s walked (Err (Fault k)) = k ≡ 0
 FileComes s walked (Err Stopped) = Unit {0}
 FileComes s walked (Err Memory) = ⊥
+
+-- a directory in which this name is free: 3 where it is not
+abbrev pub FreeRow : State → List (List ℕ) → List ℕ → Result Ino FileFail → Type 0
+FreeRow s names name (Ok dir) = (walk_to_dir s names ≡ Ok dir.0) × (get s.names (dir.0, name) ≡ None)
+FreeRow s names name (Err (Refused c)) = (walk_to_dir s names ≡ Err c) ⊎ ((dir : ℕ) × (walk_to_dir s names ≡ Ok dir) × ((i : ℕ) × (get s.names (dir, name) ≡ Some i)) × (c ≡ 3))
+FreeRow s names name (Err (Fault k)) = k ≡ 0
+FreeRow s names name (Err Stopped) = Unit {0}
+FreeRow s names name (Err Memory) = ⊥
 
 -- the numbers of inodes
 abbrev pub ino_numbers : List Ino → List ℕ

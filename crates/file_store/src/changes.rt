@@ -1,10 +1,10 @@
 //! Changes of nodes that one update makes together.
 
 ghost use Rattle.std.specs.Prelude.{◌≡◌, [], ◌∷◌, IfOk};
-ghost use Rattle.file_store.specs.Changes.{IsGone, IsMade};
+ghost use Rattle.file_store.specs.Changes.{IsGone, IsMade, of_size};
 
 use directories::DirChange;
-use file_pages::EditList;
+use file_pages::{EditList, SizeChange};
 use inode_table::Inode;
 use rio_base::{BlockList, Ino};
 use std::alloc::{AllocError, Global};
@@ -53,7 +53,7 @@ impl From<DirChange> for NodeChange {
 }
 
 /// The inode of a node without bytes.
-fn empty_inode(kind: u8) -> Inode
+pub fn empty_inode(kind: u8) -> Inode
     ensures kind { result.kind ≡ kind }
     ensures size { result.size ≡ 0 }
 {
@@ -76,6 +76,19 @@ pub fn node_made(alloc: Global, i: Ino, kind: u8) -> NodeChange
         edits: EditList::from(Vec::new(alloc)),
         taken: BlockList::from(Vec::new(alloc)),
         freed: BlockList::from(Vec::new(alloc)),
+    }
+}
+
+/// A node that gets another size, or a new one with bytes.
+pub fn node_sized(i: Ino, change: SizeChange) -> NodeChange
+    ensures { result ≡ of_size i change }
+{
+    NodeChange {
+        ino: i,
+        inode: change.inode,
+        edits: change.edits,
+        taken: change.taken,
+        freed: change.freed,
     }
 }
 

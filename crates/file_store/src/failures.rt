@@ -43,6 +43,9 @@ pub const NOT_EMPTY: u8 = 6;
 /// A region where a file must be.
 pub const IS_A_REGION: u8 = 7;
 
+/// No region where one must be.
+pub const NOT_A_REGION: u8 = 8;
+
 /// The root directory, which has no name.
 pub const IS_ROOT: u8 = 9;
 

@@ -1,4 +1,4 @@
-//! Requests on files by path: directories, files and their bytes, over any volume.
+//! Requests on files by path: directories, files and their bytes, and regions, over any volume.
 #![tactic(auto)]
 
 mod changes;
@@ -9,6 +9,11 @@ mod looking;
 mod making;
 mod moving;
 mod paths;
+mod region_pages;
+#[cfg(test)]
+mod region_tests;
+mod region_view;
+mod regions;
 mod removing;
 mod renaming;
 #[cfg(test)]
@@ -19,11 +24,15 @@ mod stop_tests;
 mod test_calls;
 #[cfg(test)]
 mod test_volume;
+#[cfg(test)]
+mod view_tests;
 mod walking;
 
 pub use data::{read, truncate, write};
 pub use failures::FileFail;
 pub use looking::{list, stat};
 pub use making::{create, mkdir};
+pub use region_view::RegionView;
+pub use regions::{make_region, region_of};
 pub use removing::{rmdir, unlink};
 pub use renaming::rename;

@@ -4,14 +4,14 @@ ghost use Rattle.std.specs.Prelude.{◌≡◌, ◌⊎◌, ℕ, Some, IsErrOf, On
 ghost use Rattle.rio_base.specs.Blocks.{EndsBy};
 ghost use Rattle.rio_base.specs.Layout.{IsIno};
 ghost use Rattle.rio_base.specs.Volume.{Goes};
-ghost use Rattle.rio_model.specs.Answer.{least_free};
+ghost use Rattle.rio_model.specs.States.{least_free};
 ghost use Rattle.rio_model.specs.Held.{held_of};
 ghost use Rattle.rio_model.specs.Paths.{IsName, IsPath, names_of};
 ghost use Rattle.rio_model.specs.VolumeReads.{ReadsAs};
 ghost use Rattle.rio_model.specs.declared.state.State.{State};
 ghost use Rattle.directories.specs.Rows.{HasRow};
-ghost use Rattle.rio_model.specs.Answers.{empty_node, mkdir as mkdir_of, create as create_of, make as make_of, make_new as make_new_of};
-ghost use Rattle.rio_model.specs.Parts.{NoneDone};
+ghost use Rattle.rio_requests.specs.Answers.{empty_node, mkdir as mkdir_of, create as create_of, make as make_of, make_new as make_new_of};
+ghost use Rattle.rio_requests.specs.Parts.{NoneDone};
 ghost use Rattle.rio_model.specs.Placed.{volume_layout};
 ghost use Rattle.file_pages.specs.Forgetting.{Forgets};
 ghost use Rattle.file_store.specs.Ends.{CanServe, FileEnds, SaysIno, SaysNumber};
@@ -21,8 +21,8 @@ use crate::changes::{DIRECTORY, FILE, NodeChange, node_made, two_changes};
 use crate::committing::commit_changes;
 use crate::failures::{EXISTS, FileFail, NO_INODE};
 use crate::paths::{cut_last, is_root};
-use crate::walking::walk_to_dir;
-use directories::{find, plan_add};
+use crate::walking::dir_without;
+use directories::plan_add;
 use inode_table::least_free;
 use rio_base::{Ino, Volume, VolumeShape};
 use std::alloc::Global;
@@ -107,10 +107,7 @@ fn make<V: Volume>(
         return Err(FileFail::Refused(EXISTS));
     }
     let (front, name) = cut_last(path);
-    let dir = walk_to_dir(v, shape, front)?;
-    if find(v, shape, dir, name)?.is_some() {
-        return Err(FileFail::Refused(EXISTS));
-    }
+    let dir = dir_without(v, shape, front, name)?;
     make_new(alloc, v, shape, dir, name, kind)
 }
 

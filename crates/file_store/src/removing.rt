@@ -3,13 +3,13 @@
 ghost use Rattle.std.specs.Prelude.{◌≡◌, ◌<◌, ◌==◌, ◌&&◌, ℕ, List, IsErrOf, OnOk};
 ghost use Rattle.rio_base.specs.Blocks.{EndsBy};
 ghost use Rattle.rio_base.specs.Volume.{Goes};
-ghost use Rattle.rio_model.specs.Answer.{answered};
+ghost use Rattle.rio_requests.specs.Answer.{answered};
 ghost use Rattle.rio_model.specs.Held.{held_of};
 ghost use Rattle.rio_model.specs.VolumeReads.{ReadsAs};
-ghost use Rattle.rio_model.specs.declared.reply.Reply.TheVariants.{Ok as Done};
+ghost use Rattle.rio_requests.specs.declared.reply.Reply.TheVariants.{Ok as Done};
 ghost use Rattle.rio_model.specs.declared.state.State.{State};
-ghost use Rattle.rio_model.specs.Answers.{without, unlink as unlink_of, rmdir as rmdir_of, is_among as is_among_of};
-ghost use Rattle.rio_model.specs.Parts.{NoneDone};
+ghost use Rattle.rio_requests.specs.Answers.{without, unlink as unlink_of, rmdir as rmdir_of, is_among as is_among_of};
+ghost use Rattle.rio_requests.specs.Parts.{NoneDone};
 ghost use Rattle.rio_model.specs.Paths.{IsPath};
 ghost use Rattle.rio_model.specs.Placed.{volume_layout};
 ghost use Rattle.file_pages.specs.Forgetting.{Forgets};

@@ -6,7 +6,10 @@ ghost use Rattle.file_store.specs.Ends.{CanServe};
 ghost use Rattle.file_store.specs.TestVolumes.{GoesOn};
 
 use crate::test_volume::is_path;
-use crate::{FileFail, create, list, mkdir, read, rename, rmdir, stat, truncate, unlink, write};
+use crate::{
+    FileFail, create, list, make_region, mkdir, read, region_of, rename, rmdir, stat, truncate,
+    unlink, write,
+};
 use block_alloc::free_count;
 use rio_base::{Ino, InoList, NameList, Octets, VolFail, Volume, VolumeShape};
 use std::alloc::Global;
@@ -18,6 +21,8 @@ use std::test::Fail;
 pub(crate) enum Ask {
     Mkdir(&'static [u8]),
     Create(&'static [u8]),
+    Region(&'static [u8], u64, u64),
+    RegionOf(&'static [u8]),
     Write(&'static [u8], u64, &'static [u8]),
     Read(&'static [u8], u64, u64),
     Truncate(&'static [u8], u64),
@@ -187,6 +192,46 @@ pub(crate) fn create_answers<V: Volume>(
         return false;
     }
     let answer = create(alloc, v, shape, path);
+    makes(answer, want)
+}
+
+fn region_answers<V: Volume>(
+    alloc: Global,
+    v: &mut V,
+    shape: &VolumeShape,
+    path: &[u8],
+    data_pages: u64,
+    undo_pages: u64,
+    want: Want,
+) -> bool
+    requires sound { V.sound v.old }
+    requires can { CanServe shape.now (V.seen v.old) (V.kept v.old) }
+    ensures can { result ≡ true → CanServe shape.now (V.seen v.new) (V.kept v.new) }
+    ensures sound { V.sound v.new }
+{
+    if data_pages == 0 {
+        return false;
+    }
+    if undo_pages == 0 {
+        return false;
+    }
+    if !is_path(path) {
+        return false;
+    }
+    let answer = make_region(alloc, v, shape, path, data_pages, undo_pages);
+    makes(answer, want)
+}
+
+fn region_of_answers<V: Volume>(v: &mut V, shape: &VolumeShape, path: &[u8], want: Want) -> bool
+    requires sound { V.sound v.old }
+    requires can { CanServe shape.now (V.seen v.old) (V.kept v.old) }
+    ensures can { result ≡ true → CanServe shape.now (V.seen v.new) (V.kept v.new) }
+    ensures sound { V.sound v.new }
+{
+    if !is_path(path) {
+        return false;
+    }
+    let answer = region_of(v, shape, path);
     makes(answer, want)
 }
 
@@ -363,6 +408,10 @@ fn answers<V: Volume>(alloc: Global, v: &mut V, shape: &VolumeShape, ask: Ask, w
     match ask {
         Ask::Mkdir(path) => mkdir_answers(alloc, v, shape, path, want),
         Ask::Create(path) => create_answers(alloc, v, shape, path, want),
+        Ask::Region(path, data_pages, undo_pages) => {
+            region_answers(alloc, v, shape, path, data_pages, undo_pages, want)
+        }
+        Ask::RegionOf(path) => region_of_answers(v, shape, path, want),
         Ask::Write(path, off, bytes) => write_answers(alloc, v, shape, path, off, bytes, want),
         Ask::Read(path, off, len) => read_answers(alloc, v, shape, path, off, len, want),
         Ask::Truncate(path, len) => truncate_answers(alloc, v, shape, path, len, want),

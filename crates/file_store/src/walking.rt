@@ -3,7 +3,7 @@
 ghost use Rattle.std.specs.Prelude.{◌≡◌, ◌<◌, ℕ, [], ◌∷◌, length, IfOk, OnOk, IsErrOf};
 ghost use Rattle.rio_base.specs.Blocks.{EndsBy};
 ghost use Rattle.rio_base.specs.Volume.{Goes};
-ghost use Rattle.rio_model.specs.Answer.{last_of};
+ghost use Rattle.rio_model.specs.States.{last_of};
 ghost use Rattle.rio_model.specs.Held.{held_of};
 ghost use Rattle.rio_model.specs.Paths.{IsPath, names_of, walk as walk_of, walk_to_dir as walk_to_dir_of};
 ghost use Rattle.rio_model.specs.Placed.{volume_layout};
@@ -14,10 +14,10 @@ ghost use Rattle.inode_table.specs.Inodes.{IsInode};
 ghost use Rattle.directories.specs.Rows.{HasRow, IsEntry};
 ghost use Rattle.file_store.specs.Ends.{CanServe};
 ghost use Rattle.file_store.specs.Failures.{Faulted, Refuses, Unrefused};
-ghost use Rattle.file_store.specs.Walks.{Comes, IsRow, RowComes};
+ghost use Rattle.file_store.specs.Walks.{Comes, FreeRow, IsRow, RowComes};
 
 use crate::changes::DIRECTORY;
-use crate::failures::{FileFail, NOT_A_DIRECTORY, NOT_FOUND};
+use crate::failures::{EXISTS, FileFail, NOT_A_DIRECTORY, NOT_FOUND};
 use crate::paths::{cut_last, name_end};
 use directories::find;
 use inode_table::{Inode, read_inode};
@@ -147,6 +147,32 @@ pub fn walk_to_dir<V: Volume>(v: &mut V, shape: &VolumeShape, path: &[u8]) -> Re
 {
     let dir = walk(v, shape, path)?;
     must_be_dir(v, shape, dir)?;
+    Ok(dir)
+}
+
+/// The directory at a path, which must not have this name.
+pub fn dir_without<V: Volume>(
+    v: &mut V,
+    shape: &VolumeShape,
+    path: &[u8],
+    name: &[u8],
+) -> Result<Ino, FileFail>
+    requires sound { V.sound v.old }
+    requires can { CanServe shape.now (V.seen v.old) (V.kept v.old) }
+    ensures value { (s : State) → ReadsAs shape.now (V.seen v.old).words s → FreeRow s (names_of path.now) name.now result }
+    ensures dir { IfOk result (λ i. (held_of shape.now (V.seen v.old).words i.0).kind ≡ 1) }
+    ensures absent { IfOk result (λ i. (n : ℕ) → HasRow (held_of shape.now (V.seen v.old).words i.0) name.now n → ⊥) }
+    ensures leaves { LeavesInUse (volume_layout shape.now (V.seen v.old).words) (V.seen v.old) (V.kept v.old) (V.seen v.new) (V.kept v.new) }
+    ensures words { (V.seen v.new).words ≡ (V.seen v.old).words }
+    ensures can { CanServe shape.now (V.seen v.new) (V.kept v.new) }
+    ensures goes { Goes (V.health v.old) (V.below v.old) (V.health v.new) (V.below v.new) }
+    ensures ends { EndsBy (V.health v.old) (V.health v.new) (Faulted result) (IsErrOf result FileFail.Stopped) }
+    ensures sound { V.sound v.new }
+{
+    let dir = walk_to_dir(v, shape, path)?;
+    if find(v, shape, dir, name)?.is_some() {
+        return Err(FileFail::Refused(EXISTS));
+    }
     Ok(dir)
 }
 

@@ -3,8 +3,8 @@ use Rattle.std.proofs.Common.{◌≡◌, ◌≤◌, ℕ, suc, ◌+◌, ◌*◌, 
 use Rattle.std.proofs.lemmas.List.{append_cancel_left, length-append, ext_get_or}
 use Rattle.std.proofs.lemmas.Nat.{from_be_bytes-to_be_bytes_8}
 use Rattle.std.specs.Int.{w64, to_be_bytes, from_be_bytes}
-use Rattle.rio_model.specs.declared.request.Request.{Request}
-use Rattle.rio_model.specs.declared.request.Request.TheVariants.{Mkdir, Create, Region, Write, Read, Truncate, Unlink, Rmdir, Rename, Stat, List as ListOf, Sync, Begin, Range, Put, Get, Alloc, Free, Commit, Abort, Txns, Flush, Wild, Arm}
+use Rattle.rio_requests.specs.declared.request.Request.{Request}
+use Rattle.rio_requests.specs.declared.request.Request.TheVariants.{Mkdir, Create, Region, Write, Read, Truncate, Unlink, Rmdir, Rename, Stat, List as ListOf, Sync, Begin, Range, Put, Get, Alloc, Free, Commit, Abort, Txns, Flush, Wild, Arm}
 use Rattle.rio_model.specs.Paths.{IsName, IsPath}
 use Rattle.request_codec.specs.Form.{AreDigitsOf, IsHexOf, Path, Number, Data, Value, Then, PathNumber, PathNumbers, PathData, Paths, NumberValue, NumbersValue, Says, Form}
 use Rattle.request_codec.proofs.Cuts.{one_number, path_of, number_of, behind_path, behind_number}

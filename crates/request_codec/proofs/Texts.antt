@@ -4,7 +4,7 @@ use Rattle.std.proofs.Math.ListN.{get_or}
 use Rattle.std.proofs.lemmas.Grind.{flat_map-append}
 use Rattle.std.proofs.lemmas.List.{append_assoc, append-nil, take-append-drop, take_more}
 use Rattle.rio_base.specs.declared.places.Ino.{Ino}
-use Rattle.rio_model.specs.declared.reply.Reply.TheVariants.{Stat}
+use Rattle.rio_requests.specs.declared.reply.Reply.TheVariants.{Stat}
 use Rattle.request_codec.specs.Sending.{Sent, IsCutOff}
 use Rattle.request_codec.proofs.Sendings.{cut_as, cut_more, sent_cut, sent_sent}
 use Rattle.request_codec.specs.Text.{body_of, kind_name}

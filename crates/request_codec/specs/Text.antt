@@ -3,8 +3,8 @@ use Rattle.std.specs.Prelude.{◌==◌, ℕ, List, [], ◌∷◌, ◌++◌, leng
 use Rattle.std.specs.Fmt.{decimal}
 use Rattle.hex.specs.Hex.{encode_lower}
 use Rattle.rio_base.specs.declared.places.Ino.{Ino}
-use Rattle.rio_model.specs.declared.reply.Reply.{Reply}
-use Rattle.rio_model.specs.declared.reply.Reply.TheVariants.{Ok as Done, Number, Bytes, Stat, Names, Inos, Err as Refused, Fault}
+use Rattle.rio_requests.specs.declared.reply.Reply.{Reply}
+use Rattle.rio_requests.specs.declared.reply.Reply.TheVariants.{Ok as Done, Number, Bytes, Stat, Names, Inos, Err as Refused, Fault}
 
 -- 1 is a directory, 2 a file, 3 a region
 abbrev pub kind_name : ℕ → List ℕ

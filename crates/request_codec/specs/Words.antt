@@ -1,7 +1,7 @@
 -- The words that lines begin with, by what follows them, and the requests that they make of it.
 use Rattle.std.specs.Prelude.{◌≤◌, ℕ, List, codes, ⊤}
-use Rattle.rio_model.specs.declared.request.Request.{Request}
-use Rattle.rio_model.specs.declared.request.Request.TheVariants.{Mkdir as MkdirOf, Create as CreateOf, Region as RegionOf, Write as WriteOf, Read as ReadOf, Truncate as TruncateOf, Unlink as UnlinkOf, Rmdir as RmdirOf, Stat as StatOf, List as ListOf, Begin as BeginOf, Range as RangeOf, Put as PutOf, Get as GetOf, Alloc as AllocOf, Free as FreeOf, Commit as CommitOf, Abort as AbortOf}
+use Rattle.rio_requests.specs.declared.request.Request.{Request}
+use Rattle.rio_requests.specs.declared.request.Request.TheVariants.{Mkdir as MkdirOf, Create as CreateOf, Region as RegionOf, Write as WriteOf, Read as ReadOf, Truncate as TruncateOf, Unlink as UnlinkOf, Rmdir as RmdirOf, Stat as StatOf, List as ListOf, Begin as BeginOf, Range as RangeOf, Put as PutOf, Get as GetOf, Alloc as AllocOf, Free as FreeOf, Commit as CommitOf, Abort as AbortOf}
 use Rattle.request_codec.specs.declared.words.PathWord.{PathWord}
 use Rattle.request_codec.specs.declared.words.PathWord.TheVariants.{Mkdir, Create, Unlink, Rmdir, Stat, List as Listing, Begin, Commit, Abort}
 use Rattle.request_codec.specs.declared.words.NumberWord.{NumberWord}

@@ -11,6 +11,8 @@ mod parts;
 mod path;
 mod piece;
 #[cfg(test)]
+mod region_rows;
+#[cfg(test)]
 mod reply_tests;
 mod reply_text;
 mod text_room;

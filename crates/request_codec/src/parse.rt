@@ -1,7 +1,7 @@
 //! What a line asks for.
 
 ghost use Rattle.std.specs.Prelude.{◌≡◌, ◌≢◌, ◌<◌, ◌++◌, ◌∷◌, ℕ, List, length, codes, IfOk, MatchOption};
-ghost use Rattle.rio_model.specs.declared.request.Request.{Request as RequestOf};
+ghost use Rattle.rio_requests.specs.declared.request.Request.{Request as RequestOf};
 ghost use Rattle.request_codec.specs.Form.{Form, Means};
 ghost use Rattle.request_codec.specs.Words.{path_word, number_word, numbers_word, data_word, other_word};
 
@@ -12,7 +12,7 @@ use crate::parts::{
 use crate::path::is_path;
 use crate::words::{DataWord, NumberWord, NumbersWord, OtherWord, PathWord};
 use rio_base::Octets;
-use rio_model::Request;
+use rio_requests::Request;
 use std::alloc::{AllocError, Global};
 
 /// Reads a line. `None` is the answer to a line that is no request.

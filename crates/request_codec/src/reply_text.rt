@@ -5,12 +5,12 @@ ghost use Rattle.hex.specs.Hex.{encode_lower};
 ghost use Rattle.rio_base.specs.Counts.{HasCause};
 ghost use Rattle.rio_base.specs.Streams.{appended};
 ghost use Rattle.request_codec.specs.Sending.{Puts, Sends};
-ghost use Rattle.rio_model.specs.declared.reply.Reply.TheVariants.{Stat};
+ghost use Rattle.rio_requests.specs.declared.reply.Reply.TheVariants.{Stat};
 ghost use Rattle.request_codec.specs.Text.{body_of, kind_name, listed_ino, listed_name, text_of};
 
 use crate::text_room::{put, put_hex, put_number, send};
 use rio_base::{Failed, Ino, Octets, Sink};
-use rio_model::Reply;
+use rio_requests::Reply;
 
 /// Writes a whole text, in as many calls as the sink wants. It takes no memory.
 pub fn write_text<K: Sink>(text: &[u8], sink: &mut K) -> Result<(), Failed>

@@ -1,11 +1,11 @@
 //! The words that lines begin with, by what follows them.
 
 ghost use Rattle.std.specs.Prelude.{◌≡◌, ◌≢◌, ◌↔◌, IsTrue, MatchOption};
-ghost use Rattle.rio_model.specs.declared.request.Request.{Request as RequestOf};
+ghost use Rattle.rio_requests.specs.declared.request.Request.{Request as RequestOf};
 ghost use Rattle.request_codec.specs.Words.{path_word, path_request, number_word, number_request, Takes, numbers_word, numbers_request, TakesBoth, data_word, data_request, other_word};
 
 use rio_base::Octets;
-use rio_model::Request;
+use rio_requests::Request;
 
 /// The most bytes that a request asks for.
 const DATA_BYTES: u64 = 1_048_576;

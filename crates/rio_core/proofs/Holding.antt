@@ -4,12 +4,12 @@ use Rattle.std.specs.Prelude.{Some}
 use Rattle.rio_base.specs.declared.places.VolumeShape.{VolumeShape}
 use Rattle.rio_base.specs.Blocks.{Health, Seen}
 use Rattle.rio_base.specs.Volume.{Below, Kept, Runs}
-use Rattle.rio_model.specs.declared.reply.Reply.{Reply}
-use Rattle.rio_model.specs.declared.request.Request.{Request}
+use Rattle.rio_requests.specs.declared.reply.Reply.{Reply}
+use Rattle.rio_requests.specs.declared.request.Request.{Request}
 use Rattle.rio_model.specs.declared.state.State.{State}
-use Rattle.rio_model.specs.AnswerRules.{step_keeps}
+use Rattle.rio_requests.specs.AnswerRules.{step_keeps}
 use Rattle.rio_model.specs.Held.{Held, held_of}
-use Rattle.rio_model.specs.Run.{Step}
+use Rattle.rio_requests.specs.Run.{Step}
 use Rattle.file_store.specs.Ends.{Left, Spares}
 use Rattle.rio_core.specs.Serving.{Holds, NoRecords}
 

@@ -7,14 +7,14 @@ use Rattle.rio_base.specs.declared.failures.VolFail.{VolFail}
 use Rattle.rio_base.specs.declared.failures.VolFail.TheVariants.{Fault as DiskFault, Stopped as HaltFault}
 use Rattle.rio_base.specs.Blocks.{BlockWords, Drops, Ends, EndsBy, Health, Looks, Seen}
 use Rattle.rio_base.specs.Volume.{Below, Firm, Goes, Kept, Runs, Settled}
-use Rattle.rio_model.specs.declared.reply.Reply.{Reply}
-use Rattle.rio_model.specs.declared.reply.Reply.TheVariants.{Ok as Done, Fault as Faulted}
-use Rattle.rio_model.specs.declared.request.Request.{Request}
-use Rattle.rio_model.specs.declared.request.Request.TheVariants.{Flush, Sync}
+use Rattle.rio_requests.specs.declared.reply.Reply.{Reply}
+use Rattle.rio_requests.specs.declared.reply.Reply.TheVariants.{Ok as Done, Fault as Faulted}
+use Rattle.rio_requests.specs.declared.request.Request.{Request}
+use Rattle.rio_requests.specs.declared.request.Request.TheVariants.{Flush, Sync}
 use Rattle.rio_model.specs.declared.state.State.{State}
 use Rattle.rio_model.specs.Placed.{volume_layout}
-use Rattle.rio_model.specs.Parts.{IsPart}
-use Rattle.rio_model.specs.Run.{Step}
+use Rattle.rio_requests.specs.Parts.{IsPart}
+use Rattle.rio_requests.specs.Run.{Step}
 use Rattle.rio_model.specs.VolumeReadRules.{reads_agree}
 use Rattle.rio_model.specs.VolumeReads.{ReadsAs}
 use Rattle.rio_model.specs.VolumeReady.{Bears, LeavesInUse, Ready}

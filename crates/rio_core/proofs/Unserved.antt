@@ -5,13 +5,13 @@ use Rattle.rio_base.specs.declared.places.Ino.{Ino}
 use Rattle.rio_base.specs.declared.places.VolumeShape.{VolumeShape}
 use Rattle.rio_base.specs.Blocks.{Seen}
 use Rattle.rio_base.specs.Volume.{Kept}
-use Rattle.rio_model.specs.declared.reply.Reply.TheVariants.{Err as RefusedBy}
-use Rattle.rio_model.specs.declared.request.Request.{Request}
-use Rattle.rio_model.specs.declared.request.Request.TheVariants.{Mkdir, Create, Region, Write, Read, Truncate, Unlink, Rmdir, Rename, Stat as StatOf, List as ListOf, Sync, Begin, Range, Put, Get, Alloc, Free, Commit, Abort, Txns, Flush, Wild, Arm}
+use Rattle.rio_requests.specs.declared.reply.Reply.TheVariants.{Err as RefusedBy}
+use Rattle.rio_requests.specs.declared.request.Request.{Request}
+use Rattle.rio_requests.specs.declared.request.Request.TheVariants.{Mkdir, Create, Region, Write, Read, Truncate, Unlink, Rmdir, Rename, Stat as StatOf, List as ListOf, Sync, Begin, Range, Put, Get, Alloc, Free, Commit, Abort, Txns, Flush, Wild, Arm}
 use Rattle.rio_model.specs.declared.state.State.{State}
 use Rattle.rio_model.specs.declared.txn.Txn.{Txn}
-use Rattle.rio_model.specs.Answer.{refused}
-use Rattle.rio_model.specs.Answers.{answer_of}
+use Rattle.rio_requests.specs.Answer.{refused}
+use Rattle.rio_requests.specs.Answers.{served_of}
 use Rattle.rio_model.specs.Transactions.{open_inodes}
 use Rattle.rio_model.specs.VolumeReads.{ReadsAs}
 use Rattle.file_pages.specs.OrderRules.{leaves_refl}
@@ -36,7 +36,7 @@ pub record Unserved (r : Request) : Type 0 where
   pub stat : (path : List ℕ) → r ≡ StatOf path → ⊥
   pub list : (path : List ℕ) → r ≡ ListOf path → ⊥
 
-unserved_refused : (s : State) (r : Request) → Unserved r → OnFiles r → answer_of s r ≡ refused s 1
+unserved_refused : (s : State) (r : Request) → Unserved r → OnFiles r → served_of s r ≡ refused s 1
 unserved_refused s (Mkdir path) none files = absurd (none.mkdir path refl)
 unserved_refused s (Create path) none files = absurd (none.create path refl)
 unserved_refused s (Region path pages undo) none files = refl

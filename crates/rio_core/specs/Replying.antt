@@ -3,8 +3,8 @@ use Rattle.std.specs.Prelude.{◌≡◌, Result, Ok, Err}
 use Rattle.rio_base.specs.declared.failures.Stopped.{Stopped as MachineStopped}
 use Rattle.file_store.specs.declared.failures.FileFail.{FileFail}
 use Rattle.file_store.specs.declared.failures.FileFail.TheVariants.{Refused, Fault, Stopped, Memory}
-use Rattle.rio_model.specs.declared.reply.Reply.{Reply}
-use Rattle.rio_model.specs.declared.reply.Reply.TheVariants.{Err as RefusedBy, Fault as Faulted}
+use Rattle.rio_requests.specs.declared.reply.Reply.{Reply}
+use Rattle.rio_requests.specs.declared.reply.Reply.TheVariants.{Err as RefusedBy, Fault as Faulted}
 
 -- 31 for want of memory; a stop has no reply
 abbrev pub RepliesFail : FileFail → Result Reply MachineStopped → Type 0

@@ -3,7 +3,7 @@
 ghost use Rattle.std.specs.Prelude.{◌≡◌, [], IsErr};
 ghost use Rattle.rio_base.specs.Blocks.{EndsBy};
 ghost use Rattle.rio_base.specs.Volume.{Goes};
-ghost use Rattle.rio_model.specs.Requests.{IsRequest};
+ghost use Rattle.rio_requests.specs.Requests.{IsRequest};
 ghost use Rattle.rio_model.specs.VolumeReads.{ReadsAs};
 ghost use Rattle.rio_model.specs.declared.state.State.{State};
 ghost use Rattle.file_store.specs.Ends.{CanServe};
@@ -12,7 +12,7 @@ ghost use Rattle.rio_core.specs.Serving.{OnFiles, RequestEnds, TellsFault};
 use crate::replies::{bytes_reply, count_reply, done_reply, ino_reply, names_reply, stat_reply};
 use file_store::{create, list, mkdir, read, rename, rmdir, stat, truncate, unlink, write};
 use rio_base::{InoList, Stopped, Volume, VolumeShape};
-use rio_model::{Reply, Request};
+use rio_requests::{Reply, Request};
 use std::alloc::Global;
 
 /// The number of the reply to what is not served.

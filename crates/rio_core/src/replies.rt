@@ -5,7 +5,7 @@ ghost use Rattle.rio_core.specs.Replying.{Replies, RepliesFail};
 
 use file_store::FileFail;
 use rio_base::{Ino, NameList, Octets, Stopped};
-use rio_model::Reply;
+use rio_requests::Reply;
 
 /// The number of the reply where there was no memory for a request.
 const NO_MEMORY: u8 = 31;

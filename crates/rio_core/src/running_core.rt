@@ -3,9 +3,9 @@
 ghost use Rattle.std.specs.Prelude.{◌≡◌, [], ℕ, Ok, IsErr, IfErr, IfOk};
 ghost use Rattle.rio_base.specs.Blocks.{EndsBy};
 ghost use Rattle.rio_base.specs.Volume.{Quiet, Runs};
-ghost use Rattle.rio_model.specs.Requests.{IsRequest};
-ghost use Rattle.rio_model.specs.declared.request.Request.TheVariants.{Flush, Sync};
-ghost use Rattle.rio_model.specs.declared.reply.Reply.TheVariants.{Ok as Done};
+ghost use Rattle.rio_requests.specs.Requests.{IsRequest};
+ghost use Rattle.rio_requests.specs.declared.request.Request.TheVariants.{Flush, Sync};
+ghost use Rattle.rio_requests.specs.declared.reply.Reply.TheVariants.{Ok as Done};
 ghost use Rattle.rio_model.specs.declared.state.State.{State};
 ghost use Rattle.file_store.specs.Ends.{Stands};
 ghost use Rattle.page_cache.specs.Caches.{Tells};
@@ -16,7 +16,7 @@ use crate::answering::answer_on;
 use crate::server::Server;
 use page_cache::PageCache;
 use rio_base::{Blocks, InoList, Machine, Stopped, VolFail, Volume, VolumeShape};
-use rio_model::{Reply, Request};
+use rio_requests::{Reply, Request};
 use std::alloc::{AllocError, Global};
 
 /// A cache that holds a state, and the shape of its volume. No transaction is open.

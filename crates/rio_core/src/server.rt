@@ -3,12 +3,12 @@
 ghost use Rattle.std.specs.Prelude.{◌≡◌, ◌≤◌, ℕ, Some, IsErr};
 ghost use Rattle.rio_base.specs.Blocks.{EndsBy, Health};
 ghost use Rattle.rio_base.specs.Volume.{Below, Runs};
-ghost use Rattle.rio_model.specs.Requests.{IsRequest};
+ghost use Rattle.rio_requests.specs.Requests.{IsRequest};
 ghost use Rattle.rio_model.specs.declared.state.State.{State};
 ghost use Rattle.rio_core.specs.Serving.{Answering, TellsFault};
 
 use rio_base::Stopped;
-use rio_model::{Reply, Request};
+use rio_requests::{Reply, Request};
 use std::alloc::Global;
 
 /// What answers requests one after another, from a state that it holds.

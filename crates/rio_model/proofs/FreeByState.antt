@@ -24,7 +24,7 @@ use Rattle.rio_base.specs.Shapes.{reserved}
 use Rattle.rio_model.specs.declared.node.Node.{Node}
 use Rattle.rio_model.specs.declared.node.Node.TheVariants.{Dir, File, Region}
 use Rattle.rio_model.specs.declared.state.State.{State}
-use Rattle.rio_model.specs.Answer.{names_in}
+use Rattle.rio_model.specs.States.{names_in}
 use Rattle.rio_model.specs.CountRules.{free_by_layout}
 use Rattle.rio_model.specs.Held.{Held, held, held_of, byte_in, entry_name, HasEntry}
 use Rattle.rio_model.specs.HeldRules.{held_ino}

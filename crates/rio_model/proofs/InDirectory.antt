@@ -11,7 +11,7 @@ use Rattle.std.proofs.lemmas.Bool.Decides.{nat_tests, Decides-eqb}
 use Rattle.std.proofs.lemmas.Cmp.{tied_itself}
 use Rattle.std.proofs.lemmas.Map.Text.{is_eq-slice_cmp}
 use lib.Dec.{T}
-use Rattle.rio_model.specs.Answer.{names_in}
+use Rattle.rio_model.specs.States.{names_in}
 use Rattle.rio_model.specs.Names.{NameKey, name_cmp}
 use Rattle.rio_model.specs.declared.state.State.{State}
 use Rattle.rio_model.proofs.NameOrder.{name_tied}

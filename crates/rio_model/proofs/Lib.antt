@@ -1,7 +1,5 @@
 pub mod NameOrder
 pub mod PathPieces
-pub mod Listing
-pub mod FreeInodes
 pub mod NodeOrder
 pub mod InDirectory
 pub mod OneReading
@@ -9,6 +7,3 @@ pub mod StateSteps
 pub mod FreshReads
 pub mod FreeByState
 pub mod RowsGone
-pub mod Room
-pub mod FileAnswers
-pub mod AnswerSteps

@@ -10,7 +10,7 @@ use Rattle.rio_base.specs.Blocks.{BlockWords}
 use Rattle.rio_model.specs.declared.node.Node.{Node}
 use Rattle.rio_model.specs.declared.node.Node.TheVariants.{File}
 use Rattle.rio_model.specs.declared.state.State.{State}
-use Rattle.rio_model.specs.Answer.{with_node}
+use Rattle.rio_model.specs.States.{with_node}
 use Rattle.rio_model.specs.Heap.{IsSoundRegion}
 use Rattle.rio_model.specs.Held.{Held, held_of, held_bytes, entry_ino, entry_name, HasEntry}
 use Rattle.rio_model.specs.Names.{NameKey}

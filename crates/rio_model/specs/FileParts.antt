@@ -3,7 +3,7 @@ use Rattle.std.specs.Prelude.{◌≡◌, ℕ, ◌+◌, ◌-◌, ◌≤◌, ◌�
 use Rattle.std.specs.FinMap.{get}
 use Rattle.rio_model.specs.declared.node.Node.TheVariants.{File}
 use Rattle.rio_model.specs.declared.state.State.{State}
-use Rattle.rio_model.specs.Answer.{with_node}
+use Rattle.rio_model.specs.States.{with_node}
 
 -- bytes put over a file at an offset that it reaches
 abbrev pub put_at : List ℕ → ℕ → List ℕ → List ℕ

@@ -1,7 +1,3 @@
-pub mod Answer
-pub mod AnswerRules
-pub mod Answers
-pub mod Codes
 pub mod CountRules
 pub mod Cover
 pub mod CoverChanges
@@ -21,15 +17,13 @@ pub mod Names
 pub mod NodeChangeRules
 pub mod NodeChanges
 pub mod Nodes
-pub mod Parts
 pub mod Paths
 pub mod Placed
 pub mod PlacedRules
 pub mod Registry
 pub mod RegistryRules
-pub mod Requests
-pub mod Run
 pub mod Sizes
+pub mod States
 pub mod Transactions
 pub mod Undo
 pub mod UndoRules

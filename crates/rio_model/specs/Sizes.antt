@@ -7,7 +7,7 @@ use Rattle.rio_model.specs.declared.node.Node.{Node}
 use Rattle.rio_model.specs.declared.node.Node.TheVariants.{Dir, File, Region}
 use Rattle.rio_model.specs.declared.node.RegionNode.{RegionNode}
 use Rattle.rio_model.specs.declared.state.State.{State}
-use Rattle.rio_model.specs.Answer.{names_in}
+use Rattle.rio_model.specs.States.{names_in}
 use Rattle.rio_model.specs.Undo.{region_words}
 
 -- ---- by size. A page has 4,096 bytes

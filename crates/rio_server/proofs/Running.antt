@@ -5,10 +5,10 @@ use Rattle.std.proofs.lemmas.List.{append-nil, take_at}
 use Rattle.rio_base.specs.Counts.{RoseBy}
 use Rattle.rio_base.specs.Pieces.{Lacks, onto, pieces}
 use Rattle.rio_base.specs.Streams.{appended, prepended}
-use Rattle.rio_model.specs.declared.reply.Reply.{Reply}
-use Rattle.rio_model.specs.declared.request.Request.{Request}
+use Rattle.rio_requests.specs.declared.reply.Reply.{Reply}
+use Rattle.rio_requests.specs.declared.request.Request.{Request}
 use Rattle.rio_model.specs.declared.state.State.{State}
-use Rattle.rio_model.specs.Run.{Run, Step}
+use Rattle.rio_requests.specs.Run.{Run, Step}
 use Rattle.request_codec.specs.Form.{Means}
 use Rattle.request_codec.specs.declared.lines.NextLine.TheVariants.{End as NoLine}
 use Rattle.request_codec.specs.declared.lines.LineFail.{LineFail}

@@ -1,8 +1,8 @@
 -- A server that answered holds some state.
 use Rattle.std.specs.Prelude.{Result, Ok, Err, IfOk}
 use Rattle.rio_base.specs.declared.failures.Stopped.{Stopped as MachineStopped}
-use Rattle.rio_model.specs.declared.reply.Reply.{Reply}
-use Rattle.rio_model.specs.declared.request.Request.{Request}
+use Rattle.rio_requests.specs.declared.reply.Reply.{Reply}
+use Rattle.rio_requests.specs.declared.request.Request.{Request}
 use Rattle.rio_model.specs.declared.state.State.{State}
 use Rattle.rio_core.specs.Serving.{Answering}
 

@@ -7,12 +7,12 @@ use Rattle.rio_base.specs.Counts.{Rose, RoseBy}
 use Rattle.rio_base.specs.Rules.{goes_refl, rose_by_none}
 use Rattle.rio_base.specs.Streams.{appended}
 use Rattle.rio_base.specs.Volume.{Below, LimitLasts, Runs}
-use Rattle.rio_model.specs.declared.reply.Reply.{Reply}
-use Rattle.rio_model.specs.declared.reply.Reply.TheVariants.{Ok as Done, Number, Bytes, Stat, Names, Inos, Err as Refused, Fault}
-use Rattle.rio_model.specs.declared.request.Request.{Request}
+use Rattle.rio_requests.specs.declared.reply.Reply.{Reply}
+use Rattle.rio_requests.specs.declared.reply.Reply.TheVariants.{Ok as Done, Number, Bytes, Stat, Names, Inos, Err as Refused, Fault}
+use Rattle.rio_requests.specs.declared.request.Request.{Request}
 use Rattle.rio_model.specs.declared.state.State.{State}
-use Rattle.rio_model.specs.Parts.{IsPart}
-use Rattle.rio_model.specs.Run.{Step}
+use Rattle.rio_requests.specs.Parts.{IsPart}
+use Rattle.rio_requests.specs.Run.{Step}
 use Rattle.request_codec.specs.Reading.{Reading}
 use Rattle.request_codec.specs.Text.{text_of}
 use Rattle.rio_core.specs.Serving.{Answering, TellsFault}

@@ -1,7 +1,7 @@
 -- What the next line of an input asks for, or why there is none.
 use Rattle.std.specs.Prelude.{◌≡◌, ◌≤◌, ◌^◌, ℕ, true, false, List, Option, IfSome}
-use Rattle.rio_model.specs.declared.request.Request.{Request}
-use Rattle.rio_model.specs.Requests.{IsRequest}
+use Rattle.rio_requests.specs.declared.request.Request.{Request}
+use Rattle.rio_requests.specs.Requests.{IsRequest}
 use Rattle.request_codec.specs.declared.lines.NextLine.TheVariants.{End as NoLine}
 use Rattle.request_codec.specs.declared.lines.LineFail.TheVariants.{Fault, Limit}
 use Rattle.request_codec.specs.Form.{Means}

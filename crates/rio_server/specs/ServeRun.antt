@@ -3,12 +3,12 @@ use Rattle.std.specs.Prelude.{◌≡◌, ◌+◌, ◌≤◌, ◌^◌, ℕ, List,
 use Rattle.rio_base.specs.declared.failures.Stopped.{Stopped as MachineStopped}
 use Rattle.rio_base.specs.Counts.{RoseBy}
 use Rattle.rio_base.specs.Streams.{appended, prepended, IsSpent}
-use Rattle.rio_model.specs.declared.reply.Reply.{Reply}
-use Rattle.rio_model.specs.declared.reply.Reply.TheVariants.{Fault}
-use Rattle.rio_model.specs.declared.request.Request.{Request}
+use Rattle.rio_requests.specs.declared.reply.Reply.{Reply}
+use Rattle.rio_requests.specs.declared.reply.Reply.TheVariants.{Fault}
+use Rattle.rio_requests.specs.declared.request.Request.{Request}
 use Rattle.rio_model.specs.declared.state.State.{State}
-use Rattle.rio_model.specs.Parts.{IsPart}
-use Rattle.rio_model.specs.Run.{Run, Step}
+use Rattle.rio_requests.specs.Parts.{IsPart}
+use Rattle.rio_requests.specs.Run.{Run, Step}
 use Rattle.request_codec.specs.Form.{Means}
 use Rattle.request_codec.specs.Lines.{HasNoEnd, ended, lines}
 use Rattle.request_codec.specs.Text.{text_of}

@@ -3,7 +3,7 @@
 ghost use Rattle.std.specs.Prelude.{IfOk};
 ghost use Rattle.block_disk.specs.MemDisks.{state_of};
 ghost use Rattle.image_codec.specs.Volume.{IsVolumeShape};
-ghost use Rattle.rio_model.specs.Requests.{IsRequest};
+ghost use Rattle.rio_requests.specs.Requests.{IsRequest};
 ghost use Rattle.rio_model.specs.declared.state.State.{State as StateOf};
 ghost use Rattle.rio_server.specs.FreshMachines.{IsFreshDisk};
 
@@ -15,7 +15,8 @@ use block_disk::MemDisk;
 use request_codec::parse_line;
 use rio_base::{Octets, Stopped, VolumeShape};
 use rio_core::Server;
-use rio_model::{Answered, Reply, Request, State, answer};
+use rio_model::State;
+use rio_requests::{Answered, Reply, Request, answer};
 use std::alloc::{AllocError, Global};
 use std::test::Fail;
 

@@ -4,7 +4,7 @@ ghost use Rattle.std.specs.Prelude.{◌≡◌, ◌≢◌, ◌≤◌, ◌^◌, �
 ghost use Rattle.rio_base.specs.Counts.{HasCause, Rose, RoseBy};
 ghost use Rattle.rio_base.specs.Streams.{appended, IsSpent};
 ghost use Rattle.rio_base.specs.Volume.{Runs};
-ghost use Rattle.rio_model.specs.Requests.{IsRequest};
+ghost use Rattle.rio_requests.specs.Requests.{IsRequest};
 ghost use Rattle.rio_model.specs.declared.state.State.{State};
 ghost use Rattle.request_codec.specs.Form.{Means};
 ghost use Rattle.request_codec.specs.Text.{text_of};
@@ -17,7 +17,7 @@ use request_codec::{
 };
 use rio_base::{Failed, Machine, Octets, Sink, Source, Stopped};
 use rio_core::{Core, Server};
-use rio_model::{Reply, Request};
+use rio_requests::{Reply, Request};
 use std::alloc::{AllocError, Global};
 
 /// The number of the reply to a line that is no request.

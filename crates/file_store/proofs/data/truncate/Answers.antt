@@ -4,13 +4,14 @@ use Rattle.rio_base.specs.Rules.{◌then◌}
 use Rattle.rio_model.specs.Held.{held_of}
 use Rattle.rio_model.specs.Paths.{names_of, walk}
 use Rattle.rio_model.specs.VolumeReads.{ReadsAs}
-use Rattle.rio_model.specs.declared.reply.Reply.TheVariants.{Ok as Done}
+use Rattle.rio_requests.specs.declared.reply.Reply.TheVariants.{Ok as Done}
 use Rattle.rio_model.specs.declared.node.Node.TheVariants.{File}
-use Rattle.rio_model.specs.Answer.{answered, with_node}
+use Rattle.rio_requests.specs.Answer.{answered}
+use Rattle.rio_model.specs.States.{with_node}
 use Rattle.rio_model.specs.FileParts.{resized}
 use Rattle.std.specs.Prelude.{length}
-use Rattle.rio_model.specs.Answers.{truncate as truncate_of, with_size}
-use Rattle.rio_model.specs.Parts.{NoneDone}
+use Rattle.rio_requests.specs.Answers.{truncate as truncate_of, with_size}
+use Rattle.rio_requests.specs.Parts.{NoneDone}
 use Rattle.rio_model.specs.Placed.{volume_layout}
 use Rattle.file_pages.specs.Forgetting.{Forgets}
 use Rattle.file_store.specs.Ends.{SaysDone}

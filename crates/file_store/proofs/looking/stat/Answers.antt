@@ -3,10 +3,10 @@ use Rattle.std.proofs.lemmas.Result.{err_from_is_err_and}
 use Rattle.rio_base.specs.Rules.{◌then◌}
 use Rattle.rio_model.specs.Held.{held_of}
 use Rattle.rio_model.specs.Paths.{names_of, walk}
-use Rattle.rio_model.specs.declared.reply.Reply.TheVariants.{Stat}
+use Rattle.rio_requests.specs.declared.reply.Reply.TheVariants.{Stat}
 use Rattle.inode_table.specs.Inodes.{IsInode}
-use Rattle.rio_model.specs.Answers.{stat as stat_of, stat_node}
-use Rattle.rio_model.specs.Parts.{NoneDone}
+use Rattle.rio_requests.specs.Answers.{stat as stat_of, stat_node}
+use Rattle.rio_requests.specs.Parts.{NoneDone}
 use Rattle.file_store.specs.Ends.{SaysStat}
 use Rattle.file_store.proofs.AnsweredAt.{ends_answered, ends_look, fails_unrefused, fails_walk}
 use Rattle.file_store.proofs.CallEnds.{after_well, ends_ok, ends_on, well}

@@ -3,14 +3,14 @@ use Rattle.std.specs.Prelude.{OnOk}
 use Rattle.std.specs.FinMap.{get}
 use Rattle.std.proofs.lemmas.Result.{err_from_is_err_and}
 use Rattle.rio_base.specs.Rules.{◌then◌}
-use Rattle.rio_model.specs.Answer.{last_of}
+use Rattle.rio_model.specs.States.{last_of}
 use Rattle.rio_model.specs.Held.{held_of}
 use Rattle.rio_model.specs.Paths.{names_of, walk_to_dir as walk_to_dir_of}
 use Rattle.rio_model.specs.Placed.{volume_layout}
 use Rattle.rio_model.specs.VolumeReads.{ReadsAs}
 use Rattle.rio_model.specs.VolumeReady.{LeavesInUse}
-use Rattle.rio_model.specs.Answers.{rename as rename_of, rename_row as rename_row_of}
-use Rattle.rio_model.specs.Parts.{NoneDone}
+use Rattle.rio_requests.specs.Answers.{rename as rename_of, rename_row as rename_row_of}
+use Rattle.rio_requests.specs.Parts.{NoneDone}
 use Rattle.file_pages.specs.Forgetting.{Forgets}
 use Rattle.file_store.specs.Ends.{SaysDone}
 use Rattle.file_store.specs.Walks.{IsRow, ino_numbers}

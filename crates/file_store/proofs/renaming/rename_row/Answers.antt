@@ -8,8 +8,8 @@ use Rattle.rio_model.specs.Placed.{volume_layout}
 use Rattle.rio_model.specs.VolumeReads.{ReadsAs}
 use Rattle.rio_model.specs.VolumeReady.{LeavesInUse}
 use Rattle.directories.specs.Rows.{Finds, HasRow, IsEntry}
-use Rattle.rio_model.specs.Answers.{rename_row as rename_row_of}
-use Rattle.rio_model.specs.Parts.{NoneDone}
+use Rattle.rio_requests.specs.Answers.{rename_row as rename_row_of}
+use Rattle.rio_requests.specs.Parts.{NoneDone}
 use Rattle.file_pages.specs.Forgetting.{Forgets}
 use Rattle.file_store.specs.Ends.{SaysDone}
 use Rattle.file_store.specs.Walks.{IsRow, ino_numbers}

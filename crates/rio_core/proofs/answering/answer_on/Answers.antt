@@ -1,8 +1,8 @@
 use Rattle.std.proofs.Common.{◌≡◌, ◌∙◌, le_refl, refl, sym, ap, subst}
 use Rattle.rio_base.specs.Rules.{ends_by_well, goes_refl}
-use Rattle.rio_model.specs.declared.request.Request.TheVariants.{Mkdir, Create, Write, Read, Truncate, Unlink, Rmdir, Rename, Stat as StatOf, List as ListOf}
-use Rattle.rio_model.specs.Answers.{rename, unlink}
-use Rattle.rio_model.specs.Parts.{NoneDone}
+use Rattle.rio_requests.specs.declared.request.Request.TheVariants.{Mkdir, Create, Write, Read, Truncate, Unlink, Rmdir, Rename, Stat as StatOf, List as ListOf}
+use Rattle.rio_requests.specs.Answers.{rename, unlink}
+use Rattle.rio_requests.specs.Parts.{NoneDone}
 use Rattle.file_store.specs.Ends.{FileEnds, SaysBytes, SaysCount, SaysDone, SaysIno, SaysNames, SaysStat}
 use Rattle.rio_core.specs.Serving.{RequestEnds}
 use Rattle.rio_core.proofs.ReplyEnds.{no_bytes, no_done, no_names, no_number, no_stat, reply_ends}

@@ -1,5 +1,5 @@
 use Rattle.std.proofs.Common.{Ok, sym, subst}
-use Rattle.rio_model.specs.declared.reply.Reply.TheVariants.{Ok as Done}
+use Rattle.rio_requests.specs.declared.reply.Reply.TheVariants.{Ok as Done}
 use Rattle.file_store.specs.Ends.{Stands}
 use Rattle.page_cache.specs.Caches.{cache_below, cache_health, cache_kept, cache_seen}
 use Rattle.rio_core.specs.Serving.{Answering, Holds}

@@ -1,0 +1,25 @@
+use Rattle.file_pages.specs.LookingUpRules.{can_look_up}
+use Rattle.file_pages.specs.OrderRules.{leaves_looked, ready_left}
+use Rattle.file_store.proofs.RegionPlaces.{page_owned}
+use Rattle.file_store.proofs.region_pages.page_block.Goals as goal
+
+pub block_of-requires-clause-can : goal.block_of-requires-clause-can
+block_of-requires-clause-can g c =
+    let ready = c.requires.ready in
+    can_look_up c.args.shape.now (g.V.Blocks.seen c.args.v.now) ready.has_shape ready.mapped ready.named
+
+pub block_of-requires-clause-ino : goal.block_of-requires-clause-ino
+block_of-requires-clause-ino g c = (page_owned c.args.shape.now _ c.args.i.0 c.args.at c.requires.ready.mapped c.requires.region c.requires.place).ino
+
+pub block_of-requires-clause-page : goal.block_of-requires-clause-page
+block_of-requires-clause-page g c = (page_owned c.args.shape.now _ c.args.i.0 c.args.at c.requires.ready.mapped c.requires.region c.requires.place).slot
+
+pub returns-clause-ready : goal.returns-clause-ready
+returns-clause-ready g c =
+    let shape = c.args.shape.now in
+    let x = g.V.Blocks.seen c.args.v.now in
+    let k = g.V.Volume.kept c.args.v.now in
+    let y = g.V.Blocks.seen c.block_of.new.v in
+    let j = g.V.Volume.kept c.block_of.new.v in
+    let call = c.block_of.ensures in
+    ready_left shape x k y j c.requires.ready (leaves_looked shape _ _ _ _ x y k j c.requires.ready call.looks (g.met.V.Volume.passes_keeps _ _ call.passes))

@@ -1,0 +1,25 @@
+use Rattle.std.proofs.Common.{length, ◌-◌, ◌≡◌, ◌≤◌}
+use Rattle.rio_base.specs.Regions.{put_words}
+use Rattle.rio_base.specs.Volume.{Goes}
+use Rattle.rio_model.specs.Held.{held_of}
+use Rattle.rio_model.specs.VolumeReady.{Ready}
+use Rattle.file_store.specs.Views.{RestHeld}
+use Rattle.file_store.proofs.region_pages.store_words.Given as goal
+
+-- the first words are stored
+abbrev pub invariant-loop-done : goal.invariant-loop-done
+invariant-loop-done g l =
+    let V = g.V.Blocks in
+    record {
+      within : l.done ≤ length l.from;
+      words : (held_of l.shape (V.seen l.v).words l.i.0).word ≡ put_words (held_of l.shape (V.seen l.initial.v).words l.i.0).word l.at l.done l.from;
+      rest : RestHeld l.shape l.i.0 (V.seen l.initial.v).words (V.seen l.v).words;
+      ready : Ready l.shape (V.seen l.v) (g.V.Volume.kept l.v);
+      goes : Goes (V.health l.initial.v) (g.V.Volume.below l.initial.v) (V.health l.v) (g.V.Volume.below l.v);
+      later : (V.health l.initial.v).faults ≤ (V.health l.v).faults;
+      running : (V.health l.v).stopped ≡ (V.health l.initial.v).stopped;
+      sound : V.sound l.v;
+    }
+
+abbrev pub decreases-loop-done : goal.decreases-loop-done
+decreases-loop-done g l = length l.from - l.done

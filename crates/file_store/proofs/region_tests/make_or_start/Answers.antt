@@ -1,0 +1,6 @@
+use Rattle.std.proofs.Common.{◌∙◌, ap}
+use Rattle.std.specs.Prelude.{Err}
+use Rattle.file_store.proofs.region_tests.make_or_start.Goals as goal
+
+pub start_again-requires-clause-start : goal.start_again-requires-clause-start
+start_again-requires-clause-start c = c.make_one.ensures.start (c.in-Err-Stopped.is ∙ ap Err c.in-Err-Stopped.field-0-is)

@@ -1,0 +1,15 @@
+use Rattle.std.proofs.Common.{refl}
+use Rattle.file_store.specs.Views.{on_still, rest_same}
+use Rattle.file_store.proofs.region_view.RegionViewRegionWords.read_run.Goals as goal
+
+pub returns-clause-stays : goal.returns-clause-stays
+returns-clause-stays g c =
+    let view = c.args.self.now in
+    let call = c.read_words.ensures in
+    let rest = rest_same view.shape view.ino.0 (g.V.Blocks.seen view.v).words (g.V.Blocks.seen c.read_words.new.v).words call.words in
+    record {
+      rest = record { shape = refl; ino = refl; count = refl; rest = rest };
+      ready = (call.sound, on_still view.shape (g.V.Blocks.seen view.v) (g.V.Volume.kept view.v) _ _ view.ino.0 view.words c.requires.ready.1 call.ready rest);
+      count = refl;
+      goes = (g.met.V.Volume.passes_keeps _ _ call.passes).goes;
+    }

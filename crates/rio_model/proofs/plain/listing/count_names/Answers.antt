@@ -1,5 +1,0 @@
-use Rattle.std.proofs.Common.{length, ap, ◌∙◌}
-use Rattle.rio_model.proofs.plain.listing.count_names.Goals as goal
-
-pub returns-clause-is : goal.returns-clause-is
-returns-clause-is c = c.len.ensures ∙ c.in_ok-names.names.ok.0 ∙ ap length c.in_ok-names.ensures

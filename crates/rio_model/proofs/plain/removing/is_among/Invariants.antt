@@ -1,8 +1,0 @@
-use Rattle.std.proofs.Common.{◌≡◌, drop, map}
-use Rattle.rio_model.specs.Answers.{is_among}
-use Rattle.rio_model.specs.declared.txn.Txn.{Txn}
-use Rattle.rio_model.proofs.plain.removing.is_among.Given as goal
-
--- the transactions left tell
-abbrev pub invariant-loop-txn : goal.invariant-loop-txn
-invariant-loop-txn l = is_among (map (λ (t : Txn). t.ino.0) l.txns) l.ino.0 ≡ is_among (map (λ (t : Txn). t.ino.0) (drop l.txn-index l.txns)) l.ino.0

@@ -1,6 +1,0 @@
-use Rattle.std.proofs.Common.{◌*◌, ap, ◌∙◌}
-use Rattle.rio_model.specs.Sizes.{blocks_for}
-use Rattle.rio_model.proofs.plain.room.directory_blocks.Goals as goal
-
-pub returns : goal.returns
-returns c = c.rows_blocks.ensures.is ∙ ap (λ n. blocks_for (64 * n)) c.in_ok-count.ensures.is

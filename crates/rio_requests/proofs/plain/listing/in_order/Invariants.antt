@@ -1,0 +1,13 @@
+use Rattle.std.proofs.Common.{◌≡◌, ◌≤◌, length, drop}
+use Rattle.std.specs.FinMap.{entries, from_entries}
+use Rattle.rio_model.specs.Names.{name_cmp, row_entries}
+use Rattle.rio_requests.proofs.plain.listing.in_order.Given as goal
+
+abbrev pub decreases-loop-left : goal.decreases-loop-left
+decreases-loop-left l = l.left
+
+abbrev pub invariant-loop-left : goal.invariant-loop-left
+invariant-loop-left l = record {
+  within : l.left ≤ length l.rows;
+  placed : row_entries l.made.items ≡ entries (from_entries {R = name_cmp} (row_entries (drop l.left l.rows)));
+}

@@ -1,0 +1,11 @@
+use Rattle.std.proofs.Common.{◌≡◌, ◌++◌, take, drop}
+use Rattle.std.specs.FinMap.{put}
+use Rattle.rio_model.specs.Names.{name_cmp, row_entries}
+use Rattle.rio_requests.proofs.plain.listing.put_row.Given as goal
+
+-- the row belongs behind those passed
+abbrev pub invariant-loop-at : goal.invariant-loop-at
+invariant-loop-at l = record {
+  same : l.rows.items ≡ l.fn.rows.items;
+  behind : put name_cmp (l.row.dir.0, l.row.name) l.row.ino.0 (row_entries l.rows.items) ≡ row_entries (take l.at l.rows.items) ++ put name_cmp (l.row.dir.0, l.row.name) l.row.ino.0 (row_entries (drop l.at l.rows.items));
+}

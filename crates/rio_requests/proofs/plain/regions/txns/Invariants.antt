@@ -1,0 +1,7 @@
+use Rattle.std.proofs.Common.{◌≡◌, map, take}
+use Rattle.rio_model.specs.declared.txn.Txn.{Txn}
+use Rattle.rio_requests.proofs.plain.regions.txns.Given as goal
+
+-- those passed are listed
+abbrev pub invariant-loop-txn : goal.invariant-loop-txn
+invariant-loop-txn l = l.inos.items ≡ map (λ (t : Txn). t.ino) (take l.txn-index l.txn-items)

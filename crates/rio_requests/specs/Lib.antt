@@ -1,0 +1,9 @@
+pub mod Answer
+pub mod AnswerRules
+pub mod Answers
+pub mod OnRegions
+pub mod Parts
+pub mod RegionAnswers
+pub mod Requests
+pub mod Run
+pub mod Transactions

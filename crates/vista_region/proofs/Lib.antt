@@ -1,0 +1,13 @@
+mod Blocks
+mod Bytes
+mod Covered
+mod Ended
+mod Gets
+mod Heaps
+mod MarkRows
+mod Nodes
+mod Outcomes
+mod Puts
+mod Ranges
+mod TestTables
+mod Words

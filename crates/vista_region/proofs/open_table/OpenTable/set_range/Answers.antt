@@ -1,0 +1,62 @@
+use Rattle.std.proofs.Common.{◌≡◌, Err, ◌+◌, ◌<◌, ◌≤◌, ◌∙◌, ap, refl, sym, subst}
+use Rattle.std.proofs.lemmas.Result.{err_from_is_err_and}
+use Rattle.rio_base.specs.Regions.{RegionContent}
+use Rattle.rio_model.specs.Undo.{Gains, Rests, taken, undo_records, undo_words}
+use Rattle.rio_requests.specs.RegionAnswers.{range_on}
+use Rattle.vista_region.specs.Ends.{OnFault, TxnEnds, says_done}
+use Rattle.vista_region.specs.Marks.{txn_in}
+use Rattle.vista_region.specs.Regions.{region_now}
+use Rattle.vista_region.proofs.Outcomes.{is_open, refused_at}
+use Rattle.vista_region.proofs.Ranges.{range_done, range_fails, range_faults, range_stops}
+use Rattle.vista_region.proofs.open_table.OpenTable.set_range.Goals as goal
+
+pub returns-in_err-span-clause-ends : goal.returns-in_err-span-clause-ends
+returns-in_err-span-clause-ends g c =
+    let f = g.R.RegionWords.words c.args.r.now in
+    let marks = c.args.self.now in
+    let i = c.args.i.0 in
+    let m = is_open marks i c.active.result c.in_ok-active.field-0 c.in_ok-active.was c.active.ensures in
+    let p = err_from_is_err_and c.from_residual-in_err-span.result c.from_residual-in_err-span.ensures.1 in
+    refused_at (range_on (region_now f) (txn_in marks i f) c.args.off c.args.len) says_done marks marks i f (g.R.RegionWords.words c.data_span.new.r) c.from_residual-in_err-span.result p.0 c.in_err-span.field-0.0 p.1 p.2 (λ number is. (range_stops marks i f c.args.off c.args.len number m (c.in_err-span.ensures.ends number is), c.in_err-span.ensures.words, refl))
+
+pub returns-in_err-set_range-clause-ends : goal.returns-in_err-set_range-clause-ends
+returns-in_err-set_range-clause-ends g c =
+    let n = g.R.RegionWords.count c.args.r.now in
+    let f = g.R.RegionWords.words c.args.r.now in
+    let h = g.R.RegionWords.words c.data_span.new.r in
+    let last = g.R.RegionWords.words c.set_range.new.r in
+    let marks = c.args.self.now in
+    let i = c.args.i.0 in
+    let m = is_open marks i c.active.result c.in_ok-active.field-0 c.in_ok-active.was c.active.ensures in
+    let p = err_from_is_err_and c.from_residual-in_err-set_range.result c.from_residual-in_err-set_range.ensures.1 in
+    let same : h ≡ f = c.in_ok-span.ensures.words in
+    let call = c.in_err-set_range.ensures in
+    subst (λ r. TxnEnds (range_on (region_now f) (txn_in marks i f) c.args.off c.args.len) says_done marks marks i f last r) (ap (λ z. Err z) (sym p.2) ∙ sym p.1)
+    (range_fails marks i n f last c.args.off c.args.len c.in_ok-span.span c.in_err-set_range.field-0.0 m c.in_ok-span.ensures.ends.0 c.in_ok-span.ensures.ends.1
+    (λ full. subst (λ (w : RegionContent). undo_words w < taken (undo_records w) + 3 + c.in_ok-span.span.count) same (call.full full)) (λ full. call.refused full ∙ same))
+
+pub returns-in_err-set_range-clause-fault : goal.returns-in_err-set_range-clause-fault
+returns-in_err-set_range-clause-fault g c =
+    let n = g.R.RegionWords.count c.args.r.now in
+    let f = g.R.RegionWords.words c.args.r.now in
+    let last = g.R.RegionWords.words c.set_range.new.r in
+    let marks = c.args.self.now in
+    let i = c.args.i.0 in
+    let p = err_from_is_err_and c.from_residual-in_err-set_range.result c.from_residual-in_err-set_range.ensures.1 in
+    subst (λ r. OnFault r (λ k. (k ≡ 0) × (region_now last ≡ region_now f) × (txn_in marks i last ≡ txn_in marks i f))) (ap (λ z. Err z) (sym p.2) ∙ sym p.1)
+    (range_faults marks i (g.R.RegionWords.count c.data_span.new.r) f last c.in_err-set_range.field-0.0 (λ fault. subst (λ (w : RegionContent). Rests (g.R.RegionWords.count c.data_span.new.r) w last) c.in_ok-span.ensures.words (c.in_err-set_range.ensures.fault fault)))
+
+pub returns-clause-ends : goal.returns-clause-ends
+returns-clause-ends g c =
+    let n = g.R.RegionWords.count c.data_span.new.r in
+    let f = g.R.RegionWords.words c.args.r.now in
+    let last = g.R.RegionWords.words c.set_range.new.r in
+    let marks = c.args.self.now in
+    let i = c.args.i.0 in
+    let m = is_open marks i c.active.result c.in_ok-active.field-0 c.in_ok-active.was c.active.ensures in
+    let span = c.in_ok-span.span in
+    let same = c.in_ok-span.ensures.words in
+    let call = c.in_ok-set_range.ensures in
+    range_done marks i n f last c.args.off c.args.len span m c.in_ok-span.ensures.ends.0 c.in_ok-span.ensures.ends.1
+    (subst (λ (w : RegionContent). Gains n w last span.place span.count) same call.ok)
+    (subst (λ (w : RegionContent). taken (undo_records w) + 3 + span.count ≤ undo_words w) same call.room)

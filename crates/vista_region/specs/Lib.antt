@@ -1,0 +1,6 @@
+pub mod Ends
+pub mod Failures
+pub mod Marks
+pub mod Regions
+pub mod Steps
+pub mod TestTables
