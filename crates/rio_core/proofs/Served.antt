@@ -1,44 +1,70 @@
 -- How a request ends over a running core.
-use Rattle.std.proofs.Common.{◌≡◌, ℕ, false, refl, sym, ap, subst, ◌∙◌, inl, inr}
-use Rattle.std.specs.Prelude.{Result, Ok, Err, Some, IsErr}
+use Rattle.std.proofs.Common.{◌≡◌, ◌⊎◌, ℕ, ◌+◌, ◌*◌, false, refl, sym, ap, subst, ◌∙◌, inl, inr, List, map}
+use Rattle.std.specs.Prelude.{Result, Ok, Err, Some, IfOk, IsErr}
 use Rattle.rio_base.specs.declared.failures.Stopped.{Stopped as MachineStopped}
+use Rattle.rio_base.specs.declared.places.Ino.{Ino}
 use Rattle.rio_base.specs.declared.places.VolumeShape.{VolumeShape}
 use Rattle.rio_base.specs.declared.failures.VolFail.{VolFail}
 use Rattle.rio_base.specs.declared.failures.VolFail.TheVariants.{Fault as DiskFault, Stopped as HaltFault}
 use Rattle.rio_base.specs.Blocks.{BlockWords, Drops, Ends, EndsBy, Health, Looks, Seen}
 use Rattle.rio_base.specs.Volume.{Below, Firm, Goes, Kept, Runs, Settled}
 use Rattle.rio_requests.specs.declared.reply.Reply.{Reply}
-use Rattle.rio_requests.specs.declared.reply.Reply.TheVariants.{Ok as Done, Fault as Faulted}
+use Rattle.rio_requests.specs.declared.reply.Reply.TheVariants.{Ok as Done, Inos, Err as RefusedBy, Fault as Faulted}
 use Rattle.rio_requests.specs.declared.request.Request.{Request}
-use Rattle.rio_requests.specs.declared.request.Request.TheVariants.{Flush, Sync}
+use Rattle.rio_requests.specs.declared.request.Request.TheVariants.{Flush, Sync, Txns, Wild, Arm}
 use Rattle.rio_model.specs.declared.state.State.{State}
+use Rattle.rio_requests.specs.Answer.{answered}
+use Rattle.rio_requests.specs.AnswerRules.{step_keeps}
+use Rattle.rio_requests.specs.Answers.{served_of}
+use Rattle.rio_requests.specs.Crash.{crashed}
 use Rattle.rio_model.specs.Placed.{volume_layout}
 use Rattle.rio_requests.specs.Parts.{IsPart}
 use Rattle.rio_requests.specs.Run.{Step}
-use Rattle.rio_model.specs.VolumeReadRules.{reads_agree}
-use Rattle.rio_model.specs.VolumeReads.{ReadsAs}
 use Rattle.rio_model.specs.VolumeReady.{Bears, LeavesInUse, Ready}
-use Rattle.file_pages.specs.OrderRules.{firm_on, stands_left, stands_ready_left}
-use Rattle.file_store.specs.Ends.{CanServe, Stands}
-use Rattle.file_store.specs.EndRules.{left_same}
-use Rattle.rio_core.specs.Serving.{Answering, Holds, RequestEnds, TellsFault}
-use Rattle.rio_core.proofs.Holding.{holds_next}
+use Rattle.file_pages.specs.OrderRules.{firm_on}
+use Rattle.file_store.specs.Ends.{Stands}
+use Rattle.vista_region.specs.Marks.{Marks}
+use Rattle.rio_core.specs.Replying.{TellsTxns}
+use Rattle.rio_core.specs.Serving.{Answering, Holds, RequestEnds, Serves, TellsFault}
+use Rattle.rio_core.proofs.FileRequests.{same_serves}
+use Rattle.rio_core.proofs.Lookups.{inos_open}
+use Rattle.rio_core.proofs.RegionEnds.{stands_same}
 
-pub can_serve : (shape : VolumeShape) (x : Seen) (k : Kept) (h : Health) (b : Below) → (s : State) × Holds shape x k h b s → CanServe shape x k
-can_serve shape x k h b (s, holds) = record { ready = holds.ready; state = s; reads = holds.reads }
+-- t is what the step leads to, and is served
+holds_next : (shape : VolumeShape) (x : Seen) (k : Kept) (h : Health) (b : Below) (marks : Marks) (t : VolumeShape) (y : Seen) (j : Kept) (g : Health) (c : Below) (new : Marks) (s u : State) (r : Request) (reply : Reply) → Holds shape x k h b marks s → Step s (Some r) reply u → Serves t y j new u → Runs h b g c → g.stopped ≡ false → Holds t y j g c new u
+holds_next shape x k h b marks t y j g c new s u r reply holds step serves runs running =
+    let keeps = step_keeps s r reply u step in
+    record {
+      serves = serves;
+      running = running;
+      pages = ap (λ n. 512 * n) keeps.pages ∙ holds.pages ∙ ap (λ m. m.protected + m.scratch) (sym runs.memory);
+      scratch = ap (λ n. 512 * n) keeps.scratch ∙ holds.scratch ∙ ap (λ m. m.scratch) (sym runs.memory);
+    }
 
--- ---- requests on files
+-- ---- requests on files and on regions
 
 -- a request that the volume below ended so is answered
-pub answering : (shape : VolumeShape) (x : Seen) (k : Kept) (h : Health) (b : Below) (y : Seen) (j : Kept) (g : Health) (c : Below) (s : State) (r : Request) (p : Result Reply MachineStopped) → Holds shape x k h b s → RequestEnds shape x k y j s r p → Goes h b g c → EndsBy h g (TellsFault p) (IsErr p) → Answering (Holds shape y j g c) (Stands shape y j) s r p
-answering shape x k h b y j g c s r (Ok reply) holds (t, step, left) goes ends =
-    (t, step, holds_next shape x k h b y j g c s t r reply holds step left goes.runs (ends.runs (λ e. cc) ∙ holds.running))
-answering shape x k h b y j g c s r (Err e) holds (t, part, stands) goes ends = (t, part, stands)
+pub answering : (shape : VolumeShape) (x : Seen) (k : Kept) (h : Health) (b : Below) (marks : Marks) (t : VolumeShape) (y : Seen) (j : Kept) (g : Health) (c : Below) (new : Marks) (s : State) (r : Request) (p : Result Reply MachineStopped) → t ≡ shape → Holds shape x k h b marks s → RequestEnds shape y j new s r p → Goes h b g c → EndsBy h g (TellsFault p) (IsErr p) → Answering (Holds t y j g c new) (λ u. Stands t y j (crashed u)) s r p
+answering shape x k h b marks t y j g c new s r (Ok reply) same holds (u, step, serves) goes ends =
+    (u, step, holds_next shape x k h b marks t y j g c new s u r reply holds step (subst (λ (q : VolumeShape). Serves q y j new u) (sym same) serves) goes.runs (ends.runs (λ e. cc) ∙ holds.running))
+answering shape x k h b marks t y j g c new s r (Err e) same holds (u, part, stands) goes ends = (u, part, subst (λ (q : VolumeShape). Stands q y j (crashed u)) (sym same) stands)
 
--- ---- sync
+-- ---- sync, txns, and what is not served
 
-pub synced : (shape : VolumeShape) (x : Seen) (k : Kept) (h : Health) (b : Below) (s : State) → Holds shape x k h b s → Answering (Holds shape x k h b) (Stands shape x k) s Sync (Ok Done)
-synced shape x k h b s holds = (s, inl refl, holds)
+pub synced : (shape : VolumeShape) (x : Seen) (k : Kept) (h : Health) (b : Below) (marks : Marks) (s : State) → Holds shape x k h b marks s → Answering (Holds shape x k h b marks) (λ u. Stands shape x k (crashed u)) s Sync (Ok Done)
+synced shape x k h b marks s holds = (s, inl refl, holds)
+
+pub txns_told : {E : Type 0} (shape : VolumeShape) (x : Seen) (k : Kept) (h : Health) (b : Below) (marks : Marks) (s : State) (list : Result (List Ino) E) (reply : Reply) → Holds shape x k h b marks s → IfOk list (λ l. map (λ (i : Ino). i.0) l ≡ map (λ m. m.0) marks) → TellsTxns list reply → Answering (Holds shape x k h b marks) (λ u. Stands shape x k (crashed u)) s Txns (Ok reply)
+txns_told shape x k h b marks s (Ok inos) reply holds is tells = (s, inl (ap (λ l. answered s (Inos l)) (sym (inos_open inos marks s holds.serves.regions.marked is)) ∙ ap (answered s) (sym tells)), holds)
+txns_told shape x k h b marks s (Err e) reply holds is tells = (s, inr (inl (tt, tells, refl)), holds)
+
+-- a wild store, now or armed
+abbrev pub IsWild : Request → Type 0
+IsWild r = ((at : ℕ) × (value : ℕ) × (r ≡ Wild at value)) ⊎ ((step : ℕ) × (at : ℕ) × (value : ℕ) × (r ≡ Arm step at value))
+
+pub wild_refused : (shape : VolumeShape) (x : Seen) (k : Kept) (h : Health) (b : Below) (marks : Marks) (s : State) (r : Request) → IsWild r → Holds shape x k h b marks s → Answering (Holds shape x k h b marks) (λ u. Stands shape x k (crashed u)) s r (Ok (RefusedBy 1))
+wild_refused shape x k h b marks s r (inl (at, value, is)) holds = (s, inl (ap (served_of s) is), holds)
+wild_refused shape x k h b marks s r (inr (step, at, value, is)) holds = (s, inl (ap (served_of s) is), holds)
 
 -- ---- flush
 
@@ -57,26 +83,19 @@ flush_leaves shape x k y j h looks standing firm drops idle = record {
   idle = idle;
 }
 
--- a flush that was stopped left all that stands
-pub flush_stands : (shape : VolumeShape) (x : Seen) (k : Kept) (y : Seen) (j : Kept) (s : State) → Ready shape x k → Settled x k → LeavesInUse (volume_layout shape x.words) x k y j → ReadsAs shape x.words s → Stands shape y j s
-flush_stands shape x k y j s ready settled leaves reads = record {
-  ready = stands_ready_left shape x k y j ready settled leaves;
-  reads = reads_agree shape x.words j.standing s reads (stands_left shape x k y j ready settled leaves);
-}
+flush_holds : (shape : VolumeShape) (x : Seen) (k : Kept) (h : Health) (b : Below) (marks : Marks) (y : Seen) (j : Kept) (g : Health) (c : Below) (s : State) (r : Request) (reply : Reply) → Holds shape x k h b marks s → LeavesInUse (volume_layout shape x.words) x k y j → Runs h b g c → g.stopped ≡ h.stopped → Step s (Some r) reply s → Holds shape y j g c marks s
+flush_holds shape x k h b marks y j g c s r reply holds leaves runs same step =
+    holds_next shape x k h b marks shape y j g c marks s s r reply holds step (same_serves shape x k y j marks s holds.serves leaves) runs (same ∙ holds.running)
 
-flush_holds : (shape : VolumeShape) (x : Seen) (k : Kept) (h : Health) (b : Below) (y : Seen) (j : Kept) (g : Health) (c : Below) (s : State) (r : Request) (reply : Reply) → Holds shape x k h b s → LeavesInUse (volume_layout shape x.words) x k y j → Runs h b g c → g.stopped ≡ h.stopped → Step s (Some r) reply s → Holds shape y j g c s
-flush_holds shape x k h b y j g c s r reply holds leaves runs same step =
-    holds_next shape x k h b y j g c s s r reply holds step (left_same shape x k y j s holds.ready leaves holds.reads) runs (same ∙ holds.running)
+pub flush_done : (shape : VolumeShape) (x : Seen) (k : Kept) (h : Health) (b : Below) (marks : Marks) (y : Seen) (j : Kept) (g : Health) (c : Below) (s : State) (count : ℕ) → Holds shape x k h b marks s → LeavesInUse (volume_layout shape x.words) x k y j → Runs h b g c → g.stopped ≡ h.stopped → Answering (Holds shape y j g c marks) (λ u. Stands shape y j (crashed u)) s (Flush count) (Ok Done)
+flush_done shape x k h b marks y j g c s count holds leaves runs same = (s, inl refl, flush_holds shape x k h b marks y j g c s (Flush count) Done holds leaves runs same (inl refl))
 
-pub flush_done : (shape : VolumeShape) (x : Seen) (k : Kept) (h : Health) (b : Below) (y : Seen) (j : Kept) (g : Health) (c : Below) (s : State) (count : ℕ) → Holds shape x k h b s → LeavesInUse (volume_layout shape x.words) x k y j → Runs h b g c → g.stopped ≡ h.stopped → Answering (Holds shape y j g c) (Stands shape y j) s (Flush count) (Ok Done)
-flush_done shape x k h b y j g c s count holds leaves runs same = (s, inl refl, flush_holds shape x k h b y j g c s (Flush count) Done holds leaves runs same (inl refl))
+pub flush_faults : (shape : VolumeShape) (x : Seen) (k : Kept) (h : Health) (b : Below) (marks : Marks) (y : Seen) (j : Kept) (g : Health) (c : Below) (s : State) (count : ℕ) → Holds shape x k h b marks s → LeavesInUse (volume_layout shape x.words) x k y j → Runs h b g c → g.stopped ≡ h.stopped → Answering (Holds shape y j g c marks) (λ u. Stands shape y j (crashed u)) s (Flush count) (Ok (Faulted 0))
+flush_faults shape x k h b marks y j g c s count holds leaves runs same =
+    (s, inr (inr (0, refl, (refl, refl))), flush_holds shape x k h b marks y j g c s (Flush count) (Faulted 0) holds leaves runs same (inr (inr (0, refl, (refl, refl)))))
 
-pub flush_faults : (shape : VolumeShape) (x : Seen) (k : Kept) (h : Health) (b : Below) (y : Seen) (j : Kept) (g : Health) (c : Below) (s : State) (count : ℕ) → Holds shape x k h b s → LeavesInUse (volume_layout shape x.words) x k y j → Runs h b g c → g.stopped ≡ h.stopped → Answering (Holds shape y j g c) (Stands shape y j) s (Flush count) (Ok (Faulted 0))
-flush_faults shape x k h b y j g c s count holds leaves runs same =
-    (s, inr (inr (0, refl, (refl, refl))), flush_holds shape x k h b y j g c s (Flush count) (Faulted 0) holds leaves runs same (inr (inr (0, refl, (refl, refl)))))
-
-pub flush_stops : (shape : VolumeShape) (x : Seen) (k : Kept) (y : Seen) (j : Kept) (s : State) (count : ℕ) → Ready shape x k → ReadsAs shape x.words s → Settled x k → LeavesInUse (volume_layout shape x.words) x k y j → (t : State) × IsPart s (Flush count) t × Stands shape y j t
-flush_stops shape x k y j s count ready reads settled leaves = (s, inl refl, flush_stands shape x k y j s ready settled leaves reads)
+pub flush_stops : (shape : VolumeShape) (x : Seen) (k : Kept) (y : Seen) (j : Kept) (marks : Marks) (s : State) (count : ℕ) → Serves shape x k marks s → Settled x k → LeavesInUse (volume_layout shape x.words) x k y j → (t : State) × IsPart s (Flush count) t × Stands shape y j (crashed t)
+flush_stops shape x k y j marks s count serves settled leaves = (s, inl refl, stands_same shape x k y j (crashed s) serves.ready settled leaves serves.reads)
 
 -- a flush that ended with a fault was not stopped
 pub fault_runs : {T : Type 0} (s t : Health) (f : VolFail) → f ≡ DiskFault → Ends {T = T} s t (Err f) → t.stopped ≡ s.stopped

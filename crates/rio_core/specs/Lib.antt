@@ -1,2 +1,4 @@
+pub mod CallEnds
+pub mod Regions
 pub mod Replying
 pub mod Serving

@@ -1,38 +1,38 @@
-//! Requests answered over a volume.
+//! Requests on files and directories, answered over a volume.
 
-ghost use Rattle.std.specs.Prelude.{◌≡◌, [], IsErr};
+ghost use Rattle.std.specs.Prelude.{IsErr};
 ghost use Rattle.rio_base.specs.Blocks.{EndsBy};
 ghost use Rattle.rio_base.specs.Volume.{Goes};
 ghost use Rattle.rio_requests.specs.Requests.{IsRequest};
-ghost use Rattle.rio_model.specs.VolumeReads.{ReadsAs};
 ghost use Rattle.rio_model.specs.declared.state.State.{State};
-ghost use Rattle.file_store.specs.Ends.{CanServe};
-ghost use Rattle.rio_core.specs.Serving.{OnFiles, RequestEnds, TellsFault};
+ghost use Rattle.rio_requests.specs.CrashFiles.{OnFiles};
+ghost use Rattle.rio_core.specs.Serving.{RequestEnds, Serves, TellsFault};
 
-use crate::replies::{bytes_reply, count_reply, done_reply, ino_reply, names_reply, stat_reply};
-use file_store::{create, list, mkdir, read, rename, rmdir, stat, truncate, unlink, write};
-use rio_base::{InoList, Stopped, Volume, VolumeShape};
+use crate::replies::{
+    BAD_REQUEST, NO_MEMORY, bytes_reply, count_reply, done_reply, ino_reply, names_reply,
+    stat_reply,
+};
+use file_store::{
+    create, list, make_region, mkdir, read, rename, rmdir, stat, truncate, unlink, write,
+};
+use rio_base::{Stopped, Volume, VolumeShape};
 use rio_requests::{Reply, Request};
 use std::alloc::Global;
+use vista_region::OpenTable;
 
-/// The number of the reply to what is not served.
-const BAD_REQUEST: u8 = 1;
-
-/// Answers a request on names and files, while no transaction is open. Those that are not served yet are refused as bad
-/// ones.
+/// Answers a request on files and directories. The open transactions stay as they are: a region that has one is not removed.
 pub fn answer_on<V: Volume>(
     alloc: Global,
     v: &mut V,
     shape: &VolumeShape,
-    busy: &InoList,
+    table: &OpenTable,
     request: &Request,
 ) -> Result<Reply, Stopped>
     requires sound { V.sound v.old }
-    requires can { CanServe shape.now (V.seen v.old) (V.kept v.old) }
-    requires none { busy.now ≡ [] }
+    requires serves { (s : State) × Serves shape.now (V.seen v.old) (V.kept v.old) table.now s }
     requires request { IsRequest request.now }
     requires files { OnFiles request.now }
-    ensures answered { (s : State) → ReadsAs shape.now (V.seen v.old).words s → s.txns ≡ [] → RequestEnds shape.now (V.seen v.old) (V.kept v.old) (V.seen v.new) (V.kept v.new) s request.now result }
+    ensures answered { (s : State) → Serves shape.now (V.seen v.old) (V.kept v.old) table.now s → RequestEnds shape.now (V.seen v.new) (V.kept v.new) table.now s request.now result }
     ensures goes { Goes (V.health v.old) (V.below v.old) (V.health v.new) (V.below v.new) }
     ensures ends { EndsBy (V.health v.old) (V.health v.new) (TellsFault result) (IsErr result) }
     ensures sound { V.sound v.new }
@@ -54,18 +54,23 @@ pub fn answer_on<V: Volume>(
         Request::Truncate { path, len } => {
             done_reply(truncate(alloc, v, shape, path.as_slice(), *len))
         }
-        Request::Unlink { path } => done_reply(unlink(alloc, v, shape, path.as_slice(), busy)),
+        Request::Region {
+            path,
+            data_pages,
+            undo_pages,
+        } => ino_reply(make_region(alloc, v, shape, path.as_slice(), *data_pages, *undo_pages)),
+        Request::Unlink { path } => match table.open_list(alloc) {
+            Ok(busy) => done_reply(unlink(alloc, v, shape, path.as_slice(), &busy)),
+            Err(_) => Ok(Reply::Err(NO_MEMORY)),
+        },
         Request::Rmdir { path } => done_reply(rmdir(alloc, v, shape, path.as_slice())),
-        Request::Rename { path, to } => done_reply(rename(
-            alloc,
-            v,
-            shape,
-            path.as_slice(),
-            to.as_slice(),
-            busy,
-        )),
+        Request::Rename { path, to } => match table.open_list(alloc) {
+            Ok(busy) => done_reply(rename(alloc, v, shape, path.as_slice(), to.as_slice(), &busy)),
+            Err(_) => Ok(Reply::Err(NO_MEMORY)),
+        },
         Request::Stat { path } => stat_reply(stat(alloc, v, shape, path.as_slice())),
         Request::List { path } => names_reply(list(alloc, v, shape, path.as_slice())),
+        // Not reached: other requests are answered elsewhere.
         _ => Ok(Reply::Err(BAD_REQUEST)),
     }
 }

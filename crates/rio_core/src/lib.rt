@@ -2,6 +2,7 @@
 #![tactic(auto)]
 
 mod answering;
+mod regions;
 mod replies;
 mod running_core;
 mod server;

@@ -1,18 +1,35 @@
-//! What calls on files came to, as replies.
+//! What calls on files and on regions came to, as replies.
 
+ghost use Rattle.std.specs.Prelude.{◌≡◌, ℕ, IsErr, IsErrOf, Ok, Err};
 ghost use Rattle.file_store.specs.Ends.{SaysBytes, SaysCount, SaysDone, SaysIno, SaysNames, SaysStat};
-ghost use Rattle.rio_core.specs.Replying.{Replies, RepliesFail};
+ghost use Rattle.file_store.specs.Failures.{Faulted};
+ghost use Rattle.rio_core.specs.CallEnds.{TellsAs, begin_told, get_told, reply_to, told};
+ghost use Rattle.rio_core.specs.Replying.{Replies, RepliesFail, TellsTxns};
+ghost use Rattle.rio_core.specs.Serving.{TellsFault};
+ghost use Rattle.rio_requests.specs.declared.reply.Reply.TheVariants.{Ok as Done};
+ghost use Rattle.vista_region.specs.Ends.{IsFault, says_bytes, says_done, says_number};
+ghost use Rattle.vista_region.specs.declared.failures.TxnFail.TheVariants.{Fault as TxnFault};
 
 use file_store::FileFail;
-use rio_base::{Ino, NameList, Octets, Stopped};
+use rio_base::{Ino, InoList, NameList, Octets, Stopped};
 use rio_requests::Reply;
+use std::alloc::AllocError;
+use vista_region::{BeginFail, GetFail, TxnFail};
+
+/// The number of the reply to what is not served.
+pub const BAD_REQUEST: u8 = 1;
 
 /// The number of the reply where there was no memory for a request.
-const NO_MEMORY: u8 = 31;
+pub const NO_MEMORY: u8 = 31;
+
+// ---- on files
 
 /// The reply to a request that failed. A stopped machine gives none.
-fn fail_reply(fail: FileFail) -> Result<Reply, Stopped>
-    ensures { RepliesFail fail result }
+pub fn fail_reply(fail: FileFail) -> Result<Reply, Stopped>
+    ensures tells { RepliesFail fail result }
+    ensures fault { TellsFault result → Faulted {T = ℕ} (Err fail) }
+    ensures stop { IsErr result → fail ≡ FileFail.Stopped }
+    ensures stopped { fail ≡ FileFail.Stopped → IsErr result }
 {
     match fail {
         FileFail::Refused(number) => Ok(Reply::Err(number)),
@@ -79,5 +96,93 @@ pub fn names_reply(answer: Result<NameList, FileFail>) -> Result<Reply, Stopped>
     match answer {
         Ok(names) => Ok(Reply::Names(names)),
         Err(fail) => fail_reply(fail),
+    }
+}
+
+// ---- on regions
+
+/// The reply to a request for the open transactions.
+pub fn txns_reply(list: Result<InoList, AllocError>) -> Reply
+    ensures { TellsTxns list result }
+{
+    match list {
+        Ok(inos) => Reply::Inos(inos),
+        Err(_) => Reply::Err(NO_MEMORY),
+    }
+}
+
+/// The reply to a call on a transaction that failed. A stopped machine gives none.
+fn txn_fail_reply(fail: TxnFail) -> Result<Reply, Stopped>
+    ensures tells { TellsAs (reply_to fail) result }
+    ensures fault { TellsFault result → (k : ℕ) × (fail ≡ TxnFault k) }
+    ensures stop { IsErr result → fail ≡ TxnFail.Stopped }
+    ensures stopped { fail ≡ TxnFail.Stopped → IsErr result }
+{
+    match fail {
+        TxnFail::NoTransaction => Ok(Reply::Err(14)),
+        TxnFail::NotCovered => Ok(Reply::Err(15)),
+        TxnFail::UndoFull => Ok(Reply::Err(16)),
+        TxnFail::HeapFull => Ok(Reply::Err(17)),
+        TxnFail::NotBlock => Ok(Reply::Err(18)),
+        TxnFail::OutOfRange => Ok(Reply::Err(19)),
+        TxnFail::NotAligned => Ok(Reply::Err(20)),
+        TxnFail::Doomed => Ok(Reply::Err(22)),
+        TxnFail::Fault(done) => Ok(Reply::Fault(done)),
+        TxnFail::Stopped => Err(Stopped),
+    }
+}
+
+/// The reply to a call on a transaction that has nothing to tell.
+pub fn txn_reply(answer: Result<(), TxnFail>) -> Result<Reply, Stopped>
+    ensures tells { TellsAs (told says_done answer) result }
+    ensures fault { TellsFault result → IsFault answer }
+    ensures stop { IsErr result → IsErrOf answer TxnFail.Stopped }
+    ensures stopped { IsErrOf answer TxnFail.Stopped → IsErr result }
+{
+    match answer {
+        Ok(()) => Ok(Reply::Ok),
+        Err(fail) => txn_fail_reply(fail),
+    }
+}
+
+/// The reply to a call on a transaction that counts.
+pub fn number_reply(answer: Result<u64, TxnFail>) -> Result<Reply, Stopped>
+    ensures tells { TellsAs (told says_number answer) result }
+    ensures fault { TellsFault result → IsFault answer }
+    ensures stop { IsErr result → IsErrOf answer TxnFail.Stopped }
+    ensures stopped { IsErrOf answer TxnFail.Stopped → IsErr result }
+{
+    match answer {
+        Ok(n) => Ok(Reply::Number(n)),
+        Err(fail) => txn_fail_reply(fail),
+    }
+}
+
+/// The reply to a call that reads a region's bytes.
+pub fn get_reply(answer: Result<Octets, GetFail>) -> Result<Reply, Stopped>
+    ensures tells { TellsAs (get_told says_bytes answer) result }
+    ensures fault { TellsFault result → IsErrOf answer GetFail.Fault }
+    ensures stop { IsErr result → IsErrOf answer GetFail.Stopped }
+    ensures stopped { IsErrOf answer GetFail.Stopped → IsErr result }
+{
+    match answer {
+        Ok(bytes) => Ok(Reply::Bytes(bytes)),
+        Err(GetFail::OutOfRange) => Ok(Reply::Err(19)),
+        Err(GetFail::Doomed) => Ok(Reply::Err(22)),
+        Err(GetFail::Memory) => Ok(Reply::Err(NO_MEMORY)),
+        Err(GetFail::Fault) => Ok(Reply::Fault(0)),
+        Err(GetFail::Stopped) => Err(Stopped),
+    }
+}
+
+/// The reply to a call that begins a transaction.
+pub fn begin_reply(answer: Result<(), BeginFail>) -> Reply
+    ensures tells { TellsAs (begin_told Done answer) (Ok result) }
+    ensures fault { TellsFault (Ok result) → ⊥ }
+{
+    match answer {
+        Ok(()) => Reply::Ok,
+        Err(BeginFail::Busy) => Reply::Err(13),
+        Err(BeginFail::Memory) => Reply::Err(NO_MEMORY),
     }
 }

@@ -258,18 +258,8 @@ answer_of s (Flush count) = answered s Done
 answer_of s (Wild at value) = wild s at
 answer_of s (Arm step at value) = arm s at
 
--- what is served so far: the other forms are refused as bad requests
+-- what is served so far: wild stores are refused as bad requests
 abbrev pub served_of : State → Request → Answered
-served_of s (Mkdir path) = mkdir s path
-served_of s (Create path) = create s path
-served_of s (Write path off bytes) = write s path off bytes
-served_of s (Read path off len) = read s path off len
-served_of s (Truncate path len) = truncate s path len
-served_of s (Unlink path) = unlink s path (open_inodes s)
-served_of s (Rmdir path) = rmdir s path
-served_of s (Rename path to) = rename s path to (open_inodes s)
-served_of s (StatOf path) = stat s path
-served_of s (ListOf path) = list s path
-served_of s Sync = answered s Done
-served_of s (Flush count) = answered s Done
-served_of s _ = refused s 1
+served_of s (Wild at value) = refused s 1
+served_of s (Arm step at value) = refused s 1
+served_of s r = answer_of s r

@@ -56,10 +56,14 @@ begin_on i r (Some t) = Err 13
 abbrev pub commit_on : RegionNode → Option Txn → Outcome
 commit_on r o = on_open o (λ t. Ok (record { region = r; txn = None; reply = Done }))
 
+-- the region as it was when a transaction began
+abbrev pub undone : RegionNode → Txn → RegionNode
+undone r t = record r { words = t.before; blocks = t.before_blocks }
+
 -- a doomed transaction too
 abbrev pub abort_on : RegionNode → Option Txn → Outcome
 abort_on r None = Err 14
-abort_on r (Some t) = Ok (record { region = record r { words = t.before; blocks = t.before_blocks }; txn = None; reply = Done })
+abort_on r (Some t) = Ok (record { region = undone r t; txn = None; reply = Done })
 
 -- ---- range
 

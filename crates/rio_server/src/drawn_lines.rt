@@ -1,4 +1,5 @@
-//! Drawn request lines for walks: for the same seed the same. They name 40 files in 4 directories, and the directories.
+//! Drawn request lines for walks: for the same seed the same. They name 40 files in 4 directories, the directories, and 4
+//! regions.
 
 ghost use Rattle.std.specs.Prelude.{◌<◌};
 
@@ -114,8 +115,143 @@ fn drawn_of_paths(alloc: Global, draws: &mut Draws, kind: u32) -> Result<String,
     }
 }
 
-/// A line without its end. It is no flush.
-pub(crate) fn drawn_line(alloc: Global, draws: &mut Draws) -> Result<String, AllocError> {
+/// The path of a region.
+fn region_path(alloc: Global, region: u32) -> Result<String, AllocError> {
+    format!(in alloc; "/r{region}")
+}
+
+/// A path, most often of a region.
+fn drawn_region(alloc: Global, draws: &mut Draws) -> Result<String, AllocError> {
+    if draws.below(16) == 0 {
+        return drawn_path(alloc, draws);
+    }
+    let region = draws.below(4);
+    region_path(alloc, region)
+}
+
+/// A place in a region, most often where one of its first units starts.
+fn drawn_place(draws: &mut Draws) -> u32 {
+    if draws.below(12) == 0 {
+        return draws.below(40_000);
+    }
+    let unit = draws.below(512) >> draws.below(10);
+    unit.saturating_mul(64)
+}
+
+/// A number of bytes, most often that of some words.
+fn drawn_extent(draws: &mut Draws, most_words: u32) -> u32 {
+    if draws.below(12) == 0 {
+        return draws.below(5000);
+    }
+    let words = draws.below(most_words.max(1)) >> draws.below(5);
+    words.saturating_mul(8)
+}
+
+/// A region that is made. Most are small. Some have two pages of heap map, and some are larger than any file.
+fn drawn_new_region(alloc: Global, draws: &mut Draws) -> Result<String, AllocError> {
+    let path = drawn_region(alloc, draws)?;
+    let undo = draws.below(3).saturating_add(1);
+    let pages = match draws.below(16) {
+        0 => draws.below(100).saturating_add(1000),
+        1 => draws.below(300),
+        _ => draws.below(8),
+    };
+    format!(in alloc; "region {path} {} {undo}", pages.saturating_add(1))
+}
+
+/// A put, each byte of which is drawn.
+fn drawn_put(alloc: Global, draws: &mut Draws) -> Result<String, AllocError> {
+    let path = drawn_region(alloc, draws)?;
+    let off = drawn_place(draws);
+    let count = drawn_extent(draws, 32);
+    let mut line = format!(in alloc; "put {path} {off} ")?;
+    for _ in 0..count {
+        let byte = draws.below(256);
+        line.push_str(format!(in alloc; "{byte:02x}")?.as_str())?;
+    }
+    Ok(line)
+}
+
+/// A line on the words of a region, or on its blocks.
+fn drawn_of_words(alloc: Global, draws: &mut Draws, kind: u32) -> Result<String, AllocError> {
+    let path = drawn_region(alloc, draws)?;
+    match kind {
+        0 | 1 | 2 => {
+            let off = drawn_place(draws);
+            let len = drawn_extent(draws, 256);
+            format!(in alloc; "range {path} {off} {len}")
+        }
+        3 | 4 => {
+            let off = drawn_place(draws);
+            let len = draws.below(9000) >> draws.below(10);
+            format!(in alloc; "get {path} {off} {len}")
+        }
+        5 | 6 => {
+            let units = draws.below(129) >> draws.below(8);
+            format!(in alloc; "alloc {path} {}", units.max(1))
+        }
+        _ => {
+            let at = drawn_place(draws);
+            format!(in alloc; "free {path} {at}")
+        }
+    }
+}
+
+/// A line of files at the path of a region.
+fn drawn_at_region(alloc: Global, draws: &mut Draws, kind: u32) -> Result<String, AllocError> {
+    let path = drawn_region(alloc, draws)?;
+    match kind {
+        0 => {
+            let to = drawn_region(alloc, draws)?;
+            format!(in alloc; "rename {path} {to}")
+        }
+        1 => {
+            let from = drawn_path(alloc, draws)?;
+            format!(in alloc; "rename {from} {path}")
+        }
+        2 => format!(in alloc; "read {path} 0 64"),
+        3 => format!(in alloc; "write {path} 0 00"),
+        4 => format!(in alloc; "truncate {path} 64"),
+        5 => format!(in alloc; "wild 0 0000000000000000"),
+        6 => format!(in alloc; "arm 0 0 0000000000000000"),
+        _ => {
+            let word = ["unlink", "stat", "create"][draws.below(3) as usize];
+            format!(in alloc; "{word} {path}")
+        }
+    }
+}
+
+/// A line on a region, on its transaction, or on all transactions.
+fn drawn_region_line(alloc: Global, draws: &mut Draws) -> Result<String, AllocError> {
+    match draws.below(32) {
+        0 => String::from_str(alloc, "txns"),
+        1 | 2 | 3 => drawn_new_region(alloc, draws),
+        4 | 5 | 6 | 7 => {
+            let kind = draws.below(11);
+            drawn_at_region(alloc, draws, kind)
+        }
+        8 | 9 | 10 | 11 | 12 | 13 | 14 => {
+            let path = drawn_region(alloc, draws)?;
+            let word = ["begin", "begin", "commit", "abort"][draws.below(4) as usize];
+            format!(in alloc; "{word} {path}")
+        }
+        15 | 16 | 17 | 18 | 19 | 20 | 21 => drawn_put(alloc, draws),
+        _ => {
+            let kind = draws.below(9);
+            drawn_of_words(alloc, draws, kind)
+        }
+    }
+}
+
+/// A line without its end. It is no flush. Of 16 lines `regions` are drawn on regions.
+pub(crate) fn drawn_line(
+    alloc: Global,
+    draws: &mut Draws,
+    regions: u32,
+) -> Result<String, AllocError> {
+    if regions > 0 && draws.below(16) < regions {
+        return drawn_region_line(alloc, draws);
+    }
     match draws.below(16) {
         0 => String::from_str(alloc, "list /"),
         1 => String::from_str(alloc, "sync"),

@@ -185,7 +185,7 @@ fn walk<C: Server>(alloc: Global, core: &mut C, seed: u64, count: u32) -> Result
     let mut s = root_alone(alloc, EVICTING)?;
     let mut faults = 0u32;
     for n in 0..count {
-        let line = drawn_line(alloc, &mut draws)?;
+        let line = drawn_line(alloc, &mut draws, 0)?;
         let Some(request) = parse_line(alloc, line.as_bytes())? else {
             return Err(WalkEnd::Differs(n));
         };

@@ -18,6 +18,8 @@ mod last_line;
 #[cfg(test)]
 mod plain_server;
 mod program;
+#[cfg(test)]
+mod region_tests;
 mod registry_command;
 mod registry_lines;
 mod registry_listing;

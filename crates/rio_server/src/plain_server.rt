@@ -34,14 +34,28 @@ pub(crate) fn text_of(alloc: Global, reply: &Reply) -> Result<Vec<u8>, AllocErro
     Vec::from_slice(alloc, sink.bytes().as_slice())
 }
 
-/// What a line comes to. A line that is no request is refused.
-fn answered(alloc: Global, s: State, request: &Option<Request>) -> Result<Answered, AllocError> {
+/// A refusal of what is not served.
+fn refused(s: &State) -> Result<Answered, AllocError> {
+    let next = s.clone()?;
+    Ok(Answered {
+        next,
+        reply: Some(Reply::Err(1)),
+    })
+}
+
+/// What a request comes to. Wild stores are not served.
+fn served(alloc: Global, s: &State, request: &Request) -> Result<Answered, AllocError> {
     match request {
-        Some(request) => answer(alloc, &s, request),
-        None => Ok(Answered {
-            next: s,
-            reply: Some(Reply::Err(1)),
-        }),
+        Request::Wild { .. } | Request::Arm { .. } => refused(s),
+        _ => answer(alloc, s, request),
+    }
+}
+
+/// What a line comes to. A line that is no request is refused.
+fn answered(alloc: Global, s: &State, request: &Option<Request>) -> Result<Answered, AllocError> {
+    match request {
+        Some(request) => served(alloc, s, request),
+        None => refused(s),
     }
 }
 
@@ -53,7 +67,7 @@ pub(crate) fn answer_line(
     replies: &mut Vec<u8>,
 ) -> Result<State, AllocError> {
     let request = parse_line(alloc, line.as_bytes())?;
-    let Answered { next, reply } = answered(alloc, s, &request)?;
+    let Answered { next, reply } = answered(alloc, &s, &request)?;
     if let Some(reply) = &reply {
         let text = text_of(alloc, reply)?;
         replies.extend_from_slice(text.as_slice())?;

@@ -1,13 +1,16 @@
 //! Cores of any size, served from lines in memory, for the tests.
 
-ghost use Rattle.std.specs.Prelude.{IfSome};
+ghost use Rattle.std.specs.Prelude.{IfOk, IfSome};
+ghost use Rattle.block_disk.specs.MemDisks.{state_of};
 ghost use Rattle.rio_base.specs.Image.{AreImageSizes};
 ghost use Rattle.image_codec.specs.Volume.{IsVolumeShape};
+ghost use Rattle.rio_server.specs.FreshMachines.{IsFreshDisk};
 
 use crate::format_words::{FormatSizes, sizes_of};
 use crate::fresh_machine::{fresh_core, fresh_disk};
 use crate::{ServeEnd, serve};
-use rio_base::{MemSink, MemSource};
+use block_disk::MemDisk;
+use rio_base::{Block, MemSink, MemSource, VolumeShape};
 use std::alloc::{AllocError, Global};
 use std::process::Abort;
 
@@ -55,12 +58,39 @@ pub(crate) fn serve_lines_of(
     input: &[u8],
     most: usize,
 ) -> Result<Served, AllocError> {
+    serve_lines_past(alloc, sizes, Block(0), 0, input, most)
+}
+
+/// A disk with a fresh volume, of which the first `fails` reads of a block fail.
+fn disk_failing_at(
+    alloc: Global,
+    shape: &VolumeShape,
+    b: Block,
+    fails: u64,
+) -> Result<MemDisk, AllocError>
+    requires shape { IsVolumeShape shape.now }
+    ensures { IfOk result (λ d. IsFreshDisk shape.now (state_of d).blocks (state_of d).pending) }
+{
+    let mut disk = fresh_disk(alloc, shape)?;
+    disk.fail_reads(b, fails);
+    Ok(disk)
+}
+
+/// Serves lines from a fresh volume on a disk of which the first `fails` reads of a block fail.
+fn serve_lines_past(
+    alloc: Global,
+    sizes: Sizes,
+    b: Block,
+    fails: u64,
+    input: &[u8],
+    most: usize,
+) -> Result<Served, AllocError> {
     let Some(found) = checked(sizes) else {
         return Err(AllocError);
     };
     let mut source = MemSource::new(alloc, input, most.max(1))?;
     let mut sink = MemSink::new(alloc);
-    let disk = fresh_disk(alloc, &found.shape)?;
+    let disk = disk_failing_at(alloc, &found.shape, b, fails)?;
     let mut core = fresh_core(alloc, found.frames, found.shape, disk)?;
     let end = serve(alloc, &mut core, &mut source, &mut sink);
     let (_, disk) = core.into_machine().into_parts();
@@ -92,8 +122,20 @@ pub(crate) fn check_rows(
     sizes: Sizes,
     rows: &[(&str, &str)],
 ) -> Result<(), AllocError> {
+    check_rows_past(rt, alloc, sizes, Block(0), 0, rows)
+}
+
+/// The same on a disk of which the first `fails` reads of a block fail.
+pub(crate) fn check_rows_past(
+    rt: &impl Abort,
+    alloc: Global,
+    sizes: Sizes,
+    b: Block,
+    fails: u64,
+    rows: &[(&str, &str)],
+) -> Result<(), AllocError> {
     let (input, wanted) = joined(alloc, rows)?;
-    let ran = serve_lines_of(alloc, sizes, input.as_bytes(), 4096)?;
+    let ran = serve_lines_past(alloc, sizes, b, fails, input.as_bytes(), 65536)?;
     assert_eq!(rt; ran.text.as_slice(), wanted.as_bytes());
     assert_eq!(rt; ran.end, ServeEnd::End);
     Ok(())

@@ -15,6 +15,39 @@ const EVICTING: Sizes = Sizes {
     inodes: 64,
 };
 
+/// What is drawn.
+#[derive(Clone, Copy, Debug)]
+struct Mix {
+    /// How many of 16 lines are on regions.
+    regions: u32,
+    /// Whether some lines between the others flush. The others are the same.
+    flushes: bool,
+}
+
+/// Lines on files and directories.
+const FILES: Mix = Mix {
+    regions: 0,
+    flushes: false,
+};
+
+/// The same, with flushes.
+const FLUSHED_FILES: Mix = Mix {
+    regions: 0,
+    flushes: true,
+};
+
+/// Most lines are on regions.
+const REGIONS: Mix = Mix {
+    regions: 13,
+    flushes: false,
+};
+
+/// The same, with flushes.
+const FLUSHED_REGIONS: Mix = Mix {
+    regions: 13,
+    flushes: true,
+};
+
 /// Request lines, and what they are answered.
 #[derive(Drop)]
 struct Walk {
@@ -22,13 +55,13 @@ struct Walk {
     wanted: Vec<u8>,
 }
 
-/// Draws a walk. With `flushes` some lines are put between that flush; the others are the same.
+/// Draws a walk of `count` lines, and as many flushes as are put between.
 fn walk_of(
     alloc: Global,
     sizes: Sizes,
     seed: u64,
     count: u32,
-    flushes: bool,
+    mix: Mix,
 ) -> Result<Walk, AllocError> {
     let mut draws = Draws::new(seed);
     let mut flush_draws = Draws::new(seed.wrapping_add(1));
@@ -36,13 +69,13 @@ fn walk_of(
     let mut input = String::new(alloc);
     let mut wanted = Vec::new(alloc);
     for _ in 0..count {
-        if flushes && flush_draws.below(8) == 0 {
+        if mix.flushes && flush_draws.below(8) == 0 {
             let line = drawn_flush(alloc, &mut flush_draws)?;
             s = answer_line(alloc, s, line.as_str(), &mut wanted)?;
             input.push_str(line.as_str())?;
             input.push('\n')?;
         }
-        let line = drawn_line(alloc, &mut draws)?;
+        let line = drawn_line(alloc, &mut draws, mix.regions)?;
         s = answer_line(alloc, s, line.as_str(), &mut wanted)?;
         input.push_str(line.as_str())?;
         input.push('\n')?;
@@ -56,10 +89,10 @@ fn are_answered(
     alloc: Global,
     seeds: Range<u64>,
     most: usize,
-    flushes: bool,
+    mix: Mix,
 ) -> Result<bool, AllocError> {
     for seed in seeds {
-        let walk = walk_of(alloc, EVICTING, seed, 250, flushes)?;
+        let walk = walk_of(alloc, EVICTING, seed, 250, mix)?;
         let ran = serve_lines_of(alloc, EVICTING, walk.input.as_bytes(), most)?;
         if ran.end != ServeEnd::End || ran.text.as_slice() != walk.wanted.as_slice() {
             return Ok(false);
@@ -70,26 +103,34 @@ fn are_answered(
 
 #[test]
 fn drawn_requests_have_the_replies_of_the_definition(rt: HostRuntime) -> Result<(), Fail> {
-    assert!(rt; are_answered(rt.alloc(), 1..5, 4096, false)?);
+    assert!(rt; are_answered(rt.alloc(), 1..5, 4096, FILES)?);
     Ok(())
 }
 
 #[test]
 fn more_drawn_requests_have_them_too(rt: HostRuntime) -> Result<(), Fail> {
-    assert!(rt; are_answered(rt.alloc(), 5..9, 4096, false)?);
+    assert!(rt; are_answered(rt.alloc(), 5..9, 4096, FILES)?);
+    Ok(())
+}
+
+#[test]
+fn drawn_requests_on_regions_have_them_too(rt: HostRuntime) -> Result<(), Fail> {
+    assert!(rt; are_answered(rt.alloc(), 1..9, 4096, REGIONS)?);
     Ok(())
 }
 
 #[test]
 fn pieces_change_no_reply(rt: HostRuntime) -> Result<(), Fail> {
-    assert!(rt; are_answered(rt.alloc(), 1..3, 1, false)?);
-    assert!(rt; are_answered(rt.alloc(), 3..5, 7, false)?);
+    assert!(rt; are_answered(rt.alloc(), 1..3, 1, FILES)?);
+    assert!(rt; are_answered(rt.alloc(), 3..5, 7, FILES)?);
+    assert!(rt; are_answered(rt.alloc(), 5..7, 1, REGIONS)?);
     Ok(())
 }
 
 #[test]
 fn flushes_change_no_reply(rt: HostRuntime) -> Result<(), Fail> {
-    assert!(rt; are_answered(rt.alloc(), 1..5, 4096, true)?);
+    assert!(rt; are_answered(rt.alloc(), 1..5, 4096, FLUSHED_FILES)?);
+    assert!(rt; are_answered(rt.alloc(), 1..5, 4096, FLUSHED_REGIONS)?);
     Ok(())
 }
 
@@ -101,7 +142,7 @@ fn with_a_frame_for_each_block_nothing_is_written(rt: HostRuntime) -> Result<(),
         blocks: 64,
         inodes: 32,
     };
-    let walk = walk_of(alloc, roomy, 9, 500, false)?;
+    let walk = walk_of(alloc, roomy, 9, 500, FILES)?;
     let ran = serve_lines_of(alloc, roomy, walk.input.as_bytes(), 4096)?;
     assert_eq!(rt; ran.text.as_slice(), walk.wanted.as_slice());
     assert_eq!(rt; ran.writes, 0);

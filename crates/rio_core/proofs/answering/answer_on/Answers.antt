@@ -1,14 +1,49 @@
-use Rattle.std.proofs.Common.{◌≡◌, ◌∙◌, le_refl, refl, sym, ap, subst}
-use Rattle.rio_base.specs.Rules.{ends_by_well, goes_refl}
-use Rattle.rio_requests.specs.declared.request.Request.TheVariants.{Mkdir, Create, Write, Read, Truncate, Unlink, Rmdir, Rename, Stat as StatOf, List as ListOf}
+use Rattle.std.proofs.Common.{◌≡◌, ◌∙◌, Ok, sym, ap, subst}
+use Rattle.rio_requests.specs.declared.reply.Reply.TheVariants.{Err as RefusedBy}
+use Rattle.rio_requests.specs.declared.request.Request.TheVariants.{Mkdir, Create, Region as MakeRegion, Write, Read, Truncate, Unlink, Rmdir, Rename, Stat as StatOf, List as ListOf}
 use Rattle.rio_requests.specs.Answers.{rename, unlink}
+use Rattle.rio_requests.specs.Crash.{crashed}
 use Rattle.rio_requests.specs.Parts.{NoneDone}
 use Rattle.file_store.specs.Ends.{FileEnds, SaysBytes, SaysCount, SaysDone, SaysIno, SaysNames, SaysStat}
 use Rattle.rio_core.specs.Serving.{RequestEnds}
+use Rattle.rio_core.proofs.FileRequests.{lacks_memory, none_other, request_ends}
+use Rattle.rio_core.proofs.Lookups.{rows_open}
 use Rattle.rio_core.proofs.ReplyEnds.{no_bytes, no_done, no_names, no_number, no_stat, reply_ends}
-use Rattle.rio_core.proofs.RequestEnds.{request_ends}
-use Rattle.rio_core.proofs.Unserved.{Unserved, none_open, unserved_ends}
+use Rattle.rio_core.proofs.Standing.{serves_can}
 use Rattle.rio_core.proofs.answering.answer_on.Goals as goal
+
+pub mkdir-requires-clause-can : goal.mkdir-requires-clause-can
+mkdir-requires-clause-can g c = serves_can c.args.shape.now (g.V.Blocks.seen c.args.v.now) (g.V.Volume.kept c.args.v.now) c.args.table.now c.requires.serves.0 c.requires.serves.1
+
+pub create-requires-clause-can : goal.create-requires-clause-can
+create-requires-clause-can g c = serves_can c.args.shape.now (g.V.Blocks.seen c.args.v.now) (g.V.Volume.kept c.args.v.now) c.args.table.now c.requires.serves.0 c.requires.serves.1
+
+pub write-requires-clause-can : goal.write-requires-clause-can
+write-requires-clause-can g c = serves_can c.args.shape.now (g.V.Blocks.seen c.args.v.now) (g.V.Volume.kept c.args.v.now) c.args.table.now c.requires.serves.0 c.requires.serves.1
+
+pub read-requires-clause-can : goal.read-requires-clause-can
+read-requires-clause-can g c = serves_can c.args.shape.now (g.V.Blocks.seen c.args.v.now) (g.V.Volume.kept c.args.v.now) c.args.table.now c.requires.serves.0 c.requires.serves.1
+
+pub truncate-requires-clause-can : goal.truncate-requires-clause-can
+truncate-requires-clause-can g c = serves_can c.args.shape.now (g.V.Blocks.seen c.args.v.now) (g.V.Volume.kept c.args.v.now) c.args.table.now c.requires.serves.0 c.requires.serves.1
+
+pub make_region-requires-clause-can : goal.make_region-requires-clause-can
+make_region-requires-clause-can g c = serves_can c.args.shape.now (g.V.Blocks.seen c.args.v.now) (g.V.Volume.kept c.args.v.now) c.args.table.now c.requires.serves.0 c.requires.serves.1
+
+pub unlink-requires-clause-can : goal.unlink-requires-clause-can
+unlink-requires-clause-can g c = serves_can c.args.shape.now (g.V.Blocks.seen c.args.v.now) (g.V.Volume.kept c.args.v.now) c.args.table.now c.requires.serves.0 c.requires.serves.1
+
+pub rmdir-requires-clause-can : goal.rmdir-requires-clause-can
+rmdir-requires-clause-can g c = serves_can c.args.shape.now (g.V.Blocks.seen c.args.v.now) (g.V.Volume.kept c.args.v.now) c.args.table.now c.requires.serves.0 c.requires.serves.1
+
+pub rename-requires-clause-can : goal.rename-requires-clause-can
+rename-requires-clause-can g c = serves_can c.args.shape.now (g.V.Blocks.seen c.args.v.now) (g.V.Volume.kept c.args.v.now) c.args.table.now c.requires.serves.0 c.requires.serves.1
+
+pub stat-requires-clause-can : goal.stat-requires-clause-can
+stat-requires-clause-can g c = serves_can c.args.shape.now (g.V.Blocks.seen c.args.v.now) (g.V.Volume.kept c.args.v.now) c.args.table.now c.requires.serves.0 c.requires.serves.1
+
+pub list-requires-clause-can : goal.list-requires-clause-can
+list-requires-clause-can g c = serves_can c.args.shape.now (g.V.Blocks.seen c.args.v.now) (g.V.Volume.kept c.args.v.now) c.args.table.now c.requires.serves.0 c.requires.serves.1
 
 pub returns-in-Mkdir-clause-answered : goal.returns-in-Mkdir-clause-answered
 returns-in-Mkdir-clause-answered g c =
@@ -20,7 +55,7 @@ returns-in-Mkdir-clause-answered g c =
     let p = c.as_slice.result.now in
     let r = Mkdir p in
     let is : c.args.request.now ≡ r = c.in-Mkdir.is ∙ ap Mkdir (sym c.as_slice.ensures) in
-    λ s reads closed. subst (λ a. RequestEnds shape x k y j s a c.ino_reply.result) (sym is) (request_ends SaysIno shape x k y j s r c.mkdir.result c.ino_reply.result (λ v a b h i. h ∙ sym i) tt c.requires.can reads (c.mkdir.ensures.leaves s reads) c.ino_reply.ensures)
+    λ s serves. subst (λ a. RequestEnds shape y j c.args.table.now s a c.ino_reply.result) (sym is) (request_ends SaysIno shape x k y j c.args.table.now s r c.mkdir.result c.ino_reply.result (λ v a b h i. h ∙ sym i) tt tt serves (c.mkdir.ensures.leaves (crashed s) serves.reads) c.ino_reply.ensures)
 
 pub returns-in-Mkdir-clause-ends : goal.returns-in-Mkdir-clause-ends
 returns-in-Mkdir-clause-ends g c = reply_ends SaysIno _ _ c.mkdir.result c.ino_reply.result (λ v n h. no_number h) c.ino_reply.ensures c.mkdir.ensures.ends
@@ -35,7 +70,7 @@ returns-in-Create-clause-answered g c =
     let p = c.as_slice-in-Create.result.now in
     let r = Create p in
     let is : c.args.request.now ≡ r = c.in-Create.is ∙ ap Create (sym c.as_slice-in-Create.ensures) in
-    λ s reads closed. subst (λ a. RequestEnds shape x k y j s a c.ino_reply-in-Create.result) (sym is) (request_ends SaysIno shape x k y j s r c.create.result c.ino_reply-in-Create.result (λ v a b h i. h ∙ sym i) tt c.requires.can reads (c.create.ensures.leaves s reads) c.ino_reply-in-Create.ensures)
+    λ s serves. subst (λ a. RequestEnds shape y j c.args.table.now s a c.ino_reply-in-Create.result) (sym is) (request_ends SaysIno shape x k y j c.args.table.now s r c.create.result c.ino_reply-in-Create.result (λ v a b h i. h ∙ sym i) tt tt serves (c.create.ensures.leaves (crashed s) serves.reads) c.ino_reply-in-Create.ensures)
 
 pub returns-in-Create-clause-ends : goal.returns-in-Create-clause-ends
 returns-in-Create-clause-ends g c = reply_ends SaysIno _ _ c.create.result c.ino_reply-in-Create.result (λ v n h. no_number h) c.ino_reply-in-Create.ensures c.create.ensures.ends
@@ -51,7 +86,7 @@ returns-in-Write-clause-answered g c =
     let q = c.as_slice-in-Write-2.result.now in
     let r = Write p c.in-Write.off q in
     let is : c.args.request.now ≡ r = c.in-Write.is ∙ ap (λ a. Write a c.in-Write.off c.in-Write.bytes) (sym c.as_slice-in-Write.ensures) ∙ ap (Write p c.in-Write.off) (sym c.as_slice-in-Write-2.ensures) in
-    λ s reads closed. subst (λ a. RequestEnds shape x k y j s a c.count_reply.result) (sym is) (request_ends SaysCount shape x k y j s r c.write.result c.count_reply.result (λ v a b h i. h ∙ sym i) tt c.requires.can reads (c.write.ensures.leaves s reads) c.count_reply.ensures)
+    λ s serves. subst (λ a. RequestEnds shape y j c.args.table.now s a c.count_reply.result) (sym is) (request_ends SaysCount shape x k y j c.args.table.now s r c.write.result c.count_reply.result (λ v a b h i. h ∙ sym i) tt tt serves (c.write.ensures.leaves (crashed s) serves.reads) c.count_reply.ensures)
 
 pub returns-in-Write-clause-ends : goal.returns-in-Write-clause-ends
 returns-in-Write-clause-ends g c = reply_ends SaysCount _ _ c.write.result c.count_reply.result (λ v n h. no_number h) c.count_reply.ensures c.write.ensures.ends
@@ -66,7 +101,7 @@ returns-in-Read-clause-answered g c =
     let p = c.as_slice-in-Read.result.now in
     let r = Read p c.in-Read.off c.in-Read.len in
     let is : c.args.request.now ≡ r = c.in-Read.is ∙ ap (λ a. Read a c.in-Read.off c.in-Read.len) (sym c.as_slice-in-Read.ensures) in
-    λ s reads closed. subst (λ a. RequestEnds shape x k y j s a c.bytes_reply.result) (sym is) (request_ends SaysBytes shape x k y j s r c.read.result c.bytes_reply.result (λ v a b h i. h ∙ sym i) tt c.requires.can reads (c.read.ensures.leaves s reads) c.bytes_reply.ensures)
+    λ s serves. subst (λ a. RequestEnds shape y j c.args.table.now s a c.bytes_reply.result) (sym is) (request_ends SaysBytes shape x k y j c.args.table.now s r c.read.result c.bytes_reply.result (λ v a b h i. h ∙ sym i) tt tt serves (c.read.ensures.leaves (crashed s) serves.reads) c.bytes_reply.ensures)
 
 pub returns-in-Read-clause-ends : goal.returns-in-Read-clause-ends
 returns-in-Read-clause-ends g c = reply_ends SaysBytes _ _ c.read.result c.bytes_reply.result (λ v n h. no_bytes h) c.bytes_reply.ensures c.read.ensures.ends
@@ -81,25 +116,47 @@ returns-in-Truncate-clause-answered g c =
     let p = c.as_slice-in-Truncate.result.now in
     let r = Truncate p c.in-Truncate.len in
     let is : c.args.request.now ≡ r = c.in-Truncate.is ∙ ap (λ a. Truncate a c.in-Truncate.len) (sym c.as_slice-in-Truncate.ensures) in
-    λ s reads closed. subst (λ a. RequestEnds shape x k y j s a c.done_reply.result) (sym is) (request_ends {T = Unit {0}} SaysDone shape x k y j s r c.truncate.result c.done_reply.result (λ v a b h i. h ∙ sym i) tt c.requires.can reads (c.truncate.ensures.leaves s reads) c.done_reply.ensures)
+    λ s serves. subst (λ a. RequestEnds shape y j c.args.table.now s a c.done_reply.result) (sym is) (request_ends {T = Unit {0}} SaysDone shape x k y j c.args.table.now s r c.truncate.result c.done_reply.result (λ v a b h i. h ∙ sym i) tt tt serves (c.truncate.ensures.leaves (crashed s) serves.reads) c.done_reply.ensures)
 
 pub returns-in-Truncate-clause-ends : goal.returns-in-Truncate-clause-ends
 returns-in-Truncate-clause-ends g c = reply_ends {T = Unit {0}} SaysDone _ _ c.truncate.result c.done_reply.result (λ v n h. no_done h) c.done_reply.ensures c.truncate.ensures.ends
 
-pub returns-in-Unlink-clause-answered : goal.returns-in-Unlink-clause-answered
-returns-in-Unlink-clause-answered g c =
+pub returns-in-Region-clause-answered : goal.returns-in-Region-clause-answered
+returns-in-Region-clause-answered g c =
+    let shape = c.args.shape.now in
+    let x = g.V.Blocks.seen c.args.v.now in
+    let k = g.V.Volume.kept c.args.v.now in
+    let y = g.V.Blocks.seen c.make_region.new.v in
+    let j = g.V.Volume.kept c.make_region.new.v in
+    let p = c.as_slice-in-Region.result.now in
+    let r = MakeRegion p c.in-Region.data_pages c.in-Region.undo_pages in
+    let is : c.args.request.now ≡ r = c.in-Region.is ∙ ap (λ a. MakeRegion a c.in-Region.data_pages c.in-Region.undo_pages) (sym c.as_slice-in-Region.ensures) in
+    λ s serves. subst (λ a. RequestEnds shape y j c.args.table.now s a c.ino_reply-in-Region.result) (sym is) (request_ends SaysIno shape x k y j c.args.table.now s r c.make_region.result c.ino_reply-in-Region.result (λ v a b h i. h ∙ sym i) tt tt serves (c.make_region.ensures.leaves (crashed s) serves.reads) c.ino_reply-in-Region.ensures)
+
+pub returns-in-Region-clause-ends : goal.returns-in-Region-clause-ends
+returns-in-Region-clause-ends g c = reply_ends SaysIno _ _ c.make_region.result c.ino_reply-in-Region.result (λ v n h. no_number h) c.ino_reply-in-Region.ensures c.make_region.ensures.ends
+
+pub returns-in-Ok-clause-answered : goal.returns-in-Ok-clause-answered
+returns-in-Ok-clause-answered g c =
     let shape = c.args.shape.now in
     let x = g.V.Blocks.seen c.args.v.now in
     let k = g.V.Volume.kept c.args.v.now in
     let y = g.V.Blocks.seen c.unlink.new.v in
     let j = g.V.Volume.kept c.unlink.new.v in
-    let p = c.as_slice-in-Unlink.result.now in
+    let p = c.as_slice-in-Ok.result.now in
     let r = Unlink p in
-    let is : c.args.request.now ≡ r = c.in-Unlink.is ∙ ap Unlink (sym c.as_slice-in-Unlink.ensures) in
-    λ s reads closed. subst (λ a. RequestEnds shape x k y j s a c.done_reply-in-Unlink.result) (sym is) (request_ends {T = Unit {0}} SaysDone shape x k y j s r c.unlink.result c.done_reply-in-Unlink.result (λ v a b h i. h ∙ sym i) tt c.requires.can reads (subst (λ busy. FileEnds {T = Unit {0}} SaysDone shape x k y j s (unlink s p busy) (NoneDone s) c.unlink.result) (none_open s c.args.busy.now c.requires.none closed) (c.unlink.ensures.leaves s reads)) c.done_reply-in-Unlink.ensures)
+    let is : c.args.request.now ≡ r = c.in-Unlink.is ∙ ap Unlink (sym c.as_slice-in-Ok.ensures) in
+    λ s serves. subst (λ a. RequestEnds shape y j c.args.table.now s a c.done_reply-in-Ok.result) (sym is) (request_ends {T = Unit {0}} SaysDone shape x k y j c.args.table.now s r c.unlink.result c.done_reply-in-Ok.result (λ v a b h i. h ∙ sym i) tt tt serves (subst (λ busy. FileEnds {T = Unit {0}} SaysDone shape x k y j (crashed s) (unlink (crashed s) p busy) (NoneDone (crashed s)) c.unlink.result) (c.in-Ok.ensures ∙ rows_open c.args.table.now s serves.regions.marked) (c.unlink.ensures.leaves (crashed s) serves.reads)) c.done_reply-in-Ok.ensures)
 
-pub returns-in-Unlink-clause-ends : goal.returns-in-Unlink-clause-ends
-returns-in-Unlink-clause-ends g c = reply_ends {T = Unit {0}} SaysDone _ _ c.unlink.result c.done_reply-in-Unlink.result (λ v n h. no_done h) c.done_reply-in-Unlink.ensures c.unlink.ensures.ends
+pub returns-in-Ok-clause-ends : goal.returns-in-Ok-clause-ends
+returns-in-Ok-clause-ends g c = reply_ends {T = Unit {0}} SaysDone _ _ c.unlink.result c.done_reply-in-Ok.result (λ v n h. no_done h) c.done_reply-in-Ok.ensures c.unlink.ensures.ends
+
+pub returns-in-Err-clause-answered : goal.returns-in-Err-clause-answered
+returns-in-Err-clause-answered g c =
+    let shape = c.args.shape.now in
+    let x = g.V.Blocks.seen c.args.v.now in
+    let k = g.V.Volume.kept c.args.v.now in
+    λ s serves. subst (λ a. RequestEnds shape x k c.args.table.now s a (Ok (RefusedBy 31))) (sym c.in-Unlink.is) (lacks_memory shape x k c.args.table.now s (Unlink c.in-Unlink.path) tt serves)
 
 pub returns-in-Rmdir-clause-answered : goal.returns-in-Rmdir-clause-answered
 returns-in-Rmdir-clause-answered g c =
@@ -111,26 +168,33 @@ returns-in-Rmdir-clause-answered g c =
     let p = c.as_slice-in-Rmdir.result.now in
     let r = Rmdir p in
     let is : c.args.request.now ≡ r = c.in-Rmdir.is ∙ ap Rmdir (sym c.as_slice-in-Rmdir.ensures) in
-    λ s reads closed. subst (λ a. RequestEnds shape x k y j s a c.done_reply-in-Rmdir.result) (sym is) (request_ends {T = Unit {0}} SaysDone shape x k y j s r c.rmdir.result c.done_reply-in-Rmdir.result (λ v a b h i. h ∙ sym i) tt c.requires.can reads (c.rmdir.ensures.leaves s reads) c.done_reply-in-Rmdir.ensures)
+    λ s serves. subst (λ a. RequestEnds shape y j c.args.table.now s a c.done_reply-in-Rmdir.result) (sym is) (request_ends {T = Unit {0}} SaysDone shape x k y j c.args.table.now s r c.rmdir.result c.done_reply-in-Rmdir.result (λ v a b h i. h ∙ sym i) tt tt serves (c.rmdir.ensures.leaves (crashed s) serves.reads) c.done_reply-in-Rmdir.ensures)
 
 pub returns-in-Rmdir-clause-ends : goal.returns-in-Rmdir-clause-ends
 returns-in-Rmdir-clause-ends g c = reply_ends {T = Unit {0}} SaysDone _ _ c.rmdir.result c.done_reply-in-Rmdir.result (λ v n h. no_done h) c.done_reply-in-Rmdir.ensures c.rmdir.ensures.ends
 
-pub returns-in-Rename-clause-answered : goal.returns-in-Rename-clause-answered
-returns-in-Rename-clause-answered g c =
+pub returns-in-Ok-open_list-clause-answered : goal.returns-in-Ok-open_list-clause-answered
+returns-in-Ok-open_list-clause-answered g c =
     let shape = c.args.shape.now in
     let x = g.V.Blocks.seen c.args.v.now in
     let k = g.V.Volume.kept c.args.v.now in
     let y = g.V.Blocks.seen c.rename.new.v in
     let j = g.V.Volume.kept c.rename.new.v in
-    let p = c.as_slice-in-Rename.result.now in
-    let q = c.as_slice-in-Rename-2.result.now in
+    let p = c.as_slice-in-Ok-open_list.result.now in
+    let q = c.as_slice-in-Ok-open_list-2.result.now in
     let r = Rename p q in
-    let is : c.args.request.now ≡ r = c.in-Rename.is ∙ ap (λ a. Rename a c.in-Rename.to) (sym c.as_slice-in-Rename.ensures) ∙ ap (Rename p) (sym c.as_slice-in-Rename-2.ensures) in
-    λ s reads closed. subst (λ a. RequestEnds shape x k y j s a c.done_reply-in-Rename.result) (sym is) (request_ends {T = Unit {0}} SaysDone shape x k y j s r c.rename.result c.done_reply-in-Rename.result (λ v a b h i. h ∙ sym i) tt c.requires.can reads (subst (λ busy. FileEnds {T = Unit {0}} SaysDone shape x k y j s (rename s p q busy) (NoneDone s) c.rename.result) (none_open s c.args.busy.now c.requires.none closed) (c.rename.ensures.leaves s reads)) c.done_reply-in-Rename.ensures)
+    let is : c.args.request.now ≡ r = c.in-Rename.is ∙ ap (λ a. Rename a c.in-Rename.to) (sym c.as_slice-in-Ok-open_list.ensures) ∙ ap (Rename p) (sym c.as_slice-in-Ok-open_list-2.ensures) in
+    λ s serves. subst (λ a. RequestEnds shape y j c.args.table.now s a c.done_reply-in-Ok-open_list.result) (sym is) (request_ends {T = Unit {0}} SaysDone shape x k y j c.args.table.now s r c.rename.result c.done_reply-in-Ok-open_list.result (λ v a b h i. h ∙ sym i) tt tt serves (subst (λ busy. FileEnds {T = Unit {0}} SaysDone shape x k y j (crashed s) (rename (crashed s) p q busy) (NoneDone (crashed s)) c.rename.result) (c.in-Ok-open_list.ensures ∙ rows_open c.args.table.now s serves.regions.marked) (c.rename.ensures.leaves (crashed s) serves.reads)) c.done_reply-in-Ok-open_list.ensures)
 
-pub returns-in-Rename-clause-ends : goal.returns-in-Rename-clause-ends
-returns-in-Rename-clause-ends g c = reply_ends {T = Unit {0}} SaysDone _ _ c.rename.result c.done_reply-in-Rename.result (λ v n h. no_done h) c.done_reply-in-Rename.ensures c.rename.ensures.ends
+pub returns-in-Ok-open_list-clause-ends : goal.returns-in-Ok-open_list-clause-ends
+returns-in-Ok-open_list-clause-ends g c = reply_ends {T = Unit {0}} SaysDone _ _ c.rename.result c.done_reply-in-Ok-open_list.result (λ v n h. no_done h) c.done_reply-in-Ok-open_list.ensures c.rename.ensures.ends
+
+pub returns-in-Err-open_list-clause-answered : goal.returns-in-Err-open_list-clause-answered
+returns-in-Err-open_list-clause-answered g c =
+    let shape = c.args.shape.now in
+    let x = g.V.Blocks.seen c.args.v.now in
+    let k = g.V.Volume.kept c.args.v.now in
+    λ s serves. subst (λ a. RequestEnds shape x k c.args.table.now s a (Ok (RefusedBy 31))) (sym c.in-Rename.is) (lacks_memory shape x k c.args.table.now s (Rename c.in-Rename.path c.in-Rename.to) tt serves)
 
 pub returns-in-Stat-clause-answered : goal.returns-in-Stat-clause-answered
 returns-in-Stat-clause-answered g c =
@@ -142,7 +206,7 @@ returns-in-Stat-clause-answered g c =
     let p = c.as_slice-in-Stat.result.now in
     let r = StatOf p in
     let is : c.args.request.now ≡ r = c.in-Stat.is ∙ ap StatOf (sym c.as_slice-in-Stat.ensures) in
-    λ s reads closed. subst (λ a. RequestEnds shape x k y j s a c.stat_reply.result) (sym is) (request_ends SaysStat shape x k y j s r c.stat.result c.stat_reply.result (λ v a b h i. h ∙ sym i) tt c.requires.can reads (c.stat.ensures.leaves s reads) c.stat_reply.ensures)
+    λ s serves. subst (λ a. RequestEnds shape y j c.args.table.now s a c.stat_reply.result) (sym is) (request_ends SaysStat shape x k y j c.args.table.now s r c.stat.result c.stat_reply.result (λ v a b h i. h ∙ sym i) tt tt serves (c.stat.ensures.leaves (crashed s) serves.reads) c.stat_reply.ensures)
 
 pub returns-in-Stat-clause-ends : goal.returns-in-Stat-clause-ends
 returns-in-Stat-clause-ends g c = reply_ends SaysStat _ _ c.stat.result c.stat_reply.result (λ v n h. no_stat h) c.stat_reply.ensures c.stat.ensures.ends
@@ -157,21 +221,12 @@ returns-in-List-clause-answered g c =
     let p = c.as_slice-in-List.result.now in
     let r = ListOf p in
     let is : c.args.request.now ≡ r = c.in-List.is ∙ ap ListOf (sym c.as_slice-in-List.ensures) in
-    λ s reads closed. subst (λ a. RequestEnds shape x k y j s a c.names_reply.result) (sym is) (request_ends SaysNames shape x k y j s r c.list.result c.names_reply.result (λ v a b h i. h ∙ sym i) tt c.requires.can reads (c.list.ensures.leaves s reads) c.names_reply.ensures)
+    λ s serves. subst (λ a. RequestEnds shape y j c.args.table.now s a c.names_reply.result) (sym is) (request_ends SaysNames shape x k y j c.args.table.now s r c.list.result c.names_reply.result (λ v a b h i. h ∙ sym i) tt tt serves (c.list.ensures.leaves (crashed s) serves.reads) c.names_reply.ensures)
 
 pub returns-in-List-clause-ends : goal.returns-in-List-clause-ends
 returns-in-List-clause-ends g c = reply_ends SaysNames _ _ c.list.result c.names_reply.result (λ v n h. no_names h) c.names_reply.ensures c.list.ensures.ends
 
 pub returns-in_default : goal.returns-in_default
 returns-in_default g c =
-    let shape = c.args.shape.now in
-    let x = g.V.Blocks.seen c.args.v.now in
-    let k = g.V.Volume.kept c.args.v.now in
     let d = c.in_default in
-    let none : Unserved c.args.request.now = record { mkdir = d.not-Mkdir; create = d.not-Create; write = d.not-Write; read = d.not-Read; truncate = d.not-Truncate; unlink = d.not-Unlink; rmdir = d.not-Rmdir; rename = d.not-Rename; stat = d.not-Stat; list = d.not-List } in
-    record {
-      answered = λ s reads closed. unserved_ends shape x k s c.args.request.now none c.requires.files c.requires.can reads;
-      goes = goes_refl _ _;
-      ends = ends_by_well _ _ _ _ (le_refl _) refl (λ a. a) (λ e. cc);
-      sound = c.requires.sound;
-    }
+    absurd (none_other c.args.request.now (record { mkdir = d.not-Mkdir; create = d.not-Create; region = d.not-Region; write = d.not-Write; read = d.not-Read; truncate = d.not-Truncate; unlink = d.not-Unlink; rmdir = d.not-Rmdir; rename = d.not-Rename; stat = d.not-Stat; list = d.not-List }) c.requires.files)

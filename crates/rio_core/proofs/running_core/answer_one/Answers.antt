@@ -1,45 +1,59 @@
-use Rattle.std.proofs.Common.{Ok, sym, subst}
+use Rattle.std.proofs.Common.{Ok, sym, subst, refl}
+use Rattle.rio_requests.specs.Crash.{crashed}
 use Rattle.rio_requests.specs.declared.reply.Reply.TheVariants.{Ok as Done}
 use Rattle.file_store.specs.Ends.{Stands}
 use Rattle.page_cache.specs.Caches.{cache_below, cache_health, cache_kept, cache_seen}
 use Rattle.rio_core.specs.Serving.{Answering, Holds}
-use Rattle.rio_core.proofs.Served.{answering, can_serve, synced}
-use Rattle.rio_core.proofs.Unserved.{on_files}
+use Rattle.rio_core.proofs.Served.{answering, synced, txns_told, wild_refused}
 use Rattle.rio_core.proofs.running_core.answer_one.Goals as goal
-
-pub answer_on-requires : goal.answer_on-requires
-answer_on-requires g c =
-    let shape = c.args.core.now.shape in
-    let m = c.args.core.now.cache.machine in
-    let x = cache_seen (g.M.Machine.contents m) in
-    let k = cache_kept (g.M.Machine.contents m) c.args.core.now.cache.tables in
-    let h = cache_health (g.M.Machine.contents m) (g.M.Machine.run m) in
-    let b = cache_below (g.M.Machine.contents m) (g.M.Machine.run m) in
-    record {
-      sound = c.requires.sound;
-      can = can_serve shape x k h b c.requires.holds;
-      none = c.args.core.now.none;
-      request = c.requires.request;
-      files = on_files c.args.request.now c.in_default.not-Sync c.in_default.not-Flush;
-    }
 
 pub returns-in-Sync-clause-answered : goal.returns-in-Sync-clause-answered
 returns-in-Sync-clause-answered g c =
-    let shape = c.args.core.now.shape in
-    let m = c.args.core.now.cache.machine in
+    let shape = c.args.core.now.view.shape in
+    let m = c.args.core.now.view.v.machine in
+    let marks = c.args.core.now.table in
     let x = cache_seen (g.M.Machine.contents m) in
-    let k = cache_kept (g.M.Machine.contents m) c.args.core.now.cache.tables in
+    let k = cache_kept (g.M.Machine.contents m) c.args.core.now.view.v.tables in
     let h = cache_health (g.M.Machine.contents m) (g.M.Machine.run m) in
     let b = cache_below (g.M.Machine.contents m) (g.M.Machine.run m) in
-    λ s holds. subst (λ r. Answering (Holds shape x k h b) (Stands shape x k) s r (Ok Done)) (sym c.in-Sync.is) (synced shape x k h b s holds)
+    λ s holds. subst (λ r. Answering (Holds shape x k h b marks) (λ u. Stands shape x k (crashed u)) s r (Ok Done)) (sym c.in-Sync.is) (synced shape x k h b marks s holds)
 
-pub returns-in_default : goal.returns-in_default
-returns-in_default g c =
-    let shape = c.args.core.now.shape in
-    let m = c.args.core.now.cache.machine in
-    let n = c.answer_on.new.v.machine in
+pub returns-in-Txns-clause-answered : goal.returns-in-Txns-clause-answered
+returns-in-Txns-clause-answered g c =
+    let shape = c.args.core.now.view.shape in
+    let m = c.args.core.now.view.v.machine in
+    let marks = c.args.core.now.table in
     let x = cache_seen (g.M.Machine.contents m) in
-    let k = cache_kept (g.M.Machine.contents m) c.args.core.now.cache.tables in
+    let k = cache_kept (g.M.Machine.contents m) c.args.core.now.view.v.tables in
+    let h = cache_health (g.M.Machine.contents m) (g.M.Machine.run m) in
+    let b = cache_below (g.M.Machine.contents m) (g.M.Machine.run m) in
+    λ s holds. subst (λ r. Answering (Holds shape x k h b marks) (λ u. Stands shape x k (crashed u)) s r (Ok c.txns_reply.result)) (sym c.in-Txns.is) (txns_told shape x k h b marks s c.open_list.result c.txns_reply.result holds c.open_list.ensures c.txns_reply.ensures)
+
+pub returns-in-Begin-clause-answered : goal.returns-in-Begin-clause-answered
+returns-in-Begin-clause-answered g c =
+    let shape = c.args.core.now.view.shape in
+    let m = c.args.core.now.view.v.machine in
+    let n = c.answer_region.new.view.v.machine in
+    let marks = c.args.core.now.table in
+    let x = cache_seen (g.M.Machine.contents m) in
+    let k = cache_kept (g.M.Machine.contents m) c.args.core.now.view.v.tables in
+    let h = cache_health (g.M.Machine.contents m) (g.M.Machine.run m) in
+    let b = cache_below (g.M.Machine.contents m) (g.M.Machine.run m) in
+    let y = cache_seen (g.M.Machine.contents n) in
+    let j = cache_kept (g.M.Machine.contents n) c.answer_region.new.view.v.tables in
+    let e = cache_health (g.M.Machine.contents n) (g.M.Machine.run n) in
+    let d = cache_below (g.M.Machine.contents n) (g.M.Machine.run n) in
+    let call = c.answer_region.ensures in
+    λ s holds. answering shape x k h b marks c.answer_region.new.view.shape y j e d c.answer_region.new.table s c.args.request.now c.answer_region.result call.shape holds (call.answered s holds.serves) call.goes call.ends
+
+pub returns-in-Mkdir-clause-answered : goal.returns-in-Mkdir-clause-answered
+returns-in-Mkdir-clause-answered g c =
+    let shape = c.args.core.now.view.shape in
+    let m = c.args.core.now.view.v.machine in
+    let n = c.answer_on.new.v.machine in
+    let marks = c.args.core.now.table in
+    let x = cache_seen (g.M.Machine.contents m) in
+    let k = cache_kept (g.M.Machine.contents m) c.args.core.now.view.v.tables in
     let h = cache_health (g.M.Machine.contents m) (g.M.Machine.run m) in
     let b = cache_below (g.M.Machine.contents m) (g.M.Machine.run m) in
     let y = cache_seen (g.M.Machine.contents n) in
@@ -47,12 +61,23 @@ returns-in_default g c =
     let e = cache_health (g.M.Machine.contents n) (g.M.Machine.run n) in
     let d = cache_below (g.M.Machine.contents n) (g.M.Machine.run n) in
     let call = c.answer_on.ensures in
-    record {
-      answered = λ s holds. answering shape x k h b y j e d s c.args.request.now c.answer_on.result holds (call.answered s holds.reads holds.closed) call.goes call.ends;
-      sync = λ is. absurd (c.in_default.not-Sync is);
-      flushed = λ count is. absurd (c.in_default.not-Flush count is);
-      quiet = λ files. call.goes.quiet;
-      runs = call.goes.runs;
-      ends = call.ends;
-      sound = call.sound;
-    }
+    λ s holds. answering shape x k h b marks shape y j e d marks s c.args.request.now c.answer_on.result refl holds (call.answered s holds.serves) call.goes call.ends
+
+pub returns-in-Flush-clause-answered : goal.returns-in-Flush-clause-answered
+returns-in-Flush-clause-answered g c =
+    let n = c.flush_core.new.core in
+    let y = cache_seen (g.M.Machine.contents n.view.v.machine) in
+    let j = cache_kept (g.M.Machine.contents n.view.v.machine) n.view.v.tables in
+    let e = cache_health (g.M.Machine.contents n.view.v.machine) (g.M.Machine.run n.view.v.machine) in
+    let d = cache_below (g.M.Machine.contents n.view.v.machine) (g.M.Machine.run n.view.v.machine) in
+    λ s holds. subst (λ r. Answering (Holds n.view.shape y j e d n.table) (λ u. Stands n.view.shape y j (crashed u)) s r c.flush_core.result) (sym c.in-Flush.is) (c.flush_core.ensures.answered s holds)
+
+pub returns-in-Wild-clause-answered : goal.returns-in-Wild-clause-answered
+returns-in-Wild-clause-answered g c =
+    let shape = c.args.core.now.view.shape in
+    let m = c.args.core.now.view.v.machine in
+    let x = cache_seen (g.M.Machine.contents m) in
+    let k = cache_kept (g.M.Machine.contents m) c.args.core.now.view.v.tables in
+    let h = cache_health (g.M.Machine.contents m) (g.M.Machine.run m) in
+    let b = cache_below (g.M.Machine.contents m) (g.M.Machine.run m) in
+    λ s holds. wild_refused shape x k h b c.args.core.now.table s c.args.request.now c.in-Wild.is holds

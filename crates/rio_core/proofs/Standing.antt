@@ -1,0 +1,38 @@
+-- How a view comes to stand on the region at a path.
+use Rattle.std.proofs.Common.{◌≡◌, ℕ, List, Result, Ok, sym, subst}
+use Rattle.std.specs.Prelude.{IsErrOf}
+use Rattle.rio_base.specs.declared.failures.VolFail.{VolFail}
+use Rattle.rio_base.specs.declared.failures.VolFail.TheVariants.{Fault as VolFault, Stopped as VolStopped}
+use Rattle.rio_base.specs.declared.places.Ino.{Ino}
+use Rattle.rio_base.specs.declared.places.VolumeShape.{VolumeShape}
+use Rattle.rio_base.specs.Blocks.{Ends, EndsBy, Health, Seen}
+use Rattle.rio_base.specs.Rules.{ends_by, ends_by_after, ends_by_as}
+use Rattle.rio_base.specs.Volume.{Kept}
+use Rattle.rio_model.specs.declared.node.RegionNode.{RegionNode}
+use Rattle.rio_model.specs.declared.state.State.{State}
+use Rattle.rio_model.specs.Paths.{names_of}
+use Rattle.rio_requests.specs.Crash.{crashed}
+use Rattle.file_store.specs.Ends.{CanServe}
+use Rattle.file_store.specs.Failures.{Faulted}
+use Rattle.file_store.specs.NewRegions.{FindsRegion}
+use Rattle.file_store.specs.Views.{OnRegion}
+use Rattle.file_store.specs.declared.failures.FileFail.{FileFail}
+use Rattle.file_store.specs.declared.failures.FileFail.TheVariants.{Stopped}
+use Rattle.vista_region.specs.Ends.{Fits}
+use Rattle.vista_region.specs.Marks.{Marks}
+use Rattle.rio_core.specs.CallEnds.{CalledOn, words_at}
+use Rattle.rio_core.specs.Serving.{Serves}
+use Rattle.rio_core.proofs.RegionEnds.{called_fits, stood_on}
+use Rattle.rio_requests.specs.CrashRules.{walk_crashed}
+
+pub stand_ends : (s t u : Health) (i : Ino) (walked : Result Ino FileFail) (pointed : Result (Unit {0}) VolFail) (result : Result Ino FileFail) → walked ≡ Ok i → EndsBy s t (Faulted walked) (IsErrOf walked Stopped) → Ends t u pointed → (Faulted result → IsErrOf pointed VolFault) → (IsErrOf result Stopped → IsErrOf pointed VolStopped) → (IsErrOf pointed VolStopped → IsErrOf result Stopped) → EndsBy s u (Faulted result) (IsErrOf result Stopped)
+stand_ends s t u i walked pointed result is e h a b c = ends_by_after s t u (Faulted result) (IsErrOf result Stopped) e.later (e.runs (λ p. cc (is, p))) (ends_by_as t u (IsErrOf pointed VolFault) (IsErrOf pointed VolStopped) (Faulted result) (IsErrOf result Stopped) a b c (ends_by t u pointed h))
+
+pub serves_can : (shape : VolumeShape) (x : Seen) (k : Kept) (marks : Marks) (s : State) → Serves shape x k marks s → CanServe shape x k
+serves_can shape x k marks s h = record { ready = h.ready; state = crashed s; reads = h.reads }
+
+pub stands : (shape t : VolumeShape) (x z : Seen) (k l : Kept) (marks : Marks) (s : State) (path : List ℕ) (i : Ino) (n : ℕ) → Serves shape x k marks s → t ≡ shape → z.words ≡ x.words → FindsRegion (crashed s) path (Ok i) → OnRegion t z l i.0 n → (r : RegionNode) × CalledOn t z.words z.words marks s path i.0 n r
+stands shape t x z k l marks s path i n serves same words finds on = stood_on t x z k l marks s path i n (subst (λ (q : VolumeShape). Serves q x k marks s) (sym same) serves) words (walk_crashed s serves.regions.open_regions (names_of path) 1) finds on
+
+pub stands_fits : (shape t : VolumeShape) (x z : Seen) (k l : Kept) (marks : Marks) (s : State) (path : List ℕ) (i : Ino) (n : ℕ) → Serves shape x k marks s → t ≡ shape → z.words ≡ x.words → FindsRegion (crashed s) path (Ok i) → OnRegion t z l i.0 n → Fits marks i.0 n (words_at t z.words i.0)
+stands_fits shape t x z k l marks s path i n serves same words finds on = let at = stands shape t x z k l marks s path i n serves same words finds on in called_fits t z.words z.words marks s path i.0 n at.0 at.1

@@ -1,0 +1,11 @@
+use Rattle.std.proofs.Common.{ℕ, Result, Err, sym, subst, ap, ◌∙◌}
+use Rattle.vista_region.specs.Ends.{IsFault, says_number}
+use Rattle.vista_region.specs.declared.failures.TxnFail.{TxnFail}
+use Rattle.rio_core.specs.CallEnds.{TellsAs, told}
+use Rattle.rio_core.proofs.replies.number_reply.Goals as goal
+
+pub returns-in-Err-clause-tells : goal.returns-in-Err-clause-tells
+returns-in-Err-clause-tells c = subst (λ (a : Result (ℕ) TxnFail). TellsAs (told says_number a) c.txn_fail_reply.result) (sym c.in-Err.is) c.txn_fail_reply.ensures.tells
+
+pub returns-in-Err-clause-fault : goal.returns-in-Err-clause-fault
+returns-in-Err-clause-fault c p = let at = c.txn_fail_reply.ensures.fault p in subst (λ (a : Result (ℕ) TxnFail). IsFault a) (sym (c.in-Err.is ∙ ap (λ e. Err e) at.1)) tt

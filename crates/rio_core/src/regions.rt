@@ -1,0 +1,108 @@
+//! Requests on regions and their transactions, answered over a view of the region's words.
+
+ghost use Rattle.std.specs.Prelude.{◌≡◌, List, ℕ, IfOk, IsErr, IsErrOf, OnOk};
+ghost use Rattle.rio_base.specs.Blocks.{EndsBy};
+ghost use Rattle.rio_base.specs.Volume.{Goes};
+ghost use Rattle.rio_model.specs.declared.node.RegionNode.{RegionNode};
+ghost use Rattle.rio_model.specs.declared.state.State.{State};
+ghost use Rattle.rio_model.specs.Paths.{IsPath};
+ghost use Rattle.rio_model.specs.VolumeReads.{ReadsAs};
+ghost use Rattle.rio_model.specs.VolumeReady.{Ready};
+ghost use Rattle.rio_requests.specs.Requests.{IsRequest};
+ghost use Rattle.file_store.specs.Ends.{CanServe};
+ghost use Rattle.file_store.specs.Failures.{Faulted};
+ghost use Rattle.file_store.specs.NewRegions.{FindsRegion};
+ghost use Rattle.file_store.specs.Views.{OnRegion};
+ghost use Rattle.vista_region.specs.Ends.{Fits};
+ghost use Rattle.rio_core.specs.CallEnds.{CalledOn, IsAt, words_at};
+ghost use Rattle.rio_core.specs.Serving.{RequestEnds, Serves, TellsFault};
+
+use crate::replies::{BAD_REQUEST, begin_reply, fail_reply, get_reply, number_reply, txn_reply};
+use file_store::{FileFail, RegionView, region_of};
+use rio_base::{Ino, RegionWords, Stopped, VolFail, Volume};
+use rio_requests::{Reply, Request};
+use std::alloc::Global;
+use vista_region::OpenTable;
+
+/// Answers a request on the region at a path, and on its transaction.
+pub fn answer_region<V: Volume>(
+    alloc: Global,
+    view: &mut RegionView<V>,
+    table: &mut OpenTable,
+    path: &[u8],
+    request: &Request,
+) -> Result<Reply, Stopped>
+    requires sound { V.sound view.old.v }
+    requires serves { (s : State) × Serves view.old.shape (V.seen view.old.v) (V.kept view.old.v) table.old s }
+    requires request { IsRequest request.now }
+    requires path { IsPath path.now }
+    requires at { IsAt path.now request.now }
+    ensures answered { (s : State) → Serves view.old.shape (V.seen view.old.v) (V.kept view.old.v) table.old s → RequestEnds view.old.shape (V.seen view.new.v) (V.kept view.new.v) table.new s request.now result }
+    ensures shape { view.new.shape ≡ view.old.shape }
+    ensures goes { Goes (V.health view.old.v) (V.below view.old.v) (V.health view.new.v) (V.below view.new.v) }
+    ensures ends { EndsBy (V.health view.old.v) (V.health view.new.v) (TellsFault result) (IsErr result) }
+    ensures sound { V.sound view.new.v }
+{
+    match stand_on(view, path) {
+        Ok(_) => answer_at(alloc, view, table, request),
+        Err(fail) => fail_reply(fail),
+    }
+}
+
+/// Stands on the region at a path. After a failure the view stands where it stood.
+fn stand_on<V: Volume>(view: &mut RegionView<V>, path: &[u8]) -> Result<Ino, FileFail>
+    requires sound { V.sound view.old.v }
+    requires can { CanServe view.old.shape (V.seen view.old.v) (V.kept view.old.v) }
+    requires path { IsPath path.now }
+    ensures found { (s : State) → ReadsAs view.old.shape (V.seen view.old.v).words s → FindsRegion s path.now result }
+    ensures on { OnOk result (OnRegion view.new.shape (V.seen view.new.v) (V.kept view.new.v) view.new.ino.0 view.new.words) }
+    ensures ino { IfOk result (λ i. view.new.ino ≡ i) }
+    ensures shape { view.new.shape ≡ view.old.shape }
+    ensures words { (V.seen view.new.v).words ≡ (V.seen view.old.v).words }
+    ensures ready { Ready view.new.shape (V.seen view.new.v) (V.kept view.new.v) }
+    ensures goes { Goes (V.health view.old.v) (V.below view.old.v) (V.health view.new.v) (V.below view.new.v) }
+    ensures ends { EndsBy (V.health view.old.v) (V.health view.new.v) (Faulted result) (IsErrOf result FileFail.Stopped) }
+    ensures sound { V.sound view.new.v }
+{
+    let i = region_of(&mut view.v, &view.shape, path)?;
+    match view.point(i) {
+        Ok(()) => Ok(i),
+        Err(VolFail::Fault) => Err(FileFail::Fault(0)),
+        Err(VolFail::Stopped) => Err(FileFail::Stopped),
+    }
+}
+
+/// Answers a request on the region that the view stands on.
+fn answer_at<V: Volume>(
+    alloc: Global,
+    view: &mut RegionView<V>,
+    table: &mut OpenTable,
+    request: &Request,
+) -> Result<Reply, Stopped>
+    requires sound { V.sound view.old.v }
+    requires on { OnRegion view.old.shape (V.seen view.old.v) (V.kept view.old.v) view.old.ino.0 view.old.words }
+    requires fits { Fits table.old view.old.ino.0 view.old.words (words_at view.old.shape (V.seen view.old.v).words view.old.ino.0) }
+    requires request { IsRequest request.now }
+    requires at { (path : List ℕ) × IsAt path request.now }
+    ensures answered { (s : State) (path : List ℕ) (r : RegionNode) → CalledOn view.old.shape (V.seen view.old.v).words (V.seen view.old.v).words table.old s path view.old.ino.0 view.old.words r → IsAt path request.now → RequestEnds view.old.shape (V.seen view.new.v) (V.kept view.new.v) table.new s request.now result }
+    ensures shape { view.new.shape ≡ view.old.shape }
+    ensures goes { Goes (V.health view.old.v) (V.below view.old.v) (V.health view.new.v) (V.below view.new.v) }
+    ensures ends { EndsBy (V.health view.old.v) (V.health view.new.v) (TellsFault result) (IsErr result) }
+    ensures sound { V.sound view.new.v }
+{
+    let i = view.ino;
+    match request {
+        Request::Begin { .. } => Ok(begin_reply(table.begin(i))),
+        Request::Range { off, len, .. } => txn_reply(table.set_range(view, i, *off, *len)),
+        Request::Put { off, bytes, .. } => {
+            number_reply(table.put(view, i, *off, bytes.as_slice()))
+        }
+        Request::Get { off, len, .. } => get_reply(table.get(alloc, view, i, *off, *len)),
+        Request::Alloc { units, .. } => number_reply(table.allocate(view, i, *units)),
+        Request::Free { at, .. } => txn_reply(table.release(view, i, *at)),
+        Request::Commit { .. } => txn_reply(table.commit(view, i)),
+        Request::Abort { .. } => txn_reply(table.abort(view, i)),
+        // Not reached: other requests are answered elsewhere.
+        _ => Ok(Reply::Err(BAD_REQUEST)),
+    }
+}
