@@ -5,6 +5,7 @@ pub mod HeldRules
 pub mod Lookups
 pub mod ReadMoves
 pub mod Recoveries
+pub mod Recovering
 pub mod RegionEnds
 pub mod RegionReplies
 pub mod RegionRequests
