@@ -1,9 +1,10 @@
 -- Hexadecimal digits, as the decoder reads them.
-use Rattle.std.proofs.Common.{◌≡◌, ◌<◌, ◌≤◌, ℕ, zero, suc, ◌+◌, ◌-◌, ◌*◌, ◌/◌, ◌%◌, max, Bool, true, ◌&&◌, ◌==◌, nat_lt, if◌then◌else◌, List, ◌++◌, length, drop, Option, Some, None, MatchOption, MatchBool, ◌⊎◌, bit_or, refl, arith, slice_index, slice_set, ap, inl, inr, sym, subst, ◌∙◌}
+use Rattle.std.proofs.Common.{◌≡◌, ◌<◌, ◌≤◌, ℕ, zero, suc, ◌+◌, ◌-◌, ◌*◌, ◌/◌, ◌%◌, max, min, Bool, true, ◌&&◌, ◌==◌, nat_lt, if◌then◌else◌, List, [], ◌∷◌, ◌++◌, length, take, drop, Option, Some, None, MatchOption, MatchBool, ◌⊎◌, bit_or, refl, arith, slice_index, slice_set, ap, inl, inr, sym, subst, ◌∙◌}
 use Rattle.std.proofs.lemmas.Bool.Decides.{nat_tests, Decides-below_and}
 use Rattle.std.proofs.lemmas.Bool.{cases_lt}
-use Rattle.std.proofs.lemmas.List.{get_or_append_left, get_or-drop, get_or-set_same, get_or-set_other, length-drop, length-append, length-set, drop-drop}
-use Rattle.std.proofs.Math.Seq.{drop-append_seam}
+use Rattle.std.proofs.lemmas.List.{get_or_append_left, get_or-drop, length-drop, length-append, length-set, length-take-le, drop-drop, take_all}
+use Rattle.std.proofs.lemmas.Grind.{take-set_at}
+use Rattle.std.proofs.Math.Seq.{drop-append_seam, get_or-append_seam}
 use Rattle.hex.specs.Hex.{hex_digit_value}
 use Rattle.request_codec.specs.Form.{AreDigitsOf, IsHexOf}
 
@@ -21,21 +22,19 @@ lowers_each = (Decides-below_and lowers (λ c. lowers c ≡ true) lowers_below (
 pub lower_case : (c : ℕ) → c < 256 → ((c / 32 % 2 ≡ 0) × (bit_or c 32 ≡ c + 32)) ⊎ ((c / 32 % 2 ≡ 1) × (bit_or c 32 ≡ c))
 lower_case c small = let h = lowers_each c small in grind (arith, nat_tests, h)
 
-pub letter_by : (c u : ℕ) → c < 256 → ((c / 32 % 2 ≡ 0) × (u ≡ c + 32)) ⊎ ((c / 32 % 2 ≡ 1) × (u ≡ c)) → (u + 159) % 256 < 6 → MatchOption (hex_digit_value c) ((u + 159) % 256 + 10 ≡ 255) (λ v. ((u + 159) % 256 + 10 ≡ v) × (v < 16))
-letter_by c u small lower letter = grind (arith, nat_tests)
-
-pub other_by : (c u : ℕ) → c < 256 → ((c / 32 % 2 ≡ 0) × (u ≡ c + 32)) ⊎ ((c / 32 % 2 ≡ 1) × (u ≡ c)) → 10 ≤ (c + 208) % 256 → 6 ≤ (u + 159) % 256 → hex_digit_value c ≡ None
-other_by c u small lower decimal letter = grind (arith, nat_tests)
-
--- v is the value of the digit c, and 255 where c is no digit
+-- v is the value of the digit c, and 16 or more where c is no digit
 abbrev pub IsValue : ℕ → ℕ → Type 0
-IsValue c v = MatchOption (hex_digit_value c) (v ≡ 255) (λ x. (v ≡ x) × (x < 16))
+IsValue c v = MatchOption (hex_digit_value c) (16 ≤ v) (λ x. (v ≡ x) × (x < 16))
 
-matched_some : (o : Option ℕ) (v : ℕ) → MatchOption o (v ≡ 255) (λ x. (v ≡ x) × (x < 16)) → v < 16 → o ≡ Some v
+-- the least of what a decimal digit and a letter would give, each 16 or more where the byte is none
+pub value_by : (c u d letter v : ℕ) → c < 256 → ((c / 32 % 2 ≡ 0) × (u ≡ c + 32)) ⊎ ((c / 32 % 2 ≡ 1) × (u ≡ c)) → (((c + 208) % 256 < 10) × (d ≡ (c + 208) % 256)) ⊎ ((10 ≤ (c + 208) % 256) × (d ≡ 255)) → letter ≡ min ((u + 159) % 256 + 10) 255 → v ≡ min d letter → IsValue c v
+value_by c u d letter v small lower decimal by least = grind (arith, nat_tests)
+
+matched_some : (o : Option ℕ) (v : ℕ) → MatchOption o (16 ≤ v) (λ x. (v ≡ x) × (x < 16)) → v < 16 → o ≡ Some v
 matched_some None v h small = absurd (omega arith)
 matched_some (Some x) v h small = ap Some (sym h.0)
 
-matched_none : (o : Option ℕ) (v : ℕ) → MatchOption o (v ≡ 255) (λ x. (v ≡ x) × (x < 16)) → 16 ≤ v → o ≡ None
+matched_none : (o : Option ℕ) (v : ℕ) → MatchOption o (16 ≤ v) (λ x. (v ≡ x) × (x < 16)) → 16 ≤ v → o ≡ None
 matched_none None v h large = refl
 matched_none (Some x) v h large = absurd (omega (arith, h.0, h.1))
 
@@ -51,17 +50,15 @@ pub record HasOther (digits : List ℕ) (n : ℕ) : Type 0 where
   pub below : at < n
   pub other : (hex_digit_value (slice_index digits (2 * at)) ≡ None) ⊎ (hex_digit_value (slice_index digits (2 * at + 1)) ≡ None)
 
--- n pairs are decoded, and these digits are left
-pub record Decoded (digits out : List ℕ) (largest n : ℕ) (rest : List ℕ) : Type 0 where
-  pub fits : length digits ≡ 2 * length out
-  pub within : n ≤ length out
-  pub left : rest ≡ drop (2 * n) digits
-  pub good : largest < 16 → (k : ℕ) → k < n → AreDigitsOf (slice_index digits (2 * k)) (slice_index digits (2 * k + 1)) (slice_index out k)
-  pub bad : 16 ≤ largest → HasOther digits n
+-- these bytes are decoded, and these digits are left
+pub record Decoded (digits bytes : List ℕ) (largest : ℕ) (rest : List ℕ) : Type 0 where
+  pub within : 2 * length bytes ≤ length digits
+  pub left : rest ≡ drop (2 * length bytes) digits
+  pub good : largest < 16 → (k : ℕ) → k < length bytes → AreDigitsOf (slice_index digits (2 * k)) (slice_index digits (2 * k + 1)) (slice_index bytes k)
+  pub bad : 16 ≤ largest → HasOther digits (length bytes)
 
-pub decoded_none : (digits out : List ℕ) → length digits ≡ 2 * length out → Decoded digits out 0 0 digits
-decoded_none digits out fits = record {
-  fits = fits;
+pub decoded_none : (digits : List ℕ) → Decoded digits [] 0 digits
+decoded_none digits = record {
   within = omega arith;
   left = refl;
   good = λ small k below. absurd (omega arith);
@@ -86,21 +83,25 @@ next_left digits rest pair more n left split two =
     let place : 2 * n + 2 ≡ 2 * (n + 1) = omega arith in
     sym cut ∙ ap (drop 2) left ∙ drop-drop 2 (2 * n) digits ∙ ap (λ k. drop k digits) place
 
-next_good : (digits out : List ℕ) (largest n high low : ℕ) → n < length out → IsValue (slice_index digits (2 * n)) high → IsValue (slice_index digits (2 * n + 1)) low
-    → (largest < 16 → (k : ℕ) → k < n → AreDigitsOf (slice_index digits (2 * k)) (slice_index digits (2 * k + 1)) (slice_index out k))
-    → max (max largest high) low < 16 → (k : ℕ) → k < n + 1 → AreDigitsOf (slice_index digits (2 * k)) (slice_index digits (2 * k + 1)) (slice_index (slice_set out n ((high * 16 % 256 + low) % 256)) k)
-next_good digits out largest n high low inside is_high is_low good small k below =
-    let byte : ℕ = (high * 16 % 256 + low) % 256 in
-    elim (cases_lt k n) [
-      | inl earlier ↦ subst (λ b. AreDigitsOf (slice_index digits (2 * k)) (slice_index digits (2 * k + 1)) b) (sym (get_or-set_other out n k byte 0 (λ e. absurd (omega arith)))) (good (omega arith) k earlier)
+-- the byte of two digits
+abbrev pub byte_of : ℕ → ℕ → ℕ
+byte_of high low = (high * 16 % 256 + low) % 256
+
+next_good : (digits bytes : List ℕ) (largest high low : ℕ) → IsValue (slice_index digits (2 * length bytes)) high → IsValue (slice_index digits (2 * length bytes + 1)) low
+    → (largest < 16 → (k : ℕ) → k < length bytes → AreDigitsOf (slice_index digits (2 * k)) (slice_index digits (2 * k + 1)) (slice_index bytes k))
+    → max (max largest high) low < 16 → (k : ℕ) → k < length bytes + 1 → AreDigitsOf (slice_index digits (2 * k)) (slice_index digits (2 * k + 1)) (slice_index (bytes ++ byte_of high low ∷ []) k)
+next_good digits bytes largest high low is_high is_low good small k below =
+    let made : List ℕ = bytes ++ byte_of high low ∷ [] in
+    elim (cases_lt k (length bytes)) [
+      | inl earlier ↦ subst (λ b. AreDigitsOf (slice_index digits (2 * k)) (slice_index digits (2 * k + 1)) b) (sym (get_or_append_left bytes (byte_of high low ∷ []) 0 k earlier)) (good (omega arith) k earlier)
       | inr later ↦
-          let same : n ≡ k = omega arith in
-          let new : slice_index (slice_set out n byte) n ≡ byte = get_or-set_same out n byte 0 inside in
-          subst (λ j. AreDigitsOf (slice_index digits (2 * j)) (slice_index digits (2 * j + 1)) (slice_index (slice_set out n byte) j)) same (record {
+          let same : length bytes ≡ k = omega arith in
+          let new : slice_index made (length bytes) ≡ byte_of high low = get_or-append_seam bytes (byte_of high low) [] 0 in
+          subst (λ j. AreDigitsOf (slice_index digits (2 * j)) (slice_index digits (2 * j + 1)) (slice_index made j)) same (record {
             high_value = high;
             low_value = low;
-            is_high = digit_of (slice_index digits (2 * n)) high is_high (omega arith);
-            is_low = digit_of (slice_index digits (2 * n + 1)) low is_low (omega arith);
+            is_high = digit_of (slice_index digits (2 * length bytes)) high is_high (omega arith);
+            is_low = digit_of (slice_index digits (2 * length bytes + 1)) low is_low (omega arith);
             value = new ∙ omega arith;
           })
     ]
@@ -115,44 +116,68 @@ next_bad digits largest n high low is_high is_low bad large =
       | inr before ↦ let old : HasOther digits n = bad before in record { at = old.at; below = omega arith; other = old.other }
     ]
 
-pub decoded_more : (digits out : List ℕ) (largest n : ℕ) (rest pair more : List ℕ) (high low : ℕ) → Decoded digits out largest n rest → rest ≡ pair ++ more → length pair ≡ 2 → IsValue (slice_index pair 0) high → IsValue (slice_index pair 1) low
-    → Decoded digits (slice_set out n ((high * 16 % 256 + low) % 256)) (max (max largest high) low) (n + 1) more
-decoded_more digits out largest n rest pair more high low old split two is_high is_low =
+pub decoded_more : (digits bytes : List ℕ) (largest high low new : ℕ) (rest pair more made : List ℕ) → Decoded digits bytes largest rest → rest ≡ pair ++ more → length pair ≡ 2 → IsValue (slice_index pair 0) high → IsValue (slice_index pair 1) low → new ≡ max (max largest high) low → made ≡ bytes ++ byte_of high low ∷ []
+    → Decoded digits made new more
+decoded_more digits bytes largest high low new rest pair more made old split two is_high is_low greatest is =
+    let n : ℕ = length bytes in
     let values = next_digits digits rest pair more n high low old.left split two is_high is_low in
     let size : length rest ≡ 2 + length more = ap length split ∙ length-append pair more ∙ ap (λ k. k + length more) two in
     let ahead : length rest ≡ length digits - 2 * n = ap length old.left ∙ length-drop (2 * n) digits in
-    let fits : length digits ≡ 2 * length out = old.fits in
-    let inside : n < length out = omega arith in
-    let byte : ℕ = (high * 16 % 256 + low) % 256 in
-    let kept : length (slice_set out n byte) ≡ length out = length-set out n byte in
+    let one_more : length (bytes ++ byte_of high low ∷ []) ≡ n + 1 = length-append bytes (byte_of high low ∷ []) in
+    subst (λ m. Decoded digits made m more) (sym greatest) (subst (λ xs. Decoded digits xs (max (max largest high) low) more) (sym is) (record {
+      within = omega (arith, one_more, size, ahead);
+      left = next_left digits rest pair more n old.left split two ∙ ap (λ k. drop (2 * k) digits) (sym one_more);
+      good = λ small k below. next_good digits bytes largest high low values.0 values.1 old.good small k (omega (arith, one_more, below));
+      bad = λ large. subst (λ k. HasOther digits k) (sym one_more) (next_bad digits largest n high low values.0 values.1 old.bad large);
+    }))
+
+-- the first n bytes are decoded, and these digits are left
+pub record DecodedInto (digits out : List ℕ) (largest n : ℕ) (rest : List ℕ) : Type 0 where
+  pub fits : length digits ≡ 2 * length out
+  pub within : n ≤ length out
+  pub front : Decoded digits (take n out) largest rest
+
+pub decoded_into_none : (digits out : List ℕ) → length digits ≡ 2 * length out → DecodedInto digits out 0 0 digits
+decoded_into_none digits out fits = record { fits = fits; within = omega arith; front = decoded_none digits }
+
+pub decoded_into_more : (digits out : List ℕ) (largest high low new n i m : ℕ) (rest pair more : List ℕ) → DecodedInto digits out largest n rest → rest ≡ pair ++ more → length pair ≡ 2 → IsValue (slice_index pair 0) high → IsValue (slice_index pair 1) low → new ≡ max (max largest high) low → i ≡ n → m ≡ n + 1
+    → DecodedInto digits (slice_set out i (byte_of high low)) new m more
+decoded_into_more digits out largest high low new n i m rest pair more old split two is_high is_low greatest here next =
+    let set : List ℕ = slice_set out i (byte_of high low) in
+    let kept : length set ≡ length out = length-set out i (byte_of high low) in
+    let size : length rest ≡ 2 + length more = ap length split ∙ length-append pair more ∙ ap (λ k. k + length more) two in
+    let count : length (take n out) ≡ n = length-take-le n out old.within in
+    let ahead : length rest ≡ length digits - 2 * n = ap length old.front.left ∙ length-drop (2 * length (take n out)) digits ∙ ap (λ k. length digits - 2 * k) count in
+    let inside : n < length out = omega (arith, size, ahead, old.fits) in
+    let made : take m set ≡ take n out ++ byte_of high low ∷ [] = ap (λ j. take m (slice_set out j (byte_of high low))) here ∙ take-set_at out n m (byte_of high low) next inside in
     record {
-      fits = fits ∙ ap (λ k. 2 * k) (sym kept);
-      within = omega arith;
-      left = next_left digits rest pair more n old.left split two;
-      good = next_good digits out largest n high low inside values.0 values.1 old.good;
-      bad = next_bad digits largest n high low values.0 values.1 old.bad;
+      fits = old.fits ∙ ap (λ k. 2 * k) (sym kept);
+      within = omega (arith, next, inside, kept);
+      front = decoded_more digits (take n out) largest high low new rest pair more (take m set) old.front split two is_high is_low greatest made;
     }
 
-pub decoded_step : (digits out : List ℕ) (largest n i m new : ℕ) (rest pair more : List ℕ) (high low : ℕ) → Decoded digits out largest n rest → rest ≡ pair ++ more → length pair ≡ 2 → IsValue (slice_index pair 0) high → IsValue (slice_index pair 1) low → i ≡ n → m ≡ n + 1 → new ≡ max (max largest high) low
-    → Decoded digits (slice_set out i ((high * 16 % 256 + low) % 256)) new m more
-decoded_step digits out largest n i m new rest pair more high low old split two is_high is_low here next greatest =
-    let made = decoded_more digits out largest n rest pair more high low old split two is_high is_low in
-    let byte : ℕ = (high * 16 % 256 + low) % 256 in
-    subst (λ j. Decoded digits (slice_set out j byte) new m more) (sym here)
-    (subst (λ j. Decoded digits (slice_set out n byte) new j more) (sym next)
-    (subst (λ j. Decoded digits (slice_set out n byte) j (n + 1) more) (sym greatest) made))
+all_decoded : (digits bytes : List ℕ) (largest n : ℕ) (rest : List ℕ) → Decoded digits bytes largest rest → length rest < 2 → length digits ≡ 2 * n → length digits ≡ 2 * length bytes
+all_decoded digits bytes largest n rest h short even =
+    let ahead : length rest ≡ length digits - 2 * length bytes = ap length h.left ∙ length-drop (2 * length bytes) digits in
+    omega (arith, ahead, h.within, short, even)
+
+pub all_digits : (digits bytes : List ℕ) (largest n : ℕ) (rest : List ℕ) → Decoded digits bytes largest rest → length rest < 2 → length digits ≡ 2 * n → largest < 16 → IsHexOf digits bytes
+all_digits digits bytes largest n rest h short even small = record { two = all_decoded digits bytes largest n rest h short even; each = h.good small }
+
+pub not_all_digits : (digits bytes : List ℕ) (largest n : ℕ) (rest : List ℕ) → Decoded digits bytes largest rest → length rest < 2 → length digits ≡ 2 * n → 16 ≤ largest → (others : List ℕ) → IsHexOf digits others → ⊥
+not_all_digits digits bytes largest n rest h short even large others is =
+    let all : length digits ≡ 2 * length bytes = all_decoded digits bytes largest n rest h short even in
+    let other : HasOther digits (length bytes) = h.bad large in
+    let digits_there = is.each other.at (omega (arith, is.two, all, other.below)) in
+    elim other.other [ inl none ↦ cc (none, digits_there.is_high) | inr none ↦ cc (none, digits_there.is_low) ]
 
 match_lt : (a b : ℕ) (P Q : Type 0) → (a < b → P) → (b ≤ a → Q) → MatchBool (nat_lt a b) P Q
 match_lt a b P Q below above = grind (arith, nat_tests)
 
-pub decoded_all : (digits out : List ℕ) (largest n : ℕ) (rest : List ℕ) → Decoded digits out largest n rest → length rest < 2 → MatchBool (nat_lt largest 16) (IsHexOf digits out) ((bytes : List ℕ) → IsHexOf digits bytes → ⊥)
+pub decoded_all : (digits out : List ℕ) (largest n : ℕ) (rest : List ℕ) → DecodedInto digits out largest n rest → length rest < 2 → MatchBool (nat_lt largest 16) (IsHexOf digits out) ((bytes : List ℕ) → IsHexOf digits bytes → ⊥)
 decoded_all digits out largest n rest h short =
-    let ahead : length rest ≡ length digits - 2 * n = ap length h.left ∙ length-drop (2 * n) digits in
-    let fits : length digits ≡ 2 * length out = h.fits in
-    let all : n ≡ length out = omega (arith, h.within) in
+    let all : length digits ≡ 2 * length (take n out) = all_decoded digits (take n out) largest (length out) rest h.front short h.fits in
+    let whole : take n out ≡ out = take_all n out (omega (arith, all, h.fits, length-take-le n out h.within)) in
     match_lt largest 16 _ _
-    (λ small. record { two = fits; each = λ k below. h.good small k (omega arith) })
-    (λ large bytes is.
-    let other : HasOther digits n = h.bad large in
-    let digits_there = is.each other.at (omega (arith, is.two, other.below)) in
-    elim other.other [ inl none ↦ cc (none, digits_there.is_high) | inr none ↦ cc (none, digits_there.is_low) ])
+    (λ small. subst (λ xs. IsHexOf digits xs) whole (all_digits digits (take n out) largest (length out) rest h.front short h.fits small))
+    (λ large. not_all_digits digits (take n out) largest (length out) rest h.front short h.fits large)

@@ -2,6 +2,7 @@ pub mod Cuts
 pub mod Digits
 pub mod Gathering
 pub mod Held
+pub mod HeldLines
 pub mod LineEnds
 pub mod Meanings
 pub mod Names

@@ -41,6 +41,14 @@ pub record TakesLine (old : Reading) (old_left : Option (List ℕ)) (line : List
   pub passed : Passes old old_left (ended line) new new_left
       ⊎ (Passes old old_left line new new_left × (line ≢ []) × HasEnded new new_left)
 
+-- The reader holds the next line up to its end.
+pub record HoldsLine (reading : Reading) (line : List ℕ) : Type 0 where
+  pub whole : HasNoEnd line
+  pub short : length line ≤ 131072
+  pub rest : List ℕ
+  pub held : reading.held ≡ ended line ++ rest
+  pub unended : reading.ended ≡ false
+
 -- The reader passed over bytes in which no line ends.
 pub record TakesPart (old : Reading) (old_left : Option (List ℕ)) (part : List ℕ) (new : Reading) (new_left : Option (List ℕ)) : Type 0 where
   pub whole : HasNoEnd part

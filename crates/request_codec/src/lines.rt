@@ -1,13 +1,14 @@
 //! Lines of an input, read in large pieces.
 
-ghost use Rattle.std.specs.Prelude.{◌≡◌, ◌≤◌, ◌^◌, true, false, [], Ok, IfOk, IfErr, OnErr, OnOk, IsErrOf};
+ghost use Rattle.std.specs.Prelude.{◌≡◌, ◌≤◌, ◌^◌, ℕ, true, false, [], List, Option, Ok, IfOk, IfErr, IfSome, OnErr, OnOk, IsErrOf, length};
 ghost use Rattle.request_codec.specs.declared.lines.NextLine.TheVariants.{End};
 ghost use Rattle.rio_base.specs.Counts.{Rose};
 ghost use Rattle.rio_base.specs.Streams.{IsSpent};
-ghost use Rattle.request_codec.specs.Lines.{Fails, Gives, HasEnded, Refills};
+ghost use Rattle.request_codec.specs.Lines.{Fails, Gives, HasEnded, HoldsLine, Refills, TakesLine};
 
 use crate::gathered::{Gathered, gather};
 use crate::piece::Piece;
+use memchr::memchr;
 use rio_base::{Octets, Source};
 use std::alloc::{AllocError, Global};
 use std::marker::Model;
@@ -85,6 +86,25 @@ impl LineReader {
             taken: 0,
             ended: false,
         })
+    }
+
+    /// The next line without its end, lent, where it is held up to that. `pass_line` passes over it.
+    pub fn held_line(&self) -> Option<&[u8]>
+        ensures line { IfSome result (λ line. HoldsLine self.now line.now) }
+    {
+        let held = self.piece.held();
+        let end = memchr(b'\n', held)?;
+        Some(&held[..end])
+    }
+
+    /// Passes over the next line, which has so many bytes, and its end. Both must be held.
+    pub fn pass_line(&mut self, len: usize)
+        requires held { (line : List ℕ) × HoldsLine self.old line × (length line ≡ len) }
+        ensures passed { (line : List ℕ) (left : Option (List ℕ)) → HoldsLine self.old line → length line ≡ len → TakesLine self.old left line self.new left }
+        ensures taken { self.new.taken ≡ self.old.taken }
+        ensures unended { self.new.ended ≡ false }
+    {
+        self.piece.skip(len + 1);
     }
 
     /// The next line of the input, which must not have gone past its limit. Once the input has ended it isn't read

@@ -6,7 +6,7 @@ ghost use Rattle.rio_model.specs.Paths.{IsPath};
 ghost use Rattle.request_codec.specs.Form.{IsHexOf, IsNumber, Data, PathNumber, PathNumbers, PathData, Paths, NumberValue, NumbersValue};
 ghost use Rattle.request_codec.specs.Fronts.{IsCut, HasPath, HasNumber, HasPathNumber};
 
-use crate::hex_digits::decode_into;
+use crate::hex_digits::decode;
 use crate::number::{number_of, value_of};
 use crate::path::is_path;
 use memchr::memchr;
@@ -123,10 +123,5 @@ fn data_of(alloc: Global, digits: &[u8]) -> Result<Option<Octets>, AllocError>
     if digits.len() != 2 * count || count > DATA_BYTES {
         return Ok(None);
     }
-    let mut bytes = vec![in alloc; 0u8; count]?;
-    if decode_into(digits, &mut bytes) {
-        Ok(Some(Octets::from(bytes)))
-    } else {
-        Ok(None)
-    }
+    decode(alloc, digits, count)
 }

@@ -20,13 +20,13 @@ pub struct Piece {
 }
 
 impl Model for Piece {
-    ghost use Rattle.std.specs.Prelude.{List, ℕ, ◌-◌, ◌≤◌, ◌<◌, length, take, drop};
+    ghost use Rattle.std.specs.Prelude.{List, ℕ, ◌≡◌, ◌-◌, ◌≤◌, length, take, drop};
 
     ghost Value = { List ℕ };
 
     ghost view = { λ a. take (a.end - a.start) (drop a.start a.bytes.items) };
 
-    ghost invariant = { λ a. (a.start ≤ a.end) × (a.end ≤ length a.bytes.items) × (0 < length a.bytes.items) };
+    ghost invariant = { λ a. (a.start ≤ a.end) × (a.end ≤ length a.bytes.items) × (length a.bytes.items ≡ 131072) };
 }
 
 impl Piece {
@@ -44,7 +44,8 @@ impl Piece {
 
     /// The bytes, lent.
     pub fn held(&self) -> &[u8]
-        ensures { result.now ≡ self.now }
+        ensures bytes { result.now ≡ self.now }
+        ensures few { length result.now ≤ 131072 }
     {
         &self.bytes[self.start..self.end]
     }

@@ -15,7 +15,7 @@ use crate::ends::ServeEnd;
 use request_codec::{
     LineFail, LineReader, NextLine, ROOM_BYTES, long_lines_mean_nothing, parse_line, write_reply_in,
 };
-use rio_base::{Failed, Machine, Octets, Sink, Source, Stopped};
+use rio_base::{Failed, Machine, Sink, Source, Stopped};
 use rio_core::{Core, Server};
 use rio_requests::{Reply, Request};
 use std::alloc::{AllocError, Global};
@@ -124,7 +124,8 @@ fn serve_lines<C: Server, S: Source, K: Sink>(
     }
 }
 
-/// What the next line asks for, or `None` where it is no request; or why no line comes.
+/// What the next line asks for, or `None` where it is no request; or why no line comes. A line that is held whole, as most
+/// are, is read where it stands.
 fn ask<S: Source>(
     alloc: Global,
     reader: &mut LineReader,
@@ -137,8 +138,14 @@ fn ask<S: Source>(
     ensures later { S.faults source.old ≤ S.faults source.new }
     ensures cause { IsErrOf result ServeEnd.SourceFault → Rose (S.faults source.old) (S.faults source.new) }
 {
+    if let Some(line) = reader.held_line() {
+        let len = line.len();
+        let request = meaning_of(alloc, line)?;
+        reader.pass_line(len);
+        return Ok(request);
+    }
     match reader.next_line(source) {
-        Ok(NextLine::Line(line)) => meaning_of(alloc, line),
+        Ok(NextLine::Line(line)) => meaning_of(alloc, line.as_slice()),
         Ok(NextLine::TooLong) => {
             long_lines_mean_nothing();
             Ok(None)
@@ -151,12 +158,12 @@ fn ask<S: Source>(
 }
 
 /// What a line asks for, or that it is no request.
-fn meaning_of(alloc: Global, line: Octets) -> Result<Option<Request>, ServeEnd>
-    ensures meaning { IfOk result (Means line) }
+fn meaning_of(alloc: Global, line: &[u8]) -> Result<Option<Request>, ServeEnd>
+    ensures meaning { IfOk result (Means line.now) }
     ensures request { IfOk result (λ request. IfSome request IsRequest) }
     ensures memory { IfErr result (λ end. end ≡ ServeEnd.Memory) }
 {
-    match parse_line(alloc, line.as_slice()) {
+    match parse_line(alloc, line) {
         Ok(request) => Ok(request),
         Err(_) => Err(ServeEnd::Memory),
     }

@@ -1,5 +1,5 @@
 use Rattle.std.proofs.Common.{◌∙◌, ap, max}
-use Rattle.request_codec.proofs.Digits.{decoded_step}
+use Rattle.request_codec.proofs.Digits.{decoded_into_more}
 use Rattle.request_codec.proofs.hex_digits.decode_into.Goals as goal
 
 pub loop-i-preserved : goal.loop-i-preserved
@@ -8,5 +8,5 @@ loop-i-preserved c =
     let size = c.loop-i.invariant.size in
     record {
       size = step.0.0 ∙ size;
-      decoded = decoded_step _ _ _ _ _ _ _ _ _ _ _ _ c.loop-i.invariant.decoded step.0.1.0 (step.0.1.1 ∙ size) c.value-high.ensures c.value-low.ensures step.1 step.2 (c.max-largest.ensures ∙ ap (λ m. max m c.value-low.result) c.max.ensures);
+      decoded = decoded_into_more _ _ _ _ _ _ _ _ _ _ _ _ c.loop-i.invariant.decoded step.0.1.0 (step.0.1.1 ∙ size) c.value-high.ensures c.value-low.ensures (c.max-largest.ensures ∙ ap (λ m. max m c.value-low.result) c.max.ensures) step.1 step.2;
     }
