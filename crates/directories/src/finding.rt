@@ -144,8 +144,41 @@ fn find_in_pages<V: Blocks>(
     Ok(None)
 }
 
-/// What a name of a directory names, and the slot of its entry; `None` exactly where the directory has no such name. Any
-/// bytes may be asked for. `Fault` and `Stopped` are those of reading the directory.
+/// What a name of a directory, which has this inode, names, and the slot of its entry; `None` exactly where the directory has
+/// no such name. Any bytes may be asked for. `Fault` and `Stopped` are those of reading the directory.
+pub fn find_with<V: Blocks>(
+    v: &mut V,
+    shape: &VolumeShape,
+    dir: Ino,
+    inode: &Inode,
+    name: &[u8],
+) -> Result<Option<(Ino, u32)>, VolFail>
+    requires sound { V.sound v.old }
+    requires shape { HasShape shape.now (V.seen v.old) }
+    requires mapped { IsMapped shape.now (V.seen v.old).words }
+    requires named { AllNamed (volume_layout shape.now (V.seen v.old).words) (V.seen v.old) }
+    requires entries { EntryRule (held_of shape.now (V.seen v.old).words) }
+    requires dir { (held_of shape.now (V.seen v.old).words dir.0).kind ≡ 1 }
+    requires inode { IsInode (V.seen v.old).words dir.0 inode.now }
+    ensures value { IfOk result (Finds (held_of shape.now (V.seen v.old).words dir.0) name.now) }
+    ensures looks { Looks (V.seen v.old) (V.seen v.new) }
+    ensures shape { HasShape shape.now (V.seen v.new) }
+    ensures named { AllNamed (volume_layout shape.now (V.seen v.old).words) (V.seen v.new) }
+    ensures passes { V.passes v.old v.new }
+    ensures ends { Ends (V.health v.old) (V.health v.new) result }
+    ensures sound { V.sound v.new }
+{
+    if name.is_empty() {
+        return Ok(None);
+    }
+    if name.len() > NAME_BYTES {
+        return Ok(None);
+    }
+    let key = NameKey::new(name);
+    find_in_pages(v, shape, dir, inode, name, &key)
+}
+
+/// The same of a directory whose inode is not read yet.
 pub fn find<V: Blocks>(
     v: &mut V,
     shape: &VolumeShape,
@@ -166,13 +199,6 @@ pub fn find<V: Blocks>(
     ensures ends { Ends (V.health v.old) (V.health v.new) result }
     ensures sound { V.sound v.new }
 {
-    if name.is_empty() {
-        return Ok(None);
-    }
-    if name.len() > NAME_BYTES {
-        return Ok(None);
-    }
-    let key = NameKey::new(name);
     let inode = dir_inode(v, shape, dir)?;
-    find_in_pages(v, shape, dir, &inode, name, &key)
+    find_with(v, shape, dir, &inode, name)
 }

@@ -17,7 +17,7 @@ mod test_dirs;
 
 pub use applying::apply;
 pub use changes::DirChange;
-pub use finding::find;
+pub use finding::{find, find_with};
 pub use listing::names;
 pub use planning::{plan_add, plan_set};
 pub use removing::{plan_remove, plan_replace};

@@ -24,6 +24,7 @@ pub mod RegionPlanned
 pub mod RegionRead
 pub mod RegionRoom
 pub mod RegionRows
+pub mod RegionStood
 pub mod RenamedAs
 pub mod RenamedRows
 pub mod Requested

@@ -29,7 +29,7 @@ use Rattle.file_store.specs.Failures.{Refuses, Unrefused}
 use Rattle.file_store.proofs.Reached.{kind_held}
 use Rattle.file_store.specs.RowReads.{dir_kind}
 use Rattle.file_store.specs.WalkRules.{walk_on, walk_over}
-use Rattle.file_store.specs.Walks.{Comes, FileComes, RowComes}
+use Rattle.file_store.specs.Walks.{Comes, FileComes, RowComes, ino_in}
 use Rattle.file_store.specs.declared.walking.Row.{Row}
 
 -- ---- an inode that is used
@@ -170,6 +170,10 @@ walk_next s i j name more h = walk_over s i (name ∷ []) more ∙ ap (λ (w : R
 -- the same walk, by another name
 pub comes_same : (walked other : Result ℕ ℕ) (q : Result Ino FileFail) → walked ≡ other → Comes other q → Comes walked q
 comes_same walked other q same h = subst (λ (w : Result ℕ ℕ). Comes w q) (sym same) h
+
+-- where its inode is told too: that failed
+pub comes_in : (walked : Result ℕ ℕ) (r : Result (Ino × Inode) FileFail) (q : Result Ino FileFail) (e d : FileFail) → r ≡ Err e → q ≡ Err d → d ≡ e → Comes walked (ino_in r) → Comes walked q
+comes_in walked r q e d re qd de h = subst (λ (v : Result Ino FileFail). Comes walked v) (ap ino_in re ∙ sym (qd ∙ ap Err de)) h
 
 -- ---- an inode that was read
 

@@ -13,9 +13,10 @@ use Rattle.rio_model.specs.Held.{held_of}
 use Rattle.rio_model.specs.Paths.{names_of, walk}
 use Rattle.rio_model.specs.VolumeReadRules.{reads_dir, reads_file, reads_region}
 use Rattle.rio_model.specs.VolumeReads.{ReadsAs, region_in}
+use Rattle.inode_table.specs.declared.inode.Inode.{Inode}
 use Rattle.file_store.specs.Failures.{Unrefused}
 use Rattle.file_store.specs.NewRegions.{FindsRegion}
-use Rattle.file_store.specs.Walks.{Comes}
+use Rattle.file_store.specs.Walks.{Comes, ino_in}
 use Rattle.file_store.specs.declared.failures.FileFail.{FileFail}
 use Rattle.file_store.specs.declared.failures.FileFail.TheVariants.{Refused, Fault, Stopped, Memory}
 use Rattle.file_store.proofs.LookedAt.{used_ino}
@@ -61,6 +62,10 @@ found_other shape f s path i reads at used other = inr (i, at, (λ r. no_region 
 pub found_region : (shape : VolumeShape) (f : BlockWords) (s : State) (path : List ℕ) (i : Ino) → ReadsAs shape f s → walk s 1 (names_of path) ≡ Ok i.0 → (held_of shape f i.0).kind ≡ 3 → FindsRegion s path (Ok i)
 found_region shape f s path i reads at region = (at, (region_in (held_of shape f i.0).word, reads.reads.nodes i.0 ∙ reads_region (held_of shape f i.0) region))
 
+-- where its inode is told too: that failed
+pub found_on : (s : State) (path : List ℕ) (r : Result (Ino × Inode) FileFail) (q : Result Ino FileFail) (e d : FileFail) → r ≡ Err e → q ≡ Err d → d ≡ e → FindsRegion s path (ino_in r) → FindsRegion s path q
+found_on s path r q e d re qd de h = subst (λ (v : Result Ino FileFail). FindsRegion s path v) (ap ino_in re ∙ sym (qd ∙ ap Err de)) h
+
 -- ---- no memory is taken
 
 walk_memory : (walked : Result ℕ ℕ) (e : FileFail) → Comes walked (Err e) → e ≡ Memory → ⊥
@@ -69,7 +74,7 @@ walk_memory walked (Fault k) h is = absurd (cc (is))
 walk_memory walked Stopped h is = absurd (cc (is))
 walk_memory walked Memory h is = h
 
-pub found_memory : (walked : Result ℕ ℕ) (r q : Result Ino FileFail) (e d : FileFail) → r ≡ Err e → q ≡ Err d → d ≡ e → Comes walked r → IsErrOf q Memory → ⊥
+pub found_memory : {U : Type 0} (walked : Result ℕ ℕ) (r : Result Ino FileFail) (q : Result U FileFail) (e d : FileFail) → r ≡ Err e → q ≡ Err d → d ≡ e → Comes walked r → IsErrOf q Memory → ⊥
 found_memory walked r q e d re qd de h is = walk_memory walked e (subst (λ (v : Result Ino FileFail). Comes walked v) re h) (cc (qd, de, is))
 
 inode_memory : (T : Type 0) (e : FileFail) → Unrefused {T = T} (Err e) → e ≡ Memory → ⊥
@@ -78,5 +83,8 @@ inode_memory T (Fault k) h is = absurd (cc (is))
 inode_memory T Stopped h is = absurd (cc (is))
 inode_memory T Memory h is = h
 
-pub read_memory : {T : Type 0} (r : Result T FileFail) (q : Result Ino FileFail) (e d : FileFail) → r ≡ Err e → q ≡ Err d → d ≡ e → Unrefused r → IsErrOf q Memory → ⊥
+pub read_memory : {T U : Type 0} (r : Result T FileFail) (q : Result U FileFail) (e d : FileFail) → r ≡ Err e → q ≡ Err d → d ≡ e → Unrefused r → IsErrOf q Memory → ⊥
 read_memory {T = T} r q e d re qd de h is = inode_memory T e (subst (λ (v : Result T FileFail). Unrefused v) re h) (cc (qd, de, is))
+
+pub memory_on : {T U : Type 0} (r : Result T FileFail) (q : Result U FileFail) (e d : FileFail) → r ≡ Err e → q ≡ Err d → d ≡ e → (IsErrOf r Memory → ⊥) → IsErrOf q Memory → ⊥
+memory_on r q e d re qd de none is = none (cc (re, qd, de, is))

@@ -15,10 +15,12 @@ use Rattle.rio_model.specs.Held.{Held, held_of}
 use Rattle.rio_model.specs.HeldRules.{counts_of, held_ino, page_counts}
 use Rattle.rio_model.specs.NodeChanges.{IsAt}
 use Rattle.rio_model.specs.Placed.{Slot, AtPage, Placed, HasSlot, placed_at, Layout, volume_layout, Owns, AgreesBeside}
-use Rattle.rio_model.specs.PlacedRules.{SameLayout, lays_same, lays_self, page_page}
+use Rattle.rio_model.specs.PlacedRules.{SameLayout, direct_of, inode_low, lays_same, lays_self, lies_self, page_page}
 use Rattle.rio_model.specs.VolumeReady.{Bears, NamesPage, Ready}
 use Rattle.rio_model.specs.VolumeRules.{IsMapped}
 use Rattle.rio_model.specs.WordRules.{beside_page, held_at_old, held_beside, held_put, lays_beside, mapped_beside, put_beside_node, put_same_but, run_same_but}
+use Rattle.inode_table.specs.declared.inode.Inode.{Inode}
+use Rattle.inode_table.specs.Inodes.{IsInode}
 use Rattle.file_pages.specs.OrderRules.{firm_layout, firm_on, named_layout, ready_order}
 use Rattle.file_store.specs.Views.{IsWordName, IsWordPage, RestHeld}
 use Rattle.file_store.proofs.RegionParts.{put_none}
@@ -38,6 +40,10 @@ word_page shape f g i at b mapped region less is same = subst (λ e. IsWordPage 
   where
     h : HasHeader shape f i
     h = has_header shape f i mapped region
+
+-- the inode has the number of an early page
+pub direct_page : (shape : VolumeShape) (f : BlockWords) (i at : ℕ) (n : Inode) → IsMapped shape f → (held_of shape f i).kind ≡ 3 → 8 * at < (held_of shape f i).size → IsInode f i n → at / 512 < 24 → IsWordPage shape f i at (slice_index n.direct (at / 512))
+direct_page shape f i at n mapped region less is few = word_page shape f f i at _ mapped region less (is.direct (at / 512) few ∙ direct_of f i (placed_at f i) (at / 512) (lies_self f i) few (page_owned shape f i at mapped region less).slot) refl
 
 -- it is one of the volume's
 pub page_below : (shape : VolumeShape) (y : Seen) (j : Kept) (i at b : ℕ) → Ready shape y j → IsWordPage shape y.words i at b → b < y.count
@@ -130,6 +136,7 @@ rest_held shape i f g mapped ino beside =
       others = λ j away. held_beside shape i f g mapped beside j away;
       kind = ap (λ (h : Held). h.kind) now ∙ sym (ap (λ (h : Held). h.kind) was);
       size = ap (λ (h : Held). h.size) now ∙ sym (ap (λ (h : Held). h.size) was);
+      inode = λ w few. beside.low _ _ (inode_low shape i mapped.laid.shape_fits ino);
     }
 
 -- ---- the words of it

@@ -159,3 +159,7 @@ on_again shape stop_after v w i words sound h again = record {
   where
     now : (list_seen w).words ≡ (list_seen v).words
     now = ap flat (again.words ∙ sound.idle h.ready.idle)
+
+-- so it has its inode
+pub inode_again : (shape : VolumeShape) (stop_after : Option ℕ) (v w : ListVolume) (i words : ℕ) (n : Inode) → ListSound v → OnRegion shape (list_seen v) (list_kept v) i words → IsRestarted stop_after v w → IsInode (list_seen v).words i n → IsInode (list_seen w).words i n
+inode_again shape stop_after v w i words n sound h again is = subst (λ f. IsInode f i n) (sym (ap flat (again.words ∙ sound.idle h.ready.idle))) is

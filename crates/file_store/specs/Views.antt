@@ -1,17 +1,19 @@
 -- A view of the words of one region's file: where it stands, and what calls on it leave of all that is no word of the region.
-use Rattle.std.proofs.Common.{◌≡◌, ◌≢◌, ℕ, ◌*◌, ◌/◌, ◌^◌, ◌<◌, ◌≤◌, true, cond, refl, sym, ap, subst, ◌∙◌, arith}
+use Rattle.std.proofs.Common.{◌≡◌, ◌≢◌, ℕ, ◌+◌, ◌*◌, ◌/◌, ◌^◌, ◌<◌, ◌≤◌, true, cond, refl, sym, ap, subst, ◌∙◌, arith}
 use Rattle.std.specs.Prelude.{nat_lt}
 use Rattle.std.proofs.lemmas.Bool.Decides.{nat_tests}
 use Rattle.rio_base.specs.declared.places.Ino.{Ino}
 use Rattle.rio_base.specs.declared.places.PageName.{PageName}
 use Rattle.rio_base.specs.declared.places.VolumeShape.{VolumeShape}
 use Rattle.rio_base.specs.Blocks.{BlockWords, Seen}
-use Rattle.rio_base.specs.Layout.{IsIno}
+use Rattle.rio_base.specs.Layout.{IsIno, half, inode_word}
 use Rattle.rio_base.specs.Volume.{Kept}
 use Rattle.rio_model.specs.Held.{Held, held, held_of}
 use Rattle.rio_model.specs.HeldRules.{held_ino}
 use Rattle.rio_model.specs.Placed.{AtPage, Owns, placed_at, volume_layout}
 use Rattle.rio_model.specs.VolumeReady.{Ready}
+use Rattle.inode_table.specs.declared.inode.Inode.{Inode}
+use Rattle.inode_table.specs.Inodes.{IsInode}
 
 -- inode i is a region of so many words, and the volume is ready for a call that changes it
 pub record OnRegion (shape : VolumeShape) (x : Seen) (k : Kept) (i words : ℕ) : Type 0 where
@@ -19,6 +21,10 @@ pub record OnRegion (shape : VolumeShape) (x : Seen) (k : Kept) (i words : ℕ) 
   pub ino : IsIno shape i
   pub region : (held_of shape x.words i).kind ≡ 3
   pub size : (held_of shape x.words i).size ≡ 8 * words
+
+-- what a view keeps of the inode of region i is what the blocks say
+abbrev pub KeepsInode : BlockWords → ℕ → Inode → Type 0
+KeepsInode f i inode = IsInode f i inode
 
 -- block b is the page of region i that has word `at`
 pub record IsWordPage (shape : VolumeShape) (f : BlockWords) (i at b : ℕ) : Type 0 where
@@ -33,11 +39,12 @@ pub record IsWordName (i at : ℕ) (name : PageName) : Type 0 where
   pub index : name.index ≡ at / 512
   pub size : name.size ≡ 4096
 
--- every other node holds what it held, and node i has its kind and its size
+-- every other node holds what it held, and node i has its kind, its size and all words of its inode
 pub record RestHeld (shape : VolumeShape) (i : ℕ) (f g : BlockWords) : Type 0 where
   pub others : (j : ℕ) → j ≢ i → held_of shape g j ≡ held_of shape f j
   pub kind : (held_of shape g i).kind ≡ (held_of shape f i).kind
   pub size : (held_of shape g i).size ≡ (held_of shape f i).size
+  pub inode : (w : ℕ) → w < 16 → inode_word g i w ≡ inode_word f i w
 
 -- one view and a later one: they stand on one region of one volume, and all else of it is held as before
 pub record SameBeside (s : VolumeShape) (i : Ino) (m : ℕ) (f : BlockWords) (t : VolumeShape) (j : Ino) (n : ℕ) (g : BlockWords) : Type 0 where
@@ -49,13 +56,14 @@ pub record SameBeside (s : VolumeShape) (i : Ino) (m : ℕ) (f : BlockWords) (t 
 -- ---- laws
 
 pub rest_refl : (shape : VolumeShape) (i : ℕ) (f : BlockWords) → RestHeld shape i f f
-rest_refl shape i f = record { others = λ j away. refl; kind = refl; size = refl }
+rest_refl shape i f = record { others = λ j away. refl; kind = refl; size = refl; inode = λ w few. refl }
 
 pub rest_trans : (shape : VolumeShape) (i : ℕ) (f g h : BlockWords) → RestHeld shape i f g → RestHeld shape i g h → RestHeld shape i f h
 rest_trans shape i f g h a b = record {
   others = λ j away. b.others j away ∙ a.others j away;
   kind = b.kind ∙ a.kind;
   size = b.size ∙ a.size;
+  inode = λ w few. b.inode w few ∙ a.inode w few;
 }
 
 -- nothing reads otherwise
@@ -76,6 +84,16 @@ beside_trans s i m f t j n g u k o h a b = record {
 -- a view that stood on a region stands on it still, where only words of it differ
 pub on_still : (shape : VolumeShape) (x : Seen) (k : Kept) (y : Seen) (j : Kept) (i words : ℕ) → OnRegion shape x k i words → Ready shape y j → RestHeld shape i x.words y.words → OnRegion shape y j i words
 on_still shape x k y j i words h ready rest = record { ready = ready; ino = h.ino; region = rest.kind ∙ h.region; size = rest.size ∙ h.size }
+
+-- and its inode says what it said
+pub inode_still : (shape : VolumeShape) (i : ℕ) (f g : BlockWords) (n : Inode) → IsInode f i n → RestHeld shape i f g → IsInode g i n
+inode_still shape i f g n is rest = record {
+  kind = is.kind ∙ sym (rest.inode 0 (omega arith));
+  size = is.size ∙ sym (rest.inode 1 (omega arith));
+  direct = λ p few. is.direct p few ∙ sym (ap (λ w. half w p) (rest.inode (2 + p / 2) (omega (arith, few))));
+  indirect = is.indirect ∙ sym (ap (λ w. half w 0) (rest.inode 14 (omega arith)));
+  double = is.double ∙ sym (ap (λ w. half w 0) (rest.inode 15 (omega arith)));
+}
 
 -- a region has few words
 pub few_words : (shape : VolumeShape) (x : Seen) (k : Kept) (i words : ℕ) → OnRegion shape x k i words → words < 2 ^ 32

@@ -10,11 +10,17 @@ use Rattle.rio_model.specs.declared.state.State.{State}
 use Rattle.rio_model.specs.States.{front_of, last_of}
 use Rattle.rio_model.specs.Held.{held_of}
 use Rattle.rio_model.specs.Paths.{walk_to_dir}
+use Rattle.inode_table.specs.declared.inode.Inode.{Inode}
 use Rattle.directories.specs.Rows.{IsEntry}
 use Rattle.rio_requests.specs.Answers.{found}
 use Rattle.file_store.specs.declared.failures.FileFail.{FileFail}
 use Rattle.file_store.specs.declared.failures.FileFail.TheVariants.{Refused, Fault, Stopped, Memory}
 use Rattle.file_store.specs.declared.walking.Row.{Row}
+
+-- a look-up that tells the inode of what it finds, without that
+abbrev pub ino_in : Result (Ino × Inode) FileFail → Result Ino FileFail
+ino_in (Ok at) = Ok at.0
+ino_in (Err e) = Err e
 
 -- a look-up answers what a walk in the state comes to; where it failed, no byte is done
 abbrev pub Comes : Result ℕ ℕ → Result Ino FileFail → Type 0

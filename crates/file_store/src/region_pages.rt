@@ -1,6 +1,7 @@
-//! The words of a region's file, read and stored in place. A call goes to the block of each page once.
+//! The words of a region's file, read and stored in place. The caller has the inode of the region, and a call goes to the
+//! block of each page once.
 
-ghost use Rattle.std.specs.Prelude.{◌≡◌, ◌+◌, ◌*◌, ◌%◌, ◌^◌, ◌<◌, ◌≤◌, IfOk, IsErrOf, OnOk, length};
+ghost use Rattle.std.specs.Prelude.{◌≡◌, ◌+◌, ◌*◌, ◌/◌, ◌%◌, ◌^◌, ◌<◌, ◌≤◌, IfOk, IsErrOf, OnOk, length};
 ghost use Rattle.rio_base.specs.Blocks.{Ends, FaultAt, as_word};
 ghost use Rattle.rio_base.specs.Layout.{IsIno};
 ghost use Rattle.rio_base.specs.Regions.{AreWords, OldOrPutWord, OldOrPutWords, put_word, put_words};
@@ -8,10 +9,11 @@ ghost use Rattle.rio_base.specs.Volume.{Goes};
 ghost use Rattle.rio_model.specs.Held.{held_of};
 ghost use Rattle.rio_model.specs.Placed.{volume_layout};
 ghost use Rattle.rio_model.specs.VolumeReady.{LeavesInUse, Ready};
+ghost use Rattle.inode_table.specs.Inodes.{IsInode};
 ghost use Rattle.file_store.specs.Views.{IsWordName, IsWordPage, RestHeld};
 
 use file_pages::block_of;
-use inode_table::read_inode;
+use inode_table::{Inode, read_inode};
 use rio_base::{Block, Ino, PageName, RunFail, VolFail, Volume, VolumeShape};
 
 /// Bytes of a page.
@@ -23,13 +25,16 @@ const PAGE_WORDS: u32 = 512;
 /// Bytes of a word.
 const WORD_BYTES: u64 = 8;
 
-/// How many words region `i` has.
-pub fn region_words<V: Volume>(v: &mut V, shape: &VolumeShape, i: Ino) -> Result<u32, VolFail>
+/// So many pages of a node are numbered in its inode.
+const DIRECT_PAGES: u32 = 24;
+
+/// The inode of region `i`.
+pub fn region_inode<V: Volume>(v: &mut V, shape: &VolumeShape, i: Ino) -> Result<Inode, VolFail>
     requires sound { V.sound v.old }
     requires ready { Ready shape.now (V.seen v.old) (V.kept v.old) }
     requires ino { IsIno shape.now i.0 }
     requires region { (held_of shape.now (V.seen v.old).words i.0).kind ≡ 3 }
-    ensures value { IfOk result (λ n. (held_of shape.now (V.seen v.old).words i.0).size ≡ 8 * n) }
+    ensures value { IfOk result (IsInode (V.seen v.old).words i.0) }
     ensures words { (V.seen v.new).words ≡ (V.seen v.old).words }
     ensures leaves { LeavesInUse (volume_layout shape.now (V.seen v.old).words) (V.seen v.old) (V.kept v.old) (V.seen v.new) (V.kept v.new) }
     ensures ready { Ready shape.now (V.seen v.new) (V.kept v.new) }
@@ -37,8 +42,15 @@ pub fn region_words<V: Volume>(v: &mut V, shape: &VolumeShape, i: Ino) -> Result
     ensures ends { Ends (V.health v.old) (V.health v.new) result }
     ensures sound { V.sound v.new }
 {
-    let inode = read_inode(v, shape, i)?;
-    Ok((inode.size / WORD_BYTES) as u32)
+    read_inode(v, shape, i)
+}
+
+/// How many words a region with this inode has.
+pub fn region_words(inode: &Inode) -> u32
+    requires few { inode.now.size < 2 ^ 35 }
+    ensures { result ≡ inode.now.size / 8 }
+{
+    (inode.size / WORD_BYTES) as u32
 }
 
 /// The name of the page of region `i` that has word `at`. A region has whole pages.
@@ -52,11 +64,18 @@ fn page_name(i: Ino, at: u32) -> PageName
     }
 }
 
-/// The block of that page.
-fn page_block<V: Volume>(v: &mut V, shape: &VolumeShape, i: Ino, at: u32) -> Result<Block, VolFail>
+/// The block of that page, by the inode of the region where that numbers it.
+fn page_block<V: Volume>(
+    v: &mut V,
+    shape: &VolumeShape,
+    i: Ino,
+    inode: &Inode,
+    at: u32,
+) -> Result<Block, VolFail>
     requires sound { V.sound v.old }
     requires ready { Ready shape.now (V.seen v.old) (V.kept v.old) }
     requires region { (held_of shape.now (V.seen v.old).words i.0).kind ≡ 3 }
+    requires inode { IsInode (V.seen v.old).words i.0 inode.now }
     requires place { 8 * at < (held_of shape.now (V.seen v.old).words i.0).size }
     ensures page { IfOk result (λ b. IsWordPage shape.now (V.seen v.new).words i.0 at b.0) }
     ensures words { (V.seen v.new).words ≡ (V.seen v.old).words }
@@ -65,7 +84,11 @@ fn page_block<V: Volume>(v: &mut V, shape: &VolumeShape, i: Ino, at: u32) -> Res
     ensures ends { Ends (V.health v.old) (V.health v.new) result }
     ensures sound { V.sound v.new }
 {
-    block_of(v, shape, i, at / PAGE_WORDS)
+    let page = at / PAGE_WORDS;
+    if page < DIRECT_PAGES {
+        return Ok(Block(inode.direct[page as usize]));
+    }
+    block_of(v, shape, i, page)
 }
 
 /// How many of `len` words from word `at` of a region on lie in one page with the first of them.
@@ -78,10 +101,17 @@ fn in_page(at: u32, len: usize) -> usize
 }
 
 /// Word `at` of region `i`.
-pub fn read_word<V: Volume>(v: &mut V, shape: &VolumeShape, i: Ino, at: u32) -> Result<u64, VolFail>
+pub fn read_word<V: Volume>(
+    v: &mut V,
+    shape: &VolumeShape,
+    i: Ino,
+    inode: &Inode,
+    at: u32,
+) -> Result<u64, VolFail>
     requires sound { V.sound v.old }
     requires ready { Ready shape.now (V.seen v.old) (V.kept v.old) }
     requires region { (held_of shape.now (V.seen v.old).words i.0).kind ≡ 3 }
+    requires inode { IsInode (V.seen v.old).words i.0 inode.now }
     requires place { 8 * at < (held_of shape.now (V.seen v.old).words i.0).size }
     ensures value { IfOk result (λ word. word ≡ (held_of shape.now (V.seen v.old).words i.0).word at) }
     ensures words { (V.seen v.new).words ≡ (V.seen v.old).words }
@@ -90,7 +120,7 @@ pub fn read_word<V: Volume>(v: &mut V, shape: &VolumeShape, i: Ino, at: u32) -> 
     ensures ends { Ends (V.health v.old) (V.health v.new) result }
     ensures sound { V.sound v.new }
 {
-    let b = page_block(v, shape, i, at)?;
+    let b = page_block(v, shape, i, inode, at)?;
     v.word(b, Some(page_name(i, at)), (at % PAGE_WORDS) as u16)
 }
 
@@ -100,12 +130,14 @@ fn read_part<V: Volume>(
     v: &mut V,
     shape: &VolumeShape,
     i: Ino,
+    inode: &Inode,
     at: u32,
     into: &mut [u64],
 ) -> Result<(), VolFail>
     requires sound { V.sound v.old }
     requires ready { Ready shape.now (V.seen v.old) (V.kept v.old) }
     requires region { (held_of shape.now (V.seen v.old).words i.0).kind ≡ 3 }
+    requires inode { IsInode (V.seen v.old).words i.0 inode.now }
     requires some { 0 < length into.old }
     requires within { at % 512 + length into.old ≤ 512 }
     requires place { 8 * (at + length into.old) ≤ (held_of shape.now (V.seen v.old).words i.0).size }
@@ -117,7 +149,7 @@ fn read_part<V: Volume>(
     ensures ends { Ends (V.health v.old) (V.health v.new) result }
     ensures sound { V.sound v.new }
 {
-    let b = page_block(v, shape, i, at)?;
+    let b = page_block(v, shape, i, inode, at)?;
     v.read_run(b, Some(page_name(i, at)), (at % PAGE_WORDS) as u16, into)
 }
 
@@ -127,6 +159,7 @@ fn read_more<V: Volume>(
     v: &mut V,
     shape: &VolumeShape,
     i: Ino,
+    inode: &Inode,
     at: u32,
     done: usize,
     into: &mut [u64],
@@ -134,6 +167,7 @@ fn read_more<V: Volume>(
     requires sound { V.sound v.old }
     requires ready { Ready shape.now (V.seen v.old) (V.kept v.old) }
     requires region { (held_of shape.now (V.seen v.old).words i.0).kind ≡ 3 }
+    requires inode { IsInode (V.seen v.old).words i.0 inode.now }
     requires some { done < length into.old }
     requires few { at + length into.old < 2 ^ 32 }
     requires place { 8 * (at + length into.old) ≤ (held_of shape.now (V.seen v.old).words i.0).size }
@@ -148,7 +182,7 @@ fn read_more<V: Volume>(
 {
     let first = at + done as u32;
     let end = done + in_page(first, into.len() - done);
-    read_part(v, shape, i, first, &mut into[done..end])?;
+    read_part(v, shape, i, inode, first, &mut into[done..end])?;
     Ok(end)
 }
 
@@ -157,12 +191,14 @@ pub fn read_words<V: Volume>(
     v: &mut V,
     shape: &VolumeShape,
     i: Ino,
+    inode: &Inode,
     at: u32,
     into: &mut [u64],
 ) -> Result<(), VolFail>
     requires sound { V.sound v.old }
     requires ready { Ready shape.now (V.seen v.old) (V.kept v.old) }
     requires region { (held_of shape.now (V.seen v.old).words i.0).kind ≡ 3 }
+    requires inode { IsInode (V.seen v.old).words i.0 inode.now }
     requires few { at + length into.old < 2 ^ 32 }
     requires place { 8 * (at + length into.old) ≤ (held_of shape.now (V.seen v.old).words i.0).size }
     ensures value { OnOk result (AreWords (held_of shape.now (V.seen v.old).words i.0).word at (length into.old) into.new) }
@@ -175,7 +211,7 @@ pub fn read_words<V: Volume>(
 {
     let mut done = 0;
     while done < into.len() {
-        done = read_more(v, shape, i, at, done, into)?;
+        done = read_more(v, shape, i, inode, at, done, into)?;
     }
     Ok(())
 }
@@ -185,12 +221,14 @@ pub fn store_word<V: Volume>(
     v: &mut V,
     shape: &VolumeShape,
     i: Ino,
+    inode: &Inode,
     at: u32,
     word: u64,
 ) -> Result<(), VolFail>
     requires sound { V.sound v.old }
     requires ready { Ready shape.now (V.seen v.old) (V.kept v.old) }
     requires region { (held_of shape.now (V.seen v.old).words i.0).kind ≡ 3 }
+    requires inode { IsInode (V.seen v.old).words i.0 inode.now }
     requires place { 8 * at < (held_of shape.now (V.seen v.old).words i.0).size }
     ensures ok { OnOk result ((held_of shape.now (V.seen v.new).words i.0).word ≡ put_word (held_of shape.now (V.seen v.old).words i.0).word at word) }
     ensures fault { IsErrOf result VolFail.Fault → (held_of shape.now (V.seen v.new).words i.0).word ≡ (held_of shape.now (V.seen v.old).words i.0).word }
@@ -201,7 +239,7 @@ pub fn store_word<V: Volume>(
     ensures ends { Ends (V.health v.old) (V.health v.new) result }
     ensures sound { V.sound v.new }
 {
-    let b = page_block(v, shape, i, at)?;
+    let b = page_block(v, shape, i, inode, at)?;
     v.store(b, Some(page_name(i, at)), (at % PAGE_WORDS) as u16, word)
 }
 
@@ -211,12 +249,14 @@ fn store_part<V: Volume>(
     v: &mut V,
     shape: &VolumeShape,
     i: Ino,
+    inode: &Inode,
     at: u32,
     from: &[u64],
 ) -> Result<(), RunFail>
     requires sound { V.sound v.old }
     requires ready { Ready shape.now (V.seen v.old) (V.kept v.old) }
     requires region { (held_of shape.now (V.seen v.old).words i.0).kind ≡ 3 }
+    requires inode { IsInode (V.seen v.old).words i.0 inode.now }
     requires some { 0 < length from.now }
     requires within { at % 512 + length from.now ≤ 512 }
     requires place { 8 * (at + length from.now) ≤ (held_of shape.now (V.seen v.old).words i.0).size }
@@ -229,7 +269,7 @@ fn store_part<V: Volume>(
     ensures ends { Ends (V.health v.old) (V.health v.new) (as_word result) }
     ensures sound { V.sound v.new }
 {
-    match page_block(v, shape, i, at) {
+    match page_block(v, shape, i, inode, at) {
         Ok(b) => v.store_run(b, Some(page_name(i, at)), (at % PAGE_WORDS) as u16, from),
         Err(VolFail::Fault) => Err(RunFail::Fault(0)),
         Err(VolFail::Stopped) => Err(RunFail::Stopped),
@@ -241,12 +281,14 @@ fn store_page<V: Volume>(
     v: &mut V,
     shape: &VolumeShape,
     i: Ino,
+    inode: &Inode,
     at: u32,
     from: &[u64],
 ) -> Result<usize, RunFail>
     requires sound { V.sound v.old }
     requires ready { Ready shape.now (V.seen v.old) (V.kept v.old) }
     requires region { (held_of shape.now (V.seen v.old).words i.0).kind ≡ 3 }
+    requires inode { IsInode (V.seen v.old).words i.0 inode.now }
     requires some { 0 < length from.now }
     requires place { 8 * (at + length from.now) ≤ (held_of shape.now (V.seen v.old).words i.0).size }
     ensures ok { IfOk result (λ n. (0 < n) × (n ≤ length from.now) × ((held_of shape.now (V.seen v.new).words i.0).word ≡ put_words (held_of shape.now (V.seen v.old).words i.0).word at n from.now)) }
@@ -259,7 +301,7 @@ fn store_page<V: Volume>(
     ensures sound { V.sound v.new }
 {
     let count = in_page(at, from.len());
-    match store_part(v, shape, i, at, &from[..count]) {
+    match store_part(v, shape, i, inode, at, &from[..count]) {
         Ok(()) => Ok(count),
         Err(RunFail::Fault(n)) => Err(RunFail::Fault(n)),
         Err(RunFail::Stopped) => Err(RunFail::Stopped),
@@ -272,12 +314,14 @@ pub fn store_words<V: Volume>(
     v: &mut V,
     shape: &VolumeShape,
     i: Ino,
+    inode: &Inode,
     at: u32,
     from: &[u64],
 ) -> Result<(), RunFail>
     requires sound { V.sound v.old }
     requires ready { Ready shape.now (V.seen v.old) (V.kept v.old) }
     requires region { (held_of shape.now (V.seen v.old).words i.0).kind ≡ 3 }
+    requires inode { IsInode (V.seen v.old).words i.0 inode.now }
     requires few { at + length from.now < 2 ^ 32 }
     requires place { 8 * (at + length from.now) ≤ (held_of shape.now (V.seen v.old).words i.0).size }
     ensures ok { OnOk result ((held_of shape.now (V.seen v.new).words i.0).word ≡ put_words (held_of shape.now (V.seen v.old).words i.0).word at (length from.now) from.now) }
@@ -291,7 +335,7 @@ pub fn store_words<V: Volume>(
 {
     let mut done = 0;
     while done < from.len() {
-        match store_page(v, shape, i, at + done as u32, &from[done..]) {
+        match store_page(v, shape, i, inode, at + done as u32, &from[done..]) {
             Ok(count) => done += count,
             Err(RunFail::Fault(n)) => return Err(RunFail::Fault(done as u32 + n)),
             Err(RunFail::Stopped) => return Err(RunFail::Stopped),

@@ -14,6 +14,7 @@ ghost use Rattle.rio_model.specs.Placed.{IsFree, volume_layout};
 ghost use Rattle.rio_model.specs.Sizes.{blocks_for};
 ghost use Rattle.rio_model.specs.VolumeReads.{ReadsAs};
 ghost use Rattle.rio_model.specs.VolumeReady.{LeavesInUse, Ready};
+ghost use Rattle.inode_table.specs.Inodes.{IsInode};
 ghost use Rattle.file_pages.specs.Changes.{Apart, Spares, free_beside};
 ghost use Rattle.file_pages.specs.Forgetting.{Forgets};
 ghost use Rattle.directories.specs.Rows.{HasRow};
@@ -22,7 +23,7 @@ ghost use Rattle.rio_requests.specs.Parts.{NoneDone};
 ghost use Rattle.file_store.specs.Ends.{CanServe, FileEnds, SaysIno, SaysNumber};
 ghost use Rattle.file_store.specs.Failures.{Faulted};
 ghost use Rattle.file_store.specs.NewRegions.{FindsRegion, FitRegion, PlansRegion, SizesRegion, header_name, header_words};
-ghost use Rattle.file_store.specs.Walks.{FreeRow};
+ghost use Rattle.file_store.specs.Walks.{FreeRow, ino_in};
 
 use crate::changes::{NodeChange, REGION, empty_inode, node_sized, two_changes};
 use crate::committing::commit_changes;
@@ -31,7 +32,7 @@ use crate::paths::{cut_last, is_root};
 use crate::walking::{dir_without, inode_of, walk};
 use directories::plan_add;
 use file_pages::{SizeFail, plan_size};
-use inode_table::least_free;
+use inode_table::{Inode, least_free};
 use rio_base::{Block, BlockList, Ino, PageName, RunFail, VolFail, Volume, VolumeShape};
 use std::alloc::Global;
 
@@ -236,6 +237,35 @@ pub fn make_region<V: Volume>(
     make_new_region(alloc, v, shape, dir, name, sizes)
 }
 
+/// The region at a path, and its inode. Takes no memory.
+pub fn region_at<V: Volume>(
+    v: &mut V,
+    shape: &VolumeShape,
+    path: &[u8],
+) -> Result<(Ino, Inode), FileFail>
+    requires sound { V.sound v.old }
+    requires can { CanServe shape.now (V.seen v.old) (V.kept v.old) }
+    requires path { IsPath path.now }
+    ensures found { (s : State) → ReadsAs shape.now (V.seen v.old).words s → FindsRegion s path.now (ino_in result) }
+    ensures region { IfOk result (λ at. (held_of shape.now (V.seen v.old).words at.0.0).kind ≡ 3) }
+    ensures ino { IfOk result (λ at. IsIno shape.now at.0.0) }
+    ensures inode { IfOk result (λ at. IsInode (V.seen v.old).words at.0.0 at.1) }
+    ensures leaves { LeavesInUse (volume_layout shape.now (V.seen v.old).words) (V.seen v.old) (V.kept v.old) (V.seen v.new) (V.kept v.new) }
+    ensures words { (V.seen v.new).words ≡ (V.seen v.old).words }
+    ensures can { CanServe shape.now (V.seen v.new) (V.kept v.new) }
+    ensures memory { IsErrOf result FileFail.Memory → ⊥ }
+    ensures goes { Goes (V.health v.old) (V.below v.old) (V.health v.new) (V.below v.new) }
+    ensures ends { EndsBy (V.health v.old) (V.health v.new) (Faulted result) (IsErrOf result FileFail.Stopped) }
+    ensures sound { V.sound v.new }
+{
+    let i = walk(v, shape, path)?;
+    let inode = inode_of(v, shape, i)?;
+    if inode.kind != REGION {
+        return Err(FileFail::Refused(NOT_A_REGION));
+    }
+    Ok((i, inode))
+}
+
 /// The inode of the region at a path. Takes no memory.
 pub fn region_of<V: Volume>(v: &mut V, shape: &VolumeShape, path: &[u8]) -> Result<Ino, FileFail>
     requires sound { V.sound v.old }
@@ -252,10 +282,6 @@ pub fn region_of<V: Volume>(v: &mut V, shape: &VolumeShape, path: &[u8]) -> Resu
     ensures ends { EndsBy (V.health v.old) (V.health v.new) (Faulted result) (IsErrOf result FileFail.Stopped) }
     ensures sound { V.sound v.new }
 {
-    let i = walk(v, shape, path)?;
-    let inode = inode_of(v, shape, i)?;
-    if inode.kind != REGION {
-        return Err(FileFail::Refused(NOT_A_REGION));
-    }
+    let (i, _) = region_at(v, shape, path)?;
     Ok(i)
 }

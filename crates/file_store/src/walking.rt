@@ -14,12 +14,12 @@ ghost use Rattle.inode_table.specs.Inodes.{IsInode};
 ghost use Rattle.directories.specs.Rows.{HasRow, IsEntry};
 ghost use Rattle.file_store.specs.Ends.{CanServe};
 ghost use Rattle.file_store.specs.Failures.{Faulted, Refuses, Unrefused};
-ghost use Rattle.file_store.specs.Walks.{Comes, FreeRow, IsRow, RowComes};
+ghost use Rattle.file_store.specs.Walks.{Comes, FreeRow, IsRow, RowComes, ino_in};
 
 use crate::changes::DIRECTORY;
 use crate::failures::{EXISTS, FileFail, NOT_A_DIRECTORY, NOT_FOUND};
 use crate::paths::{cut_last, name_end};
-use directories::find;
+use directories::find_with;
 use inode_table::{Inode, read_inode};
 use rio_base::{Ino, Volume, VolumeShape};
 
@@ -44,12 +44,13 @@ pub fn inode_of<V: Volume>(v: &mut V, shape: &VolumeShape, i: Ino) -> Result<Ino
     Ok(inode)
 }
 
-/// Refuses a node that is no directory.
-fn must_be_dir<V: Volume>(v: &mut V, shape: &VolumeShape, i: Ino) -> Result<(), FileFail>
+/// The inode of a directory. Refuses a node that is none.
+fn must_be_dir<V: Volume>(v: &mut V, shape: &VolumeShape, i: Ino) -> Result<Inode, FileFail>
     requires sound { V.sound v.old }
     requires can { CanServe shape.now (V.seen v.old) (V.kept v.old) }
     requires used { 0 < (held_of shape.now (V.seen v.old).words i.0).kind }
     ensures ok { OnOk result ((held_of shape.now (V.seen v.old).words i.0).kind ≡ 1) }
+    ensures inode { IfOk result (IsInode (V.seen v.old).words i.0) }
     ensures refused { Refuses result 4 ((held_of shape.now (V.seen v.old).words i.0).kind ≡ 1 → ⊥) }
     ensures leaves { LeavesInUse (volume_layout shape.now (V.seen v.old).words) (V.seen v.old) (V.kept v.old) (V.seen v.new) (V.kept v.new) }
     ensures words { (V.seen v.new).words ≡ (V.seen v.old).words }
@@ -62,19 +63,21 @@ fn must_be_dir<V: Volume>(v: &mut V, shape: &VolumeShape, i: Ino) -> Result<(), 
     if inode.kind != DIRECTORY {
         return Err(FileFail::Refused(NOT_A_DIRECTORY));
     }
-    Ok(())
+    Ok(inode)
 }
 
-/// What a name of a directory names, and the slot of its row.
-pub fn row_of<V: Volume>(
+/// What a name of a directory, which has this inode, names, and the slot of its row.
+fn row_of<V: Volume>(
     v: &mut V,
     shape: &VolumeShape,
     dir: Ino,
+    inode: &Inode,
     name: &[u8],
 ) -> Result<(Ino, u32), FileFail>
     requires sound { V.sound v.old }
     requires can { CanServe shape.now (V.seen v.old) (V.kept v.old) }
     requires dir { (held_of shape.now (V.seen v.old).words dir.0).kind ≡ 1 }
+    requires inode { IsInode (V.seen v.old).words dir.0 inode.now }
     ensures row { IfOk result (λ row. IsEntry (held_of shape.now (V.seen v.old).words dir.0) row.1 name.now row.0.0) }
     ensures refused { Refuses result 2 ((n : ℕ) → HasRow (held_of shape.now (V.seen v.old).words dir.0) name.now n → ⊥) }
     ensures leaves { LeavesInUse (volume_layout shape.now (V.seen v.old).words) (V.seen v.old) (V.kept v.old) (V.seen v.new) (V.kept v.new) }
@@ -84,7 +87,7 @@ pub fn row_of<V: Volume>(
     ensures ends { EndsBy (V.health v.old) (V.health v.new) (Faulted result) (IsErrOf result FileFail.Stopped) }
     ensures sound { V.sound v.new }
 {
-    match find(v, shape, dir, name)? {
+    match find_with(v, shape, dir, inode, name)? {
         Some(row) => Ok(row),
         None => Err(FileFail::Refused(NOT_FOUND)),
     }
@@ -104,8 +107,8 @@ fn step<V: Volume>(v: &mut V, shape: &VolumeShape, dir: Ino, name: &[u8]) -> Res
     ensures ends { EndsBy (V.health v.old) (V.health v.new) (Faulted result) (IsErrOf result FileFail.Stopped) }
     ensures sound { V.sound v.new }
 {
-    must_be_dir(v, shape, dir)?;
-    let (i, _) = row_of(v, shape, dir, name)?;
+    let inode = must_be_dir(v, shape, dir)?;
+    let (i, _) = row_of(v, shape, dir, &inode, name)?;
     Ok(i)
 }
 
@@ -132,6 +135,25 @@ pub fn walk<V: Volume>(v: &mut V, shape: &VolumeShape, path: &[u8]) -> Result<In
     Ok(i)
 }
 
+/// The directory at a path, and its inode.
+fn dir_at<V: Volume>(v: &mut V, shape: &VolumeShape, path: &[u8]) -> Result<(Ino, Inode), FileFail>
+    requires sound { V.sound v.old }
+    requires can { CanServe shape.now (V.seen v.old) (V.kept v.old) }
+    ensures value { (s : State) → ReadsAs shape.now (V.seen v.old).words s → Comes (walk_to_dir_of s (names_of path.now)) (ino_in result) }
+    ensures dir { IfOk result (λ at. (held_of shape.now (V.seen v.old).words at.0.0).kind ≡ 1) }
+    ensures inode { IfOk result (λ at. IsInode (V.seen v.old).words at.0.0 at.1) }
+    ensures leaves { LeavesInUse (volume_layout shape.now (V.seen v.old).words) (V.seen v.old) (V.kept v.old) (V.seen v.new) (V.kept v.new) }
+    ensures words { (V.seen v.new).words ≡ (V.seen v.old).words }
+    ensures can { CanServe shape.now (V.seen v.new) (V.kept v.new) }
+    ensures goes { Goes (V.health v.old) (V.below v.old) (V.health v.new) (V.below v.new) }
+    ensures ends { EndsBy (V.health v.old) (V.health v.new) (Faulted result) (IsErrOf result FileFail.Stopped) }
+    ensures sound { V.sound v.new }
+{
+    let dir = walk(v, shape, path)?;
+    let inode = must_be_dir(v, shape, dir)?;
+    Ok((dir, inode))
+}
+
 /// The directory at a path.
 pub fn walk_to_dir<V: Volume>(v: &mut V, shape: &VolumeShape, path: &[u8]) -> Result<Ino, FileFail>
     requires sound { V.sound v.old }
@@ -145,8 +167,7 @@ pub fn walk_to_dir<V: Volume>(v: &mut V, shape: &VolumeShape, path: &[u8]) -> Re
     ensures ends { EndsBy (V.health v.old) (V.health v.new) (Faulted result) (IsErrOf result FileFail.Stopped) }
     ensures sound { V.sound v.new }
 {
-    let dir = walk(v, shape, path)?;
-    must_be_dir(v, shape, dir)?;
+    let (dir, _) = dir_at(v, shape, path)?;
     Ok(dir)
 }
 
@@ -169,8 +190,8 @@ pub fn dir_without<V: Volume>(
     ensures ends { EndsBy (V.health v.old) (V.health v.new) (Faulted result) (IsErrOf result FileFail.Stopped) }
     ensures sound { V.sound v.new }
 {
-    let dir = walk_to_dir(v, shape, path)?;
-    if find(v, shape, dir, name)?.is_some() {
+    let (dir, inode) = dir_at(v, shape, path)?;
+    if find_with(v, shape, dir, &inode, name)?.is_some() {
         return Err(FileFail::Refused(EXISTS));
     }
     Ok(dir)
@@ -204,7 +225,7 @@ pub fn walk_to_row<V: Volume>(v: &mut V, shape: &VolumeShape, path: &[u8]) -> Re
     ensures sound { V.sound v.new }
 {
     let (front, name) = cut_last(path);
-    let dir = walk_to_dir(v, shape, front)?;
-    let (ino, slot) = row_of(v, shape, dir, name)?;
+    let (dir, inode) = dir_at(v, shape, front)?;
+    let (ino, slot) = row_of(v, shape, dir, &inode, name)?;
     Ok(Row { dir, slot, ino })
 }

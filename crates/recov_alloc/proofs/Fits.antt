@@ -1,8 +1,8 @@
 -- The lowest gap, by runs of free and of used units.
-use Rattle.std.proofs.Common.{◌≡◌, ◌≢◌, ℕ, ◌+◌, ◌-◌, ◌*◌, ◌/◌, ◌%◌, ◌<◌, ◌≤◌, ◌⊎◌, inl, inr, sym, ap, subst, ◌∙◌, arith, List, ◌^◌, bit_and}
+use Rattle.std.proofs.Common.{◌≡◌, ◌≢◌, ℕ, ◌+◌, ◌-◌, ◌*◌, ◌/◌, ◌%◌, ◌<◌, ◌≤◌, ◌⊎◌, inl, inr, sym, ap, subst, ◌∙◌, arith, List, ◌^◌}
 use Rattle.std.specs.Prelude.{slice_index}
 use Rattle.std.specs.Int.{bit_at}
-use Rattle.std.proofs.lemmas.Nat.Bits.{shr_and_one}
+use Rattle.std.proofs.lemmas.Nat.Bits.{bit_at_ones}
 use Rattle.rio_base.specs.Regions.{AreWords}
 use Rattle.rio_model.specs.Heap.{used, starts, IsFirstFit, IsGap}
 use Rattle.undo_list.specs.Bits.{IsOnes, IsZeros}
@@ -32,11 +32,6 @@ starts_bit l word page y is low high =
     let at : y / 64 ≡ page = omega arith in
     let bit : y % 64 ≡ y - 64 * page = omega arith in
     ap (λ j. bit_at (l (2 * j + 1)) (y % 64)) at ∙ ap (λ b. bit_at (l (2 * page + 1)) b) bit ∙ ap (λ w. bit_at w (y - 64 * page)) (sym is)
-
--- whether a block starts at a unit, as one bit of its word
-pub start_is : (l : ℕ → ℕ) (word t : ℕ) → word ≡ l (2 * (t / 64) + 1) → bit_and (word / 2 ^ (t % 64)) 1 ≡ starts l t
-unfolding starts
-start_is l word t is = shr_and_one word (t % 64) ∙ ap (λ w. bit_at w (t % 64)) is
 
 zeros_free : (l : ℕ → ℕ) (word page bit n : ℕ) → word ≡ l (2 * page) → IsZeros word bit n → (y : ℕ) → 64 * page + bit ≤ y → y < 64 * page + bit + n → used l y ≡ 0
 zeros_free l word page bit n is z y low high = used_bit l word page y is (omega arith) (omega (arith, z.within)) ∙ z.each (y - 64 * page) (omega arith) (omega arith)
@@ -121,6 +116,13 @@ some_ones word bit n m z inner o = by (grind arith)
         let none : bit_at word (bit + n + m) ≡ 0 = o.end (omega (arith, e, inside)) in
         let place : bit + n + m ≡ bit + n = omega (arith, e) in
         absurd (omega (arith, z.end inside, sym (ap (bit_at word) place) ∙ none))
+
+-- a word whose bits are all 1
+pub full_page : (l : ℕ → ℕ) (word page units before : ℕ) → word ≡ 2 ^ 64 - 1 → word ≡ l (2 * page) → Before l units (64 * page) before → Before l units (64 * (page + 1)) 0
+full_page l word page units before all is b = subst (λ x. Before l units x 0) (omega arith) (used_on l units (64 * page) before 64 b (omega arith) full)
+  where
+    full : (y : ℕ) → 64 * page ≤ y → y < 64 * page + 64 → used l y ≢ 0
+    full y low high = λ e. let one : used l y ≡ 1 = used_bit l word page y is low high ∙ ap (λ w. bit_at w (y - 64 * page)) all ∙ bit_at_ones 64 (y - 64 * page) (omega arith) in omega (arith, one, e)
 
 pub word_in : (f : ℕ → ℕ) (words : List ℕ) (page count i : ℕ) → AreWords f (2 * page) (2 * count) words → i < count → slice_index words (2 * i) ≡ f (2 * (page + i))
 word_in f words page count i h small = h.each (2 * i) (omega arith) ∙ ap f (omega arith)

@@ -1,5 +1,5 @@
 -- How far a block reaches.
-use Rattle.std.proofs.Common.{◌≡◌, ◌≢◌, ℕ, zero, suc, ◌+◌, ◌-◌, ◌*◌, ◌/◌, ◌%◌, ◌<◌, ◌≤◌, ◌⊎◌, inl, inr, sym, ap, subst, ◌∙◌, arith, List, [], ◌∷◌, ◌++◌}
+use Rattle.std.proofs.Common.{◌≡◌, ◌≢◌, ℕ, zero, suc, ◌+◌, ◌-◌, ◌*◌, ◌/◌, ◌%◌, ◌<◌, ◌≤◌, ◌⊎◌, inl, inr, sym, ap, subst, ◌∙◌, arith, List, [], ◌∷◌, ◌++◌, Bool, true, false, ◌==◌}
 use Rattle.std.proofs.lemmas.Bool.{cases_eq}
 use Rattle.std.proofs.lemmas.Bool.Decides.{nat_tests}
 use Rattle.std.specs.Prelude.{slice_index}
@@ -9,12 +9,9 @@ use Rattle.rio_base.specs.Regions.{AreWords}
 use Rattle.rio_model.specs.Heap.{used, starts, IsBlock, OfBlocks, blocks_from, run_length}
 use Rattle.rio_model.specs.HeapRules.{block_run}
 use Rattle.undo_list.specs.Bits.{IsZeros}
-use Rattle.recov_alloc.specs.Bits.{GoesOn}
+use Rattle.recov_alloc.specs.Bits.{GoesOn, ReachesInPage}
+use Rattle.recov_alloc.specs.Extents.{Within}
 use Rattle.recov_alloc.proofs.Fits.{used_bit, starts_bit}
-
--- the units behind the first one, before x, are in its block
-pub record Within (l : ℕ → ℕ) (t x : ℕ) : Type 0 where
-  pub each : (y : ℕ) → t < y → y < x → (used l y ≡ 1) × (starts l y ≡ 0)
 
 pub within_none : (l : ℕ → ℕ) (t : ℕ) → Within l t (t + 1)
 within_none l t = record { each = λ y low high. absurd (omega arith) }
@@ -37,6 +34,64 @@ stops_at l x n pair words z inner = by (z.end inner)
     by : (bit_at (slice_index pair 0) (x % 64 + n) ≡ 0) ⊎ (bit_at (slice_index pair 1) (x % 64 + n) ≡ 1) → (used l (x + n) ≡ 0) ⊎ (starts l (x + n) ≡ 1)
     by (inl e) = inl (used_bit l (slice_index pair 0) (x / 64) (x + n) (words.each 0 (omega arith) ∙ ap l (omega arith)) (omega arith) (omega arith) ∙ ap (bit_at (slice_index pair 0)) place ∙ e)
     by (inr e) = inr (starts_bit l (slice_index pair 1) (x / 64) (x + n) (words.each 1 (omega arith)) (omega arith) (omega arith) ∙ ap (bit_at (slice_index pair 1)) place ∙ e)
+
+-- ---- in the page of the first unit
+
+pub reach_none : (used starts t : ℕ) → t % 64 + 1 ≡ 64 → ReachesInPage used starts t (t + 1)
+reach_none used starts t last = record {
+  low = omega arith;
+  most = omega arith;
+  each = λ y low high. absurd (omega arith);
+  end = λ inner. absurd (inner (omega (arith, last)));
+}
+
+pub reach_by : (used starts t n : ℕ) → GoesOn used starts (t % 64 + 1) n → ReachesInPage used starts t (t + 1 + n)
+reach_by used starts t n z = record {
+  low = omega arith;
+  most = omega (arith, z.within);
+  each = λ y low high. z.each (y % 64) (omega (arith, z.within)) (omega (arith, z.within));
+  end = λ inner. subst (λ i. (bit_at used i ≡ 0) ⊎ (bit_at starts i ≡ 1)) (place inner) (z.end (below inner));
+}
+  where
+    below : (t + 1 + n) % 64 ≢ 0 → t % 64 + 1 + n < 64
+    below inner = grind (arith, inner, z.within)
+
+    place : (t + 1 + n) % 64 ≢ 0 → t % 64 + 1 + n ≡ (t + 1 + n) % 64
+    place inner = omega (arith, below inner)
+
+pub within_page : (l : ℕ → ℕ) (t x : ℕ) (pair : List ℕ) → AreWords l (2 * (t / 64)) 2 pair → ReachesInPage (slice_index pair 0) (slice_index pair 1) t x → Within l t x
+unfolding used starts
+within_page l t x pair words r = record { each = λ y low high. at y (omega (arith, r.most)) (r.each y low high) }
+  where
+    at : (y : ℕ) → y / 64 ≡ t / 64 → (bit_at (slice_index pair 0) (y % 64) ≡ 1) × (bit_at (slice_index pair 1) (y % 64) ≡ 0) → (used l y ≡ 1) × (starts l y ≡ 0)
+    at y page both = (ap (λ p. bit_at (l (2 * p)) (y % 64)) page ∙ ap (λ w. bit_at w (y % 64)) (sym (words.each 0 (omega arith) ∙ ap l (omega arith))) ∙ both.0, ap (λ p. bit_at (l (2 * p + 1)) (y % 64)) page ∙ ap (λ w. bit_at w (y % 64)) (sym (words.each 1 (omega arith))) ∙ both.1)
+
+pub stops_in_page : (l : ℕ → ℕ) (t x : ℕ) (pair : List ℕ) → AreWords l (2 * (t / 64)) 2 pair → ReachesInPage (slice_index pair 0) (slice_index pair 1) t x → x % 64 ≢ 0 → (used l x ≡ 0) ⊎ (starts l x ≡ 1)
+unfolding used starts
+stops_in_page l t x pair words r inner = by (r.end inner)
+  where
+    page : x / 64 ≡ t / 64
+    page = grind (arith, inner, r.most, r.low)
+
+    by : (bit_at (slice_index pair 0) (x % 64) ≡ 0) ⊎ (bit_at (slice_index pair 1) (x % 64) ≡ 1) → (used l x ≡ 0) ⊎ (starts l x ≡ 1)
+    by (inl e) = inl (ap (λ p. bit_at (l (2 * p)) (x % 64)) page ∙ ap (λ w. bit_at w (x % 64)) (sym (words.each 0 (omega arith) ∙ ap l (omega arith))) ∙ e)
+    by (inr e) = inr (ap (λ p. bit_at (l (2 * p + 1)) (x % 64)) page ∙ ap (λ w. bit_at w (x % 64)) (sym (words.each 1 (omega arith))) ∙ e)
+
+-- ---- whether a block starts
+
+start_bit : (l : ℕ → ℕ) (t : ℕ) (pair : List ℕ) → AreWords l (2 * (t / 64)) 2 pair → starts l t ≡ bit_at (slice_index pair 1) (t % 64)
+unfolding starts
+start_bit l t pair words = ap (λ w. bit_at w (t % 64)) (sym (words.each 1 (omega arith)))
+
+pub block_starts : (l : ℕ → ℕ) (t : ℕ) (pair : List ℕ) (b : Bool) → AreWords l (2 * (t / 64)) 2 pair → b ≡ (bit_at (slice_index pair 1) (t % 64) == 1) → b ≡ true → starts l t ≡ 1
+block_starts l t pair b words is holds = start_bit l t pair words ∙ grind (arith, nat_tests, is, holds)
+
+pub none_starts : (l : ℕ → ℕ) (units t : ℕ) (pair : List ℕ) (b : Bool) → AreWords l (2 * (t / 64)) 2 pair → b ≡ (bit_at (slice_index pair 1) (t % 64) == 1) → b ≡ false → (n : ℕ) → IsBlock l units t n → ⊥
+none_starts l units t pair b words is fails n block =
+    let one : bit_at (slice_index pair 1) (t % 64) ≡ 1 = sym (start_bit l t pair words) ∙ block.start in
+    absurd (grind (arith, nat_tests, is, fails, one))
+
+-- ---- the whole block
 
 -- the block ends before x
 pub block_by : (l : ℕ → ℕ) (p units t x : ℕ) → OfBlocks l p → units ≡ 64 * p → starts l t ≡ 1 → t < x → x ≤ units → Within l t x → (x < units → (used l x ≡ 0) ⊎ (starts l x ≡ 1)) → IsBlock l units t (x - t)

@@ -1,4 +1,5 @@
 pub mod Bits
+pub mod Extents
 pub mod Failures
 pub mod Marks
 pub mod Scans

@@ -6,12 +6,12 @@ ghost use Rattle.rio_base.specs.Regions.{Stays};
 ghost use Rattle.rio_model.specs.Undo.{Gains, IsRegion, Rests, Undoes, live, taken, undo_records, undo_words};
 ghost use Rattle.rio_model.specs.Heap.{Allocates, IsBlock, IsFirstFit, IsGap, OfBlocks, Releases, heap_blocks, touched_pages, units_of, with_block, without_block};
 
-use crate::extents::{block_units, is_start};
+use crate::extents::block_at;
 use crate::failures::HeapFail;
 use crate::fitting::first_fit;
 use crate::marking::mark_block;
 use rio_base::RegionWords;
-use undo_list::{UndoFail, data_pages, set_range};
+use undo_list::{UndoFail, set_range};
 
 /// Saves the map words of the pages that a block touches.
 fn save_map<R: RegionWords>(r: &mut R, at: u32, units: u32) -> Result<(), UndoFail>
@@ -81,14 +81,9 @@ pub fn release<R: RegionWords>(r: &mut R, unit: u32) -> Result<(), HeapFail>
     ensures stays { Stays R.keeps_rest R.ready R.count R.health R.below r.old r.new }
     ensures ends { EndsBy (R.health r.old) (R.health r.new) (IsErrOf result HeapFail.Fault) (IsErrOf result HeapFail.Stopped) }
 {
-    let pages = data_pages(r)?;
-    if 64 * pages <= unit {
+    let Some(units) = block_at(r, unit)? else {
         return Err(HeapFail::NotBlock);
-    }
-    if !is_start(r, unit)? {
-        return Err(HeapFail::NotBlock);
-    }
-    let units = block_units(r, unit, pages)?;
+    };
     save_map(r, unit, units)?;
     mark_block(r, unit, units, false)?;
     Ok(())

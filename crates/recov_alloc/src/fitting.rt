@@ -10,8 +10,11 @@ ghost use Rattle.recov_alloc.specs.Scans.{Before, RunFits, ScanEnds};
 use rio_base::{RegionWords, VolFail};
 use undo_list::{data_pages, ones_from, read_places, zeros_from};
 
-/// Data pages whose map words one call reads. Each search clears a room of twice as many words, so it is small.
-const RUN_PAGES: u32 = 32;
+/// Data pages whose map words the first call of a search reads. Each search clears a room for them, so they are few.
+const FIRST_PAGES: u32 = 8;
+
+/// Data pages whose map words each further call reads.
+const RUN_PAGES: u32 = 128;
 
 /// What some words of the map show.
 #[derive(Clone, Copy)]
@@ -47,6 +50,20 @@ fn look_in(word: u64, page: u32, before: u32, units: u32) -> Scan
     Scan::Run(run)
 }
 
+/// The same, where a page that has no free unit is passed over at once.
+fn look_in_page(word: u64, page: u32, before: u32, units: u32) -> Scan
+    requires page { 64 * (page + 1) < 4294967296 }
+    requires before { before < units }
+    requires within { before ≤ 64 * page }
+    ensures run { RunFits units (64 * (page + 1)) result }
+    ensures scan { (l : ℕ → ℕ) → word ≡ l (2 * page) → Before l units (64 * page) before → ScanEnds l units (64 * (page + 1)) result }
+{
+    if word == u64::MAX {
+        return Scan::Run(0);
+    }
+    look_in(word, page, before, units)
+}
+
 /// The same of the map words of `count` pages.
 fn look_in_run(words: &[u64], page: u32, count: u32, before: u32, units: u32) -> Scan
     requires words { length words.now ≡ 2 * count }
@@ -58,7 +75,7 @@ fn look_in_run(words: &[u64], page: u32, count: u32, before: u32, units: u32) ->
 {
     let mut run = before;
     for i in 0..count {
-        match look_in(words[2 * i as usize], page + i, run, units) {
+        match look_in_page(words[2 * i as usize], page + i, run, units) {
             Scan::Found(at) => return Scan::Found(at),
             Scan::Run(left) => run = left,
         }
@@ -91,6 +108,41 @@ fn look_in_pages<R: RegionWords>(
     Ok(look_in_run(words, page, count, before, units))
 }
 
+/// Searches on from data page `from`, before which there is no gap and `before` free units lie. It is a function of its own,
+/// so that a search that ends in the first pages clears no long room.
+#[inline(never)]
+fn fit_from<R: RegionWords>(
+    r: &mut R,
+    units: u32,
+    pages: u32,
+    from: u32,
+    before: u32,
+) -> Result<Option<u32>, VolFail>
+    requires ready { R.ready r.old }
+    requires region { IsRegion (R.count r.old) (R.words r.old) }
+    requires pages { pages ≡ R.words r.old 2 }
+    requires from { from ≤ pages }
+    requires before { Before (live (R.words r.old)) units (64 * from) before }
+    ensures value { IfOk result (Finds (live (R.words r.old)) (units_of (R.words r.old)) units) }
+    ensures words { R.words r.new ≡ R.words r.old }
+    ensures stays { Stays R.keeps_rest R.ready R.count R.health R.below r.old r.new }
+    ensures ends { Ends (R.health r.old) (R.health r.new) result }
+{
+    let mut words = [0; 2 * RUN_PAGES as usize];
+    let mut run = before;
+    let mut page = from;
+    while page < pages {
+        let count = RUN_PAGES.min(pages - page);
+        let room = &mut words[..2 * count as usize];
+        match look_in_pages(r, room, page, count, run, units)? {
+            Scan::Found(at) => return Ok(Some(at)),
+            Scan::Run(left) => run = left,
+        }
+        page += count;
+    }
+    Ok(None)
+}
+
 /// The first of the lowest `units` units after one another that are in no block.
 pub(crate) fn first_fit<R: RegionWords>(r: &mut R, units: u32) -> Result<Option<u32>, VolFail>
     requires ready { R.ready r.old }
@@ -102,17 +154,15 @@ pub(crate) fn first_fit<R: RegionWords>(r: &mut R, units: u32) -> Result<Option<
     ensures ends { Ends (R.health r.old) (R.health r.new) result }
 {
     let pages = data_pages(r)?;
-    let mut words = [0; 2 * RUN_PAGES as usize];
-    let mut run = 0;
-    let mut page = 0;
-    while page < pages {
-        let count = RUN_PAGES.min(pages - page);
-        let room = &mut words[..2 * count as usize];
-        match look_in_pages(r, room, page, count, run, units)? {
-            Scan::Found(at) => return Ok(Some(at)),
-            Scan::Run(left) => run = left,
-        }
-        page += count;
+    let count = FIRST_PAGES.min(pages);
+    let mut words = [0; 2 * FIRST_PAGES as usize];
+    let room = &mut words[..2 * count as usize];
+    let before = match look_in_pages(r, room, 0, count, 0, units)? {
+        Scan::Found(at) => return Ok(Some(at)),
+        Scan::Run(left) => left,
+    };
+    if count == pages {
+        return Ok(None);
     }
-    Ok(None)
+    fit_from(r, units, pages, count, before)
 }

@@ -22,11 +22,12 @@ const ONE: Map = (0x3ff, 1, 0, 0);
 /// And another of units 10 to 79.
 const TWO: Map = (u64::MAX, 0x401, 0xffff, 0);
 
-/// What the map may be before the other block is taken: its start comes last.
-const TAKEN: [Map; 3] = [ONE, (u64::MAX, 1, 0, 0), (u64::MAX, 1, 0xffff, 0)];
+/// What the map may be before the other block is taken: the words of a page are stored one after the other, and at last the
+/// starts of the second page, as they are.
+const TAKEN: [Map; 4] = [ONE, (u64::MAX, 1, 0, 0), (u64::MAX, 0x401, 0, 0), TWO];
 
 /// What the map may be before it is given back.
-const GIVEN: [Map; 3] = [TWO, (0x3ff, 0x401, 0xffff, 0), (0x3ff, 0x401, 0, 0)];
+const GIVEN: [Map; 4] = [TWO, (0x3ff, 0x401, 0xffff, 0), (0x3ff, 1, 0xffff, 0), ONE];
 
 /// A heap without records whose block takes units 0 to 9.
 fn one_block(alloc: Global) -> Result<FaultyRegion, Fail>

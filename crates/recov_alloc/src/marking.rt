@@ -1,63 +1,46 @@
 //! The bits of a block, set or cleared where a record covers its map words.
 
-ghost use Rattle.std.specs.Prelude.{◌≡◌, ◌+◌, ◌*◌, ◌<◌, ◌≤◌, OnOk, if◌then◌else◌, true};
+ghost use Rattle.std.specs.Prelude.{◌≡◌, ◌+◌, ◌*◌, ◌/◌, ◌%◌, ◌<◌, ◌≤◌, OnOk, if◌then◌else◌};
 ghost use Rattle.rio_base.specs.Blocks.{Ends};
 ghost use Rattle.rio_base.specs.Regions.{Stays};
-ghost use Rattle.rio_model.specs.Undo.{IsRegion, Keeps, is_covered, live, places, undo_records};
+ghost use Rattle.rio_model.specs.Undo.{CoversAll, IsRegion, Keeps, live, undo_records};
 ghost use Rattle.rio_model.specs.Heap.{units_of};
-ghost use Rattle.recov_alloc.specs.Marks.{MapCovered, MarksBlock, MarksUnits, StoresBits};
+ghost use Rattle.recov_alloc.specs.Marks.{MapCovered, MarksBlock, StoresPair};
 
 use rio_base::{RegionWords, VolFail};
-use undo_list::{put_covered, with_bits, word_at};
+use undo_list::{put_covered_run, read_places, uncounted, with_bits};
 
-/// Sets or clears bits `from` to `to - 1` of the word at a covered place, by one store.
-fn store_bits<R: RegionWords>(
+/// Makes units of one page from `at` on used or free, and the start of a block at the first of them set or cleared where
+/// `start` says so: the page's two map words lie side by side, and are read and stored by one call each.
+fn mark_page<R: RegionWords>(
     r: &mut R,
-    place: u32,
-    from: u32,
-    to: u32,
+    at: u32,
+    units: u32,
+    start: bool,
     on: bool,
 ) -> Result<(), VolFail>
     requires ready { R.ready r.old }
     requires region { IsRegion (R.count r.old) (R.words r.old) }
-    requires place { place < places (R.words r.old) }
-    requires covered { is_covered (undo_records (R.words r.old)) place ≡ true }
-    requires order { from ≤ to }
-    requires within { to ≤ 64 }
-    ensures ok { OnOk result (StoresBits (live (R.words r.old)) (live (R.words r.new)) place from to (if on then 1 else 0)) }
-    ensures keeps { Keeps (R.count r.old) (R.words r.old) (R.words r.new) }
-    ensures stays { Stays R.keeps_rest R.ready R.count R.health R.below r.old r.new }
-    ensures ends { Ends (R.health r.old) (R.health r.new) result }
-{
-    let word = word_at(r, place)?;
-    put_covered(r, place, with_bits(word, from, to, on))?;
-    Ok(())
-}
-
-/// Makes the units from `at` on used or free, by one store for each data page.
-fn mark_units<R: RegionWords>(r: &mut R, at: u32, units: u32, on: bool) -> Result<(), VolFail>
-    requires ready { R.ready r.old }
-    requires region { IsRegion (R.count r.old) (R.words r.old) }
     requires units { 1 ≤ units }
+    requires page { at % 64 + units ≤ 64 }
     requires within { at + units ≤ units_of (R.words r.old) }
-    requires covered { MapCovered (R.words r.old) at units }
-    ensures ok { OnOk result (MarksUnits (live (R.words r.old)) (live (R.words r.new)) at (at + units) (if on then 1 else 0)) }
+    requires covered { CoversAll (undo_records (R.words r.old)) (2 * (at / 64)) 2 }
+    ensures ok { OnOk result (StoresPair (live (R.words r.old)) (live (R.words r.new)) at units (if start then 1 else 0) (if on then 1 else 0)) }
     ensures keeps { Keeps (R.count r.old) (R.words r.old) (R.words r.new) }
     ensures stays { Stays R.keeps_rest R.ready R.count R.health R.below r.old r.new }
     ensures ends { Ends (R.health r.old) (R.health r.new) result }
 {
-    let end = at + units;
-    let mut next = at;
-    while next < end {
-        let bit = next % 64;
-        let run = (64 - bit).min(end - next);
-        store_bits(r, 2 * (next / 64), bit, bit + run, on)?;
-        next += run;
-    }
-    Ok(())
+    let place = 2 * (at / 64);
+    let bit = at % 64;
+    let mut words = [0; 2];
+    read_places(r, place, &mut words)?;
+    let used = with_bits(words[0], bit, bit + units, on);
+    let starts = with_bits(words[1], bit, bit + u32::from(start), on);
+    uncounted(put_covered_run(r, place, &[used, starts]))
 }
 
-/// Adds a block to the map, or takes it away: the used bits of its units first, then its start bit.
+/// Adds a block to the map, or takes it away, by one store for each data page: the used bits of its units, and in the first
+/// page its start bit.
 pub(crate) fn mark_block<R: RegionWords>(
     r: &mut R,
     at: u32,
@@ -74,7 +57,12 @@ pub(crate) fn mark_block<R: RegionWords>(
     ensures stays { Stays R.keeps_rest R.ready R.count R.health R.below r.old r.new }
     ensures ends { Ends (R.health r.old) (R.health r.new) result }
 {
-    mark_units(r, at, units, on)?;
-    store_bits(r, 2 * (at / 64) + 1, at % 64, at % 64 + 1, on)?;
+    let end = at + units;
+    let mut next = at;
+    while next < end {
+        let run = (64 - next % 64).min(end - next);
+        mark_page(r, next, run, next == at, on)?;
+        next += run;
+    }
     Ok(())
 }

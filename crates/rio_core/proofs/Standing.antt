@@ -1,32 +1,22 @@
 -- How a view comes to stand on the region at a path.
-use Rattle.std.proofs.Common.{◌≡◌, ℕ, List, Result, Ok, sym, subst}
-use Rattle.std.specs.Prelude.{IsErrOf}
-use Rattle.rio_base.specs.declared.failures.VolFail.{VolFail}
-use Rattle.rio_base.specs.declared.failures.VolFail.TheVariants.{Fault as VolFault, Stopped as VolStopped}
+use Rattle.std.proofs.Common.{◌≡◌, ℕ, List, Ok, sym, subst}
 use Rattle.rio_base.specs.declared.places.Ino.{Ino}
 use Rattle.rio_base.specs.declared.places.VolumeShape.{VolumeShape}
-use Rattle.rio_base.specs.Blocks.{Ends, EndsBy, Health, Seen}
-use Rattle.rio_base.specs.Rules.{ends_by, ends_by_after, ends_by_as}
+use Rattle.rio_base.specs.Blocks.{Seen}
 use Rattle.rio_base.specs.Volume.{Kept}
 use Rattle.rio_model.specs.declared.node.RegionNode.{RegionNode}
 use Rattle.rio_model.specs.declared.state.State.{State}
 use Rattle.rio_model.specs.Paths.{names_of}
 use Rattle.rio_requests.specs.Crash.{crashed}
 use Rattle.file_store.specs.Ends.{CanServe}
-use Rattle.file_store.specs.Failures.{Faulted}
 use Rattle.file_store.specs.NewRegions.{FindsRegion}
 use Rattle.file_store.specs.Views.{OnRegion}
-use Rattle.file_store.specs.declared.failures.FileFail.{FileFail}
-use Rattle.file_store.specs.declared.failures.FileFail.TheVariants.{Stopped}
 use Rattle.vista_region.specs.Ends.{Fits}
 use Rattle.vista_region.specs.Marks.{Marks}
 use Rattle.rio_core.specs.CallEnds.{CalledOn, words_at}
 use Rattle.rio_core.specs.Serving.{Serves}
 use Rattle.rio_core.proofs.RegionEnds.{called_fits, stood_on}
 use Rattle.rio_requests.specs.CrashRules.{walk_crashed}
-
-pub stand_ends : (s t u : Health) (i : Ino) (walked : Result Ino FileFail) (pointed : Result (Unit {0}) VolFail) (result : Result Ino FileFail) → walked ≡ Ok i → EndsBy s t (Faulted walked) (IsErrOf walked Stopped) → Ends t u pointed → (Faulted result → IsErrOf pointed VolFault) → (IsErrOf result Stopped → IsErrOf pointed VolStopped) → (IsErrOf pointed VolStopped → IsErrOf result Stopped) → EndsBy s u (Faulted result) (IsErrOf result Stopped)
-stand_ends s t u i walked pointed result is e h a b c = ends_by_after s t u (Faulted result) (IsErrOf result Stopped) e.later (e.runs (λ p. cc (is, p))) (ends_by_as t u (IsErrOf pointed VolFault) (IsErrOf pointed VolStopped) (Faulted result) (IsErrOf result Stopped) a b c (ends_by t u pointed h))
 
 pub serves_can : (shape : VolumeShape) (x : Seen) (k : Kept) (marks : Marks) (s : State) → Serves shape x k marks s → CanServe shape x k
 serves_can shape x k marks s h = record { ready = h.ready; state = crashed s; reads = h.reads }

@@ -1,25 +1,20 @@
 //! Requests on regions and their transactions, answered over a view of the region's words.
 
-ghost use Rattle.std.specs.Prelude.{◌≡◌, List, ℕ, IfOk, IsErr, IsErrOf, OnOk};
+ghost use Rattle.std.specs.Prelude.{◌≡◌, List, ℕ, IsErr};
 ghost use Rattle.rio_base.specs.Blocks.{EndsBy};
 ghost use Rattle.rio_base.specs.Volume.{Goes};
 ghost use Rattle.rio_model.specs.declared.node.RegionNode.{RegionNode};
 ghost use Rattle.rio_model.specs.declared.state.State.{State};
 ghost use Rattle.rio_model.specs.Paths.{IsPath};
-ghost use Rattle.rio_model.specs.VolumeReads.{ReadsAs};
-ghost use Rattle.rio_model.specs.VolumeReady.{Ready};
 ghost use Rattle.rio_requests.specs.Requests.{IsRequest};
-ghost use Rattle.file_store.specs.Ends.{CanServe};
-ghost use Rattle.file_store.specs.Failures.{Faulted};
-ghost use Rattle.file_store.specs.NewRegions.{FindsRegion};
-ghost use Rattle.file_store.specs.Views.{OnRegion};
+ghost use Rattle.file_store.specs.Views.{KeepsInode, OnRegion};
 ghost use Rattle.vista_region.specs.Ends.{Fits};
 ghost use Rattle.rio_core.specs.CallEnds.{CalledOn, IsAt, words_at};
 ghost use Rattle.rio_core.specs.Serving.{RequestEnds, Serves, TellsFault};
 
 use crate::replies::{BAD_REQUEST, begin_reply, fail_reply, get_reply, number_reply, txn_reply};
-use file_store::{FileFail, RegionView, region_of};
-use rio_base::{Ino, RegionWords, Stopped, VolFail, Volume};
+use file_store::RegionView;
+use rio_base::{Stopped, Volume};
 use rio_requests::{Reply, Request};
 use std::alloc::Global;
 use vista_region::OpenTable;
@@ -43,32 +38,9 @@ pub fn answer_region<V: Volume>(
     ensures ends { EndsBy (V.health view.old.v) (V.health view.new.v) (TellsFault result) (IsErr result) }
     ensures sound { V.sound view.new.v }
 {
-    match stand_on(view, path) {
+    match view.stand_at(path) {
         Ok(_) => answer_at(alloc, view, table, request),
         Err(fail) => fail_reply(fail),
-    }
-}
-
-/// Stands on the region at a path. After a failure the view stands where it stood.
-fn stand_on<V: Volume>(view: &mut RegionView<V>, path: &[u8]) -> Result<Ino, FileFail>
-    requires sound { V.sound view.old.v }
-    requires can { CanServe view.old.shape (V.seen view.old.v) (V.kept view.old.v) }
-    requires path { IsPath path.now }
-    ensures found { (s : State) → ReadsAs view.old.shape (V.seen view.old.v).words s → FindsRegion s path.now result }
-    ensures on { OnOk result (OnRegion view.new.shape (V.seen view.new.v) (V.kept view.new.v) view.new.ino.0 view.new.words) }
-    ensures ino { IfOk result (λ i. view.new.ino ≡ i) }
-    ensures shape { view.new.shape ≡ view.old.shape }
-    ensures words { (V.seen view.new.v).words ≡ (V.seen view.old.v).words }
-    ensures ready { Ready view.new.shape (V.seen view.new.v) (V.kept view.new.v) }
-    ensures goes { Goes (V.health view.old.v) (V.below view.old.v) (V.health view.new.v) (V.below view.new.v) }
-    ensures ends { EndsBy (V.health view.old.v) (V.health view.new.v) (Faulted result) (IsErrOf result FileFail.Stopped) }
-    ensures sound { V.sound view.new.v }
-{
-    let i = region_of(&mut view.v, &view.shape, path)?;
-    match view.point(i) {
-        Ok(()) => Ok(i),
-        Err(VolFail::Fault) => Err(FileFail::Fault(0)),
-        Err(VolFail::Stopped) => Err(FileFail::Stopped),
     }
 }
 
@@ -81,6 +53,7 @@ fn answer_at<V: Volume>(
 ) -> Result<Reply, Stopped>
     requires sound { V.sound view.old.v }
     requires on { OnRegion view.old.shape (V.seen view.old.v) (V.kept view.old.v) view.old.ino.0 view.old.words }
+    requires inode { KeepsInode (V.seen view.old.v).words view.old.ino.0 view.old.inode }
     requires fits { Fits table.old view.old.ino.0 view.old.words (words_at view.old.shape (V.seen view.old.v).words view.old.ino.0) }
     requires request { IsRequest request.now }
     requires at { (path : List ℕ) × IsAt path request.now }

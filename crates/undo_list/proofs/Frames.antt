@@ -1,9 +1,10 @@
 -- Laws of a record that is written, published, put back and dropped.
-use Rattle.std.proofs.Common.{◌≡◌, ℕ, ◌+◌, ◌-◌, ◌*◌, ◌<◌, ◌≤◌, List, ◌∷◌, length, refl, sym, ap, subst, ◌∙◌, arith, inl, inr, ◌⊎◌, true, false}
+use Rattle.std.proofs.Common.{◌≡◌, ℕ, ◌+◌, ◌-◌, ◌*◌, ◌<◌, ◌≤◌, List, [], ◌∷◌, ◌++◌, length, slice_index, take, refl, sym, ap, subst, ◌∙◌, arith, inl, inr, ◌⊎◌, true, false}
 use Rattle.std.proofs.lemmas.Bool.Decides.{nat_tests}
+use Rattle.std.proofs.lemmas.List.{get_or-append-add, get_or-take, get_or_append_left, length-append, length-take-le}
 use Rattle.std.proofs.lemmas.List.FromFn.{get_or-map-range_with_len, length-map-range_with_len}
 use Rattle.rio_base.specs.Rules.{true_false}
-use Rattle.rio_base.specs.Regions.{RegionContent, put_word, put_words, OldOrPutWord, OldOrPutWords}
+use Rattle.rio_base.specs.Regions.{AreWords, RegionContent, put_word, put_words, OldOrPutWord, OldOrPutWords}
 use Rattle.rio_model.specs.Undo.{UndoRecord, taken, undo_word, undo_words, undo_records, is_covered, IsRecord, places, live, map_from, saving, Saves, IsRegion, SameSizes, Rests, Gains, Undoes, Dropped, Sets, Puts, CoversAll}
 use Rattle.rio_model.specs.UndoRules.{rests_undoes, gains_undoes, undoes_trans, sizes_trans, head_sizes, head_live, gains_by, region_same, covered_keeps, covered_by, newest_dropped, dropped_by, sets_covered, puts_covered}
 use Rattle.undo_list.specs.Copies.{CopiedFront, copied}
@@ -19,41 +20,62 @@ off_same from to f g e = record { each = λ x out. ap (λ (h : RegionContent). h
 pub off_trans : {from to : ℕ} {f g h : RegionContent} → Off from to f g → Off from to g h → Off from to f h
 off_trans a b = record { each = λ x out. b.each x out ∙ a.each x out }
 
-off_put : (f : RegionContent) (at v x : ℕ) → (x < at) ⊎ (at < x) → put_word f at v x ≡ f x
-off_put f at v x (inl h) = grind (arith, nat_tests)
-off_put f at v x (inr h) = grind (arith, nat_tests)
-
-outside : (from to at x : ℕ) → from ≤ at → at < to → (x < from) ⊎ (to ≤ x) → (x < at) ⊎ (at < x)
-outside from to at x low high (inl h) = inl (omega arith)
-outside from to at x low high (inr h) = inr (omega arith)
-
-pub off_either : (from to : ℕ) (f g : RegionContent) (at v : ℕ) → from ≤ at → at < to → OldOrPutWord f g at v → Off from to f g
-off_either from to f g at v low high (inl same) = off_same from to f g same
-off_either from to f g at v low high (inr put) = record { each = λ x out. ap (λ (h : RegionContent). h x) put ∙ off_put f at v x (outside from to at x low high out) }
-
 off_copied : (f : RegionContent) (src dst k x : ℕ) → (x < dst) ⊎ (dst + k ≤ x) → copied f src dst k x ≡ f x
 off_copied f src dst k x (inl h) = grind (arith, nat_tests)
 off_copied f src dst k x (inr h) = grind (arith, nat_tests)
 
-outside_run : (from to dst k n x : ℕ) → from ≤ dst → dst + n ≤ to → k ≤ n → (x < from) ⊎ (to ≤ x) → (x < dst) ⊎ (dst + k ≤ x)
-outside_run from to dst k n x low high small (inl h) = inl (omega arith)
-outside_run from to dst k n x low high small (inr h) = inr (omega arith)
-
-pub off_front : (from to : ℕ) (f g : RegionContent) (src dst n : ℕ) → from ≤ dst → dst + n ≤ to → CopiedFront f g src dst n → Off from to f g
-off_front from to f g src dst n low high c = record { each = λ x out. ap (λ (h : RegionContent). h x) c.2 ∙ off_copied f src dst c.0 x (outside_run from to dst c.0 n x low high c.1 out) }
+copied_at : (f : RegionContent) (src dst n k : ℕ) → k < n → copied f src dst n (dst + k) ≡ f (src + k)
+copied_at f src dst n k small = let place : src + (dst + k - dst) ≡ src + k = omega arith in grind (arith, nat_tests)
 
 -- ---- a record is written
 
-pub staged : (f : RegionContent) (at head place from n : ℕ) → 515 + at + n ≤ from → Staged f (copied (put_word (put_word (put_word f (512 + at) head) (513 + at) place) (514 + at) n) from (515 + at) n) at head place from n
-staged f at head place from n behind = record {
-  older = grind (arith, nat_tests);
-  first = grind (arith, nat_tests);
-  count = grind (arith, nat_tests);
-  old = λ k small. one k small;
+-- its first three words by themselves, and then the others
+pub staged_long : (f m g : RegionContent) (at head place p from n c : ℕ) → 515 + at + n ≤ from → p ≡ place → c ≡ n → m ≡ put_words f (512 + at) 3 (head ∷ p ∷ c ∷ []) → g ≡ copied m from (515 + at) n → Staged f g at head place from n
+staged_long f m g at head place p from n c behind place_is count_is put copy = record {
+  older = same (512 + at) (inl (omega arith)) ∙ grind (arith, nat_tests);
+  first = same (512 + (at + 1)) (inl (omega arith)) ∙ two ∙ place_is;
+  count = same (512 + (at + 2)) (inl (omega arith)) ∙ three ∙ count_is;
+  old = λ k small. ap (λ (w : RegionContent). w (512 + (at + 3 + k))) copy ∙ ap (copied m from (515 + at) n) (omega arith) ∙ copied_at m from (515 + at) n k small ∙ here (from + k) (omega arith);
 }
   where
-    one : (k : ℕ) → k < n → copied (put_word (put_word (put_word f (512 + at) head) (513 + at) place) (514 + at) n) from (515 + at) n (512 + (at + 3 + k)) ≡ f (from + k)
-    one k small = let place : from + (512 + (at + 3 + k) - (515 + at)) ≡ from + k = omega arith in grind (arith, nat_tests)
+    front : RegionContent
+    front = put_words f (512 + at) 3 (head ∷ p ∷ c ∷ [])
+
+    same : (x : ℕ) → (x < 515 + at) ⊎ (515 + at + n ≤ x) → g x ≡ front x
+    same x out = ap (λ (w : RegionContent). w x) copy ∙ off_copied m from (515 + at) n x out ∙ ap (λ (w : RegionContent). w x) put
+
+    two : front (512 + (at + 1)) ≡ p
+    two = let e : 512 + (at + 1) - (512 + at) ≡ 1 = omega arith in grind (arith, nat_tests)
+
+    three : front (512 + (at + 2)) ≡ c
+    three = let e : 512 + (at + 2) - (512 + at) ≡ 2 = omega arith in grind (arith, nat_tests)
+
+    here : (x : ℕ) → 515 + at ≤ x → m x ≡ f x
+    here x high = ap (λ (w : RegionContent). w x) put ∙ grind (arith, nat_tests)
+
+-- all of its words at once: a front of its first three words, the words that it saves, and what stands behind them
+pub staged_short : (f m g : RegionContent) (at head place p from n c k : ℕ) (saved rest : List ℕ) → 515 + at + n ≤ from → p ≡ place → c ≡ n → m ≡ f → length saved ≡ k → k ≡ n → AreWords f from k saved → g ≡ put_words m (512 + at) (length (take (3 + n) (head ∷ p ∷ c ∷ (saved ++ rest)))) (take (3 + n) (head ∷ p ∷ c ∷ (saved ++ rest))) → Staged f g at head place from n
+staged_short f m g at head place p from n c k saved rest behind place_is count_is same long many read put = record {
+  older = all (512 + at) 0 (omega arith) (omega arith);
+  first = all (512 + (at + 1)) 1 (omega arith) (omega arith) ∙ place_is;
+  count = all (512 + (at + 2)) 2 (omega arith) (omega arith) ∙ count_is;
+  old = λ j small. all (512 + (at + 3 + j)) (3 + j) (omega arith) (omega arith) ∙ behind_front j (omega arith) ∙ read.each j (omega arith);
+}
+  where
+    line : List ℕ
+    line = head ∷ p ∷ c ∷ (saved ++ rest)
+
+    size : length (take (3 + n) line) ≡ 3 + n
+    size = length-take-le (3 + n) line (omega (arith, long, many, length-append saved rest))
+
+    all : (x i : ℕ) → x ≡ 512 + at + i → i < 3 + n → g x ≡ slice_index line i
+    all x i is small =
+        let index : x - (512 + at) ≡ i = omega arith in
+        let here : put_words m (512 + at) (length (take (3 + n) line)) (take (3 + n) line) x ≡ slice_index (take (3 + n) line) (x - (512 + at)) = grind (arith, nat_tests, size) in
+        ap (λ (w : RegionContent). w x) put ∙ here ∙ ap (slice_index (take (3 + n) line)) index ∙ get_or-take (3 + n) line i 0 small
+
+    behind_front : (j : ℕ) → j < length saved → slice_index line (3 + j) ≡ slice_index saved j
+    behind_front j small = get_or-append-add (head ∷ p ∷ c ∷ []) (saved ++ rest) j 0 ∙ get_or_append_left saved rest 0 j small
 
 -- ---- a region through a change of undo words that no record takes
 
@@ -99,9 +121,6 @@ pub published : (n : ℕ) (f m g : RegionContent) (at place from k v : ℕ) → 
 published n f m g at place from k v h is off st source within fits value (inl same) = inl (rests_off n f g (512 + at) (515 + at + k) h (omega arith) (omega arith) (off_trans off (off_same (512 + at) (515 + at + k) m g same)))
 published n f m g at place from k v h is off st source within fits value (inr put) = inr (subst (λ w. Gains n f w place k) (sym (put ∙ ap (λ x. put_word m 3 x) value)) (gains_put n f m at place from k h is off st source within fits))
 
-pub staged_from : (f1 f m : RegionContent) (at head place from k : ℕ) → f1 ≡ f → head ≡ f 3 → Staged f1 m at head place from k → Staged f m at (f 3) place from k
-staged_from f1 f m at head place from k same is st = subst (λ h. Staged f m at h place from k) is (subst (λ w. Staged w m at head place from k) same st)
-
 pub either_undoes : (n : ℕ) (f g : RegionContent) (place k : ℕ) → Rests n f g ⊎ Gains n f g place k → Undoes n f g
 either_undoes n f g place k (inl h) = rests_undoes n f g h
 either_undoes n f g place k (inr h) = gains_undoes n f g place k h
@@ -128,9 +147,6 @@ newest_back n f g r older src dst k h is at small copy = (covered_keeps n f g h 
 
     same : (q : ℕ) → is_covered (undo_records f) q ≡ false → live g q ≡ live f q
     same q e = ap (λ a. g (a + q)) map_same ∙ ap (λ (w : RegionContent). w (map_from f + q)) copy ∙ off_copied f src dst k (map_from f + q) (is_out q e (grind arith))
-
-copied_at : (f : RegionContent) (src dst n k : ℕ) → k < n → copied f src dst n (dst + k) ≡ f (src + k)
-copied_at f src dst n k small = let place : src + (dst + k - dst) ≡ src + k = omega arith in grind (arith, nat_tests)
 
 -- all of its words are back, so it is dropped
 back_dropped : (n : ℕ) (f g : RegionContent) (r : UndoRecord) (older : List UndoRecord) (at head : ℕ) → IsRegion n f → undo_records f ≡ r ∷ older → IsRecord f at r → at ≡ taken older → head ≡ undo_word f at → g ≡ copied f (515 + at) (map_from f + r.first) (length r.old) → Undoes n f (put_word g 3 head)

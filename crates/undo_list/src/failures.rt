@@ -33,7 +33,7 @@ impl From<VolFail> for UndoFail {
 }
 
 /// The answer of a run of stores, without the count of words that were stored.
-pub(crate) fn uncounted(stored: Result<(), RunFail>) -> Result<(), VolFail>
+pub fn uncounted(stored: Result<(), RunFail>) -> Result<(), VolFail>
     ensures { result ≡ as_word stored }
 {
     match stored {

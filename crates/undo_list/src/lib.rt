@@ -19,7 +19,7 @@ mod undo_tests;
 
 pub use bits::{ones_from, with_bits, zeros_from};
 pub use covering::covered;
-pub use failures::UndoFail;
+pub use failures::{UndoFail, uncounted};
 pub use faulty_region::FaultyRegion;
 pub use places::{data_pages, put_covered, put_covered_run, read_places, word_at};
 pub use ranges::{room, set_range};

@@ -6,9 +6,9 @@ ghost use Rattle.rio_base.specs.Regions.{Stays};
 ghost use Rattle.rio_model.specs.Undo.{Gains, IsRegion, Rests, Undoes, places, taken, undo_records, undo_words};
 ghost use Rattle.undo_list.specs.Stages.{Off, Staged};
 
-use crate::failures::UndoFail;
-use crate::records::{HEAD, UNDO, taken};
-use crate::runs::copy_words;
+use crate::failures::{UndoFail, uncounted};
+use crate::records::{FRONT_WORDS, HEAD, Header, read_header, taken};
+use crate::runs::{SHORT_WORDS, copy_words};
 use rio_base::{RegionWords, VolFail};
 
 /// How many undo words are free.
@@ -21,13 +21,64 @@ pub fn room<R: RegionWords>(r: &mut R) -> Result<u32, VolFail>
     ensures stays { Stays R.keeps_rest R.ready R.count R.health R.below r.old r.new }
     ensures ends { Ends (R.health r.old) (R.health r.new) result }
 {
-    let undo = r.word(UNDO)?;
-    let used = taken(r)?;
-    Ok(512 * undo as u32 - used)
+    let header = read_header(r)?;
+    let used = taken(r, header.head)?;
+    Ok(512 * header.undo - used)
+}
+
+/// Writes a record of few words, as `stage` does, by one store of all of them.
+fn stage_short<R: RegionWords>(
+    r: &mut R,
+    at: u32,
+    head: u64,
+    place: u32,
+    from: u32,
+    count: u32,
+) -> Result<(), VolFail>
+    requires ready { R.ready r.old }
+    requires few { count ≤ SHORT_WORDS }
+    requires source { from + count ≤ R.count r.old }
+    requires behind { 515 + at + count ≤ from }
+    ensures ok { OnOk result (Staged (R.words r.old) (R.words r.new) at head place from count) }
+    ensures off { Off (512 + at) (515 + at + count) (R.words r.old) (R.words r.new) }
+    ensures stays { Stays R.keeps_rest R.ready R.count R.health R.below r.old r.new }
+    ensures ends { Ends (R.health r.old) (R.health r.new) result }
+{
+    let mut words = [0; (FRONT_WORDS + SHORT_WORDS) as usize];
+    words[0] = head;
+    words[1] = u64::from(place);
+    words[2] = u64::from(count);
+    let end = FRONT_WORDS as usize + count as usize;
+    r.read_run(from, &mut words[FRONT_WORDS as usize..end])?;
+    uncounted(r.set_run(512 + at, &words[..end]))
+}
+
+/// Writes a record of any number of words, as `stage` does: its first three words by one store, then those that it saves.
+fn stage_long<R: RegionWords>(
+    r: &mut R,
+    at: u32,
+    head: u64,
+    place: u32,
+    from: u32,
+    count: u32,
+) -> Result<(), VolFail>
+    requires ready { R.ready r.old }
+    requires source { from + count ≤ R.count r.old }
+    requires behind { 515 + at + count ≤ from }
+    ensures ok { OnOk result (Staged (R.words r.old) (R.words r.new) at head place from count) }
+    ensures off { Off (512 + at) (515 + at + count) (R.words r.old) (R.words r.new) }
+    ensures stays { Stays R.keeps_rest R.ready R.count R.health R.below r.old r.new }
+    ensures ends { Ends (R.health r.old) (R.health r.new) result }
+{
+    let front = [head, u64::from(place), u64::from(count)];
+    uncounted(r.set_run(512 + at, &front))?;
+    copy_words(r, from, 515 + at, count)?;
+    Ok(())
 }
 
 /// Writes a record at undo word `at`, behind the others, and does not publish it: the head before it is `head`, and its
-/// words are the `count` from word `from` on, which is that of `place`.
+/// words are the `count` from word `from` on, which is that of `place`. In which order its words are stored makes no
+/// difference, since no head names it yet.
 fn stage<R: RegionWords>(
     r: &mut R,
     at: u32,
@@ -44,25 +95,25 @@ fn stage<R: RegionWords>(
     ensures stays { Stays R.keeps_rest R.ready R.count R.health R.below r.old r.new }
     ensures ends { Ends (R.health r.old) (R.health r.new) result }
 {
-    r.set(512 + at, head)?;
-    r.set(513 + at, u64::from(place))?;
-    r.set(514 + at, u64::from(count))?;
-    copy_words(r, from, 515 + at, count)?;
-    Ok(())
+    if count <= SHORT_WORDS {
+        return stage_short(r, at, head, place, from, count);
+    }
+    stage_long(r, at, head, place, from, count)
 }
 
 /// Adds the record of `count` words at `place`, where there is room for it: the head is stored last.
 fn publish<R: RegionWords>(
     r: &mut R,
     at: u32,
-    undo: u32,
+    header: Header,
     place: u32,
     count: u32,
 ) -> Result<(), VolFail>
     requires ready { R.ready r.old }
     requires region { IsRegion (R.count r.old) (R.words r.old) }
     requires at { at ≡ taken (undo_records (R.words r.old)) }
-    requires undo { undo ≡ R.words r.old 1 }
+    requires undo { header.undo ≡ R.words r.old 1 }
+    requires head { header.head ≡ R.words r.old 3 }
     requires place { place + count ≤ places (R.words r.old) }
     requires room { at + 3 + count ≤ undo_words (R.words r.old) }
     ensures ok { OnOk result (Gains (R.count r.old) (R.words r.old) (R.words r.new) place count) }
@@ -71,8 +122,8 @@ fn publish<R: RegionWords>(
     ensures stays { Stays R.keeps_rest R.ready R.count R.health R.below r.old r.new }
     ensures ends { Ends (R.health r.old) (R.health r.new) result }
 {
-    let head = r.word(HEAD)?;
-    stage(r, at, head, place, 512 * (1 + undo) + place, count)?;
+    let from = 512 * (1 + header.undo) + place;
+    stage(r, at, header.head, place, from, count)?;
     r.set(HEAD, u64::from(at) + 1)
 }
 
@@ -94,11 +145,11 @@ pub fn set_range<R: RegionWords>(r: &mut R, place: u32, count: u32) -> Result<()
     ensures stays { Stays R.keeps_rest R.ready R.count R.health R.below r.old r.new }
     ensures ends { EndsBy (R.health r.old) (R.health r.new) (IsErrOf result UndoFail.Fault) (IsErrOf result UndoFail.Stopped) }
 {
-    let undo = r.word(UNDO)?;
-    let at = taken(r)?;
-    if 512 * undo as u32 - at < 3 + count {
+    let header = read_header(r)?;
+    let at = taken(r, header.head)?;
+    if 512 * header.undo - at < FRONT_WORDS + count {
         return Err(UndoFail::Full);
     }
-    publish(r, at, undo as u32, place, count)?;
+    publish(r, at, header, place, count)?;
     Ok(())
 }

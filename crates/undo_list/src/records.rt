@@ -15,6 +15,18 @@ pub(crate) const DATA: u32 = 2;
 /// The header's word for the newest record.
 pub(crate) const HEAD: u32 = 3;
 
+/// Words of a record in front of those that it saves: the head before it, its first place, and how many it saves.
+pub(crate) const FRONT_WORDS: u32 = 3;
+
+/// What the header says of the undo list.
+#[derive(Clone, Copy)]
+pub(crate) struct Header {
+    /// How many undo pages there are.
+    pub(crate) undo: u32,
+    /// What names the newest record.
+    pub(crate) head: u64,
+}
+
 /// What a record says of itself.
 #[derive(Clone, Copy)]
 pub(crate) struct SavedAt {
@@ -27,7 +39,25 @@ pub(crate) struct SavedAt {
     pub(crate) older: u64,
 }
 
-/// Reads the record that a head names.
+/// Reads what the header says, by one call: the words from `UNDO` to `HEAD`.
+pub(crate) fn read_header<R: RegionWords>(r: &mut R) -> Result<Header, VolFail>
+    requires ready { R.ready r.old }
+    requires region { IsRegion (R.count r.old) (R.words r.old) }
+    ensures undo { IfOk result (λ h. h.undo ≡ R.words r.old 1) }
+    ensures head { IfOk result (λ h. h.head ≡ R.words r.old 3) }
+    ensures words { R.words r.new ≡ R.words r.old }
+    ensures stays { Stays R.keeps_rest R.ready R.count R.health R.below r.old r.new }
+    ensures ends { Ends (R.health r.old) (R.health r.new) result }
+{
+    let mut words = [0; 3];
+    r.read_run(UNDO, &mut words)?;
+    Ok(Header {
+        undo: words[0] as u32,
+        head: words[2],
+    })
+}
+
+/// Reads the record that a head names, by one call.
 pub(crate) fn record_at<R: RegionWords>(r: &mut R, head: u64) -> Result<SavedAt, VolFail>
     requires ready { R.ready r.old }
     requires region { IsRegion (R.count r.old) (R.words r.old) }
@@ -39,30 +69,29 @@ pub(crate) fn record_at<R: RegionWords>(r: &mut R, head: u64) -> Result<SavedAt,
     ensures ends { Ends (R.health r.old) (R.health r.new) result }
 {
     let at = (head - 1) as u32;
-    let older = r.word(512 + at)?;
-    let first = r.word(513 + at)?;
-    let count = r.word(514 + at)?;
+    let mut words = [0; FRONT_WORDS as usize];
+    r.read_run(512 + at, &mut words)?;
     Ok(SavedAt {
         at,
-        first: first as u32,
-        count: count as u32,
-        older,
+        first: words[1] as u32,
+        count: words[2] as u32,
+        older: words[0],
     })
 }
 
-/// How many undo words the records take.
-pub(crate) fn taken<R: RegionWords>(r: &mut R) -> Result<u32, VolFail>
+/// How many undo words the records take, of which `head` names the newest.
+pub(crate) fn taken<R: RegionWords>(r: &mut R, head: u64) -> Result<u32, VolFail>
     requires ready { R.ready r.old }
     requires region { IsRegion (R.count r.old) (R.words r.old) }
+    requires head { head ≡ R.words r.old 3 }
     ensures value { IfOk result (λ n. n ≡ taken (undo_records (R.words r.old))) }
     ensures words { R.words r.new ≡ R.words r.old }
     ensures stays { Stays R.keeps_rest R.ready R.count R.health R.below r.old r.new }
     ensures ends { Ends (R.health r.old) (R.health r.new) result }
 {
-    let head = r.word(HEAD)?;
     if head == 0 {
         return Ok(0);
     }
     let newest = record_at(r, head)?;
-    Ok(newest.at + 3 + newest.count)
+    Ok(newest.at + FRONT_WORDS + newest.count)
 }

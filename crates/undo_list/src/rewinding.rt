@@ -5,14 +5,15 @@ ghost use Rattle.rio_base.specs.Blocks.{Ends};
 ghost use Rattle.rio_base.specs.Regions.{Stays};
 ghost use Rattle.rio_model.specs.Undo.{Dropped, IsRegion, Undoes, Undone};
 
-use crate::records::{HEAD, UNDO, record_at};
+use crate::records::{HEAD, read_header, record_at};
 use crate::runs::copy_words;
 use rio_base::{RegionWords, VolFail};
 
 /// Puts the words of the newest record back, and then drops it. The answer is the head that is left.
-fn rewind_newest<R: RegionWords>(r: &mut R, head: u64) -> Result<u64, VolFail>
+fn rewind_newest<R: RegionWords>(r: &mut R, undo: u32, head: u64) -> Result<u64, VolFail>
     requires ready { R.ready r.old }
     requires region { IsRegion (R.count r.old) (R.words r.old) }
+    requires undo { undo ≡ R.words r.old 1 }
     requires head { head ≡ R.words r.old 3 }
     requires some { 0 < head }
     ensures head { IfOk result (λ h. (h ≡ R.words r.new 3) × (h < head)) }
@@ -20,12 +21,11 @@ fn rewind_newest<R: RegionWords>(r: &mut R, head: u64) -> Result<u64, VolFail>
     ensures stays { Stays R.keeps_rest R.ready R.count R.health R.below r.old r.new }
     ensures ends { Ends (R.health r.old) (R.health r.new) result }
 {
-    let undo = r.word(UNDO)?;
     let newest = record_at(r, head)?;
     copy_words(
         r,
         515 + newest.at,
-        512 * (1 + undo as u32) + newest.first,
+        512 * (1 + undo) + newest.first,
         newest.count,
     )?;
     r.set(HEAD, newest.older)?;
@@ -43,9 +43,10 @@ pub fn rewind<R: RegionWords>(r: &mut R) -> Result<(), VolFail>
     ensures stays { Stays R.keeps_rest R.ready R.count R.health R.below r.old r.new }
     ensures ends { Ends (R.health r.old) (R.health r.new) result }
 {
-    let mut head = r.word(HEAD)?;
+    let header = read_header(r)?;
+    let mut head = header.head;
     while head != 0 {
-        head = rewind_newest(r, head)?;
+        head = rewind_newest(r, header.undo, head)?;
     }
     Ok(())
 }

@@ -1,7 +1,7 @@
-use Rattle.std.proofs.Common.{◌≡◌, ◌∙◌, sym, ap, subst}
-use Rattle.rio_base.specs.Blocks.{BlockWords}
-use Rattle.file_pages.specs.LookingUpRules.{look_trans, named_on}
+use Rattle.std.proofs.Common.{subst}
+use Rattle.rio_model.specs.Placed.{volume_layout}
+use Rattle.rio_model.specs.VolumeReady.{AllNamed}
 use Rattle.directories.proofs.finding.find.Goals as goal
 
 pub returns-clause-named : goal.returns-clause-named
-returns-clause-named g c = named_on c.args.shape.now (g.V.Blocks.seen c.args.v.now) _ c.requires.mapped c.requires.named (look_trans c.args.shape.now _ (g.V.Blocks.seen c.dir_inode.new.v) _ c.in_ok-inode.ensures.looks c.find_in_pages.ensures.looks)
+returns-clause-named g c = subst (λ f. AllNamed (volume_layout c.args.shape.now f) (g.V.Blocks.seen c.find_with.new.v)) c.dir_inode.ensures.looks.looks.words c.find_with.ensures.named

@@ -1,7 +1,10 @@
 use Rattle.file_pages.specs.LookingUpRules.{can_look_up}
 use Rattle.file_pages.specs.OrderRules.{leaves_looked, ready_left}
-use Rattle.file_store.proofs.RegionPlaces.{page_owned}
+use Rattle.file_store.proofs.RegionPlaces.{direct_page, page_owned}
 use Rattle.file_store.proofs.region_pages.page_block.Goals as goal
+
+pub returns-then-page-lt-DIRECT_PAGES-clause-page : goal.returns-then-page-lt-DIRECT_PAGES-clause-page
+returns-then-page-lt-DIRECT_PAGES-clause-page g c = direct_page c.args.shape.now (g.V.Blocks.seen c.args.v.now).words c.args.i.0 c.args.at c.args.inode.now c.requires.ready.mapped c.requires.region c.requires.place c.requires.inode c.if-page-lt-DIRECT_PAGES.true
 
 pub block_of-requires-clause-can : goal.block_of-requires-clause-can
 block_of-requires-clause-can g c =

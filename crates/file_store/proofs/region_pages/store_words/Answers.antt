@@ -2,10 +2,13 @@ use Rattle.std.proofs.Common.{◌≡◌, ℕ, ◌+◌, ◌<◌, ◌∙◌, lengt
 use Rattle.rio_base.specs.Regions.{put_words}
 use Rattle.rio_base.specs.Rules.{◌then◌}
 use Rattle.rio_model.specs.Held.{held_of}
-use Rattle.file_store.specs.Views.{rest_trans}
+use Rattle.file_store.specs.Views.{inode_still, rest_trans}
 use Rattle.file_store.proofs.RegionParts.{front_rest, put_all, put_rest, rest_length, rest_told}
 use Rattle.file_store.proofs.RunEnds.{ends_fault, ends_stop, fault_told}
 use Rattle.file_store.proofs.region_pages.store_words.Goals as goal
+
+pub store_page-requires-clause-inode : goal.store_page-requires-clause-inode
+store_page-requires-clause-inode g c = inode_still c.args.shape.now c.args.i.0 _ _ c.args.inode.now c.requires.inode c.loop-done.invariant.rest
 
 pub loop-done-preserved : goal.loop-done-preserved
 loop-done-preserved g c =

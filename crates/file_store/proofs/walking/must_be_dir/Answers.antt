@@ -24,4 +24,4 @@ pub returns-clause-ok : goal.returns-clause-ok
 returns-clause-ok g c = sym (inode_kind_held c.args.shape.now (g.V.Blocks.seen c.args.v.now).words c.args.i.0 c.in_ok-inode.inode c.requires.used c.in_ok-inode.ensures.value) ∙ c.if-inode-ne-DIRECTORY.false
 
 pub returns-clause-ends : goal.returns-clause-ends
-returns-clause-ends g c = ends_ok _ _ tt (well _ _ c.inode_of.result _ c.in_ok-inode.was c.inode_of.ensures.ends)
+returns-clause-ends g c = ends_ok _ _ _ (well _ _ c.inode_of.result _ c.in_ok-inode.was c.inode_of.ensures.ends)

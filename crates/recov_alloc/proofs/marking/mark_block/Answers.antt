@@ -1,9 +1,33 @@
-use Rattle.std.proofs.Common.{cond}
-use Rattle.rio_model.specs.Undo.{live}
-use Rattle.recov_alloc.proofs.Marks.{block_marked}
+use Rattle.std.proofs.Common.{arith, sym, subst, refl, ◌∙◌, cond, le_trans}
+use Rattle.rio_base.specs.RegionRules.{stays_trans}
+use Rattle.rio_model.specs.Undo.{IsRegion, Keeps, live}
+use Rattle.rio_model.specs.UndoRules.{keeps_trans}
+use Rattle.recov_alloc.proofs.Marks.{block_marked, page_covered, units_more}
 use Rattle.recov_alloc.proofs.marking.mark_block.Goals as goal
+
+pub mark_page-requires-clause-covered : goal.mark_page-requires-clause-covered
+mark_page-requires-clause-covered g c =
+    page_covered (g.R.RegionWords.words c.args.r.now) (g.R.RegionWords.words c.loop-next.r) c.args.at c.args.units c.loop-next.next c.min-run.result c.loop-next.invariant.keeps.records c.requires.covered c.loop-next.invariant.low (omega (arith, c.min-run.ensures, c.loop-next-test.true)) (omega (arith, c.min-run.ensures, c.loop-next-test.true))
+
+pub loop-next-preserved : goal.loop-next-preserved
+loop-next-preserved g c =
+    let f = g.R.RegionWords.words c.args.r.now in
+    let m = g.R.RegionWords.words c.loop-next.r in
+    let k = g.R.RegionWords.words c.mark_page.new.r in
+    let inv = c.loop-next.invariant in
+    let e = c.mark_page.ensures in
+    record {
+      low = omega (arith, inv.low);
+      most = omega (arith, c.min-run.ensures, c.loop-next-test.true);
+      region = subst (λ n. IsRegion n k) (sym e.stays.count) e.keeps.undoes.region;
+      marked = units_more (live f) (live m) (live k) c.args.at c.loop-next.next c.min-run.result _ (cond c.args.on 1 0) inv.low (omega (arith, c.min-run.ensures, c.loop-next-test.true)) (omega (arith, c.min-run.ensures)) refl inv.marked c.in_ok-mark_page.ensures.ok;
+      keeps = keeps_trans (g.R.RegionWords.count c.args.r.now) f m k inv.keeps (subst (λ n. Keeps n m k) inv.stays.count e.keeps);
+      stays = stays_trans g.met.R.RegionWords.rest_trans inv.stays e.stays;
+      later = le_trans inv.later e.ends.later;
+      running = c.in_ok-mark_page.ensures.ends.cause ∙ inv.running;
+    }
 
 pub returns-clause-ok : goal.returns-clause-ok
 returns-clause-ok g c =
-    let f = g.R.RegionWords.words in
-    block_marked (live (f c.args.r.now)) (live (f c.mark_units.new.r)) (live (f c.store_bits.new.r)) c.args.at c.args.units (cond c.args.on 1 0) c.requires.units c.in_ok-mark_units.ensures.ok c.in_ok-store_bits.ensures.ok
+    let inv = c.loop-next.invariant in
+    block_marked (live (g.R.RegionWords.words c.args.r.now)) (live (g.R.RegionWords.words c.loop-next.r)) c.args.at c.args.units c.loop-next.next (cond c.args.on 1 0) c.requires.units (omega (arith, inv.most, c.loop-next-test.false)) inv.marked

@@ -7,6 +7,7 @@ abbrev pub invariant-loop-head : goal.invariant-loop-head
 invariant-loop-head g l =
     let R = g.R.RegionWords in
     record {
+      undo : l.header.undo ≡ R.words l.r 1;
       head : l.head ≡ R.words l.r 3;
       region : IsRegion (R.count l.r) (R.words l.r);
       before : Undoes (R.count l.fn.r) (R.words l.fn.r) (R.words l.r);

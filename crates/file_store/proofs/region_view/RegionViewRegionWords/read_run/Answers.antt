@@ -1,5 +1,5 @@
 use Rattle.std.proofs.Common.{refl}
-use Rattle.file_store.specs.Views.{on_still, rest_same}
+use Rattle.file_store.specs.Views.{inode_still, on_still, rest_same}
 use Rattle.file_store.proofs.region_view.RegionViewRegionWords.read_run.Goals as goal
 
 pub returns-clause-stays : goal.returns-clause-stays
@@ -9,7 +9,7 @@ returns-clause-stays g c =
     let rest = rest_same view.shape view.ino.0 (g.V.Blocks.seen view.v).words (g.V.Blocks.seen c.read_words.new.v).words call.words in
     record {
       rest = record { shape = refl; ino = refl; count = refl; rest = rest };
-      ready = (call.sound, on_still view.shape (g.V.Blocks.seen view.v) (g.V.Volume.kept view.v) _ _ view.ino.0 view.words c.requires.ready.1 call.ready rest);
+      ready = (call.sound, on_still view.shape (g.V.Blocks.seen view.v) (g.V.Volume.kept view.v) _ _ view.ino.0 view.words c.requires.ready.1 call.ready rest, inode_still view.shape view.ino.0 _ _ view.inode c.requires.ready.2 rest);
       count = refl;
       goes = (g.met.V.Volume.passes_keeps _ _ call.passes).goes;
     }

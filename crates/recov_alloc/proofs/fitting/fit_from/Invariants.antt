@@ -2,7 +2,7 @@ use Rattle.std.proofs.Common.{◌≡◌, ◌≤◌, ◌*◌, ◌-◌}
 use Rattle.rio_base.specs.Regions.{Stays}
 use Rattle.rio_model.specs.Undo.{IsRegion, live}
 use Rattle.recov_alloc.specs.Scans.{Before}
-use Rattle.recov_alloc.proofs.fitting.first_fit.Given as goal
+use Rattle.recov_alloc.proofs.fitting.fit_from.Given as goal
 
 abbrev pub invariant-loop-page : goal.invariant-loop-page
 invariant-loop-page g l =

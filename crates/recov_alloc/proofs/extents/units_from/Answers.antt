@@ -3,7 +3,7 @@ use Rattle.rio_base.specs.Regions.{AreWords}
 use Rattle.rio_base.specs.RegionRules.{stays_trans}
 use Rattle.rio_model.specs.Undo.{IsRegion, live}
 use Rattle.recov_alloc.proofs.Reaches.{block_by, stops_at, within_more}
-use Rattle.recov_alloc.proofs.extents.block_units.Goals as goal
+use Rattle.recov_alloc.proofs.extents.units_from.Goals as goal
 
 pub returns-in_err-read_places-clause-stays : goal.returns-in_err-read_places-clause-stays
 returns-in_err-read_places-clause-stays g c = stays_trans g.met.R.RegionWords.rest_trans c.loop-next.invariant.stays c.read_places.ensures.stays

@@ -1,8 +1,8 @@
 use Rattle.std.proofs.Common.{◌≡◌, ◌≤◌, ◌<◌, ◌*◌, ◌-◌}
 use Rattle.rio_base.specs.Regions.{Stays}
 use Rattle.rio_model.specs.Undo.{IsRegion, live}
-use Rattle.recov_alloc.proofs.Reaches.{Within}
-use Rattle.recov_alloc.proofs.extents.block_units.Given as goal
+use Rattle.recov_alloc.specs.Extents.{Within}
+use Rattle.recov_alloc.proofs.extents.units_from.Given as goal
 
 abbrev pub invariant-loop-next : goal.invariant-loop-next
 invariant-loop-next g l =

@@ -2,7 +2,7 @@ use Rattle.std.proofs.Common.{arith, ◌∙◌, ◌+◌, ◌*◌, sym, subst, le
 use Rattle.rio_base.specs.RegionRules.{stays_trans}
 use Rattle.rio_model.specs.Undo.{IsRegion, live}
 use Rattle.recov_alloc.specs.Scans.{Before, ScanEnds}
-use Rattle.recov_alloc.proofs.fitting.first_fit.Goals as goal
+use Rattle.recov_alloc.proofs.fitting.fit_from.Goals as goal
 
 pub loop-page-preserved : goal.loop-page-preserved
 loop-page-preserved g c =
