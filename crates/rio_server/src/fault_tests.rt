@@ -1,4 +1,4 @@
-//! Drawn requests over a disk whose calls fail: after each fault every file is as the definition allows.
+//! Requests over a disk whose calls fail: after each fault the files and regions are as the definition allows.
 
 ghost use Rattle.std.specs.Prelude.{IfOk};
 ghost use Rattle.block_disk.specs.MemDisks.{state_of};
@@ -13,9 +13,9 @@ use crate::plain_server::{root_alone, text_of};
 use crate::test_cores::{Sizes, checked};
 use block_disk::MemDisk;
 use request_codec::parse_line;
-use rio_base::{Octets, Stopped, VolumeShape};
+use rio_base::{Ino, Octets, Stopped, VolumeShape};
 use rio_core::Server;
-use rio_model::State;
+use rio_model::{State, TxnList};
 use rio_requests::{Answered, Reply, Request, answer};
 use std::alloc::{AllocError, Global};
 use std::test::Fail;
@@ -27,13 +27,30 @@ const EVICTING: Sizes = Sizes {
     inodes: 64,
 };
 
+/// The same, and no more blocks than one run takes.
+const SMALL: Sizes = Sizes {
+    frames: 32,
+    blocks: 64,
+    inodes: 64,
+};
+
+/// A run from a fresh volume.
+#[derive(Drop)]
+struct Run {
+    sizes: Sizes,
+    /// The lines that are made, in order.
+    lines: Vec<String>,
+    /// The lines that are read after each fault. They change nothing.
+    readings: Vec<String>,
+}
+
 /// Why a walk ended before its last request.
 #[derive(Clone, Copy, Debug, PartialEq, Eq)]
 enum WalkEnd {
     /// The core stopped.
     Stopped,
-    /// The reply to this request, counted from 0, is not the definition's, or a file is not what it allows after it.
-    Differs(u32),
+    /// The reply to this request, counted from 0, is not the definition's, or what is read after it is not what it allows.
+    Differs(usize),
     /// A request met a fault each time that it was made.
     Faults,
     /// No memory was left.
@@ -52,19 +69,29 @@ impl From<AllocError> for WalkEnd {
     }
 }
 
-/// The state that a fault leaves after `done` bytes of a request.
-fn faulted(alloc: Global, s: State, request: &Request, done: u64) -> Result<State, AllocError> {
-    let Request::Write { path, off, bytes } = request else {
-        return Ok(s);
-    };
+/// The first `done` bytes, or all where there are fewer.
+fn front_of(alloc: Global, bytes: &Octets, done: u64) -> Result<Octets, AllocError> {
     let done = (done as usize).min(bytes.as_slice().len());
+    Ok(Octets::from(Vec::from_slice(alloc, &bytes.as_slice()[..done])?))
+}
+
+/// The state that a fault leaves after `done` bytes of a request, where it dooms no transaction.
+fn faulted(alloc: Global, s: State, request: &Request, done: u64) -> Result<State, AllocError> {
     if done == 0 {
         return Ok(s);
     }
-    let front = Request::Write {
-        path: path.clone()?,
-        off: *off,
-        bytes: Octets::from(Vec::from_slice(alloc, &bytes.as_slice()[..done])?),
+    let front = match request {
+        Request::Write { path, off, bytes } => Request::Write {
+            path: path.clone()?,
+            off: *off,
+            bytes: front_of(alloc, bytes, done)?,
+        },
+        Request::Put { path, off, bytes } => Request::Put {
+            path: path.clone()?,
+            off: *off,
+            bytes: front_of(alloc, bytes, done)?,
+        },
+        _ => return Ok(s),
     };
     let Answered { next, reply: _ } = answer(alloc, &s, &front)?;
     Ok(next)
@@ -98,14 +125,13 @@ fn insisted<C: Server>(alloc: Global, core: &mut C, request: &Request) -> Result
     Err(WalkEnd::Faults)
 }
 
-/// Whether a file reads as the state says.
-fn reads_as<C: Server>(alloc: Global, core: &mut C, s: &State, path: &str) -> Result<bool, WalkEnd>
+/// Whether a line that changes nothing is answered as the state says.
+fn reads_as<C: Server>(alloc: Global, core: &mut C, s: &State, line: &str) -> Result<bool, WalkEnd>
     requires sound { C.sound core.old }
     requires holds { (s : StateOf) × C.holds core.old s }
     ensures sound { C.sound core.new }
     ensures holds { IfOk result (λ same. (s : StateOf) × C.holds core.new s) }
 {
-    let line = format!(in alloc; "read {path} 0 1048576")?;
     let Some(request) = parse_line(alloc, line.as_bytes())? else {
         return Ok(false);
     };
@@ -122,29 +148,111 @@ fn reads_as<C: Server>(alloc: Global, core: &mut C, s: &State, path: &str) -> Re
     Ok(text.as_slice() == wanted.as_slice())
 }
 
-/// Whether each file reads as the state says.
-fn all_read_as<C: Server>(alloc: Global, core: &mut C, s: &State) -> Result<bool, WalkEnd>
+/// Whether each of such lines is.
+fn all_read_as<C: Server>(
+    alloc: Global,
+    core: &mut C,
+    s: &State,
+    readings: &[String],
+) -> Result<bool, WalkEnd>
     requires sound { C.sound core.old }
     requires holds { (s : StateOf) × C.holds core.old s }
     ensures sound { C.sound core.new }
     ensures holds { IfOk result (λ same. (s : StateOf) × C.holds core.new s) }
 {
-    for n in 0..40u32 {
-        let path = file_path(alloc, n / 10, n % 10)?;
-        if !reads_as(alloc, core, s, path.as_str())? {
+    for n in 0..readings.len() {
+        if !reads_as(alloc, core, s, readings[n].as_str())? {
             return Ok(false);
         }
     }
     Ok(true)
 }
 
+/// The path of a request that may doom a transaction.
+fn dooming_path(request: &Request) -> Option<&Octets> {
+    match request {
+        Request::Alloc { path, .. } | Request::Free { path, .. } | Request::Abort { path } => {
+            Some(path)
+        }
+        _ => None,
+    }
+}
+
+/// The state where the transaction on a region may only be aborted, if one is open.
+fn with_doomed(s: State, ino: Ino) -> State {
+    let State {
+        names,
+        nodes,
+        txns,
+        shape,
+        pages,
+        scratch,
+    } = s;
+    let mut txns = txns.into_vec();
+    for txn in txns.iter_mut() {
+        if txn.ino.0 == ino.0 {
+            txn.doomed = true;
+        }
+    }
+    State {
+        names,
+        nodes,
+        txns: TxnList::from(txns),
+        shape,
+        pages,
+        scratch,
+    }
+}
+
+/// The inode of the region at a path.
+fn region_at(alloc: Global, s: &State, path: &Octets) -> Result<Option<Ino>, AllocError> {
+    let path = path.clone()?;
+    let Answered { next: _, reply } = answer(alloc, s, &Request::Stat { path })?;
+    match reply {
+        Some(Reply::Stat { ino, kind: 3, .. }) => Ok(Some(ino)),
+        _ => Ok(None),
+    }
+}
+
+/// The state after a fault that changed no byte, where the core may have left the transaction of the request to be aborted:
+/// it then refuses to read the region.
+fn doomed<C: Server>(
+    alloc: Global,
+    core: &mut C,
+    s: State,
+    request: &Request,
+) -> Result<State, WalkEnd>
+    requires sound { C.sound core.old }
+    requires holds { (s : StateOf) × C.holds core.old s }
+    ensures sound { C.sound core.new }
+    ensures holds { IfOk result (λ next. (s : StateOf) × C.holds core.new s) }
+{
+    let Some(path) = dooming_path(request) else {
+        return Ok(s);
+    };
+    let Some(ino) = region_at(alloc, &s, path)? else {
+        return Ok(s);
+    };
+    let mut line = Vec::from_slice(alloc, b"get ".as_slice())?;
+    line.extend_from_slice(path.as_slice())?;
+    line.extend_from_slice(b" 0 0".as_slice())?;
+    let Some(reading) = parse_line(alloc, line.as_slice())? else {
+        return Ok(s);
+    };
+    match insisted(alloc, core, &reading)? {
+        Reply::Err(22) => Ok(with_doomed(s, ino)),
+        _ => Ok(s),
+    }
+}
+
 /// Makes a request of a core that holds the state, and answers the state after it and whether it met a fault. None where
-/// the reply or a file is not what the definition allows.
+/// the reply, or what is read after it, is not what the definition allows.
 fn make<C: Server>(
     alloc: Global,
     core: &mut C,
     s: State,
     request: &Request,
+    readings: &[String],
 ) -> Result<Option<(State, bool)>, WalkEnd>
     requires sound { C.sound core.old }
     requires holds { (s : StateOf) × C.holds core.old s }
@@ -155,7 +263,8 @@ fn make<C: Server>(
     let reply = ask(alloc, core, request)?;
     if let Reply::Fault(done) = reply {
         let s = faulted(alloc, s, request, done)?;
-        if !all_read_as(alloc, core, &s)? {
+        let s = doomed(alloc, core, s, request)?;
+        if !all_read_as(alloc, core, &s, readings)? {
             return Ok(None);
         }
         return Ok(Some((s, true)));
@@ -175,21 +284,19 @@ fn make<C: Server>(
     Ok(Some((next, false)))
 }
 
-/// Makes drawn requests of a core that serves a fresh volume, and counts those that met a fault.
-fn walk<C: Server>(alloc: Global, core: &mut C, seed: u64, count: u32) -> Result<u32, WalkEnd>
+/// Makes the requests of a run of a core that serves a fresh volume, and counts those that met a fault.
+fn walk<C: Server>(alloc: Global, core: &mut C, run: &Run) -> Result<u32, WalkEnd>
     requires sound { C.sound core.old }
     requires holds { (s : StateOf) × C.holds core.old s }
     ensures sound { C.sound core.new }
 {
-    let mut draws = Draws::new(seed);
-    let mut s = root_alone(alloc, EVICTING)?;
+    let mut s = root_alone(alloc, run.sizes)?;
     let mut faults = 0u32;
-    for n in 0..count {
-        let line = drawn_line(alloc, &mut draws, 0)?;
-        let Some(request) = parse_line(alloc, line.as_bytes())? else {
+    for n in 0..run.lines.len() {
+        let Some(request) = parse_line(alloc, run.lines[n].as_bytes())? else {
             return Err(WalkEnd::Differs(n));
         };
-        let Some((next, met)) = make(alloc, core, s, &request)? else {
+        let Some((next, met)) = make(alloc, core, s, &request, &run.readings)? else {
             return Err(WalkEnd::Differs(n));
         };
         s = next;
@@ -200,39 +307,130 @@ fn walk<C: Server>(alloc: Global, core: &mut C, seed: u64, count: u32) -> Result
     Ok(faults)
 }
 
-/// A disk with a fresh volume, of which each call with a number that is a multiple of `each` fails, up to the 300th of them.
-fn failing_disk(alloc: Global, shape: &VolumeShape, each: u64) -> Result<MemDisk, AllocError>
+/// A disk with a fresh volume, of which each call with a number that is a multiple of `each` fails, up to the `most`th of
+/// them.
+fn failing_disk(
+    alloc: Global,
+    shape: &VolumeShape,
+    each: u64,
+    most: u64,
+) -> Result<MemDisk, AllocError>
     requires shape { IsVolumeShape shape.now }
     ensures { IfOk result (λ d. IsFreshDisk shape.now (state_of d).blocks (state_of d).pending) }
 {
     let mut disk = fresh_disk(alloc, shape)?;
-    for n in 1..301u64 {
+    for n in 1..most.saturating_add(1) {
         disk.fail_call(n.saturating_mul(each).max(1))?;
     }
     Ok(disk)
 }
 
 /// Walks over such a disk.
-fn faults_of(alloc: Global, seed: u64, each: u64) -> Result<Result<u32, WalkEnd>, AllocError> {
-    let Some(found) = checked(EVICTING) else {
+fn faults_of(
+    alloc: Global,
+    run: &Run,
+    each: u64,
+    most: u64,
+) -> Result<Result<u32, WalkEnd>, AllocError> {
+    let Some(found) = checked(run.sizes) else {
         return Err(AllocError);
     };
-    let disk = failing_disk(alloc, &found.shape, each)?;
+    let disk = failing_disk(alloc, &found.shape, each, most)?;
     let mut core = fresh_core(alloc, found.frames, found.shape, disk)?;
-    let ended = walk(alloc, &mut core, seed, 300);
+    let ended = walk(alloc, &mut core, run);
     let (_, _) = core.into_machine().into_parts();
     Ok(ended)
+}
+
+/// A run of drawn lines on files, which reads all files after a fault.
+fn drawn_run(alloc: Global, seed: u64) -> Result<Run, AllocError> {
+    let mut draws = Draws::new(seed);
+    let mut lines = Vec::new(alloc);
+    for _ in 0..300usize {
+        lines.push(drawn_line(alloc, &mut draws, 0)?)?;
+    }
+    let mut readings = Vec::new(alloc);
+    for n in 0..40u32 {
+        let path = file_path(alloc, n / 10, n % 10)?;
+        readings.push(format!(in alloc; "read {path} 0 1048576")?)?;
+    }
+    Ok(Run {
+        sizes: EVICTING,
+        lines,
+        readings,
+    })
 }
 
 #[test]
 fn after_a_fault_each_file_is_as_the_definition_allows(rt: HostRuntime) -> Result<(), Fail> {
     let mut met = 0u32;
     for (seed, each) in [(1u64, 7u64), (2, 7), (3, 11), (4, 5), (5, 5)] {
-        match faults_of(rt.alloc(), seed, each)? {
+        let run = drawn_run(rt.alloc(), seed)?;
+        match faults_of(rt.alloc(), &run, each, 300)? {
             Ok(count) => met = met.saturating_add(count),
             Err(end) => panic!(rt; "{end:?} from {seed}"),
         }
     }
     assert!(rt; met > 3, "{met} faults");
+    Ok(())
+}
+
+/// Transactions on two regions, of which the first has more pages than there are frames: the range of all its data, and its
+/// abort, take the pages of the second out of memory.
+const TRANSACTIONS: [&str; 17] = [
+    "create /f",
+    "write /f 0 0123456789abcdef",
+    "region /a 20 21",
+    "region /b 1 1",
+    "begin /b",
+    "range /b 0 16",
+    "put /b 0 11111111111111112222222222222222",
+    "begin /a",
+    "range /a 0 81920",
+    "alloc /b 3",
+    "put /a 4088 33333333333333334444444444444444",
+    "free /b 0",
+    "abort /a",
+    "put /b 8 5555555555555555",
+    "commit /b",
+    "begin /b",
+    "abort /b",
+];
+
+/// What is read after a fault in them.
+const READINGS: [&str; 5] = [
+    "read /f 0 16",
+    "get /a 4080 24",
+    "get /b 0 24",
+    "stat /a",
+    "txns",
+];
+
+/// These lines.
+fn lines_of(alloc: Global, lines: &[&str]) -> Result<Vec<String>, AllocError> {
+    let mut list = Vec::new(alloc);
+    for n in 0..lines.len() {
+        list.push(String::from_str(alloc, lines[n])?)?;
+    }
+    Ok(list)
+}
+
+#[test]
+fn each_fault_of_transactions_is_told_as_defined(rt: HostRuntime) -> Result<(), Fail> {
+    let run = Run {
+        sizes: SMALL,
+        lines: lines_of(rt.alloc(), &TRANSACTIONS)?,
+        readings: lines_of(rt.alloc(), &READINGS)?,
+    };
+    let mut met = 0u32;
+    for nth in 1..400u64 {
+        match faults_of(rt.alloc(), &run, nth, 1)? {
+            // The calls before were all there are.
+            Ok(0) => break,
+            Ok(count) => met = met.saturating_add(count),
+            Err(end) => panic!(rt; "{end:?} at call {nth}"),
+        }
+    }
+    assert!(rt; met > 100, "{met} faults");
     Ok(())
 }
