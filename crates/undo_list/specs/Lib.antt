@@ -3,5 +3,6 @@ pub mod Chains
 pub mod Copies
 pub mod Failures
 pub mod FaultyRegions
+pub mod Headers
 pub mod Marks
 pub mod Stages

@@ -152,10 +152,11 @@ fn covers_from<R: RegionWords>(r: &mut R, newest: SavedAt, span: Span) -> Result
 
 /// Whether each of at most `REACH` places is covered. The records are followed once, newest first: one that covers the first
 /// place that is left, or the last one, takes its own places off that end, and from the first record on that lies between
-/// them the places are marked.
-fn covers<R: RegionWords>(r: &mut R, place: u32, count: u32) -> Result<bool, VolFail>
+/// them the places are marked. `newest` names the newest record.
+fn covers<R: RegionWords>(r: &mut R, newest: u64, place: u32, count: u32) -> Result<bool, VolFail>
     requires ready { R.ready r.old }
     requires region { IsRegion (R.count r.old) (R.words r.old) }
+    requires head { newest ≡ R.words r.old 3 }
     requires place { place + count ≤ places (R.words r.old) }
     requires reach { count ≤ REACH }
     ensures value { IfOk result (λ b. MatchBool b (CoversAll (undo_records (R.words r.old)) place count) (CoversAll (undo_records (R.words r.old)) place count → ⊥)) }
@@ -163,7 +164,7 @@ fn covers<R: RegionWords>(r: &mut R, place: u32, count: u32) -> Result<bool, Vol
     ensures stays { Stays R.keeps_rest R.ready R.count R.health R.below r.old r.new }
     ensures ends { Ends (R.health r.old) (R.health r.new) result }
 {
-    let mut head = r.word(HEAD)?;
+    let mut head = newest;
     let mut left = Span {
         from: place,
         to: place + count,
@@ -198,10 +199,34 @@ pub fn covered<R: RegionWords>(r: &mut R, place: u32, count: u32) -> Result<bool
     ensures stays { Stays R.keeps_rest R.ready R.count R.health R.below r.old r.new }
     ensures ends { Ends (R.health r.old) (R.health r.new) result }
 {
+    if count == 0 {
+        return Ok(true);
+    }
+    let head = r.word(HEAD)?;
+    covered_with(r, head, place, count)
+}
+
+/// `covered`, for a caller that has read the header: `head` is what names the newest record.
+pub fn covered_with<R: RegionWords>(
+    r: &mut R,
+    head: u64,
+    place: u32,
+    count: u32,
+) -> Result<bool, VolFail>
+    requires ready { R.ready r.old }
+    requires region { IsRegion (R.count r.old) (R.words r.old) }
+    requires head { head ≡ R.words r.old 3 }
+    requires place { place + count ≤ places (R.words r.old) }
+    ensures value { IfOk result (λ b. MatchBool b (CoversAll (undo_records (R.words r.old)) place count) (CoversAll (undo_records (R.words r.old)) place count → ⊥)) }
+    ensures words { R.words r.new ≡ R.words r.old }
+    ensures region { IsRegion (R.count r.new) (R.words r.new) }
+    ensures stays { Stays R.keeps_rest R.ready R.count R.health R.below r.old r.new }
+    ensures ends { Ends (R.health r.old) (R.health r.new) result }
+{
     let mut done = 0;
     while done < count {
         let next = REACH.min(count - done);
-        if !covers(r, place + done, next)? {
+        if !covers(r, head, place + done, next)? {
             return Ok(false);
         }
         done += next;

@@ -18,9 +18,12 @@ mod runs;
 mod undo_tests;
 
 pub use bits::{ones_from, with_bits, zeros_from};
-pub use covering::covered;
+pub use covering::{covered, covered_with};
 pub use failures::{UndoFail, uncounted};
 pub use faulty_region::FaultyRegion;
-pub use places::{data_pages, put_covered, put_covered_run, read_places, word_at};
-pub use ranges::{room, set_range};
+pub use places::{
+    data_pages, put_covered, put_covered_run, put_covered_run_with, read_places, word_at,
+};
+pub use ranges::{room, set_range, set_range_with};
+pub use records::{Header, read_header};
 pub use rewinding::{drop_all, rewind};

@@ -92,5 +92,27 @@ pub fn put_covered_run<R: RegionWords>(r: &mut R, place: u32, words: &[u64]) -> 
         Err(VolFail::Fault) => return Err(RunFail::Fault(0)),
         Err(VolFail::Stopped) => return Err(RunFail::Stopped),
     };
+    put_covered_run_with(r, undo, place, words)
+}
+
+/// `put_covered_run`, for a caller that has read the header: `undo` is how many undo pages there are.
+pub fn put_covered_run_with<R: RegionWords>(
+    r: &mut R,
+    undo: u32,
+    place: u32,
+    words: &[u64],
+) -> Result<(), RunFail>
+    requires ready { R.ready r.old }
+    requires region { IsRegion (R.count r.old) (R.words r.old) }
+    requires undo { undo ≡ R.words r.old 1 }
+    requires place { place + length words.now ≤ places (R.words r.old) }
+    requires covered { CoversAll (undo_records (R.words r.old)) place (length words.now) }
+    ensures ok { OnOk result (Puts (R.count r.old) (R.words r.old) (R.words r.new) place (length words.now) words.now) }
+    ensures fault { FaultAt result (λ n. (n ≤ length words.now) × Puts (R.count r.old) (R.words r.old) (R.words r.new) place n words.now) }
+    ensures front { PutsFront (R.count r.old) (R.words r.old) (R.words r.new) place words.now }
+    ensures region { IsRegion (R.count r.new) (R.words r.new) }
+    ensures stays { Stays R.keeps_rest R.ready R.count R.health R.below r.old r.new }
+    ensures ends { Ends (R.health r.old) (R.health r.new) (as_word result) }
+{
     r.set_run(512 * (1 + undo) + place, words)
 }

@@ -4,6 +4,7 @@ ghost use Rattle.std.specs.Prelude.{◌≡◌, ◌+◌, ◌*◌, ◌<◌, ◌≤
 ghost use Rattle.rio_base.specs.Blocks.{Ends, EndsBy};
 ghost use Rattle.rio_base.specs.Regions.{Stays};
 ghost use Rattle.rio_model.specs.Undo.{Gains, IsRegion, Rests, Undoes, places, taken, undo_records, undo_words};
+ghost use Rattle.undo_list.specs.Headers.{IsHeader};
 ghost use Rattle.undo_list.specs.Stages.{Off, Staged};
 
 use crate::failures::{UndoFail, uncounted};
@@ -146,6 +147,31 @@ pub fn set_range<R: RegionWords>(r: &mut R, place: u32, count: u32) -> Result<()
     ensures ends { EndsBy (R.health r.old) (R.health r.new) (IsErrOf result UndoFail.Fault) (IsErrOf result UndoFail.Stopped) }
 {
     let header = read_header(r)?;
+    set_range_with(r, header, place, count)
+}
+
+/// `set_range`, for a caller that has read the header.
+pub fn set_range_with<R: RegionWords>(
+    r: &mut R,
+    header: Header,
+    place: u32,
+    count: u32,
+) -> Result<(), UndoFail>
+    requires ready { R.ready r.old }
+    requires region { IsRegion (R.count r.old) (R.words r.old) }
+    requires header { IsHeader (R.words r.old) header }
+    requires place { place + count ≤ places (R.words r.old) }
+    ensures ok { OnOk result (Gains (R.count r.old) (R.words r.old) (R.words r.new) place count) }
+    ensures room { OnOk result (taken (undo_records (R.words r.old)) + 3 + count ≤ undo_words (R.words r.old)) }
+    ensures full { IsErrOf result UndoFail.Full → undo_words (R.words r.old) < taken (undo_records (R.words r.old)) + 3 + count }
+    ensures refused { IsErrOf result UndoFail.Full → R.words r.new ≡ R.words r.old }
+    ensures fault { IsErrOf result UndoFail.Fault → Rests (R.count r.old) (R.words r.old) (R.words r.new) }
+    ensures either { Rests (R.count r.old) (R.words r.old) (R.words r.new) ⊎ Gains (R.count r.old) (R.words r.old) (R.words r.new) place count }
+    ensures before { Undoes (R.count r.old) (R.words r.old) (R.words r.new) }
+    ensures region { IsRegion (R.count r.new) (R.words r.new) }
+    ensures stays { Stays R.keeps_rest R.ready R.count R.health R.below r.old r.new }
+    ensures ends { EndsBy (R.health r.old) (R.health r.new) (IsErrOf result UndoFail.Fault) (IsErrOf result UndoFail.Stopped) }
+{
     let at = taken(r, header.head)?;
     if 512 * header.undo - at < FRONT_WORDS + count {
         return Err(UndoFail::Full);

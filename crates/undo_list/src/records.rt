@@ -5,6 +5,7 @@ ghost use Rattle.rio_base.specs.Blocks.{Ends};
 ghost use Rattle.rio_base.specs.Regions.{Stays};
 ghost use Rattle.rio_model.specs.Undo.{IsRegion, UndoRecord, taken, undo_records};
 ghost use Rattle.undo_list.specs.Chains.{IsChain, IsNewest};
+ghost use Rattle.undo_list.specs.Headers.{IsHeader};
 
 use rio_base::{RegionWords, VolFail};
 
@@ -18,13 +19,15 @@ pub(crate) const HEAD: u32 = 3;
 /// Words of a record in front of those that it saves: the head before it, its first place, and how many it saves.
 pub(crate) const FRONT_WORDS: u32 = 3;
 
-/// What the header says of the undo list.
+/// What a region's header says of its pages and of its undo list.
 #[derive(Clone, Copy)]
-pub(crate) struct Header {
+pub struct Header {
     /// How many undo pages there are.
-    pub(crate) undo: u32,
-    /// What names the newest record.
-    pub(crate) head: u64,
+    pub undo: u32,
+    /// How many data pages there are.
+    pub data: u32,
+    /// What names the newest record: 0 where there is none.
+    pub head: u64,
 }
 
 /// What a record says of itself.
@@ -40,12 +43,12 @@ pub(crate) struct SavedAt {
 }
 
 /// Reads what the header says, by one call: the words from `UNDO` to `HEAD`.
-pub(crate) fn read_header<R: RegionWords>(r: &mut R) -> Result<Header, VolFail>
+pub fn read_header<R: RegionWords>(r: &mut R) -> Result<Header, VolFail>
     requires ready { R.ready r.old }
     requires region { IsRegion (R.count r.old) (R.words r.old) }
-    ensures undo { IfOk result (λ h. h.undo ≡ R.words r.old 1) }
-    ensures head { IfOk result (λ h. h.head ≡ R.words r.old 3) }
+    ensures header { IfOk result (IsHeader (R.words r.old)) }
     ensures words { R.words r.new ≡ R.words r.old }
+    ensures region { IsRegion (R.count r.new) (R.words r.new) }
     ensures stays { Stays R.keeps_rest R.ready R.count R.health R.below r.old r.new }
     ensures ends { Ends (R.health r.old) (R.health r.new) result }
 {
@@ -53,6 +56,7 @@ pub(crate) fn read_header<R: RegionWords>(r: &mut R) -> Result<Header, VolFail>
     r.read_run(UNDO, &mut words)?;
     Ok(Header {
         undo: words[0] as u32,
+        data: words[1] as u32,
         head: words[2],
     })
 }

@@ -1,12 +1,13 @@
 //! Tests of the undo list on a region in memory, whose calls are stopped and fail one after the other.
 
-ghost use Rattle.std.specs.Prelude.{◌≡◌, ◌≤◌, ◌<◌, ◌+◌, IfOk};
+ghost use Rattle.std.specs.Prelude.{◌≡◌, ◌≤◌, ◌<◌, ◌+◌, IfOk, length};
 ghost use Rattle.rio_base.specs.Regions.{Stays};
 ghost use Rattle.rio_model.specs.Undo.{IsRegion};
 ghost use Rattle.undo_list.specs.FaultyRegions.{FaultyReady, faulty_content};
 
 use crate::{
-    FaultyRegion, UndoFail, covered, drop_all, put_covered, rewind, room, set_range, word_at,
+    FaultyRegion, Header, UndoFail, covered, covered_with, drop_all, put_covered,
+    put_covered_run_with, read_header, rewind, room, set_range, set_range_with, word_at,
 };
 use rio_base::{RegionWords, VolFail};
 use std::alloc::Global;
@@ -39,6 +40,38 @@ fn oldest_record_is_put_back_last(rt: HostRuntime) -> Result<(), Fail> {
     rewind(&mut r)?;
     assert_eq!(rt; word_at(&mut r, DATA)?, 0);
     assert_eq!(rt; room(&mut r)?, 512);
+    Ok(())
+}
+
+/// Saves the places of some words by one header, and stores the words by the next. Answers that.
+fn change_by_headers<R: RegionWords>(r: &mut R, place: u32, words: &[u64]) -> Result<Header, Fail>
+    requires ready { R.ready r.old }
+    requires region { IsRegion (R.count r.old) (R.words r.old) }
+    requires place { place + length words.now ≤ 1024 }
+    ensures ready { R.ready r.new }
+    ensures region { IsRegion (R.count r.new) (R.words r.new) }
+{
+    let count = words.len() as u32;
+    let before = read_header(r)?;
+    set_range_with(r, before, place, count)?;
+    let header = read_header(r)?;
+    if !covered_with(r, header.head, place, count)? {
+        Err("not covered")?;
+    }
+    put_covered_run_with(r, header.undo, place, words)?;
+    Ok(header)
+}
+
+#[test]
+fn header_is_read_once_for_each_change(rt: HostRuntime) -> Result<(), Fail> {
+    let mut r = FaultyRegion::fresh(rt.alloc(), 1, 1)?;
+    let header = change_by_headers(&mut r, DATA, &[7, 8])?;
+    assert_eq!(rt; (header.undo, header.data, header.head), (1, 1, 1));
+    assert_eq!(rt; word_at(&mut r, DATA)?, 7);
+    assert_eq!(rt; word_at(&mut r, DATA + 1)?, 8);
+    assert_eq!(rt; room(&mut r)?, 507);
+    rewind(&mut r)?;
+    assert_eq!(rt; word_at(&mut r, DATA + 1)?, 0);
     Ok(())
 }
 
