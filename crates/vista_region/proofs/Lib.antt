@@ -9,5 +9,6 @@ mod Nodes
 mod Outcomes
 mod Puts
 mod Ranges
+mod Spans
 mod TestTables
 mod Words

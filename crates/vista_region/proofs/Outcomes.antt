@@ -68,6 +68,16 @@ whole_goes off len r v go h e = by ((eqb (off % 8) 0) && (eqb (len % 8) 0)) (ap 
     by true k = refl
     by false k = absurd (true_false (sym k))
 
+-- no whole words
+refused_words : (b : Bool) (number : ℕ) (go : Outcome) → number_of (cond b (Ok tt) (Err NotAligned)) ≡ Some number → cond b go (Err 20) ≡ Err number
+unfolding number_of or_none Has
+refused_words true number go e = absurd (subst Has (sym e) tt)
+refused_words false number go e = ap (λ n. Err n) (ap or_none e)
+
+pub not_whole : (off len : ℕ) (r : Result (Unit {0}) TxnFail) (e : TxnFail) (number : ℕ) (go : Outcome) → r ≡ Err e → r ≡ whole off len → refusal_of e ≡ Some number → of_words off len go ≡ Err number
+unfolding number_of
+not_whole off len r e number go h is refused = refused_words ((eqb (off % 8) 0) && (eqb (len % 8) 0)) number go (ap number_of (sym is ∙ h) ∙ refused)
+
 pub whole_len : (off len : ℕ) (r : Result (Unit {0}) TxnFail) (v : Unit {0}) → r ≡ Ok v → r ≡ whole off len → len % 8 ≡ 0
 whole_len off len r v h e = by (eqb (off % 8) 0) (eqb (len % 8) 0) refl (ap is_ok (sym e ∙ h))
   where

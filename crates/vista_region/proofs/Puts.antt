@@ -1,10 +1,12 @@
 -- What bytes that are put come to.
-use Rattle.std.proofs.Common.{◌≡◌, ℕ, ◌+◌, ◌-◌, ◌*◌, ◌/◌, ◌<◌, ◌≤◌, ◌⊎◌, inl, inr, ◌++◌, Bool, true, false, cond, Some, Err, List, length, map, take, drop, slice_index, sym, ap, subst, ◌∙◌, arith, length-append, length-drop}
+use Rattle.std.proofs.Common.{◌≡◌, ℕ, ◌+◌, ◌-◌, ◌*◌, ◌/◌, ◌%◌, ◌<◌, ◌≤◌, ◌⊎◌, inl, inr, ◌++◌, Bool, true, false, cond, Some, Err, List, length, map, take, drop, slice_index, refl, sym, ap, subst, ◌∙◌, arith, length-append, length-drop}
 use Rattle.std.specs.Prelude.{MatchBool}
 use Rattle.std.specs.List.{range_with_len}
 use Rattle.std.proofs.lemmas.Bool.{cases_lt}
 use Rattle.std.proofs.lemmas.List.{ext_get_or, get_or-append_right, get_or-drop, get_or-take, get_or_append_left, length-take-le, take_all}
 use Rattle.std.proofs.lemmas.List.FromFn.{get_or-map-range_with_len, length-map-range_with_len}
+use Rattle.rio_base.specs.declared.failures.VolFail.{VolFail}
+use Rattle.rio_base.specs.declared.failures.VolFail.TheVariants.{Fault as WordFault, Stopped as WordStopped}
 use Rattle.rio_base.specs.Regions.{RegionContent, put_words}
 use Rattle.rio_model.specs.FileParts.{put_at}
 use Rattle.rio_model.specs.declared.node.RegionNode.{RegionNode}
@@ -14,18 +16,17 @@ use Rattle.rio_model.specs.Undo.{CoversAll, IsRegion, Keeps, Puts, data_from, li
 use Rattle.rio_requests.specs.RegionAnswers.{Outcome, all_in_range, of_words, put_on, with_words, within, words_of}
 use Rattle.rio_requests.specs.declared.reply.Reply.TheVariants.{Number}
 use Rattle.vista_region.specs.Ends.{DoneAs, Fits, OnFault, PutPart, says_number}
+use Rattle.vista_region.specs.Failures.{handed}
 use Rattle.vista_region.specs.Marks.{Marks, mark_of, txn_in}
 use Rattle.vista_region.specs.Regions.{ranges_of, region_now, txn_now}
 use Rattle.vista_region.specs.Steps.{IsSpan}
 use Rattle.vista_region.specs.declared.data.Span.{Span}
-use Rattle.vista_region.specs.declared.failures.TxnFail.{TxnFail}
-use Rattle.vista_region.specs.declared.failures.TxnFail.TheVariants.{NoTransaction, Doomed, NotAligned, OutOfRange, NotCovered, NotBlock, HeapFull, UndoFull, Fault, Stopped}
 use Rattle.vista_region.proofs.Covered.{all_in, not_all_in}
 use Rattle.vista_region.proofs.Ended.{fits_open}
 use Rattle.vista_region.proofs.Heaps.{SameMap, alone_same, blocks_same}
 use Rattle.vista_region.proofs.Nodes.{marked, txn_in_same}
 use Rattle.vista_region.proofs.Outcomes.{answer, open_goes, same_answer}
-use Rattle.vista_region.proofs.Ranges.{Passes}
+use Rattle.vista_region.proofs.Spans.{Passes, Stops}
 use Rattle.vista_region.proofs.Words.{part_word, put_in, put_out, words_long}
 
 -- ---- words put over a list that a function gives
@@ -105,7 +106,7 @@ abbrev region_of : List ℕ → ℕ → List (ℕ × ℕ) → RegionNode
 region_of words undo blocks = record { words = words; undo = undo; blocks = blocks }
 
 -- data words that change leave the heap map
-pub same_map : (n : ℕ) (f g : RegionContent) (off len k : ℕ) (span : Span) (words : List ℕ) → IsSpan f off len span → Puts n f g span.place k words → SameMap (f 2) (live f) (live g)
+pub same_map : (n : ℕ) (f g : RegionContent) (off len k : ℕ) (span : Span) (words : List ℕ) → IsSpan (f 2) off len span → Puts n f g span.place k words → SameMap (f 2) (live f) (live g)
 same_map n f g off len k span words s p = record { each = λ q small. ap (λ (h : ℕ → ℕ). h q) p.present ∙ put_out (live f) span.place k q words (inl (omega (arith, small, s.place))) }
 
 -- the words of the first k words' bytes
@@ -115,7 +116,7 @@ front_words bytes k j fits small = part_word bytes 0 k j (omega (arith, fits)) s
 front_long : (bytes : List ℕ) (k : ℕ) → 8 * k ≤ length bytes → length (words_of (take (8 * k) bytes)) ≡ k
 front_long bytes k within = let a = words_long (take (8 * k) bytes) in let b = length-take-le (8 * k) bytes within in omega (arith, a, b)
 
-pub put_now : (n : ℕ) (f g : RegionContent) (off len k : ℕ) (span : Span) (bytes : List ℕ) → IsSpan f off len span → Puts n f g span.place k (words_of bytes) → 8 * k ≤ length bytes → k ≤ span.count → region_now g ≡ with_words (region_now f) off (take (8 * k) bytes)
+pub put_now : (n : ℕ) (f g : RegionContent) (off len k : ℕ) (span : Span) (bytes : List ℕ) → IsSpan (f 2) off len span → Puts n f g span.place k (words_of bytes) → 8 * k ≤ length bytes → k ≤ span.count → region_now g ≡ with_words (region_now f) off (take (8 * k) bytes)
 put_now n f g off len k span bytes s p within few =
     let sizes = p.keeps.undoes.sizes in
     let front : List ℕ = words_of (take (8 * k) bytes) in
@@ -129,7 +130,7 @@ put_now n f g off len k span bytes s p within few =
 pub put_txn : (marks : Marks) (i n : ℕ) (f g : RegionContent) → Keeps n f g → txn_in marks i g ≡ txn_in marks i f
 put_txn marks i n f g k = txn_in_same marks i f g k.undoes.sizes k.undoes.before k.records
 
-pub put_fits : (marks : Marks) (i size n m : ℕ) (f g : RegionContent) (off len k : ℕ) (span : Span) (words : List ℕ) → mark_of marks i ≡ Some false → Fits marks i size f → m ≡ n → IsSpan f off len span → Puts n f g span.place k words → Fits marks i m g
+pub put_fits : (marks : Marks) (i size n m : ℕ) (f g : RegionContent) (off len k : ℕ) (span : Span) (words : List ℕ) → mark_of marks i ≡ Some false → Fits marks i size f → m ≡ n → IsSpan (f 2) off len span → Puts n f g span.place k words → Fits marks i m g
 put_fits marks i size n m f g off len k span words open_mark h same s p =
     let u = p.keeps.undoes in
     let blocks = alone_same (f 2) (live f) (live g) (same_map n f g off len k span words s p) (h.heap open_mark) in
@@ -143,47 +144,40 @@ after_put f off bytes t = of_words off (length bytes) (within (region_now f) off
 put_goes : (marks : Marks) (i : ℕ) (f : RegionContent) (off : ℕ) (bytes : List ℕ) (b : Bool) → mark_of marks i ≡ Some false → Passes f off (length bytes) → all_in_range (ranges_of (data_from f) (undo_records f)) (off / 8) (length bytes / 8) ≡ b → put_on (region_now f) (txn_in marks i f) off bytes ≡ cond b (answer (with_words (region_now f) off bytes) (Some (txn_now i f false)) (Number (length bytes))) (Err 15)
 put_goes marks i f off bytes b m passes all = open_goes marks i f (after_put f off bytes) m ∙ passes _ ∙ ap (λ c. cond c (answer (with_words (region_now f) off bytes) (Some (txn_now i f false)) (Number (length bytes))) (Err 15)) all
 
-covers_span : (f : RegionContent) (off len : ℕ) (span : Span) → IsSpan f off len span → CoversAll (undo_records f) span.place span.count → CoversAll (undo_records f) (data_from f + off / 8) (len / 8)
+covers_span : (f : RegionContent) (off len : ℕ) (span : Span) → IsSpan (f 2) off len span → CoversAll (undo_records f) span.place span.count → CoversAll (undo_records f) (data_from f + off / 8) (len / 8)
 covers_span f off len span s c = subst (λ p. CoversAll (undo_records f) p (len / 8)) s.place (subst (λ k. CoversAll (undo_records f) span.place k) s.count c)
 
-span_covers : (f : RegionContent) (off len : ℕ) (span : Span) → IsSpan f off len span → CoversAll (undo_records f) (data_from f + off / 8) (len / 8) → CoversAll (undo_records f) span.place span.count
+span_covers : (f : RegionContent) (off len : ℕ) (span : Span) → IsSpan (f 2) off len span → CoversAll (undo_records f) (data_from f + off / 8) (len / 8) → CoversAll (undo_records f) span.place span.count
 span_covers f off len span s c = subst (λ p. CoversAll (undo_records f) p span.count) (sym s.place) (subst (λ k. CoversAll (undo_records f) (data_from f + off / 8) k) (sym s.count) c)
 
 -- not covered
-pub put_refused : (marks : Marks) (i : ℕ) (f : RegionContent) (off : ℕ) (bytes : List ℕ) (span : Span) → mark_of marks i ≡ Some false → IsSpan f off (length bytes) span → Passes f off (length bytes) → (CoversAll (undo_records f) span.place span.count → ⊥) → put_on (region_now f) (txn_in marks i f) off bytes ≡ Err 15
+pub put_refused : (marks : Marks) (i : ℕ) (f : RegionContent) (off : ℕ) (bytes : List ℕ) (span : Span) → mark_of marks i ≡ Some false → IsSpan (f 2) off (length bytes) span → Passes f off (length bytes) → (CoversAll (undo_records f) span.place span.count → ⊥) → put_on (region_now f) (txn_in marks i f) off bytes ≡ Err 15
 put_refused marks i f off bytes span m s passes none = put_goes marks i f off bytes false m passes (not_all_in (data_from f) (undo_records f) (off / 8) (length bytes / 8) (λ c. none (span_covers f off (length bytes) span s c)))
 
-put_open : (marks : Marks) (i : ℕ) (f : RegionContent) (off : ℕ) (bytes : List ℕ) (span : Span) → mark_of marks i ≡ Some false → IsSpan f off (length bytes) span → Passes f off (length bytes) → CoversAll (undo_records f) span.place span.count → put_on (region_now f) (txn_in marks i f) off bytes ≡ answer (with_words (region_now f) off bytes) (Some (txn_now i f false)) (Number (length bytes))
+put_open : (marks : Marks) (i : ℕ) (f : RegionContent) (off : ℕ) (bytes : List ℕ) (span : Span) → mark_of marks i ≡ Some false → IsSpan (f 2) off (length bytes) span → Passes f off (length bytes) → CoversAll (undo_records f) span.place span.count → put_on (region_now f) (txn_in marks i f) off bytes ≡ answer (with_words (region_now f) off bytes) (Some (txn_now i f false)) (Number (length bytes))
 put_open marks i f off bytes span m s passes all = put_goes marks i f off bytes true m passes (all_in (data_from f) (undo_records f) (off / 8) (length bytes / 8) (covers_span f off (length bytes) span s all))
 
 -- a refusal of the checks
-pub put_stops : (marks : Marks) (i : ℕ) (f : RegionContent) (off : ℕ) (bytes : List ℕ) (number : ℕ) → mark_of marks i ≡ Some false → ((go : Outcome) → of_words off (length bytes) (within (region_now f) off (length bytes) go) ≡ Err number) → put_on (region_now f) (txn_in marks i f) off bytes ≡ Err number
+pub put_stops : (marks : Marks) (i : ℕ) (f : RegionContent) (off : ℕ) (bytes : List ℕ) (number : ℕ) → mark_of marks i ≡ Some false → Stops f off (length bytes) number → put_on (region_now f) (txn_in marks i f) off bytes ≡ Err number
 put_stops marks i f off bytes number m stops = open_goes marks i f (after_put f off bytes) m ∙ stops _
 
-pub put_done : (marks : Marks) (i n : ℕ) (f g : RegionContent) (off : ℕ) (bytes : List ℕ) (span : Span) → mark_of marks i ≡ Some false → IsSpan f off (length bytes) span → Passes f off (length bytes) → CoversAll (undo_records f) span.place span.count → Puts n f g span.place (length bytes / 8) (words_of bytes) → DoneAs (put_on (region_now f) (txn_in marks i f) off bytes) marks i g (says_number (length bytes))
-put_done marks i n f g off bytes span m s passes all p =
-    let every : 8 * (length bytes / 8) ≡ length bytes = omega (arith, s.whole) in
+pub put_done : (marks : Marks) (i n : ℕ) (f g : RegionContent) (off : ℕ) (bytes : List ℕ) (span : Span) → mark_of marks i ≡ Some false → IsSpan (f 2) off (length bytes) span → Passes f off (length bytes) → CoversAll (undo_records f) span.place span.count → length bytes % 8 ≡ 0 → Puts n f g span.place (length bytes / 8) (words_of bytes) → DoneAs (put_on (region_now f) (txn_in marks i f) off bytes) marks i g (says_number (length bytes))
+put_done marks i n f g off bytes span m s passes all ends p =
+    let every : 8 * (length bytes / 8) ≡ length bytes = omega (arith, ends) in
     let full : take (8 * (length bytes / 8)) bytes ≡ bytes = take_all (8 * (length bytes / 8)) bytes (omega (arith, every)) in
     let now : region_now g ≡ with_words (region_now f) off bytes = put_now n f g off (length bytes) (length bytes / 8) span bytes s p (omega (arith, every)) (omega (arith, s.count)) ∙ ap (with_words (region_now f) off) full in
     put_open marks i f off bytes span m s passes all ∙ same_answer (with_words (region_now f) off bytes) (region_now g) (Some (txn_now i f false)) (txn_in marks i g) (Number (length bytes)) (sym now) (sym (put_txn marks i n f g p.keeps ∙ marked marks i f false m))
 
 -- cut off after k words
-pub put_part : (marks : Marks) (i n : ℕ) (f g : RegionContent) (off k : ℕ) (bytes : List ℕ) (span : Span) → mark_of marks i ≡ Some false → IsSpan f off (length bytes) span → Passes f off (length bytes) → CoversAll (undo_records f) span.place span.count → k ≤ length bytes / 8 → Puts n f g span.place k (words_of bytes) → PutPart (put_on (region_now f) (txn_in marks i f) off bytes) marks i f g off bytes (8 * k)
+pub put_part : (marks : Marks) (i n : ℕ) (f g : RegionContent) (off k : ℕ) (bytes : List ℕ) (span : Span) → mark_of marks i ≡ Some false → IsSpan (f 2) off (length bytes) span → Passes f off (length bytes) → CoversAll (undo_records f) span.place span.count → k ≤ length bytes / 8 → Puts n f g span.place k (words_of bytes) → PutPart (put_on (region_now f) (txn_in marks i f) off bytes) marks i f g off bytes (8 * k)
 put_part marks i n f g off k bytes span m s passes all few p = inr (record { region = with_words (region_now f) off bytes; txn = Some (txn_now i f false); reply = Number (length bytes) }, put_open marks i f off bytes span m s passes all, omega arith, omega (arith, few), put_now n f g off (length bytes) k span bytes s p (omega (arith, few)) (omega (arith, few, s.count)), put_txn marks i n f g p.keeps)
 
 -- ---- what calls before it say
 
-pub fault_of : (T U : Type 0) (e : TxnFail) (P Q : ℕ → Type 0) → ((k : ℕ) → P k → Q k) → OnFault {T = U} (Err e) P → OnFault {T = T} (Err e) Q
-fault_of T U NoTransaction P Q h p = tt
-fault_of T U Doomed P Q h p = tt
-fault_of T U NotAligned P Q h p = tt
-fault_of T U OutOfRange P Q h p = tt
-fault_of T U NotCovered P Q h p = tt
-fault_of T U NotBlock P Q h p = tt
-fault_of T U HeapFull P Q h p = tt
-fault_of T U UndoFull P Q h p = tt
-fault_of T U (Fault k) P Q h p = h k p
-fault_of T U Stopped P Q h p = tt
+-- the header was not read
+pub unread : (T : Type 0) (e : VolFail) (P : ℕ → Type 0) → ((k : ℕ) → k ≡ 0 → P k) → OnFault {T = T} (Err (handed e)) P
+unread T WordFault P none = none 0 refl
+unread T WordStopped P none = tt
 
 pub none_put : (defined : Outcome) (marks : Marks) (i : ℕ) (f g : RegionContent) (off : ℕ) (bytes : List ℕ) → g ≡ f → (k : ℕ) → k ≡ 0 → PutPart defined marks i f g off bytes k
 none_put defined marks i f g off bytes same k none = inl (none, ap (λ (w : RegionContent). region_now w) same, ap (λ (w : RegionContent). txn_in marks i w) same)

@@ -4,7 +4,7 @@ ghost use Rattle.std.specs.Prelude.{◌≡◌, ℕ, ◌+◌, ◌-◌, ◌*◌, �
 ghost use Rattle.rio_base.specs.Blocks.{EndsBy};
 ghost use Rattle.rio_base.specs.Regions.{Stays};
 ghost use Rattle.rio_base.specs.declared.places.Ino.{Ino};
-ghost use Rattle.rio_model.specs.Undo.{IsRegion, Undoes, map_pages};
+ghost use Rattle.rio_model.specs.Undo.{Undoes, map_pages};
 ghost use Rattle.rio_requests.specs.RegionAnswers.{get_on, put_on, range_on};
 ghost use Rattle.rio_requests.specs.declared.reply.Reply.TheVariants.{Bytes};
 ghost use Rattle.vista_region.specs.Ends.{Fits, IsFault, OnFault, PutPart, TxnEnds, get_refusal_of, says_done, says_number};
@@ -17,7 +17,7 @@ use crate::open_table::OpenTable;
 use crate::runs::{push_bytes, put_bytes};
 use rio_base::{Ino, Octets, RegionWords, RunFail};
 use std::alloc::Global;
-use undo_list::{covered, data_pages};
+use undo_list::{Header, covered_with, data_pages, read_header, set_range_with};
 
 /// Places of data words.
 #[derive(Clone, Copy)]
@@ -57,23 +57,16 @@ fn data_place(pages: u32) -> u32
     512 * pages.div_ceil(256)
 }
 
-/// The places of the words that bytes of the data are.
-fn data_span<R: RegionWords>(r: &mut R, off: u64, len: u64) -> Result<Span, TxnFail>
-    requires ready { R.ready r.old }
-    requires region { IsRegion (R.count r.old) (R.words r.old) }
-    ensures ends { SpanEnds (R.words r.old) off len result }
-    ensures fault { OnFault result (λ k. k ≡ 0) }
-    ensures words { R.words r.new ≡ R.words r.old }
-    ensures stays { Stays R.keeps_rest R.ready R.count R.health R.below r.old r.new }
-    ensures causes { EndsBy (R.health r.old) (R.health r.new) (IsFault result) (IsErrOf result TxnFail.Stopped) }
+/// The places of the words that bytes of the data are: else `OutOfRange`.
+fn data_span(header: Header, off: u64, len: u64) -> Result<Span, TxnFail>
+    requires few { 512 * (map_pages header.«data» + header.«data») < 4294967296 }
+    ensures { SpanEnds header.«data» off len result }
 {
-    whole_words(off, len)?;
-    let pages = data_pages(r)?;
-    if !ends_within(off, len, pages) {
+    if !ends_within(off, len, header.data) {
         return Err(TxnFail::OutOfRange);
     }
     Ok(Span {
-        place: data_place(pages) + (off / 8) as u32,
+        place: data_place(header.data) + (off / 8) as u32,
         count: (len / 8) as u32,
     })
 }
@@ -101,8 +94,10 @@ impl OpenTable {
         ensures causes { EndsBy (R.health r.old) (R.health r.new) (IsFault result) (IsErrOf result TxnFail.Stopped) }
     {
         self.active(i)?;
-        let span = data_span(r, off, len)?;
-        undo_list::set_range(r, span.place, span.count)?;
+        whole_words(off, len)?;
+        let header = read_header(r)?;
+        let span = data_span(header, off, len)?;
+        set_range_with(r, header, span.place, span.count)?;
         Ok(())
     }
 
@@ -129,11 +124,13 @@ impl OpenTable {
     {
         self.active(i)?;
         let len = bytes.len() as u64;
-        let span = data_span(r, off, len)?;
-        if !covered(r, span.place, span.count)? {
+        whole_words(off, len)?;
+        let header = read_header(r)?;
+        let span = data_span(header, off, len)?;
+        if !covered_with(r, header.head, span.place, span.count)? {
             return Err(TxnFail::NotCovered);
         }
-        match put_bytes(r, span.place, bytes) {
+        match put_bytes(r, header.undo, span.place, bytes) {
             Ok(()) => Ok(len),
             Err(RunFail::Fault(words)) => Err(TxnFail::Fault(8 * u64::from(words))),
             Err(RunFail::Stopped) => Err(TxnFail::Stopped),

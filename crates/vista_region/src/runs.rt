@@ -12,7 +12,7 @@ use crate::failures::GetFail;
 use byteorder::{ByteOrder, LittleEndian};
 use rio_base::{RegionWords, RunFail};
 use std::alloc::AllocError;
-use undo_list::{put_covered_run, read_places};
+use undo_list::{put_covered_run_with, read_places};
 
 /// Words that one call reads or stores, as long as a page.
 const RUN_WORDS: usize = 512;
@@ -27,12 +27,14 @@ const SHORT_BYTES: usize = 128;
 /// Stores the words that `bytes` are from a place on, through `room`.
 fn put_through<R: RegionWords>(
     r: &mut R,
+    undo: u32,
     place: u32,
     bytes: &[u8],
     room: &mut [u64],
 ) -> Result<(), RunFail>
     requires ready { R.ready r.old }
     requires region { IsRegion (R.count r.old) (R.words r.old) }
+    requires undo { undo ≡ R.words r.old 1 }
     requires room { length bytes.now ≡ 8 * length room.old }
     requires place { place + length bytes.now / 8 ≤ places (R.words r.old) }
     requires covered { CoversAll (undo_records (R.words r.old)) place (length bytes.now / 8) }
@@ -43,14 +45,15 @@ fn put_through<R: RegionWords>(
     ensures ends { Ends (R.health r.old) (R.health r.new) (as_word result) }
 {
     LittleEndian::read_u64_into(bytes, room);
-    put_covered_run(r, place, room)
+    put_covered_run_with(r, undo, place, room)
 }
 
 /// `put_through`, for any run.
 #[inline(never)]
-fn put_long<R: RegionWords>(r: &mut R, place: u32, bytes: &[u8]) -> Result<(), RunFail>
+fn put_long<R: RegionWords>(r: &mut R, undo: u32, place: u32, bytes: &[u8]) -> Result<(), RunFail>
     requires ready { R.ready r.old }
     requires region { IsRegion (R.count r.old) (R.words r.old) }
+    requires undo { undo ≡ R.words r.old 1 }
     requires whole { length bytes.now % 8 ≡ 0 }
     requires few { length bytes.now ≤ 4096 }
     requires place { place + length bytes.now / 8 ≤ places (R.words r.old) }
@@ -62,13 +65,14 @@ fn put_long<R: RegionWords>(r: &mut R, place: u32, bytes: &[u8]) -> Result<(), R
     ensures ends { Ends (R.health r.old) (R.health r.new) (as_word result) }
 {
     let mut room = [0; RUN_WORDS];
-    put_through(r, place, bytes, &mut room[..bytes.len() / 8])
+    put_through(r, undo, place, bytes, &mut room[..bytes.len() / 8])
 }
 
 /// Stores the words that `bytes` are from a place on: at most a page of them.
-fn put_run<R: RegionWords>(r: &mut R, place: u32, bytes: &[u8]) -> Result<(), RunFail>
+fn put_run<R: RegionWords>(r: &mut R, undo: u32, place: u32, bytes: &[u8]) -> Result<(), RunFail>
     requires ready { R.ready r.old }
     requires region { IsRegion (R.count r.old) (R.words r.old) }
+    requires undo { undo ≡ R.words r.old 1 }
     requires whole { length bytes.now % 8 ≡ 0 }
     requires few { length bytes.now ≤ 4096 }
     requires place { place + length bytes.now / 8 ≤ places (R.words r.old) }
@@ -80,17 +84,23 @@ fn put_run<R: RegionWords>(r: &mut R, place: u32, bytes: &[u8]) -> Result<(), Ru
     ensures ends { Ends (R.health r.old) (R.health r.new) (as_word result) }
 {
     if bytes.len() > SHORT_BYTES {
-        return put_long(r, place, bytes);
+        return put_long(r, undo, place, bytes);
     }
     let mut room = [0; SHORT_WORDS];
-    put_through(r, place, bytes, &mut room[..bytes.len() / 8])
+    put_through(r, undo, place, bytes, &mut room[..bytes.len() / 8])
 }
 
 /// Stores the words that `bytes` are from a place on, which records cover, in rising order. `Fault` says how many words
 /// were stored.
-pub(crate) fn put_bytes<R: RegionWords>(r: &mut R, place: u32, bytes: &[u8]) -> Result<(), RunFail>
+pub(crate) fn put_bytes<R: RegionWords>(
+    r: &mut R,
+    undo: u32,
+    place: u32,
+    bytes: &[u8],
+) -> Result<(), RunFail>
     requires ready { R.ready r.old }
     requires region { IsRegion (R.count r.old) (R.words r.old) }
+    requires undo { undo ≡ R.words r.old 1 }
     requires whole { length bytes.now % 8 ≡ 0 }
     requires place { place + length bytes.now / 8 ≤ places (R.words r.old) }
     requires covered { CoversAll (undo_records (R.words r.old)) place (length bytes.now / 8) }
@@ -104,7 +114,7 @@ pub(crate) fn put_bytes<R: RegionWords>(r: &mut R, place: u32, bytes: &[u8]) -> 
     let mut done = 0;
     while done < words {
         let next = words.min(done + RUN_WORDS);
-        match put_run(r, place + done as u32, &bytes[8 * done..8 * next]) {
+        match put_run(r, undo, place + done as u32, &bytes[8 * done..8 * next]) {
             Ok(()) => {}
             Err(RunFail::Fault(n)) => return Err(RunFail::Fault(done as u32 + n)),
             Err(RunFail::Stopped) => return Err(RunFail::Stopped),
