@@ -6,6 +6,7 @@ pub mod HeldLines
 pub mod LineEnds
 pub mod Meanings
 pub mod Names
+pub mod NearEnds
 pub mod Numbers
 pub mod OneMeaning
 pub mod PathNames

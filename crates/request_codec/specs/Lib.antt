@@ -1,3 +1,4 @@
+pub mod Digits
 pub mod Form
 pub mod Fronts
 pub mod Gathered

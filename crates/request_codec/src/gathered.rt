@@ -3,9 +3,9 @@
 ghost use Rattle.std.specs.Prelude.{◌≡◌, ◌≢◌, ◌++◌, ℕ, false, [], List, IfOk, OnOk, OnErr, IsTrue};
 ghost use Rattle.request_codec.specs.Gathered.{Gathers, Keeps, IsKept, IsKeptLast};
 
+use crate::line_end::line_end;
 use crate::lines::NextLine;
 use crate::piece::Piece;
-use memchr::memchr;
 use rio_base::Octets;
 use std::alloc::{AllocError, Global};
 
@@ -70,7 +70,7 @@ pub fn gather(piece: &mut Piece, line: &mut Gathered) -> Result<bool, AllocError
     ensures err { OnErr result (piece.new ≡ piece.old) }
 {
     let held = piece.held();
-    match memchr(b'\n', held) {
+    match line_end(held) {
         Some(end) => {
             line.push(&held[..end])?;
             piece.skip(end + 1);

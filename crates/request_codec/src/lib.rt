@@ -4,6 +4,7 @@
 mod gathered;
 mod hex_digits;
 mod hex_text;
+mod line_end;
 mod lines;
 mod number;
 mod parse;

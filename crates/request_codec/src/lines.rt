@@ -7,8 +7,8 @@ ghost use Rattle.rio_base.specs.Streams.{IsSpent};
 ghost use Rattle.request_codec.specs.Lines.{Fails, Gives, HasEnded, HoldsLine, Refills, TakesLine};
 
 use crate::gathered::{Gathered, gather};
+use crate::line_end::line_end;
 use crate::piece::Piece;
-use memchr::memchr;
 use rio_base::{Octets, Source};
 use std::alloc::{AllocError, Global};
 use std::marker::Model;
@@ -93,7 +93,7 @@ impl LineReader {
         ensures line { IfSome result (λ line. HoldsLine self.now line.now) }
     {
         let held = self.piece.held();
-        let end = memchr(b'\n', held)?;
+        let end = line_end(held)?;
         Some(&held[..end])
     }
 

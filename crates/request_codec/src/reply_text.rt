@@ -48,11 +48,14 @@ pub fn write_reply_in<K: Sink>(reply: &Reply, room: &mut [u8], sink: &mut K) -> 
     send_line(reply, room, sink)
 }
 
-/// Sends a reply's line.
+/// Sends a reply's line. The commonest one is sent as it stands.
 fn send_line<K: Sink>(reply: &Reply, room: &mut [u8], sink: &mut K) -> Result<(), Failed>
     requires { 2 ≤ length room.old }
     ensures { Sends result (K.written sink.old) (K.faults sink.old) [] (text_of reply.now) (K.written sink.new) (K.faults sink.new) [] }
 {
+    if let Reply::Ok = reply {
+        return send(b"ok\n", sink);
+    }
     let body = put_body(reply, room, sink)?;
     let line = put(b"\n", room, body, sink)?;
     send(&room[..line], sink)

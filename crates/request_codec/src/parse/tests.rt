@@ -1,7 +1,7 @@
 ghost use Rattle.std.specs.Prelude.{◌<◌};
 
 use super::*;
-use crate::hex_digits::decode_into;
+use crate::hex_digits::{decode, decode_into};
 
 /// The parts of a request: its word, its path, its data or its second path, and its numbers.
 fn parts(request: &Request) -> (&str, &[u8], &[u8], [u64; 3]) {
@@ -356,7 +356,7 @@ fn sevens_but(place: usize, byte: u8) -> [u8; 98]
 }
 
 #[test]
-fn digits_as_the_crate_hex_reads_them(rt: HostRuntime) {
+fn digits_as_the_crate_hex_reads_them(rt: HostRuntime) -> Result<(), AllocError> {
     for byte in 0..=255 {
         for digits in [
             sevens_but(6, byte),
@@ -365,11 +365,19 @@ fn digits_as_the_crate_hex_reads_them(rt: HostRuntime) {
         ] {
             let mut out = [0; 49];
             let decoded = decode_into(&digits, &mut out);
+            let made = decode(rt.alloc(), &digits, 49)?;
             let want = hex::decode(rt.alloc(), digits.as_slice());
             assert_eq!(rt; decoded, want.is_ok(), "byte {byte}");
+            assert_eq!(rt; made.is_some(), want.is_ok(), "byte {byte}");
             if let Ok(bytes) = want {
                 assert_eq!(rt; out.as_slice(), bytes.as_slice(), "byte {byte}");
+                assert!(rt;
+                    made.as_ref()
+                        .is_some_and(|made| made.as_slice() == bytes.as_slice()),
+                    "byte {byte}"
+                );
             }
         }
     }
+    Ok(())
 }

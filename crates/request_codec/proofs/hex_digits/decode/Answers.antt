@@ -1,4 +1,4 @@
-use Rattle.std.proofs.Common.{◌∙◌, length, length-append, ap, max, arith}
+use Rattle.std.proofs.Common.{◌∙◌, ◌++◌, ◌∷◌, [], length, length-append, ap, arith}
 use Rattle.std.specs.Slice.Iter.{chunks_exact_rest}
 use Rattle.request_codec.proofs.Digits.{decoded_more}
 use Rattle.request_codec.proofs.hex_digits.decode.Goals as goal
@@ -12,5 +12,5 @@ loop-pair-preserved c =
     record {
       size = step.steps.0 ∙ before.size;
       room = omega (arith, before.room, push.len, push.capacity, ap length step.steps.1.0, length-append c.in-Some.pair.now (chunks_exact_rest c.next.new.self), two);
-      decoded = decoded_more _ _ _ _ _ _ _ _ _ _ before.decoded step.steps.1.0 two c.value-high.ensures c.value-low.ensures (c.max-largest.ensures ∙ ap (λ m. max m c.value-low.result) c.max.ensures) push.items;
+      decoded = decoded_more _ _ _ _ _ _ _ _ _ _ before.decoded step.steps.1.0 two c.of-high.ensures c.of-low.ensures c.with-seen.ensures (push.items ∙ ap (λ b. c.loop-pair.bytes.items ++ b ∷ []) c.byte_of.ensures);
     }

@@ -8,5 +8,5 @@ abbrev pub invariant-loop-pair : goal.invariant-loop-pair
 invariant-loop-pair l = record {
   size : chunks_exact_size l.pair-iterator ≡ 2;
   room : 2 * vec_len l.bytes + length (chunks_exact_rest l.pair-iterator) ≤ 2 * vec_capacity l.bytes;
-  decoded : Decoded l.digits l.bytes.items l.largest (chunks_exact_rest l.pair-iterator);
+  decoded : Decoded l.digits l.bytes.items l.seen (chunks_exact_rest l.pair-iterator);
 }

@@ -1,5 +1,7 @@
-use Rattle.std.proofs.Common.{◌∙◌, ap, max}
-use Rattle.request_codec.proofs.Digits.{decoded_into_more}
+use Rattle.std.proofs.Common.{◌∙◌, slice_set, subst, sym}
+use Rattle.std.specs.Iterator.Adapters.{enumerate_source, enumerate_count}
+use Rattle.std.specs.Slice.Iter.{chunks_exact_rest}
+use Rattle.request_codec.proofs.Digits.{DecodedInto, decoded_into_more}
 use Rattle.request_codec.proofs.hex_digits.decode_into.Goals as goal
 
 pub loop-i-preserved : goal.loop-i-preserved
@@ -8,5 +10,5 @@ loop-i-preserved c =
     let size = c.loop-i.invariant.size in
     record {
       size = step.0.0 ∙ size;
-      decoded = decoded_into_more _ _ _ _ _ _ _ _ _ _ _ _ c.loop-i.invariant.decoded step.0.1.0 (step.0.1.1 ∙ size) c.value-high.ensures c.value-low.ensures (c.max-largest.ensures ∙ ap (λ m. max m c.value-low.result) c.max.ensures) step.1 step.2;
+      decoded = subst (λ b. DecodedInto c.args.digits.now (slice_set c.loop-i.out c.in-Some.i b) c.with-seen.result (enumerate_count c.next.new.self) (chunks_exact_rest (enumerate_source c.next.new.self))) (sym c.byte_of.ensures) (decoded_into_more _ _ _ _ _ _ _ _ _ _ _ _ c.loop-i.invariant.decoded step.0.1.0 (step.0.1.1 ∙ size) c.of-high.ensures c.of-low.ensures c.with-seen.ensures step.1 step.2);
     }

@@ -9,5 +9,5 @@ invariant-loop-i l =
     let chunks = enumerate_source l.i-iterator in
     record {
       size : chunks_exact_size chunks ≡ 2;
-      decoded : DecodedInto l.digits l.out l.largest (enumerate_count l.i-iterator) (chunks_exact_rest chunks);
+      decoded : DecodedInto l.digits l.out l.seen (enumerate_count l.i-iterator) (chunks_exact_rest chunks);
     }

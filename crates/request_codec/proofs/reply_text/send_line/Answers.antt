@@ -8,4 +8,4 @@ pub returns-in_err-line : goal.returns-in_err-line
 returns-in_err-line g c = cut_at c.from_residual-in_err-line.ensures.0 (sent_cut c.in_ok-body.ensures.ok.sent c.in_err-line.ensures.err)
 
 pub returns : goal.returns
-returns g c = line_sent c.in_ok-body.ensures.ok.sent c.in_ok-line.ensures.ok.sent c.send.ensures
+returns g c = line_sent c.in_ok-body.ensures.ok.sent c.in_ok-line.ensures.ok.sent c.send-2.ensures
