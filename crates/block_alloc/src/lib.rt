@@ -1,8 +1,6 @@
 //! The bitmap of a volume: which blocks are free, the lowest of them, and one block marked used or free.
 #![tactic(auto)]
 
-#[cfg(test)]
-mod bitmap_tests;
 mod counting;
 mod marking;
 mod taking;

@@ -5,11 +5,11 @@ use Rattle.std.specs.Int.{bit_at}
 use Rattle.std.proofs.lemmas.Bool.{cases_eq}
 use Rattle.std.proofs.lemmas.Bool.Decides.{nat_tests}
 use Rattle.rio_base.specs.declared.places.VolumeShape.{VolumeShape}
-use Rattle.rio_base.specs.declared.list_volume.ListVolume.{ListVolume}
+use Rattle.rio_fakes.specs.declared.list_volume.ListVolume.{ListVolume}
 use Rattle.rio_base.specs.Bitmap.{bitmap_block, first_bitmap, used_bit}
 use Rattle.rio_base.specs.Blocks.{BlockWords}
 use Rattle.rio_base.specs.Layout.{inode_block, inode_kind, inode_place, IsIno, volume_magic}
-use Rattle.rio_base.specs.ListVolumes.{IsNew, list_kept, list_seen}
+use Rattle.rio_fakes.specs.ListVolumes.{IsNew, list_kept, list_seen}
 use Rattle.rio_base.specs.Rules.{true_false}
 use Rattle.rio_base.specs.Shapes.{IsShape, more_bitmap, HasShape}
 use Rattle.rio_base.specs.Volume.{put, put_run, Firm, Kept}

@@ -5,7 +5,7 @@ ghost use Rattle.std.specs.List.{Contains};
 ghost use Rattle.rio_base.specs.BlockSets.{CachesBy};
 ghost use Rattle.rio_base.specs.Blocks.{Looks};
 ghost use Rattle.rio_base.specs.Layout.{IsIno, inode_block, inode_place};
-ghost use Rattle.rio_base.specs.ListVolumes.{ListSound, list_kept, list_seen};
+ghost use Rattle.rio_fakes.specs.ListVolumes.{ListSound, list_kept, list_seen};
 ghost use Rattle.rio_base.specs.Shapes.{HasShape};
 ghost use Rattle.rio_base.specs.Volume.{Firm, put_run};
 ghost use Rattle.rio_model.specs.Held.{HasEntry, held_of};
@@ -26,7 +26,8 @@ use crate::{apply, find, names, plan_add, plan_remove, plan_replace, plan_set};
 use block_alloc::free_count;
 use file_pages::{Edit, SizeFail};
 use inode_table::{Inode, edit_inode, inode_block};
-use rio_base::{Block, Ino, ListVolume, NameList, ReadFail, VolFail, Volume, VolumeShape};
+use rio_base::{Block, Ino, NameList, ReadFail, VolFail, Volume, VolumeShape};
+use rio_fakes::ListVolume;
 use std::alloc::Global;
 use std::test::Fail;
 

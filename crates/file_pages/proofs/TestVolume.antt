@@ -16,8 +16,8 @@ use Rattle.rio_model.specs.FreshVolume.{IsFreshVolume}
 use Rattle.rio_model.specs.VolumeRules.{IsMapped, bitmap_bits}
 use Rattle.rio_model.specs.WordRules.{put_beside, put_here, put_other, run_same_but}
 use Rattle.rio_model.proofs.FreshReads.{fresh_reads}
-use Rattle.rio_base.specs.ListVolumes.{IsNew, list_kept, list_seen}
-use Rattle.rio_base.specs.declared.list_volume.ListVolume.{ListVolume}
+use Rattle.rio_fakes.specs.ListVolumes.{IsNew, list_kept, list_seen}
+use Rattle.rio_fakes.specs.declared.list_volume.ListVolume.{ListVolume}
 use Rattle.inode_table.specs.declared.inode.Inode.{Inode}
 use Rattle.inode_table.specs.InodeRules.{stored_kind, word_of_words}
 use Rattle.inode_table.specs.Inodes.{inode_words}

@@ -1,14 +1,15 @@
 //! Calls that are stopped, or in which a call below fails: what of the file stands, or reads, then.
 
 ghost use Rattle.std.specs.Prelude.{IfOk, OnOk};
-ghost use Rattle.rio_base.specs.ListVolumes.{ListSound, list_kept, list_seen};
+ghost use Rattle.rio_fakes.specs.ListVolumes.{ListSound, list_kept, list_seen};
 ghost use Rattle.file_pages.specs.TestFiles.{FilesReady, FilesStand, IsTestShape};
 
 use crate::WriteFail;
 use crate::file_calls::{Answer, Call, all_of, blocks_in, make};
 use crate::plain_file::{is_led, plain_call, same_up_to};
 use crate::test_volume::{FILE, start_again, used_count, with_files};
-use rio_base::{FaultyVolume, ListVolume, Octets, Volume, VolumeShape};
+use rio_base::{Octets, Volume, VolumeShape};
+use rio_fakes::{FaultyVolume, ListVolume};
 use std::alloc::Global;
 use std::process::Abort;
 use std::test::Fail;

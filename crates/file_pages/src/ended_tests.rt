@@ -6,7 +6,8 @@ use crate::ended_calls::{Case, MANY, after, fail_at, fail_each, stop_at, stop_ea
 use crate::file_calls::{Call, all_of};
 use crate::plain_file::plain_call;
 use crate::test_volume::{FILE, SHAPE, SMALL};
-use rio_base::{FaultyVolume, ReadFail};
+use rio_base::ReadFail;
+use rio_fakes::FaultyVolume;
 use std::alloc::Global;
 use std::process::Abort;
 use std::test::Fail;

@@ -1,13 +1,13 @@
 //! Files that grow on a volume whose free blocks are few and lie apart.
 
 ghost use Rattle.std.specs.Prelude.{◌≤◌, IfOk};
-ghost use Rattle.rio_base.specs.ListVolumes.{ListSound, list_kept, list_seen};
+ghost use Rattle.rio_fakes.specs.ListVolumes.{ListSound, list_kept, list_seen};
 ghost use Rattle.file_pages.specs.TestFiles.{FilesReady};
 
 use crate::file_calls::{Answer, Call, put, set_size};
 use crate::test_volume::{FILE, OTHER, SMALL, with_files};
 use crate::worked_calls::{File, Row, check_rows};
-use rio_base::ListVolume;
+use rio_fakes::ListVolume;
 use std::alloc::Global;
 use std::test::Fail;
 

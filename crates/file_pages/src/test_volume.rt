@@ -2,7 +2,7 @@
 
 ghost use Rattle.std.specs.Prelude.{◌≡◌, false, IfOk, OnOk};
 ghost use Rattle.rio_base.specs.Layout.{inode_block, inode_place, IsIno};
-ghost use Rattle.rio_base.specs.ListVolumes.{ListSound, list_kept, list_seen};
+ghost use Rattle.rio_fakes.specs.ListVolumes.{ListSound, list_kept, list_seen};
 ghost use Rattle.rio_base.specs.Shapes.{HasShape};
 ghost use Rattle.rio_base.specs.Volume.{Firm, put_run};
 ghost use Rattle.inode_table.specs.Inodes.{inode_words};
@@ -10,7 +10,8 @@ ghost use Rattle.file_pages.specs.TestFiles.{FilesReady, FilesStand, IsTestShape
 
 use block_alloc::free_count;
 use inode_table::{Inode, edit_inode, inode_block};
-use rio_base::{Block, Ino, ListVolume, VolFail, Volume, VolumeShape};
+use rio_base::{Block, Ino, VolFail, Volume, VolumeShape};
+use rio_fakes::ListVolume;
 use std::alloc::Global;
 use std::test::Fail;
 

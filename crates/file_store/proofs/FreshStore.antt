@@ -6,12 +6,12 @@ use Rattle.std.specs.Int.{bit_at}
 use Rattle.std.proofs.lemmas.Bool.{cases_eq}
 use Rattle.std.proofs.lemmas.Bool.Decides.{nat_tests}
 use Rattle.std.proofs.lemmas.Nat.Bits.{bit_at-zero, bit_at_ones, bit_at_ones_above}
-use Rattle.rio_base.specs.declared.list_volume.ListVolume.{ListVolume}
+use Rattle.rio_fakes.specs.declared.list_volume.ListVolume.{ListVolume}
 use Rattle.rio_base.specs.declared.places.VolumeShape.{VolumeShape}
 use Rattle.rio_base.specs.Bitmap.{first_bitmap, used_bit}
 use Rattle.rio_base.specs.Blocks.{BlockWords, Seen}
 use Rattle.rio_base.specs.Layout.{inode_block, inode_place, volume_magic}
-use Rattle.rio_base.specs.ListVolumes.{IsNew, IsRestarted, flat, list_kept, list_seen, mark_of}
+use Rattle.rio_fakes.specs.ListVolumes.{IsNew, IsRestarted, flat, list_kept, list_seen, mark_of}
 use Rattle.rio_base.specs.Rules.{true_false}
 use Rattle.rio_base.specs.Shapes.{HasShape, IsShape, more_bitmap, reserved}
 use Rattle.rio_base.specs.Volume.{CachesStored, Firm, put, put_run, widened}

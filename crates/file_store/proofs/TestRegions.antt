@@ -4,12 +4,12 @@ use Rattle.std.specs.Prelude.{Option}
 use Rattle.std.specs.Global.{Vec}
 use Rattle.std.specs.Int.{bit_at}
 use Rattle.std.specs.List.{Contains}
-use Rattle.rio_base.specs.declared.list_volume.ListVolume.{ListVolume}
+use Rattle.rio_fakes.specs.declared.list_volume.ListVolume.{ListVolume}
 use Rattle.rio_base.specs.declared.places.VolumeShape.{VolumeShape}
 use Rattle.rio_base.specs.Bitmap.{bitmap_block, used_bit}
 use Rattle.rio_base.specs.Blocks.{BlockWords}
 use Rattle.rio_base.specs.Layout.{IsIno, half, inode_block, inode_kind, inode_place, inode_word}
-use Rattle.rio_base.specs.ListVolumes.{IsRestarted, ListSound, flat, list_kept, list_seen, mark_of}
+use Rattle.rio_fakes.specs.ListVolumes.{IsRestarted, ListSound, flat, list_kept, list_seen, mark_of}
 use Rattle.rio_base.specs.Rules.{true_false}
 use Rattle.rio_base.specs.Shapes.{IsShape}
 use Rattle.rio_base.specs.Volume.{Firm, put}

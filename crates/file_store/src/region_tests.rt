@@ -1,7 +1,7 @@
 //! Regions made and found, and one that is stopped at each of its steps.
 
 ghost use Rattle.std.specs.Prelude.{◌≤◌, ◌<◌, OnOk, IsErrOf};
-ghost use Rattle.rio_base.specs.ListVolumes.{ListSound, list_kept, list_seen};
+ghost use Rattle.rio_fakes.specs.ListVolumes.{ListSound, list_kept, list_seen};
 ghost use Rattle.rio_model.specs.Paths.{IsPath};
 ghost use Rattle.file_store.specs.Ends.{CanServe};
 ghost use Rattle.file_store.specs.TestVolumes.{CanStart};
@@ -9,7 +9,8 @@ ghost use Rattle.file_store.specs.TestVolumes.{CanStart};
 use crate::test_calls::{Ask, Want, fill, free_blocks, play};
 use crate::test_volume::{SHAPE, fresh, is_path, start_again};
 use crate::{FileFail, make_region, region_of};
-use rio_base::{Block, Blocks, ListVolume, VolFail, Volume, VolumeShape};
+use rio_base::{Block, Blocks, VolFail, Volume, VolumeShape};
+use rio_fakes::ListVolume;
 use std::alloc::Global;
 use std::test::Fail;
 

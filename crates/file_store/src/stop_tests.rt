@@ -1,7 +1,7 @@
 //! A request that is stopped at each of its steps.
 
 ghost use Rattle.std.specs.Prelude.{◌≡◌, ◌≤◌, OnOk, IsErrOf};
-ghost use Rattle.rio_base.specs.ListVolumes.{ListSound, list_kept, list_seen};
+ghost use Rattle.rio_fakes.specs.ListVolumes.{ListSound, list_kept, list_seen};
 ghost use Rattle.file_store.specs.declared.failures.FileFail.TheVariants.{Stopped as FileStopped};
 ghost use Rattle.rio_model.specs.Paths.{IsPath};
 ghost use Rattle.file_store.specs.Ends.{CanServe};
@@ -9,7 +9,8 @@ ghost use Rattle.file_store.specs.TestVolumes.{CanStart};
 
 use crate::test_volume::{SHAPE, fresh, is_path, start_again};
 use crate::{FileFail, create, rename, stat};
-use rio_base::{InoList, ListVolume, Volume, VolumeShape};
+use rio_base::{InoList, Volume, VolumeShape};
+use rio_fakes::ListVolume;
 use std::alloc::Global;
 use std::test::Fail;
 

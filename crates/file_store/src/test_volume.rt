@@ -1,7 +1,7 @@
 //! The volume that tests begin with, and the paths that they ask for.
 
 ghost use Rattle.std.specs.Prelude.{◌≡◌, ◌≤◌, true, false, IfOk, OnOk, length};
-ghost use Rattle.rio_base.specs.ListVolumes.{IsNew, ListSound, list_kept, list_seen};
+ghost use Rattle.rio_fakes.specs.ListVolumes.{IsNew, ListSound, list_kept, list_seen};
 ghost use Rattle.rio_base.specs.Shapes.{HasShape};
 ghost use Rattle.rio_base.specs.Volume.{Firm};
 ghost use Rattle.rio_model.specs.Paths.{IsName, IsNameByte, IsPath};
@@ -9,7 +9,8 @@ ghost use Rattle.file_store.specs.Ends.{CanServe};
 ghost use Rattle.file_store.specs.TestVolumes.{CanStart, IsTestShape, fresh_words, marks_of};
 
 use crate::paths::name_end;
-use rio_base::{Block, ListVolume, Volume, VolumeShape};
+use rio_base::{Block, Volume, VolumeShape};
+use rio_fakes::ListVolume;
 use std::alloc::Global;
 use std::test::Fail;
 

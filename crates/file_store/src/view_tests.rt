@@ -2,7 +2,7 @@
 
 ghost use Rattle.std.specs.Prelude.{◌≡◌, true, IfOk};
 ghost use Rattle.rio_base.specs.Layout.{IsIno};
-ghost use Rattle.rio_base.specs.ListVolumes.{ListSound, list_kept, list_seen};
+ghost use Rattle.rio_fakes.specs.ListVolumes.{ListSound, list_kept, list_seen};
 ghost use Rattle.rio_model.specs.Held.{held_of};
 ghost use Rattle.rio_model.specs.VolumeReady.{Ready};
 ghost use Rattle.file_store.specs.Ends.{CanServe};
@@ -11,9 +11,8 @@ use crate::test_calls::{Ask, Want, play};
 use crate::test_volume::{SHAPE, fresh, is_path};
 use crate::{FileFail, RegionView};
 use inode_table::read_inode;
-use rio_base::{
-    Block, FaultyVolume, Ino, ListVolume, RegionWords, RunFail, VolFail, Volume, VolumeShape,
-};
+use rio_base::{Block, Ino, RegionWords, RunFail, VolFail, Volume, VolumeShape};
+use rio_fakes::{FaultyVolume, ListVolume};
 use std::alloc::Global;
 use std::process::Abort;
 use std::test::Fail;

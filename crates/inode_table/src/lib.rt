@@ -3,8 +3,6 @@
 
 mod finding;
 mod inode;
-#[cfg(test)]
-mod inode_tests;
 mod reading;
 mod storing;
 

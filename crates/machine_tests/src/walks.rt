@@ -1,13 +1,14 @@
 //! Walks over the volumes in memory: without a stop, with calls of the disk that fail, and stopped at each call.
 
 ghost use Rattle.std.specs.Prelude.{◌≡◌, ◌<◌, false, IfOk, length};
-ghost use Rattle.rio_base.specs.ListVolumes.{ListSound, list_seen};
+ghost use Rattle.rio_fakes.specs.ListVolumes.{ListSound, list_seen};
 
 use crate::block_lists::{ALL_WORDS, BLOCKS, put_block, zeros};
 use crate::draws::Draws;
 use crate::plain_blocks::PlainBlocks;
 use crate::walk::{WalkEnd, read_all, walk};
-use rio_base::{Block, Blocks, FaultyVolume, ListVolume, Volume};
+use rio_base::{Block, Blocks, Volume};
+use rio_fakes::{FaultyVolume, ListVolume};
 use std::alloc::{AllocError, Global};
 use std::test::Fail;
 

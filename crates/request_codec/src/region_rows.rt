@@ -1,7 +1,8 @@
 //! Lines on regions and what the plain definition answers to each, worked out by hand.
 
 use crate::{parse_line, write_reply};
-use rio_base::{HeapList, Ino, MemSink, Octets, RangeList, VolumeShape, Words};
+use rio_base::{HeapList, Ino, Octets, RangeList, VolumeShape, Words};
+use rio_fakes::MemSink;
 use rio_model::{NameRow, NameRows, Node, NodeRow, NodeRows, RegionNode, State, Txn, TxnList};
 use rio_requests::{Answered, Reply, answer};
 use std::alloc::{AllocError, Global};

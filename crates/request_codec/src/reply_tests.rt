@@ -1,5 +1,6 @@
 use crate::{write_reply, write_text};
-use rio_base::{Failed, Ino, InoList, MemSink, NameList, Octets, Sink};
+use rio_base::{Failed, Ino, InoList, NameList, Octets, Sink};
+use rio_fakes::MemSink;
 use rio_requests::Reply;
 use std::alloc::{AllocError, Global};
 use std::test::Fail;

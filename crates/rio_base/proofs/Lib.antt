@@ -1,9 +1,4 @@
 pub mod BlockRuns
-pub mod Clears
-pub mod Copies
-pub mod Faults
-pub mod Files
-pub mod Fronts
 pub mod PageCopies
 pub mod RegionRuns
 pub mod VolumeRuns

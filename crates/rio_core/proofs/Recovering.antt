@@ -1,11 +1,11 @@
 -- Regions of the tests that stop while a transaction is open on them.
 use Rattle.std.proofs.Common.{◌≡◌, ℕ, ◌*◌, ◌/◌, false, Some, List, [], ◌∷◌, refl, sym, ap, subst, ◌∙◌, arith, inr}
 use Rattle.std.proofs.lemmas.List.Elements.{All-cons, All-nil}
-use Rattle.rio_base.specs.declared.list_volume.ListVolume.{ListVolume}
+use Rattle.rio_fakes.specs.declared.list_volume.ListVolume.{ListVolume}
 use Rattle.rio_base.specs.declared.places.Ino.{Ino}
 use Rattle.rio_base.specs.declared.places.VolumeShape.{VolumeShape}
 use Rattle.rio_base.specs.Blocks.{BlockWords}
-use Rattle.rio_base.specs.ListVolumes.{list_kept, list_seen}
+use Rattle.rio_fakes.specs.ListVolumes.{list_kept, list_seen}
 use Rattle.rio_base.specs.Regions.{RegionContent}
 use Rattle.rio_model.specs.Heap.{IsSoundRegion, OfBlocks}
 use Rattle.rio_model.specs.Held.{held_of}

@@ -2,7 +2,7 @@
 
 ghost use Rattle.std.specs.Prelude.{◌≡◌, false, IfOk, OnOk};
 ghost use Rattle.rio_base.specs.Layout.{IsIno};
-ghost use Rattle.rio_base.specs.ListVolumes.{ListSound, list_kept, list_seen};
+ghost use Rattle.rio_fakes.specs.ListVolumes.{ListSound, list_kept, list_seen};
 ghost use Rattle.rio_base.specs.Shapes.{HasShape};
 ghost use Rattle.rio_base.specs.Volume.{Firm};
 ghost use Rattle.rio_model.specs.Heap.{IsSoundRegion};
@@ -13,7 +13,8 @@ ghost use Rattle.file_store.specs.TestVolumes.{IsTestShape, fresh_words};
 ghost use Rattle.vista_region.specs.Ends.{Fits};
 
 use file_store::{RegionView, make_region, region_of};
-use rio_base::{Block, Ino, ListVolume, RegionWords, VolFail, Volume, VolumeShape};
+use rio_base::{Block, Ino, RegionWords, VolFail, Volume, VolumeShape};
+use rio_fakes::ListVolume;
 use std::alloc::Global;
 use std::process::Abort;
 use std::test::Fail;

@@ -2,7 +2,8 @@
 
 use crate::format_words::format_of;
 use crate::test_runs::{bytes_of, run_into, run_words, words_of};
-use rio_base::{Host, MemHost, MemSink};
+use rio_base::Host;
+use rio_fakes::{MemHost, MemSink};
 use std::test::Fail;
 
 /// The eight bytes of a file's word, or all bytes where it has no such word.

@@ -2,7 +2,8 @@
 
 use crate::test_cores::Sizes;
 use request_codec::{parse_line, write_reply};
-use rio_base::{Ino, MemSink, VolumeShape};
+use rio_base::{Ino, VolumeShape};
+use rio_fakes::MemSink;
 use rio_model::{NameRows, Node, NodeRow, NodeRows, State, TxnList};
 use rio_requests::{Answered, Reply, Request, answer};
 use std::alloc::{AllocError, Global};

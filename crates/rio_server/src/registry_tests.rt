@@ -2,7 +2,8 @@
 //! word 512, and an entry has 5 words. Expected texts are written by hand.
 
 use crate::test_runs::{bytes_of, run_into, run_words};
-use rio_base::{Host, MemHost, MemSink};
+use rio_base::Host;
+use rio_fakes::{MemHost, MemSink};
 use std::alloc::{AllocError, Global};
 use std::test::Fail;
 

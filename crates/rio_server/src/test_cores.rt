@@ -10,7 +10,8 @@ use crate::format_words::{FormatSizes, sizes_of};
 use crate::fresh_machine::{fresh_core, fresh_disk};
 use crate::{ServeEnd, serve};
 use block_disk::MemDisk;
-use rio_base::{Block, MemSink, MemSource, VolumeShape};
+use rio_base::{Block, VolumeShape};
+use rio_fakes::{MemSink, MemSource};
 use std::alloc::{AllocError, Global};
 use std::process::Abort;
 

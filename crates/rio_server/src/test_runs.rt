@@ -1,7 +1,7 @@
 //! Runs of commands over files in memory, for the tests of each command.
 
 use crate::run;
-use rio_base::{MemHost, MemSink, MemSource};
+use rio_fakes::{MemHost, MemSink, MemSource};
 use std::alloc::{AllocError, Global};
 
 /// What a run left.

@@ -3,7 +3,7 @@
 
 use crate::test_runs::words_of;
 use crate::{end_without_memory, run};
-use rio_base::{MemHost, MemSink, MemSource};
+use rio_fakes::{MemHost, MemSink, MemSource};
 use std::alloc::{AllocError, Global};
 use std::test::Fail;
 

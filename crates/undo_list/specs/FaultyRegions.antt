@@ -1,8 +1,7 @@
 -- The region in memory that fails and stops: a list of words, with no machine below.
-use Rattle.std.specs.Prelude.{◌≡◌, ◌≤◌, ◌<◌, ◌^◌, ℕ, true, slice_index_or, length, [], None, Some, refl}
+use Rattle.std.specs.Prelude.{◌≡◌, ◌≤◌, ◌<◌, ◌^◌, ℕ, true, false, slice_index_or, length, [], None, Some, refl}
 use Rattle.rio_base.specs.Blocks.{Health}
 use Rattle.rio_base.specs.Regions.{RegionContent}
-use Rattle.rio_base.specs.StepLimits.{limit_causes}
 use Rattle.rio_base.specs.Rules.{none_some}
 use Rattle.rio_base.specs.Volume.{Below}
 use Rattle.rio_model.specs.Undo.{IsRegion, live, undo_records}
@@ -17,7 +16,7 @@ faulty_health r = record { faults = r.faults; stopped = r.stopped }
 
 -- no disk, no protected page, no wild store; a stop may be set
 abbrev pub faulty_below : Below
-faulty_below = record { roomy = true; home = None; writes = 0; around = None; causes = limit_causes true; memory = record { protected = 0; scratch = 0 }; limit = None }
+faulty_below = record { roomy = true; home = None; writes = 0; around = None; causes = record { stop_set = true; armed = None; trapped = None; protected = λ p. false }; memory = record { protected = 0; scratch = 0 }; limit = None }
 
 pub faulty_limit : (faults most : ℕ) → faulty_below.limit ≡ Some most → faults ≤ most
 faulty_limit faults most e = absurd (none_some most None refl e)

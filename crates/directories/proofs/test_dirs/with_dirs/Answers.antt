@@ -1,6 +1,6 @@
 use Rattle.std.proofs.Common.{sym, subst}
 use Rattle.rio_base.specs.Blocks.{BlockWords}
-use Rattle.rio_base.specs.ListVolumes.{list_seen}
+use Rattle.rio_fakes.specs.ListVolumes.{list_seen}
 use Rattle.directories.specs.TestDirs.{DirsMade}
 use Rattle.directories.proofs.NewDirs.{dirs_ready, fresh_made}
 use Rattle.directories.proofs.test_dirs.with_dirs.Goals as goal

@@ -1,6 +1,6 @@
 use Rattle.std.proofs.Common.{◌≡◌, ◌%◌, ◌<◌, ◌≤◌, arith, ap, subst, sym, ◌∙◌}
-use Rattle.rio_base.specs.declared.list_volume.ListVolume.{ListVolume}
-use Rattle.rio_base.specs.ListVolumes.{list_kept, list_seen}
+use Rattle.rio_fakes.specs.declared.list_volume.ListVolume.{ListVolume}
+use Rattle.rio_fakes.specs.ListVolumes.{list_kept, list_seen}
 use Rattle.rio_model.specs.Held.{held_of}
 use Rattle.rio_model.specs.Placed.{placed_at}
 use Rattle.rio_model.specs.VolumeReady.{Ready}

@@ -1,0 +1,224 @@
+//! Tests of the inodes on a volume in memory.
+
+ghost use Rattle.std.specs.Prelude.{◌≡◌, ◌≤◌, ◌<◌, false, IfOk, OnOk, slice_index};
+ghost use Rattle.rio_base.specs.Layout.{IsIno, inode_kind};
+ghost use Rattle.rio_fakes.specs.ListVolumes.{ListSound, list_kept, list_seen};
+ghost use Rattle.rio_base.specs.Shapes.{HasShape};
+
+use inode_table::{Inode, edit_inode, inode_block, least_free, read_inode};
+use rio_base::{Block, Blocks, Ino, RunFail, VolFail, Volume, VolumeShape};
+use rio_fakes::{FaultyVolume, ListVolume};
+use std::alloc::Global;
+use std::test::Fail;
+
+/// A volume with two blocks of inodes.
+const SHAPE: VolumeShape = VolumeShape {
+    version: 1,
+    blocks: 16,
+    inodes: 64,
+};
+
+/// An inode of this kind and size whose numbers all differ.
+fn numbered(kind: u8, size: u64) -> Inode
+    ensures { result.kind ≡ kind }
+{
+    let mut direct = [0; 24];
+    for p in 0..24 {
+        direct[p] = 1000 + p as u32;
+    }
+    Inode {
+        kind,
+        size,
+        direct,
+        indirect: u32::MAX,
+        double: 7,
+    }
+}
+
+/// A volume of zeros: no inode is used.
+fn zeros(alloc: Global, stop_after: Option<u64>) -> Result<ListVolume, Fail>
+    ensures sound { IfOk result ListSound }
+    ensures count { IfOk result (λ v. (list_seen v).count ≡ 16) }
+    ensures idle { IfOk result (λ v. (list_kept v).updating ≡ false) }
+{
+    Ok(ListVolume::new(alloc, SHAPE.blocks, stop_after)?)
+}
+
+/// Stores inode `i` by an update of its own.
+#[tactic(auto, using(inode_table::specs::InodeRules::stored_kind))]
+fn store<V: Volume>(v: &mut V, i: Ino, inode: &Inode) -> Result<(), VolFail>
+    requires sound { V.sound v.old }
+    requires shape { HasShape SHAPE (V.seen v.old) }
+    requires idle { (V.kept v.old).updating ≡ false }
+    requires ino { IsIno SHAPE i.0 }
+    ensures kind { OnOk result (inode_kind (V.seen v.new).words i.0 ≡ inode.now.kind) }
+    ensures shape { OnOk result (HasShape SHAPE (V.seen v.new)) }
+    ensures count { (V.seen v.new).count ≡ (V.seen v.old).count }
+    ensures idle { OnOk result ((V.kept v.new).updating ≡ false) }
+    ensures sound { V.sound v.new }
+{
+    v.begin()?;
+    v.touch(inode_block(&SHAPE, i))?;
+    edit_inode(v, &SHAPE, i, inode)?;
+    v.commit()?;
+    Ok(())
+}
+
+#[test]
+fn inodes_read_as_they_were_stored(rt: HostRuntime) -> Result<(), Fail> {
+    for i in 1..65 {
+        for kind in 0..4 {
+            let inode = numbered(kind, u64::MAX - i as u64);
+            let mut v = zeros(rt.alloc(), None)?;
+            store(&mut v, Ino(i), &inode)?;
+            let found = read_inode(&mut v, &SHAPE, Ino(i))?;
+            assert!(rt; found == inode, "inode {i} of kind {kind}");
+        }
+    }
+    Ok(())
+}
+
+#[test]
+fn inode_34_is_in_words_16_to_31_of_block_3(rt: HostRuntime) -> Result<(), Fail> {
+    let mut v = zeros(rt.alloc(), None)?;
+    store(&mut v, Ino(34), &numbered(2, 98_305))?;
+    let mut words = [0; 18];
+    v.read_run(Block(3), None, 15, &mut words)?;
+    assert_eq!(rt; words[0], 0);
+    assert_eq!(rt; words[1], 2);
+    assert_eq!(rt; words[2], 98_305);
+    assert_eq!(rt; words[3], 1000 + (1001 << 32));
+    assert_eq!(rt; words[14], 1022 + (1023 << 32));
+    assert_eq!(rt; words[15], 0xffff_ffff);
+    assert_eq!(rt; words[16], 7);
+    assert_eq!(rt; words[17], 0);
+    Ok(())
+}
+
+/// Stores these words as inode 1.
+#[tactic(auto, using(inode_table::proofs::Stored::kind_of_run))]
+fn store_words<V: Volume>(v: &mut V, words: &[u64; 16]) -> Result<(), RunFail>
+    requires sound { V.sound v.old }
+    requires shape { HasShape SHAPE (V.seen v.old) }
+    requires idle { (V.kept v.old).updating ≡ false }
+    requires kind { slice_index words.now 0 ≤ 3 }
+    ensures kind { OnOk result (inode_kind (V.seen v.new).words 1 ≤ 3) }
+    ensures count { (V.seen v.new).count ≡ (V.seen v.old).count }
+    ensures sound { V.sound v.new }
+{
+    v.store_run(Block(2), None, 0, words)?;
+    Ok(())
+}
+
+/// A volume whose inode 1 has these words.
+fn with_words(alloc: Global, words: &[u64; 16]) -> Result<ListVolume, Fail>
+    requires kind { slice_index words.now 0 ≤ 3 }
+    ensures sound { IfOk result ListSound }
+    ensures count { IfOk result (λ v. (list_seen v).count ≡ 16) }
+    ensures kind { IfOk result (λ v. inode_kind (list_seen v).words 1 ≤ 3) }
+{
+    let mut v = zeros(alloc, None)?;
+    store_words(&mut v, words)?;
+    Ok(v)
+}
+
+#[test]
+fn high_halves_of_words_14_and_15_are_not_looked_at(rt: HostRuntime) -> Result<(), Fail> {
+    let mut words = [0; 16];
+    words[0] = 3;
+    words[14] = (9 << 32) + 5;
+    words[15] = (9 << 32) + 6;
+    let mut v = with_words(rt.alloc(), &words)?;
+    let inode = read_inode(&mut v, &SHAPE, Ino(1))?;
+    assert_eq!(rt; inode.kind, 3);
+    assert_eq!(rt; inode.indirect, 5);
+    assert_eq!(rt; inode.double, 6);
+    Ok(())
+}
+
+/// A volume whose first inodes are used, `used` of them.
+fn with_used(alloc: Global, used: u32) -> Result<ListVolume, Fail>
+    requires { used ≤ 64 }
+    ensures sound { IfOk result ListSound }
+    ensures count { IfOk result (λ v. (list_seen v).count ≡ 16) }
+    ensures idle { IfOk result (λ v. (list_kept v).updating ≡ false) }
+{
+    let mut v = zeros(alloc, None)?;
+    for i in 0..used {
+        store(&mut v, Ino(1 + i), &numbered(1, 0))?;
+    }
+    Ok(v)
+}
+
+#[test]
+fn the_first_free_inode_is_found(rt: HostRuntime) -> Result<(), Fail> {
+    for used in 0..65 {
+        let mut v = with_used(rt.alloc(), used)?;
+        let least = if used < 64 { Some(Ino(used + 1)) } else { None };
+        assert!(rt; least_free(&mut v, &SHAPE)? == least, "after {used}");
+        let mut asked = FaultyVolume::new(v, 0);
+        assert!(rt;
+            least_free(&mut asked, &SHAPE)? == least,
+            "after {used}, word by word"
+        );
+    }
+    Ok(())
+}
+
+#[test]
+fn an_inode_that_is_free_again_is_the_least(rt: HostRuntime) -> Result<(), Fail> {
+    for freed in 1..65 {
+        let mut v = with_used(rt.alloc(), 64)?;
+        store(&mut v, Ino(freed), &numbered(0, 0))?;
+        assert!(rt; least_free(&mut v, &SHAPE)? == Some(Ino(freed)));
+    }
+    Ok(())
+}
+
+#[test]
+fn each_word_that_is_read_may_fail(rt: HostRuntime) -> Result<(), Fail> {
+    for n in 1..18 {
+        let mut words = [0; 16];
+        words[0] = 2;
+        let mut v = FaultyVolume::new(with_words(rt.alloc(), &words)?, n);
+        let failed = read_inode(&mut v, &SHAPE, Ino(1)) == Err(VolFail::Fault);
+        assert_eq!(rt; failed, n <= 16, "at word {n}");
+    }
+    for n in 1..4 {
+        let mut v = FaultyVolume::new(with_used(rt.alloc(), 2)?, n);
+        let failed = least_free(&mut v, &SHAPE) == Err(VolFail::Fault);
+        assert_eq!(rt; failed, n <= 3, "at inode {n}");
+    }
+    Ok(())
+}
+
+#[test]
+fn an_inode_is_stored_without_the_disk(rt: HostRuntime) -> Result<(), Fail> {
+    let mut v = FaultyVolume::new(zeros(rt.alloc(), None)?, 2);
+    store(&mut v, Ino(5), &numbered(2, 1))?;
+    assert!(rt;
+        least_free(&mut v, &SHAPE) == Err(VolFail::Fault),
+        "the next call"
+    );
+    let mut v = FaultyVolume::new(zeros(rt.alloc(), None)?, 1);
+    assert!(rt; store(&mut v, Ino(5), &numbered(2, 1)) == Err(VolFail::Fault));
+    Ok(())
+}
+
+#[test]
+fn a_stopped_update_leaves_no_word_of_an_inode(rt: HostRuntime) -> Result<(), Fail> {
+    // begin, touch, 16 words and commit are 19 steps
+    for steps in 0..20 {
+        let mut v = zeros(rt.alloc(), Some(steps))?;
+        let ended = store(&mut v, Ino(3), &numbered(2, 10));
+        let done = ended.is_ok();
+        assert_eq!(rt; done, 19 <= steps, "after {steps} steps");
+        assert!(rt; done || ended == Err(VolFail::Stopped));
+        assert_eq!(rt; v.standing(Block(2), 32), if done { 2 } else { 0 });
+        assert_eq!(rt; v.standing(Block(2), 47), if done { 7 } else { 0 });
+    }
+    let mut v = zeros(rt.alloc(), Some(0))?;
+    assert!(rt; v.begin().is_err());
+    assert!(rt; least_free(&mut v, &SHAPE) == Err(VolFail::Stopped));
+    Ok(())
+}
