@@ -8,7 +8,8 @@ use Rattle.std.proofs.lemmas.Nat.Bits.{bit_at_lowest, bit_at-suc, bit_at_and, bi
 use Rattle.std.proofs.lemmas.Bool.Decides.{nat_tests}
 use Rattle.std.proofs.lemmas.Bool.{cases_order}
 use Rattle.rio_base.specs.declared.places.VolumeShape.{VolumeShape}
-use Rattle.rio_base.specs.Bitmap.{bitmap_block, first_bitmap, used_bit}
+use Rattle.rio_base.specs.Bitmap.{bitmap_block, used_bit}
+use Rattle.rio_base.proofs.Bitmap.{first_bitmap}
 use Rattle.rio_base.specs.Blocks.{BlockWords}
 use Rattle.block_alloc.specs.Words.{counts, FreeBits}
 

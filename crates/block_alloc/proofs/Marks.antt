@@ -6,7 +6,8 @@ use Rattle.std.proofs.lemmas.Nat.Bits.{bit_at_set_same, bit_at_set_other, bit_at
 use Rattle.std.proofs.lemmas.Bool.{cases_eq, cases_lt}
 use Rattle.std.proofs.lemmas.Bool.Decides.{nat_tests}
 use Rattle.rio_base.specs.declared.places.VolumeShape.{VolumeShape}
-use Rattle.rio_base.specs.Bitmap.{bitmap_block, first_bitmap, used_bit}
+use Rattle.rio_base.specs.Bitmap.{bitmap_block, used_bit}
+use Rattle.rio_base.proofs.Bitmap.{first_bitmap}
 use Rattle.rio_base.specs.Blocks.{BlockWords, Caches, Drops, Looks, Seen}
 use Rattle.rio_base.specs.Volume.{Firm, Kept, OldOrPut, SameUpdate, put}
 use Rattle.rio_base.specs.Rules.{firm_trans}

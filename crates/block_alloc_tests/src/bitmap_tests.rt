@@ -101,7 +101,7 @@ fn blocks_of_both_runs_are_taken(rt: HostRuntime) -> Result<(), Fail> {
 }
 
 /// Marks two blocks and unmarks one, by one update.
-#[tactic(auto, using(rio_base::specs::Bitmap::first_bitmap))]
+#[tactic(auto, using(rio_base::proofs::Bitmap::first_bitmap))]
 fn change<V: Volume>(v: &mut V, a: Block, b: Block, unmarked: Block) -> Result<(), VolFail>
     requires sound { V.sound v.old }
     requires shape { HasShape SHAPE (V.seen v.old) }

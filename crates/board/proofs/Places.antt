@@ -4,7 +4,7 @@ use Rattle.std.proofs.lemmas.List.{drop-set-add, drop-set-lt, drop-take, length-
 use Rattle.std.proofs.Math.Seq.{take-set-lt}
 use Rattle.rio_base.specs.Disks.{DiskContents, FaultCount, block_at, with_torn, with_written}
 use Rattle.rio_base.specs.Machine.{Contents, Lasts, WritesBlock, after_wild}
-use Rattle.rio_base.specs.MachineRules.{lasts_refl}
+use Rattle.rio_base.proofs.MachineRules.{lasts_refl}
 use Rattle.rio_base.specs.declared.wild.Wild.TheVariants.{Changed}
 use Rattle.rio_base.specs.Memory.{page_at}
 use Rattle.rio_base.specs.declared.places.Block.{Block}

@@ -2,7 +2,7 @@
 use Rattle.std.proofs.Common.{◌≡◌, ℕ, ◌+◌, ◌<◌, ◌≤◌, true, List, length, le_refl, sym, ◌∙◌, ap, subst, arith}
 use Rattle.rio_base.specs.Disks.{DiskContents, FaultCount, FaultsLast, raised}
 use Rattle.rio_base.specs.Machine.{Contents, Falls, Lasts, Running, Steps}
-use Rattle.rio_base.specs.MachineRules.{falls_trans, lasts_refl, steps_trans}
+use Rattle.rio_base.proofs.MachineRules.{falls_trans, lasts_refl, steps_trans}
 use Rattle.rio_base.specs.Memory.{FrontStored}
 use Rattle.board.specs.declared.guard.Guard.{Guard}
 use Rattle.board.specs.Boards.{contents_of, protected_count, protected_of, running_of, scratch_of}

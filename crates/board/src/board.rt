@@ -124,7 +124,7 @@ impl<F: MemWords, D: DiskBlocks> Board<F, D> {
 
     /// Begins up to `most` steps in a row: as many as no stop comes before, and no armed store but before the first. Says
     /// how many were begun.
-    #[tactic(auto, using(rio_base::specs::MachineRules::steps_trans, rio_base::specs::MachineRules::ends_after, rio_base::specs::MachineRules::falls_trans))]
+    #[tactic(auto, using(rio_base::proofs::MachineRules::steps_trans, rio_base::proofs::MachineRules::ends_after, rio_base::proofs::MachineRules::falls_trans))]
     fn begin_run(&mut self, most: u32) -> Result<u32, Stopped>
         requires { 0 < most }
         ensures some { IfOk result (λ n. (0 < n) × (n ≤ most)) }
@@ -231,7 +231,7 @@ impl<F: MemWords, D: DiskBlocks> Machine for Board<F, D> {
         Ok(())
     }
 
-    #[tactic(auto, using(crate::proofs::StepRuns::makes_none, crate::proofs::StepRuns::sooner_none, rio_base::specs::MachineRules::steps_refl, rio_base::specs::MachineRules::steps_trans, rio_base::specs::MachineRules::ends_after, rio_base::specs::MachineRules::falls_refl, rio_base::specs::MachineRules::falls_trans))]
+    #[tactic(auto, using(crate::proofs::StepRuns::makes_none, crate::proofs::StepRuns::sooner_none, rio_base::proofs::MachineRules::steps_refl, rio_base::proofs::MachineRules::steps_trans, rio_base::proofs::MachineRules::ends_after, rio_base::proofs::MachineRules::falls_refl, rio_base::proofs::MachineRules::falls_trans))]
     fn copy_page(&mut self, from: Page, to: Page) -> Result<(), Stopped>
         requires from { 512 * from.0 < length (⟦<Board<F, D> as Machine>⟧.contents self.old).words + length (⟦<Board<F, D> as Machine>⟧.run self.old).scratch }
         requires to { (⟦<Board<F, D> as Machine>⟧.contents self.old).open_page ≡ Some to.0 }
@@ -258,7 +258,7 @@ impl<F: MemWords, D: DiskBlocks> Machine for Board<F, D> {
         Ok(())
     }
 
-    #[tactic(auto, using(crate::proofs::StepRuns::makes_none, crate::proofs::StepRuns::sooner_none, rio_base::specs::MachineRules::steps_refl, rio_base::specs::MachineRules::steps_trans, rio_base::specs::MachineRules::ends_after, rio_base::specs::MachineRules::falls_refl, rio_base::specs::MachineRules::falls_trans))]
+    #[tactic(auto, using(crate::proofs::StepRuns::makes_none, crate::proofs::StepRuns::sooner_none, rio_base::proofs::MachineRules::steps_refl, rio_base::proofs::MachineRules::steps_trans, rio_base::proofs::MachineRules::ends_after, rio_base::proofs::MachineRules::falls_refl, rio_base::proofs::MachineRules::falls_trans))]
     fn store_run(&mut self, at: WordAt, from: &[u64]) -> Result<(), Stopped>
         requires page { (⟦<Board<F, D> as Machine>⟧.contents self.old).open_page ≡ Some (at.0 / 512) }
         requires within { at.0 % 512 + length from.now ≤ 512 }

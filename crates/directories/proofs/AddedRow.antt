@@ -1,27 +1,11 @@
 -- One entry more in a directory: where it goes, and the change that it is.
-use Rattle.std.proofs.Common.{◌≡◌, ◌≢◌, ℕ, ◌+◌, ◌-◌, ◌*◌, ◌/◌, ◌%◌, ◌<◌, ◌≤◌, ◌⊎◌, List, [], ◌∷◌, length, refl, sym, ap, subst, ◌∙◌, arith, inl, inr}
+use Rattle.directories.proofs.Common.{◌≡◌, ◌≢◌, ℕ, ◌+◌, ◌-◌, ◌*◌, ◌/◌, ◌%◌, ◌<◌, ◌≤◌, ◌⊎◌, List, [], ◌∷◌, length, refl, sym, ap, subst, ◌∙◌, arith, inl, inr, cases_eq, cases_lt, Ino, VolumeShape, free_blocks, BlockWords, Health, Seen, Below, Kept, Passes, numbers, Inode, IsInode, PlansSize, free_beside, given_node, planned_node, wanted_blocks, LooksUp, leaves_looked, leaves_trans, ready_left, SizeChange, page_old, Held, held_of, IsName, AtPage, Placed, HasSlot, placed_at, volume_layout, LeavesInUse, Ready}
 use Rattle.std.specs.Prelude.{not, slice_index}
 use Rattle.std.specs.List.{filter}
-use Rattle.std.proofs.lemmas.Bool.{cases_eq, cases_lt}
-use Rattle.rio_base.specs.declared.places.Ino.{Ino}
-use Rattle.rio_base.specs.declared.places.VolumeShape.{VolumeShape}
-use Rattle.rio_base.specs.Bitmap.{free_blocks}
-use Rattle.rio_base.specs.Blocks.{BlockWords, Health, Seen}
-use Rattle.rio_base.specs.Volume.{Below, Kept, Passes}
-use Rattle.block_alloc.specs.Bitmap.{numbers}
-use Rattle.inode_table.specs.declared.inode.Inode.{Inode}
-use Rattle.inode_table.specs.Inodes.{IsInode}
 use Rattle.file_pages.proofs.Planned.{wanted_count}
-use Rattle.file_pages.specs.Changes.{PlansSize, free_beside, given_node, is_among, planned_node, wanted_blocks}
-use Rattle.file_pages.specs.LookingUp.{LooksUp}
-use Rattle.file_pages.specs.OrderRules.{leaves_looked, leaves_trans, ready_left}
-use Rattle.file_pages.specs.declared.changes.SizeChange.{SizeChange}
-use Rattle.rio_model.specs.GrowthRules.{page_new, page_old}
-use Rattle.rio_model.specs.Held.{Held, held_of}
-use Rattle.rio_model.specs.Paths.{IsName}
-use Rattle.rio_model.specs.Placed.{AtPage, Placed, HasSlot, placed_at, volume_layout}
+use Rattle.file_pages.specs.Changes.{is_among}
+use Rattle.rio_model.proofs.GrowthRules.{page_new}
 use Rattle.rio_model.specs.Sizes.{largest_size, pages, tables}
-use Rattle.rio_model.specs.VolumeReady.{LeavesInUse, Ready}
 use Rattle.directories.specs.Contents.{GoesInto, sized_to, with_entry}
 use Rattle.directories.specs.Entries.{IsEntryOf}
 use Rattle.directories.specs.Plans.{PlansDir}

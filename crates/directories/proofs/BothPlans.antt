@@ -1,28 +1,10 @@
 -- Two plans of two directories made in one update, of which the first takes no block.
-use Rattle.std.proofs.Common.{◌≡◌, ◌≢◌, ℕ, ◌+◌, ◌-◌, ◌/◌, ◌<◌, ◌≤◌, ◌⊎◌, true, false, List, [], length, map, refl, sym, ap, subst, ◌∙◌, arith, inl, inr}
-use Rattle.std.specs.Prelude.{Option, None, Some, nat_lt, take}
-use Rattle.std.specs.List.{Contains}
-use Rattle.std.proofs.lemmas.Bool.Decides.{nat_tests}
-use Rattle.rio_base.specs.declared.places.PageName.{PageName}
-use Rattle.rio_base.specs.declared.places.VolumeShape.{VolumeShape}
-use Rattle.rio_base.specs.Bitmap.{free_blocks}
-use Rattle.rio_base.specs.BlockSets.{CachesBy}
-use Rattle.rio_base.specs.Blocks.{BlockWords, Seen}
-use Rattle.rio_base.specs.Layout.{IsIno}
-use Rattle.rio_base.specs.Volume.{Firm, Kept}
-use Rattle.block_alloc.specs.Bitmap.{numbers}
-use Rattle.rio_model.specs.Held.{Held, held, held_of}
-use Rattle.rio_model.specs.NodeChangeRules.{held_there}
-use Rattle.rio_model.specs.NodeChanges.{Available, Change}
-use Rattle.rio_model.specs.Placed.{Slot, AtPage, AtTable, Placed, HasSlot, IsFree, Owns, placed_at, volume_layout}
-use Rattle.rio_model.specs.PlacedRules.{has_same}
-use Rattle.rio_model.specs.Updates.{Applied, edited}
-use Rattle.rio_model.specs.VolumeReady.{Bears, LeavesInUse}
-use Rattle.rio_model.specs.VolumeRules.{IsMapped}
-use Rattle.file_pages.specs.Changes.{wanted_blocks, word_edit}
-use Rattle.file_pages.specs.Updating.{IsUpdated}
+use Rattle.directories.proofs.Common.{◌≡◌, ◌≢◌, ℕ, ◌+◌, ◌-◌, ◌/◌, ◌<◌, ◌≤◌, ◌⊎◌, true, false, List, [], length, map, refl, sym, ap, subst, ◌∙◌, arith, inl, inr, Option, None, Some, nat_lt, Contains, nat_tests, PageName, VolumeShape, free_blocks, CachesBy, BlockWords, Seen, IsIno, Firm, Kept, numbers, Held, held, held_of, held_there, Change, Slot, AtPage, AtTable, Placed, HasSlot, IsFree, Owns, placed_at, volume_layout, Applied, edited, Bears, LeavesInUse, IsMapped, wanted_blocks, word_edit, IsUpdated}
+use Rattle.std.specs.Prelude.{take}
+use Rattle.rio_model.specs.NodeChanges.{Available}
+use Rattle.rio_model.proofs.PlacedRules.{has_same}
 use Rattle.directories.specs.Making.{MayBeMade}
-use Rattle.directories.specs.MakingRules.{DisjointNodes, may_after, may_still, plan_change}
+use Rattle.directories.proofs.MakingRules.{DisjointNodes, may_after, may_still, plan_change}
 use Rattle.directories.specs.Plans.{PlansDir, dir_update}
 use Rattle.directories.specs.Reading.{CanReadDir}
 use Rattle.directories.specs.RowChanges.{RemovesRow}

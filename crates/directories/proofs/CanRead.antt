@@ -1,23 +1,13 @@
 -- A directory that can be read, and stays so while it is.
-use Rattle.std.proofs.Common.{◌≡◌, ◌≢◌, ℕ, ◌/◌, ◌%◌, ◌*◌, ◌<◌, ◌≤◌, ◌⊎◌, ◌&&◌, Bool, cond, true, false, refl, sym, ap, subst, ◌∙◌, arith, inl, inr}
-use Rattle.std.specs.Prelude.{nat_le, None, Option, Some}
-use Rattle.std.proofs.lemmas.Bool.{cases_eq}
-use Rattle.std.proofs.lemmas.Bool.Decides.{nat_tests}
-use Rattle.rio_base.specs.declared.places.PageName.{PageName}
-use Rattle.rio_base.specs.declared.places.VolumeShape.{VolumeShape}
-use Rattle.rio_base.specs.BlockRules.{shape_beside}
-use Rattle.rio_base.specs.BlockSets.{caches_by_one}
-use Rattle.rio_base.specs.Blocks.{BlockWords, Caches, CanName, Looks, SamePage, Seen}
-use Rattle.rio_base.specs.Layout.{IsIno}
-use Rattle.rio_base.specs.Shapes.{HasShape, reserved}
-use Rattle.rio_model.specs.Held.{Held, held, held_of, nothing}
-use Rattle.rio_model.specs.HeldRules.{held_ino}
-use Rattle.rio_model.specs.Placed.{AtPage, AtTable, HasSlot, Layout, Owns, placed_at, volume_layout}
-use Rattle.rio_model.specs.PlacedRules.{numbered_of, table_page}
-use Rattle.rio_model.specs.VolumeReady.{AllNamed, Bears}
-use Rattle.rio_model.specs.VolumeRules.{EntryRule, IsMapped, IsNumbered}
-use Rattle.file_pages.specs.LookingUp.{CanLookUp, LooksUp, TablesUnnamed}
-use Rattle.file_pages.specs.LookingUpRules.{can_look_up, named_on}
+use Rattle.directories.proofs.Common.{◌≡◌, ◌≢◌, ℕ, ◌/◌, ◌%◌, ◌*◌, ◌<◌, ◌≤◌, ◌⊎◌, ◌&&◌, Bool, cond, true, false, refl, sym, ap, subst, ◌∙◌, arith, inl, inr, None, Option, Some, cases_eq, nat_tests, PageName, VolumeShape, caches_by_one, BlockWords, Caches, Looks, Seen, IsIno, HasShape, reserved, Held, held, held_of, held_ino, AtPage, AtTable, HasSlot, Layout, Owns, placed_at, volume_layout, AllNamed, Bears, EntryRule, IsMapped, LooksUp, named_on}
+use Rattle.std.specs.Prelude.{nat_le}
+use Rattle.rio_base.proofs.BlockRules.{shape_beside}
+use Rattle.rio_base.specs.Blocks.{CanName, SamePage}
+use Rattle.rio_model.specs.Held.{nothing}
+use Rattle.rio_model.proofs.PlacedRules.{numbered_of, table_page}
+use Rattle.rio_model.specs.VolumeRules.{IsNumbered}
+use Rattle.file_pages.specs.LookingUp.{CanLookUp, TablesUnnamed}
+use Rattle.file_pages.proofs.LookingUpRules.{can_look_up}
 use Rattle.directories.specs.Reading.{CanReadDir}
 
 pub can_look : (shape : VolumeShape) (x : Seen) (d : ℕ) → CanReadDir shape x d → CanLookUp shape x

@@ -1,13 +1,13 @@
 -- How a call ends, told by an answer of another type.
-use Rattle.std.proofs.Common.{◌≡◌, refl, sym, ap, subst, ◌∙◌}
-use Rattle.std.specs.Prelude.{Result, Ok, Err, IsErrOf}
+use Rattle.directories.proofs.Common.{◌≡◌, refl, sym, ap, subst, ◌∙◌, Result, Health}
+use Rattle.std.specs.Prelude.{Ok, Err, IsErrOf}
 use Rattle.rio_base.specs.declared.failures.VolFail.{VolFail}
 use Rattle.rio_base.specs.declared.failures.VolFail.TheVariants.{Fault, Stopped}
 use Rattle.rio_base.specs.declared.failures.ReadFail.{ReadFail}
 use Rattle.rio_base.specs.declared.failures.ReadFail.TheVariants.{Fault as ReadFault, Stopped as ReadStopped}
-use Rattle.rio_base.specs.Blocks.{Ends, EndsBy, Health}
+use Rattle.rio_base.specs.Blocks.{Ends, EndsBy}
 use Rattle.rio_base.specs.Failures.{read_fail}
-use Rattle.rio_base.specs.Rules.{ends_by, ends_by_as}
+use Rattle.rio_base.proofs.Rules.{ends_by, ends_by_as}
 
 err_as : {T U : Type 0} (s t : Health) (e : VolFail) → Ends {T = T} s t (Err e) → Ends {T = U} s t (Err e)
 err_as s t Fault h = record { later = h.later; stays = h.stays; cause = h.cause }

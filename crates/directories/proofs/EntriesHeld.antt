@@ -1,15 +1,8 @@
 -- What a directory holds after edits that store entries.
-use Rattle.std.proofs.Common.{◌≡◌, ◌≢◌, ℕ, ◌+◌, ◌-◌, ◌*◌, ◌/◌, ◌%◌, ◌<◌, ◌≤◌, ◌⊎◌, ◌==◌, ◌&&◌, Bool, true, false, cond, List, [], ◌∷◌, refl, sym, ap, ◌∙◌, arith, inl, inr, slice_index}
-use Rattle.std.specs.Prelude.{nat_lt}
-use Rattle.std.proofs.lemmas.Bool.{cases_eq, cases_lt}
-use Rattle.std.proofs.lemmas.Bool.Decides.{nat_tests}
-use Rattle.rio_base.specs.Blocks.{BlockWords}
-use Rattle.rio_model.specs.Held.{Held, held}
-use Rattle.rio_model.specs.HeldRules.{same_held}
-use Rattle.rio_model.specs.Placed.{Slot, AtPage, Placed, HasSlot}
-use Rattle.rio_model.specs.PlacedRules.{page_page}
-use Rattle.rio_model.specs.UpdateRules.{edited_on, run_in, run_out}
-use Rattle.rio_model.specs.Updates.{edited}
+use Rattle.directories.proofs.Common.{◌≡◌, ◌≢◌, ℕ, ◌+◌, ◌-◌, ◌*◌, ◌/◌, ◌%◌, ◌<◌, ◌≤◌, ◌⊎◌, ◌==◌, ◌&&◌, Bool, true, false, cond, List, [], ◌∷◌, refl, sym, ap, ◌∙◌, arith, inl, inr, slice_index, nat_lt, cases_eq, cases_lt, nat_tests, BlockWords, Held, held, Slot, AtPage, Placed, HasSlot, edited}
+use Rattle.rio_model.proofs.HeldRules.{same_held}
+use Rattle.rio_model.proofs.PlacedRules.{page_page}
+use Rattle.rio_model.proofs.UpdateRules.{edited_on, run_in, run_out}
 use Rattle.directories.specs.Contents.{AllGoInto, GoesInto, all_edits, entry_edits, sized_to, with_entries, with_entry}
 use Rattle.directories.specs.declared.storing.EntryWords.{EntryWords}
 

@@ -1,16 +1,8 @@
 -- Names found among the entries of a page, and among those of a directory.
-use Rattle.std.proofs.Common.{◌≡◌, ◌≢◌, ℕ, ◌+◌, ◌-◌, ◌*◌, ◌/◌, ◌%◌, ◌^◌, ◌<◌, ◌≤◌, min, List, length, sym, ap, subst, ◌∙◌, arith, slice_index, cond, true, inl, inr}
-use Rattle.std.specs.Prelude.{nat_lt, IfOk, Option, None, Some, Result, Ok, Err}
-use Rattle.std.proofs.lemmas.Bool.{cases_lt}
-use Rattle.std.proofs.lemmas.Bool.Decides.{nat_tests}
-use Rattle.rio_base.specs.declared.places.Ino.{Ino}
-use Rattle.rio_base.specs.declared.places.VolumeShape.{VolumeShape}
-use Rattle.rio_base.specs.Blocks.{BlockWords, IsRun}
-use Rattle.rio_base.specs.Layout.{IsIno}
-use Rattle.rio_model.specs.Held.{Held, entry_name, held, held_of}
-use Rattle.rio_model.specs.HeldRules.{held_ino}
-use Rattle.rio_model.specs.Placed.{AtPage, Placed, placed_at, volume_layout}
-use Rattle.rio_model.specs.WordRules.{held_word}
+use Rattle.directories.proofs.Common.{◌≡◌, ◌≢◌, ℕ, ◌+◌, ◌-◌, ◌*◌, ◌/◌, ◌%◌, ◌^◌, ◌<◌, ◌≤◌, min, List, length, sym, ap, subst, ◌∙◌, arith, slice_index, cond, true, inl, inr, nat_lt, IfOk, Option, None, Some, Result, cases_lt, nat_tests, Ino, VolumeShape, BlockWords, IsIno, Held, entry_name, held, held_of, held_ino, AtPage, Placed, placed_at, volume_layout}
+use Rattle.std.specs.Prelude.{Ok, Err}
+use Rattle.rio_base.specs.Blocks.{IsRun}
+use Rattle.rio_model.proofs.WordRules.{held_word}
 use Rattle.directories.specs.Entries.{FindsIn, FindsInPage, name_in}
 use Rattle.directories.specs.Rows.{Finds, IsEntry}
 use Rattle.directories.proofs.NameWords.{name_moved}

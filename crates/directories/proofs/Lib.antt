@@ -1,10 +1,13 @@
 pub mod AddedRow
 pub mod BothPlans
 pub mod CanRead
+pub mod Common
 pub mod EndsAs
 pub mod EntriesHeld
 pub mod Found
 pub mod Listed
+pub mod MakingOrder
+pub mod MakingRules
 pub mod NameWords
 pub mod NewDirs
 pub mod OpenPlans

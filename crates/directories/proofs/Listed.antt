@@ -1,16 +1,14 @@
 -- Names of entries, listed.
-use Rattle.std.proofs.Common.{◌≡◌, ℕ, zero, suc, ◌+◌, ◌-◌, ◌*◌, ◌/◌, ◌%◌, ◌^◌, ◌<◌, ◌≤◌, ◌++◌, min, List, [], ◌∷◌, length, length-drop, drop, take, map, refl, sym, ap, subst, ◌∙◌, arith, slice_index}
-use Rattle.std.specs.Prelude.{OnOk, Result}
+use Rattle.directories.proofs.Common.{◌≡◌, ℕ, zero, suc, ◌+◌, ◌-◌, ◌*◌, ◌/◌, ◌%◌, ◌^◌, ◌<◌, ◌≤◌, ◌++◌, min, List, [], ◌∷◌, length, drop, take, map, refl, sym, ap, subst, ◌∙◌, arith, slice_index, Result, range_with_len, VolumeShape, BlockWords, Seen, Held, entry_name, held, AtPage, Placed, placed_at}
+use Rattle.std.proofs.Common.{length-drop}
+use Rattle.std.specs.Prelude.{OnOk}
 use Rattle.std.specs.Cmp.Lexicographic.{slice_cmp}
-use Rattle.std.specs.List.{range_with_len}
 use Rattle.std.specs.List.Sorted.{IsPermutation, IsSorted}
 use Rattle.std.specs.Ordering.{nat_cmp}
 use Rattle.std.proofs.lemmas.List.FromFn.{map-range_with_len_more}
 use Rattle.std.proofs.lemmas.List.{append_assoc, get_or-drop, get_or-take, length-take-le}
-use Rattle.rio_base.specs.declared.places.VolumeShape.{VolumeShape}
-use Rattle.rio_base.specs.Blocks.{BlockWords, IsRun, Seen}
-use Rattle.rio_model.specs.Held.{Held, byte_in, byte_of, entry_name, held}
-use Rattle.rio_model.specs.Placed.{AtPage, Placed, placed_at}
+use Rattle.rio_base.specs.Blocks.{IsRun}
+use Rattle.rio_model.specs.Held.{byte_in, byte_of}
 use Rattle.file_pages.specs.PageBytes.{bytes_of}
 use Rattle.file_pages.proofs.PageRead.{line_run}
 use Rattle.directories.specs.Entries.{name_in}

@@ -1,32 +1,23 @@
 -- The volume of the tests is made: a fresh one, and then directories without names.
-use Rattle.std.proofs.Common.{Bool, true, false, ◌≡◌, ◌≢◌, ℕ, ◌+◌, ◌-◌, ◌*◌, ◌/◌, ◌%◌, ◌<◌, ◌≤◌, ◌⊎◌, ◌==◌, ◌&&◌, cond, List, [], ◌∷◌, refl, sym, ap, subst, ◌∙◌, arith, inl, inr}
-use Rattle.std.specs.Prelude.{None, nat_le}
+use Rattle.directories.proofs.Common.{Bool, true, false, ◌≡◌, ◌≢◌, ℕ, ◌+◌, ◌-◌, ◌*◌, ◌/◌, ◌%◌, ◌<◌, ◌≤◌, ◌⊎◌, ◌==◌, ◌&&◌, cond, List, [], ◌∷◌, refl, sym, ap, subst, ◌∙◌, arith, inl, inr, None, cases_eq, nat_tests, VolumeShape, BlockWords, inode_block, IsIno, HasShape, Firm, Kept, Inode, inode_words, Held, HasEntry, held, held_of, held_ino, held_there, mapped_replaced, Change, Slot, AtPage, AtTable, Placed, HasSlot, placed_at, volume_layout, Ready, EntryRule, IsMapped}
+use Rattle.std.specs.Prelude.{nat_le}
 use Rattle.std.specs.Int.{bit_at}
-use Rattle.std.proofs.lemmas.Bool.{cases_eq}
-use Rattle.std.proofs.lemmas.Bool.Decides.{nat_tests}
-use Rattle.rio_base.specs.declared.places.VolumeShape.{VolumeShape}
 use Rattle.rio_fakes.specs.declared.list_volume.ListVolume.{ListVolume}
-use Rattle.rio_base.specs.Bitmap.{bitmap_block, first_bitmap, used_bit}
-use Rattle.rio_base.specs.Blocks.{BlockWords}
-use Rattle.rio_base.specs.Layout.{inode_block, inode_kind, inode_place, IsIno, volume_magic}
+use Rattle.rio_base.specs.Bitmap.{bitmap_block, used_bit}
+use Rattle.rio_base.proofs.Bitmap.{first_bitmap}
+use Rattle.rio_base.specs.Layout.{inode_kind, inode_place, volume_magic}
 use Rattle.rio_fakes.specs.ListVolumes.{IsNew, list_kept, list_seen}
 use Rattle.rio_base.specs.Rules.{true_false}
-use Rattle.rio_base.specs.Shapes.{IsShape, more_bitmap, HasShape}
-use Rattle.rio_base.specs.Volume.{put, put_run, Firm, Kept}
-use Rattle.inode_table.specs.declared.inode.Inode.{Inode}
-use Rattle.inode_table.specs.InodeRules.{stored_kind, word_of_words}
-use Rattle.inode_table.specs.Inodes.{inode_words}
-use Rattle.rio_model.specs.Held.{Held, HasEntry, held, held_of, nothing}
-use Rattle.rio_model.specs.HeldRules.{held_ino}
-use Rattle.rio_model.specs.NodeChangeRules.{held_here, held_there, mapped_replaced}
-use Rattle.rio_model.specs.NodeChanges.{Change}
-use Rattle.rio_model.specs.Placed.{Slot, AtPage, AtTable, Placed, HasSlot, placed_at, volume_layout}
-use Rattle.rio_model.specs.PlacedRules.{inode_no_bitmap}
-use Rattle.rio_model.specs.UpdateRules.{inode_beside, inode_elsewhere, inode_stored}
+use Rattle.rio_base.specs.Shapes.{IsShape, more_bitmap}
+use Rattle.rio_base.specs.Volume.{put, put_run}
+use Rattle.inode_table.proofs.InodeRules.{stored_kind, word_of_words}
+use Rattle.rio_model.specs.Held.{nothing}
+use Rattle.rio_model.proofs.NodeChangeRules.{held_here}
+use Rattle.rio_model.proofs.PlacedRules.{inode_no_bitmap}
+use Rattle.rio_model.proofs.UpdateRules.{inode_beside, inode_elsewhere, inode_stored}
 use Rattle.rio_model.specs.Updates.{with_inode}
-use Rattle.rio_model.specs.VolumeReady.{Ready}
-use Rattle.rio_model.specs.VolumeRules.{EntryRule, IsMapped, bitmap_bits}
-use Rattle.rio_model.specs.WordRules.{put_beside, put_other, run_same_but}
+use Rattle.rio_model.specs.VolumeRules.{bitmap_bits}
+use Rattle.rio_model.proofs.WordRules.{put_beside, put_other, run_same_but}
 use Rattle.file_pages.specs.TestFiles.{IsTestShape, fresh_words}
 use Rattle.file_pages.proofs.TestVolume.{fresh_mapped}
 use Rattle.directories.specs.TestDirs.{DirsMade, DirsReady}

@@ -1,26 +1,13 @@
 -- Plans of tests while an update is open: how many blocks it touches, and that a plan lasts.
-use Rattle.std.proofs.Common.{Bool, true, false, ◌≡◌, ◌≢◌, ℕ, ◌+◌, ◌<◌, ◌≤◌, ◌⊎◌, ◌==◌, ◌||◌, cond, List, length, refl, sym, ap, subst, ◌∙◌, arith, inl, inr, slice_index_or}
-use Rattle.std.specs.Prelude.{None}
-use Rattle.std.specs.List.{Contains}
-use Rattle.std.proofs.lemmas.Bool.{cases_eq}
+use Rattle.directories.proofs.Common.{Bool, true, false, ◌≡◌, ◌≢◌, ℕ, ◌+◌, ◌<◌, ◌≤◌, ◌⊎◌, ◌==◌, cond, List, length, refl, sym, ap, subst, ◌∙◌, arith, inl, inr, slice_index_or, None, Contains, cases_eq, VolumeShape, CachesBy, caches_by_one, caches_by_trans, BlockWords, Caches, Seen, inode_block, HasShape, Firm, Kept, Held, held_of, placed_at, volume_layout, AllNamed, Bears, Firmly, EntryRule, IsMapped, firm_on, IsEdited, Edit}
+use Rattle.std.proofs.Common.{◌||◌}
 use Rattle.std.proofs.lemmas.List.{get_or_default}
-use Rattle.rio_base.specs.declared.places.VolumeShape.{VolumeShape}
-use Rattle.rio_base.specs.BlockSets.{CachesBy, caches_by_one, caches_by_trans}
-use Rattle.rio_base.specs.Blocks.{BlockWords, Caches, CanName, Drops, SamePage, Seen}
-use Rattle.rio_base.specs.Layout.{inode_block}
+use Rattle.rio_base.specs.Blocks.{CanName, Drops, SamePage}
 use Rattle.rio_base.specs.Rules.{true_false}
-use Rattle.rio_base.specs.Shapes.{HasShape}
-use Rattle.rio_base.specs.Volume.{Firm, Kept, Touches, with_block}
-use Rattle.rio_model.specs.Held.{Held, held_of}
-use Rattle.rio_model.specs.Placed.{placed_at, volume_layout}
-use Rattle.rio_model.specs.VolumeReady.{AllNamed, Bears, Firmly}
-use Rattle.rio_model.specs.VolumeRules.{EntryRule, IsMapped}
-use Rattle.rio_model.specs.WordRules.{itself}
-use Rattle.file_pages.specs.OrderRules.{firm_on}
-use Rattle.file_pages.specs.Updating.{IsEdited}
-use Rattle.file_pages.specs.declared.changes.Edit.{Edit}
+use Rattle.rio_base.specs.Volume.{Touches, with_block}
+use Rattle.rio_model.proofs.WordRules.{itself}
 use Rattle.directories.specs.Making.{MayBeMade}
-use Rattle.directories.specs.MakingOrder.{plan_applies, plan_edits}
+use Rattle.directories.proofs.MakingOrder.{plan_applies, plan_edits}
 use Rattle.directories.specs.Plans.{InThreeBlocks, PlansDir}
 use Rattle.directories.specs.TestDirs.{CanMake, CanTouch, DirsOrder, KeepsRows}
 use Rattle.directories.specs.declared.changes.DirChange.{DirChange}

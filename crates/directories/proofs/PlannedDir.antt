@@ -1,29 +1,16 @@
 -- From a prepared size of a directory, and entries that are to be stored in it, to a prepared change of the directory.
-use Rattle.std.proofs.Common.{◌≡◌, ◌≢◌, ℕ, zero, suc, ◌+◌, ◌-◌, ◌*◌, ◌/◌, ◌%◌, ◌<◌, ◌≤◌, ◌⊎◌, ◌++◌, true, false, cond, List, [], ◌∷◌, length, map, take, refl, sym, ap, subst, ◌∙◌, arith, inl, inr, length-take}
-use Rattle.std.specs.Prelude.{None, Option, Some, not, slice_index}
-use Rattle.std.specs.List.{AllByRecursion, Contains, filter}
-use Rattle.rio_base.specs.declared.places.Ino.{Ino}
-use Rattle.rio_base.specs.declared.places.PageName.{PageName}
-use Rattle.rio_base.specs.declared.places.VolumeShape.{VolumeShape}
-use Rattle.rio_base.specs.Bitmap.{free_blocks}
-use Rattle.rio_base.specs.Blocks.{BlockWords, Seen}
+use Rattle.directories.proofs.Common.{◌≡◌, ◌≢◌, ℕ, zero, suc, ◌+◌, ◌-◌, ◌*◌, ◌/◌, ◌%◌, ◌<◌, ◌≤◌, ◌⊎◌, ◌++◌, true, false, cond, List, [], ◌∷◌, length, map, take, refl, sym, ap, subst, ◌∙◌, arith, inl, inr, None, Option, Some, Contains, Ino, PageName, VolumeShape, free_blocks, BlockWords, Seen, Kept, numbers, Inode, IsInode, inode_words, PlansSize, free_beside, given_node, planned_node, wanted_blocks, word_edit, Edit, SizeChange, page_old, Held, held, held_of, Slot, AtPage, AtTable, Placed, HasSlot, IsFree, placed_at, volume_layout, edited, run_edits, Bears, LeavesInUse, Ready}
+use Rattle.std.proofs.Common.{length-take}
+use Rattle.std.specs.Prelude.{not, slice_index}
+use Rattle.std.specs.List.{AllByRecursion, filter}
 use Rattle.rio_base.specs.Layout.{half}
-use Rattle.rio_base.specs.Volume.{Kept}
-use Rattle.block_alloc.specs.Bitmap.{numbers}
-use Rattle.inode_table.specs.declared.inode.Inode.{Inode}
-use Rattle.inode_table.specs.Inodes.{IsInode, inode_words}
 use Rattle.file_pages.proofs.Skipped.{left_apart, left_are_free}
-use Rattle.file_pages.specs.Changes.{Apart, EditsTable, PlansSize, free_beside, given_node, is_among, planned_node, size_update, wanted_blocks, word_edit}
-use Rattle.file_pages.specs.declared.changes.Edit.{Edit}
-use Rattle.file_pages.specs.declared.changes.SizeChange.{SizeChange}
-use Rattle.rio_model.specs.GrowthRules.{few_tables, page_old}
-use Rattle.rio_model.specs.Held.{Held, held, held_of}
-use Rattle.rio_model.specs.HeldRules.{counts_of}
-use Rattle.rio_model.specs.Placed.{Slot, AtPage, AtTable, Placed, HasSlot, IsFree, placed_at, volume_layout}
-use Rattle.rio_model.specs.PlacedRules.{first_table, table_page}
-use Rattle.rio_model.specs.UpdateRules.{edited_on, edited_out}
-use Rattle.rio_model.specs.Updates.{EditsNode, Turns, Update, WordEdit, edited, run_edits}
-use Rattle.rio_model.specs.VolumeReady.{Bears, LeavesInUse, Ready}
+use Rattle.file_pages.specs.Changes.{Apart, EditsTable, is_among, size_update}
+use Rattle.rio_model.proofs.GrowthRules.{few_tables}
+use Rattle.rio_model.proofs.HeldRules.{counts_of}
+use Rattle.rio_model.proofs.PlacedRules.{first_table, table_page}
+use Rattle.rio_model.proofs.UpdateRules.{edited_on, edited_out}
+use Rattle.rio_model.specs.Updates.{EditsNode, Turns, Update, WordEdit}
 use Rattle.directories.specs.Contents.{AllGoInto, all_edits, entry_edits, sized_to, with_entries}
 use Rattle.directories.specs.Plans.{InThreeBlocks, PlansDir, SameBlocks, TakesLowest, dir_update}
 use Rattle.directories.specs.Reading.{CanReadDir}

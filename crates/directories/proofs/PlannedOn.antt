@@ -1,15 +1,6 @@
 -- A change that is prepared after its directory was read, told of the volume as it was before.
-use Rattle.std.proofs.Common.{◌≡◌, ℕ, ◌+◌, ◌*◌, ◌/◌, ◌%◌, ◌<◌, List, sym, subst}
+use Rattle.directories.proofs.Common.{◌≡◌, ℕ, ◌+◌, ◌*◌, ◌/◌, ◌%◌, ◌<◌, List, sym, subst, VolumeShape, BlockWords, Health, Seen, Below, Kept, Passes, Inode, IsInode, LooksUp, leaves_looked, leaves_trans, ready_left, AtPage, placed_at, volume_layout, LeavesInUse, Ready}
 use Rattle.std.specs.Prelude.{slice_index}
-use Rattle.rio_base.specs.declared.places.VolumeShape.{VolumeShape}
-use Rattle.rio_base.specs.Blocks.{BlockWords, Health, Seen}
-use Rattle.rio_base.specs.Volume.{Below, Kept, Passes}
-use Rattle.inode_table.specs.declared.inode.Inode.{Inode}
-use Rattle.inode_table.specs.Inodes.{IsInode}
-use Rattle.file_pages.specs.LookingUp.{LooksUp}
-use Rattle.file_pages.specs.OrderRules.{leaves_looked, leaves_trans, ready_left}
-use Rattle.rio_model.specs.Placed.{AtPage, placed_at, volume_layout}
-use Rattle.rio_model.specs.VolumeReady.{LeavesInUse, Ready}
 use Rattle.directories.specs.Contents.{GoesInto}
 use Rattle.directories.specs.declared.storing.EntryWords.{EntryWords}
 

@@ -1,25 +1,9 @@
 -- From entries that are to be stored in a directory to the rows that it then has.
-use Rattle.std.proofs.Common.{◌≡◌, ◌≢◌, ℕ, ◌+◌, ◌-◌, ◌*◌, ◌/◌, ◌%◌, ◌<◌, ◌≤◌, ◌==◌, Bool, true, false, cond, List, [], ◌∷◌, length, refl, sym, ap, subst, ◌∙◌, arith, inl}
-use Rattle.std.specs.Prelude.{nat_lt, slice_index}
-use Rattle.std.proofs.lemmas.Bool.Decides.{nat_tests}
-use Rattle.rio_base.specs.declared.places.Ino.{Ino}
-use Rattle.rio_base.specs.declared.places.VolumeShape.{VolumeShape}
-use Rattle.rio_base.specs.Blocks.{BlockWords, Seen}
-use Rattle.rio_base.specs.Volume.{Kept}
-use Rattle.block_alloc.specs.Bitmap.{numbers}
-use Rattle.inode_table.specs.declared.inode.Inode.{Inode}
-use Rattle.inode_table.specs.Inodes.{IsInode}
-use Rattle.file_pages.specs.Changes.{PlansSize, given_node, planned_node}
-use Rattle.file_pages.specs.declared.changes.SizeChange.{SizeChange}
-use Rattle.file_pages.specs.LookingUp.{LooksUp}
-use Rattle.rio_model.specs.GrowthRules.{page_old}
-use Rattle.rio_model.specs.Held.{HasEntry, Held, entry_name, held_of}
-use Rattle.rio_model.specs.HeldRules.{counts_of, same_held}
+use Rattle.directories.proofs.Common.{◌≡◌, ◌≢◌, ℕ, ◌+◌, ◌-◌, ◌*◌, ◌/◌, ◌%◌, ◌<◌, ◌≤◌, ◌==◌, Bool, true, false, cond, List, [], ◌∷◌, length, refl, sym, ap, subst, ◌∙◌, arith, inl, nat_lt, nat_tests, Ino, VolumeShape, BlockWords, Seen, Kept, numbers, Inode, IsInode, PlansSize, given_node, planned_node, SizeChange, LooksUp, page_old, HasEntry, Held, entry_name, held_of, IsName, AtPage, Placed, placed_at, volume_layout, LeavesInUse, Ready}
+use Rattle.std.specs.Prelude.{slice_index}
+use Rattle.rio_model.proofs.HeldRules.{counts_of, same_held}
 use Rattle.rio_model.specs.NodeChanges.{shrunk}
-use Rattle.rio_model.specs.Paths.{IsName}
-use Rattle.rio_model.specs.Placed.{AtPage, Placed, placed_at, volume_layout}
 use Rattle.rio_model.specs.Sizes.{pages}
-use Rattle.rio_model.specs.VolumeReady.{LeavesInUse, Ready}
 use Rattle.directories.specs.Contents.{AllGoInto, GoesInto, sized_to, with_entries, with_entry}
 use Rattle.directories.specs.Entries.{IsEntryOf, name_in}
 use Rattle.directories.specs.Plans.{PlansDir}

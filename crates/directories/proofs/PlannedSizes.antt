@@ -1,10 +1,6 @@
 -- What a plan of a directory's size supposes.
-use Rattle.std.proofs.Common.{◌≡◌, ℕ, ◌%◌, ◌≤◌, arith, inl, ◌∙◌}
-use Rattle.rio_base.specs.declared.places.VolumeShape.{VolumeShape}
-use Rattle.rio_base.specs.Blocks.{Seen}
+use Rattle.directories.proofs.Common.{◌≡◌, ℕ, ◌%◌, ◌≤◌, arith, inl, ◌∙◌, VolumeShape, Seen, Inode, IsInode}
 use Rattle.file_pages.specs.Changes.{PlansFor}
-use Rattle.inode_table.specs.declared.inode.Inode.{Inode}
-use Rattle.inode_table.specs.Inodes.{IsInode}
 use Rattle.rio_model.specs.Sizes.{largest_size}
 use Rattle.rio_model.specs.VolumeRules.{SizeFits}
 use Rattle.directories.specs.Reading.{CanReadDir}

@@ -1,30 +1,11 @@
 -- The calls of tests keep the volume's directories.
-use Rattle.std.proofs.Common.{◌≡◌, ◌≢◌, ℕ, ◌*◌, ◌<◌, ◌⊎◌, false, List, refl, sym, ap, subst, ◌∙◌, arith, inl, inr}
-use Rattle.std.proofs.lemmas.Bool.{cases_eq}
-use Rattle.rio_base.specs.declared.places.VolumeShape.{VolumeShape}
-use Rattle.rio_base.specs.BlockSets.{CachesBy}
-use Rattle.rio_base.specs.Blocks.{BlockWords, Health, Looks, Seen}
-use Rattle.rio_base.specs.Layout.{IsIno}
-use Rattle.rio_base.specs.Shapes.{HasShape}
-use Rattle.rio_base.specs.Volume.{Below, Firm, Kept, Passes}
-use Rattle.inode_table.specs.declared.inode.Inode.{Inode}
-use Rattle.inode_table.specs.Inodes.{IsInode}
-use Rattle.rio_model.specs.Held.{Held, HasEntry, entry_ino, entry_name, held_of}
-use Rattle.rio_model.specs.HeldRules.{held_by, held_in_agree, held_ino, same_all}
-use Rattle.rio_model.specs.NodeChanges.{Change}
-use Rattle.rio_model.specs.Paths.{IsName}
-use Rattle.rio_model.specs.Placed.{Layout, Agrees, volume_layout}
-use Rattle.rio_model.specs.PlacedRules.{lays_agree, lays_self}
-use Rattle.rio_model.specs.Updates.{Applied}
-use Rattle.rio_model.specs.VolumeReady.{AllNamed, Firmly, LeavesInUse, Ready}
-use Rattle.rio_model.specs.VolumeRules.{EntryRule, IsMapped}
-use Rattle.file_pages.specs.LookingUp.{LooksUp}
-use Rattle.file_pages.specs.LookingUpRules.{named_on}
-use Rattle.file_pages.specs.OrderRules.{firm_on, order_ready, ready_left, ready_order}
-use Rattle.file_pages.specs.Updating.{IsUpdated}
-use Rattle.directories.specs.Making.{SetsDir}
-use Rattle.directories.specs.MakingOrder.{order_made, plan_edits}
-use Rattle.directories.specs.MakingRules.{may_begin, plan_change, plan_made}
+use Rattle.directories.proofs.Common.{◌≡◌, ◌≢◌, ℕ, ◌*◌, ◌<◌, ◌⊎◌, false, List, refl, sym, ap, subst, ◌∙◌, arith, inl, inr, cases_eq, VolumeShape, CachesBy, BlockWords, Health, Looks, Seen, IsIno, HasShape, Below, Firm, Kept, Passes, Inode, IsInode, Held, HasEntry, entry_ino, entry_name, held_of, held_ino, Change, IsName, Layout, volume_layout, lays_self, Applied, AllNamed, Firmly, LeavesInUse, Ready, EntryRule, IsMapped, LooksUp, named_on, firm_on, ready_left, IsUpdated}
+use Rattle.rio_model.proofs.HeldRules.{held_by, held_in_agree, same_all}
+use Rattle.rio_model.specs.Placed.{Agrees}
+use Rattle.rio_model.proofs.PlacedRules.{lays_agree}
+use Rattle.file_pages.proofs.OrderRules.{order_ready, ready_order}
+use Rattle.directories.proofs.MakingRules.{SetsDir, may_begin, plan_change, plan_made}
+use Rattle.directories.proofs.MakingOrder.{order_made, plan_edits}
 use Rattle.directories.specs.Plans.{PlansDir, dir_update}
 use Rattle.directories.specs.Reading.{CanReadDir}
 use Rattle.directories.specs.RowChanges.{AddsRow, RemovesRow, ReplacesRow, SetsRow}

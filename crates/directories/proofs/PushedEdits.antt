@@ -1,11 +1,8 @@
 -- Edits of entries, pushed one after the other.
-use Rattle.std.proofs.Common.{◌≡◌, ℕ, zero, suc, ◌+◌, ◌<◌, ◌++◌, List, [], ◌∷◌, length, map, take, slice_index_or, refl, sym, ap, ◌∙◌, arith}
-use Rattle.std.specs.List.{Contains}
-use Rattle.std.proofs.lemmas.List.{append_assoc, append-nil, get_or_default, map-append}
+use Rattle.directories.proofs.Common.{◌≡◌, ℕ, zero, suc, ◌+◌, ◌<◌, ◌++◌, List, [], ◌∷◌, length, map, take, slice_index_or, refl, sym, ap, ◌∙◌, arith, Contains, append-nil, word_edit, Edit, run_edits}
+use Rattle.std.proofs.lemmas.List.{append_assoc, get_or_default, map-append}
 use Rattle.std.proofs.lemmas.List.FromFn.{map-range_with_len_more}
-use Rattle.file_pages.specs.Changes.{word_edit}
-use Rattle.file_pages.specs.declared.changes.Edit.{Edit}
-use Rattle.rio_model.specs.Updates.{WordEdit, run_edits}
+use Rattle.rio_model.specs.Updates.{WordEdit}
 use Rattle.directories.specs.Contents.{all_edits, entry_edits}
 use Rattle.directories.specs.declared.storing.EntryWords.{EntryWords}
 

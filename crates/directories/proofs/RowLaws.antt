@@ -1,9 +1,5 @@
 -- What stored entries and another size make of the rows of a directory.
-use Rattle.std.proofs.Common.{◌≡◌, ◌≢◌, ℕ, ◌+◌, ◌-◌, ◌*◌, ◌/◌, ◌%◌, ◌^◌, ◌<◌, ◌≤◌, ◌⊎◌, ◌==◌, true, false, cond, List, length, refl, sym, ap, subst, ◌∙◌, arith, inl, inr, slice_index}
-use Rattle.std.specs.Prelude.{nat_lt}
-use Rattle.std.proofs.lemmas.Bool.{cases_eq}
-use Rattle.std.proofs.lemmas.Bool.Decides.{nat_tests}
-use Rattle.rio_model.specs.Held.{Held, entry_ino, entry_name}
+use Rattle.directories.proofs.Common.{◌≡◌, ◌≢◌, ℕ, ◌+◌, ◌-◌, ◌*◌, ◌/◌, ◌%◌, ◌^◌, ◌<◌, ◌≤◌, ◌⊎◌, ◌==◌, true, false, cond, List, length, refl, sym, ap, subst, ◌∙◌, arith, inl, inr, slice_index, nat_lt, cases_eq, nat_tests, Held, entry_ino, entry_name}
 use Rattle.directories.specs.Contents.{sized_to, with_entry}
 use Rattle.directories.specs.Entries.{IsEntryOf}
 use Rattle.directories.specs.RowChanges.{AddsRow, NameAt, NoName, NoRow, RemovesRow, ReplacesRow, SetsRow, TheRow}

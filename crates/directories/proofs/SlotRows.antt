@@ -1,6 +1,5 @@
 -- Rows of a directory by its slots: where each slot of the changed directory has the row of a slot of before, or the new one.
-use Rattle.std.proofs.Common.{◌≡◌, ◌≢◌, ℕ, ◌*◌, ◌<◌, ◌⊎◌, List, sym, subst, ◌∙◌, inl, inr}
-use Rattle.rio_model.specs.Held.{Held, entry_ino, entry_name}
+use Rattle.directories.proofs.Common.{◌≡◌, ◌≢◌, ℕ, ◌*◌, ◌<◌, ◌⊎◌, List, sym, subst, ◌∙◌, inl, inr, Held, entry_ino, entry_name}
 use Rattle.directories.specs.RowChanges.{ChangesRows}
 use Rattle.directories.specs.Rows.{HasRow, IsEntry, NamesApart}
 

@@ -1,8 +1,6 @@
 pub mod Contents
 pub mod Entries
 pub mod Making
-pub mod MakingOrder
-pub mod MakingRules
 pub mod Plans
 pub mod Reading
 pub mod RowChanges

@@ -1,12 +1,10 @@
 -- A plan may be made long after it was prepared, and other plans before it in the same update.
-use Rattle.std.specs.Prelude.{◌≡◌, ℕ}
+use Rattle.std.specs.Prelude.{ℕ}
 use Rattle.rio_base.specs.declared.places.VolumeShape.{VolumeShape}
 use Rattle.rio_base.specs.Blocks.{BlockWords}
-use Rattle.rio_model.specs.Held.{Held, held_of}
 use Rattle.rio_model.specs.NodeChanges.{Available}
 use Rattle.rio_model.specs.Placed.{Slot, Placed, HasSlot, placed_at, volume_layout}
 use Rattle.rio_model.specs.PlacedRules.{SamePlaced}
-use Rattle.rio_model.specs.VolumeRules.{IsMapped}
 use Rattle.directories.specs.Plans.{SameBlocks}
 
 -- a plan of directory d, which was n and is to be m, may be made on blocks g: the directory lies as it did, the blocks that
@@ -15,9 +13,3 @@ pub record MayBeMade (shape : VolumeShape) (n m : Placed) (d : ℕ) (f g : Block
   pub lies : SamePlaced n (placed_at g d)
   pub same : SameBlocks m f g
   pub from : (s : Slot) → HasSlot m s → Available (volume_layout shape g) d (m.block s)
-
--- blocks k are blocks g with the rows of directory d changed: every other node holds what it held
-pub record SetsDir (shape : VolumeShape) (g k : BlockWords) (d : ℕ) (becomes : Held → Held → Type 0) : Type 0 where
-  pub mapped : IsMapped shape k
-  pub own : becomes (held_of shape g d) (held_of shape k d)
-  pub others : (j : ℕ) → (j ≡ d → ⊥) → held_of shape k j ≡ held_of shape g j

@@ -1,20 +1,16 @@
 -- Bytes of words in a list, and bytes over others.
-use Rattle.std.proofs.Common.{◌≡◌, ℕ, zero, suc, ◌+◌, ◌-◌, ◌*◌, ◌/◌, ◌%◌, ◌<◌, ◌≤◌, ◌==◌, ◌&&◌, ◌⊎◌, true, false, cond, List, [], ◌∷◌, ◌++◌, length, take, drop, get_or, slice_index, refl, sym, ap, subst, ◌∙◌, arith, inl, inr, length-drop}
-use Rattle.std.specs.Prelude.{if◌then◌else◌, nat_le, nat_lt, not}
+use Rattle.file_pages.proofs.Common.{◌≡◌, ℕ, zero, suc, ◌+◌, ◌-◌, ◌*◌, ◌/◌, ◌%◌, ◌<◌, ◌≤◌, ◌==◌, ◌&&◌, ◌⊎◌, true, false, cond, List, [], ◌∷◌, ◌++◌, length, take, drop, refl, sym, ap, subst, ◌∙◌, arith, inl, inr, length-drop, nat_le, nat_lt, cases_lt, nat_tests, take-append-drop, length-take-le, get_or-take, get_or-drop, length-take, BlockWords, SameBut, put_run, run_same_but}
+use Rattle.std.proofs.Common.{get_or, slice_index}
+use Rattle.std.specs.Prelude.{if◌then◌else◌, not}
 use Rattle.std.specs.Int.{w64, from_le_bytes}
-use Rattle.std.proofs.lemmas.Bool.{cases_lt}
-use Rattle.std.proofs.lemmas.Bool.Decides.{nat_tests}
-use Rattle.std.proofs.lemmas.List.{take-append-drop, drop-drop, get_or_append_left, get_or-append_right, length-take-le, nil_from_length, get_or-take, get_or-drop, get_or_past, length-take}
+use Rattle.std.proofs.lemmas.List.{drop-drop, get_or_append_left, get_or-append_right, nil_from_length, get_or_past}
 use Rattle.std.proofs.lemmas.Nat.{le_bytes_8}
 use Rattle.std.proofs.lemmas.List.Edits.{paste_all}
 use Rattle.std.proofs.lemmas.Slice.{put_mid-paste}
 use borrow.Rule.Slice.PartMut.{put_mid}
 use Rattle.byteorder.specs.Endian.{little_bytes, little_number}
 use Rattle.byteorder.specs.Numbers.{little_from-take}
-use Rattle.rio_base.specs.Blocks.{BlockWords}
-use Rattle.rio_base.specs.Volume.{SameBut, put_run}
 use Rattle.rio_model.specs.Held.{byte_of}
-use Rattle.rio_model.specs.WordRules.{run_same_but}
 use Rattle.file_pages.specs.PageBytes.{PutsBytes, block_byte, bytes_of, bytes_stored, over}
 
 -- ---- words read from bytes have those bytes

@@ -1,21 +1,14 @@
 -- A change of size that was made: what file i holds then, and that every other node holds what it held. Before it pages of
 -- node i, and free blocks, may have been stored to.
-use Rattle.std.proofs.Common.{◌≡◌, ◌≢◌, ℕ, List, [], ◌∷◌, map, sym, ap, subst, ◌∙◌, inl, inr}
-use Rattle.std.specs.List.{AllByRecursion}
-use Rattle.rio_base.specs.declared.places.VolumeShape.{VolumeShape}
-use Rattle.rio_base.specs.Bitmap.{used_bit}
-use Rattle.rio_base.specs.Blocks.{BlockWords}
-use Rattle.rio_base.specs.Layout.{IsIno}
-use Rattle.rio_model.specs.Held.{held, held_bytes}
-use Rattle.rio_model.specs.HeldRules.{held_agree}
-use Rattle.rio_model.specs.NodeChangeRules.{file_replaced}
-use Rattle.rio_model.specs.NodeChanges.{Available, BitsFollow, Change, SetsFile, Without}
-use Rattle.rio_model.specs.Placed.{Slot, AtPage, AtTable, Placed, HasSlot, Lies, placed_at, Layout, volume_layout, Lays, AgreesBeside}
-use Rattle.rio_model.specs.PlacedRules.{SamePlaced, has_back, has_same, lays_same, lays_self, lies_same, owned_back, table_page}
-use Rattle.rio_model.specs.UpdateRules.{edited_out, turned, turned_bits, turned_held}
-use Rattle.rio_model.specs.Updates.{Applied, Turns, WordEdit, edited}
-use Rattle.rio_model.specs.VolumeRules.{IsMapped}
-use Rattle.rio_model.specs.WordRules.{held_beside, lays_beside, mapped_beside}
+use Rattle.file_pages.proofs.Common.{◌≡◌, ◌≢◌, ℕ, List, [], ◌∷◌, map, sym, ap, subst, ◌∙◌, inl, inr, AllByRecursion, VolumeShape, used_bit, BlockWords, IsIno, held, held_bytes, Change, SetsFile, Slot, AtPage, AtTable, Placed, HasSlot, placed_at, Layout, volume_layout, AgreesBeside, has_same, lays_same, lays_self, owned_back, table_page, Applied, Turns, WordEdit, edited, IsMapped, lays_beside, mapped_beside}
+use Rattle.rio_model.proofs.HeldRules.{held_agree}
+use Rattle.rio_model.proofs.NodeChangeRules.{file_replaced}
+use Rattle.rio_model.specs.NodeChanges.{Available, BitsFollow, Without}
+use Rattle.rio_model.specs.Placed.{Lies}
+use Rattle.rio_model.proofs.PlacedRules.{Lays, has_back, lies_same}
+use Rattle.rio_model.specs.PlacedRules.{SamePlaced}
+use Rattle.rio_model.proofs.UpdateRules.{edited_out, turned, turned_bits, turned_held}
+use Rattle.rio_model.proofs.WordRules.{held_beside}
 use Rattle.file_pages.specs.Changes.{EditsTable, size_update, word_edit}
 use Rattle.file_pages.specs.declared.changes.Edit.{Edit}
 use Rattle.file_pages.specs.declared.changes.SizeChange.{SizeChange}

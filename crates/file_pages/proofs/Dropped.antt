@@ -1,27 +1,8 @@
 -- The exits of a shrink: its bytes, and the blocks that it frees.
-use Rattle.std.proofs.Common.{◌≡◌, ℕ, ◌<◌, ◌≤◌, List, length, refl, sym, ap, subst, ◌∙◌, arith, inr}
-use Rattle.std.specs.Prelude.{Result, Err, slice_index}
-use Rattle.std.specs.List.{Contains}
-use Rattle.rio_base.specs.declared.places.Block.{Block}
-use Rattle.rio_base.specs.declared.places.VolumeShape.{VolumeShape}
-use Rattle.rio_base.specs.Blocks.{BlockWords, Seen}
-use Rattle.rio_base.specs.Layout.{IsIno}
-use Rattle.rio_base.specs.Volume.{Kept, Settled}
-use Rattle.block_alloc.specs.Bitmap.{numbers}
-use Rattle.inode_table.specs.declared.inode.Inode.{Inode}
-use Rattle.inode_table.specs.Inodes.{IsInode}
-use Rattle.rio_model.specs.GrowthRules.{page_old}
-use Rattle.rio_model.specs.FileParts.{ResizePart, resized}
-use Rattle.rio_model.specs.Held.{Held, held, held_bytes, held_of}
-use Rattle.rio_model.specs.HeldRules.{held_ino}
-use Rattle.rio_model.specs.NodeChanges.{Change}
-use Rattle.rio_model.specs.Placed.{Placed, HasSlot, placed_at, volume_layout, IsFree}
-use Rattle.rio_model.specs.Updates.{Turns}
-use Rattle.rio_model.specs.VolumeReady.{LeavesInUse, Ready}
-use Rattle.rio_model.specs.VolumeRules.{IsMapped, SizeFits}
+use Rattle.file_pages.proofs.Common.{◌≡◌, ℕ, ◌<◌, ◌≤◌, List, length, refl, sym, ap, subst, ◌∙◌, arith, inr, Result, Err, slice_index, Contains, Block, VolumeShape, BlockWords, Seen, IsIno, Kept, Settled, numbers, Inode, IsInode, page_old, ResizePart, resized, Held, held, held_bytes, held_of, held_ino, Change, Placed, HasSlot, placed_at, volume_layout, IsFree, Turns, LeavesInUse, Ready, IsMapped, SizeFits}
 use Rattle.file_pages.specs.Changes.{given_node, planned_node, size_update}
 use Rattle.file_pages.specs.Files.{SetsBoth, file_bytes}
-use Rattle.file_pages.specs.OrderRules.{ready_left}
+use Rattle.file_pages.proofs.OrderRules.{ready_left}
 use Rattle.file_pages.specs.Preparing.{SizeLeaves}
 use Rattle.file_pages.specs.declared.changes.SizeChange.{SizeChange}
 use Rattle.file_pages.specs.declared.failures.SizeFail.{SizeFail}

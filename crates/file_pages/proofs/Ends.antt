@@ -1,10 +1,8 @@
 -- How a call ends, told by another type of failure.
-use Rattle.std.proofs.Common.{◌≡◌, ◌≤◌, refl, sym, ap, subst, ◌∙◌}
-use Rattle.std.specs.Prelude.{Result, Ok, Err, IsErrOf}
-use Rattle.rio_base.specs.declared.failures.VolFail.{VolFail}
+use Rattle.file_pages.proofs.Common.{◌≡◌, ◌≤◌, refl, sym, ap, subst, ◌∙◌, Result, Ok, Err, IsErrOf, VolFail, EndsBy, Health, ends_by_after, ends_by_as}
 use Rattle.rio_base.specs.declared.failures.VolFail.TheVariants.{Fault as VolFault, Stopped as VolStopped}
-use Rattle.rio_base.specs.Blocks.{Ends, EndsBy, Halts, Health}
-use Rattle.rio_base.specs.Rules.{ends_by, ends_by_after, ends_by_as, ends_by_well}
+use Rattle.rio_base.specs.Blocks.{Ends, Halts}
+use Rattle.rio_base.proofs.Rules.{ends_by, ends_by_well}
 use Rattle.file_pages.specs.Failures.{Unrefused, size_handed, size_of_read}
 use Rattle.rio_base.specs.declared.failures.ReadFail.{ReadFail}
 use Rattle.rio_base.specs.declared.failures.ReadFail.TheVariants.{Fault as ReadFault, Stopped as ReadStopped, Memory as ReadMemory}

@@ -1,28 +1,9 @@
 -- A file's growth: prepared, with its last page cleared, and the bytes that it makes.
-use Rattle.std.proofs.Common.{◌≡◌, ℕ, zero, suc, ◌+◌, ◌-◌, ◌/◌, ◌%◌, ◌<◌, ◌≤◌, ◌⊎◌, ◌++◌, true, List, ◌∷◌, length, map, replicate, take, refl, sym, ap, subst, ◌∙◌, arith, inl, inr}
-use Rattle.std.specs.Prelude.{slice_index, None}
-use Rattle.std.specs.List.{Contains, range_with_len}
-use Rattle.std.proofs.lemmas.Bool.{cases_lt}
-use Rattle.std.proofs.lemmas.List.{take_all}
-use Rattle.std.proofs.lemmas.List.FromFn.{length-map-range_with_len}
-use Rattle.rio_base.specs.declared.places.VolumeShape.{VolumeShape}
-use Rattle.rio_base.specs.Blocks.{BlockWords, Seen}
-use Rattle.rio_base.specs.Layout.{IsIno}
-use Rattle.rio_base.specs.Shapes.{reserved}
-use Rattle.rio_base.specs.Volume.{Kept, Settled}
-use Rattle.block_alloc.specs.Bitmap.{numbers}
-use Rattle.inode_table.specs.declared.inode.Inode.{Inode}
-use Rattle.inode_table.specs.Inodes.{IsInode}
-use Rattle.rio_model.specs.GrowthRules.{IsNew, page_new, page_old, same_old, sourced}
-use Rattle.rio_model.specs.FileParts.{resized}
-use Rattle.rio_model.specs.Held.{byte_in, byte_of, held, held_bytes, word_in}
-use Rattle.rio_model.specs.HeldRules.{held_agree, held_same}
-use Rattle.rio_model.specs.NodeChanges.{Takes}
-use Rattle.rio_model.specs.Placed.{Slot, AtPage, AtTable, Placed, HasSlot, placed_at, Layout, volume_layout, Owns, IsFree, AgreesBeside}
-use Rattle.rio_model.specs.PlacedRules.{SameLayout, has_same, lays_agree, lays_same, lays_self, owned_back}
-use Rattle.rio_model.specs.Sizes.{pages}
-use Rattle.rio_model.specs.VolumeReady.{Bears, LeavesInUse, Ready}
-use Rattle.rio_model.specs.WordRules.{beside_agrees, beside_trans, held_word, lays_beside, same_map}
+use Rattle.file_pages.proofs.Common.{◌≡◌, ℕ, zero, suc, ◌+◌, ◌-◌, ◌/◌, ◌%◌, ◌<◌, ◌≤◌, ◌⊎◌, ◌++◌, true, List, ◌∷◌, length, map, replicate, take, refl, sym, ap, subst, ◌∙◌, arith, inl, inr, slice_index, None, Contains, range_with_len, cases_lt, take_all, length-map-range_with_len, VolumeShape, BlockWords, Seen, IsIno, reserved, Kept, Settled, numbers, Inode, IsInode, IsNew, page_new, page_old, same_old, sourced, resized, byte_in, held, held_bytes, word_in, Takes, Slot, AtPage, AtTable, Placed, HasSlot, placed_at, Layout, volume_layout, Owns, IsFree, AgreesBeside, SameLayout, has_same, lays_same, lays_self, owned_back, pages, Bears, LeavesInUse, Ready, beside_agrees, beside_trans, lays_beside, same_map}
+use Rattle.rio_model.specs.Held.{byte_of}
+use Rattle.rio_model.proofs.HeldRules.{held_agree, held_same}
+use Rattle.rio_model.proofs.PlacedRules.{lays_agree}
+use Rattle.rio_model.proofs.WordRules.{held_word}
 use Rattle.file_pages.specs.Changes.{Grows, given_node, planned_node}
 use Rattle.file_pages.specs.Files.{file_bytes}
 use Rattle.file_pages.specs.PageBytes.{block_byte}

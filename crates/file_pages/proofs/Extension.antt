@@ -1,26 +1,10 @@
 -- What is prepared for a write past a file's end, carried over the calls that prepare it.
-use Rattle.std.proofs.Common.{◌≡◌, ℕ, ◌-◌, ◌<◌, ◌≤◌, ◌⊎◌, ◌++◌, List, sym, ap, subst, ◌∙◌, arith, inl, inr}
-use Rattle.std.specs.Prelude.{max, min}
-use Rattle.std.specs.List.{Contains}
-use Rattle.std.proofs.lemmas.Bool.{cases_lt}
-use Rattle.rio_base.specs.declared.places.VolumeShape.{VolumeShape}
-use Rattle.rio_base.specs.Blocks.{BlockWords, Health, Seen}
-use Rattle.rio_base.specs.Layout.{IsIno}
-use Rattle.rio_base.specs.Volume.{Below, Kept, Passes}
-use Rattle.block_alloc.specs.Bitmap.{numbers}
-use Rattle.inode_table.specs.declared.inode.Inode.{Inode}
-use Rattle.inode_table.specs.Inodes.{IsInode}
-use Rattle.rio_model.specs.GrowthRules.{page_new, page_old}
-use Rattle.rio_model.specs.NodeChanges.{grown}
-use Rattle.rio_model.specs.Placed.{AtPage, Placed, HasSlot, placed_at, volume_layout, IsFree}
-use Rattle.rio_model.specs.PlacedRules.{SameLayout, owned_back}
-use Rattle.rio_model.specs.Sizes.{pages}
-use Rattle.rio_model.specs.VolumeReady.{Bears, LeavesInUse, Ready}
-use Rattle.rio_model.specs.WordRules.{same_map}
+use Rattle.file_pages.proofs.Common.{◌≡◌, ℕ, ◌-◌, ◌<◌, ◌≤◌, ◌⊎◌, ◌++◌, List, sym, ap, subst, ◌∙◌, arith, inl, inr, max, Contains, cases_lt, VolumeShape, BlockWords, Health, Seen, IsIno, Below, Kept, Passes, numbers, Inode, IsInode, page_new, page_old, grown, AtPage, Placed, HasSlot, placed_at, volume_layout, IsFree, SameLayout, owned_back, pages, Bears, LeavesInUse, Ready, same_map}
+use Rattle.std.specs.Prelude.{min}
 use Rattle.file_pages.specs.Changes.{Grows, given_node, planned_node}
 use Rattle.file_pages.specs.Extending.{Extends}
 use Rattle.file_pages.specs.LookingUp.{LooksUp, page_blocks}
-use Rattle.file_pages.specs.OrderRules.{ready_left}
+use Rattle.file_pages.proofs.OrderRules.{ready_left}
 use Rattle.file_pages.specs.Storing.{StoresPages}
 use Rattle.file_pages.specs.declared.changes.SizeChange.{SizeChange}
 use Rattle.file_pages.proofs.Extended.{layout_left}

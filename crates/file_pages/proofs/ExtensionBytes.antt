@@ -1,17 +1,7 @@
 -- The bytes of a file in whose pages a write past its end is stored.
-use Rattle.std.proofs.Common.{◌≡◌, ℕ, ◌+◌, ◌-◌, ◌*◌, ◌/◌, ◌%◌, ◌<◌, ◌≤◌, ◌⊎◌, ◌++◌, List, [], ◌∷◌, length, replicate, take, drop, sym, ap, ◌∙◌, arith, inl, inr}
-use Rattle.std.specs.List.{Contains}
-use Rattle.std.proofs.lemmas.Bool.{cases_lt}
-use Rattle.std.proofs.lemmas.List.{append_assoc, drop_all, length-append, length-replicate, replicate-append-replicate, take-append-le, take_all}
-use Rattle.rio_base.specs.declared.places.VolumeShape.{VolumeShape}
-use Rattle.rio_base.specs.Blocks.{BlockWords, Seen}
-use Rattle.rio_base.specs.Volume.{Kept}
-use Rattle.rio_model.specs.FileParts.{IsLead, put_at, resized, written}
-use Rattle.rio_model.specs.Held.{byte_in, byte_of, held, held_bytes, word_in}
-use Rattle.rio_model.specs.Placed.{AtPage, Placed, HasSlot, placed_at}
-use Rattle.rio_model.specs.PlacedRules.{page_page}
-use Rattle.rio_model.specs.Sizes.{pages}
-use Rattle.rio_model.specs.VolumeRules.{NodeFits}
+use Rattle.file_pages.proofs.Common.{◌≡◌, ℕ, ◌+◌, ◌-◌, ◌*◌, ◌/◌, ◌%◌, ◌<◌, ◌≤◌, ◌⊎◌, ◌++◌, List, [], ◌∷◌, length, replicate, take, drop, sym, ap, ◌∙◌, arith, inl, inr, Contains, cases_lt, append_assoc, take_all, VolumeShape, BlockWords, Seen, Kept, IsLead, put_at, resized, written, byte_in, held, held_bytes, word_in, AtPage, Placed, HasSlot, placed_at, page_page, pages, NodeFits}
+use Rattle.std.proofs.lemmas.List.{drop_all, length-append, length-replicate, replicate-append-replicate, take-append-le}
+use Rattle.rio_model.specs.Held.{byte_of}
 use Rattle.file_pages.specs.Files.{file_bytes}
 use Rattle.file_pages.specs.LookingUp.{page_blocks}
 use Rattle.file_pages.specs.PageBytes.{block_byte, over}

@@ -1,19 +1,10 @@
 -- The exits of a write past a file's end.
-use Rattle.std.proofs.Common.{◌≡◌, ℕ, List, length, refl, sym, ap, subst, ◌∙◌, arith, inl, inr}
-use Rattle.std.specs.Prelude.{Result, Err, IsErrOf}
-use Rattle.rio_base.specs.declared.failures.VolFail.{VolFail}
+use Rattle.file_pages.proofs.Common.{◌≡◌, ℕ, List, length, refl, sym, ap, subst, ◌∙◌, arith, inl, inr, Result, Err, IsErrOf, VolFail, VolumeShape, BlockWords, Seen, Kept, Settled, IsLead, held, held_bytes, held_of, Placed, placed_at, volume_layout, LeavesInUse, Ready}
 use Rattle.rio_base.specs.declared.failures.VolFail.TheVariants.{Fault as VolFault, Stopped as VolStopped}
-use Rattle.rio_base.specs.declared.places.VolumeShape.{VolumeShape}
-use Rattle.rio_base.specs.Blocks.{BlockWords, Seen}
-use Rattle.rio_base.specs.Volume.{Kept, Settled}
-use Rattle.rio_model.specs.FileParts.{IsLead}
-use Rattle.rio_model.specs.Held.{held, held_bytes, held_of}
-use Rattle.rio_model.specs.Placed.{Placed, placed_at, volume_layout}
-use Rattle.rio_model.specs.VolumeReady.{LeavesInUse, Ready}
 use Rattle.file_pages.specs.Extending.{HoldsWritten, failed_after}
 use Rattle.file_pages.specs.Failures.{write_handed, write_of_bytes, write_of_size}
 use Rattle.file_pages.specs.Files.{FaultsAfter, HasSpaceFor, SetsBoth, file_bytes}
-use Rattle.file_pages.specs.OrderRules.{ready_left}
+use Rattle.file_pages.proofs.OrderRules.{ready_left}
 use Rattle.file_pages.specs.Preparing.{Committed}
 use Rattle.file_pages.specs.Writing.{WriteLeaves, WriteStops}
 use Rattle.file_pages.specs.declared.changes.SizeChange.{SizeChange}

@@ -1,22 +1,7 @@
 -- A write past a file's end, once its growth is prepared and its last page is cleared: what the calls leave that store its
 -- bytes and make its update.
-use Rattle.std.proofs.Common.{◌≡◌, ℕ, ◌+◌, ◌-◌, ◌*◌, ◌<◌, ◌≤◌, false, List, length, refl, sym, subst, ◌∙◌, arith}
-use Rattle.std.specs.Prelude.{min, slice_index}
-use Rattle.std.specs.List.{Contains}
-use Rattle.rio_base.specs.declared.places.VolumeShape.{VolumeShape}
-use Rattle.rio_base.specs.Blocks.{BlockWords, Seen}
-use Rattle.rio_base.specs.Layout.{IsIno}
-use Rattle.rio_base.specs.Volume.{Firm, Kept, Settled}
-use Rattle.block_alloc.specs.Bitmap.{numbers}
-use Rattle.inode_table.specs.declared.inode.Inode.{Inode}
-use Rattle.inode_table.specs.Inodes.{IsInode}
-use Rattle.rio_model.specs.FileParts.{IsLead, resized}
-use Rattle.rio_model.specs.GrowthRules.{page_new, page_old}
-use Rattle.rio_model.specs.Held.{held, held_bytes}
-use Rattle.rio_model.specs.NodeChanges.{Takes}
-use Rattle.rio_model.specs.Placed.{Placed, placed_at, volume_layout, IsFree}
-use Rattle.rio_model.specs.Sizes.{pages}
-use Rattle.rio_model.specs.VolumeReady.{LeavesInUse, Ready}
+use Rattle.file_pages.proofs.Common.{◌≡◌, ℕ, ◌+◌, ◌-◌, ◌*◌, ◌<◌, ◌≤◌, false, List, length, refl, sym, subst, ◌∙◌, arith, slice_index, Contains, VolumeShape, BlockWords, Seen, IsIno, Firm, Kept, Settled, numbers, Inode, IsInode, IsLead, resized, page_new, page_old, held, held_bytes, Takes, Placed, placed_at, volume_layout, IsFree, pages, LeavesInUse, Ready}
+use Rattle.std.specs.Prelude.{min}
 use Rattle.file_pages.specs.Changes.{Apart, given_node, planned_node}
 use Rattle.file_pages.specs.Extending.{Extends, HoldsWritten}
 use Rattle.file_pages.specs.Files.{FaultsAfter, HasSpace, HasSpaceFor, file_bytes}

@@ -1,23 +1,8 @@
 -- Bytes stored in pages of a file as it will be leave its growth prepared.
-use Rattle.std.proofs.Common.{◌≡◌, ℕ, ◌+◌, ◌<◌, ◌≤◌, ◌⊎◌, true, false, length, refl, sym, subst, ◌∙◌, arith, inl, inr}
-use Rattle.std.specs.Prelude.{Option, slice_index}
-use Rattle.std.specs.List.{Contains}
-use Rattle.std.proofs.lemmas.Bool.{cases_lt}
-use Rattle.std.proofs.lemmas.List.FromFn.{get_or-map-range_with_len, length-map-range_with_len}
-use Rattle.rio_base.specs.declared.places.PageName.{PageName}
-use Rattle.rio_base.specs.declared.places.VolumeShape.{VolumeShape}
-use Rattle.rio_base.specs.Blocks.{BlockWords, Seen}
-use Rattle.rio_base.specs.Layout.{IsIno}
-use Rattle.rio_base.specs.Shapes.{reserved}
-use Rattle.rio_base.specs.Volume.{Firm, Kept, Settled}
-use Rattle.rio_model.specs.Placed.{Slot, AtPage, AtTable, Placed, HasSlot, placed_at, Layout, volume_layout, Owns, IsFree, AgreesBeside}
-use Rattle.rio_model.specs.PlacedRules.{SameLayout, has_same, lays_same, lays_self, page_page, table_page}
-use Rattle.rio_model.specs.Sizes.{pages}
-use Rattle.rio_model.specs.VolumeReady.{Bears}
-use Rattle.rio_model.specs.WordRules.{beside_trans, lays_beside, mapped_beside}
+use Rattle.file_pages.proofs.Common.{◌≡◌, ℕ, ◌+◌, ◌<◌, ◌≤◌, ◌⊎◌, true, false, length, refl, sym, subst, ◌∙◌, arith, inl, inr, Option, slice_index, Contains, cases_lt, get_or-map-range_with_len, length-map-range_with_len, PageName, VolumeShape, BlockWords, Seen, IsIno, reserved, Firm, Kept, Settled, Slot, AtPage, AtTable, Placed, HasSlot, placed_at, Layout, volume_layout, Owns, IsFree, AgreesBeside, SameLayout, has_same, lays_same, lays_self, page_page, table_page, pages, Bears, beside_trans, lays_beside, mapped_beside}
 use Rattle.file_pages.specs.Changes.{Apart}
 use Rattle.file_pages.specs.LookingUp.{page_blocks}
-use Rattle.file_pages.specs.OrderRules.{firm_layout, firm_on, named_layout, ready_order}
+use Rattle.file_pages.proofs.OrderRules.{firm_layout, firm_on, named_layout, ready_order}
 use Rattle.file_pages.specs.Preparing.{Prepared}
 use Rattle.file_pages.specs.Spans.{SpanNamed}
 use Rattle.file_pages.specs.Staging.{Beside}

@@ -1,15 +1,7 @@
 -- The bytes of a file as a list: some stand over its old ones, or past them.
-use Rattle.std.proofs.Common.{◌≡◌, ℕ, zero, suc, ◌+◌, ◌-◌, ◌<◌, ◌≤◌, ◌⊎◌, ◌&&◌, ◌++◌, cond, List, [], ◌∷◌, length, map, replicate, take, drop, refl, sym, ap, ◌∙◌, arith, inl, inr}
-use Rattle.std.specs.Prelude.{min, nat_le, nat_lt, slice_index}
-use Rattle.std.specs.List.{range_with_len}
-use Rattle.std.proofs.lemmas.Bool.{cases_lt}
-use Rattle.std.proofs.lemmas.List.{append-nil, drop_at, length-take-le, take-append-drop, take_all}
-use Rattle.std.proofs.lemmas.List.FromFn.{length-map-range_with_len, take-map-range_with_len}
-use Rattle.rio_base.specs.Blocks.{BlockWords}
-use Rattle.rio_model.specs.FileParts.{put_at, written}
-use Rattle.rio_model.specs.Held.{byte_in, held, held_bytes, word_in}
-use Rattle.rio_model.specs.Placed.{Placed}
-use Rattle.rio_model.specs.WordRules.{same_map}
+use Rattle.file_pages.proofs.Common.{◌≡◌, ℕ, zero, suc, ◌+◌, ◌-◌, ◌<◌, ◌≤◌, ◌⊎◌, ◌&&◌, ◌++◌, cond, List, [], ◌∷◌, length, map, replicate, take, drop, refl, sym, ap, ◌∙◌, arith, inl, inr, nat_le, nat_lt, slice_index, range_with_len, cases_lt, append-nil, length-take-le, take-append-drop, take_all, length-map-range_with_len, take-map-range_with_len, BlockWords, put_at, written, byte_in, held, held_bytes, word_in, Placed, same_map}
+use Rattle.std.specs.Prelude.{min}
+use Rattle.std.proofs.lemmas.List.{drop_at}
 use Rattle.file_pages.specs.PageBytes.{over}
 use Rattle.file_pages.proofs.ByteRuns.{over_in, over_out}
 use Rattle.file_pages.proofs.Extended.{split_map}

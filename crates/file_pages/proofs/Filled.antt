@@ -1,10 +1,10 @@
 -- Words made of bytes, and of a page's own bytes around them.
-use Rattle.std.proofs.Common.{◌≡◌, ℕ, zero, suc, ◌+◌, ◌-◌, ◌*◌, ◌/◌, ◌%◌, ◌<◌, ◌≤◌, ◌⊎◌, List, ◌++◌, length, take, drop, get_or, set, slice_index, sym, ap, subst, ◌∙◌, arith, inl, inr}
+use Rattle.file_pages.proofs.Common.{◌≡◌, ℕ, zero, suc, ◌+◌, ◌-◌, ◌*◌, ◌/◌, ◌%◌, ◌<◌, ◌≤◌, ◌⊎◌, List, ◌++◌, length, take, drop, set, sym, ap, subst, ◌∙◌, arith, inl, inr, cases_lt, get_or-drop, get_or-take, length-set, length-take-le}
+use Rattle.std.proofs.Common.{get_or, slice_index}
 use Rattle.std.specs.Prelude.{min}
 use Rattle.std.specs.Int.{w64, from_le_bytes, to_le_bytes}
-use Rattle.std.proofs.lemmas.Bool.{cases_lt}
 use Rattle.std.proofs.lemmas.Grind.{get_or-set_at}
-use Rattle.std.proofs.lemmas.List.{get_or-drop, get_or-set_other, get_or-take, get_or_append_left, length-append, length-drop, length-set, length-take-le}
+use Rattle.std.proofs.lemmas.List.{get_or-set_other, get_or_append_left, length-append, length-drop}
 use Rattle.std.proofs.lemmas.Nat.{le_bytes_8}
 use borrow.Rule.Slice.PartMut.{put_mid, same_len_mid}
 use Rattle.byteorder.specs.Endian.{IsRead, little_number}

@@ -1,22 +1,8 @@
 -- Blocks that are forgotten: those that a change of a node frees, which are all that no node has any more.
-use Rattle.std.proofs.Common.{◌≡◌, ◌≢◌, ℕ, ◌+◌, ◌<◌, ◌≤◌, false, List, length, sym, ap, subst, ◌∙◌, arith, inl, inr}
-use Rattle.std.specs.Prelude.{slice_index}
-use Rattle.std.specs.List.{Contains}
-use Rattle.std.proofs.lemmas.Bool.{cases_eq}
-use Rattle.rio_base.specs.declared.places.Block.{Block}
-use Rattle.rio_base.specs.declared.places.VolumeShape.{VolumeShape}
-use Rattle.rio_base.specs.Blocks.{BlockWords, Drops, Seen}
-use Rattle.rio_base.specs.Layout.{IsIno}
-use Rattle.rio_base.specs.Volume.{Kept}
-use Rattle.block_alloc.specs.Bitmap.{numbers}
-use Rattle.inode_table.specs.declared.inode.Inode.{Inode}
-use Rattle.rio_model.specs.GrowthRules.{grown_has, same_old}
-use Rattle.rio_model.specs.NodeChangeRules.{lays_replaced, node_here, node_there}
-use Rattle.rio_model.specs.NodeChanges.{Change}
-use Rattle.rio_model.specs.Placed.{Slot, Placed, HasSlot, placed_at, Layout, volume_layout, Owned, Owns, with_placed}
-use Rattle.rio_model.specs.PlacedRules.{SameLayout, has_same, lays_same, lays_self, owned_on}
-use Rattle.rio_model.specs.Updates.{Turns, Update}
-use Rattle.rio_model.specs.WordRules.{lays_beside}
+use Rattle.file_pages.proofs.Common.{◌≡◌, ◌≢◌, ℕ, ◌+◌, ◌<◌, ◌≤◌, false, List, length, sym, ap, subst, ◌∙◌, arith, inl, inr, slice_index, Contains, cases_eq, Block, VolumeShape, BlockWords, Drops, Seen, IsIno, Kept, numbers, Inode, same_old, lays_replaced, node_here, node_there, Change, Slot, Placed, HasSlot, placed_at, Layout, volume_layout, Owned, Owns, with_placed, SameLayout, has_same, lays_same, lays_self, Turns, lays_beside}
+use Rattle.rio_model.proofs.GrowthRules.{grown_has}
+use Rattle.rio_model.proofs.PlacedRules.{owned_on}
+use Rattle.rio_model.specs.Updates.{Update}
 use Rattle.file_pages.specs.Changes.{PlansFor, given_node, planned_node, size_update}
 use Rattle.file_pages.specs.Forgetting.{Forgets, Uncached}
 use Rattle.file_pages.specs.Preparing.{Prepared}

@@ -1,19 +1,7 @@
 -- The lowest free blocks: free, rising, and so none of them twice.
-use Rattle.std.proofs.Common.{◌≡◌, ℕ, zero, suc, ◌+◌, ◌<◌, ◌≤◌, Bool, true, false, cond, List, ◌∷◌, length, take, refl, sym, ap, subst, ◌∙◌, arith, inl, inr, length-take-le}
-use Rattle.std.specs.Prelude.{slice_index, Result, Ok, Err, IsErrOf}
-use Rattle.std.specs.List.{filter, range_with_len}
-use Rattle.std.proofs.lemmas.Bool.{cases_lt}
-use Rattle.std.proofs.lemmas.Bool.Decides.{nat_tests}
-use Rattle.std.proofs.lemmas.List.{get_or-take}
-use Rattle.rio_base.specs.declared.places.Block.{Block}
-use Rattle.rio_base.specs.declared.places.VolumeShape.{VolumeShape}
-use Rattle.rio_base.specs.Bitmap.{free_blocks, is_free, used_bit}
-use Rattle.rio_base.specs.Blocks.{BlockWords, EndsBy, Health}
-use Rattle.rio_base.specs.Rules.{ends_by_as}
-use Rattle.rio_base.specs.Shapes.{reserved}
-use Rattle.rio_model.specs.Placed.{IsFree, volume_layout}
-use Rattle.rio_model.specs.VolumeRules.{IsMapped}
-use Rattle.block_alloc.specs.Bitmap.{numbers}
+use Rattle.file_pages.proofs.Common.{◌≡◌, ℕ, zero, suc, ◌+◌, ◌<◌, ◌≤◌, Bool, true, false, cond, List, ◌∷◌, length, take, refl, sym, ap, subst, ◌∙◌, arith, inl, inr, slice_index, Result, Ok, Err, IsErrOf, filter, range_with_len, cases_lt, nat_tests, get_or-take, Block, VolumeShape, free_blocks, used_bit, BlockWords, EndsBy, Health, ends_by_as, reserved, IsFree, volume_layout, IsMapped, numbers}
+use Rattle.std.proofs.Common.{length-take-le}
+use Rattle.rio_base.specs.Bitmap.{is_free}
 use Rattle.block_alloc.specs.declared.taking.TakeFail.{TakeFail}
 use Rattle.block_alloc.specs.declared.taking.TakeFail.TheVariants.{NoSpace as TakeNoSpace, Fault as TakeFault, Stopped as TakeStopped, Memory as TakeMemory}
 use Rattle.file_pages.specs.Changes.{Apart}

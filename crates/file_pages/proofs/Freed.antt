@@ -1,18 +1,8 @@
 -- The blocks that a shrinking node loses: those of its last pages, and its table where that goes.
-use Rattle.std.proofs.Common.{◌≡◌, ℕ, zero, suc, ◌+◌, ◌-◌, ◌<◌, ◌≤◌, ◌++◌, Bool, true, false, cond, List, [], ◌∷◌, refl, sym, ap, subst, ◌∙◌, arith, inl, inr}
-use Rattle.std.specs.Prelude.{nat_lt}
-use Rattle.std.specs.List.{Contains}
-use Rattle.std.proofs.lemmas.Bool.Decides.{nat_tests}
-use Rattle.std.proofs.lemmas.List.{map-append}
+use Rattle.file_pages.proofs.Common.{◌≡◌, ℕ, zero, suc, ◌+◌, ◌-◌, ◌<◌, ◌≤◌, ◌++◌, Bool, true, false, cond, List, [], ◌∷◌, refl, sym, ap, subst, ◌∙◌, arith, inl, inr, nat_lt, Contains, nat_tests, map-append, get_or-map-range_with_len, length-map-range_with_len, Block, numbers, few_tables, most_tables, Slot, AtPage, AtTable, Placed, HasSlot, pages, tables}
 use Rattle.std.proofs.lemmas.List.Elements.{Contains-append_left, Contains-append_right, Contains-append_cases}
-use Rattle.std.proofs.lemmas.List.FromFn.{get_or-map-range_with_len, length-map-range_with_len}
-use Rattle.rio_base.specs.declared.places.Block.{Block}
-use Rattle.block_alloc.specs.Bitmap.{numbers}
-use Rattle.rio_model.specs.GrowthRules.{few_tables, most_tables}
 use Rattle.rio_model.specs.NodeChanges.{shrunk}
-use Rattle.rio_model.specs.Placed.{Slot, AtPage, AtTable, Placed, HasSlot}
-use Rattle.rio_model.specs.PlacedRules.{cases_lt}
-use Rattle.rio_model.specs.Sizes.{pages, tables}
+use Rattle.rio_model.proofs.PlacedRules.{cases_lt}
 use Rattle.file_pages.specs.LookingUp.{page_blocks}
 
 -- page by page

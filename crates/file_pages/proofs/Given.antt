@@ -1,15 +1,7 @@
 -- The node of an inode for which a change is prepared: the one that lies there, or a new one without blocks.
-use Rattle.std.proofs.Common.{◌≡◌, ℕ, ◌<◌, ◌≤◌, sym, subst, ◌∙◌, arith, inl, inr}
-use Rattle.std.specs.Prelude.{slice_index}
-use Rattle.rio_base.specs.Blocks.{BlockWords}
-use Rattle.rio_base.specs.declared.places.VolumeShape.{VolumeShape}
-use Rattle.rio_base.specs.Layout.{IsIno}
-use Rattle.rio_model.specs.GrowthRules.{few_tables}
-use Rattle.rio_model.specs.Placed.{Slot, AtPage, AtTable, Placed, Within, HasSlot, placed_at}
-use Rattle.rio_model.specs.PlacedRules.{direct_of, lies_self, table_of}
-use Rattle.rio_model.specs.Sizes.{largest_size, pages}
-use Rattle.rio_model.specs.VolumeRules.{IsNumbered}
-use Rattle.inode_table.specs.declared.inode.Inode.{Inode}
+use Rattle.file_pages.proofs.Common.{◌≡◌, ℕ, ◌<◌, ◌≤◌, sym, subst, ◌∙◌, arith, inl, inr, slice_index, BlockWords, VolumeShape, IsIno, few_tables, Slot, AtPage, AtTable, Placed, HasSlot, placed_at, lies_self, table_of, largest_size, pages, IsNumbered, Inode}
+use Rattle.rio_model.specs.Placed.{Within}
+use Rattle.rio_model.proofs.PlacedRules.{direct_of}
 use Rattle.file_pages.specs.Changes.{PlansFor, given_node}
 
 pub record Given (f : BlockWords) (i : ℕ) (given : Inode) : Type 0 where

@@ -1,28 +1,12 @@
 -- The exits of a growth.
-use Rattle.std.proofs.Common.{◌≡◌, ℕ, ◌≤◌, length, refl, sym, ap, subst, ◌∙◌, inl}
-use Rattle.std.specs.Prelude.{Result, Err, List}
-use Rattle.rio_base.specs.declared.failures.VolFail.{VolFail}
+use Rattle.file_pages.proofs.Common.{◌≡◌, ℕ, ◌≤◌, length, refl, sym, ap, subst, ◌∙◌, inl, Result, Err, VolFail, VolumeShape, free_blocks, BlockWords, Seen, IsIno, Kept, Settled, Inode, IsInode, ResizePart, held, held_bytes, SetsFile, Agrees, AgreesBeside, placed_at, volume_layout, stands_agree, LeavesInUse, Ready, IsMapped, beside_agrees, beside_trans, largest_size}
+use Rattle.std.specs.Prelude.{List}
 use Rattle.rio_base.specs.declared.failures.VolFail.TheVariants.{Fault as VolFault, Stopped as VolStopped}
-use Rattle.rio_base.specs.declared.places.VolumeShape.{VolumeShape}
-use Rattle.rio_base.specs.Bitmap.{free_blocks}
-use Rattle.rio_base.specs.Blocks.{BlockWords, Seen}
-use Rattle.rio_base.specs.Layout.{IsIno}
-use Rattle.rio_base.specs.Volume.{Kept, Settled}
-use Rattle.inode_table.specs.declared.inode.Inode.{Inode}
-use Rattle.inode_table.specs.Inodes.{IsInode}
-use Rattle.rio_model.specs.FileParts.{ResizePart}
-use Rattle.rio_model.specs.Held.{held, held_bytes}
-use Rattle.rio_model.specs.NodeChanges.{SetsFile}
-use Rattle.rio_model.specs.Placed.{Agrees, AgreesBeside, placed_at, volume_layout}
-use Rattle.rio_model.specs.VolumeReadRules.{stands_agree}
-use Rattle.rio_model.specs.VolumeReady.{LeavesInUse, Ready}
-use Rattle.rio_model.specs.VolumeRules.{IsMapped}
-use Rattle.rio_model.specs.WordRules.{beside_agrees, beside_trans, file_beside}
-use Rattle.rio_model.specs.Sizes.{largest_size}
+use Rattle.rio_model.proofs.WordRules.{file_beside}
 use Rattle.file_pages.specs.Changes.{wanted_blocks}
 use Rattle.file_pages.specs.Failures.{size_handed}
 use Rattle.file_pages.specs.Files.{HasSpace, SetsBoth, StopsAs, file_bytes}
-use Rattle.file_pages.specs.OrderRules.{order_agree, order_ready, stands_order}
+use Rattle.file_pages.proofs.OrderRules.{order_agree, order_ready, stands_order}
 use Rattle.file_pages.specs.Preparing.{SizeLeaves}
 use Rattle.file_pages.specs.Storing.{StoresPages}
 use Rattle.file_pages.specs.declared.failures.SizeFail.{SizeFail}

@@ -1,26 +1,15 @@
 -- A node that grows: an update that stores its new numbers turns it into the grown one.
-use Rattle.std.proofs.Common.{◌≡◌, ◌≢◌, ℕ, ◌+◌, ◌-◌, ◌*◌, ◌/◌, ◌%◌, ◌^◌, ◌<◌, ◌≤◌, ◌==◌, ◌&&◌, ◌⊎◌, true, false, cond, List, [], length, map, refl, sym, ap, subst, ◌∙◌, arith, inl, inr}
-use Rattle.std.specs.Prelude.{nat_lt, nat_le, slice_index}
-use Rattle.std.specs.List.{AllByRecursion, Contains}
-use Rattle.std.proofs.lemmas.Bool.{cases_eq}
-use Rattle.std.proofs.lemmas.Bool.Decides.{nat_tests}
-use Rattle.std.proofs.lemmas.List.FromFn.{get_or-map-range_with_len}
-use Rattle.rio_base.specs.declared.places.VolumeShape.{VolumeShape}
-use Rattle.rio_base.specs.Blocks.{BlockWords}
-use Rattle.rio_base.specs.Layout.{IsIno, half}
-use Rattle.block_alloc.specs.Bitmap.{numbers}
-use Rattle.inode_table.specs.declared.inode.Inode.{Inode}
+use Rattle.file_pages.proofs.Common.{◌≡◌, ◌≢◌, ℕ, ◌+◌, ◌-◌, ◌*◌, ◌/◌, ◌%◌, ◌^◌, ◌<◌, ◌≤◌, ◌==◌, ◌&&◌, ◌⊎◌, true, false, cond, List, [], length, map, refl, sym, ap, subst, ◌∙◌, arith, inl, inr, nat_lt, nat_le, slice_index, AllByRecursion, Contains, cases_eq, nat_tests, get_or-map-range_with_len, VolumeShape, BlockWords, IsIno, numbers, Inode, few_tables, most_tables, one_table, page_new, page_old, same_old, sourced, Takes, grown, Slot, AtPage, AtTable, Placed, HasSlot, placed_at, Layout, volume_layout, later_of, pages, tables, Turns, edited, run_edits, IsLaid, NodeFits, SizeFits}
+use Rattle.rio_base.specs.Layout.{half}
 use Rattle.inode_table.specs.Inodes.{inode_words, pair_word, word_of_inode}
-use Rattle.rio_model.specs.GrowthRules.{BlocksFit, few_tables, grown_has, most_tables, node_grown_fits, one_table, page_new, page_old, same_old, sourced, table_new, table_old}
-use Rattle.rio_model.specs.NodeChanges.{Takes, grown}
-use Rattle.rio_model.specs.Placed.{Slot, AtPage, AtTable, Placed, HasSlot, Lies, placed_at, Layout, volume_layout}
-use Rattle.rio_model.specs.PlacedRules.{cases_lt, later_of, node_fits}
-use Rattle.rio_model.specs.Sizes.{pages, tables}
-use Rattle.rio_model.specs.UpdateRules.{high_half, low_half, run_edits_node, run_in, run_out}
-use Rattle.rio_model.specs.Updates.{EditsNode, Turns, edited, run_edits}
-use Rattle.rio_model.specs.VolumeRules.{IsLaid, NodeFits, SizeFits}
+use Rattle.rio_model.proofs.GrowthRules.{BlocksFit, grown_has, node_grown_fits, table_new, table_old}
+use Rattle.rio_model.specs.Placed.{Lies}
+use Rattle.rio_model.proofs.PlacedRules.{cases_lt, node_fits}
+use Rattle.rio_model.proofs.UpdateRules.{high_half, low_half, run_edits_node, run_in, run_out}
+use Rattle.rio_model.specs.Updates.{EditsNode}
 use Rattle.file_pages.specs.Changes.{PlansFor, given_node, planned_node, size_update, word_edit}
-use Rattle.file_pages.specs.Growing.{end_word, first_word, new_direct, new_number, new_word}
+use Rattle.file_pages.proofs.GrowingLaws.{end_word, first_word}
+use Rattle.file_pages.specs.Growing.{new_direct, new_number, new_word}
 use Rattle.file_pages.specs.declared.changes.SizeChange.{SizeChange}
 use Rattle.file_pages.proofs.Given.{Given, given_of}
 use Rattle.file_pages.proofs.Listed.{listed, place_of}

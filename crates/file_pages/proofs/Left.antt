@@ -1,30 +1,12 @@
 -- What the exits of a change of size leave of a file.
-use Rattle.std.proofs.Common.{◌≡◌, ℕ, ◌-◌, ◌/◌, ◌%◌, ◌<◌, ◌≤◌, ◌++◌, true, cond, List, length, map, replicate, take, sym, ap, subst, ◌∙◌, arith, inl, inr}
-use Rattle.std.specs.Prelude.{nat_lt}
-use Rattle.std.specs.List.{range_with_len}
-use Rattle.std.proofs.lemmas.Bool.{cases_eq}
-use Rattle.std.proofs.lemmas.Bool.Decides.{nat_tests}
-use Rattle.std.proofs.lemmas.List.{append-nil}
-use Rattle.std.proofs.lemmas.List.FromFn.{length-map-range_with_len, take-map-range_with_len}
-use Rattle.rio_base.specs.declared.places.VolumeShape.{VolumeShape}
-use Rattle.rio_base.specs.Blocks.{BlockWords, Seen}
-use Rattle.rio_base.specs.Layout.{IsIno}
-use Rattle.rio_base.specs.Shapes.{reserved}
-use Rattle.rio_base.specs.Volume.{Kept, Settled}
-use Rattle.rio_model.specs.FileParts.{resized}
-use Rattle.rio_model.specs.Held.{Held, byte_in, byte_of, held, held_bytes, held_of, word_in}
-use Rattle.rio_model.specs.HeldRules.{counts_of, held_ino}
-use Rattle.rio_model.specs.NodeChangeRules.{lays_replaced, node_here, node_there}
-use Rattle.rio_model.specs.NodeChanges.{Change, SetsFile, Without}
-use Rattle.rio_model.specs.Placed.{Slot, AtPage, Placed, HasSlot, placed_at, Layout, volume_layout, Owned, Owns, IsFree, Agrees, with_placed}
-use Rattle.rio_model.specs.PlacedRules.{lays_same, lays_self, mapped_agree, owned_back}
-use Rattle.rio_model.specs.Sizes.{pages}
-use Rattle.rio_model.specs.VolumeReadRules.{held_of_agree}
-use Rattle.rio_model.specs.VolumeReady.{LeavesInUse, Ready}
-use Rattle.rio_model.specs.VolumeRules.{IsMapped}
-use Rattle.rio_model.specs.WordRules.{same_map}
+use Rattle.file_pages.proofs.Common.{◌≡◌, ℕ, ◌-◌, ◌/◌, ◌%◌, ◌<◌, ◌≤◌, ◌++◌, true, cond, List, length, map, replicate, take, sym, ap, subst, ◌∙◌, arith, inl, inr, nat_lt, range_with_len, cases_eq, nat_tests, append-nil, length-map-range_with_len, take-map-range_with_len, VolumeShape, BlockWords, Seen, IsIno, reserved, Kept, Settled, resized, Held, byte_in, held, held_bytes, held_of, word_in, held_ino, lays_replaced, node_here, node_there, Change, SetsFile, Slot, AtPage, Placed, HasSlot, placed_at, Layout, volume_layout, Owned, Owns, IsFree, Agrees, with_placed, lays_same, lays_self, owned_back, pages, LeavesInUse, Ready, IsMapped, same_map}
+use Rattle.rio_model.specs.Held.{byte_of}
+use Rattle.rio_model.proofs.HeldRules.{counts_of}
+use Rattle.rio_model.specs.NodeChanges.{Without}
+use Rattle.rio_model.proofs.PlacedRules.{mapped_agree}
+use Rattle.rio_model.proofs.VolumeReadRules.{held_of_agree}
 use Rattle.file_pages.specs.Files.{SetsBoth, StopsAs, file_bytes}
-use Rattle.file_pages.specs.OrderRules.{stands_left, stands_ready_left}
+use Rattle.file_pages.proofs.OrderRules.{stands_left, stands_ready_left}
 
 -- ---- words that agree with those of before on all blocks in use
 

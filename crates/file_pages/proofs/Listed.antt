@@ -1,14 +1,8 @@
 -- Blocks of a list by their place.
-use Rattle.std.proofs.Common.{Bool, true, false, cond, refl, ◌≡◌, ℕ, zero, suc, ◌+◌, ◌-◌, ◌<◌, ◌≤◌, List, [], ◌∷◌, ◌++◌, length, map, ap, sym, ◌∙◌, arith, slice_index_or}
-use Rattle.std.specs.Prelude.{nat_eq, nat_lt, slice_index}
-use Rattle.std.specs.List.{Contains, range_with_len}
-use Rattle.std.proofs.lemmas.Bool.Decides.{nat_tests}
-use Rattle.std.proofs.lemmas.List.{append_assoc, get_or-map, length-map, get_or_default, map-append}
+use Rattle.file_pages.proofs.Common.{Bool, true, false, cond, refl, ◌≡◌, ℕ, zero, suc, ◌+◌, ◌-◌, ◌<◌, ◌≤◌, List, [], ◌∷◌, ◌++◌, length, map, ap, sym, ◌∙◌, arith, slice_index_or, nat_lt, slice_index, Contains, range_with_len, nat_tests, append_assoc, map-append, Block, numbers, AtPage, AtTable, Placed, pages, tables}
+use Rattle.std.specs.Prelude.{nat_eq}
+use Rattle.std.proofs.lemmas.List.{get_or-map, length-map, get_or_default}
 use Rattle.std.proofs.lemmas.List.FromFn.{map-range_with_len_more}
-use Rattle.rio_base.specs.declared.places.Block.{Block}
-use Rattle.block_alloc.specs.Bitmap.{numbers}
-use Rattle.rio_model.specs.Placed.{AtPage, AtTable, Placed}
-use Rattle.rio_model.specs.Sizes.{pages, tables}
 use Rattle.file_pages.specs.LookingUp.{node_blocks, page_blocks}
 
 pub as_many : (bs : List Block) → length (numbers bs) ≡ length bs

@@ -1,13 +1,8 @@
 -- Block numbers as they are read from an inode and from an indirect block.
-use Rattle.std.specs.Prelude.{slice_index}
-use Rattle.std.proofs.Common.{List, ◌≡◌, ℕ, ◌+◌, ◌-◌, ◌/◌, ◌<◌, ◌≤◌, sym, ap, subst, ◌∙◌, arith}
-use Rattle.rio_base.specs.declared.places.VolumeShape.{VolumeShape}
-use Rattle.rio_base.specs.Blocks.{BlockWords, IsRun}
-use Rattle.rio_base.specs.Layout.{IsIno, half, inode_word}
-use Rattle.rio_model.specs.Placed.{AtPage, AtTable, HasSlot, placed_at, volume_layout, Owns}
-use Rattle.rio_model.specs.PlacedRules.{direct_of, first_table, later_of, lies_self, table_of}
-use Rattle.rio_model.specs.Sizes.{pages}
-use Rattle.rio_model.specs.VolumeRules.{IsNumbered}
+use Rattle.file_pages.proofs.Common.{slice_index, List, ◌≡◌, ℕ, ◌+◌, ◌-◌, ◌/◌, ◌<◌, ◌≤◌, sym, ap, subst, ◌∙◌, arith, VolumeShape, BlockWords, IsIno, AtPage, AtTable, HasSlot, placed_at, volume_layout, Owns, first_table, later_of, lies_self, table_of, pages, IsNumbered}
+use Rattle.rio_base.specs.Blocks.{IsRun}
+use Rattle.rio_base.specs.Layout.{half, inode_word}
+use Rattle.rio_model.proofs.PlacedRules.{direct_of}
 
 pub direct_value : (f : BlockWords) (i p w b : ℕ) → p < 24 → HasSlot (placed_at f i) (AtPage p) → w ≡ inode_word f i (2 + p / 2) → b ≡ half w p → b ≡ (placed_at f i).block (AtPage p)
 direct_value f i p w b few has word is = is ∙ ap (λ x. half x p) word ∙ direct_of f i (placed_at f i) p (lies_self f i) few has

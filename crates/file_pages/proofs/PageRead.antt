@@ -1,23 +1,10 @@
 -- A page of a file read, and its bytes.
-use Rattle.std.proofs.Common.{◌≡◌, ◌≢◌, ℕ, zero, suc, ◌+◌, ◌-◌, ◌*◌, ◌/◌, ◌%◌, ◌<◌, ◌≤◌, ◌⊎◌, ◌++◌, true, List, [], ◌∷◌, map, take, drop, min, refl, sym, ap, subst, ◌∙◌, arith, inl, inr, length, length-drop}
-use Rattle.std.specs.Prelude.{slice_index, slice_index_or, None, Some, Result, OnOk}
-use Rattle.std.specs.List.{range_with_len}
-use Rattle.std.proofs.lemmas.Bool.{cases_eq, cases_lt}
-use Rattle.std.proofs.lemmas.List.{append_assoc, get_or-drop, get_or-take, length-take-le, take_all}
-use Rattle.std.proofs.lemmas.List.FromFn.{fill_by_all, get_or-map-range_with_len, length-map-range_with_len, take-map-range_with_len}
-use Rattle.rio_base.specs.declared.places.Block.{Block}
-use Rattle.rio_base.specs.declared.places.PageName.{PageName}
-use Rattle.block_alloc.specs.Bitmap.{numbers}
-use Rattle.rio_base.specs.declared.places.VolumeShape.{VolumeShape}
-use Rattle.rio_base.specs.BlockRules.{shape_beside}
-use Rattle.rio_base.specs.BlockSets.{caches_by_one}
-use Rattle.rio_base.specs.Blocks.{BlockWords, Caches, IsRun, Looks, Seen}
-use Rattle.rio_base.specs.Shapes.{HasShape, reserved}
-use Rattle.rio_model.specs.Held.{byte_in, byte_of, bytes_in, held}
-use Rattle.rio_model.specs.Placed.{AtPage, AtTable, Placed, placed_at, Layout, volume_layout, Owns}
-use Rattle.rio_model.specs.PlacedRules.{numbered_of, table_page}
-use Rattle.rio_model.specs.VolumeReady.{AllNamed, NamesPage}
-use Rattle.rio_model.specs.VolumeRules.{IsMapped, IsNumbered}
+use Rattle.file_pages.proofs.Common.{◌≡◌, ◌≢◌, ℕ, zero, suc, ◌+◌, ◌-◌, ◌*◌, ◌/◌, ◌%◌, ◌<◌, ◌≤◌, ◌⊎◌, ◌++◌, true, List, [], ◌∷◌, map, take, drop, min, refl, sym, ap, subst, ◌∙◌, arith, inl, inr, length, length-drop, slice_index, None, Some, Result, OnOk, range_with_len, cases_eq, cases_lt, append_assoc, get_or-drop, get_or-take, length-take-le, take_all, get_or-map-range_with_len, length-map-range_with_len, take-map-range_with_len, Block, PageName, numbers, VolumeShape, caches_by_one, BlockWords, Caches, Looks, Seen, HasShape, reserved, byte_in, held, AtPage, AtTable, Placed, placed_at, Layout, volume_layout, Owns, numbered_of, table_page, AllNamed, NamesPage, IsMapped, IsNumbered}
+use Rattle.std.specs.Prelude.{slice_index_or}
+use Rattle.std.proofs.lemmas.List.FromFn.{fill_by_all}
+use Rattle.rio_base.proofs.BlockRules.{shape_beside}
+use Rattle.rio_base.specs.Blocks.{IsRun}
+use Rattle.rio_model.specs.Held.{byte_of, bytes_in}
 use Rattle.file_pages.specs.LookingUp.{LooksUp, TablesUnnamed, page_blocks}
 use Rattle.file_pages.specs.PageBytes.{block_byte, bytes_of}
 use Rattle.file_pages.proofs.ByteRuns.{byte_at}

@@ -1,26 +1,11 @@
 -- The last steps of a planned growth.
-use Rattle.std.proofs.Common.{◌≡◌, ◌≢◌, ℕ, zero, suc, ◌+◌, ◌-◌, ◌*◌, ◌<◌, ◌≤◌, ◌==◌, ◌||◌, ◌⊎◌, min, true, false, cond, List, [], ◌∷◌, length, map, refl, sym, ap, subst, ◌∙◌, arith, inl, inr}
-use Rattle.std.specs.Prelude.{nat_le, slice_index, Option, None, Some}
-use Rattle.std.specs.List.{AllByRecursion, Contains}
-use Rattle.std.proofs.lemmas.Bool.{cases_eq}
-use Rattle.std.proofs.lemmas.Bool.Decides.{nat_tests}
-use Rattle.rio_base.specs.declared.places.PageName.{PageName}
-use Rattle.rio_base.specs.declared.places.VolumeShape.{VolumeShape}
-use Rattle.rio_base.specs.declared.places.Block.{Block}
-use Rattle.rio_base.specs.Blocks.{Health, Seen}
-use Rattle.rio_base.specs.Volume.{Below, Kept, Passes}
-use Rattle.block_alloc.specs.Bitmap.{numbers}
-use Rattle.rio_model.specs.GrowthRules.{IsNew, most_tables, no_table, one_table, same_old, sourced}
-use Rattle.rio_model.specs.NodeChanges.{Takes, grown}
-use Rattle.rio_model.specs.Placed.{Slot, AtPage, AtTable, Placed, HasSlot, Layout, volume_layout, Owned, IsFree}
-use Rattle.rio_model.specs.PlacedRules.{cases_lt}
-use Rattle.rio_model.specs.Sizes.{largest_size, pages, tables}
-use Rattle.rio_model.specs.Updates.{WordEdit, run_edits}
-use Rattle.rio_model.specs.VolumeReady.{Bears, LeavesInUse, Ready}
+use Rattle.file_pages.proofs.Common.{◌≡◌, ◌≢◌, ℕ, zero, suc, ◌+◌, ◌-◌, ◌*◌, ◌<◌, ◌≤◌, ◌==◌, ◌||◌, ◌⊎◌, min, true, false, cond, List, [], ◌∷◌, length, map, refl, sym, ap, subst, ◌∙◌, arith, inl, inr, nat_le, slice_index, Option, None, Some, AllByRecursion, Contains, cases_eq, nat_tests, PageName, VolumeShape, Block, Health, Seen, Below, Kept, Passes, numbers, IsNew, most_tables, one_table, same_old, sourced, Takes, grown, Slot, AtPage, AtTable, Placed, HasSlot, Layout, volume_layout, Owned, IsFree, largest_size, pages, tables, WordEdit, run_edits, Bears, LeavesInUse, Ready}
+use Rattle.rio_model.proofs.GrowthRules.{no_table}
+use Rattle.rio_model.proofs.PlacedRules.{cases_lt}
 use Rattle.file_pages.specs.Changes.{EditsTable, Staged, wanted_blocks, word_edit}
 use Rattle.file_pages.specs.Growing.{new_direct, new_word}
 use Rattle.file_pages.specs.LookingUp.{LooksUp}
-use Rattle.file_pages.specs.OrderRules.{leaves_beside, leaves_looked, leaves_trans, ready_left}
+use Rattle.file_pages.proofs.OrderRules.{leaves_beside, leaves_looked, leaves_trans, ready_left}
 use Rattle.file_pages.specs.Staging.{Beside, Zeroed, taken_name}
 use Rattle.file_pages.specs.declared.changes.Edit.{Edit}
 use Rattle.file_pages.proofs.Listed.{as_many, place_of}

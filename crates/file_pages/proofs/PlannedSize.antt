@@ -1,17 +1,5 @@
 -- A change of size prepared, smaller or larger.
-use Rattle.std.proofs.Common.{◌≡◌, ℕ, ◌<◌, ◌≤◌, ◌⊎◌, Bool, true, false, List, [], length, take, sym, ap, subst, ◌∙◌, arith, inl, inr}
-use Rattle.std.specs.Prelude.{slice_index, None, Result, Ok, Err, IfOk}
-use Rattle.std.specs.List.{AllByRecursion, Contains}
-use Rattle.rio_base.specs.declared.places.Block.{Block}
-use Rattle.rio_base.specs.declared.places.VolumeShape.{VolumeShape}
-use Rattle.rio_base.specs.Blocks.{BlockWords, Health, Seen}
-use Rattle.rio_base.specs.Layout.{IsIno}
-use Rattle.rio_base.specs.Volume.{Below, Kept, Passes}
-use Rattle.block_alloc.specs.Bitmap.{numbers}
-use Rattle.inode_table.specs.declared.inode.Inode.{Inode}
-use Rattle.rio_model.specs.NodeChanges.{Takes}
-use Rattle.rio_model.specs.Placed.{Slot, AtTable, Placed, HasSlot, placed_at, Layout, volume_layout, IsFree}
-use Rattle.rio_model.specs.VolumeReady.{BearsOwn, LeavesInUse}
+use Rattle.file_pages.proofs.Common.{◌≡◌, ℕ, ◌<◌, ◌≤◌, ◌⊎◌, Bool, true, false, List, [], length, take, sym, ap, subst, ◌∙◌, arith, inl, inr, slice_index, None, Result, Ok, Err, IfOk, AllByRecursion, Contains, Block, VolumeShape, BlockWords, Health, Seen, IsIno, Below, Kept, Passes, numbers, Inode, Takes, Slot, AtTable, Placed, HasSlot, placed_at, Layout, volume_layout, IsFree, BearsOwn, LeavesInUse, IsNew, same_old, shrunk_has, sourced}
 use Rattle.file_pages.specs.Changes.{EditsTable, Grows, KeepsFree, PlansFor, PlansSize, Shrinks, Spares, Staged, free_beside, given_node, is_among, planned_node, wanted_blocks}
 use Rattle.file_pages.specs.LookingUp.{LooksUp}
 use Rattle.file_pages.specs.Staging.{Beside}
@@ -21,7 +9,6 @@ use Rattle.file_pages.proofs.Listed.{listed, place_of}
 use Rattle.file_pages.proofs.Planned.{wanted_none}
 use Rattle.file_pages.proofs.Skipped.{among_at}
 use Rattle.file_pages.proofs.Staged.{kept_outside}
-use Rattle.rio_model.specs.GrowthRules.{IsNew, same_old, shrunk_has, sourced}
 
 none_in : (b : ℕ) → Contains [] b → ⊥
 none_in b (k, few, is) = omega (arith, few)

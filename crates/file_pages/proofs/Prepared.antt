@@ -1,32 +1,11 @@
 -- A change of a file's size that is prepared, and what each exit of its update leaves.
-use Rattle.std.proofs.Common.{◌≡◌, ℕ, zero, suc, ◌<◌, ◌≤◌, ◌⊎◌, true, false, List, [], ◌∷◌, refl, sym, ap, subst, ◌∙◌, arith, inl, inr}
-use Rattle.std.specs.Prelude.{Option, None, Some, Result, Ok, Err, IsErrOf}
-use Rattle.std.specs.List.{AllByRecursion, Contains}
-use Rattle.rio_base.specs.declared.places.PageName.{PageName}
-use Rattle.rio_base.specs.declared.failures.VolFail.{VolFail}
+use Rattle.file_pages.proofs.Common.{◌≡◌, ℕ, zero, suc, ◌<◌, ◌≤◌, ◌⊎◌, true, false, List, [], ◌∷◌, refl, sym, ap, subst, ◌∙◌, arith, inl, inr, Option, None, Some, Result, Ok, Err, IsErrOf, AllByRecursion, Contains, PageName, VolFail, VolumeShape, CachesBy, BlockWords, Seen, IsIno, HasShape, Firm, Kept, Settled, numbers, Inode, ResizePart, resized, few_tables, same_old, shrunk_has, held, held_bytes, held_of, Change, SetsFile, Slot, AtPage, AtTable, Placed, HasSlot, placed_at, volume_layout, Agrees, Applied, stands_agree, Bears, LeavesInUse, Ready, IsMapped, beside_agrees}
 use Rattle.rio_base.specs.declared.failures.VolFail.TheVariants.{Fault as VolFault, Stopped as VolStopped}
-use Rattle.rio_base.specs.declared.places.VolumeShape.{VolumeShape}
-use Rattle.rio_base.specs.BlockSets.{CachesBy}
-use Rattle.rio_base.specs.Blocks.{BlockWords, Seen}
-use Rattle.rio_base.specs.Layout.{IsIno}
-use Rattle.rio_base.specs.Shapes.{HasShape}
-use Rattle.rio_base.specs.Volume.{Firm, Kept, Settled}
-use Rattle.block_alloc.specs.Bitmap.{numbers}
-use Rattle.inode_table.specs.declared.inode.Inode.{Inode}
-use Rattle.rio_model.specs.FileParts.{ResizePart, resized}
-use Rattle.rio_model.specs.GrowthRules.{few_tables, same_old, shrunk_has}
-use Rattle.rio_model.specs.Held.{held, held_bytes, held_of}
-use Rattle.rio_model.specs.NodeChanges.{Change, SetsFile}
-use Rattle.rio_model.specs.Placed.{Slot, AtPage, AtTable, Placed, HasSlot, placed_at, volume_layout, Agrees}
-use Rattle.rio_model.specs.Updates.{Applied}
-use Rattle.rio_model.specs.VolumeReadRules.{stands_agree}
-use Rattle.rio_model.specs.VolumeReady.{Bears, LeavesInUse, Ready}
-use Rattle.rio_model.specs.VolumeRules.{IsMapped}
-use Rattle.rio_model.specs.WordRules.{beside_agrees, file_beside}
+use Rattle.rio_model.proofs.WordRules.{file_beside}
 use Rattle.file_pages.specs.Changes.{EditsTable, PlansFor, Shrinks, given_node, planned_node, size_update}
 use Rattle.file_pages.specs.Files.{SetsBoth, StopsAs, file_bytes}
 use Rattle.file_pages.specs.Preparing.{Committed, IsEither, Prepared, SizeLeaves}
-use Rattle.file_pages.specs.OrderRules.{order_agree, order_changed, order_ready, order_touched, ready_left, ready_order, stands_order}
+use Rattle.file_pages.proofs.OrderRules.{order_agree, order_changed, order_ready, order_touched, ready_left, ready_order, stands_order}
 use Rattle.file_pages.specs.Orders.{InOrder}
 use Rattle.file_pages.specs.Updating.{CanChange, IsEdited, IsUpdated}
 use Rattle.file_pages.specs.declared.changes.Edit.{Edit}

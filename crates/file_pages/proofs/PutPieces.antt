@@ -1,10 +1,9 @@
 -- Bytes stored in a block by a run of words.
-use Rattle.std.proofs.Common.{◌≡◌, ℕ, ◌+◌, ◌-◌, ◌*◌, ◌/◌, ◌%◌, ◌<◌, ◌≤◌, ◌⊎◌, List, length, sym, ap, subst, ◌∙◌, arith, inl, inr}
-use Rattle.std.specs.Prelude.{Err, IsErrOf}
-use Rattle.rio_base.specs.Blocks.{BlockWords, FaultAt}
+use Rattle.file_pages.proofs.Common.{◌≡◌, ℕ, ◌+◌, ◌-◌, ◌*◌, ◌/◌, ◌%◌, ◌<◌, ◌≤◌, ◌⊎◌, List, length, sym, ap, subst, ◌∙◌, arith, inl, inr, Err, IsErrOf, BlockWords, put_run}
+use Rattle.rio_base.specs.Blocks.{FaultAt}
 use Rattle.rio_base.specs.declared.failures.RunFail.{RunFail}
 use Rattle.rio_base.specs.declared.failures.RunFail.TheVariants.{Fault as RunFault}
-use Rattle.rio_base.specs.Volume.{OldOrRun, put_run}
+use Rattle.rio_base.specs.Volume.{OldOrRun}
 use Rattle.rio_model.specs.Held.{byte_of}
 use Rattle.file_pages.specs.declared.failures.BytesFail.TheVariants.{Fault as BytesFault}
 use Rattle.file_pages.specs.PageBytes.{EndsHave, PutsBytes, block_byte, list_byte, bytes_stored, over}

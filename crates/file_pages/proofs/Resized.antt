@@ -1,20 +1,8 @@
 -- What a change of a file's size leaves, clause by clause.
-use Rattle.std.proofs.Common.{◌≡◌, ℕ, ◌≤◌, ◌⊎◌, ◌&&◌, Bool, true, false, cond, length, refl, sym, ap, subst, ◌∙◌, arith, inl, inr}
-use Rattle.std.specs.Prelude.{Result, Ok, Err, OnOk, IsErrOf, nat_le}
-use Rattle.std.proofs.lemmas.Bool.Decides.{nat_tests}
-use Rattle.std.proofs.lemmas.List.FromFn.{length-map-range_with_len}
-use Rattle.rio_base.specs.declared.places.VolumeShape.{VolumeShape}
-use Rattle.rio_base.specs.Blocks.{BlockWords, Seen}
-use Rattle.rio_base.specs.Layout.{IsIno}
-use Rattle.rio_base.specs.Volume.{Kept, Settled}
-use Rattle.rio_model.specs.FileParts.{ResizePart, resized}
-use Rattle.rio_model.specs.Held.{Held, byte_in, held, held_of, nothing, word_in}
-use Rattle.rio_model.specs.HeldRules.{held_ino}
-use Rattle.rio_model.specs.Placed.{placed_at, volume_layout}
-use Rattle.rio_model.specs.Sizes.{largest_size}
-use Rattle.rio_model.specs.VolumeReady.{LeavesInUse, Ready}
+use Rattle.file_pages.proofs.Common.{◌≡◌, ℕ, ◌≤◌, ◌⊎◌, ◌&&◌, Bool, true, false, cond, length, refl, sym, ap, subst, ◌∙◌, arith, inl, inr, Result, Ok, Err, OnOk, IsErrOf, nat_le, nat_tests, length-map-range_with_len, VolumeShape, BlockWords, Seen, IsIno, Kept, Settled, ResizePart, resized, Held, byte_in, held, held_of, word_in, held_ino, placed_at, volume_layout, largest_size, LeavesInUse, Ready}
+use Rattle.rio_model.specs.Held.{nothing}
 use Rattle.file_pages.specs.Files.{HasSpace, ResizeStops, SetsBoth, StopsAs, file_bytes}
-use Rattle.file_pages.specs.OrderRules.{leaves_trans, ready_left}
+use Rattle.file_pages.proofs.OrderRules.{leaves_trans, ready_left}
 use Rattle.file_pages.specs.Preparing.{SizeLeaves}
 use Rattle.file_pages.specs.declared.failures.SizeFail.{SizeFail}
 use Rattle.file_pages.specs.declared.failures.SizeFail.TheVariants.{NoSpace, TooLarge, Fault, Stopped, Memory}

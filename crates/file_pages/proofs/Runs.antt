@@ -1,10 +1,6 @@
 -- Lists of edits and of numbers, one further.
-use Rattle.std.proofs.Common.{◌≡◌, ℕ, ◌+◌, ◌-◌, ◌<◌, ◌≤◌, ◌&&◌, cond, List, [], ◌∷◌, ◌++◌, map, sym, ap, ◌∙◌, arith, min}
-use Rattle.std.specs.Prelude.{slice_index, nat_lt, nat_le}
-use Rattle.std.proofs.lemmas.Bool.Decides.{nat_tests}
-use Rattle.std.proofs.lemmas.List.{map-append}
+use Rattle.file_pages.proofs.Common.{◌≡◌, ℕ, ◌+◌, ◌-◌, ◌<◌, ◌≤◌, ◌&&◌, cond, List, [], ◌∷◌, ◌++◌, map, sym, ap, ◌∙◌, arith, min, slice_index, nat_lt, nat_le, nat_tests, map-append, WordEdit, run_edits}
 use Rattle.std.proofs.lemmas.List.FromFn.{map-range_with_len_more}
-use Rattle.rio_model.specs.Updates.{WordEdit, run_edits}
 use Rattle.file_pages.specs.Changes.{word_edit}
 use Rattle.file_pages.specs.Growing.{new_direct}
 use Rattle.file_pages.specs.declared.changes.Edit.{Edit}

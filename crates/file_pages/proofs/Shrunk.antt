@@ -1,20 +1,9 @@
 -- A node that shrinks: an update that stores its inode and frees its last blocks turns it into the shrunk one.
-use Rattle.std.proofs.Common.{◌≡◌, ℕ, ◌-◌, ◌/◌, ◌^◌, ◌<◌, ◌≤◌, ◌⊎◌, List, [], map, sym, ap, subst, ◌∙◌, arith, inl, inr}
-use Rattle.std.specs.Prelude.{slice_index}
-use Rattle.std.specs.List.{AllByRecursion, Contains}
-use Rattle.rio_base.specs.declared.places.VolumeShape.{VolumeShape}
-use Rattle.rio_base.specs.Blocks.{BlockWords}
-use Rattle.rio_base.specs.Layout.{IsIno, half}
-use Rattle.rio_base.specs.Shapes.{reserved}
-use Rattle.block_alloc.specs.Bitmap.{numbers}
-use Rattle.inode_table.specs.declared.inode.Inode.{Inode}
-use Rattle.rio_model.specs.GrowthRules.{same_old, shrunk_has}
+use Rattle.file_pages.proofs.Common.{◌≡◌, ℕ, ◌-◌, ◌/◌, ◌^◌, ◌<◌, ◌≤◌, ◌⊎◌, List, [], map, sym, ap, subst, ◌∙◌, arith, inl, inr, slice_index, AllByRecursion, Contains, VolumeShape, BlockWords, IsIno, reserved, numbers, Inode, same_old, shrunk_has, Slot, AtPage, AtTable, Placed, HasSlot, placed_at, volume_layout, first_table, later_of, pages, tables, Turns, edited, IsLaid, NodeFits, SizeFits}
+use Rattle.rio_base.specs.Layout.{half}
 use Rattle.rio_model.specs.NodeChanges.{shrunk}
-use Rattle.rio_model.specs.Placed.{Slot, AtPage, AtTable, Placed, HasSlot, placed_at, volume_layout}
-use Rattle.rio_model.specs.PlacedRules.{cases_lt, first_table, later_of, node_fits}
-use Rattle.rio_model.specs.Sizes.{pages, tables}
-use Rattle.rio_model.specs.Updates.{EditsNode, Turns, edited}
-use Rattle.rio_model.specs.VolumeRules.{IsLaid, NodeFits, SizeFits}
+use Rattle.rio_model.proofs.PlacedRules.{cases_lt, node_fits}
+use Rattle.rio_model.specs.Updates.{EditsNode}
 use Rattle.file_pages.specs.Changes.{PlansFor, given_node, planned_node, size_update, word_edit}
 use Rattle.file_pages.specs.declared.changes.Edit.{Edit}
 use Rattle.file_pages.specs.declared.changes.SizeChange.{SizeChange}

@@ -1,15 +1,8 @@
 -- Free blocks without some of them that are set aside.
-use Rattle.std.proofs.Common.{min, ◌≡◌, ◌≢◌, ℕ, zero, suc, ◌+◌, ◌<◌, ◌≤◌, ◌==◌, ◌&&◌, ◌||◌, ◌⊎◌, ◌++◌, Bool, true, false, cond, not, List, [], ◌∷◌, length, take, drop, refl, sym, ap, subst, ◌∙◌, arith, inl, inr, length-append, length-drop, length-take-le}
-use Rattle.std.specs.Prelude.{nat_lt, slice_index}
-use Rattle.std.specs.List.{filter, range_with_len}
-use Rattle.std.proofs.lemmas.Bool.{cases_eq, cases_lt}
-use Rattle.std.proofs.lemmas.Bool.Decides.{nat_tests}
-use Rattle.std.proofs.lemmas.List.{append-nil, get_or-take, take-append-le, take-append-drop, take_all, take_more, length-take}
-use Rattle.rio_base.specs.declared.places.VolumeShape.{VolumeShape}
-use Rattle.rio_base.specs.Bitmap.{free_blocks, is_free}
-use Rattle.rio_base.specs.Blocks.{BlockWords}
-use Rattle.rio_model.specs.Placed.{IsFree, volume_layout}
-use Rattle.rio_model.specs.VolumeRules.{IsMapped}
+use Rattle.file_pages.proofs.Common.{min, ◌≡◌, ◌≢◌, ℕ, zero, suc, ◌+◌, ◌<◌, ◌≤◌, ◌==◌, ◌&&◌, ◌||◌, ◌⊎◌, ◌++◌, Bool, true, false, cond, not, List, [], ◌∷◌, length, take, drop, refl, sym, ap, subst, ◌∙◌, arith, inl, inr, length-drop, nat_lt, slice_index, filter, range_with_len, cases_eq, cases_lt, nat_tests, append-nil, get_or-take, take-append-drop, take_all, length-take, VolumeShape, free_blocks, BlockWords, IsFree, volume_layout, IsMapped}
+use Rattle.std.proofs.Common.{length-append, length-take-le}
+use Rattle.std.proofs.lemmas.List.{take-append-le, take_more}
+use Rattle.rio_base.specs.Bitmap.{is_free}
 use Rattle.block_alloc.proofs.Free.{filter_short}
 use Rattle.block_alloc.proofs.Ranges.{filter_same}
 use Rattle.file_pages.specs.Changes.{Apart, free_beside, is_among}

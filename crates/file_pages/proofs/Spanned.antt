@@ -1,16 +1,8 @@
 -- Bytes stored over a run of pages: a piece in one page, pieces one behind the other, and what of them lies below a size.
-use Rattle.std.proofs.Common.{◌≡◌, ◌≢◌, ℕ, ◌+◌, ◌-◌, ◌*◌, ◌/◌, ◌%◌, ◌<◌, ◌≤◌, ◌⊎◌, true, List, length, take, drop, min, refl, sym, ap, subst, ◌∙◌, arith, inl, inr, slice_index_or}
-use Rattle.std.specs.Prelude.{slice_index, Option, Some, Result, Err, IsErrOf}
-use Rattle.std.specs.List.{Contains}
-use Rattle.std.proofs.lemmas.Bool.{cases_eq, cases_lt}
-use Rattle.std.proofs.lemmas.List.{get_or-drop, get_or-take, length-drop, length-take, length-take-le, take_rest}
-use Rattle.rio_base.specs.declared.places.Block.{Block}
-use Rattle.rio_base.specs.declared.places.PageName.{PageName}
-use Rattle.rio_base.specs.Blocks.{BlockWords, CanName, SamePage, Seen}
-use Rattle.rio_base.specs.BlockSets.{caches_by_stored, firm_outside_all, same_outside_one}
-use Rattle.rio_base.specs.Volume.{CachesStored, Firm, Kept, SameBut, widened}
-use Rattle.block_alloc.specs.Bitmap.{numbers}
-use Rattle.rio_model.specs.VolumeReady.{NamesPage}
+use Rattle.file_pages.proofs.Common.{◌≡◌, ◌≢◌, ℕ, ◌+◌, ◌-◌, ◌*◌, ◌/◌, ◌%◌, ◌<◌, ◌≤◌, ◌⊎◌, true, List, length, take, drop, min, refl, sym, ap, subst, ◌∙◌, arith, inl, inr, slice_index_or, slice_index, Option, Some, Result, Err, IsErrOf, Contains, cases_eq, cases_lt, get_or-drop, get_or-take, length-take, length-take-le, take_rest, Block, PageName, BlockWords, CanName, SamePage, Seen, Firm, Kept, SameBut, numbers, NamesPage}
+use Rattle.std.proofs.lemmas.List.{length-drop}
+use Rattle.rio_base.proofs.BlockSets.{caches_by_stored, firm_outside_all, same_outside_one}
+use Rattle.rio_base.specs.Volume.{CachesStored, widened}
 use Rattle.file_pages.specs.Changes.{Apart}
 use Rattle.rio_model.specs.Held.{byte_of}
 use Rattle.file_pages.specs.PageBytes.{PutsBytes, block_byte, over}

@@ -1,12 +1,7 @@
 -- Calls that leave all but some blocks as they were, one after the other.
-use Rattle.std.proofs.Common.{◌≡◌, ◌≢◌, ℕ, ◌+◌, ◌<◌, ◌==◌, Bool, true, false, cond, List, length, refl, sym, ap, subst, ◌∙◌, arith, inl, inr}
-use Rattle.std.specs.Prelude.{slice_index, Option}
-use Rattle.std.proofs.lemmas.Bool.{cases_eq}
-use Rattle.std.proofs.lemmas.Bool.Decides.{nat_tests}
-use Rattle.rio_base.specs.declared.places.PageName.{PageName}
-use Rattle.rio_base.specs.Blocks.{BlockWords, Seen, Caches, Drops}
-use Rattle.rio_base.specs.BlockSets.{caches_by_drops, caches_by_one, caches_by_refl, caches_by_trans, caches_by_wider, firm_outside_one, firm_outside_refl, firm_outside_trans, firm_outside_wider, same_outside_one, same_outside_refl, same_outside_trans, same_outside_wider}
-use Rattle.rio_base.specs.Volume.{Kept, SameBut, FirmBut, cleared}
+use Rattle.file_pages.proofs.Common.{◌≡◌, ◌≢◌, ℕ, ◌+◌, ◌<◌, ◌==◌, Bool, true, false, cond, List, length, refl, sym, ap, subst, ◌∙◌, arith, inl, inr, slice_index, Option, cases_eq, nat_tests, PageName, BlockWords, Seen, Caches, Drops, caches_by_one, Kept, SameBut}
+use Rattle.rio_base.proofs.BlockSets.{caches_by_drops, caches_by_refl, caches_by_trans, caches_by_wider, firm_outside_one, firm_outside_refl, firm_outside_trans, firm_outside_wider, same_outside_one, same_outside_refl, same_outside_trans, same_outside_wider}
+use Rattle.rio_base.specs.Volume.{FirmBut, cleared}
 use Rattle.file_pages.specs.Changes.{Apart}
 use Rattle.file_pages.specs.Staging.{Beside, Zeroed}
 

@@ -1,23 +1,12 @@
 -- A page of a file stored to leaves the volume in order.
-use Rattle.std.proofs.Common.{◌≡◌, ◌≢◌, ℕ, ◌+◌, ◌-◌, ◌*◌, ◌/◌, ◌%◌, ◌<◌, ◌≤◌, ◌⊎◌, Bool, true, false, List, refl, sym, ap, subst, ◌∙◌, arith, inl, inr}
-use Rattle.std.specs.Prelude.{min, max, Option, None, Some, Result, Ok, Err, OnOk}
-use Rattle.std.proofs.lemmas.Bool.{cases_eq, cases_lt}
-use Rattle.rio_base.specs.declared.places.PageName.{PageName}
-use Rattle.rio_base.specs.declared.places.VolumeShape.{VolumeShape}
-use Rattle.rio_base.specs.Blocks.{BlockWords, Caches, Health, Looks, Seen}
-use Rattle.rio_base.specs.BlockRules.{shape_beside_stored, stored_trans}
-use Rattle.rio_base.specs.Layout.{IsIno}
-use Rattle.rio_base.specs.Shapes.{reserved}
-use Rattle.rio_base.specs.Volume.{Below, CachesStored, Firm, Kept, Passes, OldOrRun, RunName, SameBut, widened}
-use Rattle.rio_model.specs.Held.{byte_in, byte_of, held, held_bytes, word_in}
-use Rattle.rio_model.specs.Placed.{Slot, AtPage, Placed, HasSlot, placed_at, Layout, volume_layout, Owns, IsFree, AgreesBeside}
-use Rattle.rio_model.specs.PlacedRules.{SameLayout, lays_same, lays_self, page_page}
-use Rattle.rio_model.specs.Sizes.{pages}
-use Rattle.rio_model.specs.VolumeReady.{Bears, BearsOwn, NamedNode, NamesPage, Ready}
-use Rattle.rio_model.specs.VolumeRules.{IsLaid}
-use Rattle.rio_model.specs.WordRules.{beside_agrees, beside_page, lays_beside, held_word, mapped_beside, run_same_but, same_map}
+use Rattle.file_pages.proofs.Common.{◌≡◌, ◌≢◌, ℕ, ◌+◌, ◌-◌, ◌*◌, ◌/◌, ◌%◌, ◌<◌, ◌≤◌, ◌⊎◌, Bool, true, false, List, refl, sym, ap, subst, ◌∙◌, arith, inl, inr, max, Option, None, Some, Result, Ok, Err, OnOk, cases_eq, cases_lt, PageName, VolumeShape, BlockWords, Caches, Health, Looks, Seen, IsIno, reserved, Below, Firm, Kept, Passes, SameBut, byte_in, held, held_bytes, word_in, Slot, AtPage, Placed, HasSlot, placed_at, Layout, volume_layout, Owns, IsFree, AgreesBeside, SameLayout, lays_same, lays_self, page_page, pages, Bears, BearsOwn, NamedNode, NamesPage, Ready, IsLaid, beside_agrees, lays_beside, mapped_beside, run_same_but, same_map}
+use Rattle.std.specs.Prelude.{min}
+use Rattle.rio_base.proofs.BlockRules.{shape_beside_stored, stored_trans}
+use Rattle.rio_base.specs.Volume.{CachesStored, OldOrRun, RunName, widened}
+use Rattle.rio_model.specs.Held.{byte_of}
+use Rattle.rio_model.proofs.WordRules.{beside_page, held_word}
 use Rattle.file_pages.specs.LookingUp.{LooksUp}
-use Rattle.file_pages.specs.OrderRules.{firm_layout, firm_on, leaves_looked, named_layout, ready_left, ready_order}
+use Rattle.file_pages.proofs.OrderRules.{firm_layout, firm_on, leaves_looked, named_layout, ready_left, ready_order}
 use Rattle.file_pages.specs.Storing.{KeepsFront, NamedAs, StoresPages, TailCleared, ZerosFrom}
 use Rattle.file_pages.specs.PageBytes.{block_byte}
 use Rattle.file_pages.proofs.Left.{bytes_sized}

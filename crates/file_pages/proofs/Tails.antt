@@ -1,12 +1,8 @@
 -- The bytes of a block from one place on made zero, by a run of words.
-use Rattle.std.proofs.Common.{◌≡◌, ◌≢◌, ℕ, ◌+◌, ◌-◌, ◌/◌, ◌%◌, ◌^◌, ◌<◌, ◌≤◌, ◌⊎◌, zero, suc, List, length, refl, sym, ap, ◌∙◌, arith, inl, inr, length-drop, replicate, set}
-use Rattle.std.specs.Prelude.{drop, take, slice_index}
-use Rattle.std.proofs.lemmas.Bool.{cases_lt}
-use Rattle.std.proofs.lemmas.List.{length-replicate, length-set, get_or-set_same, get_or-set_other, get_or-drop, get_or-take, get_or_past, length-take, length-take-le}
-use Rattle.rio_base.specs.Blocks.{BlockWords}
-use Rattle.rio_base.specs.Volume.{put_run}
+use Rattle.file_pages.proofs.Common.{◌≡◌, ◌≢◌, ℕ, ◌+◌, ◌-◌, ◌/◌, ◌%◌, ◌^◌, ◌<◌, ◌≤◌, ◌⊎◌, zero, suc, List, length, refl, sym, ap, ◌∙◌, arith, inl, inr, length-drop, replicate, set, slice_index, cases_lt, length-set, get_or-drop, get_or-take, length-take, length-take-le, BlockWords, put_run, run_same_but}
+use Rattle.std.specs.Prelude.{drop, take}
+use Rattle.std.proofs.lemmas.List.{length-replicate, get_or-set_same, get_or-set_other, get_or_past}
 use Rattle.rio_model.specs.Held.{byte_of}
-use Rattle.rio_model.specs.WordRules.{run_same_but}
 use Rattle.file_pages.specs.PageBytes.{block_byte}
 use Rattle.file_pages.specs.Storing.{KeepsFront, ZerosFrom}
 use Rattle.file_pages.proofs.ByteRuns.{run_inside, run_outside}

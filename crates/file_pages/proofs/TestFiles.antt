@@ -1,21 +1,12 @@
 -- The calls of tests keep two files.
-use Rattle.std.proofs.Common.{◌≡◌, ◌≢◌, ℕ, ◌⊎◌, List, sym, ap, subst, ◌∙◌, arith, inl, inr, refl, Result, Ok, Err}
-use Rattle.std.proofs.lemmas.Bool.{cases_eq}
-use Rattle.rio_base.specs.declared.places.VolumeShape.{VolumeShape}
-use Rattle.rio_base.specs.Blocks.{BlockWords, Health, Looks, Seen}
-use Rattle.rio_base.specs.Volume.{Below, Kept, Passes, Settled}
-use Rattle.rio_model.specs.Held.{Held, held_of}
-use Rattle.rio_model.specs.NodeChanges.{SetsFile}
-use Rattle.rio_model.specs.Placed.{volume_layout}
-use Rattle.rio_model.specs.VolumeReady.{LeavesInUse, Ready, AllNamed, Firmly}
+use Rattle.file_pages.proofs.Common.{◌≡◌, ◌≢◌, ℕ, ◌⊎◌, List, sym, ap, subst, ◌∙◌, arith, inl, inr, refl, cases_eq, VolumeShape, BlockWords, Health, Looks, Seen, Below, Kept, Passes, Settled, Held, held_of, SetsFile, volume_layout, LeavesInUse, Ready, AllNamed, IfOk, IsErrOf, OnOk, HasShape, IsMapped, VolFail, Inode, IsInode}
+use Rattle.std.proofs.Common.{Result, Ok, Err}
+use Rattle.rio_model.specs.VolumeReady.{Firmly}
 use Rattle.file_pages.specs.Files.{SetsBoth, StopsAs, FaultsAfter}
-use Rattle.file_pages.specs.OrderRules.{leaves_refl, stands_ready_left, firm_on}
+use Rattle.file_pages.proofs.OrderRules.{leaves_refl, stands_ready_left, firm_on}
 use Rattle.file_pages.specs.TestFiles.{FilesReady, FilesStand, HasFiles, IsTestFile}
-use Rattle.std.specs.Prelude.{IfOk, IsErrOf, OnOk}
-use Rattle.rio_base.specs.Shapes.{HasShape}
-use Rattle.rio_model.specs.VolumeRules.{IsMapped}
 use Rattle.file_pages.specs.LookingUp.{LooksUp}
-use Rattle.file_pages.specs.LookingUpRules.{named_on}
+use Rattle.file_pages.proofs.LookingUpRules.{named_on}
 use Rattle.file_pages.specs.declared.failures.SizeFail.{SizeFail}
 use Rattle.file_pages.specs.declared.failures.SizeFail.TheVariants.{NoSpace as SizeNoSpace, TooLarge as SizeTooLarge, Fault as SizeFault, Stopped as SizeStopped, Memory as SizeMemory}
 use Rattle.file_pages.specs.declared.failures.WriteFail.{WriteFail}
@@ -23,9 +14,6 @@ use Rattle.file_pages.specs.declared.failures.WriteFail.TheVariants.{NoSpace, To
 use Rattle.file_pages.proofs.Left.{both_left}
 use Rattle.file_pages.proofs.Resized.{file_ino, file_placed}
 use Rattle.rio_base.specs.Layout.{inode_kind}
-use Rattle.rio_base.specs.declared.failures.VolFail.{VolFail}
-use Rattle.inode_table.specs.declared.inode.Inode.{Inode}
-use Rattle.inode_table.specs.Inodes.{IsInode}
 
 -- a file that is set leaves the other one
 has_set : (shape : VolumeShape) (f g : BlockWords) (i : ℕ) (bytes : List ℕ) → HasFiles shape f → IsTestFile i → SetsFile shape f g i bytes → HasFiles shape g

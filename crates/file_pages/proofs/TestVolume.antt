@@ -1,33 +1,24 @@
 -- The volumes of tests: a fresh one keeps the rules, and so do two files that are made on it.
-use Rattle.std.proofs.Common.{Bool, true, false, ◌≡◌, ◌≢◌, ℕ, ◌+◌, ◌-◌, ◌*◌, ◌/◌, ◌%◌, ◌<◌, ◌≤◌, ◌⊎◌, ◌==◌, cond, List, [], ◌∷◌, refl, sym, ap, subst, ◌∙◌, arith, inl, inr}
-use Rattle.std.specs.Prelude.{None}
+use Rattle.file_pages.proofs.Common.{Bool, true, false, ◌≡◌, ◌≢◌, ℕ, ◌+◌, ◌-◌, ◌*◌, ◌/◌, ◌%◌, ◌<◌, ◌≤◌, ◌⊎◌, ◌==◌, cond, List, [], ◌∷◌, refl, sym, ap, subst, ◌∙◌, arith, inl, inr, None, cases_eq, nat_tests, VolumeShape, used_bit, BlockWords, inode_block, IsIno, reserved, HasShape, put_run, Firm, Kept, IsMapped, run_same_but, list_kept, list_seen, Inode, Held, held_of, held_ino, Change, SetsFile, Slot, AtPage, AtTable, Placed, HasSlot, placed_at, volume_layout}
 use Rattle.std.specs.Int.{bit_at}
-use Rattle.std.proofs.lemmas.Bool.{cases_eq}
-use Rattle.std.proofs.lemmas.Bool.Decides.{nat_tests}
 use Rattle.std.proofs.lemmas.Nat.Bits.{bit_at-zero, bit_at_ones, bit_at_ones_above}
-use Rattle.rio_base.specs.declared.places.VolumeShape.{VolumeShape}
-use Rattle.rio_base.specs.Bitmap.{bitmap_block, first_bitmap, used_bit}
-use Rattle.rio_base.specs.Blocks.{BlockWords}
-use Rattle.rio_base.specs.Layout.{inode_block, inode_kind, inode_place, IsIno, volume_magic}
+use Rattle.rio_base.specs.Bitmap.{bitmap_block}
+use Rattle.rio_base.proofs.Bitmap.{first_bitmap}
+use Rattle.rio_base.specs.Layout.{inode_kind, inode_place, volume_magic}
 use Rattle.rio_base.specs.Rules.{true_false}
-use Rattle.rio_base.specs.Shapes.{IsShape, more_bitmap, reserved, HasShape}
-use Rattle.rio_base.specs.Volume.{put, put_run, Firm, Kept}
+use Rattle.rio_base.specs.Shapes.{IsShape, more_bitmap}
+use Rattle.rio_base.specs.Volume.{put}
 use Rattle.rio_model.specs.FreshVolume.{IsFreshVolume}
-use Rattle.rio_model.specs.VolumeRules.{IsMapped, bitmap_bits}
-use Rattle.rio_model.specs.WordRules.{put_beside, put_here, put_other, run_same_but}
+use Rattle.rio_model.specs.VolumeRules.{bitmap_bits}
+use Rattle.rio_model.proofs.WordRules.{put_beside, put_here, put_other}
 use Rattle.rio_model.proofs.FreshReads.{fresh_reads}
-use Rattle.rio_fakes.specs.ListVolumes.{IsNew, list_kept, list_seen}
+use Rattle.rio_fakes.specs.ListVolumes.{IsNew}
 use Rattle.rio_fakes.specs.declared.list_volume.ListVolume.{ListVolume}
-use Rattle.inode_table.specs.declared.inode.Inode.{Inode}
-use Rattle.inode_table.specs.InodeRules.{stored_kind, word_of_words}
+use Rattle.inode_table.proofs.InodeRules.{stored_kind, word_of_words}
 use Rattle.inode_table.specs.Inodes.{inode_words}
-use Rattle.rio_model.specs.Held.{Held, held_of}
-use Rattle.rio_model.specs.HeldRules.{held_ino}
-use Rattle.rio_model.specs.NodeChangeRules.{file_replaced}
-use Rattle.rio_model.specs.NodeChanges.{Change, SetsFile}
-use Rattle.rio_model.specs.Placed.{Slot, AtPage, AtTable, Placed, HasSlot, placed_at, volume_layout}
-use Rattle.rio_model.specs.PlacedRules.{inode_no_bitmap}
-use Rattle.rio_model.specs.UpdateRules.{inode_beside, inode_elsewhere, inode_stored}
+use Rattle.rio_model.proofs.NodeChangeRules.{file_replaced}
+use Rattle.rio_model.proofs.PlacedRules.{inode_no_bitmap}
+use Rattle.rio_model.proofs.UpdateRules.{inode_beside, inode_elsewhere, inode_stored}
 use Rattle.rio_model.specs.Updates.{with_inode}
 use Rattle.file_pages.specs.TestFiles.{FilesReady, HasFiles, IsTestFile, IsTestShape, fresh_words}
 

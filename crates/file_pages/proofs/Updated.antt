@@ -1,28 +1,21 @@
 -- Calls of one update, one after the other, and what the whole of it does.
-use Rattle.std.proofs.Common.{◌≡◌, ◌≢◌, ℕ, suc, ◌+◌, ◌/◌, ◌%◌, ◌<◌, ◌≤◌, ◌==◌, ◌||◌, Bool, inl, inr, true, false, List, [], ◌∷◌, length, map, drop, refl, sym, ap, subst, ◌∙◌, arith, slice_index_or, Result}
-use Rattle.std.specs.Prelude.{slice_index, Option, None, OnOk}
+use Rattle.file_pages.proofs.Common.{◌≡◌, ◌≢◌, ℕ, suc, ◌+◌, ◌/◌, ◌%◌, ◌<◌, ◌≤◌, ◌==◌, ◌||◌, Bool, inl, inr, true, false, List, [], ◌∷◌, length, map, drop, refl, sym, ap, subst, ◌∙◌, arith, slice_index_or, slice_index, Option, None, OnOk, AllByRecursion, Contains, cases_eq, cases_lt, nat_tests, Block, PageName, VolumeShape, used_bit, CachesBy, caches_by_one, BlockWords, Caches, CanName, SamePage, Seen, IsIno, inode_block, reserved, Kept, SameUpdate, numbers, inode_low, Applied, WordEdit, edited, Inode}
+use Rattle.std.proofs.Common.{Result}
 use Rattle.std.specs.Int.{bit_at}
-use Rattle.std.specs.List.{AllByRecursion, Contains}
-use Rattle.std.proofs.lemmas.Bool.{cases_eq, cases_lt}
-use Rattle.std.proofs.lemmas.Bool.Decides.{nat_tests}
 use Rattle.std.proofs.lemmas.List.{get_or_default}
 use Rattle.std.proofs.Math.Seq.{drop-cons}
-use Rattle.rio_base.specs.declared.places.Block.{Block}
-use Rattle.rio_base.specs.declared.places.PageName.{PageName}
-use Rattle.rio_base.specs.declared.places.VolumeShape.{VolumeShape}
-use Rattle.rio_base.specs.Bitmap.{bitmap_block, first_bitmap, used_bit}
-use Rattle.rio_base.specs.BlockSets.{CachesBy, caches_by_one, caches_by_wider}
-use Rattle.rio_base.specs.Blocks.{BlockWords, Caches, CanName, IsPlace, SamePage, Seen}
-use Rattle.rio_base.specs.Layout.{IsIno, inode_block}
-use Rattle.rio_base.specs.Shapes.{IsShape, reserved}
-use Rattle.rio_base.specs.Volume.{Kept, SameUpdate, Touches, put}
-use Rattle.block_alloc.specs.Bitmap.{SetsBit, numbers}
-use Rattle.rio_model.specs.PlacedRules.{bits_low, inode_low, inode_no_bitmap}
-use Rattle.rio_model.specs.UpdateRules.{edited_out, inode_elsewhere}
-use Rattle.rio_model.specs.Updates.{Applied, WordEdit, edited, with_inode}
+use Rattle.rio_base.specs.Bitmap.{bitmap_block}
+use Rattle.rio_base.proofs.Bitmap.{first_bitmap}
+use Rattle.rio_base.proofs.BlockSets.{caches_by_wider}
+use Rattle.rio_base.specs.Blocks.{IsPlace}
+use Rattle.rio_base.specs.Shapes.{IsShape}
+use Rattle.rio_base.specs.Volume.{Touches, put}
+use Rattle.block_alloc.specs.Bitmap.{SetsBit}
+use Rattle.rio_model.proofs.PlacedRules.{bits_low, inode_no_bitmap}
+use Rattle.rio_model.proofs.UpdateRules.{edited_out, inode_elsewhere}
+use Rattle.rio_model.specs.Updates.{with_inode}
 use Rattle.rio_model.specs.VolumeRules.{bitmap_bits}
 use Rattle.inode_table.specs.Inodes.{inode_words}
-use Rattle.inode_table.specs.declared.inode.Inode.{Inode}
 use Rattle.file_pages.specs.Changes.{node_update, word_edit}
 use Rattle.file_pages.specs.Updating.{CanMake, CanUpdate, IsEdited, IsUpdated, SetsBits}
 use Rattle.file_pages.specs.declared.changes.Edit.{Edit}

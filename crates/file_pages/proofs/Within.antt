@@ -1,28 +1,12 @@
 -- Bytes written over pages of a file: they are its bytes, and the volume stays in order.
-use Rattle.std.proofs.Common.{◌≡◌, ℕ, ◌+◌, ◌-◌, ◌*◌, ◌/◌, ◌%◌, ◌<◌, ◌≤◌, ◌⊎◌, true, false, List, length, take, refl, sym, ap, subst, ◌∙◌, arith, inl, inr}
-use Rattle.std.specs.Prelude.{slice_index, Result, Err, IsErrOf}
+use Rattle.file_pages.proofs.Common.{◌≡◌, ℕ, ◌+◌, ◌-◌, ◌*◌, ◌/◌, ◌%◌, ◌<◌, ◌≤◌, ◌⊎◌, true, false, List, length, take, refl, sym, ap, subst, ◌∙◌, arith, inl, inr, slice_index, Result, Err, IsErrOf, Contains, cases_lt, get_or-map-range_with_len, length-map-range_with_len, VolumeShape, BlockWords, Health, Seen, IsIno, reserved, Below, Firm, Kept, Passes, Settled, IsLead, put_at, written, byte_in, word_in, Slot, AtPage, AtTable, Placed, HasSlot, placed_at, Layout, volume_layout, Owns, IsFree, AgreesBeside, SameLayout, lays_same, lays_self, page_page, table_page, pages, Bears, NamedNode, Ready, IsLaid, IsMapped, lays_beside, mapped_beside}
 use Rattle.std.specs.Int.{div_ceil}
-use Rattle.std.specs.List.{Contains}
-use Rattle.std.proofs.lemmas.Bool.{cases_lt}
-use Rattle.std.proofs.lemmas.List.FromFn.{get_or-map-range_with_len, length-map-range_with_len}
-use Rattle.rio_base.specs.declared.places.VolumeShape.{VolumeShape}
-use Rattle.rio_base.specs.Blocks.{BlockWords, Health, Seen}
-use Rattle.rio_base.specs.Layout.{IsIno}
-use Rattle.rio_base.specs.Shapes.{reserved}
-use Rattle.rio_base.specs.Volume.{Below, Firm, Kept, Passes, Settled}
-use Rattle.rio_model.specs.FileParts.{IsLead, put_at, written}
-use Rattle.rio_model.specs.Held.{byte_in, byte_of, word_in}
-use Rattle.rio_model.specs.Placed.{Slot, AtPage, AtTable, Placed, HasSlot, placed_at, Layout, volume_layout, Owns, IsFree, AgreesBeside}
-use Rattle.rio_model.specs.PlacedRules.{SameLayout, lays_same, lays_self, page_page, table_page}
-use Rattle.rio_model.specs.Sizes.{pages}
-use Rattle.rio_model.specs.VolumeReady.{Bears, NamedNode, Ready}
-use Rattle.rio_model.specs.VolumeRules.{IsLaid, IsMapped}
-use Rattle.rio_model.specs.WordRules.{lays_beside, mapped_beside}
+use Rattle.rio_model.specs.Held.{byte_of}
 use Rattle.file_pages.specs.Changes.{Apart}
 use Rattle.file_pages.specs.Failures.{write_of_bytes}
 use Rattle.file_pages.specs.Files.{FaultsAfter, HasSpaceFor, SetsBoth, StopsAs, file_bytes}
 use Rattle.file_pages.specs.LookingUp.{LooksUp, page_blocks}
-use Rattle.file_pages.specs.OrderRules.{firm_layout, firm_on, leaves_looked, named_layout, ready_left, ready_order}
+use Rattle.file_pages.proofs.OrderRules.{firm_layout, firm_on, leaves_looked, named_layout, ready_left, ready_order}
 use Rattle.file_pages.specs.PageBytes.{block_byte, over}
 use Rattle.file_pages.specs.Spans.{PutsSpan, SpanNamed, span_byte}
 use Rattle.file_pages.specs.Staging.{Beside}

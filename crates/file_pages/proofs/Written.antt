@@ -1,24 +1,14 @@
 -- What a write leaves, clause by clause.
-use Rattle.std.proofs.Common.{◌≡◌, ◌==◌, ℕ, true, ◌⊎◌, List, [], ◌∷◌, length, refl, sym, ap, subst, ◌∙◌, arith, inl, inr}
-use Rattle.std.specs.Prelude.{Result, Ok, Err, IsErrOf}
-use Rattle.std.proofs.lemmas.Bool.Decides.{nat_tests}
+use Rattle.file_pages.proofs.Common.{◌≡◌, ◌==◌, ℕ, true, ◌⊎◌, List, [], ◌∷◌, length, refl, sym, ap, subst, ◌∙◌, arith, inl, inr, Result, Ok, Err, IsErrOf, nat_tests, VolFail, VolumeShape, EndsBy, Health, Seen, IsIno, ends_by_as, Kept, Settled, written, held_of, volume_layout, LeavesInUse, Ready}
 use Rattle.rio_base.specs.declared.failures.ReadFail.{ReadFail}
 use Rattle.rio_base.specs.declared.failures.ReadFail.TheVariants.{Fault as ReadFault, Stopped as ReadStopped, Memory as ReadMemory}
-use Rattle.rio_base.specs.declared.failures.VolFail.{VolFail}
 use Rattle.rio_base.specs.declared.failures.VolFail.TheVariants.{Fault as VolFault, Stopped as VolStopped}
-use Rattle.rio_base.specs.declared.places.VolumeShape.{VolumeShape}
-use Rattle.rio_base.specs.Blocks.{Ends, EndsBy, Health, Seen}
-use Rattle.rio_base.specs.Layout.{IsIno}
-use Rattle.rio_base.specs.Rules.{ends_by, ends_by_as, ends_by_well}
-use Rattle.rio_base.specs.Volume.{Kept, Settled}
-use Rattle.rio_model.specs.FileParts.{written}
-use Rattle.rio_model.specs.Held.{held_of}
-use Rattle.rio_model.specs.Placed.{volume_layout}
-use Rattle.rio_model.specs.VolumeReady.{LeavesInUse, Ready}
-use Rattle.rio_model.specs.WordRules.{beside_refl}
+use Rattle.rio_base.specs.Blocks.{Ends}
+use Rattle.rio_base.proofs.Rules.{ends_by, ends_by_well}
+use Rattle.rio_model.proofs.WordRules.{beside_refl}
 use Rattle.file_pages.specs.Failures.{write_handed, write_of_bytes, write_of_read}
 use Rattle.file_pages.specs.Files.{FaultsAfter, SetsBoth, StopsAs, file_bytes}
-use Rattle.file_pages.specs.OrderRules.{leaves_trans, ready_left}
+use Rattle.file_pages.proofs.OrderRules.{leaves_trans, ready_left}
 use Rattle.file_pages.specs.Writing.{WriteLeaves, WriteStops}
 use Rattle.file_pages.specs.declared.failures.BytesFail.{BytesFail}
 use Rattle.file_pages.specs.declared.failures.BytesFail.TheVariants.{Fault as BytesFault, Stopped as BytesStopped}

@@ -1,5 +1,5 @@
 -- The numbers that a growing node gets: in its inode, and in its table.
-use Rattle.std.specs.Prelude.{ℕ, ◌+◌, ◌-◌, ◌*◌, ◌/◌, ◌^◌, ◌&&◌, max, nat_lt, nat_le, if◌then◌else◌, List, slice_index}
+use Rattle.std.specs.Prelude.{ℕ, ◌+◌, ◌-◌, ◌*◌, ◌^◌, ◌&&◌, nat_lt, nat_le, if◌then◌else◌, List, slice_index}
 
 -- the number of page p where the pages from `have` to `want` are those taken, and page have - 1 is in block `last`
 abbrev pub new_number : ℕ → ℕ → ℕ → List ℕ → ℕ → ℕ
@@ -12,10 +12,3 @@ new_word last have want taken w = new_number last have want taken (24 + 2 * w) +
 -- a number in the inode
 abbrev pub new_direct : List ℕ → ℕ → ℕ → List ℕ → ℕ → ℕ
 new_direct old have want taken p = if nat_le have p && nat_lt p want then slice_index taken (p - have) else slice_index old p
-
--- the words of the table that have a new number: from this one to before that one
-abbrev pub first_word : ℕ → ℕ
-first_word have = (max have 24 - 24) / 2
-
-abbrev pub end_word : ℕ → ℕ
-end_word want = (max want 24 - 23) / 2

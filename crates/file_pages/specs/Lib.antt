@@ -5,7 +5,6 @@ pub mod Files
 pub mod Forgetting
 pub mod Growing
 pub mod LookingUp
-pub mod LookingUpRules
 pub mod OrderRules
 pub mod Orders
 pub mod PageBytes

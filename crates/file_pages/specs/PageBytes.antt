@@ -1,8 +1,7 @@
 -- Bytes of pages, and bytes stored over them.
-use Rattle.std.specs.Prelude.{◌≡◌, ℕ, ◌+◌, ◌-◌, ◌*◌, ◌/◌, ◌%◌, ◌<◌, ◌≤◌, ◌&&◌, ◌⊎◌, nat_le, nat_lt, if◌then◌else◌, min, List, slice_index, Option, Some}
+use Rattle.std.specs.Prelude.{◌≡◌, ℕ, ◌+◌, ◌-◌, ◌*◌, ◌/◌, ◌%◌, ◌<◌, ◌≤◌, ◌&&◌, ◌⊎◌, nat_le, nat_lt, if◌then◌else◌, min, List, slice_index}
 use Rattle.std.specs.List.{flat_map}
 use Rattle.byteorder.specs.Endian.{little_bytes}
-use Rattle.rio_base.specs.declared.places.PageName.{PageName}
 use Rattle.rio_base.specs.Blocks.{BlockWords}
 use Rattle.rio_base.specs.Volume.{SameBut}
 use Rattle.rio_model.specs.Held.{byte_of}
@@ -36,11 +35,3 @@ bytes_stored at len n = min len (8 * (at / 8 + n) - at)
 pub record PutsBytes (f g : BlockWords) (b at : ℕ) (bytes : List ℕ) (k : ℕ) : Type 0 where
   pub others : SameBut b f g
   pub each : (y : ℕ) → y < 4096 → block_byte g b y ≡ over (block_byte f b) at bytes k y
-
--- a name of the same page with as many bytes at least
-pub record NamesAs (given : PageName) (name : Option PageName) : Type 0 where
-  pub own : PageName
-  pub is : name ≡ Some own
-  pub file : own.file ≡ given.file
-  pub index : own.index ≡ given.index
-  pub size : given.size ≤ own.size

@@ -30,7 +30,7 @@ pub fn number_in(word: u64, n: u32) -> u32
 }
 
 /// Word `w` of inode `i`.
-#[tactic(auto, using(crate::specs::LookingUpRules::can_inode))]
+#[tactic(auto, using(crate::proofs::LookingUpRules::can_inode))]
 fn inode_word<V: Blocks>(v: &mut V, shape: &VolumeShape, i: Ino, w: u16) -> Result<u64, VolFail>
     requires sound { V.sound v.old }
     requires can { CanLookUp shape.now (V.seen v.old) }
@@ -49,7 +49,7 @@ fn inode_word<V: Blocks>(v: &mut V, shape: &VolumeShape, i: Ino, w: u16) -> Resu
 
 /// Reads words of the indirect block of node `i`, from word `w` on, as many as `into` has. After a failure `into` may hold
 /// anything.
-#[tactic(auto, using(crate::specs::LookingUpRules::can_table))]
+#[tactic(auto, using(crate::proofs::LookingUpRules::can_table))]
 pub fn read_table<V: Blocks>(
     v: &mut V,
     shape: &VolumeShape,
@@ -74,7 +74,7 @@ pub fn read_table<V: Blocks>(
 }
 
 /// Word `w` of the indirect block of node `i`.
-#[tactic(auto, using(crate::specs::LookingUpRules::can_table))]
+#[tactic(auto, using(crate::proofs::LookingUpRules::can_table))]
 pub fn table_word<V: Blocks>(
     v: &mut V,
     shape: &VolumeShape,
@@ -97,7 +97,7 @@ pub fn table_word<V: Blocks>(
 }
 
 /// The block of page `index` of node `i`. It is looked up in the inode, or in the indirect block that the inode names.
-#[tactic(auto, using(crate::specs::LookingUpRules::look_trans))]
+#[tactic(auto, using(crate::proofs::LookingUpRules::look_trans))]
 pub fn block_of<V: Blocks>(
     v: &mut V,
     shape: &VolumeShape,

@@ -64,7 +64,7 @@ fn keeps_first(at: usize, len: usize) -> bool
 }
 
 /// A word of a block, read only where it is needed.
-#[tactic(auto, using(rio_base::specs::BlockRules::caches_refl, rio_base::specs::Rules::looks_refl))]
+#[tactic(auto, using(rio_base::proofs::BlockRules::caches_refl, rio_base::proofs::Rules::looks_refl))]
 fn own_word<V: Volume>(
     v: &mut V,
     b: Block,

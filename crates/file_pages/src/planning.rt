@@ -24,7 +24,7 @@ use rio_base::{Block, BlockList, Blocks, Ino, VolFail, Volume, VolumeShape};
 use std::alloc::Global;
 
 /// The block of a node's last page, where it is alone in its word of the table.
-#[tactic(auto, using(crate::proofs::Given::given_most, crate::specs::LookingUpRules::look_refl))]
+#[tactic(auto, using(crate::proofs::Given::given_most, crate::proofs::LookingUpRules::look_refl))]
 fn last_number<V: Blocks>(
     v: &mut V,
     shape: &VolumeShape,

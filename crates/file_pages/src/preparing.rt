@@ -27,7 +27,7 @@ use std::alloc::Global;
 ///
 /// `NoSpace` comes exactly where fewer blocks are free beside `skip` than the node would take, and `TooLarge` exactly where
 /// no node can have so many bytes.
-#[tactic(auto, using(crate::specs::LookingUpRules::can_look_up))]
+#[tactic(auto, using(crate::proofs::LookingUpRules::can_look_up))]
 pub fn plan_size<V: Volume>(
     alloc: Global,
     v: &mut V,

@@ -165,7 +165,7 @@ fn push_page<V: Blocks>(
 }
 
 /// Adds bytes `off` to `end` of file `i`. These blocks are its pages from the one with byte `off` on.
-#[tactic(auto, using(crate::specs::LookingUpRules::can_look_up, crate::specs::LookingUpRules::look_refl))]
+#[tactic(auto, using(crate::proofs::LookingUpRules::can_look_up, crate::proofs::LookingUpRules::look_refl))]
 fn push_pages<V: Blocks>(
     v: &mut V,
     shape: &VolumeShape,

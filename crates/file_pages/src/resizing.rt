@@ -94,7 +94,7 @@ fn grow<V: Volume>(
 }
 
 /// Gives file `i` another size.
-#[tactic(auto, using(crate::specs::LookingUpRules::can_look_up))]
+#[tactic(auto, using(crate::proofs::LookingUpRules::can_look_up))]
 fn change_size<V: Volume>(
     alloc: Global,
     v: &mut V,

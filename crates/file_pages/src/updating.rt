@@ -23,7 +23,7 @@ use rio_base::{Block, Ino, Stopped, VolFail, Volume, VolumeShape};
 const BITMAP: Block = Block(1);
 
 /// Touches the block of edits, which are all in one.
-#[tactic(auto, using(rio_base::specs::BlockSets::caches_by_refl, rio_base::specs::Rules::looks_refl, rio_base::specs::Rules::firm_refl, rio_base::specs::Rules::goes_refl))]
+#[tactic(auto, using(rio_base::proofs::BlockSets::caches_by_refl, rio_base::proofs::Rules::looks_refl, rio_base::specs::Rules::firm_refl, rio_base::specs::Rules::goes_refl))]
 fn touch_table<V: Volume>(v: &mut V, shape: &VolumeShape, edits: &[Edit]) -> Result<(), VolFail>
     requires sound { V.sound v.old }
     requires shape { HasShape shape.now (V.seen v.old) }

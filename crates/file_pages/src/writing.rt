@@ -23,7 +23,7 @@ use rio_base::{Ino, Volume, VolumeShape};
 use std::alloc::Global;
 
 /// Writes bytes, one at least, that end where a file may end.
-#[tactic(auto, using(crate::specs::LookingUpRules::can_look_up))]
+#[tactic(auto, using(crate::proofs::LookingUpRules::can_look_up))]
 fn write_some<V: Volume>(
     alloc: Global,
     v: &mut V,

@@ -1,20 +1,10 @@
 -- One inode among others, and whether it is an open region.
-use Rattle.std.proofs.Common.{◌≡◌, ◌≢◌, ℕ, ◌<◌, ◌==◌, ◌&&◌, ◌||◌, ◌⊎◌, Bool, true, false, List, [], ◌∷◌, refl, sym, ap, subst, ◌∙◌, arith, inl, inr, slice_index_or}
-use Rattle.std.specs.Prelude.{length, slice_index}
-use Rattle.std.specs.FinMap.{get}
-use Rattle.std.proofs.lemmas.Bool.{cases_eq}
-use Rattle.std.proofs.lemmas.Bool.Decides.{nat_tests}
+use Rattle.file_store.proofs.Common.{◌≡◌, ◌≢◌, ℕ, ◌<◌, ◌==◌, ◌&&◌, ◌||◌, ◌⊎◌, Bool, true, false, List, [], ◌∷◌, refl, sym, ap, subst, ◌∙◌, arith, inl, inr, slice_index_or, slice_index, get, cases_eq, nat_tests, Ino, VolumeShape, BlockWords, State, held_of, reads_dir, reads_file, reads_region, ReadsAs, is_open}
+use Rattle.std.specs.Prelude.{length}
 use Rattle.std.proofs.lemmas.List.{get_or-map, length-map}
-use Rattle.rio_base.specs.declared.places.Ino.{Ino}
-use Rattle.rio_base.specs.declared.places.VolumeShape.{VolumeShape}
-use Rattle.rio_base.specs.Blocks.{BlockWords}
-use Rattle.rio_model.specs.declared.state.State.{State}
-use Rattle.rio_model.specs.Held.{held_of}
-use Rattle.rio_model.specs.VolumeReadRules.{reads_dir, reads_file, reads_region}
-use Rattle.rio_model.specs.VolumeReads.{ReadsAs}
 use Rattle.file_pages.specs.Changes.{is_among as is_block_among}
 use Rattle.file_pages.proofs.Skipped.{among_at as block_at, among_none as block_none}
-use Rattle.rio_requests.specs.Answers.{is_among, is_open}
+use Rattle.rio_requests.specs.Answers.{is_among}
 use Rattle.file_store.specs.Walks.{ino_numbers}
 use Rattle.file_store.proofs.LookedAt.{file_left}
 

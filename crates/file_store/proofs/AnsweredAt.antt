@@ -1,43 +1,22 @@
 -- Requests on a file or a directory at a path: how they end, by how the walk there and the call at its end do.
-use Rattle.std.proofs.Common.{◌≡◌, ℕ, ◌+◌, ◌<◌, ◌≤◌, ◌⊎◌, List, arith, refl, sym, ap, subst, ◌∙◌, inl, inr}
-use Rattle.std.specs.Prelude.{Result, Ok, Err, IfOk, OnOk, IsErrOf, length, take, drop}
-use Rattle.std.specs.FinMap.{get}
+use Rattle.file_store.proofs.Common.{◌≡◌, ℕ, ◌+◌, ◌<◌, ◌≤◌, ◌⊎◌, List, arith, refl, sym, ap, subst, ◌∙◌, inl, inr, Result, Ok, Err, OnOk, IsErrOf, get, Ino, VolumeShape, free_blocks, BlockWords, Seen, Kept, Settled, Answered, Reply, State, answered, at_inode, on_file, refused, names_in, resized, held_of, names_of, walk, walk_to_dir, volume_layout, largest_size, ReadsAs, LeavesInUse, Ready, wanted_blocks, SetsBoth, file_bytes, SizeFail, ListsNames, truncate_in, NoneDone, WriteDone}
+use Rattle.std.specs.Prelude.{IfOk, length, take, drop}
 use Rattle.rio_base.specs.declared.failures.ReadFail.{ReadFail}
 use Rattle.rio_base.specs.declared.failures.ReadFail.TheVariants.{Fault as ReadFault, Stopped as ReadStopped, Memory as ReadMemory}
-use Rattle.rio_base.specs.declared.places.Ino.{Ino}
-use Rattle.rio_base.specs.declared.places.VolumeShape.{VolumeShape}
-use Rattle.rio_base.specs.Bitmap.{free_blocks}
-use Rattle.rio_base.specs.Blocks.{BlockWords, Seen}
-use Rattle.rio_base.specs.Volume.{Kept, Settled}
-use Rattle.rio_requests.specs.declared.plain.Answered.{Answered}
-use Rattle.rio_requests.specs.declared.reply.Reply.{Reply}
 use Rattle.rio_requests.specs.declared.reply.Reply.TheVariants.{Bytes, Names as NamesOf}
-use Rattle.rio_model.specs.declared.state.State.{State}
-use Rattle.rio_requests.specs.Answer.{answered, at_inode, on_file, refused}
-use Rattle.rio_model.specs.States.{names_in}
-use Rattle.rio_model.specs.FileParts.{resized, written}
-use Rattle.rio_model.specs.Held.{held_of}
-use Rattle.rio_model.specs.Paths.{names_of, walk, walk_to_dir}
-use Rattle.rio_model.specs.Placed.{volume_layout}
-use Rattle.rio_model.specs.Sizes.{largest_size}
-use Rattle.rio_model.specs.VolumeReads.{ReadsAs}
-use Rattle.rio_model.specs.VolumeReady.{LeavesInUse, Ready}
-use Rattle.file_pages.specs.Changes.{wanted_blocks}
-use Rattle.file_pages.specs.Files.{FaultsAfter, HasSpace, HasSpaceFor, ResizeStops, SetsBoth, StopsAs, file_bytes}
+use Rattle.rio_model.specs.FileParts.{written}
+use Rattle.file_pages.specs.Files.{FaultsAfter, HasSpace, HasSpaceFor, ResizeStops, StopsAs}
 use Rattle.file_pages.specs.Writing.{WriteStops}
-use Rattle.file_pages.specs.declared.failures.SizeFail.{SizeFail}
 use Rattle.file_pages.specs.declared.failures.SizeFail.TheVariants.{NoSpace as SizeNoSpace, TooLarge as SizeTooLarge, Fault as SizeFault, Stopped as SizeStopped, Memory as SizeMemory}
 use Rattle.file_pages.specs.declared.failures.WriteFail.{WriteFail}
 use Rattle.file_pages.specs.declared.failures.WriteFail.TheVariants.{NoSpace as WriteNoSpace, TooLarge as WriteTooLarge, Fault as WriteFault, Stopped as WriteStopped, Memory as WriteMemory}
-use Rattle.directories.specs.Rows.{ListsNames}
-use Rattle.rio_requests.specs.Answers.{list, read, read_in, truncate, truncate_in, write, write_in}
-use Rattle.rio_requests.specs.Parts.{NoneDone, WriteDone}
+use Rattle.rio_requests.specs.Answers.{list, read, read_in, truncate, write, write_in}
 use Rattle.file_store.specs.Ends.{FileEnds, Left, SaysCount, SaysDone}
 use Rattle.file_store.specs.declared.failures.FileFail.{FileFail}
 use Rattle.file_store.specs.declared.failures.FileFail.TheVariants.{Refused, Fault, Stopped, Memory}
 use Rattle.file_store.specs.Failures.{Unrefused, fail_of_read, fail_of_size, fail_of_write}
-use Rattle.file_store.specs.NamesListed.{names_listed}
-use Rattle.file_store.specs.ReadTrees.{dir_whole}
+use Rattle.file_store.proofs.NamesListed.{names_listed}
+use Rattle.file_store.proofs.ReadTrees.{dir_whole}
 use Rattle.file_store.specs.Walks.{Comes, FileComes}
 use Rattle.file_store.proofs.FileData.{ends_resized, file_read}
 use Rattle.file_store.proofs.FileEnded.{ends_written, resize_fault, resize_no_space, resize_stopped, resize_too_large, write_fault, write_no_space, write_stopped, write_too_large}

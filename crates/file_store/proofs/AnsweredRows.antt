@@ -1,23 +1,8 @@
 -- Requests that make or remove a row: what they answer, by what the look-ups before come to.
-use Rattle.std.proofs.Common.{◌≡◌, ◌≢◌, ℕ, ◌<◌, true, false, cond, List, [], ◌∷◌, refl, sym, ap, subst, ◌∙◌, arith, inl, inr}
-use Rattle.std.specs.Prelude.{Result, Ok, Err, Option, Some, None, is_some, length, not}
-use Rattle.std.specs.FinMap.{get}
-use Rattle.rio_base.specs.declared.places.Ino.{Ino}
-use Rattle.rio_base.specs.declared.places.VolumeShape.{VolumeShape}
-use Rattle.rio_base.specs.Blocks.{BlockWords}
-use Rattle.rio_base.specs.Rules.{true_false}
-use Rattle.rio_requests.specs.declared.plain.Answered.{Answered}
+use Rattle.file_store.proofs.Common.{◌≡◌, ◌≢◌, ℕ, ◌<◌, true, false, cond, List, [], ◌∷◌, refl, sym, ap, subst, ◌∙◌, arith, inl, inr, Result, Ok, Err, Some, None, is_some, get, Ino, VolumeShape, BlockWords, true_false, Answered, State, answered, at_inode, refused, front_of, last_of, names_in, Held, held_of, from_found, is_dir, walk_to_dir, ReadsAs, IsInode, Inode, Finds, HasRow, at_row, found, is_open, without}
+use Rattle.std.specs.Prelude.{Option, length, not}
 use Rattle.rio_requests.specs.declared.reply.Reply.TheVariants.{Ok as Done}
-use Rattle.rio_model.specs.declared.state.State.{State}
-use Rattle.rio_requests.specs.Answer.{answered, at_inode, refused}
-use Rattle.rio_model.specs.States.{front_of, last_of, names_in}
-use Rattle.rio_model.specs.Held.{Held, held_of}
-use Rattle.rio_model.specs.Paths.{from_found, is_dir, walk_to_dir}
-use Rattle.rio_model.specs.VolumeReads.{ReadsAs}
-use Rattle.inode_table.specs.Inodes.{IsInode}
-use Rattle.inode_table.specs.declared.inode.Inode.{Inode}
-use Rattle.directories.specs.Rows.{Finds, HasRow}
-use Rattle.rio_requests.specs.Answers.{at_row, found, is_empty, is_open, rmdir_at, rmdir_node, unlink_at, unlink_node, without}
+use Rattle.rio_requests.specs.Answers.{is_empty, rmdir_at, rmdir_node, unlink_at, unlink_node}
 use Rattle.file_store.specs.Walks.{RowComes}
 use Rattle.file_store.specs.declared.failures.FileFail.{FileFail}
 use Rattle.file_store.specs.declared.failures.FileFail.TheVariants.{Refused, Fault, Stopped, Memory}

@@ -1,16 +1,9 @@
 -- Paths that lie below another one, by their bytes.
-use Rattle.std.proofs.Common.{◌≡◌, ◌==◌, ℕ, ◌+◌, ◌<◌, ◌≤◌, Bool, true, false, List, [], ◌∷◌, ◌++◌, ◌&&◌, length, take, drop, refl, sym, ap, subst, ◌∙◌, arith, append-nil, append_assoc}
-use Rattle.std.specs.Prelude.{All, slice_index}
+use Rattle.file_store.proofs.Common.{◌≡◌, ◌==◌, ℕ, ◌+◌, ◌<◌, ◌≤◌, Bool, true, false, List, [], ◌∷◌, ◌++◌, ◌&&◌, length, take, drop, refl, sym, ap, subst, ◌∙◌, arith, append-nil, append_assoc, All, slice_index, Decides-eqb, drop_more, length-append, take-append-drop, pieces, true_false, IsName, IsPath, names_of, slashed, is_below}
 use Rattle.std.specs.Str.{bytes_eq}
 use Rattle.std.proofs.Math.Seq.{take-append_seam}
-use Rattle.std.proofs.lemmas.Bool.Decides.{Decides-eqb}
-use Rattle.std.proofs.lemmas.List.{drop_more, length-append, take-append-drop}
 use Rattle.std.proofs.lemmas.Slice.Eq.{bytes_eq-Decides}
-use Rattle.rio_base.specs.Pieces.{pieces}
-use Rattle.rio_base.specs.Rules.{true_false}
-use Rattle.rio_model.specs.Paths.{IsName, IsPath, names_of, slashed}
 use Rattle.rio_model.proofs.PathPieces.{pieces_first}
-use Rattle.rio_requests.specs.Answers.{is_below}
 use Rattle.file_store.proofs.PathNames.{All_first, All_rest, is_slashed, lacks_name, named_all, slashed_append}
 
 -- ---- names that go on

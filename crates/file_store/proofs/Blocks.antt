@@ -1,23 +1,9 @@
 -- All blocks of a node, as the list of them has them; and single changes that fit.
-use Rattle.std.proofs.Common.{◌≡◌, ◌≢◌, ℕ, ◌+◌, ◌<◌, List, [], map, sym, subst, ◌∙◌, arith, inl, inr}
-use Rattle.std.specs.List.{Contains, range_with_len}
+use Rattle.file_store.proofs.Common.{◌≡◌, ◌≢◌, ℕ, ◌+◌, ◌<◌, List, [], map, sym, subst, ◌∙◌, arith, inl, inr, Contains, range_with_len, get_or-map-range_with_len, length-map-range_with_len, Block, VolumeShape, BlockWords, Seen, IsIno, Kept, numbers, Held, Available, Slot, AtPage, AtTable, Placed, HasSlot, IsFree, Owned, placed_at, volume_layout, SamePlaced, has_same, pages, IsMapped, node_blocks, IsEdited, DirChange}
 use Rattle.std.proofs.lemmas.List.Elements.{Contains-append_cases, Contains-append_left, Contains-append_right}
-use Rattle.std.proofs.lemmas.List.FromFn.{get_or-map-range_with_len, length-map-range_with_len}
-use Rattle.rio_base.specs.declared.places.Block.{Block}
-use Rattle.rio_base.specs.declared.places.VolumeShape.{VolumeShape}
-use Rattle.rio_base.specs.Blocks.{BlockWords, Seen}
-use Rattle.rio_base.specs.Layout.{IsIno}
-use Rattle.rio_base.specs.Volume.{Kept}
-use Rattle.block_alloc.specs.Bitmap.{numbers}
-use Rattle.rio_model.specs.Held.{Held}
-use Rattle.rio_model.specs.NodeChanges.{Available}
-use Rattle.rio_model.specs.Placed.{Slot, AtPage, AtTable, Placed, HasSlot, IsFree, Owned, placed_at, volume_layout}
-use Rattle.rio_model.specs.PlacedRules.{SamePlaced, has_back, has_same}
-use Rattle.rio_model.specs.Sizes.{pages, tables}
-use Rattle.rio_model.specs.VolumeRules.{IsMapped}
-use Rattle.file_pages.specs.LookingUp.{node_blocks, page_blocks}
-use Rattle.file_pages.specs.Updating.{IsEdited}
-use Rattle.directories.specs.declared.changes.DirChange.{DirChange}
+use Rattle.rio_model.proofs.PlacedRules.{has_back}
+use Rattle.rio_model.specs.Sizes.{tables}
+use Rattle.file_pages.specs.LookingUp.{page_blocks}
 use Rattle.file_store.specs.Changes.{IsGone, IsMade, of_dir}
 use Rattle.file_store.specs.declared.changes.NodeChange.{NodeChange}
 use Rattle.file_store.proofs.Fitting.{Fits}

@@ -1,13 +1,10 @@
 -- How a call ends, told as a call on files.
-use Rattle.std.proofs.Common.{◌≡◌, ℕ, refl, sym, ap, subst, ◌∙◌}
-use Rattle.std.specs.Prelude.{Result, Ok, Err, IsErrOf}
+use Rattle.file_store.proofs.Common.{◌≡◌, ℕ, refl, sym, ap, subst, ◌∙◌, Result, Ok, Err, IsErrOf, VolFail, EndsBy, Health, SizeFail}
 use Rattle.rio_base.specs.declared.failures.ReadFail.{ReadFail}
 use Rattle.rio_base.specs.declared.failures.ReadFail.TheVariants.{Fault as ReadFault, Stopped as ReadStopped, Memory as ReadMemory}
-use Rattle.rio_base.specs.declared.failures.VolFail.{VolFail}
 use Rattle.rio_base.specs.declared.failures.VolFail.TheVariants.{Fault as VolFault, Stopped as VolStopped}
-use Rattle.rio_base.specs.Blocks.{Ends, EndsBy, Health}
-use Rattle.rio_base.specs.Rules.{ends_by, ends_by_after, ends_by_as}
-use Rattle.file_pages.specs.declared.failures.SizeFail.{SizeFail}
+use Rattle.rio_base.specs.Blocks.{Ends}
+use Rattle.rio_base.proofs.Rules.{ends_by, ends_by_after, ends_by_as}
 use Rattle.file_pages.specs.declared.failures.SizeFail.TheVariants.{NoSpace as SizeNoSpace, TooLarge as SizeTooLarge, Fault as SizeFault, Stopped as SizeStopped, Memory as SizeMemory}
 use Rattle.file_pages.specs.declared.failures.WriteFail.{WriteFail}
 use Rattle.file_pages.specs.declared.failures.WriteFail.TheVariants.{NoSpace as WriteNoSpace, TooLarge as WriteTooLarge, Fault as WriteFault, Stopped as WriteStopped, Memory as WriteMemory}

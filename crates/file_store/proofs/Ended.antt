@@ -1,24 +1,8 @@
 -- How a request on files ends, by how its one update ends.
-use Rattle.std.proofs.Common.{◌≡◌, ℕ, ◌≤◌, false, List, map, refl, sym, ap, subst, ◌∙◌, arith, inl, inr}
-use Rattle.std.specs.Prelude.{Bool, true, Ok, Err, Option, Some, None}
-use Rattle.rio_base.specs.Rules.{true_false}
-use Rattle.rio_base.specs.declared.places.PageName.{PageName}
+use Rattle.file_store.proofs.Common.{◌≡◌, ℕ, ◌≤◌, false, List, map, refl, sym, ap, subst, ◌∙◌, arith, inl, inr, Ok, Err, Some, None, true_false, PageName, VolumeShape, FirmOutside, SameOutside, BlockWords, Seen, reserved, Firm, Kept, Settled, Answered, Reply, State, Held, held_of, volume_layout, Owned, Agrees, held_of_agree, reads_agree, ReadsAs, LeavesInUse, Ready, firm_on, ready_left, ready_order, InOrder}
+use Rattle.std.specs.Prelude.{Bool, true, Option}
 use Rattle.rio_base.specs.declared.failures.VolFail.TheVariants.{Fault as VolFault, Stopped as VolStopped}
-use Rattle.rio_base.specs.declared.places.VolumeShape.{VolumeShape}
-use Rattle.rio_base.specs.BlockSets.{FirmOutside, SameOutside}
-use Rattle.rio_base.specs.Blocks.{BlockWords, Seen}
-use Rattle.rio_base.specs.Shapes.{reserved}
-use Rattle.rio_base.specs.Volume.{Firm, Kept, Settled}
-use Rattle.rio_requests.specs.declared.plain.Answered.{Answered}
-use Rattle.rio_requests.specs.declared.reply.Reply.{Reply}
-use Rattle.rio_model.specs.declared.state.State.{State}
-use Rattle.rio_model.specs.Held.{Held, held_of}
-use Rattle.rio_model.specs.Placed.{volume_layout, Owned, Agrees}
-use Rattle.rio_model.specs.VolumeReadRules.{held_of_agree, reads_agree}
-use Rattle.rio_model.specs.VolumeReads.{ReadsAs}
-use Rattle.rio_model.specs.VolumeReady.{LeavesInUse, Ready}
-use Rattle.file_pages.specs.OrderRules.{firm_on, order_agree, order_left, ready_left, ready_order, stands_left, stands_order, stands_ready_left}
-use Rattle.file_pages.specs.Orders.{InOrder}
+use Rattle.file_pages.proofs.OrderRules.{order_agree, order_left, stands_left, stands_order, stands_ready_left}
 use Rattle.file_store.specs.Changes.{AllApplied, IsFreed, IsTouchedBy, node_update}
 use Rattle.file_store.specs.Committing.{Commits, Touched}
 use Rattle.file_store.specs.Ends.{FileEnds, Left, Spares, Stands}

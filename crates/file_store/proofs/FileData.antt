@@ -1,34 +1,13 @@
 -- The bytes of a file written or resized, as the answer of the state.
-use Rattle.std.proofs.Common.{◌≡◌, ◌≢◌, ℕ, ◌<◌, ◌≤◌, ◌⊎◌, true, false, cond, List, refl, sym, ap, subst, ◌∙◌, arith, inl, inr}
-use Rattle.std.specs.Prelude.{Ok, Some, length, nat_lt}
-use Rattle.std.specs.FinMap.{get, insert}
-use Rattle.std.proofs.lemmas.Bool.{cases_eq}
-use Rattle.std.proofs.lemmas.Bool.Decides.{nat_tests}
-use Rattle.rio_base.specs.declared.places.VolumeShape.{VolumeShape}
-use Rattle.rio_base.specs.Bitmap.{free_blocks}
-use Rattle.rio_base.specs.Blocks.{BlockWords, Seen}
-use Rattle.rio_base.specs.Volume.{Kept}
-use Rattle.rio_model.specs.declared.node.Node.{Node}
-use Rattle.rio_model.specs.declared.node.Node.TheVariants.{File}
-use Rattle.rio_requests.specs.declared.plain.Answered.{Answered}
+use Rattle.file_store.proofs.Common.{◌≡◌, ◌≢◌, ℕ, ◌<◌, ◌≤◌, ◌⊎◌, true, false, cond, List, refl, sym, ap, subst, ◌∙◌, arith, inl, inr, Ok, Some, nat_lt, get, insert, cases_eq, nat_tests, VolumeShape, free_blocks, BlockWords, Seen, Kept, Node, File, Answered, State, answered, on_file, refused, with_node, resized, held_of, free_count, largest_size, reads_file, ReadsAs, Ready, free_by_state, get_here, get_there, wanted_blocks, SetsBoth, file_bytes, truncate_in, with_room, with_size, NoneDone}
+use Rattle.std.specs.Prelude.{length}
 use Rattle.rio_requests.specs.declared.reply.Reply.TheVariants.{Ok as Done}
-use Rattle.rio_model.specs.declared.state.State.{State}
-use Rattle.rio_requests.specs.Answer.{answered, on_file, refused}
-use Rattle.rio_model.specs.States.{with_node}
-use Rattle.rio_model.specs.FileParts.{resized}
-use Rattle.rio_model.specs.Held.{held_of}
 use Rattle.rio_model.specs.NodeChanges.{SetsFile}
-use Rattle.rio_model.specs.Sizes.{free_count, largest_size}
-use Rattle.rio_model.specs.VolumeReadRules.{reads_file}
-use Rattle.rio_model.specs.VolumeReads.{ReadsAs}
-use Rattle.rio_model.specs.VolumeReady.{Ready, StandsReady}
-use Rattle.rio_model.proofs.FreeByState.{free_by_state}
+use Rattle.rio_model.specs.VolumeReady.{StandsReady}
 use Rattle.rio_model.proofs.NodeOrder.{same_nodes}
-use Rattle.rio_model.proofs.StateSteps.{file_set, get_here, get_there}
-use Rattle.file_pages.specs.Changes.{wanted_blocks}
-use Rattle.file_pages.specs.Files.{HasSpace, SetsBoth, file_bytes}
-use Rattle.rio_requests.specs.Answers.{truncate_in, wanted, with_room, with_size}
-use Rattle.rio_requests.specs.Parts.{NoneDone}
+use Rattle.rio_model.proofs.StateSteps.{file_set}
+use Rattle.file_pages.specs.Files.{HasSpace}
+use Rattle.rio_requests.specs.Answers.{wanted}
 use Rattle.file_store.specs.Ends.{FileEnds, Left, SaysDone, Stands}
 
 -- file i of a state

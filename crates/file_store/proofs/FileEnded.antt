@@ -1,31 +1,11 @@
 -- Other ends of a truncate, and those of a write.
-use Rattle.std.proofs.Common.{◌≡◌, ℕ, zero, suc, ◌+◌, ◌<◌, ◌≤◌, List, [], ◌∷◌, refl, sym, ap, subst, ◌∙◌, arith, inl, inr, append-nil}
-use Rattle.std.specs.Prelude.{Ok, Err, Some, ◌++◌, drop, length, take}
-use Rattle.std.proofs.lemmas.List.{take-append-drop}
-use Rattle.std.specs.FinMap.{get}
-use Rattle.rio_base.specs.declared.places.VolumeShape.{VolumeShape}
-use Rattle.rio_base.specs.Bitmap.{free_blocks}
-use Rattle.rio_base.specs.Blocks.{BlockWords, Seen}
-use Rattle.rio_base.specs.Volume.{Kept}
-use Rattle.rio_model.specs.declared.node.Node.TheVariants.{File}
-use Rattle.rio_requests.specs.declared.plain.Answered.{Answered}
-use Rattle.rio_requests.specs.declared.reply.Reply.{Reply}
-use Rattle.rio_requests.specs.declared.reply.Reply.TheVariants.{Number}
-use Rattle.rio_model.specs.declared.state.State.{State}
-use Rattle.rio_requests.specs.Answer.{answered, on_file, refused}
-use Rattle.rio_model.specs.States.{with_node}
+use Rattle.file_store.proofs.Common.{◌≡◌, ℕ, zero, suc, ◌+◌, ◌<◌, ◌≤◌, List, [], ◌∷◌, refl, sym, ap, subst, ◌∙◌, arith, inl, inr, append-nil, Ok, Err, Some, take-append-drop, get, VolumeShape, free_blocks, BlockWords, Seen, Kept, File, Answered, Reply, Number, State, answered, on_file, refused, with_node, held_of, names_of, walk, volume_layout, largest_size, ReadsAs, LeavesInUse, Ready, wanted_blocks, SetsBoth, file_bytes, truncate_in, with_size, NoneDone, WriteDone}
+use Rattle.std.specs.Prelude.{◌++◌, drop, length, take}
 use Rattle.rio_model.specs.FileParts.{IsLead, WritePart, put_at, written}
-use Rattle.rio_model.specs.Held.{held_of}
-use Rattle.rio_model.specs.Paths.{names_of, walk}
-use Rattle.rio_model.specs.Placed.{volume_layout}
-use Rattle.rio_model.specs.Sizes.{largest_size}
-use Rattle.rio_model.specs.VolumeReads.{ReadsAs}
-use Rattle.rio_model.specs.VolumeReady.{LeavesInUse, Ready}
-use Rattle.file_pages.specs.Changes.{wanted_blocks}
-use Rattle.file_pages.specs.Files.{FaultsAfter, HasSpaceFor, ResizeStops, SetsBoth, StopsAs, file_bytes}
+use Rattle.file_pages.specs.Files.{FaultsAfter, HasSpaceFor, ResizeStops, StopsAs}
 use Rattle.file_pages.specs.Writing.{WriteStops}
-use Rattle.rio_requests.specs.Answers.{truncate_in, with_size, write_file, write_in}
-use Rattle.rio_requests.specs.Parts.{NoneDone, PartOf, WriteDone}
+use Rattle.rio_requests.specs.Answers.{write_file, write_in}
+use Rattle.rio_requests.specs.Parts.{PartOf}
 use Rattle.file_store.specs.Ends.{FileEnds, Left, SaysCount, SaysDone}
 use Rattle.file_store.specs.declared.failures.FileFail.TheVariants.{Refused, Fault, Stopped}
 use Rattle.file_store.proofs.FileData.{file_read, left_set, no_space, room_true, stands_set, too_large, truncated, with_same}

@@ -1,19 +1,7 @@
 -- Changes that are made in one update: what they may cache, and that no block which they free is in use afterwards.
-use Rattle.std.proofs.Common.{◌≡◌, ◌≢◌, ℕ, zero, suc, ◌<◌, ◌≤◌, ◌⊎◌, List, [], ◌∷◌, map, sym, subst, ◌∙◌, arith, inl, inr}
-use Rattle.std.specs.Prelude.{Option, None}
-use Rattle.std.specs.List.{Contains}
-use Rattle.std.proofs.lemmas.Bool.{cases_eq}
-use Rattle.rio_base.specs.declared.places.PageName.{PageName}
-use Rattle.rio_base.specs.declared.places.VolumeShape.{VolumeShape}
-use Rattle.rio_base.specs.Bitmap.{used_bit}
-use Rattle.rio_base.specs.Blocks.{BlockWords}
-use Rattle.rio_base.specs.Layout.{IsIno}
-use Rattle.rio_base.specs.Shapes.{reserved}
-use Rattle.block_alloc.specs.Bitmap.{numbers}
-use Rattle.rio_model.specs.Placed.{IsFree, Owned, volume_layout}
-use Rattle.rio_model.specs.PlacedRules.{has_bit, inode_low, owned_below}
-use Rattle.rio_model.specs.VolumeRules.{IsMapped, bitmap_bits}
-use Rattle.file_pages.specs.Updating.{IsEdited}
+use Rattle.file_store.proofs.Common.{◌≡◌, ◌≢◌, ℕ, zero, suc, ◌<◌, ◌≤◌, ◌⊎◌, List, [], ◌∷◌, map, sym, subst, ◌∙◌, arith, inl, inr, None, Contains, cases_eq, PageName, VolumeShape, used_bit, BlockWords, IsIno, reserved, numbers, IsFree, Owned, volume_layout, inode_low, owned_below, IsMapped, bitmap_bits, IsEdited}
+use Rattle.std.specs.Prelude.{Option}
+use Rattle.rio_model.proofs.PlacedRules.{has_bit}
 use Rattle.file_store.specs.Changes.{AllApplied, IsFreed, IsTouchedBy, node_update}
 use Rattle.file_store.specs.declared.changes.NodeChange.{NodeChange}
 use Rattle.file_store.proofs.Steps.{MayBeMetadata}

@@ -1,24 +1,8 @@
 -- Blocks that changes free, which are dropped from the cache: they are all that some node had, and none has any more.
-use Rattle.std.proofs.Common.{◌≡◌, ◌≢◌, ℕ, suc, ◌+◌, ◌<◌, ◌≤◌, ◌⊎◌, false, List, [], ◌∷◌, length, map, refl, sym, ap, subst, ◌∙◌, arith, inl, inr, slice_index_or}
-use Rattle.std.specs.Prelude.{Result, Ok}
-use Rattle.std.specs.List.{Contains}
-use Rattle.std.proofs.lemmas.Bool.{cases_eq}
+use Rattle.file_store.proofs.Common.{◌≡◌, ◌≢◌, ℕ, suc, ◌+◌, ◌<◌, ◌≤◌, ◌⊎◌, false, List, [], ◌∷◌, length, map, refl, sym, ap, subst, ◌∙◌, arith, inl, inr, slice_index_or, Result, Ok, Contains, cases_eq, VolFail, Block, VolumeShape, used_bit, SameOutside, BlockWords, Drops, Seen, reserved, Kept, numbers, State, Agrees, IsFree, Owned, volume_layout, SameLayout, lays_agree, lays_same, lays_self, owned_below, owned_on, Applied, IsMapped, bitmap_bits, Forgets}
 use Rattle.std.proofs.lemmas.List.{get_or_default}
-use Rattle.rio_base.specs.declared.failures.VolFail.{VolFail}
-use Rattle.rio_base.specs.declared.places.Block.{Block}
-use Rattle.rio_base.specs.declared.places.VolumeShape.{VolumeShape}
-use Rattle.rio_base.specs.Bitmap.{used_bit}
-use Rattle.rio_base.specs.BlockSets.{SameOutside}
-use Rattle.rio_base.specs.Blocks.{BlockWords, Drops, Seen}
-use Rattle.rio_base.specs.Shapes.{reserved}
-use Rattle.rio_base.specs.Volume.{Kept}
-use Rattle.block_alloc.specs.Bitmap.{numbers}
-use Rattle.rio_model.specs.declared.state.State.{State}
-use Rattle.rio_model.specs.Placed.{Agrees, IsFree, Owned, volume_layout}
-use Rattle.rio_model.specs.PlacedRules.{SameLayout, has_bit, lays_agree, lays_same, lays_self, owned_below, owned_on}
-use Rattle.rio_model.specs.Updates.{Applied}
-use Rattle.rio_model.specs.VolumeRules.{IsMapped, bitmap_bits}
-use Rattle.file_pages.specs.Forgetting.{Forgets, Uncached}
+use Rattle.rio_model.proofs.PlacedRules.{has_bit}
+use Rattle.file_pages.specs.Forgetting.{Uncached}
 use Rattle.file_pages.proofs.Staged.{not_true}
 use Rattle.file_store.specs.Changes.{AllApplied, IsFreed, node_update}
 use Rattle.file_store.specs.Committing.{Commits}

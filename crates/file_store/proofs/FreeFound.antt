@@ -1,23 +1,7 @@
 -- The least free inode that is found in the blocks is the one that the state has.
-use Rattle.std.proofs.Common.{◌≡◌, ◌≢◌, ℕ, zero, suc, ◌+◌, ◌-◌, ◌<◌, ◌≤◌, ◌⊎◌, Bool, true, false, cond, refl, ap, ◌∙◌, arith, inl, inr}
-use Rattle.std.specs.Prelude.{None, Some, find, is_none}
-use Rattle.std.specs.List.{range_with_len}
-use Rattle.std.specs.FinMap.{get}
-use Rattle.std.proofs.lemmas.Bool.{cases_eq}
-use Rattle.rio_base.specs.declared.places.VolumeShape.{VolumeShape}
-use Rattle.rio_base.specs.BlockSets.{CachesBy}
-use Rattle.rio_base.specs.Blocks.{BlockWords, Health, Looks, Seen}
-use Rattle.rio_base.specs.Layout.{IsIno, inode_kind}
-use Rattle.rio_base.specs.Shapes.{HasShape}
-use Rattle.rio_base.specs.Volume.{Below, Kept, Passes}
+use Rattle.file_store.proofs.Common.{◌≡◌, ◌≢◌, ℕ, zero, suc, ◌+◌, ◌-◌, ◌<◌, ◌≤◌, ◌⊎◌, Bool, true, false, cond, refl, ap, ◌∙◌, arith, inl, inr, None, Some, range_with_len, get, cases_eq, VolumeShape, CachesBy, BlockWords, Health, Looks, Seen, IsIno, inode_kind, HasShape, Below, Kept, Passes, State, least_free, held_of, volume_layout, reads_dir, reads_file, reads_none, reads_region, ReadsAs, LeavesInUse, Ready}
+use Rattle.std.specs.Prelude.{find, is_none}
 use Rattle.inode_table.specs.Inodes.{AreUsed, IsMetadata}
-use Rattle.rio_model.specs.declared.state.State.{State}
-use Rattle.rio_model.specs.States.{least_free}
-use Rattle.rio_model.specs.Held.{held_of}
-use Rattle.rio_model.specs.Placed.{volume_layout}
-use Rattle.rio_model.specs.VolumeReadRules.{reads_dir, reads_file, reads_none, reads_region}
-use Rattle.rio_model.specs.VolumeReads.{ReadsAs}
-use Rattle.rio_model.specs.VolumeReady.{LeavesInUse, Ready}
 use Rattle.file_store.proofs.Reached.{kind_held}
 use Rattle.file_store.proofs.Steps.{all_touched}
 use Rattle.file_store.proofs.Unchanged.{leaves_read}

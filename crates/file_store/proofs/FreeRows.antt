@@ -1,30 +1,11 @@
 -- A name that is free in a directory, and requests that make a row of it.
-use Rattle.std.proofs.Common.{◌≡◌, ℕ, ◌*◌, ◌<◌, ◌≤◌, true, false, cond, List, [], ◌∷◌, refl, sym, ap, subst, ◌∙◌, arith, inl, inr}
-use Rattle.std.specs.Prelude.{Result, Ok, Err, Option, None, Some, is_some, length, nat_lt}
-use Rattle.std.specs.FinMap.{get}
-use Rattle.std.proofs.lemmas.Bool.Decides.{nat_tests}
-use Rattle.rio_base.specs.declared.failures.VolFail.{VolFail}
+use Rattle.file_store.proofs.Common.{◌≡◌, ℕ, ◌*◌, ◌<◌, ◌≤◌, true, false, cond, List, [], ◌∷◌, refl, sym, ap, subst, ◌∙◌, arith, inl, inr, Result, Ok, Err, None, Some, is_some, nat_lt, get, nat_tests, VolFail, Ino, VolumeShape, BlockWords, true_false, Node, Region, State, front_of, last_of, least_free, held_of, walk_to_dir, largest_size, region_words, ReadsAs, Finds, Answered, at_inode, refused, at_row, make_new, new_region}
+use Rattle.std.specs.Prelude.{Option, length}
 use Rattle.rio_base.specs.declared.failures.VolFail.TheVariants.{Fault as VolFault, Stopped as VolStopped}
-use Rattle.rio_base.specs.declared.places.Ino.{Ino}
-use Rattle.rio_base.specs.declared.places.VolumeShape.{VolumeShape}
-use Rattle.rio_base.specs.Blocks.{BlockWords}
-use Rattle.rio_base.specs.Rules.{true_false}
-use Rattle.rio_model.specs.declared.node.Node.{Node}
-use Rattle.rio_model.specs.declared.node.Node.TheVariants.{Region}
-use Rattle.rio_model.specs.declared.state.State.{State}
-use Rattle.rio_model.specs.States.{front_of, last_of, least_free}
-use Rattle.rio_model.specs.Held.{held_of}
-use Rattle.rio_model.specs.Paths.{walk_to_dir}
-use Rattle.rio_model.specs.Sizes.{largest_size}
-use Rattle.rio_model.specs.Undo.{region_words}
-use Rattle.rio_model.specs.VolumeReads.{ReadsAs}
-use Rattle.directories.specs.Rows.{Finds}
-use Rattle.rio_requests.specs.declared.plain.Answered.{Answered}
-use Rattle.rio_requests.specs.Answer.{at_inode, refused}
-use Rattle.rio_requests.specs.Answers.{at_row, make, make_new, make_row, new_region, region_at, region_row}
+use Rattle.rio_requests.specs.Answers.{make, make_row, region_at, region_row}
 use Rattle.file_store.specs.Failures.{fail_of_vol}
 use Rattle.file_store.specs.NewRegions.{FitRegion}
-use Rattle.file_store.specs.RowReads.{finds_some}
+use Rattle.file_store.proofs.RowReads.{finds_some}
 use Rattle.file_store.specs.Walks.{Comes, FreeRow}
 use Rattle.file_store.specs.declared.failures.FileFail.{FileFail}
 use Rattle.file_store.specs.declared.failures.FileFail.TheVariants.{Refused, Fault, Stopped, Memory}

@@ -1,27 +1,17 @@
 -- A fresh volume of the tests may be asked, and so may one that is started again.
-use Rattle.std.proofs.Common.{Bool, true, false, ◌≡◌, ◌≢◌, ℕ, ◌+◌, ◌-◌, ◌*◌, ◌/◌, ◌%◌, ◌^◌, ◌<◌, ◌≤◌, ◌⊎◌, ◌==◌, cond, [], ◌∷◌, refl, sym, ap, subst, ◌∙◌, arith, inl, inr}
-use Rattle.std.specs.Prelude.{None, Option}
+use Rattle.file_store.proofs.Common.{Bool, true, false, ◌≡◌, ◌≢◌, ℕ, ◌+◌, ◌-◌, ◌*◌, ◌/◌, ◌%◌, ◌<◌, ◌≤◌, ◌⊎◌, ◌==◌, cond, [], ◌∷◌, refl, sym, ap, subst, ◌∙◌, arith, inl, inr, None, bit_at, cases_eq, nat_tests, ListVolume, VolumeShape, used_bit, BlockWords, Seen, inode_block, list_kept, list_seen, true_false, HasShape, reserved, CachesStored, Firm, put, put_run, widened, volume_layout, ReadsAs, bitmap_bits, run_same_but}
+use Rattle.std.proofs.Common.{◌^◌}
+use Rattle.std.specs.Prelude.{Option}
 use Rattle.std.specs.Global.{Vec}
-use Rattle.std.specs.Int.{bit_at}
-use Rattle.std.proofs.lemmas.Bool.{cases_eq}
-use Rattle.std.proofs.lemmas.Bool.Decides.{nat_tests}
 use Rattle.std.proofs.lemmas.Nat.Bits.{bit_at-zero, bit_at_ones, bit_at_ones_above}
-use Rattle.rio_fakes.specs.declared.list_volume.ListVolume.{ListVolume}
-use Rattle.rio_base.specs.declared.places.VolumeShape.{VolumeShape}
-use Rattle.rio_base.specs.Bitmap.{first_bitmap, used_bit}
-use Rattle.rio_base.specs.Blocks.{BlockWords, Seen}
-use Rattle.rio_base.specs.Layout.{inode_block, inode_place, volume_magic}
-use Rattle.rio_fakes.specs.ListVolumes.{IsNew, IsRestarted, flat, list_kept, list_seen, mark_of}
-use Rattle.rio_base.specs.Rules.{true_false}
-use Rattle.rio_base.specs.Shapes.{HasShape, IsShape, more_bitmap, reserved}
-use Rattle.rio_base.specs.Volume.{CachesStored, Firm, put, put_run, widened}
+use Rattle.rio_base.proofs.Bitmap.{first_bitmap}
+use Rattle.rio_base.specs.Layout.{inode_place, volume_magic}
+use Rattle.rio_fakes.specs.ListVolumes.{IsNew, IsRestarted, flat, mark_of}
+use Rattle.rio_base.specs.Shapes.{IsShape, more_bitmap}
 use Rattle.rio_model.specs.Fresh.{fresh_state}
-use Rattle.rio_model.specs.Placed.{volume_layout}
 use Rattle.rio_model.specs.VolumeReady.{Firmly}
 use Rattle.rio_model.specs.FreshVolume.{IsFreshVolume}
-use Rattle.rio_model.specs.VolumeReads.{ReadsAs}
-use Rattle.rio_model.specs.VolumeRules.{bitmap_bits}
-use Rattle.rio_model.specs.WordRules.{put_beside, put_here, put_other, run_same_but}
+use Rattle.rio_model.proofs.WordRules.{put_beside, put_here, put_other}
 use Rattle.rio_model.proofs.FreshReads.{fresh_reads}
 use Rattle.file_store.specs.Ends.{CanServe}
 use Rattle.file_store.specs.TestVolumes.{CanStart, IsTestShape, fresh_words, marks_of}

@@ -1,34 +1,14 @@
 -- What look-ups by name answer, by the state that the blocks read as.
-use Rattle.std.proofs.Common.{◌≡◌, ℕ, ◌<◌, ◌&&◌, Bool, true, false, cond, List, [], ◌∷◌, refl, sym, ap, subst, ◌∙◌, arith, inl, inr}
-use Rattle.std.specs.Prelude.{Result, Ok, Err, Option, Some, None, nat_le}
-use Rattle.std.specs.FinMap.{get}
-use Rattle.std.proofs.lemmas.Bool.{cases_Bool}
-use Rattle.std.proofs.lemmas.Bool.Decides.{nat_tests}
-use Rattle.rio_base.specs.declared.places.Ino.{Ino}
-use Rattle.rio_base.specs.declared.places.VolumeShape.{VolumeShape}
-use Rattle.rio_base.specs.Blocks.{BlockWords, Caches, Health, Looks, Seen}
-use Rattle.rio_base.specs.Layout.{IsIno, inode_block}
-use Rattle.rio_base.specs.Volume.{Below, Kept, Passes}
-use Rattle.rio_model.specs.declared.state.State.{State}
-use Rattle.rio_model.specs.States.{front_of, last_of}
-use Rattle.rio_model.specs.Held.{entry_ino, held, held_of, nothing}
-use Rattle.rio_model.specs.Paths.{as_dir, from_found, is_dir, walk, walk_to_dir}
-use Rattle.rio_model.specs.Placed.{placed_at, volume_layout}
-use Rattle.rio_model.specs.VolumeReadRules.{reads_dir, reads_region}
-use Rattle.rio_model.specs.VolumeReads.{ReadsAs, region_in}
-use Rattle.rio_model.specs.VolumeReady.{LeavesInUse, Ready}
-use Rattle.file_pages.specs.LookingUpRules.{can_look_up, looked_inode}
-use Rattle.file_pages.specs.OrderRules.{leaves_looked}
-use Rattle.inode_table.specs.declared.inode.Inode.{Inode}
-use Rattle.inode_table.specs.Inodes.{IsInode}
-use Rattle.directories.specs.Rows.{HasRow, IsEntry}
-use Rattle.rio_requests.specs.Answers.{found}
+use Rattle.file_store.proofs.Common.{◌≡◌, ℕ, ◌<◌, ◌&&◌, Bool, true, false, cond, List, [], ◌∷◌, refl, sym, ap, subst, ◌∙◌, arith, inl, inr, Result, Ok, Err, Some, None, nat_le, get, cases_Bool, nat_tests, Ino, VolumeShape, BlockWords, Caches, Health, Looks, Seen, IsIno, inode_block, Below, Kept, Passes, State, front_of, last_of, entry_ino, held, held_of, nothing, from_found, is_dir, walk, walk_to_dir, placed_at, volume_layout, reads_dir, reads_region, ReadsAs, region_in, LeavesInUse, Ready, can_look_up, leaves_looked, Inode, IsInode, HasRow, IsEntry, found}
+use Rattle.std.specs.Prelude.{Option}
+use Rattle.rio_model.specs.Paths.{as_dir}
+use Rattle.file_pages.proofs.LookingUpRules.{looked_inode}
 use Rattle.file_store.specs.declared.failures.FileFail.{FileFail}
 use Rattle.file_store.specs.declared.failures.FileFail.TheVariants.{Refused, Fault, Stopped, Memory}
 use Rattle.file_store.specs.Failures.{Refuses, Unrefused}
 use Rattle.file_store.proofs.Reached.{kind_held}
-use Rattle.file_store.specs.RowReads.{dir_kind}
-use Rattle.file_store.specs.WalkRules.{walk_on, walk_over}
+use Rattle.file_store.proofs.RowReads.{dir_kind}
+use Rattle.file_store.proofs.WalkRules.{walk_on, walk_over}
 use Rattle.file_store.specs.Walks.{Comes, FileComes, RowComes, ino_in}
 use Rattle.file_store.specs.declared.walking.Row.{Row}
 

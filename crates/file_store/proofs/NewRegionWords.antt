@@ -1,16 +1,10 @@
 -- The words of a new region keep the format, and read as a region of zeros without a block.
-use Rattle.std.proofs.Common.{◌≡◌, ℕ, zero, suc, ◌+◌, ◌*◌, ◌/◌, ◌%◌, ◌≤◌, ◌==◌, cond, List, [], ◌∷◌, map, refl, sym, ap, subst, ◌∙◌, arith}
-use Rattle.std.specs.Prelude.{Some, replicate}
-use Rattle.std.specs.Int.{bit_at}
-use Rattle.std.specs.List.{range_with_len}
+use Rattle.file_store.proofs.Common.{◌≡◌, ℕ, zero, suc, ◌+◌, ◌*◌, ◌/◌, ◌%◌, ◌≤◌, ◌==◌, cond, List, [], ◌∷◌, map, refl, sym, ap, subst, ◌∙◌, arith, Some, bit_at, range_with_len, Region, IsSoundRegion, region_words, node_in, differs, new_region}
+use Rattle.std.specs.Prelude.{replicate}
 use Rattle.std.proofs.lemmas.Nat.Bits.{bit_at-zero}
-use Rattle.rio_model.specs.declared.node.Node.TheVariants.{Region}
 use Rattle.rio_model.specs.declared.node.RegionNode.{RegionNode}
-use Rattle.rio_model.specs.Heap.{IsSoundRegion, OfBlocks, blocks_from, run_length, starts, used}
-use Rattle.rio_model.specs.Undo.{IsRegion, Links, Within, before, before_by, data_from, live, places, records_from, region_magic, region_words, taken, undo_records}
-use Rattle.rio_model.specs.VolumeReads.{node_in}
-use Rattle.rio_model.specs.WordRules.{differs}
-use Rattle.rio_requests.specs.Answers.{new_region}
+use Rattle.rio_model.specs.Heap.{OfBlocks, blocks_from, run_length, starts, used}
+use Rattle.rio_model.specs.Undo.{IsRegion, Links, Within, before, before_by, data_from, live, places, records_from, region_magic, taken, undo_records}
 use Rattle.file_store.specs.NewRegions.{new_held, new_word}
 
 -- behind the header all is zero

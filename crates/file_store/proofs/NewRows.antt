@@ -1,29 +1,7 @@
 -- A node and its row, made in one update: that the changes can be made, and the state that they come to.
-use Rattle.std.proofs.Common.{◌≡◌, ℕ, ◌+◌, ◌<◌, ◌⊎◌, List, [], ◌∷◌, refl, sym, ap, subst, ◌∙◌, arith, inl, inr}
-use Rattle.std.specs.Prelude.{Result, Err, IsErrOf, Some, length}
-use Rattle.rio_base.specs.declared.places.VolumeShape.{VolumeShape}
-use Rattle.rio_base.specs.Blocks.{BlockWords, Seen}
-use Rattle.rio_base.specs.Layout.{IsIno}
-use Rattle.rio_base.specs.Volume.{Kept, Settled}
-use Rattle.rio_model.specs.declared.state.State.{State}
-use Rattle.rio_requests.specs.Answer.{answered}
-use Rattle.rio_model.specs.States.{with_new}
-use Rattle.rio_model.specs.Held.{held_of}
-use Rattle.rio_model.specs.Paths.{IsName}
-use Rattle.rio_model.specs.Placed.{volume_layout}
-use Rattle.rio_model.specs.VolumeReads.{ReadsAs}
-use Rattle.rio_model.specs.VolumeReady.{LeavesInUse, Ready}
-use Rattle.file_pages.specs.OrderRules.{ready_left}
-use Rattle.directories.specs.Plans.{PlansDir}
-use Rattle.directories.specs.RowChanges.{AddsRow}
-use Rattle.directories.specs.Rows.{HasRow}
-use Rattle.directories.specs.declared.changes.DirChange.{DirChange}
-use Rattle.rio_requests.specs.Answers.{empty_node, make_new, new_blocks, row_wanted, with_room}
-use Rattle.rio_requests.specs.declared.reply.Reply.TheVariants.{Number}
-use Rattle.rio_base.specs.Bitmap.{free_blocks}
-use Rattle.file_pages.specs.Changes.{wanted_blocks}
-use Rattle.file_pages.specs.declared.failures.SizeFail.{SizeFail}
-use Rattle.file_pages.specs.declared.failures.SizeFail.TheVariants.{NoSpace, TooLarge}
+use Rattle.file_store.proofs.Common.{◌≡◌, ℕ, ◌+◌, ◌<◌, ◌⊎◌, List, [], ◌∷◌, refl, sym, ap, subst, ◌∙◌, arith, inl, inr, Result, Err, IsErrOf, Some, VolumeShape, BlockWords, Seen, IsIno, Kept, Settled, State, answered, with_new, held_of, IsName, volume_layout, ReadsAs, LeavesInUse, Ready, ready_left, PlansDir, AddsRow, HasRow, DirChange, empty_node, make_new, row_wanted, with_room, Number, free_blocks, wanted_blocks, SizeFail, NoSpace, TooLarge}
+use Rattle.std.specs.Prelude.{length}
+use Rattle.rio_requests.specs.Answers.{new_blocks}
 use Rattle.file_store.specs.Failures.{fail_of_size}
 use Rattle.file_store.proofs.AnsweredAt.{FailsBy}
 use Rattle.file_store.specs.Changes.{IsMade, of_dir}

@@ -1,19 +1,16 @@
 -- The names of a path, by its bytes.
-use Rattle.std.proofs.Common.{◌≡◌, ◌≢◌, ◌==◌, ℕ, suc, ◌+◌, ◌-◌, ◌<◌, ◌≤◌, ◌⊎◌, true, List, [], ◌∷◌, ◌++◌, length, take, drop, get_or, Option, Some, None, refl, sym, ap, subst, ◌∙◌, arith, inl, inr, append-nil, append_assoc}
-use Rattle.std.specs.Prelude.{All, slice_index}
+use Rattle.file_store.proofs.Common.{◌≡◌, ◌≢◌, ◌==◌, ℕ, suc, ◌+◌, ◌-◌, ◌<◌, ◌≤◌, ◌⊎◌, true, List, [], ◌∷◌, ◌++◌, length, take, drop, get_or, Option, refl, sym, ap, subst, ◌∙◌, arith, inl, inr, append-nil, append_assoc, All, slice_index, Decides-eqb, drop_more, length-append, take-append-drop, pieces, front_of, last_of, IsName, IsPath, names_of, slashed, differs}
+use Rattle.std.proofs.Common.{Some, None}
 use Rattle.std.specs.Option.{unwrap_or}
 use Rattle.std.proofs.Math.Seq.{drop-append-add, take-append_seam, get_or-append_seam}
 use Rattle.std.proofs.lemmas.Bool.{cases_lt}
-use Rattle.std.proofs.lemmas.Bool.Decides.{Decides-eqb}
-use Rattle.std.proofs.lemmas.List.{drop-drop, drop_all, drop_more, get_or-append-add, get_or-drop, get_or-take, length-append, length-drop, length-take-le, take-append-drop, take_all, take_rest}
+use Rattle.std.proofs.lemmas.List.{drop-drop, drop_all, get_or-append-add, get_or-drop, get_or-take, length-drop, length-take-le, take_all, take_rest}
 use Rattle.std.proofs.lemmas.List.Elements.{All-take}
 use Rattle.memchr.specs.Find.{IsFirstByte, IsLastByte, is_byte}
-use Rattle.rio_base.specs.Pieces.{Lacks, pieces}
-use Rattle.rio_model.specs.States.{front_of, last_of}
-use Rattle.rio_model.specs.Paths.{AreNames, IsName, IsPath, names_of, slashed}
-use Rattle.rio_model.specs.WordRules.{differs}
+use Rattle.rio_base.specs.Pieces.{Lacks}
+use Rattle.rio_model.specs.Paths.{AreNames}
 use Rattle.rio_model.proofs.PathPieces.{pieces_first, pieces_whole}
-use Rattle.file_store.specs.WalkRules.{split_last}
+use Rattle.file_store.proofs.WalkRules.{split_last}
 
 -- ---- bytes without a slash
 

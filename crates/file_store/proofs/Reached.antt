@@ -1,42 +1,14 @@
 -- The state that is read once the changes of a request are made, for each list of changes that a request makes.
-use Rattle.std.proofs.Common.{◌≡◌, ◌≢◌, ℕ, ◌<◌, ◌≤◌, ◌⊎◌, true, List, [], ◌∷◌, map, refl, sym, ap, subst, ◌∙◌, arith, inl, inr}
-use Rattle.std.specs.Prelude.{Option, None, cond, nat_lt}
-use Rattle.std.specs.FinMap.{get}
-use Rattle.std.proofs.lemmas.Bool.{cases_eq}
-use Rattle.std.proofs.lemmas.Bool.Decides.{nat_tests}
-use Rattle.rio_base.specs.declared.places.Block.{Block}
-use Rattle.rio_base.specs.declared.places.PageName.{PageName}
-use Rattle.rio_base.specs.declared.places.VolumeShape.{VolumeShape}
-use Rattle.rio_base.specs.Blocks.{BlockWords, Seen}
-use Rattle.rio_base.specs.Layout.{IsIno}
-use Rattle.rio_base.specs.Volume.{Kept}
-use Rattle.block_alloc.specs.Bitmap.{numbers}
-use Rattle.rio_model.specs.declared.state.State.{State}
-use Rattle.rio_model.specs.States.{with_new}
-use Rattle.rio_model.specs.Held.{Held, held_of}
-use Rattle.rio_model.specs.HeldRules.{held_ino}
-use Rattle.rio_model.specs.Paths.{IsName, is_dir}
-use Rattle.rio_model.specs.Placed.{Placed, placed_at, volume_layout}
-use Rattle.rio_model.specs.PlacedRules.{SamePlaced, root_ino}
-use Rattle.rio_model.specs.Updates.{Applied}
-use Rattle.rio_model.specs.VolumeReadRules.{held_of_agree, reads_dir, reads_none}
-use Rattle.rio_model.specs.VolumeReads.{ReadsAs}
-use Rattle.rio_model.specs.VolumeReady.{LeavesInUse, Ready}
-use Rattle.rio_model.specs.VolumeRules.{IsMapped, TreeRule}
-use Rattle.file_pages.specs.LookingUp.{node_blocks}
-use Rattle.file_pages.specs.OrderRules.{order_ready, ready_left}
-use Rattle.file_pages.specs.Orders.{InOrder}
-use Rattle.directories.specs.Plans.{PlansDir}
-use Rattle.directories.specs.RowChanges.{AddsRow, RemovesRow, ReplacesRow, SetsRow}
-use Rattle.directories.specs.Rows.{IsEntry}
-use Rattle.directories.specs.declared.changes.DirChange.{DirChange}
-use Rattle.rio_requests.specs.Answers.{empty_node, moved, without}
+use Rattle.file_store.proofs.Common.{◌≡◌, ◌≢◌, ℕ, ◌<◌, ◌≤◌, ◌⊎◌, true, List, [], ◌∷◌, map, refl, sym, ap, subst, ◌∙◌, arith, inl, inr, None, nat_lt, get, cases_eq, nat_tests, Block, PageName, VolumeShape, BlockWords, Seen, IsIno, Kept, numbers, State, with_new, Held, held_of, held_ino, IsName, is_dir, Placed, placed_at, volume_layout, SamePlaced, Applied, held_of_agree, reads_dir, reads_none, ReadsAs, LeavesInUse, Ready, IsMapped, TreeRule, node_blocks, ready_left, InOrder, PlansDir, AddsRow, RemovesRow, ReplacesRow, SetsRow, IsEntry, DirChange, empty_node, moved, without}
+use Rattle.std.specs.Prelude.{Option, cond}
+use Rattle.rio_model.proofs.PlacedRules.{root_ino}
+use Rattle.file_pages.proofs.OrderRules.{order_ready}
 use Rattle.file_store.specs.Changes.{AllApplied, IsGone, IsMade, IsTouchedBy, node_update, of_dir}
 use Rattle.file_store.specs.Committing.{Touched}
-use Rattle.file_store.specs.EmptyHeld.{empty_held}
-use Rattle.file_store.specs.ReadSteps.{DropsRow, MakesRow, RenamesRow, gone_as, made_as, renamed_as}
-use Rattle.file_store.specs.ReadTrees.{rows_fit}
-use Rattle.file_store.specs.TreeRules.{RowsFit, tree_new}
+use Rattle.file_store.proofs.EmptyHeld.{empty_held}
+use Rattle.file_store.proofs.ReadSteps.{DropsRow, MakesRow, RenamesRow, gone_as, made_as, renamed_as}
+use Rattle.file_store.proofs.ReadTrees.{rows_fit}
+use Rattle.file_store.proofs.TreeRules.{RowsFit, tree_new}
 use Rattle.file_store.specs.declared.changes.NodeChange.{NodeChange}
 use Rattle.file_store.proofs.Blocks.{still_all, still_own}
 use Rattle.file_store.proofs.Ended.{Reaches}

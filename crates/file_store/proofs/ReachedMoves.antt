@@ -1,35 +1,9 @@
 -- The state that is read once the changes of a rename are made, where two directories change or a node goes.
-use Rattle.std.proofs.Common.{◌≡◌, ◌≢◌, ℕ, ◌<◌, ◌≤◌, ◌⊎◌, List, [], ◌∷◌, map, sym, ap, subst, ◌∙◌, arith, inl, inr}
-use Rattle.std.specs.Prelude.{None}
-use Rattle.std.specs.FinMap.{get}
-use Rattle.std.proofs.lemmas.Bool.{cases_eq}
-use Rattle.rio_base.specs.declared.places.Block.{Block}
-use Rattle.rio_base.specs.declared.places.VolumeShape.{VolumeShape}
-use Rattle.rio_base.specs.Blocks.{BlockWords, Seen}
-use Rattle.rio_base.specs.Layout.{IsIno}
-use Rattle.rio_base.specs.Volume.{Kept}
-use Rattle.block_alloc.specs.Bitmap.{numbers}
-use Rattle.rio_model.specs.declared.state.State.{State}
-use Rattle.rio_model.specs.Held.{Held, held_of}
-use Rattle.rio_model.specs.NodeChanges.{Available}
-use Rattle.rio_model.specs.Paths.{IsName}
-use Rattle.rio_model.specs.Placed.{Slot, Placed, HasSlot, Owns, placed_at, volume_layout}
-use Rattle.rio_model.specs.PlacedRules.{SamePlaced, has_same}
-use Rattle.rio_model.specs.Updates.{Applied}
-use Rattle.rio_model.specs.VolumeReads.{ReadsAs}
-use Rattle.rio_model.specs.VolumeRules.{IsMapped, TreeRule}
-use Rattle.file_pages.specs.LookingUp.{node_blocks}
-use Rattle.file_pages.specs.Orders.{InOrder}
-use Rattle.directories.specs.Making.{MayBeMade}
-use Rattle.directories.specs.MakingRules.{DisjointNodes, may_still, plan_change}
-use Rattle.directories.specs.Plans.{dir_update}
-use Rattle.directories.specs.RowChanges.{AddsRow, RemovesRow, ReplacesRow, SetsRow}
-use Rattle.directories.specs.Rows.{IsEntry}
-use Rattle.directories.specs.declared.changes.DirChange.{DirChange}
-use Rattle.rio_requests.specs.Answers.{moved, replaced}
+use Rattle.file_store.proofs.Common.{◌≡◌, ◌≢◌, ℕ, ◌<◌, ◌≤◌, ◌⊎◌, List, [], ◌∷◌, map, sym, ap, subst, ◌∙◌, arith, inl, inr, None, get, cases_eq, Block, VolumeShape, BlockWords, Seen, IsIno, Kept, numbers, State, Held, held_of, Available, IsName, Slot, Placed, HasSlot, Owns, placed_at, volume_layout, SamePlaced, has_same, Applied, ReadsAs, IsMapped, TreeRule, node_blocks, InOrder, MayBeMade, plan_change, dir_update, AddsRow, RemovesRow, ReplacesRow, SetsRow, IsEntry, DirChange, moved, replaced}
+use Rattle.directories.proofs.MakingRules.{DisjointNodes, may_still}
 use Rattle.file_store.specs.Changes.{AllApplied, IsGone, IsTouchedBy, node_update, of_dir}
-use Rattle.file_store.specs.EmptyHeld.{empty_held}
-use Rattle.file_store.specs.ReadSteps.{MovesRow, ReplacesAcross, ReplacesWithin, moved_as, replaced_across_as, replaced_within_as}
+use Rattle.file_store.proofs.EmptyHeld.{empty_held}
+use Rattle.file_store.proofs.ReadSteps.{MovesRow, ReplacesAcross, ReplacesWithin, moved_as, replaced_across_as, replaced_within_as}
 use Rattle.file_store.specs.declared.changes.NodeChange.{NodeChange}
 use Rattle.file_store.proofs.Ended.{Reaches}
 use Rattle.file_store.proofs.Reached.{Prepared, gone_after, held_now, mapped_now, order_now, reached, unnamed_touch}

@@ -1,19 +1,6 @@
 -- The region at the end of a walk, or what is told where none is.
-use Rattle.std.proofs.Common.{◌≡◌, ◌≢◌, ℕ, ◌<◌, ◌⊎◌, List, refl, sym, ap, subst, ◌∙◌, arith, inl, inr}
-use Rattle.std.specs.Prelude.{Result, Ok, Err, IsErrOf, Some}
-use Rattle.std.specs.FinMap.{get}
-use Rattle.std.proofs.lemmas.Bool.{cases_eq}
-use Rattle.rio_base.specs.declared.places.Ino.{Ino}
-use Rattle.rio_base.specs.declared.places.VolumeShape.{VolumeShape}
-use Rattle.rio_base.specs.Blocks.{BlockWords}
-use Rattle.rio_model.specs.declared.node.Node.TheVariants.{Region}
+use Rattle.file_store.proofs.Common.{◌≡◌, ◌≢◌, ℕ, ◌<◌, ◌⊎◌, List, refl, sym, ap, subst, ◌∙◌, arith, inl, inr, Result, Ok, Err, IsErrOf, Some, get, cases_eq, Ino, VolumeShape, BlockWords, Region, State, held_of, names_of, walk, reads_dir, reads_file, reads_region, ReadsAs, region_in, Inode}
 use Rattle.rio_model.specs.declared.node.RegionNode.{RegionNode}
-use Rattle.rio_model.specs.declared.state.State.{State}
-use Rattle.rio_model.specs.Held.{held_of}
-use Rattle.rio_model.specs.Paths.{names_of, walk}
-use Rattle.rio_model.specs.VolumeReadRules.{reads_dir, reads_file, reads_region}
-use Rattle.rio_model.specs.VolumeReads.{ReadsAs, region_in}
-use Rattle.inode_table.specs.declared.inode.Inode.{Inode}
 use Rattle.file_store.specs.Failures.{Unrefused}
 use Rattle.file_store.specs.NewRegions.{FindsRegion}
 use Rattle.file_store.specs.Walks.{Comes, ino_in}

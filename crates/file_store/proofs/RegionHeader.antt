@@ -1,25 +1,9 @@
 -- The header of a region, read: what is asked of its block, and what the volume is afterwards.
-use Rattle.std.proofs.Common.{◌≡◌, ◌≢◌, ℕ, ◌+◌, ◌*◌, ◌<◌, ◌≤◌, ◌⊎◌, true, None, Some, Option, cond, sym, ap, subst, ◌∙◌, arith, inl, inr}
-use Rattle.std.proofs.lemmas.Bool.{cases_eq}
-use Rattle.std.proofs.lemmas.Bool.Decides.{nat_tests}
-use Rattle.std.proofs.lemmas.List.FromFn.{length-map-range_with_len}
-use Rattle.std.specs.Prelude.{length, map, nat_lt}
-use Rattle.std.specs.List.{range_with_len}
-use Rattle.rio_base.specs.declared.places.PageName.{PageName}
-use Rattle.rio_base.specs.declared.places.VolumeShape.{VolumeShape}
-use Rattle.rio_base.specs.BlockRules.{shape_beside}
-use Rattle.rio_base.specs.Blocks.{BlockWords, Caches, CanName, Looks, SamePage, Seen}
-use Rattle.rio_base.specs.Layout.{IsIno}
-use Rattle.rio_base.specs.Shapes.{HasShape, reserved}
-use Rattle.rio_model.specs.Held.{Held, held_of}
-use Rattle.rio_model.specs.HeldRules.{counts_of, held_ino}
-use Rattle.rio_model.specs.declared.state.State.{State}
-use Rattle.rio_model.specs.Placed.{Slot, AtPage, HasSlot, Layout, Owns, Placed, placed_at, volume_layout}
-use Rattle.rio_model.specs.Sizes.{data_pages}
+use Rattle.file_store.proofs.Common.{◌≡◌, ◌≢◌, ℕ, ◌+◌, ◌*◌, ◌<◌, ◌≤◌, ◌⊎◌, true, Option, cond, sym, ap, subst, ◌∙◌, arith, inl, inr, cases_eq, nat_tests, length-map-range_with_len, nat_lt, range_with_len, PageName, VolumeShape, BlockWords, Caches, CanName, Looks, SamePage, Seen, IsIno, HasShape, reserved, Held, held_of, counts_of, held_ino, State, Slot, AtPage, HasSlot, Layout, Owns, Placed, placed_at, volume_layout, data_pages, ReadsAs, region_in, AllNamed, Bears, NamesPage, IsMapped}
+use Rattle.std.proofs.Common.{None, Some}
+use Rattle.std.specs.Prelude.{length, map}
+use Rattle.rio_base.proofs.BlockRules.{shape_beside}
 use Rattle.rio_model.specs.Undo.{before, data_from}
-use Rattle.rio_model.specs.VolumeReads.{ReadsAs, region_in}
-use Rattle.rio_model.specs.VolumeReady.{AllNamed, Bears, NamesPage}
-use Rattle.rio_model.specs.VolumeRules.{IsMapped}
 use Rattle.file_store.proofs.LookedAt.{used_ino}
 use Rattle.file_store.proofs.Reached.{kind_held}
 

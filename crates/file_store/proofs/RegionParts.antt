@@ -1,8 +1,8 @@
 -- A run of a region's words, read or stored in parts.
-use Rattle.std.proofs.Common.{◌≡◌, ℕ, ◌+◌, ◌-◌, ◌<◌, ◌≤◌, List, length, slice_index, take, drop, length-take, length-drop, ap, ◌∙◌, arith}
-use Rattle.std.proofs.lemmas.Bool.Decides.{nat_tests}
+use Rattle.file_store.proofs.Common.{◌≡◌, ℕ, ◌+◌, ◌-◌, ◌<◌, ◌≤◌, List, length, take, drop, ap, ◌∙◌, arith, nat_tests, put_words}
+use Rattle.std.proofs.Common.{slice_index, length-take, length-drop}
 use Rattle.std.proofs.lemmas.List.{get_or-drop, get_or-take}
-use Rattle.rio_base.specs.Regions.{OldOrPutWords, RegionContent, put_words}
+use Rattle.rio_base.specs.Regions.{OldOrPutWords, RegionContent}
 
 -- no word
 none_at : (f : RegionContent) (at : ℕ) (words : List ℕ) (x : ℕ) → f x ≡ put_words f at 0 words x

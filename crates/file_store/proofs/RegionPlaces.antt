@@ -1,27 +1,16 @@
 -- A word of a region: the block and the name of its page, and what a call on that block leaves in order.
-use Rattle.std.proofs.Common.{◌≡◌, ◌≢◌, ℕ, ◌+◌, ◌-◌, ◌*◌, ◌/◌, ◌%◌, ◌<◌, ◌≤◌, ◌==◌, ◌&&◌, ◌⊎◌, Bool, true, false, cond, List, length, slice_index, Option, None, Some, refl, sym, ap, subst, ◌∙◌, arith, inl, inr}
-use Rattle.std.specs.Prelude.{nat_lt, not}
-use Rattle.std.proofs.lemmas.Bool.{cases_eq}
-use Rattle.std.proofs.lemmas.Bool.Decides.{nat_tests}
-use Rattle.rio_base.specs.declared.places.PageName.{PageName}
-use Rattle.rio_base.specs.declared.places.VolumeShape.{VolumeShape}
-use Rattle.rio_base.specs.Blocks.{BlockWords, Caches, CanName, Health, Looks, SamePage, Seen}
-use Rattle.rio_base.specs.BlockRules.{shape_beside_stored}
-use Rattle.rio_base.specs.Layout.{IsIno}
-use Rattle.rio_base.specs.Regions.{OldOrPutWord, OldOrPutWords, put_word, put_words}
-use Rattle.rio_base.specs.Shapes.{reserved}
-use Rattle.rio_base.specs.Volume.{Below, CachesStored, Firm, Kept, OldOrPut, OldOrRun, Passes, SameBut, put, put_run, widened}
-use Rattle.rio_model.specs.Held.{Held, held_of}
-use Rattle.rio_model.specs.HeldRules.{counts_of, held_ino, page_counts}
-use Rattle.rio_model.specs.NodeChanges.{IsAt}
-use Rattle.rio_model.specs.Placed.{Slot, AtPage, Placed, HasSlot, placed_at, Layout, volume_layout, Owns, AgreesBeside}
-use Rattle.rio_model.specs.PlacedRules.{SameLayout, direct_of, inode_low, lays_same, lays_self, lies_self, page_page}
-use Rattle.rio_model.specs.VolumeReady.{Bears, NamesPage, Ready}
-use Rattle.rio_model.specs.VolumeRules.{IsMapped}
-use Rattle.rio_model.specs.WordRules.{beside_page, held_at_old, held_beside, held_put, lays_beside, mapped_beside, put_beside_node, put_same_but, run_same_but}
-use Rattle.inode_table.specs.declared.inode.Inode.{Inode}
-use Rattle.inode_table.specs.Inodes.{IsInode}
-use Rattle.file_pages.specs.OrderRules.{firm_layout, firm_on, named_layout, ready_order}
+use Rattle.file_store.proofs.Common.{◌≡◌, ◌≢◌, ℕ, ◌+◌, ◌-◌, ◌*◌, ◌/◌, ◌%◌, ◌<◌, ◌≤◌, ◌==◌, ◌&&◌, ◌⊎◌, Bool, true, false, cond, List, length, Option, refl, sym, ap, subst, ◌∙◌, arith, inl, inr, nat_lt, cases_eq, nat_tests, PageName, VolumeShape, BlockWords, Caches, CanName, Health, Looks, SamePage, Seen, IsIno, put_words, reserved, Below, CachesStored, Firm, Kept, Passes, put, put_run, widened, Held, held_of, counts_of, held_ino, Slot, AtPage, Placed, HasSlot, placed_at, Layout, volume_layout, Owns, SameLayout, inode_low, lays_same, lays_self, lies_self, Bears, NamesPage, Ready, IsMapped, run_same_but, Inode, IsInode, firm_on, ready_order}
+use Rattle.std.proofs.Common.{slice_index, None, Some}
+use Rattle.std.specs.Prelude.{not}
+use Rattle.rio_base.proofs.BlockRules.{shape_beside_stored}
+use Rattle.rio_base.specs.Regions.{OldOrPutWord, OldOrPutWords, put_word}
+use Rattle.rio_base.specs.Volume.{OldOrPut, OldOrRun, SameBut}
+use Rattle.rio_model.proofs.HeldRules.{page_counts}
+use Rattle.rio_model.proofs.NodeChanges.{IsAt}
+use Rattle.rio_model.specs.Placed.{AgreesBeside}
+use Rattle.rio_model.proofs.PlacedRules.{direct_of, page_page}
+use Rattle.rio_model.proofs.WordRules.{beside_page, held_at_old, held_beside, held_put, lays_beside, mapped_beside, put_beside_node, put_same_but}
+use Rattle.file_pages.proofs.OrderRules.{firm_layout, named_layout}
 use Rattle.file_store.specs.Views.{IsWordName, IsWordPage, RestHeld}
 use Rattle.file_store.proofs.RegionParts.{put_none}
 use Rattle.file_store.proofs.RegionHeader.{HasHeader, has_header, used_size}

@@ -1,35 +1,17 @@
 -- A new region, prepared: its blocks are taken as zeros, and then its header is stored in the block of page 0.
-use Rattle.std.proofs.Common.{◌≡◌, ◌≢◌, ℕ, zero, suc, ◌-◌, ◌*◌, ◌/◌, ◌%◌, ◌<◌, ◌≤◌, ◌&&◌, ◌⊎◌, Bool, true, false, cond, List, length, refl, sym, ap, subst, ◌∙◌, arith, inl, inr, slice_index_or}
-use Rattle.std.specs.Prelude.{Option, None, Some, nat_lt, slice_index}
-use Rattle.std.specs.List.{Contains}
-use Rattle.std.proofs.lemmas.Bool.{cases_eq}
-use Rattle.std.proofs.lemmas.Bool.Decides.{nat_tests}
-use Rattle.rio_base.specs.declared.places.Block.{Block}
-use Rattle.rio_base.specs.declared.places.Ino.{Ino}
-use Rattle.rio_base.specs.declared.places.PageName.{PageName}
-use Rattle.rio_base.specs.declared.places.VolumeShape.{VolumeShape}
-use Rattle.rio_base.specs.BlockSets.{caches_by_stored, firm_outside_all, same_outside_one}
-use Rattle.rio_base.specs.Blocks.{BlockWords, CanName, SamePage, Seen}
-use Rattle.rio_base.specs.Layout.{IsIno, inode_kind}
-use Rattle.rio_base.specs.Rules.{true_false}
-use Rattle.rio_base.specs.Shapes.{HasShape}
-use Rattle.rio_base.specs.Volume.{CachesStored, Firm, Kept, OldOrRun, SameBut, put_run, widened}
-use Rattle.block_alloc.specs.Bitmap.{numbers}
-use Rattle.inode_table.specs.declared.inode.Inode.{Inode}
-use Rattle.rio_model.specs.GrowthRules.{page_new}
-use Rattle.rio_model.specs.Held.{held}
-use Rattle.rio_model.specs.HeldRules.{counts_of, page_counts, same_held}
-use Rattle.rio_model.specs.Placed.{Slot, AtPage, AtTable, Placed, HasSlot, IsFree, Agrees, placed_at, volume_layout}
-use Rattle.rio_model.specs.PlacedRules.{SameLayout, cases_lt, lays_agree, lays_same, lays_self, owned_back, page_page, table_page}
-use Rattle.rio_model.specs.Sizes.{blocks_for, pages}
-use Rattle.rio_model.specs.VolumeReady.{Bears, LeavesInUse, NamedNode, NamesPage, Ready}
-use Rattle.rio_model.specs.VolumeRules.{IsMapped, SizeFits}
-use Rattle.rio_model.specs.WordRules.{run_same_but}
-use Rattle.file_pages.specs.Changes.{PlansSize, Spares, free_beside, planned_node, wanted_blocks}
-use Rattle.file_pages.specs.OrderRules.{leaves_beside, leaves_trans, ready_left}
+use Rattle.file_store.proofs.Common.{◌≡◌, ◌≢◌, ℕ, zero, suc, ◌-◌, ◌*◌, ◌/◌, ◌%◌, ◌<◌, ◌≤◌, ◌&&◌, ◌⊎◌, Bool, true, false, cond, List, length, refl, sym, ap, subst, ◌∙◌, arith, inl, inr, slice_index_or, None, Some, nat_lt, slice_index, Contains, cases_eq, nat_tests, Block, Ino, PageName, VolumeShape, BlockWords, CanName, SamePage, Seen, IsIno, inode_kind, true_false, HasShape, CachesStored, Firm, Kept, put_run, widened, numbers, Inode, held, counts_of, same_held, Slot, AtPage, AtTable, Placed, HasSlot, IsFree, Agrees, placed_at, volume_layout, SameLayout, cases_lt, lays_agree, lays_same, lays_self, blocks_for, pages, Bears, LeavesInUse, NamedNode, NamesPage, Ready, IsMapped, run_same_but, wanted_blocks, leaves_trans, ready_left, as_many, number_at}
+use Rattle.std.specs.Prelude.{Option}
+use Rattle.rio_base.proofs.BlockSets.{caches_by_stored, firm_outside_all, same_outside_one}
+use Rattle.rio_base.specs.Volume.{OldOrRun, SameBut}
+use Rattle.rio_model.proofs.GrowthRules.{page_new}
+use Rattle.rio_model.proofs.HeldRules.{page_counts}
+use Rattle.rio_model.proofs.PlacedRules.{owned_back, page_page, table_page}
+use Rattle.rio_model.specs.VolumeRules.{SizeFits}
+use Rattle.file_pages.specs.Changes.{PlansSize, Spares, free_beside, planned_node}
+use Rattle.file_pages.proofs.OrderRules.{leaves_beside}
 use Rattle.file_pages.specs.Staging.{Beside}
 use Rattle.file_pages.specs.declared.changes.SizeChange.{SizeChange}
-use Rattle.file_pages.proofs.Listed.{as_many, number_at, place_of}
+use Rattle.file_pages.proofs.Listed.{place_of}
 use Rattle.file_pages.proofs.Skipped.{among_at, left_are_free}
 use Rattle.file_store.specs.Changes.{of_size}
 use Rattle.file_store.specs.NewRegions.{FitRegion, PlansRegion, header_name, header_words, new_held, new_word}

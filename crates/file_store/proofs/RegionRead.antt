@@ -1,26 +1,9 @@
 -- A region that is made, and its row, are so in the state that is read.
-use Rattle.std.proofs.Common.{◌≡◌, ◌≢◌, ℕ, ◌/◌, ◌≤◌, List, None, sym, ap, subst, ◌∙◌, arith, inl, inr}
-use Rattle.std.specs.FinMap.{get}
-use Rattle.std.proofs.lemmas.Option.{none-some}
-use Rattle.rio_base.specs.declared.places.VolumeShape.{VolumeShape}
-use Rattle.rio_base.specs.Blocks.{BlockWords}
-use Rattle.rio_model.specs.declared.node.Node.{Node}
-use Rattle.rio_model.specs.declared.node.Node.TheVariants.{Region}
-use Rattle.rio_model.specs.declared.state.State.{State}
-use Rattle.rio_model.specs.States.{with_new}
-use Rattle.rio_model.specs.Heap.{IsSoundRegion}
-use Rattle.rio_model.specs.Held.{Held, held_of}
-use Rattle.rio_model.specs.Names.{NameKey}
-use Rattle.rio_model.specs.Paths.{IsName}
-use Rattle.rio_model.specs.VolumeReads.{node_in, ReadsAs}
-use Rattle.rio_model.specs.VolumeRules.{IsMapped, TreeRule}
-use Rattle.rio_model.proofs.NameOrder.{name_get_other}
-use Rattle.rio_model.proofs.StateSteps.{get_here, get_there}
-use Rattle.rio_requests.specs.Answers.{new_region}
-use Rattle.directories.specs.RowChanges.{AddsRow}
-use Rattle.file_store.specs.NameSteps.{by_two, dirs_apart, insert_back, insert_some, row_comes}
+use Rattle.file_store.proofs.Common.{◌≡◌, ◌≢◌, ℕ, ◌/◌, ◌≤◌, List, sym, ap, subst, ◌∙◌, arith, inl, inr, get, none-some, VolumeShape, BlockWords, Node, Region, State, with_new, IsSoundRegion, Held, held_of, NameKey, IsName, node_in, ReadsAs, IsMapped, TreeRule, name_get_other, get_here, get_there, new_region, AddsRow}
+use Rattle.std.proofs.Common.{None}
+use Rattle.file_store.proofs.NameSteps.{by_two, dirs_apart, insert_back, insert_some, row_comes}
 use Rattle.file_store.specs.NewRegions.{new_held}
-use Rattle.file_store.specs.RowReads.{EachReads, OneReads, SoundReads, bare_names, by_each, of_each, one_changes, one_stays, sound_of}
+use Rattle.file_store.proofs.RowReads.{EachReads, OneReads, SoundReads, bare_names, by_each, of_each, one_changes, one_stays, sound_of}
 use Rattle.file_store.proofs.NewRegionWords.{new_reads, new_sound}
 
 -- a region comes in inode i, and its row in directory d

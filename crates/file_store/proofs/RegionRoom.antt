@@ -1,37 +1,11 @@
 -- Room for a region and its row: blocks that are free, as the state counts them.
-use Rattle.std.proofs.Common.{◌≡◌, ℕ, ◌+◌, ◌*◌, ◌<◌, ◌≤◌, true, false, cond, List, refl, sym, ap, subst, ◌∙◌, arith, length-take-le}
-use Rattle.std.specs.Prelude.{Result, Err, IsErrOf, Some, length, nat_lt, replicate, slice_index, take}
-use Rattle.std.proofs.lemmas.Bool.Decides.{nat_tests}
+use Rattle.file_store.proofs.Common.{◌≡◌, ℕ, ◌+◌, ◌*◌, ◌<◌, ◌≤◌, true, false, cond, List, refl, sym, ap, subst, ◌∙◌, arith, Result, Err, IsErrOf, Some, nat_lt, slice_index, nat_tests, VolumeShape, free_blocks, BlockWords, Seen, Kept, numbers, Region, State, with_new, Held, held_of, IsFree, placed_at, volume_layout, blocks_for, data_pages, free_count, region_words, reads_agree, ReadsAs, LeavesInUse, Ready, free_by_state, wanted_blocks, ready_left, SizeFail, NoSpace, TooLarge, as_many, PlansDir, AddsRow, DirChange, Answered, Number, answered, refused, make_new, new_region, row_wanted, with_room}
+use Rattle.std.proofs.Common.{length-take-le}
+use Rattle.std.specs.Prelude.{length, replicate, take}
 use Rattle.std.proofs.lemmas.List.{length-replicate}
-use Rattle.rio_base.specs.declared.places.VolumeShape.{VolumeShape}
-use Rattle.rio_base.specs.Bitmap.{free_blocks}
-use Rattle.rio_base.specs.Blocks.{BlockWords, Seen}
-use Rattle.rio_base.specs.Volume.{Kept}
-use Rattle.block_alloc.specs.Bitmap.{numbers}
-use Rattle.rio_model.specs.declared.node.Node.TheVariants.{Region}
-use Rattle.rio_model.specs.declared.state.State.{State}
-use Rattle.rio_model.specs.States.{with_new}
-use Rattle.rio_model.specs.Held.{Held, held_of}
-use Rattle.rio_model.specs.Placed.{IsFree, placed_at, volume_layout}
-use Rattle.rio_model.specs.Sizes.{blocks_for, data_pages, free_count}
-use Rattle.rio_model.specs.Undo.{region_words}
-use Rattle.rio_model.specs.VolumeReadRules.{reads_agree}
-use Rattle.rio_model.specs.VolumeReads.{ReadsAs}
-use Rattle.rio_model.specs.VolumeReady.{LeavesInUse, Ready}
-use Rattle.rio_model.proofs.FreeByState.{free_by_state}
-use Rattle.file_pages.specs.Changes.{free_beside, wanted_blocks}
-use Rattle.file_pages.specs.OrderRules.{ready_left}
-use Rattle.file_pages.specs.declared.failures.SizeFail.{SizeFail}
-use Rattle.file_pages.specs.declared.failures.SizeFail.TheVariants.{NoSpace, TooLarge, Fault as SizeFault, Stopped as SizeStopped, Memory as SizeMemory}
-use Rattle.file_pages.proofs.Listed.{as_many}
+use Rattle.file_pages.specs.Changes.{free_beside}
+use Rattle.file_pages.specs.declared.failures.SizeFail.TheVariants.{Fault as SizeFault, Stopped as SizeStopped, Memory as SizeMemory}
 use Rattle.file_pages.proofs.Skipped.{count_beside}
-use Rattle.directories.specs.Plans.{PlansDir}
-use Rattle.directories.specs.RowChanges.{AddsRow}
-use Rattle.directories.specs.declared.changes.DirChange.{DirChange}
-use Rattle.rio_requests.specs.declared.plain.Answered.{Answered}
-use Rattle.rio_requests.specs.declared.reply.Reply.TheVariants.{Number}
-use Rattle.rio_requests.specs.Answer.{answered, refused}
-use Rattle.rio_requests.specs.Answers.{make_new, new_region, row_wanted, with_room}
 use Rattle.file_store.specs.Failures.{fail_of_size}
 use Rattle.file_store.specs.NewRegions.{FitRegion}
 use Rattle.file_store.specs.declared.regions.RegionSizes.{RegionSizes}

@@ -1,49 +1,19 @@
 -- A region and its row, made in one update: that the changes can be made, and the state that they come to.
-use Rattle.std.proofs.Common.{◌≡◌, ◌≢◌, ℕ, zero, suc, ◌<◌, ◌≤◌, ◌⊎◌, Bool, true, false, List, [], ◌∷◌, map, refl, sym, ap, subst, ◌∙◌, arith, inl, inr}
-use Rattle.std.specs.Prelude.{Option, None, Some}
-use Rattle.std.specs.FinMap.{get}
-use Rattle.std.specs.List.{AllByRecursion, Contains}
-use Rattle.std.proofs.lemmas.Bool.{cases_eq}
-use Rattle.rio_base.specs.declared.places.PageName.{PageName}
-use Rattle.rio_base.specs.declared.places.VolumeShape.{VolumeShape}
-use Rattle.rio_base.specs.BlockSets.{CachesBy}
-use Rattle.rio_base.specs.Blocks.{BlockWords, Seen}
-use Rattle.rio_base.specs.Layout.{IsIno, inode_block}
-use Rattle.rio_base.specs.Shapes.{reserved}
-use Rattle.rio_base.specs.Volume.{Kept, Settled}
-use Rattle.block_alloc.specs.Bitmap.{numbers}
-use Rattle.rio_model.specs.declared.node.Node.TheVariants.{Region}
-use Rattle.rio_model.specs.declared.state.State.{State}
-use Rattle.rio_model.specs.States.{with_new}
-use Rattle.rio_model.specs.GrowthRules.{few_tables}
-use Rattle.rio_model.specs.Held.{Held, held_of}
-use Rattle.rio_model.specs.HeldRules.{held_agree}
-use Rattle.rio_model.specs.NodeChangeRules.{held_here}
-use Rattle.rio_model.specs.NodeChanges.{Available, Change}
-use Rattle.rio_model.specs.Paths.{IsName}
-use Rattle.rio_model.specs.Placed.{Slot, AtPage, AtTable, Placed, Agrees, HasSlot, IsFree, Lies, placed_at, volume_layout}
-use Rattle.rio_model.specs.PlacedRules.{SameLayout, inode_low, lays_agree, lays_same, lays_self, node_fits, owned_on, table_page}
-use Rattle.rio_model.specs.UpdateRules.{edited_out, turned_held}
-use Rattle.rio_model.specs.Updates.{Applied, Turns, Update, WordEdit, edited}
-use Rattle.rio_model.specs.VolumeReads.{ReadsAs}
-use Rattle.rio_model.specs.VolumeReady.{Bears, LeavesInUse, NamedNode, Ready}
-use Rattle.rio_model.specs.VolumeRules.{IsMapped, NodeFits}
+use Rattle.file_store.proofs.Common.{◌≡◌, ◌≢◌, ℕ, zero, suc, ◌<◌, ◌≤◌, ◌⊎◌, Bool, true, false, List, [], ◌∷◌, map, refl, sym, ap, subst, ◌∙◌, arith, inl, inr, None, Some, get, AllByRecursion, Contains, cases_eq, PageName, VolumeShape, CachesBy, BlockWords, Seen, IsIno, inode_block, reserved, Kept, Settled, numbers, Region, State, with_new, Held, held_of, Available, Change, IsName, Slot, AtPage, AtTable, Placed, Agrees, HasSlot, IsFree, placed_at, volume_layout, SameLayout, inode_low, lays_agree, lays_same, lays_self, node_fits, owned_on, Applied, ReadsAs, Bears, LeavesInUse, NamedNode, Ready, IsMapped, NodeFits, leaves_trans, ready_left, InOrder, IsEdited, Edit, MayBeMade, plan_edits, plan_change, PlansDir, AddsRow, HasRow, DirChange, new_region}
+use Rattle.std.specs.Prelude.{Option}
+use Rattle.rio_model.proofs.GrowthRules.{few_tables}
+use Rattle.rio_model.proofs.HeldRules.{held_agree}
+use Rattle.rio_model.proofs.NodeChangeRules.{held_here}
+use Rattle.rio_model.specs.Placed.{Lies}
+use Rattle.rio_model.proofs.PlacedRules.{table_page}
+use Rattle.rio_model.proofs.UpdateRules.{edited_out, turned_held}
+use Rattle.rio_model.specs.Updates.{Turns, Update, WordEdit, edited}
 use Rattle.file_pages.specs.Changes.{EditsTable, Spares, word_edit}
-use Rattle.file_pages.specs.OrderRules.{leaves_trans, ready_left}
-use Rattle.file_pages.specs.Orders.{InOrder}
-use Rattle.file_pages.specs.Updating.{IsEdited}
-use Rattle.file_pages.specs.declared.changes.Edit.{Edit}
-use Rattle.directories.specs.Making.{MayBeMade}
-use Rattle.directories.specs.MakingOrder.{plan_edits}
-use Rattle.directories.specs.MakingRules.{DisjointNodes, may_after, may_begin, may_still, plan_change}
-use Rattle.directories.specs.Plans.{PlansDir, SameBlocks}
-use Rattle.directories.specs.RowChanges.{AddsRow}
-use Rattle.directories.specs.Rows.{HasRow}
-use Rattle.directories.specs.declared.changes.DirChange.{DirChange}
-use Rattle.rio_requests.specs.Answers.{new_region}
+use Rattle.directories.proofs.MakingRules.{DisjointNodes, may_after, may_begin, may_still}
+use Rattle.directories.specs.Plans.{SameBlocks}
 use Rattle.file_store.specs.Changes.{IsTouchedBy, node_update, of_dir}
 use Rattle.file_store.specs.NewRegions.{FitRegion, PlansRegion, new_held}
-use Rattle.file_store.specs.TreeRules.{tree_new}
+use Rattle.file_store.proofs.TreeRules.{tree_new}
 use Rattle.file_store.specs.declared.changes.NodeChange.{NodeChange}
 use Rattle.file_store.specs.declared.regions.RegionSizes.{RegionSizes}
 use Rattle.file_store.proofs.Fitting.{freed_above, freed_out}

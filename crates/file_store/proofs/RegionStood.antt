@@ -1,14 +1,6 @@
 -- A view that comes to stand on a region, by its inode.
-use Rattle.std.proofs.Common.{◌≡◌, ℕ, ◌*◌, ◌/◌, ◌%◌, ◌^◌, ◌<◌, ◌≤◌, sym, subst, arith}
-use Rattle.rio_base.specs.declared.places.VolumeShape.{VolumeShape}
-use Rattle.rio_base.specs.Blocks.{BlockWords, Seen}
-use Rattle.rio_base.specs.Volume.{Kept}
-use Rattle.rio_model.specs.Held.{held_of}
-use Rattle.rio_model.specs.Placed.{placed_at}
-use Rattle.rio_model.specs.VolumeReady.{Ready}
-use Rattle.rio_model.specs.VolumeRules.{IsMapped}
-use Rattle.inode_table.specs.declared.inode.Inode.{Inode}
-use Rattle.inode_table.specs.Inodes.{IsInode}
+use Rattle.file_store.proofs.Common.{◌≡◌, ℕ, ◌*◌, ◌/◌, ◌%◌, ◌<◌, ◌≤◌, sym, subst, arith, VolumeShape, BlockWords, Seen, Kept, held_of, placed_at, Ready, IsMapped, Inode, IsInode}
+use Rattle.std.proofs.Common.{◌^◌}
 use Rattle.file_store.specs.Views.{OnRegion}
 use Rattle.file_store.proofs.RegionHeader.{has_header, used_size}
 

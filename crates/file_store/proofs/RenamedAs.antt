@@ -1,30 +1,11 @@
 -- What a request that moves a name answers, by what its calls found.
-use Rattle.std.proofs.Common.{◌≡◌, ◌≢◌, ◌==◌, ◌&&◌, ◌||◌, ◌⊎◌, ℕ, ◌<◌, Bool, true, false, cond, List, [], ◌∷◌, refl, sym, ap, subst, ◌∙◌, arith, inl, inr}
-use Rattle.std.specs.Prelude.{Result, Ok, Err, length}
-use Rattle.std.specs.FinMap.{get}
-use Rattle.std.proofs.lemmas.Bool.Decides.{Decides-eqb}
-use Rattle.rio_base.specs.declared.places.Ino.{Ino}
-use Rattle.rio_base.specs.declared.places.VolumeShape.{VolumeShape}
-use Rattle.rio_base.specs.Blocks.{BlockWords, Seen}
-use Rattle.rio_base.specs.Volume.{Kept}
-use Rattle.rio_requests.specs.declared.plain.Answered.{Answered}
-use Rattle.rio_requests.specs.declared.reply.Reply.{Reply}
+use Rattle.file_store.proofs.Common.{◌≡◌, ◌≢◌, ◌==◌, ◌&&◌, ◌||◌, ◌⊎◌, ℕ, ◌<◌, Bool, true, false, cond, List, [], ◌∷◌, refl, sym, ap, subst, ◌∙◌, arith, inl, inr, Result, Ok, Err, get, Decides-eqb, Ino, VolumeShape, BlockWords, Seen, Kept, Answered, Reply, State, answered, at_inode, refused, front_of, last_of, held_of, is_dir, walk, walk_to_dir, volume_layout, ReadsAs, LeavesInUse, TreeRule, differs, IsInode, Inode, at_row, is_below, is_open, replaced}
+use Rattle.std.specs.Prelude.{length}
 use Rattle.rio_requests.specs.declared.reply.Reply.TheVariants.{Ok as Done}
-use Rattle.rio_model.specs.declared.state.State.{State}
-use Rattle.rio_requests.specs.Answer.{answered, at_inode, refused}
-use Rattle.rio_model.specs.States.{front_of, last_of}
-use Rattle.rio_model.specs.Held.{held_of}
-use Rattle.rio_model.specs.Paths.{is_dir, walk, walk_to_dir}
-use Rattle.rio_model.specs.Placed.{volume_layout}
-use Rattle.rio_model.specs.VolumeReads.{ReadsAs}
-use Rattle.rio_model.specs.VolumeReady.{LeavesInUse}
-use Rattle.rio_model.specs.VolumeRules.{TreeRule}
-use Rattle.rio_model.specs.WordRules.{differs}
-use Rattle.inode_table.specs.Inodes.{IsInode}
-use Rattle.inode_table.specs.declared.inode.Inode.{Inode}
-use Rattle.rio_requests.specs.Answers.{at_row, is_among, is_below, is_open, rename_at, rename_row, rename_to, replace_row, replaced}
+use Rattle.rio_requests.specs.Answers.{is_among, rename_at, rename_row, rename_to, replace_row}
 use Rattle.file_store.specs.Ends.{FileEnds}
-use Rattle.file_store.specs.WalkRules.{OutOfReach, out_of_reach, path_row, walk_last, walk_last_err}
+use Rattle.file_store.specs.WalkRules.{OutOfReach}
+use Rattle.file_store.proofs.WalkRules.{out_of_reach, path_row, walk_last, walk_last_err}
 use Rattle.file_store.specs.Walks.{Comes, RowComes}
 use Rattle.file_store.specs.declared.failures.FileFail.{FileFail}
 use Rattle.file_store.specs.declared.failures.FileFail.TheVariants.{Refused, Fault, Stopped, Memory}

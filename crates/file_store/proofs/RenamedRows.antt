@@ -1,41 +1,13 @@
 -- Rows that are given another name: what is answered, that the changes can be made, and the state that they come to. x and k
 -- are before the request, w and p, u and q, y and j after one call after the other that only prepares.
-use Rattle.std.proofs.Common.{◌≡◌, ◌≢◌, ℕ, ◌+◌, ◌<◌, ◌≤◌, false, cond, List, [], ◌∷◌, refl, sym, ap, subst, ◌∙◌, arith}
-use Rattle.std.specs.Prelude.{Result, Err, IsErrOf, length, nat_lt}
-use Rattle.std.proofs.lemmas.Bool.Decides.{nat_tests}
-use Rattle.rio_base.specs.declared.places.Block.{Block}
-use Rattle.rio_base.specs.declared.places.VolumeShape.{VolumeShape}
-use Rattle.rio_base.specs.Bitmap.{free_blocks}
-use Rattle.rio_base.specs.Blocks.{BlockWords, Seen}
-use Rattle.rio_base.specs.Layout.{IsIno}
-use Rattle.rio_base.specs.Volume.{Kept, Settled}
-use Rattle.block_alloc.specs.Bitmap.{numbers}
+use Rattle.file_store.proofs.Common.{◌≡◌, ◌≢◌, ℕ, ◌+◌, ◌<◌, ◌≤◌, false, cond, List, [], ◌∷◌, refl, sym, ap, subst, ◌∙◌, arith, Result, Err, IsErrOf, nat_lt, nat_tests, Block, VolumeShape, free_blocks, BlockWords, Seen, IsIno, Kept, Settled, numbers, State, answered, refused, Held, held_of, IsName, placed_at, volume_layout, free_count, held_of_agree, ReadsAs, LeavesInUse, Ready, TreeRule, differs, itself, wanted_blocks, node_blocks, leaves_trans, ready_left, SizeFail, NoSpace, TooLarge, PlansDir, AddsRow, RemovesRow, ReplacesRow, SetsRow, HasRow, IsEntry, DirChange, moved, replaced, row_wanted, with_room}
+use Rattle.std.specs.Prelude.{length}
 use Rattle.rio_requests.specs.declared.reply.Reply.TheVariants.{Ok as Done}
-use Rattle.rio_model.specs.declared.state.State.{State}
-use Rattle.rio_requests.specs.Answer.{answered, refused}
-use Rattle.rio_model.specs.Held.{Held, held_of}
-use Rattle.rio_model.specs.Paths.{IsName}
-use Rattle.rio_model.specs.Placed.{placed_at, volume_layout}
-use Rattle.rio_model.specs.Sizes.{free_count}
-use Rattle.rio_model.specs.VolumeReadRules.{held_of_agree}
-use Rattle.rio_model.specs.VolumeReads.{ReadsAs}
-use Rattle.rio_model.specs.VolumeReady.{LeavesInUse, Ready}
-use Rattle.rio_model.specs.VolumeRules.{TreeRule}
-use Rattle.rio_model.specs.WordRules.{differs, itself}
-use Rattle.file_pages.specs.Changes.{wanted_blocks}
-use Rattle.file_pages.specs.LookingUp.{node_blocks}
-use Rattle.file_pages.specs.OrderRules.{leaves_trans, ready_left}
-use Rattle.file_pages.specs.declared.failures.SizeFail.{SizeFail}
-use Rattle.file_pages.specs.declared.failures.SizeFail.TheVariants.{NoSpace, TooLarge}
-use Rattle.directories.specs.Plans.{PlansDir}
-use Rattle.directories.specs.RowChanges.{AddsRow, RemovesRow, ReplacesRow, SetsRow}
-use Rattle.directories.specs.Rows.{HasRow, IsEntry}
-use Rattle.directories.specs.declared.changes.DirChange.{DirChange}
-use Rattle.rio_requests.specs.Answers.{move_row, moved, replaced, row_wanted, with_room}
+use Rattle.rio_requests.specs.Answers.{move_row}
 use Rattle.file_store.specs.Changes.{IsGone, of_dir}
 use Rattle.file_store.specs.Failures.{fail_of_size}
-use Rattle.file_store.specs.ReadTrees.{rows_fit}
-use Rattle.file_store.specs.TreeRules.{tree_moved, tree_replaced}
+use Rattle.file_store.proofs.ReadTrees.{rows_fit}
+use Rattle.file_store.proofs.TreeRules.{tree_moved, tree_replaced}
 use Rattle.file_store.specs.WalkRules.{OutOfReach}
 use Rattle.file_store.specs.Walks.{IsRow}
 use Rattle.file_store.specs.declared.changes.NodeChange.{NodeChange}

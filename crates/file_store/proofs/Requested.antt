@@ -1,39 +1,13 @@
 -- A request of one update: what is known of it once all is prepared, that its changes can be made, and how it ends by how
 -- the call does that makes them. x and k are before the request, y and j when all is prepared, z and l after that call.
-use Rattle.std.proofs.Common.{◌≡◌, ℕ, ◌+◌, ◌<◌, ◌≤◌, true, List, [], ◌∷◌, map, zero, suc, refl, sym, ap, subst, ◌∙◌, arith, inl, inr}
-use Rattle.std.specs.Prelude.{Result, Ok, Err, None, length, IsErrOf}
-use Rattle.std.specs.List.{Contains}
-use Rattle.rio_base.specs.declared.failures.VolFail.{VolFail}
+use Rattle.file_store.proofs.Common.{◌≡◌, ℕ, ◌+◌, ◌<◌, ◌≤◌, true, List, [], ◌∷◌, map, zero, suc, refl, sym, ap, subst, ◌∙◌, arith, inl, inr, Result, Ok, Err, None, IsErrOf, Contains, VolFail, Block, VolumeShape, free_blocks, BlockWords, EndsBy, Health, Seen, IsIno, Kept, Settled, numbers, Answered, Reply, State, answered, Held, held_of, Slot, AtPage, AtTable, Placed, HasSlot, Owns, Agrees, placed_at, volume_layout, SameLayout, lays_agree, lays_same, lays_self, owned_below, owned_on, SamePlaced, ReadsAs, Bears, LeavesInUse, Ready, IsMapped, wanted_blocks, node_blocks, ready_left, InOrder, Edit, SizeFail, NoSpace, TooLarge, plan_edits, DirChange, row_wanted, with_room}
+use Rattle.std.specs.Prelude.{length}
 use Rattle.rio_base.specs.declared.failures.VolFail.TheVariants.{Fault as VolFault, Stopped as VolStopped}
-use Rattle.rio_base.specs.declared.places.Block.{Block}
-use Rattle.rio_base.specs.declared.places.VolumeShape.{VolumeShape}
-use Rattle.rio_base.specs.Bitmap.{free_blocks}
-use Rattle.rio_base.specs.Blocks.{BlockWords, EndsBy, Health, Seen}
-use Rattle.rio_base.specs.Layout.{IsIno}
-use Rattle.rio_base.specs.Rules.{ends_by_as}
-use Rattle.rio_base.specs.Volume.{Kept, Settled}
-use Rattle.block_alloc.specs.Bitmap.{numbers}
-use Rattle.rio_requests.specs.declared.plain.Answered.{Answered}
-use Rattle.rio_requests.specs.declared.reply.Reply.{Reply}
-use Rattle.rio_model.specs.declared.state.State.{State}
-use Rattle.rio_requests.specs.Answer.{answered}
-use Rattle.rio_model.specs.Held.{Held, held_of}
-use Rattle.rio_model.specs.Placed.{Slot, AtPage, AtTable, Placed, HasSlot, Owns, Agrees, placed_at, volume_layout}
-use Rattle.rio_model.specs.PlacedRules.{SameLayout, SamePlaced, lays_agree, lays_same, lays_self, owned_below, owned_on, owns_back}
-use Rattle.rio_model.specs.VolumeReads.{ReadsAs}
-use Rattle.rio_model.specs.VolumeReady.{Bears, LeavesInUse, Ready}
-use Rattle.rio_model.specs.VolumeRules.{IsMapped}
-use Rattle.file_pages.specs.Changes.{wanted_blocks}
-use Rattle.file_pages.specs.LookingUp.{node_blocks}
-use Rattle.file_pages.specs.OrderRules.{ready_left}
-use Rattle.file_pages.specs.Orders.{InOrder}
-use Rattle.file_pages.specs.declared.changes.Edit.{Edit}
-use Rattle.file_pages.specs.declared.failures.SizeFail.{SizeFail}
-use Rattle.file_pages.specs.declared.failures.SizeFail.TheVariants.{NoSpace, TooLarge, Fault as SizeFault, Stopped as SizeStopped, Memory as SizeMemory}
-use Rattle.directories.specs.MakingOrder.{plan_applies, plan_edits}
+use Rattle.rio_base.proofs.Rules.{ends_by_as}
+use Rattle.rio_model.proofs.PlacedRules.{owns_back}
+use Rattle.file_pages.specs.declared.failures.SizeFail.TheVariants.{Fault as SizeFault, Stopped as SizeStopped, Memory as SizeMemory}
+use Rattle.directories.proofs.MakingOrder.{plan_applies}
 use Rattle.directories.specs.Plans.{CanApply}
-use Rattle.directories.specs.declared.changes.DirChange.{DirChange}
-use Rattle.rio_requests.specs.Answers.{row_wanted, with_room}
 use Rattle.file_store.specs.Changes.{AllApplied, CanCommit, CanMakeNode, IsGone, IsMade, node_update, of_dir}
 use Rattle.file_store.specs.Committing.{Commits, Touched}
 use Rattle.file_store.specs.Ends.{FileEnds}

@@ -1,28 +1,8 @@
 -- Room for a row: blocks that are free, as the state counts them.
-use Rattle.std.proofs.Common.{◌≡◌, ℕ, ◌+◌, ◌-◌, ◌*◌, ◌%◌, ◌<◌, ◌≤◌, true, false, cond, sym, ap, subst, ◌∙◌, arith}
-use Rattle.std.specs.Prelude.{length, nat_lt}
-use Rattle.std.proofs.lemmas.Bool.Decides.{nat_tests}
-use Rattle.rio_base.specs.declared.places.VolumeShape.{VolumeShape}
-use Rattle.rio_base.specs.Bitmap.{free_blocks}
-use Rattle.rio_base.specs.Blocks.{BlockWords}
-use Rattle.rio_base.specs.Layout.{IsIno}
-use Rattle.rio_base.specs.Rules.{true_false}
-use Rattle.rio_requests.specs.declared.plain.Answered.{Answered}
-use Rattle.rio_model.specs.declared.state.State.{State}
-use Rattle.rio_requests.specs.Answer.{refused}
-use Rattle.rio_model.specs.States.{names_in}
-use Rattle.rio_model.specs.Held.{Held, held_of}
-use Rattle.rio_model.specs.HeldRules.{held_ino}
-use Rattle.rio_model.specs.Paths.{is_dir}
-use Rattle.rio_model.specs.Placed.{placed_at, volume_layout}
-use Rattle.rio_model.specs.Sizes.{blocks_for, free_count, largest_size}
-use Rattle.rio_model.specs.VolumeReadRules.{reads_dir}
-use Rattle.rio_model.specs.VolumeReads.{ReadsAs}
-use Rattle.rio_model.specs.VolumeRules.{IsMapped}
-use Rattle.rio_model.proofs.FreeByState.{free_by_state, names_counted}
-use Rattle.file_pages.specs.Changes.{wanted_blocks}
-use Rattle.rio_requests.specs.Answers.{row_wanted, with_room}
-use Rattle.file_store.specs.ReadTrees.{ino_of, names_few}
+use Rattle.file_store.proofs.Common.{◌≡◌, ℕ, ◌+◌, ◌-◌, ◌*◌, ◌%◌, ◌<◌, ◌≤◌, true, false, cond, sym, ap, subst, ◌∙◌, arith, nat_lt, nat_tests, VolumeShape, free_blocks, BlockWords, IsIno, true_false, Answered, State, refused, names_in, Held, held_of, held_ino, is_dir, placed_at, volume_layout, blocks_for, free_count, largest_size, reads_dir, ReadsAs, IsMapped, free_by_state, wanted_blocks, row_wanted, with_room}
+use Rattle.std.specs.Prelude.{length}
+use Rattle.rio_model.proofs.FreeByState.{names_counted}
+use Rattle.file_store.proofs.ReadTrees.{ino_of, names_few}
 use Rattle.file_store.proofs.Reached.{kind_held}
 
 -- an inode that a kind is held of

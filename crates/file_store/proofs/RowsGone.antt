@@ -1,29 +1,8 @@
 -- A row and its node removed in one update: that the changes can be made, and the state that they come to.
-use Rattle.std.proofs.Common.{◌≡◌, ◌≢◌, ℕ, ◌<◌, List, [], ◌∷◌, arith, refl, sym, ap, subst, ◌∙◌}
-use Rattle.std.specs.Prelude.{Some}
-use Rattle.std.specs.FinMap.{get}
-use Rattle.rio_base.specs.declared.places.Block.{Block}
-use Rattle.rio_base.specs.declared.places.VolumeShape.{VolumeShape}
-use Rattle.rio_base.specs.Blocks.{BlockWords, Seen}
-use Rattle.rio_base.specs.Volume.{Kept, Settled}
-use Rattle.block_alloc.specs.Bitmap.{numbers}
-use Rattle.rio_model.specs.declared.state.State.{State}
-use Rattle.rio_model.specs.Held.{Held, held_of}
-use Rattle.rio_model.specs.Placed.{placed_at, volume_layout}
-use Rattle.rio_model.specs.VolumeReadRules.{held_of_agree}
-use Rattle.rio_model.specs.VolumeReads.{ReadsAs}
-use Rattle.rio_model.specs.VolumeReady.{LeavesInUse, Ready}
-use Rattle.rio_model.specs.VolumeRules.{TreeRule}
-use Rattle.file_pages.specs.LookingUp.{node_blocks}
-use Rattle.file_pages.specs.OrderRules.{leaves_trans, ready_left}
-use Rattle.directories.specs.Plans.{PlansDir}
-use Rattle.directories.specs.RowChanges.{RemovesRow}
-use Rattle.directories.specs.Rows.{IsEntry}
-use Rattle.directories.specs.declared.changes.DirChange.{DirChange}
-use Rattle.rio_requests.specs.Answers.{without}
+use Rattle.file_store.proofs.Common.{◌≡◌, ◌≢◌, ℕ, ◌<◌, List, [], ◌∷◌, arith, refl, sym, ap, subst, ◌∙◌, Some, get, Block, VolumeShape, BlockWords, Seen, Kept, Settled, numbers, State, Held, held_of, placed_at, volume_layout, held_of_agree, ReadsAs, LeavesInUse, Ready, TreeRule, node_blocks, leaves_trans, ready_left, PlansDir, RemovesRow, IsEntry, DirChange, without}
 use Rattle.file_store.specs.Changes.{IsGone, of_dir}
-use Rattle.file_store.specs.RowReads.{bare_names, by_each, sound_of}
-use Rattle.file_store.specs.TreeRules.{tree_without}
+use Rattle.file_store.proofs.RowReads.{bare_names, by_each, sound_of}
+use Rattle.file_store.proofs.TreeRules.{tree_without}
 use Rattle.file_store.specs.declared.changes.NodeChange.{NodeChange}
 use Rattle.file_store.proofs.LookedAt.{row_read, used_ino}
 use Rattle.file_store.proofs.Reached.{kind_held, less_removed, reaches_gone}

@@ -1,11 +1,10 @@
 -- How a run of stores ends, told from its last part.
-use Rattle.std.proofs.Common.{◌≡◌, ℕ, ◌≤◌, subst}
-use Rattle.std.specs.Prelude.{Err, Ok, OnOk, Result}
+use Rattle.file_store.proofs.Common.{◌≡◌, ℕ, ◌≤◌, subst, Err, Ok, OnOk, Result, Health}
 use Rattle.rio_base.specs.declared.failures.RunFail.{RunFail}
 use Rattle.rio_base.specs.declared.failures.RunFail.TheVariants.{Fault as RunFault, Stopped as RunStopped}
 use Rattle.rio_base.specs.declared.failures.VolFail.TheVariants.{Fault as VolFault, Stopped as VolStopped}
-use Rattle.rio_base.specs.BlockRules.{ends_later}
-use Rattle.rio_base.specs.Blocks.{Ends, FaultAt, Health, as_word}
+use Rattle.rio_base.proofs.BlockRules.{ends_later}
+use Rattle.rio_base.specs.Blocks.{Ends, FaultAt, as_word}
 
 -- where it ended well, and where with a fault
 pub ok_as : {T E : Type 0} (answer : Result T E) (p q : Type 0) → (p → q) → OnOk answer p → OnOk answer q

@@ -1,33 +1,18 @@
 -- Several changes of nodes in one update: the blocks that are touched, the changes that are made one after the other, and
 -- the blocks that are dropped.
-use Rattle.std.proofs.Common.{◌≡◌, ◌≢◌, ℕ, zero, suc, ◌+◌, ◌<◌, ◌≤◌, ◌⊎◌, Bool, inl, inr, true, false, List, [], ◌∷◌, length, map, drop, refl, sym, ap, subst, ◌∙◌, arith, slice_index_or}
-use Rattle.std.specs.Prelude.{slice_index, if◌then◌else◌, Option, None, Result, Ok, Err, IsErr, IsErrOf}
-use Rattle.std.specs.List.{Contains}
-use Rattle.std.proofs.lemmas.Bool.{cases_eq}
+use Rattle.file_store.proofs.Common.{◌≡◌, ◌≢◌, ℕ, zero, suc, ◌+◌, ◌<◌, ◌≤◌, ◌⊎◌, Bool, inl, inr, true, false, List, [], ◌∷◌, length, map, drop, refl, sym, ap, subst, ◌∙◌, arith, slice_index_or, slice_index, None, Result, Ok, Err, IsErrOf, Contains, cases_eq, VolFail, Block, PageName, VolumeShape, CachesBy, FirmOutside, SameOutside, caches_by_trans, firm_outside_trans, BlockWords, Caches, Drops, Seen, inode_block, true_false, HasShape, Firm, Kept, numbers, Applied, IsEdited, Edit, as_many, number_at, InThreeBlocks}
+use Rattle.std.specs.Prelude.{if◌then◌else◌, Option, IsErr}
 use Rattle.std.proofs.lemmas.List.{get_or_default, get_or-map}
 use Rattle.std.proofs.Math.Seq.{drop-cons}
-use Rattle.rio_base.specs.declared.failures.VolFail.{VolFail}
 use Rattle.rio_base.specs.declared.failures.VolFail.TheVariants.{Fault, Stopped}
-use Rattle.rio_base.specs.declared.places.Block.{Block}
-use Rattle.rio_base.specs.declared.places.PageName.{PageName}
-use Rattle.rio_base.specs.declared.places.VolumeShape.{VolumeShape}
-use Rattle.rio_base.specs.BlockRules.{shape_dropped}
-use Rattle.rio_base.specs.BlockSets.{CachesBy, FirmOutside, SameOutside, caches_by_drops, caches_by_one, caches_by_trans, caches_by_wider, firm_outside_all, firm_outside_refl, firm_outside_trans, same_outside_refl}
-use Rattle.rio_base.specs.Blocks.{BlockWords, Caches, Drops, Seen}
-use Rattle.rio_base.specs.Layout.{inode_block}
-use Rattle.rio_base.specs.Rules.{true_false}
-use Rattle.rio_base.specs.Shapes.{HasShape}
-use Rattle.rio_base.specs.Volume.{Firm, HasRoom, Kept, SameUpdate, Touches}
-use Rattle.block_alloc.specs.Bitmap.{numbers}
-use Rattle.rio_model.specs.Updates.{Applied}
-use Rattle.file_pages.specs.Updating.{IsEdited, IsTouched, IsUpdated}
-use Rattle.file_pages.specs.declared.changes.Edit.{Edit}
-use Rattle.file_pages.proofs.Listed.{as_many, listed, number_at}
+use Rattle.rio_base.proofs.BlockRules.{shape_dropped}
+use Rattle.rio_base.proofs.BlockSets.{caches_by_drops, caches_by_one, caches_by_wider, firm_outside_all, firm_outside_refl, same_outside_refl}
+use Rattle.rio_base.specs.Volume.{HasRoom, SameUpdate, Touches}
+use Rattle.file_pages.specs.Updating.{IsTouched, IsUpdated, CanUpdate}
+use Rattle.file_pages.proofs.Listed.{listed}
 use Rattle.file_pages.proofs.Updated.{touched_now, touched_still, unnamed_on, updated_edits, updated_inode}
-use Rattle.directories.specs.Plans.{InThreeBlocks}
 use Rattle.file_store.specs.Changes.{AllApplied, AllTouched, CanMakeNode, CanCommit, IsEditOf, IsFreed, IsTouchedBy, MakesFit, edited_blocks, node_update}
 use Rattle.file_pages.specs.Changes.{node_update as one_update}
-use Rattle.file_pages.specs.Updating.{CanUpdate}
 use Rattle.file_store.specs.Committing.{Commits, Makes, Touched}
 use Rattle.file_store.specs.declared.changes.NodeChange.{NodeChange}
 

@@ -1,23 +1,8 @@
 -- What is told of the node at a path, by its inode and the bytes that were counted.
-use Rattle.std.proofs.Common.{◌≡◌, ◌≢◌, ℕ, ◌*◌, ◌<◌, ◌⊎◌, List, sym, ap, ◌∙◌, arith, inl, inr}
-use Rattle.std.specs.Prelude.{Result, Ok, length}
-use Rattle.std.specs.FinMap.{get}
-use Rattle.std.proofs.lemmas.Bool.{cases_eq}
-use Rattle.rio_base.specs.declared.places.VolumeShape.{VolumeShape}
-use Rattle.rio_base.specs.Blocks.{BlockWords}
-use Rattle.rio_base.specs.Layout.{IsIno}
+use Rattle.file_store.proofs.Common.{◌≡◌, ◌≢◌, ℕ, ◌*◌, ◌<◌, ◌⊎◌, List, sym, ap, ◌∙◌, arith, inl, inr, Result, Ok, get, cases_eq, VolumeShape, BlockWords, IsIno, State, answered, at_inode, names_in, Held, held_bytes, held_of, names_of, walk, data_pages, reads_dir, reads_file, reads_region, ReadsAs, node_in, region_in, Inode, IsInode, length-map-range_with_len}
+use Rattle.std.specs.Prelude.{length}
 use Rattle.rio_requests.specs.declared.reply.Reply.TheVariants.{Stat}
-use Rattle.rio_model.specs.declared.state.State.{State}
-use Rattle.rio_requests.specs.Answer.{answered, at_inode}
-use Rattle.rio_model.specs.States.{names_in}
-use Rattle.rio_model.specs.Held.{Held, byte_in, held_bytes, held_of}
-use Rattle.rio_model.specs.Paths.{names_of, walk}
-use Rattle.rio_model.specs.Sizes.{data_pages}
-use Rattle.rio_model.specs.VolumeReadRules.{reads_dir, reads_file, reads_region}
-use Rattle.rio_model.specs.VolumeReads.{ReadsAs, node_in, region_in}
-use Rattle.inode_table.specs.declared.inode.Inode.{Inode}
-use Rattle.inode_table.specs.Inodes.{IsInode}
-use Rattle.std.proofs.lemmas.List.FromFn.{length-map-range_with_len}
+use Rattle.rio_model.specs.Held.{byte_in}
 use Rattle.rio_requests.specs.Answers.{stat, stat_node}
 use Rattle.file_store.proofs.LookedAt.{file_left, inode_kind_held, used_ino}
 use Rattle.file_store.proofs.Reached.{kind_held}

@@ -1,39 +1,20 @@
 -- Changes of nodes made one after the other in one update: what each makes of its node, and that names of cached pages stay
 -- right from one to the next.
-use Rattle.std.proofs.Common.{◌≡◌, ◌≢◌, ℕ, ◌*◌, ◌<◌, ◌≤◌, ◌⊎◌, Bool, true, false, List, [], Option, None, refl, sym, ap, subst, ◌∙◌, arith, inl, inr}
-use Rattle.std.specs.Prelude.{◌&&◌, ◌%◌, cond, map, nat_lt}
-use Rattle.std.proofs.lemmas.Bool.Decides.{nat_tests}
-use Rattle.rio_base.specs.declared.places.Block.{Block}
-use Rattle.rio_model.specs.Held.{Held, held, held_of}
-use Rattle.rio_model.specs.HeldRules.{same_held}
-use Rattle.rio_model.specs.NodeChangeRules.{held_here, held_there, lays_replaced, node_there}
+use Rattle.file_store.proofs.Common.{◌≡◌, ◌≢◌, ℕ, ◌*◌, ◌<◌, ◌≤◌, ◌⊎◌, Bool, true, false, List, [], Option, refl, sym, ap, subst, ◌∙◌, arith, inl, inr, nat_lt, nat_tests, Block, Held, held, held_of, same_held, MayBeMade, plan_change, PlansDir, dir_update, DirChange, AllByRecursion, Contains, PageName, VolumeShape, CachesBy, BlockWords, Seen, IsIno, HasShape, reserved, Kept, numbers, Available, Change, Slot, AtPage, AtTable, Placed, HasSlot, Layout, volume_layout, placed_at, Owns, IsFree, lays_same, lays_self, lies_self, node_fits, SamePlaced, Applied, AllNamed, Bears, NamedNode, IsMapped, NodeFits, InOrder, IsEdited}
+use Rattle.std.proofs.Common.{None}
+use Rattle.std.specs.Prelude.{◌&&◌, ◌%◌, cond, map}
+use Rattle.rio_model.proofs.NodeChangeRules.{held_here, held_there, lays_replaced, node_there}
 use Rattle.file_pages.specs.Changes.{word_edit}
-use Rattle.directories.specs.Making.{MayBeMade}
-use Rattle.directories.specs.MakingRules.{plan_change, plan_made}
-use Rattle.directories.specs.Plans.{PlansDir, dir_update}
-use Rattle.directories.specs.declared.changes.DirChange.{DirChange}
-use Rattle.std.specs.List.{AllByRecursion, Contains}
-use Rattle.rio_base.specs.declared.places.PageName.{PageName}
-use Rattle.rio_base.specs.declared.places.VolumeShape.{VolumeShape}
-use Rattle.rio_base.specs.BlockSets.{CachesBy, caches_by_refl}
-use Rattle.rio_base.specs.Blocks.{BlockWords, Seen}
-use Rattle.rio_base.specs.Layout.{IsIno}
+use Rattle.directories.proofs.MakingRules.{plan_made}
+use Rattle.rio_base.proofs.BlockSets.{caches_by_refl}
 use Rattle.rio_base.specs.Rules.{firm_refl}
-use Rattle.rio_base.specs.Shapes.{HasShape, reserved}
-use Rattle.rio_base.specs.Volume.{Kept}
-use Rattle.block_alloc.specs.Bitmap.{numbers}
 use Rattle.inode_table.specs.Inodes.{inode_words}
-use Rattle.rio_model.specs.NodeChanges.{Available, Change}
-use Rattle.rio_model.specs.Placed.{Slot, AtPage, AtTable, Placed, HasSlot, Layout, volume_layout, with_placed, placed_at, Owns, IsFree}
-use Rattle.rio_model.specs.PlacedRules.{SamePlaced, lays_same, lays_self, lies_self, node_fits}
-use Rattle.rio_model.specs.UpdateRules.{turned, turned_bits}
-use Rattle.rio_model.specs.Updates.{Applied, EditsNode, Turns, Update}
-use Rattle.rio_model.specs.VolumeReady.{AllNamed, Bears, NamedNode}
-use Rattle.rio_model.specs.VolumeRules.{IsLaid, IsMapped, NodeFits}
-use Rattle.file_pages.specs.OrderRules.{order_changed}
-use Rattle.file_pages.specs.Orders.{InOrder}
-use Rattle.file_pages.specs.Updating.{IsEdited}
-use Rattle.file_store.specs.EmptyHeld.{empty_held}
+use Rattle.rio_model.proofs.PlacedRules.{with_placed}
+use Rattle.rio_model.proofs.UpdateRules.{turned, turned_bits}
+use Rattle.rio_model.specs.Updates.{EditsNode, Turns, Update}
+use Rattle.rio_model.specs.VolumeRules.{IsLaid}
+use Rattle.file_pages.proofs.OrderRules.{order_changed}
+use Rattle.file_store.proofs.EmptyHeld.{empty_held}
 use Rattle.file_store.specs.Changes.{IsGone, IsMade, node_update}
 use Rattle.file_store.specs.declared.changes.NodeChange.{NodeChange}
 

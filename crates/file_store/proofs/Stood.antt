@@ -1,29 +1,9 @@
 -- A plan of a directory as it stands when all of a request is prepared, and the change that it is once the update is made.
-use Rattle.std.proofs.Common.{◌≡◌, ℕ, ◌<◌, ◌≤◌, ◌⊎◌, true, false, List, [], Option, None, Some, refl, sym, ap, subst, ◌∙◌, arith, inl, inr}
-use Rattle.std.specs.Prelude.{cond, nat_lt, take}
-use Rattle.std.specs.List.{Contains}
-use Rattle.rio_base.specs.declared.places.PageName.{PageName}
-use Rattle.rio_base.specs.declared.places.VolumeShape.{VolumeShape}
-use Rattle.rio_base.specs.BlockSets.{CachesBy}
-use Rattle.rio_base.specs.Blocks.{BlockWords, Seen}
-use Rattle.rio_base.specs.Layout.{IsIno}
-use Rattle.rio_base.specs.Volume.{Kept}
-use Rattle.rio_model.specs.Held.{Held, held_of}
-use Rattle.rio_model.specs.NodeChanges.{Available}
-use Rattle.rio_model.specs.Placed.{Slot, AtPage, AtTable, Placed, HasSlot, placed_at, volume_layout, IsFree}
-use Rattle.rio_model.specs.PlacedRules.{cases_lt, has_same}
-use Rattle.rio_model.specs.Sizes.{pages, tables}
-use Rattle.rio_model.specs.Updates.{Applied}
-use Rattle.rio_model.specs.VolumeReady.{Bears, LeavesInUse, NamedNode, Ready}
-use Rattle.rio_model.specs.VolumeRules.{IsMapped}
-use Rattle.file_pages.specs.Changes.{wanted_blocks}
-use Rattle.file_pages.specs.Orders.{InOrder}
-use Rattle.file_pages.specs.Updating.{IsEdited}
-use Rattle.directories.specs.Making.{MayBeMade}
-use Rattle.directories.specs.MakingRules.{may_after, may_begin}
-use Rattle.directories.specs.Plans.{PlansDir, dir_update}
-use Rattle.directories.specs.declared.changes.DirChange.{DirChange}
-use Rattle.directories.specs.MakingOrder.{plan_edits}
+use Rattle.file_store.proofs.Common.{◌≡◌, ℕ, ◌<◌, ◌≤◌, ◌⊎◌, true, false, List, [], Option, refl, sym, ap, subst, ◌∙◌, arith, inl, inr, nat_lt, Contains, PageName, VolumeShape, CachesBy, BlockWords, Seen, IsIno, Kept, Held, held_of, Available, Slot, AtPage, AtTable, Placed, HasSlot, placed_at, volume_layout, IsFree, cases_lt, has_same, pages, Applied, Bears, LeavesInUse, NamedNode, Ready, IsMapped, wanted_blocks, InOrder, IsEdited, MayBeMade, PlansDir, dir_update, DirChange, plan_edits}
+use Rattle.std.proofs.Common.{None, Some}
+use Rattle.std.specs.Prelude.{cond, take}
+use Rattle.rio_model.specs.Sizes.{tables}
+use Rattle.directories.proofs.MakingRules.{may_after, may_begin}
 use Rattle.file_store.proofs.Steps.{MayBeMetadata, Steps, dir_step}
 
 -- x is the volume before the request, y and j are it when all is prepared

@@ -1,15 +1,6 @@
 -- How requests of the tests end: another may follow, or the volume is started again.
-use Rattle.std.proofs.Common.{◌≡◌, ℕ, arith}
-use Rattle.std.specs.Prelude.{Result, Ok, Err, IsErrOf, OnOk, None}
-use Rattle.rio_base.specs.declared.places.VolumeShape.{VolumeShape}
-use Rattle.rio_base.specs.Blocks.{Caches, Health, Looks, Seen}
-use Rattle.rio_base.specs.Volume.{Below, Kept, Passes}
-use Rattle.rio_requests.specs.declared.plain.Answered.{Answered}
-use Rattle.rio_requests.specs.declared.reply.Reply.{Reply}
-use Rattle.rio_model.specs.declared.state.State.{State}
-use Rattle.rio_model.specs.VolumeReads.{ReadsAs}
-use Rattle.file_pages.specs.LookingUpRules.{can_look_up, looked_low}
-use Rattle.file_pages.specs.OrderRules.{leaves_looked}
+use Rattle.file_store.proofs.Common.{◌≡◌, ℕ, arith, Result, Ok, Err, IsErrOf, OnOk, None, VolumeShape, Caches, Health, Looks, Seen, Below, Kept, Passes, Answered, Reply, State, ReadsAs, can_look_up, leaves_looked}
+use Rattle.file_pages.proofs.LookingUpRules.{looked_low}
 use Rattle.file_store.specs.Ends.{CanServe, FileEnds}
 use Rattle.file_store.specs.TestVolumes.{CanStart}
 use Rattle.file_store.specs.declared.failures.FileFail.{FileFail}

@@ -1,9 +1,7 @@
 -- Paths that are looked through name by name.
-use Rattle.std.proofs.Common.{◌≡◌, ℕ, zero, suc, ◌+◌, ◌-◌, ◌<◌, ◌≤◌, List, [], ◌∷◌, ◌++◌, length, take, drop, refl, sym, ap, ◌∙◌, arith, append-nil, inr}
-use Rattle.std.specs.Prelude.{All, slice_index}
-use Rattle.std.proofs.lemmas.List.{drop_more, length-append, take_all}
+use Rattle.file_store.proofs.Common.{◌≡◌, ℕ, zero, suc, ◌+◌, ◌-◌, ◌<◌, ◌≤◌, List, [], ◌∷◌, ◌++◌, length, take, drop, refl, sym, ap, ◌∙◌, arith, append-nil, inr, All, slice_index, drop_more, length-append, IsName, IsPath, slashed}
+use Rattle.std.proofs.lemmas.List.{take_all}
 use Rattle.std.proofs.lemmas.List.Elements.{All-append, All-cons, All-nil}
-use Rattle.rio_model.specs.Paths.{IsName, IsPath, slashed}
 use Rattle.file_store.proofs.PathNames.{slashed_append}
 
 -- the first `at` bytes are so many names, with a slash before each

@@ -1,30 +1,16 @@
 -- A region of the tests: a file of whole pages whose inode says another kind; and a volume that is started again.
-use Rattle.std.proofs.Common.{◌≡◌, ◌≢◌, ℕ, ◌+◌, ◌-◌, ◌/◌, ◌%◌, ◌<◌, ◌≤◌, ◌*◌, Bool, true, false, [], cond, refl, sym, ap, subst, ◌∙◌, arith, inl, inr}
+use Rattle.file_store.proofs.Common.{◌≡◌, ◌≢◌, ℕ, ◌+◌, ◌-◌, ◌/◌, ◌%◌, ◌<◌, ◌≤◌, ◌*◌, Bool, true, false, [], cond, refl, sym, ap, subst, ◌∙◌, arith, inl, inr, bit_at, Contains, ListVolume, VolumeShape, used_bit, BlockWords, IsIno, inode_block, inode_kind, ListSound, list_kept, list_seen, true_false, Firm, put, held_of, Change, Slot, AtPage, AtTable, HasSlot, Placed, placed_at, volume_layout, cases_lt, inode_low, lies_self, node_fits, Ready, IsMapped, NodeFits, ready_order, InOrder, Edit, Inode, IsInode}
 use Rattle.std.specs.Prelude.{Option}
 use Rattle.std.specs.Global.{Vec}
-use Rattle.std.specs.Int.{bit_at}
-use Rattle.std.specs.List.{Contains}
-use Rattle.rio_fakes.specs.declared.list_volume.ListVolume.{ListVolume}
-use Rattle.rio_base.specs.declared.places.VolumeShape.{VolumeShape}
-use Rattle.rio_base.specs.Bitmap.{bitmap_block, used_bit}
-use Rattle.rio_base.specs.Blocks.{BlockWords}
-use Rattle.rio_base.specs.Layout.{IsIno, half, inode_block, inode_kind, inode_place, inode_word}
-use Rattle.rio_fakes.specs.ListVolumes.{IsRestarted, ListSound, flat, list_kept, list_seen, mark_of}
-use Rattle.rio_base.specs.Rules.{true_false}
+use Rattle.rio_base.specs.Bitmap.{bitmap_block}
+use Rattle.rio_base.specs.Layout.{half, inode_place, inode_word}
+use Rattle.rio_fakes.specs.ListVolumes.{IsRestarted, flat, mark_of}
 use Rattle.rio_base.specs.Shapes.{IsShape}
-use Rattle.rio_base.specs.Volume.{Firm, put}
-use Rattle.rio_model.specs.Held.{held_of}
-use Rattle.rio_model.specs.NodeChanges.{Change}
-use Rattle.rio_model.specs.Placed.{Slot, AtPage, AtTable, HasSlot, Lies, Placed, placed_at, volume_layout}
-use Rattle.rio_model.specs.PlacedRules.{cases_lt, direct_of, first_table, inode_low, later_of, lies_of, lies_self, node_fits, table_of}
-use Rattle.rio_model.specs.VolumeReady.{Firmly, Ready}
-use Rattle.rio_model.specs.VolumeRules.{IsMapped, NodeFits}
-use Rattle.rio_model.specs.WordRules.{put_beside, put_here, put_other}
-use Rattle.file_pages.specs.OrderRules.{order_changed, order_ready, ready_order}
-use Rattle.file_pages.specs.Orders.{InOrder}
-use Rattle.file_pages.specs.declared.changes.Edit.{Edit}
-use Rattle.inode_table.specs.declared.inode.Inode.{Inode}
-use Rattle.inode_table.specs.Inodes.{IsInode}
+use Rattle.rio_model.specs.Placed.{Lies}
+use Rattle.rio_model.proofs.PlacedRules.{direct_of, first_table, later_of, lies_of, table_of}
+use Rattle.rio_model.specs.VolumeReady.{Firmly}
+use Rattle.rio_model.proofs.WordRules.{put_beside, put_here, put_other}
+use Rattle.file_pages.proofs.OrderRules.{order_changed, order_ready}
 use Rattle.file_store.specs.Views.{OnRegion}
 use Rattle.file_store.proofs.Reached.{kind_held}
 

@@ -1,17 +1,6 @@
 -- Calls that only look: the volume can serve as before, and a request that ends there left everything as it was.
-use Rattle.std.proofs.Common.{◌≡◌, ℕ, refl, sym, ap, subst, ◌∙◌, inl}
-use Rattle.std.specs.Prelude.{Ok, Err, Some}
-use Rattle.rio_base.specs.declared.places.VolumeShape.{VolumeShape}
-use Rattle.rio_base.specs.Blocks.{BlockWords, Health, Looks, Seen}
-use Rattle.rio_base.specs.Shapes.{HasShape}
-use Rattle.rio_base.specs.Volume.{Below, Kept, Passes, Settled}
-use Rattle.rio_requests.specs.declared.plain.Answered.{Answered}
-use Rattle.rio_requests.specs.declared.reply.Reply.{Reply}
-use Rattle.rio_model.specs.declared.state.State.{State}
-use Rattle.rio_model.specs.Placed.{volume_layout}
-use Rattle.rio_model.specs.VolumeReads.{ReadsAs}
-use Rattle.rio_model.specs.VolumeReady.{AllNamed, LeavesInUse, Ready}
-use Rattle.file_pages.specs.OrderRules.{agrees_trans, firm_on, ready_left}
+use Rattle.file_store.proofs.Common.{◌≡◌, ℕ, refl, sym, ap, subst, ◌∙◌, inl, Ok, Err, Some, VolumeShape, BlockWords, Health, Looks, Seen, HasShape, Below, Kept, Passes, Settled, Answered, Reply, State, volume_layout, ReadsAs, AllNamed, LeavesInUse, Ready, firm_on, ready_left}
+use Rattle.file_pages.proofs.OrderRules.{agrees_trans}
 use Rattle.file_store.specs.Ends.{CanServe, FileEnds}
 use Rattle.file_store.specs.declared.failures.FileFail.TheVariants.{Fault, Stopped}
 use Rattle.file_store.proofs.Ended.{left_planned, stands_planned}

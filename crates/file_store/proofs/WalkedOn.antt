@@ -1,10 +1,6 @@
 -- A walk along the bytes of a path, a name at a time.
-use Rattle.std.proofs.Common.{◌≡◌, ℕ, ◌+◌, ◌-◌, ◌<◌, ◌≤◌, ◌⊎◌, List, [], ◌∷◌, length, take, drop, ap, ◌∙◌}
-use Rattle.std.specs.Prelude.{Result, Ok, Err, slice_index}
-use Rattle.rio_base.specs.declared.places.Ino.{Ino}
-use Rattle.rio_base.specs.Pieces.{Lacks, pieces}
-use Rattle.rio_model.specs.declared.state.State.{State}
-use Rattle.rio_model.specs.Paths.{walk}
+use Rattle.file_store.proofs.Common.{◌≡◌, ℕ, ◌+◌, ◌-◌, ◌<◌, ◌≤◌, ◌⊎◌, List, [], ◌∷◌, length, take, drop, ap, ◌∙◌, Result, Ok, Err, slice_index, Ino, pieces, State, walk}
+use Rattle.rio_base.specs.Pieces.{Lacks}
 use Rattle.file_store.specs.declared.failures.FileFail.{FileFail}
 use Rattle.file_store.specs.Walks.{Comes}
 use Rattle.file_store.proofs.LookedAt.{comes_on, comes_same, walk_next}

@@ -1,12 +1,12 @@
 -- A view of the words of one region's file: where it stands, and what calls on it leave of all that is no word of the region.
-use Rattle.std.proofs.Common.{◌≡◌, ◌≢◌, ℕ, ◌+◌, ◌*◌, ◌/◌, ◌^◌, ◌<◌, ◌≤◌, true, cond, refl, sym, ap, subst, ◌∙◌, arith}
+use Rattle.std.proofs.Common.{◌≡◌, ◌≢◌, ℕ, ◌*◌, ◌/◌, ◌^◌, ◌<◌, ◌≤◌, true, cond, refl, sym, ap, subst, ◌∙◌, arith}
 use Rattle.std.specs.Prelude.{nat_lt}
 use Rattle.std.proofs.lemmas.Bool.Decides.{nat_tests}
 use Rattle.rio_base.specs.declared.places.Ino.{Ino}
 use Rattle.rio_base.specs.declared.places.PageName.{PageName}
 use Rattle.rio_base.specs.declared.places.VolumeShape.{VolumeShape}
 use Rattle.rio_base.specs.Blocks.{BlockWords, Seen}
-use Rattle.rio_base.specs.Layout.{IsIno, half, inode_word}
+use Rattle.rio_base.specs.Layout.{IsIno, inode_word}
 use Rattle.rio_base.specs.Volume.{Kept}
 use Rattle.rio_model.specs.Held.{Held, held, held_of}
 use Rattle.rio_model.specs.HeldRules.{held_ino}
@@ -66,10 +66,6 @@ rest_trans shape i f g h a b = record {
   inode = λ w few. b.inode w few ∙ a.inode w few;
 }
 
--- nothing reads otherwise
-pub rest_same : (shape : VolumeShape) (i : ℕ) (f g : BlockWords) → g ≡ f → RestHeld shape i f g
-rest_same shape i f g same = subst (RestHeld shape i f) (sym same) (rest_refl shape i f)
-
 pub beside_refl : (s : VolumeShape) (i : Ino) (m : ℕ) (f : BlockWords) → SameBeside s i m f s i m f
 beside_refl s i m f = record { shape = refl; ino = refl; count = refl; rest = rest_refl s i.0 f }
 
@@ -79,20 +75,6 @@ beside_trans s i m f t j n g u k o h a b = record {
   ino = b.ino ∙ a.ino;
   count = b.count ∙ a.count;
   rest = rest_trans s i.0 f g h a.rest (subst (λ (q : Ino). RestHeld s q.0 g h) a.ino (subst (λ (q : VolumeShape). RestHeld q j.0 g h) a.shape b.rest));
-}
-
--- a view that stood on a region stands on it still, where only words of it differ
-pub on_still : (shape : VolumeShape) (x : Seen) (k : Kept) (y : Seen) (j : Kept) (i words : ℕ) → OnRegion shape x k i words → Ready shape y j → RestHeld shape i x.words y.words → OnRegion shape y j i words
-on_still shape x k y j i words h ready rest = record { ready = ready; ino = h.ino; region = rest.kind ∙ h.region; size = rest.size ∙ h.size }
-
--- and its inode says what it said
-pub inode_still : (shape : VolumeShape) (i : ℕ) (f g : BlockWords) (n : Inode) → IsInode f i n → RestHeld shape i f g → IsInode g i n
-inode_still shape i f g n is rest = record {
-  kind = is.kind ∙ sym (rest.inode 0 (omega arith));
-  size = is.size ∙ sym (rest.inode 1 (omega arith));
-  direct = λ p few. is.direct p few ∙ sym (ap (λ w. half w p) (rest.inode (2 + p / 2) (omega (arith, few))));
-  indirect = is.indirect ∙ sym (ap (λ w. half w 0) (rest.inode 14 (omega arith)));
-  double = is.double ∙ sym (ap (λ w. half w 0) (rest.inode 15 (omega arith)));
 }
 
 -- a region has few words

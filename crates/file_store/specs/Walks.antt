@@ -43,10 +43,6 @@ pub record IsRow (shape : VolumeShape) (f : BlockWords) (name : List ℕ) (row :
   pub dir : (held_of shape f row.dir.0).kind ≡ 1
   pub entry : IsEntry (held_of shape f row.dir.0) row.slot name row.ino.0
 
--- the kind of a node
-abbrev pub kind_of : VolumeShape → BlockWords → ℕ → ℕ
-kind_of shape f i = (held_of shape f i).kind
-
 -- the file at the end of a walk: 5 where a directory is there, 7 where a region is
 abbrev pub FileComes : State → Result ℕ ℕ → Result Ino FileFail → Type 0
 FileComes s walked (Ok i) = walked ≡ Ok i.0

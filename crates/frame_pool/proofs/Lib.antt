@@ -1,9 +1,10 @@
-pub mod Times
 pub mod Chains
-pub mod Moves
-pub mod Ranges
 pub mod Counts
-pub mod Standing
-pub mod Holding
 pub mod Fresh
+pub mod Holding
+pub mod Moves
+pub mod PoolLaws
+pub mod Ranges
+pub mod Standing
+pub mod Times
 pub mod Victims

@@ -11,7 +11,8 @@ use Rattle.std.specs.List.{range_with_len}
 use Rattle.image_codec.specs.Image.{fresh_image_word, fresh_image_words}
 use Rattle.rio_base.specs.Image.{entry_at, image_magic, image_pages, registry_pages}
 use Rattle.rio_base.specs.declared.places.VolumeShape.{VolumeShape}
-use Rattle.rio_base.specs.Bitmap.{bitmap_block, first_bitmap, used_bit}
+use Rattle.rio_base.specs.Bitmap.{bitmap_block, used_bit}
+use Rattle.rio_base.proofs.Bitmap.{first_bitmap}
 use Rattle.rio_base.specs.Layout.{HasSuperblock, volume_magic}
 use Rattle.rio_base.specs.Shapes.{more_bitmap, reserved}
 use Rattle.byteorder.specs.Endian.{little_bytes}

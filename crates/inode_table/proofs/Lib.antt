@@ -1,3 +1,4 @@
+pub mod InodeRules
 pub mod Numbers
-pub mod Used
 pub mod Stored
+pub mod Used

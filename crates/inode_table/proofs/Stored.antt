@@ -5,7 +5,7 @@ use Rattle.rio_base.specs.Layout.{inode_block, inode_place}
 use Rattle.rio_base.specs.Volume.{Kept, OldOrPut, OldOrRun, SameUpdate, put, put_run}
 use Rattle.inode_table.specs.declared.inode.Inode.{Inode}
 use Rattle.inode_table.specs.Inodes.{inode_words}
-use Rattle.inode_table.specs.InodeRules.{stored_word}
+use Rattle.inode_table.proofs.InodeRules.{stored_word}
 use Rattle.rio_base.proofs.VolumeRuns.{put_next}
 
 pub run_on : (f g h : BlockWords) (b w n v : ℕ) (words : List ℕ) → g ≡ put_run f b w n words → v ≡ slice_index words n → h ≡ put g b (w + n) v → h ≡ put_run f b w (n + 1) words

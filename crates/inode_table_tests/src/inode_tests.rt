@@ -45,7 +45,7 @@ fn zeros(alloc: Global, stop_after: Option<u64>) -> Result<ListVolume, Fail>
 }
 
 /// Stores inode `i` by an update of its own.
-#[tactic(auto, using(inode_table::specs::InodeRules::stored_kind))]
+#[tactic(auto, using(inode_table::proofs::InodeRules::stored_kind))]
 fn store<V: Volume>(v: &mut V, i: Ino, inode: &Inode) -> Result<(), VolFail>
     requires sound { V.sound v.old }
     requires shape { HasShape SHAPE (V.seen v.old) }

@@ -7,7 +7,8 @@ use Rattle.rio_base.specs.Rules.{true_false}
 use Rattle.image_codec.specs.Image.{IsImage}
 use Rattle.rio_model.specs.Cover.{entry_of_block}
 use Rattle.rio_model.specs.CoverLookups.{found_is}
-use Rattle.rio_model.specs.Registry.{HasLayout, IsValid, KeepsRegistry, frames_of, gate_of, is_valid, layout_of, tag_at}
+use Rattle.rio_model.specs.Registry.{HasLayout, IsValid, KeepsRegistry, frames_of, gate_of, is_valid, tag_at}
+use Rattle.rio_model.proofs.RegistryRules.{layout_of}
 use Rattle.page_cache.specs.Caches.{IsFresh, cache_seen}
 use Rattle.page_cache.specs.declared.tables.CacheTables.{CacheTables}
 use Rattle.machine_tests.specs.Blanks.{IsBlank}

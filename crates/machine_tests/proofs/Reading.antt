@@ -9,7 +9,8 @@ use Rattle.rio_base.specs.Disks.{block_at}
 use Rattle.rio_base.specs.Image.{entry_at, registry_pages}
 use Rattle.rio_base.specs.Memory.{FrontStored, page_at}
 use Rattle.rio_model.specs.Cover.{entry_of_block, frame_page, holds, last_of}
-use Rattle.rio_model.specs.CoverChanges.{place_bare, place_cases, place_shadow}
+use Rattle.rio_model.specs.CoverChanges.{place_bare}
+use Rattle.rio_model.proofs.CoverChanges.{place_cases, place_shadow}
 use Rattle.rio_model.specs.CoverLookups.{cover_at, cover_home, found_is}
 use Rattle.rio_model.specs.Registry.{frames_of, gate_of, page_of_entry, shadow_at}
 use Rattle.machine_tests.specs.Covers.{AreBlocks, InLimits, PutsBlock, blocks_by, page_by}

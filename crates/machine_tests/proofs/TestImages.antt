@@ -5,7 +5,8 @@ use Rattle.rio_base.specs.Image.{AreImageSizes, entry_at, image_pages, registry_
 use Rattle.rio_base.specs.Machine.{Contents, Running}
 use Rattle.rio_base.specs.Rules.{true_false}
 use Rattle.image_codec.specs.Image.{IsImage}
-use Rattle.rio_model.specs.Registry.{frames_of, is_valid, layout_of, tag_at, tag_of, without_dirty}
+use Rattle.rio_model.specs.Registry.{frames_of, is_valid, tag_at, tag_of, without_dirty}
+use Rattle.rio_model.proofs.RegistryRules.{layout_of}
 use Rattle.registry.specs.Changes.{CanChange}
 use Rattle.registry.specs.Entries.{IsFree}
 

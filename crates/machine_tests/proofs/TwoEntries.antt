@@ -5,9 +5,10 @@ use Rattle.rio_base.specs.Image.{AreImageSizes, HasHeader, registry_pages}
 use Rattle.rio_base.specs.Machine.{Contents, Running}
 use Rattle.rio_base.specs.Rules.{true_false}
 use Rattle.rio_model.specs.Cover.{Coherent, Keeps, SameNames, frame_page}
-use Rattle.rio_model.specs.CoverChanges.{SameEntries, frame_behind, header_same, one_page_set, same_entries, tag_same}
-use Rattle.rio_model.specs.CoverFills.{puts_frame}
-use Rattle.rio_model.specs.CoverSteps.{coherent_on, layout_is}
+use Rattle.rio_model.specs.CoverChanges.{SameEntries}
+use Rattle.rio_model.proofs.CoverChanges.{frame_behind, header_same, one_page_set, same_entries, tag_same}
+use Rattle.rio_model.proofs.CoverFills.{puts_frame}
+use Rattle.rio_model.proofs.CoverSteps.{coherent_on, layout_is}
 use Rattle.rio_model.specs.Registry.{HasLayout, IsValid, KeepsRegistry, frames_of, gate_of, is_data, is_dirty, is_valid, scratch_of, shadow_at, tag_at, tag_block, tag_of}
 use Rattle.shadow_pages.specs.Updates.{AreEntries, ListsShadows}
 use Rattle.machine_tests.specs.TwoEntries.{HasTwo}

@@ -4,7 +4,7 @@ use Rattle.std.proofs.Common.{◌∙◌, sym, subst, arith, inl, inr}
 use Rattle.std.proofs.lemmas.Bool.{cases_eq, lt-ltb}
 use Rattle.rio_base.specs.declared.places.PageName.{PageName}
 use Rattle.rio_base.specs.Blocks.{Caches, CanName, Drops, Health, InRange, IsPlace, IsSpan, Looks, SamePage, Seen}
-use Rattle.rio_base.specs.BlockRules.{can_name_on, can_name_stored}
+use Rattle.rio_base.proofs.BlockRules.{can_name_on, can_name_stored}
 use Rattle.rio_base.specs.Volume.{Below, CachesStored, Kept, Passes, SameUpdate}
 use Rattle.machine_tests.specs.Walks.{Walks, walk_name}
 

@@ -6,16 +6,20 @@ use Rattle.std.proofs.lemmas.List.{length-set}
 use Rattle.std.specs.Int.{bit_at}
 use Rattle.rio_base.specs.declared.places.PageName.{PageName}
 use Rattle.rio_base.specs.declared.places.VolumeShape.{VolumeShape}
-use Rattle.rio_base.specs.Bitmap.{first_bitmap, used_bit}
+use Rattle.rio_base.proofs.Bitmap.{first_bitmap}
+use Rattle.rio_base.specs.Bitmap.{used_bit}
 use Rattle.rio_base.specs.Disks.{block_at, is_pending}
 use Rattle.rio_base.specs.Image.{registry_pages}
 use Rattle.rio_base.specs.Machine.{Contents}
 use Rattle.rio_base.specs.Rules.{true_false}
-use Rattle.rio_model.specs.Cover.{Coherent, MayLeave, Named, Sound, dirty_entry, entry_of_block, frame_page, has_dirty, home_word, is_loose, name_at, name_in, reads, stands, stands_on}
-use Rattle.rio_model.specs.CoverChanges.{place_bare, place_shadow}
-use Rattle.rio_model.specs.CoverLookups.{cover_at, cover_home, found_at, found_free, found_is}
+use Rattle.rio_model.specs.Cover.{Coherent, MayLeave, dirty_entry, entry_of_block, frame_page, has_dirty, home_word, is_loose, name_at, name_in, reads, stands, stands_on}
+use Rattle.rio_model.proofs.Cover.{Named, Sound}
+use Rattle.rio_model.specs.CoverChanges.{place_bare}
+use Rattle.rio_model.proofs.CoverChanges.{place_shadow}
+use Rattle.rio_model.specs.CoverLookups.{cover_at, cover_home, found_is}
+use Rattle.rio_model.proofs.CoverLookups.{found_at, found_free}
 use Rattle.rio_model.specs.Registry.{BlockRule, IsValid, file_at, frames_of, gate_of, index_at, is_data, is_dirty, is_valid, page_of_entry, shadow_at, size_at, tag_at, tag_block, tag_of}
-use Rattle.machine_tests.specs.WorkedPair.{IsPair}
+use Rattle.machine_tests.proofs.WorkedPairLaws.{IsPair}
 use Rattle.machine_tests.proofs.TestImages.{valid_tag}
 
 -- ---- the entries

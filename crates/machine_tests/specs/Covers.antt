@@ -1,10 +1,8 @@
 -- What a plain reader of a memory and its disk is to find: which page it takes of an entry, and blocks as one list.
 use Rattle.std.specs.Prelude.{◌≡◌, ℕ, ◌+◌, ◌*◌, ◌<◌, ◌≤◌, Bool, true, false, List, length, slice_index}
-use Rattle.std.proofs.Common.{arith}
 use Rattle.rio_base.specs.Blocks.{BlockWords}
 use Rattle.rio_base.specs.Image.{registry_pages}
-use Rattle.rio_base.specs.Machine.{Contents}
-use Rattle.rio_model.specs.Cover.{Coherent, cover_by, frame_page}
+use Rattle.rio_model.specs.Cover.{cover_by, frame_page}
 use Rattle.rio_model.specs.Registry.{IsValid, frames_of, page_of_entry, shadow_at}
 
 -- a memory within its limits: it has no more frames than there can be, no shadow page behind the last, and words up to
@@ -33,11 +31,3 @@ pub record PutsBlock (blocks : BlockWords) (b : ℕ) (old new : List ℕ) : Type
   pub here : (w : ℕ) → w < 512 → slice_index new (512 * b + w) ≡ blocks b w
   pub below : (i : ℕ) → i < 512 * b → slice_index new i ≡ slice_index old i
   pub above : (i : ℕ) → 512 * b + 512 ≤ i → slice_index new i ≡ slice_index old i
-
--- a machine's memory is within them
-pub coherent_in_limits : (c : Contents) (n : ℕ) → Coherent c n → InLimits c.words
-coherent_in_limits c n h = record {
-  frames = h.sizes.most_frames;
-  shadows = λ k v. (h.rules.shadows k v.within).most v.valid;
-  pages = omega (arith, h.protected);
-}

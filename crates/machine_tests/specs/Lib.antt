@@ -3,4 +3,3 @@ pub mod Covers
 pub mod Ready
 pub mod TwoEntries
 pub mod Walks
-pub mod WorkedPair

@@ -1,18 +1,13 @@
 -- A word of a touched block is stored.
-use Rattle.std.specs.Prelude.{◌≡◌, ◌≢◌, ℕ, ◌+◌, ◌*◌, ◌<◌, ◌≤◌, ◌==◌, ◌&&◌, not, Bool, true, false, if◌then◌else◌, List, length, slice_set, Option, Some, None, refl}
-use Rattle.std.proofs.Common.{◌∙◌, ap, sym, subst, arith}
+use Rattle.page_cache.proofs.Common.{◌≡◌, ◌≢◌, ℕ, ◌+◌, ◌*◌, ◌<◌, ◌≤◌, ◌==◌, ◌&&◌, not, Bool, true, false, if◌then◌else◌, List, length, slice_set, Option, Some, None, refl, ◌∙◌, ap, sym, subst, arith, Contents, none_some, true_false, Coherent, SameNames, entry_of_block, stands, SameEntries, entry_same, header_same, same_entries, tag_same, frame_past, found_at, found_is, IsValid, frames_of, gate_of, is_dirty, is_valid, shadow_at, tag_at, tag_block, block_of, frames_in}
 use Rattle.std.proofs.lemmas.Bool.{and_parts, eqb-true}
 use Rattle.rio_base.specs.Image.{registry_pages}
-use Rattle.rio_base.specs.Machine.{Contents}
-use Rattle.rio_base.specs.Rules.{none_some, true_false}
 use Rattle.rio_base.specs.Volume.{SameUpdate}
-use Rattle.rio_model.specs.Cover.{Coherent, SameNames, entry_of_block, frame_page, stands}
-use Rattle.rio_model.specs.CoverChanges.{SameEntries, entry_same, frame_behind, header_same, one_page_set, same_entries, tag_same}
-use Rattle.rio_model.specs.CoverFills.{Puts, frame_past, puts_frame}
-use Rattle.rio_model.specs.CoverLookups.{found_at, found_is}
-use Rattle.rio_model.specs.CoverStands.{found_named}
-use Rattle.rio_model.specs.Registry.{IsValid, frames_of, gate_of, is_dirty, is_valid, shadow_at, tag_at, tag_block}
-use Rattle.frame_pool.specs.Pools.{block_of, frames_in}
+use Rattle.rio_model.specs.Cover.{frame_page}
+use Rattle.rio_model.proofs.CoverChanges.{frame_behind, one_page_set}
+use Rattle.rio_model.specs.CoverFills.{Puts}
+use Rattle.rio_model.proofs.CoverFills.{puts_frame}
+use Rattle.rio_model.proofs.CoverStands.{found_named}
 use Rattle.shadow_pages.specs.Updates.{SameShadows}
 use Rattle.page_cache.specs.declared.tables.CacheTables.{CacheTables}
 use Rattle.page_cache.specs.Caches.{CacheSound, cache_kept, has_shadow, is_touched}

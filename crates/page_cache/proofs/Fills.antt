@@ -1,20 +1,11 @@
 -- A frame is filled and becomes a block's.
-use Rattle.std.specs.Prelude.{◌≡◌, ℕ, ◌*◌, ◌%◌, ◌^◌, ◌<◌, ◌≤◌, Bool, true, false, List, length, Option, Some, None, refl}
-use Rattle.std.proofs.Common.{◌∙◌, ap, sym, subst, arith}
-use Rattle.std.proofs.lemmas.Bool.{eq-eqb, ne_eqb}
-use Rattle.rio_base.specs.declared.places.PageName.{PageName}
-use Rattle.rio_base.specs.Blocks.{InRange}
-use Rattle.rio_base.specs.Disks.{FaultCount, is_pending}
-use Rattle.rio_base.specs.Machine.{Contents}
-use Rattle.rio_base.specs.Memory.{FrontStored}
-use Rattle.rio_base.specs.Rules.{true_false}
-use Rattle.rio_model.specs.Registry.{HasLayout, KeepsMetadata, KeepsName, KeepsShadow, KeepsSize, KeepsTag, OneEntry, frames_of, is_data, is_dirty, is_valid, tag_at, tag_block, tag_of}
-use Rattle.registry.specs.Entries.{IsFree, entry_of, new_entry}
-use Rattle.registry.specs.declared.entry.Entry.{Entry}
-use Rattle.rio_model.specs.CoverChanges.{OnePage, same_entries, tag_same}
-use Rattle.rio_model.specs.Cover.{Keeps, Coherent, frame_page}
-use Rattle.rio_model.specs.CoverFills.{Made, frame_past}
-use Rattle.rio_model.specs.CoverSteps.{keeps_marks, layout_is}
+use Rattle.page_cache.proofs.Common.{◌≡◌, ℕ, ◌*◌, ◌<◌, ◌≤◌, Bool, true, false, List, length, Option, Some, None, refl, ◌∙◌, ap, sym, subst, arith, eq-eqb, ne_eqb, PageName, InRange, is_pending, Contents, FrontStored, true_false, OneEntry, frames_of, is_data, is_dirty, is_valid, tag_at, tag_block, tag_of, entry_of, new_entry, Entry, OnePage, same_entries, tag_same, Keeps, Coherent, Made, frame_past}
+use Rattle.std.specs.Prelude.{◌%◌, ◌^◌}
+use Rattle.rio_base.specs.Disks.{FaultCount}
+use Rattle.rio_model.specs.Registry.{HasLayout, KeepsMetadata, KeepsName, KeepsShadow, KeepsSize, KeepsTag}
+use Rattle.registry.specs.Entries.{IsFree}
+use Rattle.rio_model.specs.Cover.{frame_page}
+use Rattle.rio_model.proofs.CoverSteps.{keeps_marks, layout_is}
 
 pub page_from_run : (p n : ℕ) (from old new : List ℕ) → n ≤ 512 → FrontStored (512 * p) n from old new → OnePage p old new
 page_from_run p n from old new most h = record { count = h.count; below = h.below; above = λ i more. h.above i (omega (arith, more, most)) }

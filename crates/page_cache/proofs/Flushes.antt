@@ -1,9 +1,5 @@
 -- A cache after a flush: entries say of their pages what they said.
-use Rattle.std.specs.Prelude.{◌≡◌, ◌≢◌, ℕ, ◌<◌, ◌==◌, Bool, false, None, refl}
-use Rattle.std.proofs.Common.{◌∙◌, sym, subst, arith}
-use Rattle.rio_base.specs.Machine.{Contents, Lasts}
-use Rattle.rio_model.specs.Cover.{Coherent, HeldEntry, Keeps, entry_block}
-use Rattle.rio_model.specs.Registry.{IsValid, frames_of, gate_of}
+use Rattle.page_cache.proofs.Common.{◌≡◌, ◌≢◌, ℕ, ◌<◌, ◌==◌, Bool, false, None, refl, ◌∙◌, sym, subst, arith, Contents, Lasts, Coherent, HeldEntry, Keeps, entry_block, IsValid, frames_of, gate_of}
 use Rattle.page_cache.specs.declared.tables.CacheTables.{CacheTables}
 use Rattle.page_cache.specs.Caches.{CacheSound}
 use Rattle.page_cache.proofs.Kept.{sizes_keep, sound_stays, tables_same}

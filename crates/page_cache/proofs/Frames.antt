@@ -1,13 +1,10 @@
 -- Words of a block's frame, as they are read.
-use Rattle.std.specs.Prelude.{◌≡◌, ℕ, ◌+◌, ◌*◌, ◌<◌, ◌≤◌, List, length, slice_index, take, drop, Some}
-use Rattle.std.proofs.Common.{◌∙◌, ap, sym, subst, arith}
+use Rattle.page_cache.proofs.Common.{◌≡◌, ℕ, ◌+◌, ◌*◌, ◌<◌, ◌≤◌, List, length, slice_index, Some, ◌∙◌, ap, sym, subst, arith, BlockWords, Contents, frames_of, Keeps, entry_of_block, reads, cover_at}
+use Rattle.std.specs.Prelude.{take, drop}
 use Rattle.std.proofs.lemmas.List.{get_or-take, get_or-drop, length-drop, length-take-le}
-use Rattle.rio_base.specs.Blocks.{BlockWords, IsRun}
-use Rattle.rio_base.specs.Machine.{Contents}
+use Rattle.rio_base.specs.Blocks.{IsRun}
 use Rattle.rio_base.specs.Memory.{page_at}
-use Rattle.rio_model.specs.Registry.{frames_of}
-use Rattle.rio_model.specs.Cover.{Keeps, entry_of_block, frame_page, reads}
-use Rattle.rio_model.specs.CoverLookups.{cover_at}
+use Rattle.rio_model.specs.Cover.{frame_page}
 use Rattle.page_cache.specs.declared.tables.CacheTables.{CacheTables}
 use Rattle.page_cache.specs.Caches.{CacheSound}
 

@@ -1,25 +1,18 @@
 -- A block's entry is cleared without a write, and a block is marked as forgotten.
-use Rattle.std.specs.Prelude.{◌≡◌, ◌≢◌, ℕ, ◌<◌, ◌==◌, ◌||◌, Bool, true, false, if◌then◌else◌, ◌⊎◌, length, slice_index_or, slice_set, Some, None, Result, Ok, Err, IsErr, refl}
-use Rattle.std.proofs.Common.{◌∙◌, ap, sym, subst, inl, inr, arith, get_or-set_same, get_or-set_other}
-use Rattle.std.proofs.lemmas.Bool.{cases_Bool}
-use Rattle.std.proofs.lemmas.List.{length-set}
+use Rattle.page_cache.proofs.Common.{◌≡◌, ◌≢◌, ℕ, ◌<◌, ◌==◌, ◌||◌, Bool, true, false, if◌then◌else◌, ◌⊎◌, length, slice_index_or, slice_set, Some, None, refl, ◌∙◌, ap, sym, subst, inl, inr, arith, cases_Bool, length-set, BlockWords, is_pending, Contents, Lasts, Running, StepEnds, Steps, true_false, Goes, IsValid, OneEntry, gate_of, is_dirty, is_valid, tag_at, tag_block, Coherent, Narrows, cover_by, entry_of_block, reads, stands, found_is, header_one, tag_one, found_other, frame_word_one, coherent_on, coherent_one, disk_same, pending_same, block_of, is_pinned, stands_idle}
+use Rattle.std.specs.Prelude.{Result, Ok, Err, IsErr}
+use Rattle.std.proofs.Common.{get_or-set_same, get_or-set_other}
 use Rattle.rio_base.specs.declared.failures.Stopped.{Stopped}
-use Rattle.rio_base.specs.Blocks.{BlockWords, Halts}
-use Rattle.rio_base.specs.Disks.{is_pending}
-use Rattle.rio_base.specs.Machine.{Contents, Lasts, Running, StepEnds, Steps}
-use Rattle.rio_base.specs.Rules.{true_false}
-use Rattle.rio_base.specs.Volume.{FirmBut, Goes, SameBut}
-use Rattle.rio_model.specs.Registry.{IsValid, OneEntry, gate_of, is_dirty, is_valid, tag_at, tag_block}
-use Rattle.rio_model.specs.RegistryRules.{registry_one}
-use Rattle.rio_model.specs.Cover.{Coherent, Narrows, cover_by, entry_of_block, frame_page, has_dirty, is_loose, reads, stands}
-use Rattle.rio_model.specs.CoverLookups.{cover_same, found_is, header_one, tag_one}
-use Rattle.rio_model.specs.CoverChanges.{found_cleared, found_other, frame_word_one}
-use Rattle.rio_model.specs.CoverSteps.{coherent_on, coherent_one, dirty_of, dirty_some, disk_same, loose_from, loose_parts, pending_same}
+use Rattle.rio_base.specs.Blocks.{Halts}
+use Rattle.rio_base.specs.Volume.{FirmBut, SameBut}
+use Rattle.rio_model.proofs.RegistryRules.{registry_one}
+use Rattle.rio_model.specs.Cover.{frame_page, has_dirty, is_loose}
+use Rattle.rio_model.specs.CoverLookups.{cover_same}
+use Rattle.rio_model.proofs.CoverChanges.{found_cleared}
+use Rattle.rio_model.proofs.CoverSteps.{dirty_of, dirty_some, loose_from, loose_parts}
 use Rattle.registry.specs.Changes.{CanChange}
-use Rattle.frame_pool.specs.Pools.{block_of, is_pinned}
 use Rattle.page_cache.specs.declared.tables.CacheTables.{CacheTables}
 use Rattle.page_cache.specs.Caches.{CacheSound, FewWrites, SameTables, cache_below, cache_health, cache_kept, was_forgotten}
-use Rattle.rio_model.specs.CoverStands.{stands_idle}
 use Rattle.page_cache.specs.Stores.{Frees, Marks}
 use Rattle.page_cache.proofs.Kept.{TablesStay, bound_one, shadows_gone, sound_stays}
 use Rattle.page_cache.proofs.Settling.{loose_by, not_one}

@@ -1,15 +1,12 @@
 -- What the machine's rules are for the volume.
-use Rattle.std.specs.Prelude.{◌≡◌, ℕ, ◌*◌, ◌/◌, ◌≤◌, nat_lt, not, Bool, true, false, ◌⊎◌, length, Some, Result, Ok, Err, IsErrOf, refl}
-use Rattle.std.proofs.Common.{◌∙◌, ap, sym, inl, inr, arith}
+use Rattle.page_cache.proofs.Common.{◌≡◌, ℕ, ◌*◌, ◌/◌, ◌≤◌, not, Bool, true, false, ◌⊎◌, length, Some, refl, ◌∙◌, ap, sym, inl, inr, arith, Stopped, Contents, Lasts, Running, StepEnds, Steps, ends_after, steps_trans, true_false, Goes, frames_of}
+use Rattle.std.specs.Prelude.{nat_lt, Result, Ok, Err, IsErrOf}
 use Rattle.std.proofs.lemmas.Bool.{ltb-false, lt-ltb}
 use Rattle.rio_base.specs.declared.failures.VolFail.{VolFail}
-use Rattle.rio_base.specs.declared.failures.VolFail.TheVariants.{Fault, Stopped}
+use Rattle.rio_base.specs.declared.failures.VolFail.TheVariants.{Fault}
 use Rattle.rio_base.specs.Blocks.{Ends}
-use Rattle.rio_base.specs.Machine.{Contents, FaultCause, Lasts, Running, StepEnds, Steps, StopReason}
-use Rattle.rio_base.specs.MachineRules.{ends_after, steps_trans}
-use Rattle.rio_base.specs.Rules.{true_false}
-use Rattle.rio_base.specs.Volume.{Goes, Quiet, Runs, StopCause}
-use Rattle.rio_model.specs.Registry.{frames_of}
+use Rattle.rio_base.specs.Machine.{FaultCause, StopReason}
+use Rattle.rio_base.specs.Volume.{Quiet, Runs, StopCause}
 use Rattle.page_cache.specs.Caches.{FewWrites, cache_below, cache_causes, cache_health}
 
 cause_by : (r s : Running) (a b : Bool) → r.stopped ≡ a → s.stopped ≡ b → Steps r s → StopCause (cache_causes r) (cache_causes s) a b

@@ -1,17 +1,7 @@
 -- What holds between calls is kept, where entries and tables change a little.
-use Rattle.std.specs.Prelude.{◌≡◌, ◌≢◌, ℕ, ◌<◌, ◌≤◌, Bool, true, false, if◌then◌else◌, ◌⊎◌, List, length, slice_index, Option, Some, None, refl}
-use Rattle.std.proofs.Common.{◌∙◌, ap, sym, subst, inl, inr, arith}
-use Rattle.std.proofs.lemmas.Bool.{cases_eq}
-use Rattle.rio_base.specs.Machine.{Contents, Lasts}
-use Rattle.rio_base.specs.Rules.{true_false}
-use Rattle.rio_model.specs.Registry.{IsValid, OneEntry, frames_of, gate_of, is_dirty, is_valid, shadow_at, tag_at, tag_block}
-use Rattle.rio_model.specs.Cover.{Coherent, HeldEntry, IsBare, Keeps, entry_block}
-use Rattle.rio_model.specs.CoverChanges.{SameEntries, entry_same, tag_same}
-use Rattle.rio_model.specs.CoverLookups.{entry_one, frames_one, tag_one}
-use Rattle.rio_model.specs.CoverFills.{valid_same}
-use Rattle.rio_model.specs.RegistryRules.{valid_moved}
-use Rattle.frame_pool.specs.declared.frame_pool.FramePool.{FramePool}
-use Rattle.frame_pool.specs.Pools.{block_of, blocks_in, frames_in, is_pinned, pins_in}
+use Rattle.page_cache.proofs.Common.{◌≡◌, ◌≢◌, ℕ, ◌<◌, ◌≤◌, Bool, true, false, if◌then◌else◌, ◌⊎◌, List, length, slice_index, Option, Some, None, refl, ◌∙◌, ap, sym, subst, inl, inr, arith, cases_eq, Contents, Lasts, true_false, IsValid, OneEntry, frames_of, gate_of, is_dirty, is_valid, shadow_at, tag_at, tag_block, Coherent, HeldEntry, IsBare, Keeps, entry_block, SameEntries, entry_same, tag_same, entry_one, frames_one, tag_one, valid_moved, FramePool, block_of, frames_in, is_pinned, pins_in}
+use Rattle.rio_model.proofs.CoverFills.{valid_same}
+use Rattle.frame_pool.specs.Pools.{blocks_in}
 use Rattle.page_cache.specs.declared.tables.CacheTables.{CacheTables}
 use Rattle.page_cache.specs.Caches.{CacheSound, IsListed, SameTables}
 

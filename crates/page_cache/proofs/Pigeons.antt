@@ -1,7 +1,6 @@
 -- Different numbers below m are at most m.
-use Rattle.std.specs.Prelude.{◌≡◌, ◌≢◌, ℕ, zero, suc, ◌<◌, ◌≤◌, ◌⊎◌, if◌then◌else◌, ◌==◌, refl}
-use Rattle.std.proofs.Common.{◌∙◌, sym, subst, inl, inr, arith}
-use Rattle.std.proofs.lemmas.Bool.{cases_eq, eq-eqb, ne_eqb}
+use Rattle.page_cache.proofs.Common.{◌≡◌, ◌≢◌, ℕ, suc, ◌<◌, ◌≤◌, ◌⊎◌, if◌then◌else◌, ◌==◌, refl, ◌∙◌, sym, subst, inl, inr, arith, cases_eq, eq-eqb, ne_eqb}
+use Rattle.std.specs.Prelude.{zero}
 
 -- what f gives of n numbers is below m, and different
 pub record Different (f : ℕ → ℕ) (n m : ℕ) : Type 0 where

@@ -1,12 +1,7 @@
 -- Frames that are no longer pinned, and counts of pins.
-use Rattle.std.specs.Prelude.{◌≡◌, ◌≢◌, ℕ, zero, suc, ◌<◌, ◌≤◌, Bool, true, false, ◌⊎◌, slice_index, refl}
-use Rattle.std.proofs.Common.{inl, inr}
-use Rattle.std.proofs.lemmas.Bool.{cases_Bool}
-use Rattle.rio_base.specs.Machine.{Contents}
-use Rattle.rio_model.specs.Registry.{gate_of}
-use Rattle.frame_pool.specs.declared.frame_pool.FramePool.{FramePool}
+use Rattle.page_cache.proofs.Common.{◌≡◌, ◌≢◌, ℕ, suc, ◌<◌, ◌≤◌, Bool, true, false, ◌⊎◌, slice_index, refl, inl, inr, cases_Bool, Contents, gate_of, FramePool, frames_in, is_pinned, pins_in}
+use Rattle.std.specs.Prelude.{zero}
 use Rattle.frame_pool.specs.Orders.{count_below}
-use Rattle.frame_pool.specs.Pools.{frames_in, is_pinned, pins_in}
 use Rattle.page_cache.specs.declared.tables.CacheTables.{CacheTables}
 use Rattle.page_cache.specs.Caches.{CacheSound}
 use Rattle.page_cache.specs.Updating.{SameButPins}

@@ -1,24 +1,12 @@
 -- Entries that go and entries that come, and the tables beside them.
-use Rattle.std.specs.Prelude.{◌≡◌, ◌≢◌, ℕ, ◌+◌, ◌*◌, ◌<◌, ◌==◌, ◌||◌, Bool, true, false, if◌then◌else◌, ◌⊎◌, List, length, slice_index, Option, Some, None, is_some, refl}
-use Rattle.std.proofs.Common.{◌∙◌, ap, sym, subst, inl, inr, arith}
-use Rattle.std.proofs.lemmas.Bool.{cases_eq, eq-eqb, ne_eqb}
-use Rattle.rio_base.specs.declared.places.PageName.{PageName}
-use Rattle.rio_base.specs.Blocks.{BlockWords, Caches, Looks}
+use Rattle.page_cache.proofs.Common.{◌≡◌, ◌≢◌, ℕ, ◌+◌, ◌*◌, ◌<◌, ◌==◌, ◌||◌, Bool, true, false, if◌then◌else◌, ◌⊎◌, List, length, slice_index, Option, Some, None, is_some, refl, ◌∙◌, ap, sym, subst, inl, inr, arith, cases_eq, eq-eqb, ne_eqb, PageName, BlockWords, Contents, Lasts, Running, Steps, lasts_trans, none_some, true_false, Firm, BlockRule, IsValid, OneEntry, frames_of, gate_of, is_data, is_dirty, is_valid, shadow_at, tag_at, tag_block, tag_of, Coherent, HeldEntry, IsBare, Keeps, Narrows, entry_of_block, name_in, reads, OnePage, SameEntries, found_kept, found_other, frame_entries, same_entries, tag_same, Made, frame_past, cover_at, found_is, found_at, tag_one, coherent_on, valid_moved, entry_of, new_entry, Entry, block_of, frames_in}
+use Rattle.rio_base.specs.Blocks.{Caches, Looks}
 use Rattle.rio_base.specs.Disks.{block_at}
-use Rattle.rio_base.specs.Machine.{Contents, Lasts, Running, Steps}
-use Rattle.rio_base.specs.MachineRules.{lasts_trans}
-use Rattle.rio_base.specs.Rules.{none_some, true_false}
-use Rattle.rio_base.specs.Volume.{Firm, Passes}
-use Rattle.rio_model.specs.Registry.{BlockRule, IsValid, OneEntry, frames_of, gate_of, is_data, is_dirty, is_valid, shadow_at, tag_at, tag_block, tag_of}
-use Rattle.rio_model.specs.Cover.{Coherent, HeldEntry, IsBare, Keeps, Narrows, entry_of_block, frame_page, home_word, is_loose, name_in, reads}
-use Rattle.rio_model.specs.CoverChanges.{OnePage, SameEntries, found_kept, found_other, frame_entries, same_entries, tag_same}
-use Rattle.rio_model.specs.CoverFills.{Made, frame_past, is_valid_made}
-use Rattle.rio_model.specs.CoverLookups.{cover_at, found_at, found_free, found_is, found_none, tag_one}
-use Rattle.rio_model.specs.CoverSteps.{coherent_on, keeps_trans}
-use Rattle.rio_model.specs.RegistryRules.{valid_moved}
-use Rattle.registry.specs.Entries.{entry_of, new_entry}
-use Rattle.registry.specs.declared.entry.Entry.{Entry}
-use Rattle.frame_pool.specs.Pools.{block_of, frames_in}
+use Rattle.rio_base.specs.Volume.{Passes}
+use Rattle.rio_model.specs.Cover.{frame_page, home_word, is_loose}
+use Rattle.rio_model.proofs.CoverFills.{is_valid_made}
+use Rattle.rio_model.proofs.CoverLookups.{found_free, found_none}
+use Rattle.rio_model.proofs.CoverSteps.{keeps_trans}
 use Rattle.page_cache.specs.declared.tables.CacheTables.{CacheTables}
 use Rattle.page_cache.specs.Caches.{Adds, CacheSound, FewWrites, SameTables, SameTouches, cache_below, cache_health, cache_kept, cache_seen, was_forgotten}
 use Rattle.page_cache.proofs.Goes.{goes_few}

@@ -1,14 +1,8 @@
 -- With a frame for each block, a frame is free while a block isn't cached.
-use Rattle.std.specs.Prelude.{◌≡◌, ◌≢◌, ℕ, suc, ◌<◌, ◌≤◌, ◌==◌, Bool, true, false, ◌⊎◌, if◌then◌else◌, List, length, Some, None, is_some, refl}
-use Rattle.std.proofs.Common.{◌∙◌, ap, sym, subst, inl, inr, arith}
-use Rattle.std.proofs.lemmas.Bool.{cases_eq, eq-eqb, ne_eqb}
+use Rattle.page_cache.proofs.Common.{◌≡◌, ◌≢◌, ℕ, suc, ◌<◌, ◌≤◌, ◌==◌, Bool, true, false, ◌⊎◌, if◌then◌else◌, List, length, Some, None, is_some, refl, ◌∙◌, ap, sym, subst, inl, inr, arith, cases_eq, eq-eqb, ne_eqb, Contents, none_some, true_false, IsValid, frames_of, is_valid, tag_at, tag_block, block_of, entry_of_block}
 use Rattle.rio_base.specs.Disks.{raised}
-use Rattle.rio_base.specs.Machine.{Contents}
-use Rattle.rio_base.specs.Rules.{none_some, true_false}
-use Rattle.rio_model.specs.Registry.{IsValid, frames_of, is_valid, tag_at, tag_block}
-use Rattle.frame_pool.specs.Pools.{IsVictim, block_of}
-use Rattle.rio_model.specs.Cover.{entry_of_block}
-use Rattle.rio_model.specs.CoverLookups.{found_none}
+use Rattle.frame_pool.specs.Pools.{IsVictim}
+use Rattle.rio_model.proofs.CoverLookups.{found_none}
 use Rattle.page_cache.specs.declared.tables.CacheTables.{CacheTables}
 use Rattle.page_cache.specs.Caches.{CacheSound, FewWrites}
 use Rattle.page_cache.proofs.Pigeons.{pigeons}

@@ -1,18 +1,10 @@
 -- Words of a frame are stored, one or a run of them.
-use Rattle.std.specs.Prelude.{◌≡◌, ◌≢◌, ℕ, ◌+◌, ◌*◌, ◌<◌, ◌≤◌, true, false, List, length, slice_index, slice_set, Some, None, refl}
-use Rattle.std.proofs.Common.{◌∙◌, ap, sym, subst, arith}
-use Rattle.rio_base.specs.Blocks.{BlockWords}
+use Rattle.page_cache.proofs.Common.{◌≡◌, ◌≢◌, ℕ, ◌+◌, ◌*◌, ◌<◌, ◌≤◌, true, false, List, length, slice_index, slice_set, Some, None, refl, ◌∙◌, ap, sym, subst, arith, BlockWords, Contents, FrontStored, true_false, put_run, IsValid, frames_of, is_dirty, page_of_entry, tag_at, Coherent, cover_by, entry_of_block, reads, OnePage, SameEntries, found_entries, frame_entries, header_same, same_entries, tag_same, frame_past, found_is, disk_same, firm_by, pending_same}
 use Rattle.rio_base.specs.Image.{registry_pages}
-use Rattle.rio_base.specs.Machine.{Contents}
-use Rattle.rio_base.specs.Memory.{FrontStored}
-use Rattle.rio_base.specs.Rules.{true_false}
-use Rattle.rio_base.specs.Volume.{put, put_run}
-use Rattle.rio_model.specs.Registry.{IsValid, frames_of, is_dirty, page_of_entry, tag_at}
-use Rattle.rio_model.specs.Cover.{Coherent, cover_by, entry_of_block, frame_page, is_loose, reads}
-use Rattle.rio_model.specs.CoverChanges.{OnePage, SameEntries, found_entries, frame_entries, header_same, off_page, one_page_set, place_entries, same_entries, tag_same}
-use Rattle.rio_model.specs.CoverFills.{coherent_page, frame_off, frame_past, page_off, puts_frame, registry_same, valid_same}
-use Rattle.rio_model.specs.CoverLookups.{found_is}
-use Rattle.rio_model.specs.CoverSteps.{disk_same, firm_by, pending_same}
+use Rattle.rio_base.specs.Volume.{put}
+use Rattle.rio_model.specs.Cover.{frame_page, is_loose}
+use Rattle.rio_model.proofs.CoverChanges.{off_page, one_page_set, place_entries}
+use Rattle.rio_model.proofs.CoverFills.{coherent_page, frame_off, page_off, puts_frame, registry_same, valid_same}
 use Rattle.page_cache.specs.declared.tables.CacheTables.{CacheTables}
 use Rattle.page_cache.specs.Caches.{CacheSound}
 use Rattle.page_cache.specs.Stores.{Rewrites}

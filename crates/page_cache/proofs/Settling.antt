@@ -1,17 +1,10 @@
 -- What a call outside an update leaves so, as callers see it: what stands, and which blocks are loose.
-use Rattle.std.specs.Prelude.{◌≡◌, ◌≢◌, ℕ, ◌==◌, ◌||◌, Bool, true, false, List, slice_index_or, refl}
-use Rattle.std.proofs.Common.{◌∙◌, ap, sym, subst, arith}
-use Rattle.std.proofs.lemmas.Bool.{eq-eqb}
+use Rattle.page_cache.proofs.Common.{◌≡◌, ◌≢◌, ℕ, ◌==◌, ◌||◌, Bool, true, false, List, slice_index_or, refl, ◌∙◌, ap, sym, subst, arith, eq-eqb, BlockWords, Contents, Lasts, Running, Steps, true_false, Firm, Goes, put_run, gate_of, Keeps, reads, stands, stands_idle}
 use Rattle.std.proofs.lemmas.Bool.Decides.{nat_tests}
-use Rattle.rio_base.specs.Blocks.{BlockWords}
-use Rattle.rio_base.specs.Machine.{Contents, Lasts, Running, Steps}
-use Rattle.rio_base.specs.Rules.{true_false}
-use Rattle.rio_base.specs.Volume.{Firm, Goes, OldOrRun, SameBut, put, put_run}
-use Rattle.rio_model.specs.Registry.{gate_of}
-use Rattle.rio_model.specs.Cover.{Keeps, is_loose, reads, stands}
+use Rattle.rio_base.specs.Volume.{OldOrRun, SameBut, put}
+use Rattle.rio_model.specs.Cover.{is_loose}
 use Rattle.page_cache.specs.declared.tables.CacheTables.{CacheTables}
 use Rattle.page_cache.specs.Caches.{FewWrites, cache_below, cache_health, cache_kept, was_forgotten}
-use Rattle.rio_model.specs.CoverStands.{stands_idle}
 use Rattle.page_cache.specs.Stores.{Rewrites}
 use Rattle.page_cache.proofs.Goes.{goes_few}
 

@@ -1,15 +1,8 @@
 -- A run of words of a frame is stored.
-use Rattle.std.specs.Prelude.{◌≡◌, ◌≢◌, ℕ, ◌+◌, ◌-◌, ◌*◌, ◌<◌, ◌≤◌, ◌⊎◌, List, slice_index, Option, Some, None, refl}
-use Rattle.std.proofs.Common.{◌∙◌, ap, sym, subst, inl, inr, arith}
-use Rattle.std.proofs.lemmas.Bool.{cases_eq}
+use Rattle.page_cache.proofs.Common.{◌≡◌, ◌≢◌, ℕ, ◌+◌, ◌-◌, ◌*◌, ◌<◌, ◌≤◌, ◌⊎◌, List, slice_index, Option, Some, None, refl, ◌∙◌, ap, sym, subst, inl, inr, arith, cases_eq, BlockWords, FrontStored, put_run, IsValid, tag_at, tag_block, cover_by, entry_of_block, OnePage, SameEntries, found_entries, cover_at, found_is}
 use Rattle.std.proofs.lemmas.Bool.Decides.{nat_tests}
-use Rattle.rio_base.specs.Blocks.{BlockWords}
-use Rattle.rio_base.specs.Memory.{FrontStored}
-use Rattle.rio_base.specs.Volume.{put_run}
-use Rattle.rio_model.specs.Registry.{IsValid, tag_at, tag_block}
-use Rattle.rio_model.specs.Cover.{cover_by, entry_of_block}
-use Rattle.rio_model.specs.CoverChanges.{OnePage, SameEntries, found_entries, off_page}
-use Rattle.rio_model.specs.CoverLookups.{cover_at, cover_home, cover_past, found_is}
+use Rattle.rio_model.proofs.CoverChanges.{off_page}
+use Rattle.rio_model.specs.CoverLookups.{cover_home, cover_past}
 
 put_off : (f : BlockWords) (b w n : ℕ) (from : List ℕ) (c x : ℕ) → (c ≢ b) ⊎ (x < w) ⊎ (w + n ≤ x) → f c x ≡ put_run f b w n from c x
 put_off f b w n from c x (inl h) = grind (arith, nat_tests, h)

@@ -1,16 +1,13 @@
 -- A cache starts, and what is told of it.
-use Rattle.std.specs.Prelude.{◌≡◌, ℕ, ◌+◌, ◌/◌, ◌<◌, ◌||◌, ◌&&◌, ◌==◌, not, is_some, Bool, true, false, if◌then◌else◌, List, length, replicate, slice_index_or, Some, None, refl}
-use Rattle.std.proofs.Common.{◌∙◌, ap, sym, arith}
+use Rattle.page_cache.proofs.Common.{◌≡◌, ℕ, ◌+◌, ◌/◌, ◌<◌, ◌||◌, ◌&&◌, ◌==◌, not, is_some, Bool, true, false, if◌then◌else◌, List, length, slice_index_or, Some, None, refl, ◌∙◌, ap, sym, arith, is_pending, Contents, Running, true_false, IsValid, frames_of, gate_of, is_valid, page_of_entry, tag_at, tag_block, Coherent, entry_of_block}
+use Rattle.std.specs.Prelude.{replicate}
 use Rattle.std.proofs.lemmas.List.{length-replicate}
-use Rattle.rio_base.specs.Disks.{is_pending}
 use Rattle.rio_base.specs.Image.{registry_pages}
-use Rattle.rio_base.specs.Machine.{Contents, Running}
-use Rattle.rio_base.specs.Rules.{true_false}
-use Rattle.rio_model.specs.Registry.{IsValid, frames_of, gate_of, is_valid, page_of_entry, tag_at, tag_block}
-use Rattle.rio_model.specs.Cover.{Coherent, entry_of_block, frame_page, has_dirty, is_loose}
-use Rattle.rio_model.specs.CoverLookups.{cover_home, found_free}
-use Rattle.rio_model.specs.CoverStands.{stands_firm}
-use Rattle.rio_model.specs.CoverSteps.{dirty_none, none_pending}
+use Rattle.rio_model.specs.Cover.{frame_page, has_dirty, is_loose}
+use Rattle.rio_model.specs.CoverLookups.{cover_home}
+use Rattle.rio_model.proofs.CoverLookups.{found_free}
+use Rattle.rio_model.proofs.CoverStands.{stands_firm}
+use Rattle.rio_model.proofs.CoverSteps.{dirty_none, none_pending}
 use Rattle.page_cache.specs.declared.tables.CacheTables.{CacheTables}
 use Rattle.page_cache.specs.Caches.{CacheSound, IsFresh, Started, Tells, cache_below, cache_health, cache_kept, cache_seen, was_forgotten}
 

@@ -1,8 +1,6 @@
 -- Calls that write nothing to the disk.
-use Rattle.std.specs.Prelude.{◌≡◌, ℕ, ◌≤◌, refl}
-use Rattle.std.proofs.Common.{◌∙◌, ap, sym, subst, arith}
+use Rattle.page_cache.proofs.Common.{◌≡◌, ℕ, ◌≤◌, refl, ◌∙◌, ap, sym, subst, arith, Contents}
 use Rattle.rio_base.specs.Disks.{FaultCount, raised}
-use Rattle.rio_base.specs.Machine.{Contents}
 use Rattle.write_back.specs.Writing.{SameDisk}
 use Rattle.page_cache.specs.Caches.{FewWrites}
 

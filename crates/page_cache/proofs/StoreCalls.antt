@@ -1,14 +1,7 @@
 -- The steps of a store, one after another, and what callers see of them.
-use Rattle.std.specs.Prelude.{◌≡◌, ◌≢◌, ℕ, Bool, true, false, ◌⊎◌, List, Option, Some, None, is_some, refl}
-use Rattle.std.proofs.Common.{◌∙◌, ap, sym, inl, inr, arith}
-use Rattle.rio_base.specs.declared.places.PageName.{PageName}
+use Rattle.page_cache.proofs.Common.{◌≡◌, ◌≢◌, ℕ, Bool, true, false, ◌⊎◌, List, Option, Some, None, is_some, refl, ◌∙◌, ap, sym, inl, inr, arith, PageName, Contents, none_some, true_false, IsValid, is_dirty, tag_at, tag_block, Coherent, Narrows, entry_of_block, name_in, found_at, found_is}
 use Rattle.rio_base.specs.Blocks.{Drops}
-use Rattle.rio_base.specs.Machine.{Contents}
-use Rattle.rio_base.specs.Rules.{none_some, true_false}
 use Rattle.rio_base.specs.Volume.{CachesStored, stored_name, widened}
-use Rattle.rio_model.specs.Registry.{IsValid, is_dirty, tag_at, tag_block}
-use Rattle.rio_model.specs.Cover.{Coherent, Narrows, entry_of_block, name_in}
-use Rattle.rio_model.specs.CoverLookups.{found_at, found_is}
 use Rattle.page_cache.specs.Caches.{Adds, cache_seen}
 use Rattle.page_cache.specs.Stores.{SameCached, Widens}
 

@@ -1,19 +1,10 @@
 -- An entry is marked dirty, or its page is stored into: the cache keeps its rules.
-use Rattle.std.specs.Prelude.{◌≡◌, ◌≢◌, ℕ, ◌+◌, ◌<◌, Bool, true, if◌then◌else◌, ◌⊎◌, List, length, slice_index, Option, Some, None, refl}
-use Rattle.std.proofs.Common.{◌∙◌, ap, sym, subst, inl, inr, arith}
-use Rattle.std.proofs.lemmas.Bool.{cases_eq}
-use Rattle.rio_base.specs.declared.places.PageName.{PageName}
+use Rattle.page_cache.proofs.Common.{◌≡◌, ◌≢◌, ℕ, ◌+◌, ◌<◌, Bool, true, if◌then◌else◌, ◌⊎◌, List, length, slice_index, Option, Some, None, refl, ◌∙◌, ap, sym, subst, inl, inr, arith, cases_eq, PageName, Contents, Running, IsValid, OneEntry, frames_of, gate_of, is_data, is_dirty, is_valid, shadow_at, size_at, tag_at, tag_block, Coherent, HeldEntry, Keeps, Narrows, name_in, entry_one, frames_one, header_one, tag_one, found_is, SameEntries, entry_same, found_entries, found_kept, header_same, tag_same, coherent_on, entry_of, Entry}
 use Rattle.rio_base.specs.Image.{registry_pages}
-use Rattle.rio_base.specs.Machine.{Contents, Running}
-use Rattle.rio_model.specs.Registry.{HasLayout, IsValid, OneEntry, file_at, frames_of, gate_of, index_at, is_data, is_dirty, is_valid, shadow_at, size_at, tag_at, tag_block, with_dirty}
-use Rattle.rio_model.specs.RegistryRules.{dirtied_dirty}
-use Rattle.rio_model.specs.Cover.{Coherent, HeldEntry, Keeps, Narrows, name_in}
-use Rattle.rio_model.specs.CoverLookups.{entry_one, found_is, frames_one, header_one, tag_one}
-use Rattle.rio_model.specs.CoverChanges.{SameEntries, entry_same, found_entries, found_kept, header_same, tag_same}
-use Rattle.rio_model.specs.CoverSteps.{Retagged, coherent_on, hold_dirtied, keeps_dirty, layout_is, rest_stored}
+use Rattle.rio_model.specs.Registry.{HasLayout, file_at, index_at, with_dirty}
+use Rattle.rio_model.proofs.RegistryRules.{dirtied_dirty}
+use Rattle.rio_model.proofs.CoverSteps.{Retagged, hold_dirtied, keeps_dirty, layout_is, rest_stored}
 use Rattle.registry.specs.Changes.{CanChange}
-use Rattle.registry.specs.Entries.{entry_of}
-use Rattle.registry.specs.declared.entry.Entry.{Entry}
 use Rattle.page_cache.specs.declared.tables.CacheTables.{CacheTables}
 use Rattle.page_cache.specs.Caches.{CacheSound}
 use Rattle.page_cache.specs.Stores.{SameCached}

@@ -1,13 +1,6 @@
 -- The open update stays, where the entries that change are no part of it.
-use Rattle.std.specs.Prelude.{◌≡◌, ◌≢◌, ℕ, ◌<◌, ◌==◌, ◌&&◌, not, Bool, false, ◌⊎◌, List, Option, Some, None, refl}
-use Rattle.std.proofs.Common.{◌∙◌, ap, sym, subst, inl, inr, arith}
-use Rattle.std.proofs.lemmas.Bool.{cases_eq, ne_eqb}
-use Rattle.rio_base.specs.Rules.{none_some}
-use Rattle.rio_model.specs.Registry.{BlockRule, IsValid, OneEntry, gate_of, is_valid, shadow_at, tag_block}
-use Rattle.rio_model.specs.Cover.{HeldEntry, IsBare, entry_of_block}
-use Rattle.rio_model.specs.CoverChanges.{SameEntries, entry_same, found_entries, found_kept, header_same, shadow_one}
-use Rattle.rio_model.specs.CoverLookups.{entry_one, found_at, found_is, frames_one, header_one, tag_one}
-use Rattle.rio_model.specs.RegistryRules.{valid_moved}
+use Rattle.page_cache.proofs.Common.{◌≡◌, ◌≢◌, ℕ, ◌<◌, ◌==◌, ◌&&◌, not, Bool, false, ◌⊎◌, List, Option, Some, None, refl, ◌∙◌, ap, sym, subst, inl, inr, arith, cases_eq, ne_eqb, none_some, BlockRule, IsValid, OneEntry, gate_of, is_valid, shadow_at, tag_block, HeldEntry, IsBare, entry_of_block, SameEntries, entry_same, found_entries, found_kept, header_same, entry_one, found_at, frames_one, header_one, tag_one, found_is, valid_moved}
+use Rattle.rio_model.proofs.CoverChanges.{shadow_one}
 use Rattle.page_cache.specs.Caches.{SameTouches, has_shadow, is_touched}
 
 pub touches_by : (old new : List ℕ) → ((b : ℕ) → is_touched new b ≡ is_touched old b) → SameTouches old new

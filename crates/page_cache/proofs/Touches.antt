@@ -1,18 +1,8 @@
 -- A block becomes part of an update.
-use Rattle.std.specs.Prelude.{◌≡◌, ◌≢◌, ℕ, ◌+◌, ◌-◌, ◌<◌, ◌≤◌, ◌==◌, ◌||◌, not, Bool, true, false, ◌⊎◌, if◌then◌else◌, List, length, slice_index, slice_set, Option, Some, None, refl}
-use Rattle.std.proofs.Common.{◌∙◌, ap, sym, subst, inl, inr, arith, get_or-set_same, get_or-set_other}
-use Rattle.std.proofs.lemmas.Bool.{cases_eq, eq-eqb, ne_eqb}
-use Rattle.rio_base.specs.Machine.{Contents, Lasts, Running, Steps}
-use Rattle.rio_base.specs.Rules.{true_false}
-use Rattle.rio_base.specs.Volume.{Firm, Goes, HasRoom, Touches, with_block}
-use Rattle.rio_base.specs.declared.places.PageName.{PageName}
-use Rattle.rio_model.specs.Cover.{HeldEntry, Keeps, SameNames, entry_of_block, name_in}
-use Rattle.rio_model.specs.CoverChanges.{found_kept}
-use Rattle.rio_model.specs.CoverLookups.{entry_one, found_is, frames_one}
-use Rattle.rio_model.specs.CoverStands.{found_named, name_same}
-use Rattle.rio_model.specs.CoverSteps.{coherent_on}
-use Rattle.rio_model.specs.Registry.{IsValid, OneEntry, frames_of, gate_of, is_dirty, shadow_at, tag_at, tag_block}
-use Rattle.frame_pool.specs.Pools.{is_pinned, pins_in}
+use Rattle.page_cache.proofs.Common.{◌≡◌, ◌≢◌, ℕ, ◌+◌, ◌-◌, ◌<◌, ◌≤◌, ◌==◌, ◌||◌, not, Bool, true, false, ◌⊎◌, if◌then◌else◌, List, length, slice_index, slice_set, Option, Some, None, refl, ◌∙◌, ap, sym, subst, inl, inr, arith, cases_eq, eq-eqb, ne_eqb, Contents, Lasts, Running, Steps, true_false, Firm, Goes, PageName, HeldEntry, Keeps, SameNames, entry_of_block, name_in, found_kept, entry_one, frames_one, found_is, coherent_on, IsValid, OneEntry, frames_of, gate_of, is_dirty, shadow_at, tag_at, tag_block, is_pinned, pins_in}
+use Rattle.std.proofs.Common.{get_or-set_same, get_or-set_other}
+use Rattle.rio_base.specs.Volume.{HasRoom, Touches, with_block}
+use Rattle.rio_model.proofs.CoverStands.{found_named, name_same}
 use Rattle.page_cache.specs.declared.tables.CacheTables.{CacheTables}
 use Rattle.page_cache.specs.Caches.{Adds, CacheSound, FewWrites, IsListed, SameTables, SameTouches, cache_below, cache_health, cache_kept, has_shadow, is_touched, was_forgotten}
 use Rattle.page_cache.specs.Updating.{GivesShadow, SameButPins, SamePages}

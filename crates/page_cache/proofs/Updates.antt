@@ -1,18 +1,9 @@
 -- What holds between calls is kept by the calls of an update.
-use Rattle.std.specs.Prelude.{◌≡◌, ◌≢◌, ℕ, ◌+◌, ◌-◌, ◌<◌, ◌≤◌, ◌==◌, ◌&&◌, not, Bool, true, false, ◌⊎◌, if◌then◌else◌, List, length, slice_index, Option, Some, None, is_some, refl}
-use Rattle.std.proofs.Common.{◌∙◌, ap, sym, subst, inl, inr, arith}
-use Rattle.std.proofs.lemmas.Bool.{eq-eqb}
+use Rattle.page_cache.proofs.Common.{◌≡◌, ◌≢◌, ℕ, ◌+◌, ◌-◌, ◌<◌, ◌≤◌, ◌==◌, ◌&&◌, not, Bool, true, false, ◌⊎◌, if◌then◌else◌, List, length, slice_index, Option, Some, None, is_some, refl, ◌∙◌, ap, sym, subst, inl, inr, arith, eq-eqb, Contents, true_false, IsValid, frames_of, gate_of, is_dirty, is_valid, shadow_at, tag_at, tag_block, Coherent, SameNames, entry_block, entry_of_block, name_in, found_is, coherent_on, is_pinned, pins_in}
 use Rattle.rio_base.specs.Blocks.{Drops}
 use Rattle.rio_base.specs.Image.{entry_at}
-use Rattle.rio_base.specs.Machine.{Contents}
-use Rattle.rio_base.specs.Rules.{true_false}
 use Rattle.rio_base.specs.Volume.{Begun}
-use Rattle.rio_model.specs.Registry.{IsValid, frames_of, gate_of, is_dirty, is_valid, shadow_at, tag_at, tag_block}
-use Rattle.rio_model.specs.Cover.{Coherent, SameNames, entry_block, entry_of_block, name_in}
-use Rattle.rio_model.specs.CoverLookups.{found_is}
-use Rattle.rio_model.specs.CoverStands.{narrows_same}
-use Rattle.rio_model.specs.CoverSteps.{coherent_on}
-use Rattle.frame_pool.specs.Pools.{is_pinned, pins_in}
+use Rattle.rio_model.proofs.CoverStands.{narrows_same}
 use Rattle.shadow_pages.specs.Updates.{AreBare, LosesShadows, Opened, SameShadows}
 use Rattle.page_cache.specs.declared.tables.CacheTables.{CacheTables}
 use Rattle.page_cache.specs.Caches.{CacheSound, IsListed, cache_kept, cache_seen, has_shadow}

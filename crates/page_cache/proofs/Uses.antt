@@ -1,16 +1,9 @@
 -- The order of use, and blocks that leave.
-use Rattle.std.specs.Prelude.{◌≡◌, ◌≢◌, ℕ, ◌<◌, ◌==◌, not, ◌++◌, ◌⊎◌, Bool, true, false, if◌then◌else◌, List, [], ◌∷◌, filter, Option, Some, None, refl}
-use Rattle.std.proofs.Common.{◌∙◌, ap, sym, subst, inl, inr}
-use Rattle.std.proofs.lemmas.Bool.{cases_Bool, cases_eq, eq-eqb}
-use Rattle.rio_base.specs.Machine.{Contents}
-use Rattle.rio_base.specs.Rules.{none_some, true_false}
-use Rattle.frame_pool.specs.Orders.{freed_first, used_last, without}
-use Rattle.frame_pool.specs.Pools.{block_of, frames_in, least_recent, order_of}
-use Rattle.rio_model.specs.Registry.{BlockRule, OneEntry, is_valid, tag_at, tag_block}
-use Rattle.rio_model.specs.Cover.{Coherent, Keeps, entry_of_block, frame_page}
-use Rattle.rio_model.specs.CoverChanges.{OnePage, found_entries, found_kept, found_other, same_entries}
-use Rattle.rio_model.specs.CoverFills.{Made, frame_past}
-use Rattle.rio_model.specs.CoverLookups.{found_at, found_is, frames_one, tag_one}
+use Rattle.page_cache.proofs.Common.{◌≡◌, ◌≢◌, ℕ, ◌<◌, ◌==◌, not, ◌⊎◌, Bool, true, false, if◌then◌else◌, List, Option, Some, None, refl, ◌∙◌, ap, sym, subst, inl, inr, cases_Bool, cases_eq, eq-eqb, Contents, none_some, true_false, used_last, block_of, frames_in, order_of, BlockRule, OneEntry, is_valid, tag_at, tag_block, Coherent, Keeps, entry_of_block, OnePage, found_entries, found_kept, found_other, same_entries, Made, frame_past, found_at, frames_one, tag_one, found_is}
+use Rattle.std.specs.Prelude.{◌++◌, [], ◌∷◌, filter}
+use Rattle.frame_pool.specs.Orders.{freed_first, without}
+use Rattle.frame_pool.specs.Pools.{least_recent}
+use Rattle.rio_model.specs.Cover.{frame_page}
 use Rattle.page_cache.specs.declared.tables.CacheTables.{CacheTables}
 use Rattle.page_cache.specs.Caches.{CacheSound}
 use Rattle.page_cache.specs.Uses.{AllStay, LeavesFrame, LeavesOldest, SameOrderBut, UsedLast}

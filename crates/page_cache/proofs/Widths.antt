@@ -1,20 +1,13 @@
 -- An entry's size is stored.
-use Rattle.std.specs.Prelude.{◌≡◌, ◌≢◌, ℕ, ◌<◌, ◌≤◌, Bool, true, false, if◌then◌else◌, ◌⊎◌, List, max, Option, Some, None, refl}
-use Rattle.std.proofs.Common.{◌∙◌, ap, sym, subst, inl, inr, arith}
-use Rattle.std.proofs.lemmas.Bool.{cases_eq, cases_Bool}
-use Rattle.rio_base.specs.declared.places.PageName.{PageName}
+use Rattle.page_cache.proofs.Common.{◌≡◌, ◌≢◌, ℕ, ◌<◌, ◌≤◌, Bool, true, false, if◌then◌else◌, ◌⊎◌, List, Option, Some, None, refl, ◌∙◌, ap, sym, subst, inl, inr, arith, cases_eq, cases_Bool, PageName, Contents, true_false, IsValid, OneEntry, is_data, is_dirty, is_valid, page_of_entry, shadow_at, size_at, tag_at, tag_block, Coherent, Keeps, cover_by, name_in, reads, stands, entry_one, header_one, tag_one, found_kept, frame_word_one, coherent_one, disk_same, firm_by, pending_same, entry_of, Entry}
+use Rattle.std.specs.Prelude.{max}
 use Rattle.rio_base.specs.Blocks.{IsPageName}
-use Rattle.rio_base.specs.Machine.{Contents}
-use Rattle.rio_base.specs.Rules.{true_false}
 use Rattle.rio_base.specs.Volume.{widened}
-use Rattle.rio_model.specs.Registry.{IsValid, KeepsRegistry, OneEntry, file_at, index_at, is_data, is_dirty, is_valid, page_of_entry, shadow_at, size_at, tag_at, tag_block}
-use Rattle.rio_model.specs.RegistryRules.{EntryKeeps, entry_keeps, registry_one}
-use Rattle.rio_model.specs.Cover.{Coherent, Keeps, cover_by, frame_page, name_in, reads, stands}
-use Rattle.rio_model.specs.CoverLookups.{entry_one, header_one, tag_one}
-use Rattle.rio_model.specs.CoverChanges.{found_kept, frame_word_one, page_word_one, reads_kept, stands_kept}
-use Rattle.rio_model.specs.CoverSteps.{coherent_one, disk_same, firm_by, pending_same}
-use Rattle.registry.specs.Entries.{entry_of}
-use Rattle.registry.specs.declared.entry.Entry.{Entry}
+use Rattle.rio_model.specs.Registry.{KeepsRegistry, file_at, index_at}
+use Rattle.rio_model.specs.RegistryRules.{EntryKeeps}
+use Rattle.rio_model.proofs.RegistryRules.{entry_keeps, registry_one}
+use Rattle.rio_model.specs.Cover.{frame_page}
+use Rattle.rio_model.proofs.CoverChanges.{page_word_one, reads_kept, stands_kept}
 use Rattle.page_cache.specs.declared.tables.CacheTables.{CacheTables}
 use Rattle.page_cache.specs.Caches.{CacheSound}
 use Rattle.page_cache.specs.Stores.{Widens}

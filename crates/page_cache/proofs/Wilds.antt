@@ -1,9 +1,6 @@
 -- Wild stores on a cache's machine, between its calls.
-use Rattle.std.specs.Prelude.{◌≡◌, ℕ, ◌+◌, ◌-◌, ◌/◌, ◌<◌, length, Some, None, refl}
-use Rattle.std.proofs.Common.{◌∙◌, ap, sym, subst, arith}
-use Rattle.std.proofs.lemmas.List.{length-set}
-use Rattle.rio_base.specs.Machine.{Contents, Meets, Running, after_wild}
-use Rattle.rio_base.specs.Rules.{none_some}
+use Rattle.page_cache.proofs.Common.{◌≡◌, ℕ, ◌+◌, ◌-◌, ◌/◌, ◌<◌, length, Some, None, refl, ◌∙◌, ap, sym, subst, arith, length-set, Contents, Running, none_some}
+use Rattle.rio_base.specs.Machine.{Meets, after_wild}
 use Rattle.rio_base.specs.declared.wild.Wild.{Wild}
 use Rattle.rio_base.specs.declared.wild.Wild.TheVariants.{Changed, Trapped, Spared}
 use Rattle.rio_base.specs.Volume.{Below}

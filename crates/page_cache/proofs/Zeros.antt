@@ -1,21 +1,11 @@
 -- A block comes into the cache as zeros.
-use Rattle.std.specs.Prelude.{◌≡◌, ◌≢◌, ℕ, ◌+◌, ◌*◌, ◌<◌, ◌≤◌, Bool, true, false, if◌then◌else◌, ◌⊎◌, List, length, slice_index, Option, Some, None, refl}
-use Rattle.std.proofs.Common.{◌∙◌, ap, sym, subst, inl, inr, arith}
-use Rattle.std.proofs.lemmas.Bool.{cases_eq, cases_Bool, eq-eqb, ne_eqb}
-use Rattle.rio_base.specs.declared.places.PageName.{PageName}
-use Rattle.rio_base.specs.Blocks.{BlockWords, InRange}
-use Rattle.rio_base.specs.Machine.{Contents}
-use Rattle.rio_base.specs.Rules.{true_false}
+use Rattle.page_cache.proofs.Common.{◌≡◌, ◌≢◌, ℕ, ◌+◌, ◌*◌, ◌<◌, ◌≤◌, Bool, true, false, if◌then◌else◌, ◌⊎◌, List, length, slice_index, Option, Some, None, refl, ◌∙◌, ap, sym, subst, inl, inr, arith, cases_eq, cases_Bool, eq-eqb, ne_eqb, PageName, BlockWords, InRange, Contents, true_false, OneEntry, frames_of, is_data, is_dirty, is_valid, tag_at, tag_block, tag_of, Coherent, Keeps, cover_by, entry_of_block, name_in, reads, OnePage, SameEntries, found_other, frame_entries, frame_word_one, same_entries, Made, frame_past, cover_at, found_is, header_one, tag_one, coherent_on, coherent_one, disk_same, firm_by, pending_same, entry_of, new_entry, Entry, block_of}
 use Rattle.rio_base.specs.Volume.{cleared}
-use Rattle.rio_model.specs.Registry.{OneEntry, frames_of, is_data, is_dirty, is_valid, tag_at, tag_block, tag_of}
-use Rattle.rio_model.specs.Cover.{Coherent, Keeps, cover_by, entry_of_block, frame_page, is_loose, name_in, reads}
-use Rattle.rio_model.specs.CoverChanges.{OnePage, SameEntries, found_made, found_other, frame_entries, frame_word_one, same_entries}
-use Rattle.rio_model.specs.CoverFills.{Made, frame_past, is_valid_made, keeps_begun, registry_made}
-use Rattle.rio_model.specs.CoverLookups.{cover_at, cover_past, cover_same, found_is, header_one, tag_one}
-use Rattle.rio_model.specs.CoverSteps.{coherent_on, coherent_one, dirty_of, disk_same, firm_by, loose_parts, pending_same}
-use Rattle.registry.specs.Entries.{entry_of, new_entry}
-use Rattle.registry.specs.declared.entry.Entry.{Entry}
-use Rattle.frame_pool.specs.Pools.{block_of}
+use Rattle.rio_model.specs.Cover.{frame_page, is_loose}
+use Rattle.rio_model.proofs.CoverChanges.{found_made}
+use Rattle.rio_model.proofs.CoverFills.{is_valid_made, keeps_begun, registry_made}
+use Rattle.rio_model.specs.CoverLookups.{cover_past, cover_same}
+use Rattle.rio_model.proofs.CoverSteps.{dirty_of, loose_parts}
 use Rattle.page_cache.specs.declared.tables.CacheTables.{CacheTables}
 use Rattle.page_cache.specs.Caches.{Adds, CacheSound}
 use Rattle.page_cache.specs.Stores.{Frees, SameCached}

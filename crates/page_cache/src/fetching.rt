@@ -44,7 +44,7 @@ impl<M: Machine> PageCache<M> {
     }
 
     /// Makes a frame free for block `b`, which isn't cached.
-    #[tactic(auto, using(crate::proofs::Stills::still_refl, crate::proofs::Stills::few_still, crate::proofs::Touched::touches_refl, crate::proofs::Kept::tables_refl, crate::proofs::Kept::pins_fit, rio_model::specs::CoverStands::narrows_refl, rio_model::specs::CoverSteps::keeps_refl, rio_base::specs::MachineRules::steps_refl, rio_base::specs::MachineRules::lasts_refl, crate::proofs::Uses::leaves_refl, crate::proofs::Uses::leaves_frame, crate::proofs::Uses::order_refl))]
+    #[tactic(auto, using(crate::proofs::Stills::still_refl, crate::proofs::Stills::few_still, crate::proofs::Touched::touches_refl, crate::proofs::Kept::tables_refl, crate::proofs::Kept::pins_fit, rio_model::proofs::CoverStands::narrows_refl, rio_model::proofs::CoverSteps::keeps_refl, rio_base::proofs::MachineRules::steps_refl, rio_base::proofs::MachineRules::lasts_refl, crate::proofs::Uses::leaves_refl, crate::proofs::Uses::leaves_frame, crate::proofs::Uses::order_refl))]
     pub(crate) fn make_room(&mut self, b: Block) -> Result<u32, VolFail>
         requires sound { CacheSound (M.contents self.old.machine) (length (M.run self.old.machine).scratch) self.old.tables }
         requires uncached { entry_of_block (M.contents self.old.machine).words b.0 ≡ None }
@@ -163,7 +163,7 @@ impl<M: Machine> PageCache<M> {
     }
 
     /// The frame of block `b`, which is fetched if it isn't cached: then under this name. It counts as a use.
-    #[tactic(auto, using(crate::proofs::Rooms::keeps_then, crate::proofs::Goes::ends_then, crate::proofs::Rooms::lasts_then, crate::proofs::Rooms::adds_narrows, crate::proofs::Rooms::adds_after, crate::proofs::Rooms::none_still, crate::proofs::Rooms::none_bound, crate::proofs::Rooms::some_bound, rio_model::specs::CoverSteps::keeps_refl, rio_base::specs::MachineRules::steps_refl, rio_base::specs::MachineRules::lasts_refl, rio_model::specs::CoverStands::narrows_refl, crate::proofs::Stills::still_refl, crate::proofs::Stills::few_still, crate::proofs::Stills::few_then, crate::proofs::Touched::touches_refl, crate::proofs::Touched::touches_trans, crate::proofs::Kept::tables_refl, crate::proofs::Kept::tables_trans, crate::proofs::Uses::leaves_refl, crate::proofs::Uses::leaves_then))]
+    #[tactic(auto, using(crate::proofs::Rooms::keeps_then, crate::proofs::Goes::ends_then, crate::proofs::Rooms::lasts_then, crate::proofs::Rooms::adds_narrows, crate::proofs::Rooms::adds_after, crate::proofs::Rooms::none_still, crate::proofs::Rooms::none_bound, crate::proofs::Rooms::some_bound, rio_model::proofs::CoverSteps::keeps_refl, rio_base::proofs::MachineRules::steps_refl, rio_base::proofs::MachineRules::lasts_refl, rio_model::proofs::CoverStands::narrows_refl, crate::proofs::Stills::still_refl, crate::proofs::Stills::few_still, crate::proofs::Stills::few_then, crate::proofs::Touched::touches_refl, crate::proofs::Touched::touches_trans, crate::proofs::Kept::tables_refl, crate::proofs::Kept::tables_trans, crate::proofs::Uses::leaves_refl, crate::proofs::Uses::leaves_then))]
     pub(crate) fn fetch(&mut self, b: Block, name: Option<PageName>) -> Result<u32, VolFail>
         requires sound { CacheSound (M.contents self.old.machine) (length (M.run self.old.machine).scratch) self.old.tables }
         requires block { b.0 < length (M.contents self.old.machine).disk }

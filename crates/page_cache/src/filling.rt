@@ -15,7 +15,7 @@ use registry::install;
 use rio_base::{Block, Machine, Page, PageName, Stopped, VolFail, WordAt};
 
 /// Reads a block of the disk.
-#[tactic(auto, using(rio_model::specs::CoverSteps::keeps_marks, rio_base::specs::MachineRules::steps_refl, crate::proofs::Stills::still_faults))]
+#[tactic(auto, using(rio_model::proofs::CoverSteps::keeps_marks, rio_base::proofs::MachineRules::steps_refl, crate::proofs::Stills::still_faults))]
 pub(crate) fn read_home<M: Machine>(m: &mut M, b: Block, into: &mut Vec<u64>) -> Result<(), VolFail>
     requires closed { (M.contents m.old).open_page ≡ None }
     requires block { b.0 < length (M.contents m.old).disk }
@@ -54,7 +54,7 @@ fn store_page<M: Machine>(m: &mut M, p: Page, from: &[u64]) -> Result<(), Stoppe
 }
 
 /// Fills the frame of entry `k`, which isn't valid.
-#[tactic(auto, using(rio_model::specs::CoverFills::keeps_fill, crate::proofs::Fills::tag_stays))]
+#[tactic(auto, using(rio_model::proofs::CoverFills::keeps_fill, crate::proofs::Fills::tag_stays))]
 pub(crate) fn fill<M: Machine>(m: &mut M, k: u32, p: Page, from: &[u64]) -> Result<(), Stopped>
     requires coherent { Coherent (M.contents m.old) (length (M.run m.old).scratch) }
     requires closed { (M.contents m.old).open_page ≡ None }

@@ -105,7 +105,7 @@ impl<M: Machine> PageCache<M> {
     }
 
     /// Makes block `b` read as zeros in frame `k`, which no entry has. `Stopped` changes no block.
-    #[tactic(auto, using(rio_base::specs::MachineRules::lasts_trans, crate::proofs::Stills::still_trans))]
+    #[tactic(auto, using(rio_base::proofs::MachineRules::lasts_trans, crate::proofs::Stills::still_trans))]
     pub(crate) fn bring_zeros(
         &mut self,
         k: u32,

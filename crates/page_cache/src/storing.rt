@@ -19,7 +19,7 @@ use rio_base::{Block, Machine, PageName, RunFail, Stopped, VolFail};
 
 impl<M: Machine> PageCache<M> {
     /// Marks entry `k` dirty, unless it is: a clean one costs one step. `Stopped` changes nothing.
-    #[tactic(auto, using(crate::proofs::Stores::layout_of, crate::proofs::Stores::can_change, crate::proofs::Stores::cached_refl, crate::proofs::Stores::cached_same, crate::proofs::Stills::still_same, crate::proofs::Stills::still_rest, rio_model::specs::CoverSteps::keeps_refl, rio_base::specs::MachineRules::steps_refl, rio_base::specs::MachineRules::lasts_refl, crate::proofs::Stores::held_refl, crate::proofs::Stores::one_refl))]
+    #[tactic(auto, using(crate::proofs::Stores::layout_of, crate::proofs::Stores::can_change, crate::proofs::Stores::cached_refl, crate::proofs::Stores::cached_same, crate::proofs::Stills::still_same, crate::proofs::Stills::still_rest, rio_model::proofs::CoverSteps::keeps_refl, rio_base::proofs::MachineRules::steps_refl, rio_base::proofs::MachineRules::lasts_refl, crate::proofs::Stores::held_refl, crate::proofs::Stores::one_refl))]
     pub(crate) fn mark_dirty(&mut self, k: u32) -> Result<(), Stopped>
         requires sound { CacheSound (M.contents self.old.machine) (length (M.run self.old.machine).scratch) self.old.tables }
         requires valid { IsValid (M.contents self.old.machine).words k }
@@ -43,7 +43,7 @@ impl<M: Machine> PageCache<M> {
 
     /// Gives entry `k` the size of the given name, where it is larger than its own: one step then. `Stopped` changes
     /// nothing.
-    #[tactic(auto, using(crate::proofs::Stores::layout_of, crate::proofs::Stores::can_change, crate::proofs::Stills::still_same, crate::proofs::Stills::still_rest, crate::proofs::Widths::widens_same, crate::proofs::Widths::no_name, crate::proofs::Widths::not_wider, rio_model::specs::CoverSteps::keeps_refl, rio_base::specs::MachineRules::steps_refl, rio_base::specs::MachineRules::lasts_refl))]
+    #[tactic(auto, using(crate::proofs::Stores::layout_of, crate::proofs::Stores::can_change, crate::proofs::Stills::still_same, crate::proofs::Stills::still_rest, crate::proofs::Widths::widens_same, crate::proofs::Widths::no_name, crate::proofs::Widths::not_wider, rio_model::proofs::CoverSteps::keeps_refl, rio_base::proofs::MachineRules::steps_refl, rio_base::proofs::MachineRules::lasts_refl))]
     fn widen(&mut self, k: u32, name: Option<PageName>) -> Result<(), Stopped>
         requires sound { CacheSound (M.contents self.old.machine) (length (M.run self.old.machine).scratch) self.old.tables }
         requires valid { IsValid (M.contents self.old.machine).words k }
@@ -69,7 +69,7 @@ impl<M: Machine> PageCache<M> {
     }
 
     /// Makes the page of entry `k` ready for a store under this name: dirty, and of the larger size.
-    #[tactic(auto, using(crate::proofs::StoreCalls::valid_cached, crate::proofs::StoreCalls::dirty_after, rio_model::specs::CoverSteps::keeps_trans, crate::proofs::Stills::still_trans, crate::proofs::Goes::ends_then, rio_base::specs::MachineRules::lasts_trans))]
+    #[tactic(auto, using(crate::proofs::StoreCalls::valid_cached, crate::proofs::StoreCalls::dirty_after, rio_model::proofs::CoverSteps::keeps_trans, crate::proofs::Stills::still_trans, crate::proofs::Goes::ends_then, rio_base::proofs::MachineRules::lasts_trans))]
     fn make_ready(&mut self, k: u32, name: Option<PageName>) -> Result<(), Stopped>
         requires sound { CacheSound (M.contents self.old.machine) (length (M.run self.old.machine).scratch) self.old.tables }
         requires valid { IsValid (M.contents self.old.machine).words k }
@@ -91,7 +91,7 @@ impl<M: Machine> PageCache<M> {
 
     /// The frame of block `b`, fetched if it isn't cached, and ready for a store under this name: dirty, and of the
     /// larger size.
-    #[tactic(auto, using(crate::proofs::StoreCalls::drops_narrows, crate::proofs::Goes::ends_then, rio_model::specs::CoverSteps::keeps_trans, rio_base::specs::MachineRules::lasts_trans))]
+    #[tactic(auto, using(crate::proofs::StoreCalls::drops_narrows, crate::proofs::Goes::ends_then, rio_model::proofs::CoverSteps::keeps_trans, rio_base::proofs::MachineRules::lasts_trans))]
     pub(crate) fn ready(&mut self, b: Block, name: Option<PageName>) -> Result<u32, VolFail>
         requires sound { CacheSound (M.contents self.old.machine) (length (M.run self.old.machine).scratch) self.old.tables }
         requires block { b.0 < length (M.contents self.old.machine).disk }

@@ -122,7 +122,7 @@ impl<M: Machine> PageCache<M> {
     }
 
     /// Gives entry `k`, which is of metadata, a shadow, if it has none.
-    #[tactic(auto, using(crate::proofs::Rooms::keeps_then, crate::proofs::Rooms::lasts_then, crate::proofs::Goes::ends_then, crate::proofs::Goes::ends_ok, crate::proofs::Stills::still_trans, rio_model::specs::CoverSteps::keeps_refl, rio_base::specs::MachineRules::lasts_refl, crate::proofs::Uses::order_same))]
+    #[tactic(auto, using(crate::proofs::Rooms::keeps_then, crate::proofs::Rooms::lasts_then, crate::proofs::Goes::ends_then, crate::proofs::Goes::ends_ok, crate::proofs::Stills::still_trans, rio_model::proofs::CoverSteps::keeps_refl, rio_base::proofs::MachineRules::lasts_refl, crate::proofs::Uses::order_same))]
     pub(crate) fn shadow_frame(&mut self, k: u32) -> Result<(), Stopped>
         requires sound { CacheSound (M.contents self.old.machine) (length (M.run self.old.machine).scratch) self.old.tables }
         requires updating { gate_of (M.contents self.old.machine).words ≡ 1 }

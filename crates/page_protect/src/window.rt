@@ -52,7 +52,7 @@ impl<'m, M: Machine> Window<'m, M> {
 
     /// Stores a run of words of the page, from word `w` on in rising order, up to the page's end at most: one step each.
     /// `Stopped` leaves a front of them stored, and comes only where the machine is stopped afterwards.
-    #[tactic(auto, using(rio_base::specs::MachineRules::ends_none, rio_base::specs::MachineRules::falls_refl, rio_base::specs::MachineRules::lasts_refl))]
+    #[tactic(auto, using(rio_base::proofs::MachineRules::ends_none, rio_base::proofs::MachineRules::falls_refl, rio_base::proofs::MachineRules::lasts_refl))]
     pub fn put_run(&mut self, w: u16, from: &[u64]) -> Result<(), Stopped>
         requires within { w + length from.now ≤ 512 }
         requires page { (M.contents self.old.machine.now).open_page ≡ Some self.old.page.0 }

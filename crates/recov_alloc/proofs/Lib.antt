@@ -1,6 +1,7 @@
 pub mod BitRuns
 pub mod Fits
-pub mod Reaches
 pub mod Marks
+pub mod MarksLaws
 pub mod Outcomes
+pub mod Reaches
 pub mod TestHeaps

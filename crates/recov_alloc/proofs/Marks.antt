@@ -6,11 +6,12 @@ use Rattle.std.proofs.lemmas.Bool.{cases_eq}
 use Rattle.std.proofs.lemmas.Bool.Decides.{nat_tests}
 use Rattle.rio_base.specs.Regions.{AreWords, RegionContent, put_words}
 use Rattle.rio_model.specs.Undo.{CoversAll, Gains, Keeps, Undoes, is_covered, live, saving, undo_records}
-use Rattle.rio_model.specs.UndoRules.{undoes_trans}
+use Rattle.rio_model.proofs.UndoRules.{undoes_trans}
 use Rattle.rio_model.specs.Heap.{AddsBlock, Allocates, IsBlock, IsFirstFit, OffBlock, Releases, RemovesBlock, starts, touched_pages, used}
 use Rattle.undo_list.specs.Bits.{WithBits}
 use Rattle.undo_list.specs.Stages.{PutsFront}
-use Rattle.recov_alloc.specs.Marks.{MapCovered, MarksBlock, MarksUnits, StoresPair}
+use Rattle.recov_alloc.specs.Marks.{MapCovered, MarksBlock, StoresPair}
+use Rattle.recov_alloc.proofs.MarksLaws.{MarksUnits}
 
 -- ---- the two map words of a page
 

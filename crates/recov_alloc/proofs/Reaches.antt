@@ -1,13 +1,12 @@
 -- How far a block reaches.
-use Rattle.std.proofs.Common.{◌≡◌, ◌≢◌, ℕ, zero, suc, ◌+◌, ◌-◌, ◌*◌, ◌/◌, ◌%◌, ◌<◌, ◌≤◌, ◌⊎◌, inl, inr, sym, ap, subst, ◌∙◌, arith, List, [], ◌∷◌, ◌++◌, Bool, true, false, ◌==◌}
+use Rattle.std.proofs.Common.{◌≡◌, ◌≢◌, ℕ, zero, suc, ◌+◌, ◌-◌, ◌*◌, ◌/◌, ◌%◌, ◌<◌, ◌≤◌, ◌⊎◌, inl, inr, sym, ap, subst, ◌∙◌, arith, List, [], ◌∷◌, ◌++◌, Bool, true, false, ◌==◌, append_assoc, append-nil}
 use Rattle.std.proofs.lemmas.Bool.{cases_eq}
 use Rattle.std.proofs.lemmas.Bool.Decides.{nat_tests}
 use Rattle.std.specs.Prelude.{slice_index}
 use Rattle.std.specs.Int.{bit_at}
-use Rattle.std.proofs.Common.{append_assoc, append-nil}
 use Rattle.rio_base.specs.Regions.{AreWords}
 use Rattle.rio_model.specs.Heap.{used, starts, IsBlock, OfBlocks, blocks_from, run_length}
-use Rattle.rio_model.specs.HeapRules.{block_run}
+use Rattle.rio_model.proofs.HeapRules.{block_run}
 use Rattle.undo_list.specs.Bits.{IsZeros}
 use Rattle.recov_alloc.specs.Bits.{GoesOn, ReachesInPage}
 use Rattle.recov_alloc.specs.Extents.{Within}

@@ -1,5 +1,5 @@
 -- Bits of the heap map that are stored.
-use Rattle.std.specs.Prelude.{◌≡◌, ℕ, ◌+◌, ◌-◌, ◌*◌, ◌/◌, ◌%◌, ◌<◌, ◌⊎◌, ◌&&◌, ◌==◌, nat_le, nat_lt, if◌then◌else◌}
+use Rattle.std.specs.Prelude.{◌≡◌, ℕ, ◌+◌, ◌*◌, ◌/◌, ◌%◌, ◌<◌, ◌⊎◌, ◌&&◌, ◌==◌, nat_le, nat_lt, if◌then◌else◌}
 use Rattle.rio_base.specs.Regions.{RegionContent}
 use Rattle.rio_model.specs.Undo.{CoversAll, undo_records}
 use Rattle.rio_model.specs.Heap.{OffBlock, starts, touched_pages, used}
@@ -11,12 +11,6 @@ pub record StoresPair (l m : ℕ → ℕ) (x n s v : ℕ) : Type 0 where
   pub used : WithBits (l (2 * (x / 64))) (m (2 * (x / 64))) (x % 64) (x % 64 + n) v
   pub starts : WithBits (l (2 * (x / 64) + 1)) (m (2 * (x / 64) + 1)) (x % 64) (x % 64 + s) v
   pub others : (q : ℕ) → (q < 2 * (x / 64)) ⊎ (2 * (x / 64) + 1 < q) → m q ≡ l q
-
--- the units from t on below x are used, or free, with the start of their block where they have it, and no other bit differs
-pub record MarksUnits (l m : ℕ → ℕ) (t x v : ℕ) : Type 0 where
-  pub used : (y : ℕ) → used m y ≡ (if nat_le t y && nat_lt y x then v else used l y)
-  pub starts : (y : ℕ) → starts m y ≡ (if y == t && nat_lt t x then v else starts l y)
-  pub others : (q : ℕ) → (q < 2 * (t / 64)) ⊎ (2 * ((x - 1) / 64) + 1 < q) → m q ≡ l q
 
 -- so are those of a block, with its start
 pub record MarksBlock (l m : ℕ → ℕ) (t n v : ℕ) : Type 0 where

@@ -4,7 +4,7 @@ use Rattle.std.proofs.Common.{◌∙◌, arith, ap, sym, subst, inl, inr, eq-eqb
 use Rattle.std.proofs.lemmas.Bool.{cases_eq}
 use Rattle.rio_base.specs.Image.{entry_at, registry_pages}
 use Rattle.rio_base.specs.Machine.{Contents, Lasts, Running, StepEnds}
-use Rattle.rio_base.specs.MachineRules.{ends_after, lasts_trans}
+use Rattle.rio_base.proofs.MachineRules.{ends_after, lasts_trans}
 use Rattle.rio_model.specs.Registry.{HasLayout, OneEntry, frames_of}
 use Rattle.registry.specs.Changes.{CanChange, ChangesEntry}
 use Rattle.registry.specs.Entries.{entry_of, with_word}

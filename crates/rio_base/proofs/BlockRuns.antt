@@ -4,7 +4,7 @@ use Rattle.std.proofs.Common.{◌∙◌, sym, subst, inl, inr, arith, ap, le_ref
 use Rattle.std.proofs.lemmas.Bool.{cases_eq}
 use Rattle.rio_base.specs.declared.failures.VolFail.{VolFail}
 use Rattle.rio_base.specs.Blocks.{BlockWords, Ends, Health, IsRun}
-use Rattle.rio_base.specs.BlockRules.{ends_later}
+use Rattle.rio_base.proofs.BlockRules.{ends_later}
 
 -- calls that left the object running or stopped as it was
 pub record Ran (s t : Health) : Type 0 where

@@ -1,5 +1,11 @@
+pub mod Bitmap
+pub mod BlockRules
 pub mod BlockRuns
+pub mod BlockSets
+pub mod MachineRules
 pub mod PageCopies
+pub mod RegionRules
 pub mod RegionRuns
+pub mod Rules
 pub mod VolumeRuns
 pub mod WordRuns

@@ -3,7 +3,7 @@ use Rattle.std.specs.Prelude.{◌≡◌, ℕ, ◌+◌, ◌-◌, true, false, Boo
 use Rattle.std.proofs.Common.{◌∙◌, inl, inr, arith, ap}
 use Rattle.std.proofs.lemmas.Bool.Decides.{nat_tests}
 use Rattle.rio_base.specs.declared.places.PageName.{PageName}
-use Rattle.rio_base.specs.BlockRules.{widen_self, widen_twice}
+use Rattle.rio_base.proofs.BlockRules.{widen_self, widen_twice}
 use Rattle.rio_base.specs.Blocks.{BlockWords}
 use Rattle.rio_base.specs.Volume.{RunName, put, put_run, stored_name, widened}
 

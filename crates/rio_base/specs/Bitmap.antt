@@ -1,7 +1,5 @@
 -- The bitmap of a volume: which of its blocks are free.
-use Rattle.std.specs.Prelude.{◌≡◌, ℕ, ◌+◌, ◌/◌, ◌%◌, ◌<◌, Bool, ◌==◌, nat_lt, if◌then◌else◌, List}
-use Rattle.std.proofs.Common.{arith}
-use Rattle.std.proofs.lemmas.Bool.Decides.{nat_tests}
+use Rattle.std.specs.Prelude.{ℕ, ◌+◌, ◌/◌, ◌%◌, Bool, ◌==◌, nat_lt, if◌then◌else◌, List}
 use Rattle.std.specs.List.{filter, range_with_len}
 use Rattle.std.specs.Int.{bit_at}
 use Rattle.rio_base.specs.declared.places.VolumeShape.{VolumeShape}
@@ -11,10 +9,6 @@ use Rattle.rio_base.specs.Blocks.{BlockWords}
 -- version 1 has. The seven further ones of version 2 lie behind the inodes
 unfoldable pub bitmap_block : VolumeShape → ℕ → ℕ
 bitmap_block shape b = if nat_lt b 32768 then 1 else 1 + shape.inodes / 32 + b / 32768
-
-pub first_bitmap : (shape : VolumeShape) (b : ℕ) → b < 32768 → bitmap_block shape b ≡ 1
-unfolding bitmap_block
-first_bitmap shape b first = grind (arith, nat_tests)
 
 -- the bit of block b, 1 for used: bit b % 64 of word b / 64, counted in its block of the bitmap
 abbrev pub used_bit : VolumeShape → BlockWords → ℕ → ℕ

@@ -1,5 +1,4 @@
 pub mod Bitmap
-pub mod BlockRules
 pub mod BlockSets
 pub mod Blocks
 pub mod Counts
@@ -10,10 +9,8 @@ pub mod Hosts
 pub mod Image
 pub mod Layout
 pub mod Machine
-pub mod MachineRules
 pub mod Memory
 pub mod Pieces
-pub mod RegionRules
 pub mod Regions
 pub mod Rules
 pub mod Shapes

@@ -115,17 +115,3 @@ abbrev pub after_wild : Wild → ℕ → ℕ → Running → Running
 after_wild Changed at v r = record r { scratch = slice_set r.scratch (at - r.protected) v }
 after_wild Spared at v r = r
 after_wild Trapped at v r = record r { stopped = true; trapped = Some at }
-
--- what any number of calls leave so. `wilds` are the places that are given to `wild` in them, and `arms` those given to
--- `arm`
-pub record RunsOn (wilds arms : ℕ → Type 0) (old new : Running) : Type 0 where
-  pub protected : new.protected ≡ old.protected
-  pub stop_set : new.stop_set ≡ old.stop_set
-  pub later : old.steps ≤ new.steps
-  pub armed : (new.armed ≡ old.armed) ⊎ (new.armed ≡ None) ⊎ ((at : ℕ) × arms at × (new.armed ≡ Some at))
-  pub stays : old.stopped ≡ true → (new.stopped ≡ true) × (new.trapped ≡ old.trapped) × (new.scratch ≡ old.scratch) × (new.steps ≡ old.steps)
-  pub running : new.stopped ≡ false → new.trapped ≡ old.trapped
-  pub reason : old.stopped ≡ false → new.stopped ≡ true
-      → ((at : ℕ) × ((old.armed ≡ Some at) ⊎ arms at ⊎ wilds at) × (at < old.protected) × (new.trapped ≡ Some at)) ⊎ ((new.trapped ≡ old.trapped) × (old.stop_set ≡ true))
-  pub scratch_count : length new.scratch ≡ length old.scratch
-  pub unnamed : (i : ℕ) → old.armed ≢ Some (old.protected + i) → (arms (old.protected + i) → ⊥) → (wilds (old.protected + i) → ⊥) → slice_index new.scratch i ≡ slice_index old.scratch i

@@ -79,7 +79,7 @@ pub trait Machine {
 
     /// Copies a page to the open page, word by word from the front on: 512 steps. `Stopped` leaves a front copied. What
     /// is copied from a scratch page isn't told.
-    #[tactic(auto, using(crate::specs::MachineRules::steps_refl, crate::specs::MachineRules::steps_trans, crate::specs::MachineRules::ends_after, crate::specs::MachineRules::falls_refl, crate::specs::MachineRules::falls_trans))]
+    #[tactic(auto, using(crate::proofs::MachineRules::steps_refl, crate::proofs::MachineRules::steps_trans, crate::proofs::MachineRules::ends_after, crate::proofs::MachineRules::falls_refl, crate::proofs::MachineRules::falls_trans))]
     fn copy_page(&mut self, from: Page, to: Page) -> Result<(), Stopped>
         requires from { 512 * from.0 < length (contents self.old).words + length (run self.old).scratch }
         requires to { (contents self.old).open_page ≡ Some to.0 }
@@ -103,7 +103,7 @@ pub trait Machine {
 
     /// Stores a run of words of the open page, from place `at` on in rising order: one step each. `Stopped` leaves a
     /// front of them stored.
-    #[tactic(auto, using(crate::specs::MachineRules::steps_refl, crate::specs::MachineRules::steps_trans, crate::specs::MachineRules::ends_after, crate::specs::MachineRules::falls_refl, crate::specs::MachineRules::falls_trans))]
+    #[tactic(auto, using(crate::proofs::MachineRules::steps_refl, crate::proofs::MachineRules::steps_trans, crate::proofs::MachineRules::ends_after, crate::proofs::MachineRules::falls_refl, crate::proofs::MachineRules::falls_trans))]
     fn store_run(&mut self, at: WordAt, from: &[u64]) -> Result<(), Stopped>
         requires page { (contents self.old).open_page ≡ Some (at.0 / 512) }
         requires within { at.0 % 512 + length from.now ≤ 512 }

@@ -1,34 +1,16 @@
 -- What every call on a region's words leaves of the state, by how it ended.
-use Rattle.std.proofs.Common.{◌≡◌, ℕ, ◌*◌, ◌/◌, inl, inr, Bool, Option, Some, None, Result, Ok, Err, List, refl, sym, ap, subst, ◌∙◌, arith}
-use Rattle.std.specs.FinMap.{get}
-use Rattle.rio_base.specs.declared.places.VolumeShape.{VolumeShape}
-use Rattle.rio_base.specs.Blocks.{BlockWords}
-use Rattle.rio_base.specs.Regions.{RegionContent}
-use Rattle.rio_model.specs.declared.node.RegionNode.{RegionNode}
-use Rattle.rio_model.specs.declared.state.State.{State}
-use Rattle.rio_model.specs.declared.txn.Txn.{Txn}
-use Rattle.rio_model.specs.Heap.{IsSoundRegion}
-use Rattle.rio_model.specs.Held.{held_of}
-use Rattle.rio_model.specs.Undo.{Undoes}
-use Rattle.rio_model.specs.UndoRules.{undoes_refl}
-use Rattle.rio_model.specs.VolumeReads.{ReadsAs}
-use Rattle.rio_requests.specs.declared.plain.Answered.{Answered}
-use Rattle.rio_requests.specs.declared.reply.Reply.{Reply}
+use Rattle.rio_core.proofs.Common.{◌≡◌, ℕ, ◌*◌, ◌/◌, inl, inr, Bool, Option, Some, None, Result, Ok, Err, List, refl, sym, ap, subst, ◌∙◌, arith, get, VolumeShape, BlockWords, RegionContent, RegionNode, State, Txn, IsSoundRegion, held_of, Undoes, ReadsAs, Answered, Reply, Request, served_of, crashed, FaultStep, changed, txn_at, with_region, Fits, TxnEnds, Marks, mark_of, set_mark, txn_in, region_now, TxnFail, Stopped}
+use Rattle.rio_model.proofs.UndoRules.{undoes_refl}
 use Rattle.rio_requests.specs.declared.reply.Reply.TheVariants.{Err as RefusedBy, Fault as Faulted}
-use Rattle.rio_requests.specs.declared.request.Request.{Request}
 use Rattle.rio_requests.specs.Answer.{at_inode}
-use Rattle.rio_requests.specs.Answers.{served_of}
-use Rattle.rio_requests.specs.Crash.{crashed}
-use Rattle.rio_requests.specs.Parts.{FaultStep}
 use Rattle.rio_requests.specs.RegionAnswers.{Outcome}
-use Rattle.rio_requests.specs.Transactions.{at_region, changed, on_region, txn_at, with_region}
-use Rattle.vista_region.specs.Ends.{DoneAs, Fits, TxnEnds}
-use Rattle.vista_region.specs.Marks.{Marks, mark_of, set_mark, txn_in}
-use Rattle.vista_region.specs.Regions.{region_now}
-use Rattle.vista_region.specs.declared.failures.TxnFail.{TxnFail}
-use Rattle.vista_region.specs.declared.failures.TxnFail.TheVariants.{NoTransaction, Doomed, NotAligned, OutOfRange, NotCovered, NotBlock, HeapFull, UndoFull, Fault, Stopped}
-use Rattle.rio_core.specs.CallEnds.{CallEnds, CalledOn, ReadsHeld, told, words_at}
-use Rattle.rio_core.specs.Regions.{RegionHeld, SameAnswers}
+use Rattle.rio_requests.specs.Transactions.{at_region, on_region}
+use Rattle.vista_region.specs.Ends.{DoneAs}
+use Rattle.vista_region.specs.declared.failures.TxnFail.TheVariants.{NoTransaction, Doomed, NotAligned, OutOfRange, NotCovered, NotBlock, HeapFull, UndoFull, Fault}
+use Rattle.rio_core.proofs.CallEnds.{CallEnds}
+use Rattle.rio_core.specs.CallEnds.{CalledOn, ReadsHeld, told, words_at}
+use Rattle.rio_core.specs.Regions.{RegionHeld}
+use Rattle.rio_core.proofs.RegionsLaws.{SameAnswers}
 use Rattle.rio_core.proofs.HeldRules.{fits_held, same_answers}
 use Rattle.rio_core.proofs.ReadMoves.{reads_move, reads_undone}
 use Rattle.rio_core.proofs.RegionSteps.{region_crashes, region_stays, region_steps, same_region}

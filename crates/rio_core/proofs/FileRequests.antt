@@ -1,30 +1,20 @@
 -- How a request on files ends, by how the call on files does over what a stop leaves of the state.
-use Rattle.std.proofs.Common.{◌≡◌, ℕ, List, refl, sym, ap, subst, ◌∙◌, inl, inr}
+use Rattle.rio_core.proofs.Common.{◌≡◌, ℕ, List, refl, sym, ap, subst, ◌∙◌, inl, inr, VolumeShape, Seen, Kept, State, volume_layout, LeavesInUse, Answered, Reply, Request, served_of, crashed, FaultStep, Stands, FileFail, Refused, Fault, Memory, Marks}
 use Rattle.std.specs.Prelude.{Result, Ok, Err, Option, Some}
 use Rattle.rio_base.specs.declared.failures.Stopped.{Stopped as MachineStopped}
-use Rattle.rio_base.specs.declared.places.VolumeShape.{VolumeShape}
-use Rattle.rio_base.specs.Blocks.{Seen}
-use Rattle.rio_base.specs.Volume.{Kept}
-use Rattle.rio_model.specs.declared.state.State.{State}
-use Rattle.rio_model.specs.Placed.{volume_layout}
 use Rattle.rio_model.specs.Transactions.{open_inodes}
-use Rattle.rio_model.specs.VolumeReady.{LeavesInUse}
-use Rattle.rio_requests.specs.declared.plain.Answered.{Answered}
-use Rattle.rio_requests.specs.declared.reply.Reply.{Reply}
 use Rattle.rio_requests.specs.declared.reply.Reply.TheVariants.{Err as RefusedBy}
-use Rattle.rio_requests.specs.declared.request.Request.{Request}
 use Rattle.rio_requests.specs.declared.request.Request.TheVariants.{Mkdir, Create, Region as MakeRegion, Write, Read, Truncate, Unlink, Rmdir, Rename, Stat as StatOf, List as ListOf}
-use Rattle.rio_requests.specs.Answers.{answer_of, served_of}
-use Rattle.rio_requests.specs.Crash.{OpenRegions, crashed}
-use Rattle.rio_requests.specs.CrashFiles.{OnFiles, answer_beside, fault_crashed, files_crashed, files_leave, part_crashed, served_files}
-use Rattle.rio_requests.specs.CrashRules.{LeavesOpen, leaves_itself}
-use Rattle.rio_requests.specs.Parts.{FaultStep, LeadStep, PartOf}
+use Rattle.rio_requests.specs.Answers.{answer_of}
+use Rattle.rio_requests.specs.Crash.{OpenRegions}
+use Rattle.rio_requests.specs.CrashFiles.{OnFiles}
+use Rattle.rio_requests.proofs.CrashFiles.{answer_beside, fault_crashed, files_crashed, files_leave, part_crashed, served_files}
+use Rattle.rio_requests.proofs.CrashRules.{LeavesOpen, leaves_itself}
+use Rattle.rio_requests.specs.Parts.{LeadStep, PartOf}
 use Rattle.rio_requests.specs.Run.{MayLackMemory}
-use Rattle.file_store.specs.Ends.{FileEnds, Left, Stands}
-use Rattle.file_store.specs.EndRules.{left_same}
-use Rattle.file_store.specs.declared.failures.FileFail.{FileFail}
-use Rattle.file_store.specs.declared.failures.FileFail.TheVariants.{Refused, Fault, Stopped, Memory}
-use Rattle.vista_region.specs.Marks.{Marks}
+use Rattle.file_store.specs.Ends.{FileEnds, Left}
+use Rattle.file_store.proofs.EndRules.{left_same}
+use Rattle.file_store.specs.declared.failures.FileFail.TheVariants.{Stopped}
 use Rattle.rio_core.specs.Replying.{Replies}
 use Rattle.rio_core.specs.Serving.{RequestEnds, Serves}
 use Rattle.rio_core.proofs.FileSteps.{files_held}

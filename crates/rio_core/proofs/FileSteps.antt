@@ -1,22 +1,13 @@
 -- A request on files leaves the regions and their transactions as they are held.
-use Rattle.std.proofs.Common.{◌≡◌, ℕ, ◌/◌, ◌⊎◌, inl, inr, Option, Some, None, List, refl, sym, ap, subst, ◌∙◌}
-use Rattle.std.specs.FinMap.{get}
-use Rattle.rio_base.specs.declared.places.VolumeShape.{VolumeShape}
-use Rattle.rio_base.specs.Blocks.{BlockWords}
-use Rattle.rio_model.specs.declared.node.Node.TheVariants.{Region}
-use Rattle.rio_model.specs.declared.node.RegionNode.{RegionNode}
-use Rattle.rio_model.specs.declared.state.State.{State}
-use Rattle.rio_model.specs.declared.txn.Txn.{Txn}
-use Rattle.rio_model.specs.Held.{Held, held_of}
-use Rattle.rio_model.specs.UndoRules.{no_records}
-use Rattle.rio_model.specs.VolumeReads.{ReadsAs, node_in, region_in}
-use Rattle.rio_model.specs.VolumeReadRules.{reads_none, reads_region}
-use Rattle.rio_requests.specs.Crash.{OneEach, OpenRegions, crashed}
-use Rattle.rio_requests.specs.CrashRules.{LeavesOpen, get_undone, still_regions, undone_node}
-use Rattle.rio_requests.specs.Transactions.{txn_at}
-use Rattle.vista_region.specs.Marks.{Marks, mark_of}
+use Rattle.rio_core.proofs.Common.{◌≡◌, ℕ, ◌/◌, ◌⊎◌, inl, inr, Option, Some, None, List, refl, sym, ap, subst, ◌∙◌, get, VolumeShape, BlockWords, Region, RegionNode, State, Txn, Held, held_of, ReadsAs, region_in, reads_region, OneEach, crashed, get_undone, undone_node, txn_at, Marks, mark_of}
+use Rattle.rio_model.proofs.UndoRules.{no_records}
+use Rattle.rio_model.specs.VolumeReads.{node_in}
+use Rattle.rio_model.proofs.VolumeReadRules.{reads_none}
+use Rattle.rio_requests.specs.Crash.{OpenRegions}
+use Rattle.rio_requests.proofs.CrashRules.{LeavesOpen, still_regions}
 use Rattle.rio_core.specs.CallEnds.{ReadsHeld}
-use Rattle.rio_core.specs.Regions.{RegionHeld, mark_in, marks_of}
+use Rattle.rio_core.specs.Regions.{RegionHeld, marks_of}
+use Rattle.rio_core.proofs.RegionsLaws.{mark_in}
 use Rattle.file_store.specs.Ends.{Spares}
 use Rattle.rio_core.proofs.Lookups.{region_kind, region_on}
 use Rattle.rio_core.proofs.RegionSteps.{held_as, same_region}

@@ -1,23 +1,18 @@
 -- What a region's words say of it and of its transaction: how requests are answered over it, and what calls leave.
-use Rattle.std.proofs.Common.{◌≡◌, ℕ, ◌+◌, ◌*◌, Bool, true, false, Option, Some, None, Ok, Err, List, [], length, map, take, refl, sym, ap, subst, ◌∙◌}
+use Rattle.rio_core.proofs.Common.{◌≡◌, ℕ, ◌*◌, Bool, true, false, Option, Some, None, Ok, Err, List, [], map, refl, sym, ap, subst, ◌∙◌, RegionContent, Region, RegionNode, Txn, IsSoundRegion, Dropped, Undoes, region_in, undone_node, alloc_on, begin_on, commit_on, free_on, get_on, put_on, range_on, Fits, Marks, mark_of, txn_in, region_now}
+use Rattle.std.proofs.Common.{◌+◌, length, take}
 use Rattle.std.specs.List.{range_with_len}
 use Rattle.std.proofs.lemmas.List.FromFn.{length-map-range_with_len}
-use Rattle.rio_base.specs.Regions.{RegionContent}
-use Rattle.rio_model.specs.declared.node.Node.TheVariants.{Region}
-use Rattle.rio_model.specs.declared.node.RegionNode.{RegionNode}
-use Rattle.rio_model.specs.declared.txn.Txn.{Txn}
-use Rattle.rio_model.specs.Heap.{IsSoundRegion, OfBlocks, heap_blocks}
-use Rattle.rio_model.specs.Undo.{Dropped, SameSizes, UndoRecord, Undoes, before, before_by, data_from, live, map_pages, taken, undo_records}
-use Rattle.rio_model.specs.UndoRules.{dropped_before}
-use Rattle.rio_model.specs.VolumeReads.{region_in}
+use Rattle.rio_model.specs.Heap.{OfBlocks, heap_blocks}
+use Rattle.rio_model.specs.Undo.{SameSizes, UndoRecord, before, before_by, data_from, live, map_pages, taken, undo_records}
+use Rattle.rio_model.proofs.UndoRules.{dropped_before}
 use Rattle.rio_requests.specs.declared.region_answer.RegionAnswer.{RegionAnswer}
 use Rattle.rio_requests.specs.declared.reply.Reply.TheVariants.{Ok as Done}
-use Rattle.rio_requests.specs.CrashRules.{undone_node}
-use Rattle.rio_requests.specs.RegionAnswers.{Outcome, alloc_on, begin_on, commit_on, free_on, get_on, put_on, range_on, undone, with_words}
-use Rattle.vista_region.specs.Ends.{Fits}
-use Rattle.vista_region.specs.Marks.{Marks, mark_of, marked_txn, txn_in}
-use Rattle.vista_region.specs.Regions.{ranges_of, region_now, txn_now}
-use Rattle.rio_core.specs.Regions.{IsDoomed, IsOn, RegionHeld, SameAnswers, mark_in}
+use Rattle.rio_requests.specs.RegionAnswers.{Outcome, undone, with_words}
+use Rattle.vista_region.specs.Marks.{marked_txn}
+use Rattle.vista_region.specs.Regions.{ranges_of, txn_now}
+use Rattle.rio_core.specs.Regions.{IsDoomed, RegionHeld}
+use Rattle.rio_core.proofs.RegionsLaws.{IsOn, SameAnswers, mark_in}
 
 -- ---- the node that words say
 

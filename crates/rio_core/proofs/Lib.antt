@@ -1,4 +1,6 @@
+pub mod CallEnds
 pub mod CallRules
+pub mod Common
 pub mod FileRequests
 pub mod FileSteps
 pub mod HeldRules
@@ -10,6 +12,7 @@ pub mod RegionEnds
 pub mod RegionReplies
 pub mod RegionRequests
 pub mod RegionSteps
+pub mod RegionsLaws
 pub mod ReplyEnds
 pub mod RowRules
 pub mod Served

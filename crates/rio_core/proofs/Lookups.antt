@@ -1,38 +1,23 @@
 -- The region at a path, looked up in what a stop leaves: it is found, or refused, as in the state itself.
-use Rattle.std.proofs.Common.{◌≡◌, ◌≢◌, ℕ, zero, suc, ◌<◌, ◌≤◌, ◌⊎◌, ◌==◌, inl, inr, Bool, true, false, cond, Option, Some, None, Ok, Err, List, [], ◌∷◌, map, refl, sym, ap, subst, ◌∙◌, arith}
+use Rattle.rio_core.proofs.Common.{◌≡◌, ◌≢◌, ℕ, ◌⊎◌, inl, inr, Bool, true, false, Option, Some, None, Ok, Err, List, [], ◌∷◌, map, refl, sym, ap, subst, ◌∙◌, arith, get, Ino, VolumeShape, BlockWords, Node, Region, RegionNode, State, Txn, Held, held_of, names_of, volume_layout, ReadsAs, region_in, Answered, Request, Begin, Range, Put, Get, Alloc, Free, Commit, Abort, served_of, OneEach, crashed, get_undone, undone_node, FaultStep, abort_on, alloc_on, begin_on, commit_on, free_on, get_on, put_on, range_on, changed, txn_at, Marks}
+use Rattle.std.proofs.Common.{zero, suc, ◌<◌, ◌≤◌, ◌==◌, cond}
 use Rattle.std.specs.Prelude.{◌&&◌, nat_le}
-use Rattle.std.specs.FinMap.{get}
 use Rattle.std.proofs.lemmas.Bool.Decides.{nat_tests}
-use Rattle.rio_base.specs.declared.places.Ino.{Ino}
-use Rattle.rio_base.specs.declared.places.VolumeShape.{VolumeShape}
-use Rattle.rio_base.specs.Blocks.{BlockWords}
-use Rattle.rio_model.specs.declared.node.Node.{Node}
-use Rattle.rio_model.specs.declared.node.Node.TheVariants.{Dir, File, Region}
-use Rattle.rio_model.specs.declared.node.RegionNode.{RegionNode}
-use Rattle.rio_model.specs.declared.state.State.{State}
-use Rattle.rio_model.specs.declared.txn.Txn.{Txn}
-use Rattle.rio_model.specs.Held.{Held, entry_ino, held, held_bytes, held_in, held_of, nothing}
+use Rattle.rio_model.specs.declared.node.Node.TheVariants.{Dir, File}
+use Rattle.rio_model.specs.Held.{entry_ino, held, held_bytes, held_in, nothing}
 use Rattle.rio_model.specs.HeldRules.{held_ino}
-use Rattle.rio_model.specs.Paths.{from_found, is_dir, names_of, walk}
-use Rattle.rio_model.specs.Placed.{Layout, volume_layout}
-use Rattle.rio_model.specs.PlacedRules.{root_ino}
+use Rattle.rio_model.specs.Paths.{from_found, is_dir, walk}
+use Rattle.rio_model.specs.Placed.{Layout}
+use Rattle.rio_model.proofs.PlacedRules.{root_ino}
 use Rattle.rio_model.specs.Transactions.{open_inodes}
-use Rattle.rio_model.specs.VolumeReads.{ReadsAs, node_in, region_in}
-use Rattle.rio_model.specs.VolumeReadRules.{reads_dir, reads_file, reads_none}
+use Rattle.rio_model.specs.VolumeReads.{node_in}
+use Rattle.rio_model.proofs.VolumeReadRules.{reads_dir, reads_file, reads_none}
 use Rattle.rio_model.specs.VolumeRules.{KindRule}
-use Rattle.rio_requests.specs.declared.plain.Answered.{Answered}
 use Rattle.rio_requests.specs.declared.reply.Reply.TheVariants.{Err as RefusedBy, Fault as Faulted}
-use Rattle.rio_requests.specs.declared.request.Request.{Request}
-use Rattle.rio_requests.specs.declared.request.Request.TheVariants.{Begin, Range, Put, Get, Alloc, Free, Commit, Abort}
 use Rattle.rio_requests.specs.Answer.{at_inode, refused}
-use Rattle.rio_requests.specs.Answers.{served_of}
-use Rattle.rio_requests.specs.Crash.{OneEach, crashed}
-use Rattle.rio_requests.specs.CrashRules.{get_undone, undone_node}
-use Rattle.rio_requests.specs.Parts.{FaultStep}
-use Rattle.rio_requests.specs.RegionAnswers.{abort_on, alloc_on, begin_on, commit_on, free_on, get_on, put_on, range_on}
-use Rattle.rio_requests.specs.Transactions.{at_region, changed, looked, on_region, open_inos, txn_at}
-use Rattle.vista_region.specs.Marks.{Marks}
-use Rattle.rio_core.specs.CallEnds.{CallEnds, IsAt, ReadsHeld}
+use Rattle.rio_requests.specs.Transactions.{at_region, looked, on_region, open_inos}
+use Rattle.rio_core.proofs.CallEnds.{CallEnds}
+use Rattle.rio_core.specs.CallEnds.{IsAt, ReadsHeld}
 use Rattle.rio_core.specs.Regions.{marks_of}
 
 -- ---- a region, before and after a stop

@@ -1,25 +1,8 @@
 -- What blocks read as, where the words of one region alone differ.
-use Rattle.std.proofs.Common.{◌≡◌, ◌≢◌, ℕ, ◌/◌, ◌⊎◌, inl, inr, false, Option, Some, None, sym, ap, subst, ◌∙◌, arith}
-use Rattle.std.specs.FinMap.{get}
-use Rattle.std.proofs.lemmas.Bool.{cases_eq}
-use Rattle.rio_base.specs.declared.places.VolumeShape.{VolumeShape}
-use Rattle.rio_base.specs.Blocks.{BlockWords}
-use Rattle.rio_model.specs.declared.node.Node.{Node}
-use Rattle.rio_model.specs.declared.node.Node.TheVariants.{Region}
-use Rattle.rio_model.specs.declared.node.RegionNode.{RegionNode}
-use Rattle.rio_model.specs.declared.state.State.{State}
-use Rattle.rio_model.specs.Heap.{IsSoundRegion}
-use Rattle.rio_model.specs.Held.{Held, held_of}
+use Rattle.rio_core.proofs.Common.{◌≡◌, ◌≢◌, ℕ, ◌/◌, ◌⊎◌, inl, inr, false, Option, Some, None, sym, ap, subst, ◌∙◌, arith, get, cases_eq, VolumeShape, BlockWords, Node, Region, RegionNode, State, IsSoundRegion, Held, held_of, with_node, Undoes, ReadsAs, region_in, reads_region, IsMapped, crashed, RestHeld}
 use Rattle.rio_model.specs.Paths.{is_dir}
-use Rattle.rio_model.specs.States.{with_node}
-use Rattle.rio_model.specs.Undo.{Undoes}
-use Rattle.rio_model.specs.VolumeReads.{ReadsAs, region_in}
-use Rattle.rio_model.specs.VolumeReadRules.{reads_region}
-use Rattle.rio_model.specs.VolumeRules.{IsMapped}
 use Rattle.rio_model.proofs.StateSteps.{SetsNode, apart_set, entries_set, reads_set, tree_set}
-use Rattle.rio_requests.specs.Crash.{crashed}
-use Rattle.rio_core.specs.Regions.{RegionMoves}
-use Rattle.file_store.specs.Views.{RestHeld}
+use Rattle.rio_core.proofs.RegionsLaws.{RegionMoves}
 use Rattle.rio_core.proofs.HeldRules.{in_same, undoes_sound}
 use Rattle.rio_core.proofs.RegionSteps.{region_rests}
 

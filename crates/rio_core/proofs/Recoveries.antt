@@ -1,29 +1,13 @@
 -- Regions whose undo records are put back, one after another: the state stays, and then it is held without a transaction.
-use Rattle.std.proofs.Common.{◌≡◌, ◌≢◌, ℕ, ◌/◌, ◌⊎◌, inl, inr, Some, None, List, [], sym, ap, subst, ◌∙◌}
-use Rattle.std.specs.FinMap.{get, insert}
-use Rattle.std.proofs.lemmas.Bool.{cases_eq}
-use Rattle.rio_base.specs.declared.places.VolumeShape.{VolumeShape}
-use Rattle.rio_base.specs.Blocks.{BlockWords}
-use Rattle.rio_model.specs.declared.node.Node.{Node}
-use Rattle.rio_model.specs.declared.node.Node.TheVariants.{Region}
-use Rattle.rio_model.specs.declared.node.RegionNode.{RegionNode}
-use Rattle.rio_model.specs.declared.state.State.{State}
-use Rattle.rio_model.specs.declared.txn.Txn.{Txn}
-use Rattle.rio_model.specs.Held.{held_of}
+use Rattle.rio_core.proofs.Common.{◌≡◌, ◌≢◌, ℕ, ◌/◌, ◌⊎◌, inl, inr, Some, None, List, [], sym, ap, subst, ◌∙◌, get, cases_eq, VolumeShape, BlockWords, Node, Region, RegionNode, State, Txn, held_of, with_node, Undoes, ReadsAs, region_in, reads_region, IsMapped, OneEach, crashed, txn_at, mark_of, RestHeld}
+use Rattle.std.specs.FinMap.{insert}
 use Rattle.rio_model.specs.Nodes.{Nodes}
-use Rattle.rio_model.specs.States.{with_node}
-use Rattle.rio_model.specs.Undo.{Undoes, undo_records}
-use Rattle.rio_model.specs.VolumeReads.{ReadsAs, region_in}
-use Rattle.rio_model.specs.VolumeReadRules.{reads_region}
-use Rattle.rio_model.specs.VolumeRules.{IsMapped}
+use Rattle.rio_model.specs.Undo.{undo_records}
 use Rattle.rio_model.proofs.NodeOrder.{same_nodes}
 use Rattle.rio_model.proofs.StateSteps.{get_here, get_there}
-use Rattle.rio_requests.specs.Crash.{OneEach, crashed, undo_all}
-use Rattle.rio_requests.specs.Transactions.{txn_at}
-use Rattle.vista_region.specs.Marks.{mark_of}
+use Rattle.rio_requests.specs.Crash.{undo_all}
 use Rattle.rio_core.specs.CallEnds.{ReadsHeld, words_at}
 use Rattle.rio_core.specs.Regions.{RegionHeld, marks_of}
-use Rattle.file_store.specs.Views.{RestHeld}
 use Rattle.rio_core.proofs.HeldRules.{in_same}
 use Rattle.rio_core.proofs.Lookups.{region_kind}
 use Rattle.rio_core.proofs.ReadMoves.{region_set, sound_after}

@@ -1,21 +1,13 @@
 -- Regions of the tests that stop while a transaction is open on them.
-use Rattle.std.proofs.Common.{◌≡◌, ℕ, ◌*◌, ◌/◌, false, Some, List, [], ◌∷◌, refl, sym, ap, subst, ◌∙◌, arith, inr}
+use Rattle.rio_core.proofs.Common.{◌≡◌, ℕ, ◌*◌, ◌/◌, false, Some, List, [], ◌∷◌, refl, sym, ap, subst, ◌∙◌, arith, inr, Ino, VolumeShape, BlockWords, RegionContent, IsSoundRegion, held_of, OnRegion, Fits, Marks, set_mark}
 use Rattle.std.proofs.lemmas.List.Elements.{All-cons, All-nil}
 use Rattle.rio_fakes.specs.declared.list_volume.ListVolume.{ListVolume}
-use Rattle.rio_base.specs.declared.places.Ino.{Ino}
-use Rattle.rio_base.specs.declared.places.VolumeShape.{VolumeShape}
-use Rattle.rio_base.specs.Blocks.{BlockWords}
 use Rattle.rio_fakes.specs.ListVolumes.{list_kept, list_seen}
-use Rattle.rio_base.specs.Regions.{RegionContent}
-use Rattle.rio_model.specs.Heap.{IsSoundRegion, OfBlocks}
-use Rattle.rio_model.specs.Held.{held_of}
+use Rattle.rio_model.specs.Heap.{OfBlocks}
 use Rattle.rio_model.specs.Paths.{IsName, IsNameByte, IsPath}
 use Rattle.rio_model.specs.Undo.{UndoRecord, before_by, live}
-use Rattle.rio_model.specs.UndoRules.{no_records}
+use Rattle.rio_model.proofs.UndoRules.{no_records}
 use Rattle.file_store.specs.Ends.{CanServe}
-use Rattle.file_store.specs.Views.{OnRegion}
-use Rattle.vista_region.specs.Ends.{Fits}
-use Rattle.vista_region.specs.Marks.{Marks, set_mark}
 use Rattle.rio_core.specs.CallEnds.{words_at}
 
 -- `r` is a name, and `/r` a path

@@ -1,32 +1,14 @@
 -- A request on a region ends as a served request does.
-use Rattle.std.proofs.Common.{◌≡◌, ℕ, List, Option, Result, Some, None, Ok, Err, refl, sym, ap, subst, ◌∙◌}
+use Rattle.rio_core.proofs.Common.{◌≡◌, ℕ, List, Option, Result, Some, None, Ok, Err, refl, sym, ap, subst, ◌∙◌, VolumeShape, Ino, BlockWords, Seen, Kept, Settled, State, RegionNode, names_of, volume_layout, ReadsAs, LeavesInUse, Ready, IsMapped, Reply, Request, crashed, txn_at, Stands, FindsRegion, OnRegion, RestHeld, FileFail, Refused, Fault, Memory, Fits, Marks, mark_of}
 use Rattle.rio_base.specs.declared.failures.Stopped.{Stopped as MachineStopped}
-use Rattle.rio_base.specs.declared.places.VolumeShape.{VolumeShape}
-use Rattle.rio_base.specs.declared.places.Ino.{Ino}
-use Rattle.rio_base.specs.Blocks.{BlockWords, Seen}
-use Rattle.rio_base.specs.Volume.{Kept, Settled}
-use Rattle.rio_model.specs.declared.state.State.{State}
-use Rattle.rio_model.specs.declared.node.RegionNode.{RegionNode}
-use Rattle.rio_model.specs.Paths.{names_of, walk}
-use Rattle.rio_model.specs.Placed.{volume_layout}
-use Rattle.rio_model.specs.VolumeReads.{ReadsAs}
-use Rattle.rio_model.specs.VolumeReadRules.{reads_agree}
-use Rattle.rio_model.specs.VolumeReady.{LeavesInUse, Ready}
-use Rattle.rio_model.specs.VolumeRules.{IsMapped}
-use Rattle.rio_requests.specs.declared.reply.Reply.{Reply}
+use Rattle.rio_model.specs.Paths.{walk}
+use Rattle.rio_model.proofs.VolumeReadRules.{reads_agree}
 use Rattle.rio_requests.specs.declared.reply.Reply.TheVariants.{Err as RefusedBy, Fault as Faulted}
-use Rattle.rio_requests.specs.declared.request.Request.{Request}
-use Rattle.rio_requests.specs.Crash.{crashed}
-use Rattle.rio_requests.specs.Transactions.{txn_at}
-use Rattle.file_pages.specs.OrderRules.{stands_left, stands_ready_left}
-use Rattle.file_store.specs.Ends.{Stands}
-use Rattle.file_store.specs.NewRegions.{FindsRegion}
-use Rattle.file_store.specs.Views.{OnRegion, RestHeld, rest_refl}
-use Rattle.file_store.specs.declared.failures.FileFail.{FileFail}
-use Rattle.file_store.specs.declared.failures.FileFail.TheVariants.{Refused, Fault, Stopped, Memory}
-use Rattle.vista_region.specs.Ends.{Fits}
-use Rattle.vista_region.specs.Marks.{Marks, mark_of}
-use Rattle.rio_core.specs.CallEnds.{CallEnds, CalledOn, IsAt, ReadsHeld, TellsAs, words_at}
+use Rattle.file_pages.proofs.OrderRules.{stands_left, stands_ready_left}
+use Rattle.file_store.specs.Views.{rest_refl}
+use Rattle.file_store.specs.declared.failures.FileFail.TheVariants.{Stopped}
+use Rattle.rio_core.proofs.CallEnds.{CallEnds}
+use Rattle.rio_core.specs.CallEnds.{CalledOn, IsAt, ReadsHeld, TellsAs, words_at}
 use Rattle.rio_core.specs.Replying.{RepliesFail}
 use Rattle.rio_core.specs.Serving.{RequestEnds, Serves}
 use Rattle.rio_core.proofs.CallRules.{own, sound_before}

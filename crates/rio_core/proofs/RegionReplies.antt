@@ -1,30 +1,15 @@
 -- Each request on a region, from what a call on a view of its words says, to how the request ends.
-use Rattle.std.proofs.Common.{◌≡◌, ℕ, ◌⊎◌, Bool, true, false, Some, None, Result, Ok, Err, List, sym, ap, subst, ◌∙◌}
-use Rattle.std.specs.Prelude.{IfErr, IfOk, IsErr, IsErrOf, OnOk}
+use Rattle.rio_core.proofs.Common.{◌≡◌, ℕ, ◌⊎◌, Bool, true, false, Some, None, Result, Ok, Err, List, sym, ap, subst, ◌∙◌, IfOk, IsErr, IsErrOf, Ino, VolumeShape, Seen, RegionContent, Kept, Settled, RegionNode, State, Dropped, Undoes, Ready, Reply, Bytes, Begin, Range, Put, Get, Alloc, Free, Commit, Abort, abort_on, alloc_on, commit_on, free_on, get_on, put_on, range_on, OnRegion, Fits, IsFault, TxnEnds, says_done, says_number, Marks, mark_of, set_mark, txn_in, region_now, TxnFail, Stopped}
+use Rattle.std.specs.Prelude.{IfErr, OnOk}
 use Rattle.rio_base.specs.declared.failures.Stopped.{Stopped as MachineStopped}
-use Rattle.rio_base.specs.declared.places.Ino.{Ino}
-use Rattle.rio_base.specs.declared.places.VolumeShape.{VolumeShape}
-use Rattle.rio_base.specs.Blocks.{Seen}
-use Rattle.rio_base.specs.Regions.{RegionContent}
-use Rattle.rio_base.specs.Volume.{Kept, Settled}
-use Rattle.rio_model.specs.declared.node.RegionNode.{RegionNode}
-use Rattle.rio_model.specs.declared.state.State.{State}
-use Rattle.rio_model.specs.Undo.{Dropped, Undoes}
-use Rattle.rio_model.specs.VolumeReady.{Ready}
-use Rattle.rio_requests.specs.declared.reply.Reply.{Reply}
-use Rattle.rio_requests.specs.declared.reply.Reply.TheVariants.{Ok as Done, Bytes}
-use Rattle.rio_requests.specs.declared.request.Request.TheVariants.{Begin, Range, Put, Get, Alloc, Free, Commit, Abort}
-use Rattle.rio_requests.specs.RegionAnswers.{abort_on, alloc_on, commit_on, free_on, get_on, put_on, range_on}
-use Rattle.file_store.specs.Views.{OnRegion, SameBeside}
-use Rattle.vista_region.specs.Ends.{Fits, IsFault, OnFault, PutPart, TxnEnds, get_refusal_of, says_bytes, says_done, says_number}
-use Rattle.vista_region.specs.Marks.{Marks, mark_of, set_mark, txn_in}
-use Rattle.vista_region.specs.Regions.{region_now}
+use Rattle.rio_requests.specs.declared.reply.Reply.TheVariants.{Ok as Done}
+use Rattle.file_store.specs.Views.{SameBeside}
+use Rattle.vista_region.specs.Ends.{OnFault, PutPart, get_refusal_of, says_bytes}
 use Rattle.vista_region.specs.declared.failures.BeginFail.{BeginFail}
 use Rattle.vista_region.specs.declared.failures.BeginFail.TheVariants.{Busy}
 use Rattle.vista_region.specs.declared.failures.GetFail.{GetFail}
-use Rattle.vista_region.specs.declared.failures.TxnFail.{TxnFail}
-use Rattle.vista_region.specs.declared.failures.TxnFail.TheVariants.{Stopped}
-use Rattle.rio_core.specs.CallEnds.{CallEnds, CalledOn, TellsAs, begin_told, get_told, told, words_at}
+use Rattle.rio_core.proofs.CallEnds.{CallEnds}
+use Rattle.rio_core.specs.CallEnds.{CalledOn, TellsAs, begin_told, get_told, told, words_at}
 use Rattle.rio_core.specs.Serving.{RequestEnds}
 use Rattle.rio_core.proofs.RegionEnds.{called_after, told_ends}
 use Rattle.rio_core.proofs.RegionRequests.{abort_ends, alloc_ends, begin_ends, commit_ends, free_ends, get_ends, put_ends, range_ends}

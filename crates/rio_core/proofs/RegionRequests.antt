@@ -1,32 +1,21 @@
 -- Each request on a region ends as its definition says, from what the call on the region's words tells.
-use Rattle.std.proofs.Common.{◌≡◌, ℕ, ◌⊎◌, inl, inr, Bool, true, false, Option, Some, None, Result, Ok, Err, List, take, refl, sym, ap, subst, ◌∙◌}
-use Rattle.std.specs.Prelude.{IfErr, IfOk, IsErr, IsErrOf, OnOk, is_err}
-use Rattle.rio_base.specs.declared.places.VolumeShape.{VolumeShape}
-use Rattle.rio_base.specs.Blocks.{BlockWords}
-use Rattle.rio_model.specs.declared.node.RegionNode.{RegionNode}
-use Rattle.rio_model.specs.declared.state.State.{State}
-use Rattle.rio_model.specs.declared.txn.Txn.{Txn}
-use Rattle.rio_model.specs.Heap.{IsSoundRegion}
-use Rattle.rio_model.specs.Undo.{Dropped, Undoes}
-use Rattle.rio_model.specs.UndoRules.{undoes_refl}
-use Rattle.rio_requests.specs.declared.plain.Answered.{Answered}
-use Rattle.rio_requests.specs.declared.reply.Reply.TheVariants.{Ok as Done, Bytes, Err as RefusedBy, Fault as Faulted}
-use Rattle.rio_requests.specs.declared.request.Request.{Request}
-use Rattle.rio_requests.specs.declared.request.Request.TheVariants.{Begin, Range, Put, Get, Alloc, Free, Commit, Abort}
-use Rattle.rio_requests.specs.Answers.{served_of}
-use Rattle.rio_requests.specs.Parts.{Dooms, FaultStep}
-use Rattle.rio_requests.specs.RegionAnswers.{abort_on, alloc_on, begin_on, commit_on, free_on, get_on, put_on, range_on, with_words}
-use Rattle.rio_requests.specs.Transactions.{changed, looked, txn_at, with_region}
-use Rattle.vista_region.specs.Ends.{Fits, IsFault, OnFault, PutPart, TxnEnds, get_refusal_of, says_bytes, says_done, says_number}
-use Rattle.vista_region.specs.Marks.{Marks, mark_of, set_mark, txn_in}
-use Rattle.vista_region.specs.Regions.{region_now, txn_now}
+use Rattle.rio_core.proofs.Common.{◌≡◌, ℕ, ◌⊎◌, inl, inr, Bool, true, false, Option, Some, None, Result, Ok, Err, List, refl, sym, ap, subst, ◌∙◌, IfOk, IsErr, IsErrOf, VolumeShape, BlockWords, RegionNode, State, Txn, IsSoundRegion, Dropped, Undoes, Answered, Bytes, Request, Begin, Range, Put, Get, Alloc, Free, Commit, Abort, served_of, FaultStep, abort_on, alloc_on, begin_on, commit_on, free_on, get_on, put_on, range_on, changed, txn_at, with_region, Fits, IsFault, TxnEnds, says_done, says_number, Marks, mark_of, set_mark, txn_in, region_now, TxnFail, Stopped}
+use Rattle.std.proofs.Common.{take}
+use Rattle.std.specs.Prelude.{IfErr, OnOk, is_err}
+use Rattle.rio_model.proofs.UndoRules.{undoes_refl}
+use Rattle.rio_requests.specs.declared.reply.Reply.TheVariants.{Ok as Done, Err as RefusedBy, Fault as Faulted}
+use Rattle.rio_requests.specs.Parts.{Dooms}
+use Rattle.rio_requests.specs.RegionAnswers.{with_words}
+use Rattle.rio_requests.specs.Transactions.{looked}
+use Rattle.vista_region.specs.Ends.{OnFault, PutPart, get_refusal_of, says_bytes}
+use Rattle.vista_region.specs.Regions.{txn_now}
 use Rattle.vista_region.specs.declared.failures.BeginFail.{BeginFail}
 use Rattle.vista_region.specs.declared.failures.BeginFail.TheVariants.{Busy, Memory as BeginMemory}
 use Rattle.vista_region.specs.declared.failures.GetFail.{GetFail}
 use Rattle.vista_region.specs.declared.failures.GetFail.TheVariants.{Doomed as GetDoomed, OutOfRange as GetOutOfRange, Fault as GetFault, Stopped as GetStopped, Memory as GetMemory}
-use Rattle.vista_region.specs.declared.failures.TxnFail.{TxnFail}
-use Rattle.vista_region.specs.declared.failures.TxnFail.TheVariants.{Fault, Stopped}
-use Rattle.rio_core.specs.CallEnds.{CallEnds, CalledOn, ReadsHeld, begin_told, get_told, told, words_at}
+use Rattle.vista_region.specs.declared.failures.TxnFail.TheVariants.{Fault}
+use Rattle.rio_core.proofs.CallEnds.{CallEnds}
+use Rattle.rio_core.specs.CallEnds.{CalledOn, ReadsHeld, begin_told, get_told, told, words_at}
 use Rattle.rio_core.specs.Regions.{RegionHeld}
 use Rattle.rio_core.proofs.CallRules.{answers, by_answer, call_done, call_failed, call_moves, call_refused, call_stopped, mark_gone, own, reached, same_held, sound_before}
 use Rattle.rio_core.proofs.HeldRules.{begin_held, begin_refused, dooms_held, dropped_held, dropped_sound, part_held, rests_held, undoes_sound}

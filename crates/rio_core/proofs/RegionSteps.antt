@@ -1,23 +1,14 @@
 -- One region's words change, and with them its node and its transaction: what is held then, and what a stop leaves.
-use Rattle.std.proofs.Common.{◌≡◌, ◌≢◌, ℕ, ◌⊎◌, inl, inr, Bool, Option, Some, length, refl, sym, ap, subst, ◌∙◌}
-use Rattle.std.specs.FinMap.{get, insert}
-use Rattle.std.proofs.lemmas.Bool.{cases_eq}
-use Rattle.rio_base.specs.Regions.{RegionContent}
-use Rattle.rio_model.specs.declared.node.Node.{Node}
-use Rattle.rio_model.specs.declared.node.Node.TheVariants.{Region}
-use Rattle.rio_model.specs.declared.node.RegionNode.{RegionNode}
-use Rattle.rio_model.specs.declared.state.State.{State}
-use Rattle.rio_model.specs.declared.txn.Txn.{Txn}
-use Rattle.rio_model.specs.Held.{Held}
+use Rattle.rio_core.proofs.Common.{◌≡◌, ◌≢◌, ℕ, ◌⊎◌, inl, inr, Bool, Option, Some, refl, sym, ap, subst, ◌∙◌, get, cases_eq, RegionContent, Node, Region, RegionNode, State, Txn, Held, region_in, OneEach, crashed, get_undone, undone_node, txn_at, with_region, Marks, mark_of, set_mark}
+use Rattle.std.proofs.Common.{length}
+use Rattle.std.specs.FinMap.{insert}
 use Rattle.rio_model.specs.Nodes.{Nodes}
-use Rattle.rio_model.specs.VolumeReads.{region_in}
 use Rattle.rio_model.proofs.NodeOrder.{same_nodes}
 use Rattle.rio_model.proofs.StateSteps.{get_here, get_there}
-use Rattle.rio_requests.specs.Crash.{OneEach, crashed, undo_all}
-use Rattle.rio_requests.specs.CrashRules.{get_undone, undone_node}
-use Rattle.rio_requests.specs.Transactions.{set_txn, txn_at, with_region}
-use Rattle.vista_region.specs.Marks.{Marks, mark_of, set_mark}
-use Rattle.rio_core.specs.Regions.{IsOn, RegionHeld, RegionMoves, RegionsHeld, mark_in, marks_of}
+use Rattle.rio_requests.specs.Crash.{undo_all}
+use Rattle.rio_requests.specs.Transactions.{set_txn}
+use Rattle.rio_core.proofs.RegionsLaws.{IsOn, RegionMoves, mark_in}
+use Rattle.rio_core.specs.Regions.{RegionHeld, RegionsHeld, marks_of}
 use Rattle.rio_core.proofs.HeldRules.{held_mark, held_on, held_sized, held_undone}
 use Rattle.rio_core.proofs.RowRules.{mark_at, marks_set, once_set, txn_beside, txn_set}
 

@@ -1,15 +1,12 @@
 -- A reply tells a fault, or there is none for a stop, just where the call on files says so.
-use Rattle.std.proofs.Common.{◌≡◌, ℕ, List, refl, subst}
-use Rattle.std.specs.Prelude.{Result, Ok, Err, IsErr, IsErrOf}
+use Rattle.rio_core.proofs.Common.{◌≡◌, ℕ, List, refl, subst, IsErr, IsErrOf, Ino, Reply, Bytes, FileFail, Refused, Fault, Memory}
+use Rattle.std.specs.Prelude.{Result, Ok, Err}
 use Rattle.rio_base.specs.declared.failures.Stopped.{Stopped as MachineStopped}
-use Rattle.rio_base.specs.declared.places.Ino.{Ino}
 use Rattle.rio_base.specs.Blocks.{EndsBy, Health}
-use Rattle.rio_base.specs.Rules.{ends_by_as}
-use Rattle.rio_requests.specs.declared.reply.Reply.{Reply}
-use Rattle.rio_requests.specs.declared.reply.Reply.TheVariants.{Ok as Done, Number, Bytes, Stat, Names, Inos, Err as RefusedBy, Fault as Faulted}
+use Rattle.rio_base.proofs.Rules.{ends_by_as}
+use Rattle.rio_requests.specs.declared.reply.Reply.TheVariants.{Ok as Done, Number, Stat, Names, Inos, Err as RefusedBy, Fault as Faulted}
 use Rattle.file_store.specs.Failures.{Faulted as FileFaulted}
-use Rattle.file_store.specs.declared.failures.FileFail.{FileFail}
-use Rattle.file_store.specs.declared.failures.FileFail.TheVariants.{Refused, Fault, Stopped, Memory}
+use Rattle.file_store.specs.declared.failures.FileFail.TheVariants.{Stopped}
 use Rattle.rio_core.specs.Replying.{Replies}
 use Rattle.rio_core.specs.Serving.{TellsFault}
 

@@ -1,12 +1,11 @@
 -- The rows of open transactions, and their marks.
-use Rattle.std.proofs.Common.{◌≡◌, ◌≢◌, ◌==◌, ℕ, ◌⊎◌, inl, inr, Bool, true, false, cond, Option, Some, None, List, [], ◌∷◌, refl, sym, ap, subst, ◌∙◌}
-use Rattle.std.proofs.lemmas.Bool.{cases_eq}
-use Rattle.rio_model.specs.declared.txn.Txn.{Txn}
-use Rattle.rio_model.specs.WordRules.{differs, itself}
-use Rattle.rio_requests.specs.Crash.{OneEach}
-use Rattle.rio_requests.specs.Transactions.{set_txn, txn_at, txn_before}
-use Rattle.vista_region.specs.Marks.{Marks, mark_of, row_before, set_mark}
-use Rattle.rio_core.specs.Regions.{IsOn, mark_in, marks_of}
+use Rattle.rio_core.proofs.Common.{◌≡◌, ◌≢◌, ℕ, ◌⊎◌, inl, inr, Bool, true, false, Option, Some, None, List, [], ◌∷◌, refl, sym, ap, subst, ◌∙◌, cases_eq, Txn, OneEach, txn_at, Marks, mark_of, set_mark}
+use Rattle.std.proofs.Common.{◌==◌, cond}
+use Rattle.rio_model.proofs.WordRules.{differs, itself}
+use Rattle.rio_requests.specs.Transactions.{set_txn, txn_before}
+use Rattle.vista_region.specs.Marks.{row_before}
+use Rattle.rio_core.proofs.RegionsLaws.{IsOn, mark_in}
+use Rattle.rio_core.specs.Regions.{marks_of}
 
 is_same : (a b : ℕ) → a ≡ b → (a == b) ≡ true
 is_same a b e = ap (λ x. x == b) e ∙ itself b

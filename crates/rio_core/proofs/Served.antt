@@ -1,29 +1,20 @@
 -- How a request ends over a running core.
-use Rattle.std.proofs.Common.{◌≡◌, ◌⊎◌, ℕ, ◌+◌, ◌*◌, false, refl, sym, ap, subst, ◌∙◌, inl, inr, List, map}
-use Rattle.std.specs.Prelude.{Result, Ok, Err, Some, IfOk, IsErr}
+use Rattle.rio_core.proofs.Common.{◌≡◌, ◌⊎◌, ℕ, ◌*◌, false, refl, sym, ap, subst, ◌∙◌, inl, inr, List, map, IfOk, IsErr, Ino, VolumeShape, BlockWords, Seen, Kept, Settled, Reply, Request, State, served_of, crashed, volume_layout, LeavesInUse, Ready, Stands, Marks}
+use Rattle.std.proofs.Common.{◌+◌}
+use Rattle.std.specs.Prelude.{Result, Ok, Err, Some}
 use Rattle.rio_base.specs.declared.failures.Stopped.{Stopped as MachineStopped}
-use Rattle.rio_base.specs.declared.places.Ino.{Ino}
-use Rattle.rio_base.specs.declared.places.VolumeShape.{VolumeShape}
 use Rattle.rio_base.specs.declared.failures.VolFail.{VolFail}
 use Rattle.rio_base.specs.declared.failures.VolFail.TheVariants.{Fault as DiskFault, Stopped as HaltFault}
-use Rattle.rio_base.specs.Blocks.{BlockWords, Drops, Ends, EndsBy, Health, Looks, Seen}
-use Rattle.rio_base.specs.Volume.{Below, Firm, Goes, Kept, Runs, Settled}
-use Rattle.rio_requests.specs.declared.reply.Reply.{Reply}
+use Rattle.rio_base.specs.Blocks.{Drops, Ends, EndsBy, Health, Looks}
+use Rattle.rio_base.specs.Volume.{Below, Firm, Goes, Runs}
 use Rattle.rio_requests.specs.declared.reply.Reply.TheVariants.{Ok as Done, Inos, Err as RefusedBy, Fault as Faulted}
-use Rattle.rio_requests.specs.declared.request.Request.{Request}
 use Rattle.rio_requests.specs.declared.request.Request.TheVariants.{Flush, Sync, Txns, Wild, Arm}
-use Rattle.rio_model.specs.declared.state.State.{State}
 use Rattle.rio_requests.specs.Answer.{answered}
-use Rattle.rio_requests.specs.AnswerRules.{step_keeps}
-use Rattle.rio_requests.specs.Answers.{served_of}
-use Rattle.rio_requests.specs.Crash.{crashed}
-use Rattle.rio_model.specs.Placed.{volume_layout}
+use Rattle.rio_requests.proofs.AnswerRules.{step_keeps}
 use Rattle.rio_requests.specs.Parts.{IsPart}
 use Rattle.rio_requests.specs.Run.{Step}
-use Rattle.rio_model.specs.VolumeReady.{Bears, LeavesInUse, Ready}
-use Rattle.file_pages.specs.OrderRules.{firm_on}
-use Rattle.file_store.specs.Ends.{Stands}
-use Rattle.vista_region.specs.Marks.{Marks}
+use Rattle.rio_model.specs.VolumeReady.{Bears}
+use Rattle.file_pages.proofs.OrderRules.{firm_on}
 use Rattle.rio_core.specs.Replying.{TellsTxns}
 use Rattle.rio_core.specs.Serving.{Answering, Holds, RequestEnds, Serves, TellsFault}
 use Rattle.rio_core.proofs.FileRequests.{same_serves}

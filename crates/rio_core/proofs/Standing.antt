@@ -1,22 +1,10 @@
 -- How a view comes to stand on the region at a path.
-use Rattle.std.proofs.Common.{◌≡◌, ℕ, List, Ok, sym, subst}
-use Rattle.rio_base.specs.declared.places.Ino.{Ino}
-use Rattle.rio_base.specs.declared.places.VolumeShape.{VolumeShape}
-use Rattle.rio_base.specs.Blocks.{Seen}
-use Rattle.rio_base.specs.Volume.{Kept}
-use Rattle.rio_model.specs.declared.node.RegionNode.{RegionNode}
-use Rattle.rio_model.specs.declared.state.State.{State}
-use Rattle.rio_model.specs.Paths.{names_of}
-use Rattle.rio_requests.specs.Crash.{crashed}
+use Rattle.rio_core.proofs.Common.{◌≡◌, ℕ, List, Ok, sym, subst, Ino, VolumeShape, Seen, Kept, RegionNode, State, names_of, crashed, FindsRegion, OnRegion, Fits, Marks}
 use Rattle.file_store.specs.Ends.{CanServe}
-use Rattle.file_store.specs.NewRegions.{FindsRegion}
-use Rattle.file_store.specs.Views.{OnRegion}
-use Rattle.vista_region.specs.Ends.{Fits}
-use Rattle.vista_region.specs.Marks.{Marks}
 use Rattle.rio_core.specs.CallEnds.{CalledOn, words_at}
 use Rattle.rio_core.specs.Serving.{Serves}
 use Rattle.rio_core.proofs.RegionEnds.{called_fits, stood_on}
-use Rattle.rio_requests.specs.CrashRules.{walk_crashed}
+use Rattle.rio_requests.proofs.CrashRules.{walk_crashed}
 
 pub serves_can : (shape : VolumeShape) (x : Seen) (k : Kept) (marks : Marks) (s : State) → Serves shape x k marks s → CanServe shape x k
 serves_can shape x k marks s h = record { ready = h.ready; state = crashed s; reads = h.reads }

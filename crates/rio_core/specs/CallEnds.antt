@@ -16,8 +16,6 @@ use Rattle.rio_requests.specs.declared.reply.Reply.TheVariants.{Err as RefusedBy
 use Rattle.rio_requests.specs.declared.request.Request.{Request}
 use Rattle.rio_requests.specs.declared.request.Request.TheVariants.{Begin, Range, Put, Get, Alloc, Free, Commit, Abort}
 use Rattle.rio_requests.specs.Crash.{crashed}
-use Rattle.rio_requests.specs.Parts.{IsPart}
-use Rattle.rio_requests.specs.Run.{Step}
 use Rattle.vista_region.specs.Marks.{Marks}
 use Rattle.vista_region.specs.declared.failures.TxnFail.{TxnFail}
 use Rattle.vista_region.specs.declared.failures.TxnFail.TheVariants.{NoTransaction, Doomed, NotAligned, OutOfRange, NotCovered, NotBlock, HeapFull, UndoFull, Fault, Stopped}
@@ -48,11 +46,6 @@ pub record CalledOn (shape : VolumeShape) (f g : BlockWords) (marks : Marks) (s 
   pub size : (held_of shape f i).size ≡ 8 * n
   pub mapped : IsMapped shape g
   pub rest : RestHeld shape i f g
-
--- a reply tells of a step, and the state that it leads to is read and held; without one a part of the request stands
-abbrev pub CallEnds : VolumeShape → BlockWords → Marks → State → Request → Option Reply → Type 0
-CallEnds shape g marks s request (Some reply) = (t : State) × Step s (Some request) reply t × ReadsHeld shape g marks t
-CallEnds shape g marks s request None = (t : State) × IsPart s request t × ReadsAs shape g (crashed t)
 
 -- ---- what is told of a call
 

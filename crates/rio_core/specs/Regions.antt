@@ -8,11 +8,9 @@ use Rattle.rio_model.specs.declared.state.State.{State}
 use Rattle.rio_model.specs.declared.txn.Txn.{Txn}
 use Rattle.rio_model.specs.Heap.{OfBlocks}
 use Rattle.rio_model.specs.Held.{Held}
-use Rattle.rio_model.specs.States.{with_node}
 use Rattle.rio_model.specs.Undo.{live, undo_records}
 use Rattle.rio_model.specs.VolumeReads.{region_in}
-use Rattle.rio_requests.specs.Crash.{OpenRegions, crashed}
-use Rattle.rio_requests.specs.RegionAnswers.{abort_on, alloc_on, begin_on, commit_on, free_on, get_on, put_on, range_on}
+use Rattle.rio_requests.specs.Crash.{OpenRegions}
 use Rattle.rio_requests.specs.Transactions.{txn_at}
 use Rattle.vista_region.specs.Marks.{Marks, mark_of}
 use Rattle.vista_region.specs.Regions.{region_now, txn_now}
@@ -47,32 +45,3 @@ pub record RegionsHeld (held : ℕ → Held) (marks : Marks) (s : State) : Type 
   pub marked : marks ≡ marks_of s.txns
   pub open_regions : OpenRegions s
   pub each : (i : ℕ) (r : RegionNode) → get s.nodes i ≡ Some (Region r) → RegionHeld i (held i).word (mark_of marks i) r (txn_at s.txns i)
-
--- ---- one region
-
--- the mark of a transaction, where one is open
-abbrev pub mark_in : Option Txn → Option Bool
-mark_in None = None
-mark_in (Some t) = Some t.doomed
-
--- no transaction, or one on region i
-abbrev pub IsOn : ℕ → Option Txn → Type 0
-IsOn i None = Unit {0}
-IsOn i (Some t) = t.ino.0 ≡ i
-
--- every request on a region is answered over region r and transaction o as over q and u
-pub record SameAnswers (i : ℕ) (r : RegionNode) (o : Option Txn) (q : RegionNode) (u : Option Txn) : Type 0 where
-  pub begin : begin_on i r o ≡ begin_on i q u
-  pub range : (off len : ℕ) → range_on r o off len ≡ range_on q u off len
-  pub put : (off : ℕ) (bytes : List ℕ) → put_on r o off bytes ≡ put_on q u off bytes
-  pub get : (off len : ℕ) → get_on r o off len ≡ get_on q u off len
-  pub alloc : (n : ℕ) → alloc_on r o n ≡ alloc_on q u n
-  pub free : (at : ℕ) → free_on r o at ≡ free_on q u at
-  pub commit : commit_on r o ≡ commit_on q u
-  pub abort : abort_on r o ≡ abort_on q u
-
--- ---- from a state to the next
-
--- after a stop, t is s with region i as the words w undo to
-abbrev pub RegionMoves : ℕ → RegionContent → State → State → Type 0
-RegionMoves i w s t = crashed t ≡ with_node (crashed s) i (Region (region_in w))

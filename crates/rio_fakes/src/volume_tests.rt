@@ -11,7 +11,7 @@ use rio_base::{Block, Blocks, RegionWords, RunFail, VolFail, Volume};
 use std::test::Fail;
 
 /// Stores a word at the front of each of two blocks, by one update.
-#[tactic(auto, using(rio_base::specs::BlockRules::still_metadata, rio_base::specs::BlockRules::dropped_metadata))]
+#[tactic(auto, using(rio_base::proofs::BlockRules::still_metadata, rio_base::proofs::BlockRules::dropped_metadata))]
 fn update<V: Volume>(v: &mut V, a: Block, b: Block, value: u64) -> Result<(), VolFail>
     requires sound { V.sound v.old }
     requires blocks { (a.0 < (V.seen v.old).count) × (b.0 < (V.seen v.old).count) }

@@ -1,41 +1,35 @@
 -- The blocks that a state's nodes take are those that the volume's nodes have, so the free ones are as many.
-use Rattle.std.proofs.Common.{◌≡◌, ◌≢◌, ℕ, zero, suc, ◌+◌, ◌-◌, ◌*◌, ◌/◌, ◌%◌, ◌<◌, ◌≤◌, ◌==◌, ◌&&◌, Bool, true, false, cond, List, [], ◌∷◌, length, map, get_or, Option, Some, None, refl, sym, ap, subst, ◌∙◌, arith, inl, inr}
-use Rattle.std.specs.Prelude.{nat_lt, filter, is_some, T, sum}
-use Rattle.std.specs.List.{AllByRecursion, IsDistinct, list_any, range_with_len}
+use Rattle.rio_model.proofs.Common.{◌≡◌, ◌≢◌, ℕ, zero, suc, ◌+◌, ◌-◌, ◌*◌, ◌/◌, ◌%◌, ◌<◌, ◌≤◌, ◌==◌, ◌&&◌, Bool, true, false, cond, List, [], ◌∷◌, map, Option, refl, sym, ap, subst, ◌∙◌, arith, inl, inr, nat_lt, filter, sum, range_with_len, get, entries, eq_by_cmp, is_eq, Ordering, Equal, cases_Bool, nat_tests, Decides-eqb, true_false, VolumeShape, BlockWords, IsIno, reserved}
+use Rattle.std.proofs.Common.{length, get_or, Some, None}
+use Rattle.std.specs.Prelude.{is_some, T}
+use Rattle.std.specs.List.{AllByRecursion, IsDistinct, list_any}
 use Rattle.std.specs.Cmp.{eq_by_cmp_equiv}
-use Rattle.std.specs.FinMap.{get, keys, entries, entries_sorted, is_sorted, contains_key-keys}
+use Rattle.std.specs.FinMap.{keys, entries_sorted, is_sorted, contains_key-keys}
 use Rattle.std.specs.FinMap.Entries.{below_all}
-use Rattle.std.specs.Ordering.{eq_by_cmp, is_eq, is_lt}
-use Rattle.std.specs.declared.cmp.Ordering.{Ordering}
-use Rattle.std.specs.declared.cmp.Ordering.TheVariants.{Less, Equal, Greater}
-use Rattle.std.proofs.lemmas.Bool.{cases_Bool}
-use Rattle.std.proofs.lemmas.Bool.Decides.{nat_tests, Decides-eqb}
+use Rattle.std.specs.Ordering.{is_lt}
+use Rattle.std.specs.declared.cmp.Ordering.TheVariants.{Less, Greater}
 use Rattle.std.proofs.lemmas.List.{length-map}
 use Rattle.std.proofs.lemmas.List.Folds.{Any-from_list_any, list_any_at}
 use Rattle.std.proofs.lemmas.List.FromFn.{length-map-range_with_len, get_or-map-range_with_len}
 use Rattle.std.proofs.lemmas.Map.Keys.{IsDistinct-from_apart}
 use Rattle.std.proofs.lemmas.Map.Made.{length-from_same_keys, is_member-filter}
-use Rattle.rio_base.specs.Rules.{true_false}
-use Rattle.rio_base.specs.declared.places.VolumeShape.{VolumeShape}
 use Rattle.rio_base.specs.Bitmap.{free_blocks}
-use Rattle.rio_base.specs.Blocks.{BlockWords}
-use Rattle.rio_base.specs.Layout.{IsIno}
-use Rattle.rio_base.specs.Shapes.{reserved}
 use Rattle.rio_model.specs.declared.node.Node.{Node}
 use Rattle.rio_model.specs.declared.node.Node.TheVariants.{Dir, File, Region}
 use Rattle.rio_model.specs.declared.state.State.{State}
 use Rattle.rio_model.specs.States.{names_in}
-use Rattle.rio_model.specs.CountRules.{free_by_layout}
+use Rattle.rio_model.proofs.CountRules.{free_by_layout}
 use Rattle.rio_model.specs.Held.{Held, held, held_of, byte_in, entry_name, HasEntry}
 use Rattle.rio_model.specs.HeldRules.{held_ino}
 use Rattle.rio_model.specs.Names.{NameKey, Names, name_cmp}
-use Rattle.rio_model.specs.Placed.{Placed, placed_at, volume_layout, placed_blocks, layout_blocks}
+use Rattle.rio_model.specs.Placed.{Placed, placed_at, volume_layout}
+use Rattle.rio_model.proofs.PlacedRules.{placed_blocks, layout_blocks}
 use Rattle.rio_model.specs.Sizes.{blocks_for, free_count, node_blocks, used_blocks}
 use Rattle.rio_model.specs.Undo.{before, data_from, region_words}
 use Rattle.rio_model.specs.VolumeReads.{Reads, ReadsAs}
-use Rattle.rio_model.specs.VolumeReadRules.{reads_none, reads_dir, reads_file, reads_region}
+use Rattle.rio_model.proofs.VolumeReadRules.{reads_none, reads_dir, reads_file, reads_region}
 use Rattle.rio_model.specs.VolumeRules.{NamesApartRule, SizeFits}
-use Rattle.rio_model.specs.WordRules.{itself, same_map}
+use Rattle.rio_model.proofs.WordRules.{itself, same_map}
 use Rattle.rio_model.proofs.NameOrder.{name_total, name_exact, name_itself}
 
 abbrev same_key : NameKey → NameKey → Bool

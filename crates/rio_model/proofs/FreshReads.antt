@@ -1,22 +1,18 @@
 -- A fresh volume reads as the root directory alone.
-use Rattle.std.proofs.Common.{◌≡◌, ◌≢◌, ℕ, ◌+◌, ◌/◌, ◌%◌, ◌<◌, ◌≤◌, ◌&&◌, ◌⊎◌, Bool, true, false, cond, [], Option, Some, None, Ok, refl, sym, ap, subst, ◌∙◌, arith, inl, inr}
-use Rattle.std.specs.Prelude.{nat_lt, nat_le}
-use Rattle.std.specs.FinMap.{get, insert, empty, get-empty}
-use Rattle.std.specs.Ordering.{nat_cmp}
-use Rattle.std.proofs.lemmas.Bool.{cases_eq}
-use Rattle.std.proofs.lemmas.Bool.Decides.{nat_tests}
-use Rattle.rio_base.specs.declared.places.VolumeShape.{VolumeShape}
-use Rattle.rio_base.specs.Blocks.{BlockWords}
-use Rattle.rio_base.specs.Layout.{inode_kind, inode_size, IsIno}
+use Rattle.rio_model.proofs.Common.{◌≡◌, ◌≢◌, ℕ, ◌+◌, ◌/◌, ◌%◌, ◌<◌, ◌≤◌, ◌&&◌, ◌⊎◌, Bool, true, false, cond, [], Option, refl, sym, ap, subst, ◌∙◌, arith, inl, inr, nat_lt, get, insert, nat_cmp, cases_eq, nat_tests, VolumeShape, BlockWords, IsIno}
+use Rattle.std.proofs.Common.{Some, None, Ok}
+use Rattle.std.specs.Prelude.{nat_le}
+use Rattle.std.specs.FinMap.{empty, get-empty}
+use Rattle.rio_base.specs.Layout.{inode_kind, inode_size}
 use Rattle.rio_model.specs.declared.node.Node.TheVariants.{Dir}
 use Rattle.rio_model.specs.Fresh.{fresh_state}
 use Rattle.rio_model.specs.FreshVolume.{IsFreshVolume}
 use Rattle.rio_model.specs.Held.{Held, held, nothing, held_of, HasEntry}
 use Rattle.rio_model.specs.Names.{name_cmp}
 use Rattle.rio_model.specs.Placed.{Slot, AtPage, AtTable, Placed, HasSlot, placed_at, volume_layout, Owned}
-use Rattle.rio_model.specs.PlacedRules.{laid_by_nodes, has_bit, reserved_below}
+use Rattle.rio_model.proofs.PlacedRules.{laid_by_nodes, has_bit, reserved_below}
 use Rattle.rio_model.specs.VolumeReads.{ReadsAs}
-use Rattle.rio_model.specs.VolumeReadRules.{reads_none, reads_dir}
+use Rattle.rio_model.proofs.VolumeReadRules.{reads_none, reads_dir}
 use Rattle.rio_model.specs.VolumeRules.{NodeFits}
 use Rattle.rio_model.proofs.StateSteps.{get_here, get_there}
 

@@ -1,9 +1,6 @@
 -- The laws of finite maps at nodes.
-use Rattle.std.proofs.Common.{◌≡◌, ℕ, List, [], ◌∷◌, ◌++◌}
-use Rattle.std.specs.Prelude.{None}
-use Rattle.std.specs.Ordering.{nat_cmp}
-use Rattle.std.specs.Cmp.{nat_cmp_total}
-use Rattle.std.specs.FinMap.{get, insert, from_entries, find, same_map, from_entries_push, nat_cmp-IsAntisymmetric}
+use Rattle.rio_model.proofs.Common.{◌≡◌, ℕ, List, [], ◌∷◌, ◌++◌, None, nat_cmp, nat_cmp_total, get, insert, from_entries, find, same_map, nat_cmp-IsAntisymmetric}
+use Rattle.std.specs.FinMap.{from_entries_push}
 use Rattle.rio_model.specs.Nodes.{Nodes}
 use Rattle.rio_model.specs.declared.node.Node.{Node}
 

@@ -1,8 +1,6 @@
 -- Blocks read as at most one state.
-use Rattle.std.proofs.Common.{◌≡◌, ℕ, List, Option, Some, None, refl, sym, subst, ◌∙◌}
-use Rattle.std.specs.FinMap.{get}
-use Rattle.rio_base.specs.declared.places.VolumeShape.{VolumeShape}
-use Rattle.rio_base.specs.Blocks.{BlockWords}
+use Rattle.rio_model.proofs.Common.{◌≡◌, ℕ, List, Option, refl, sym, subst, ◌∙◌, get, VolumeShape, BlockWords}
+use Rattle.std.proofs.Common.{Some, None}
 use Rattle.rio_model.specs.declared.state.State.{State}
 use Rattle.rio_model.specs.Held.{Held, held_of}
 use Rattle.rio_model.specs.Names.{NameKey}

@@ -1,10 +1,7 @@
 -- Rows that are taken away: what is left is the map without their key.
-use Rattle.std.proofs.Common.{◌≡◌, ℕ, Bool, true, false, cond, List, [], ◌∷◌, map, refl, sym, ap, ◌∙◌}
-use Rattle.std.specs.Prelude.{None, filter, not}
-use Rattle.std.specs.declared.cmp.Ordering.{Ordering}
-use Rattle.std.specs.Ordering.{nat_cmp, eq_by_cmp, is_eq}
-use Rattle.std.specs.Cmp.{IsTotalOrder, alike_right, eq_by_cmp_equiv, nat_cmp_total}
-use Rattle.std.specs.FinMap.{IsAntisymmetric, find, from_entries, get-from_entries, get-remove, nat_cmp-IsAntisymmetric, remove, same_map}
+use Rattle.rio_model.proofs.Common.{◌≡◌, ℕ, Bool, true, false, cond, List, [], ◌∷◌, map, refl, sym, ap, ◌∙◌, None, filter, not, Ordering, nat_cmp, eq_by_cmp, is_eq, nat_cmp_total, find, from_entries, get-from_entries, nat_cmp-IsAntisymmetric, remove, same_map}
+use Rattle.std.specs.Cmp.{IsTotalOrder, alike_right, eq_by_cmp_equiv}
+use Rattle.std.specs.FinMap.{IsAntisymmetric, get-remove}
 use Rattle.std.specs.FinMap.Entries.{find-where_key}
 use Rattle.rio_model.specs.Names.{NameKey, name_cmp, row_entry, row_entries}
 use Rattle.rio_model.specs.Nodes.{node_entry, node_entries}

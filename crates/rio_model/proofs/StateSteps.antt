@@ -1,12 +1,7 @@
 -- A file that is set in the blocks is set in the state.
-use Rattle.std.proofs.Common.{◌≡◌, ◌≢◌, ℕ, ◌*◌, ◌/◌, ◌<◌, Bool, true, false, cond, List, [], ◌∷◌, Option, Some, None, Ok, Err, refl, sym, ap, subst, ◌∙◌, arith, inl, inr}
-use Rattle.std.specs.Cmp.{nat_cmp_total}
-use Rattle.std.specs.FinMap.{get, insert, get-insert}
-use Rattle.std.specs.Ordering.{nat_cmp, eq_by_cmp}
-use Rattle.std.proofs.lemmas.Bool.{cases_eq}
-use Rattle.rio_base.specs.Rules.{true_false}
-use Rattle.rio_base.specs.declared.places.VolumeShape.{VolumeShape}
-use Rattle.rio_base.specs.Blocks.{BlockWords}
+use Rattle.rio_model.proofs.Common.{◌≡◌, ◌≢◌, ℕ, ◌*◌, ◌/◌, ◌<◌, Bool, true, false, cond, List, [], ◌∷◌, Option, refl, sym, ap, subst, ◌∙◌, arith, inl, inr, nat_cmp_total, get, insert, nat_cmp, eq_by_cmp, cases_eq, true_false, VolumeShape, BlockWords}
+use Rattle.std.proofs.Common.{Some, None, Ok, Err}
+use Rattle.std.specs.FinMap.{get-insert}
 use Rattle.rio_model.specs.declared.node.Node.{Node}
 use Rattle.rio_model.specs.declared.node.Node.TheVariants.{File}
 use Rattle.rio_model.specs.declared.state.State.{State}
@@ -18,9 +13,9 @@ use Rattle.rio_model.specs.NodeChanges.{SetsFile}
 use Rattle.rio_model.specs.Nodes.{Nodes}
 use Rattle.rio_model.specs.Paths.{IsName, is_dir, from_found, walk}
 use Rattle.rio_model.specs.VolumeReads.{node_in, Reads, ReadsAs}
-use Rattle.rio_model.specs.VolumeReadRules.{reads_file}
+use Rattle.rio_model.proofs.VolumeReadRules.{reads_file}
 use Rattle.rio_model.specs.VolumeRules.{EntryRule, NamesApartRule, TreeRule}
-use Rattle.rio_model.specs.WordRules.{differs, itself}
+use Rattle.rio_model.proofs.WordRules.{differs, itself}
 use Rattle.rio_model.proofs.NameOrder.{nat_tied}
 
 -- ---- nodes of a state

@@ -1,9 +1,7 @@
 -- What memory and disk together read as and stand for: for each block the page of its valid entry, else the disk's block.
-use Rattle.std.specs.Prelude.{◌≡◌, ◌≢◌, ◌⊎◌, ℕ, zero, suc, ◌+◌, ◌*◌, ◌<◌, ◌≤◌, ◌==◌, ◌&&◌, not, nat_lt, Bool, true, false, if◌then◌else◌, List, length, slice_index, Option, Some, None}
-use Rattle.rio_base.specs.Bitmap.{used_bit}
+use Rattle.std.specs.Prelude.{◌≡◌, ◌≢◌, ◌⊎◌, ℕ, zero, suc, ◌+◌, ◌*◌, ◌<◌, ◌==◌, ◌&&◌, not, nat_lt, Bool, true, false, if◌then◌else◌, List, length, slice_index, Option, Some, None}
 use Rattle.rio_base.specs.Blocks.{BlockWords}
 use Rattle.rio_base.specs.declared.places.PageName.{PageName}
-use Rattle.rio_base.specs.declared.places.VolumeShape.{VolumeShape}
 use Rattle.rio_base.specs.Disks.{block_at, is_pending}
 use Rattle.rio_base.specs.Image.{AreImageSizes, HasHeader, registry_pages}
 use Rattle.rio_base.specs.Machine.{Contents}
@@ -137,10 +135,6 @@ abbrev pub name_in : List ℕ → Option ℕ → Option PageName
 name_in words None = None
 name_in words (Some k) = if is_data (tag_at words k) then Some (name_at words k) else None
 
--- each block that has an entry is one of so many, and may bear the entry's name. `bears` says which names
-pub record Named (words : List ℕ) (count : ℕ) (bears : ℕ → Option PageName → Type 0) : Type 0 where
-  pub each : (b k : ℕ) → entry_of_block words b ≡ Some k → (b < count) × bears b (name_in words (Some k))
-
 -- what every entry says of its page stays, but for the shadow
 pub record SameNames (old new : List ℕ) : Type 0 where
   pub frames : frames_of new ≡ frames_of old
@@ -153,29 +147,9 @@ pub record SameNames (old new : List ℕ) : Type 0 where
 pub record Narrows (old new : List ℕ) : Type 0 where
   pub found : (b k : ℕ) → entry_of_block new b ≡ Some k → (entry_of_block old b ≡ Some k) × (name_in new (Some k) ≡ name_in old (Some k))
 
--- ---- what stands after a stop
-
--- a page that counts for each pending block in use will be written, whatever the pending blocks hold; and each clean page
--- is the disk's block
-pub record Sound (c : Contents) (shape : VolumeShape) : Type 0 where
-  pub written : (disk : List (List ℕ)) → MayLeave c disk → (b : ℕ) → is_pending c.pending b ≡ true → used_bit shape (stands_on c disk) b ≡ 1 → has_dirty c.words b ≡ true
-  pub clean : (k : ℕ) → IsValid c.words k → is_dirty (tag_at c.words k) ≡ false → (w : ℕ) → w < 512 → slice_index c.words (512 * page_of_entry c.words k + w) ≡ home_word c.disk (tag_block (tag_at c.words k)) w
-
 -- memory and disk stand for these blocks, but for the loose ones, whatever the pending blocks hold; no page is open, and
 -- the image keeps its rules
 pub record StandsAs (c : Contents) (scratch : ℕ) (standing : BlockWords) (loose : ℕ → Bool) : Type 0 where
   pub coherent : Coherent c scratch
   pub closed : c.open_page ≡ None
   pub blocks : (disk : List (List ℕ)) → MayLeave c disk → (b : ℕ) → loose b ≡ false → (w : ℕ) → stands_on c disk b w ≡ standing b w
-
--- ---- the gate
-
--- the gate is stored: what reads stays, and so do all words of the header but the gate
-pub record Turns (value : ℕ) (old new : Contents) : Type 0 where
-  pub reads : reads new ≡ reads old
-  pub firm : (b : ℕ) → is_loose new b ≡ true → is_loose old b ≡ true
-  pub coherent : (n : ℕ) → Coherent old n → Coherent new n
-  pub header : (i : ℕ) → i < 512 → i ≢ 4 → slice_index new.words i ≡ slice_index old.words i
-  pub gate : gate_of new.words ≡ value
-  -- no entry changes, so none is found otherwise and none has another name
-  pub entries : (i : ℕ) → 512 ≤ i → slice_index new.words i ≡ slice_index old.words i

@@ -1,6 +1,6 @@
 -- What each inode holds, wherever its blocks lie: its kind, its size and its words. Files, directories and regions are read
 -- from this, and none of them knows a block.
-use Rattle.std.specs.Prelude.{◌≡◌, ℕ, ◌+◌, ◌*◌, ◌/◌, ◌%◌, ◌^◌, ◌<◌, ◌&&◌, ◌==◌, nat_lt, nat_le, if◌then◌else◌, List, map, slice_index}
+use Rattle.std.specs.Prelude.{◌≡◌, ℕ, ◌+◌, ◌*◌, ◌/◌, ◌%◌, ◌^◌, ◌<◌, ◌&&◌, nat_lt, nat_le, if◌then◌else◌, List, map, slice_index}
 use Rattle.std.specs.List.{range_with_len}
 use Rattle.std.specs.Int.{w64, to_le_bytes}
 use Rattle.rio_base.specs.declared.places.VolumeShape.{VolumeShape}
@@ -30,10 +30,6 @@ held_in l f i = if nat_le 1 i && nat_le i l.shape.inodes then held f (l.node i) 
 -- what it holds by the blocks alone
 abbrev pub held_of : VolumeShape → BlockWords → ℕ → Held
 held_of shape f = held_in (volume_layout shape f) f
-
--- with one word another
-abbrev pub with_word : Held → ℕ → ℕ → Held
-with_word h y v = record h { word = λ z. if z == y then v else h.word z }
 
 -- ---- bytes
 

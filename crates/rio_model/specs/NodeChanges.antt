@@ -1,22 +1,14 @@
 -- One node of a volume changed: what becomes of its inode, of its blocks and of their bits.
-use Rattle.std.specs.Prelude.{◌≡◌, ◌≢◌, ℕ, ◌+◌, ◌-◌, ◌/◌, ◌%◌, ◌<◌, ◌≤◌, ◌⊎◌, nat_lt, if◌then◌else◌, List, length, slice_index}
+use Rattle.std.specs.Prelude.{◌≡◌, ◌≢◌, ℕ, ◌+◌, ◌-◌, ◌/◌, ◌<◌, ◌≤◌, ◌⊎◌, nat_lt, if◌then◌else◌, List, length, slice_index}
 use Rattle.rio_base.specs.declared.places.VolumeShape.{VolumeShape}
 use Rattle.rio_base.specs.Bitmap.{used_bit}
 use Rattle.rio_base.specs.Blocks.{BlockWords}
 use Rattle.rio_base.specs.Layout.{IsIno, inode_block, inode_place}
 use Rattle.rio_base.specs.Shapes.{reserved}
 use Rattle.rio_model.specs.Held.{held_of, held_bytes}
-use Rattle.rio_model.specs.Placed.{Slot, AtPage, AtTable, Placed, HasSlot, Lies, Layout, Owns, IsFree}
+use Rattle.rio_model.specs.Placed.{Slot, AtPage, AtTable, Placed, HasSlot, Lies, Layout, IsFree}
 use Rattle.rio_model.specs.Sizes.{pages, tables, largest_size}
 use Rattle.rio_model.specs.VolumeRules.{bitmap_bits, IsMapped, NodeFits}
-
--- ---- one word
-
--- word y of node i is word w of block b
-pub record IsAt (l : Layout) (i y : ℕ) (b w : ℕ) : Type 0 where
-  pub page : Owns l i (AtPage (y / 512))
-  pub block : (l.node i).block (AtPage (y / 512)) ≡ b
-  pub word : y % 512 ≡ w
 
 -- ---- one node
 

@@ -2,13 +2,12 @@
 -- blocks: what an inode says, and what the indirect block says that it names. A layout is said twice: as a function of the
 -- words, `placed_at`, and as a relation to them, `Lies`. The words may move while the relation lasts: so a step is proved
 -- about one layout, and only at the end of a change about the one that the words say then.
-use Rattle.std.specs.Prelude.{◌≡◌, ◌≢◌, ℕ, ◌-◌, ◌/◌, ◌<◌, ◌≤◌, ◌==◌, nat_lt, if◌then◌else◌, map, sum}
-use Rattle.std.specs.List.{range_with_len}
+use Rattle.std.specs.Prelude.{◌≡◌, ◌≢◌, ℕ, ◌-◌, ◌/◌, ◌<◌, ◌≤◌, nat_lt, if◌then◌else◌}
 use Rattle.rio_base.specs.declared.places.VolumeShape.{VolumeShape}
 use Rattle.rio_base.specs.Blocks.{BlockWords}
 use Rattle.rio_base.specs.Layout.{IsIno, inode_kind, inode_size, direct_number, indirect_number, half}
 use Rattle.rio_base.specs.Shapes.{reserved}
-use Rattle.rio_model.specs.Sizes.{pages, tables, blocks_for}
+use Rattle.rio_model.specs.Sizes.{pages, tables}
 
 -- ---- the blocks of one node
 
@@ -59,10 +58,6 @@ pub record Layout : Type 0 where
 abbrev pub volume_layout : VolumeShape → BlockWords → Layout
 volume_layout shape f = record { shape = shape; node = placed_at f }
 
--- blocks say this layout
-pub record Lays (l : Layout) (f : BlockWords) : Type 0 where
-  pub each : (i : ℕ) → IsIno l.shape i → Lies f i (l.node i)
-
 -- slot s of inode i counts
 pub record Owns (l : Layout) (i : ℕ) (s : Slot) : Type 0 where
   pub ino : IsIno l.shape i
@@ -80,17 +75,6 @@ pub record IsFree (l : Layout) (b : ℕ) : Type 0 where
   pub from : reserved l.shape ≤ b
   pub to : b < l.shape.blocks
   pub free : Owned l b → ⊥
-
--- how many blocks count: for one node, and for all
-abbrev pub placed_blocks : Placed → ℕ
-placed_blocks n = if nat_lt 0 n.kind then blocks_for n.size else 0
-
-abbrev pub layout_blocks : Layout → ℕ
-layout_blocks l = sum (map (λ i. placed_blocks (l.node i)) (range_with_len 1 l.shape.inodes))
-
--- the layout with one node in another way
-abbrev pub with_placed : Layout → ℕ → Placed → Layout
-with_placed l i n = record l { node = λ j. if j == i then n else l.node j }
 
 -- blocks agree on all that is in use: the reserved blocks and those of nodes
 pub record Agrees (l : Layout) (f g : BlockWords) : Type 0 where

@@ -1,9 +1,6 @@
 -- The registry in a machine's words: an entry of five words for each frame, the page that counts for it, and the rules.
-use Rattle.std.specs.Prelude.{◌≡◌, ◌≢◌, ℕ, ◌+◌, ◌-◌, ◌*◌, ◌/◌, ◌%◌, ◌^◌, ◌<◌, ◌≤◌, ◌==◌, ◌&&◌, ◌⊎◌, not, Bool, true, false, if◌then◌else◌, List, length, slice_index, take, drop}
-use Rattle.std.proofs.Common.{◌∙◌, ap, sym, arith, length-take-le, get_or-take}
-use Rattle.std.proofs.lemmas.List.{length-drop}
-use Rattle.rio_base.specs.Image.{AreImageSizes, entry_at, image_pages, registry_pages}
-use Rattle.rio_base.specs.Memory.{page_at}
+use Rattle.std.specs.Prelude.{◌≡◌, ◌≢◌, ℕ, ◌+◌, ◌-◌, ◌*◌, ◌/◌, ◌%◌, ◌^◌, ◌<◌, ◌≤◌, ◌==◌, ◌&&◌, ◌⊎◌, not, Bool, true, false, if◌then◌else◌, List, length, slice_index}
+use Rattle.rio_base.specs.Image.{AreImageSizes, entry_at, registry_pages}
 
 -- ---- the header
 
@@ -80,10 +77,6 @@ page_of_entry words k =
     if (gate_of words == 1) && not (shadow_at words k == 0)
     then registry_pages (frames_of words) + shadow_at words k
     else registry_pages (frames_of words) + (17 + k)
-
--- its words
-abbrev pub entry_page : List ℕ → ℕ → List ℕ
-entry_page words k = page_at words (page_of_entry words k)
 
 -- entry k alone changes, if any does
 pub record OneEntry (k : ℕ) (old new : List ℕ) : Type 0 where
@@ -172,29 +165,3 @@ FailsRegistry words r =
     ((r ≡ 10) × ¬ SizeRule words) ⊎ (SizeRule words × (
     ((r ≡ 11) × ¬ ShadowRule words) ⊎ (ShadowRule words × (
     (r ≡ 12) × ¬ ShadowsApart words))))))))))))))
-
--- ---- laws
-
--- the first words of an image that has so many pages besides
-split_layout : (words : List ℕ) (frames scratch at : ℕ) → slice_index words 2 ≡ frames → slice_index words 3 ≡ scratch → AreImageSizes frames scratch
-    → at ≡ 512 * (17 + registry_pages frames + frames) → length words ≡ at + 512 * scratch → HasLayout (take at words) (drop at words)
-split_layout words frames scratch at two three sizes count long = record {
-  sizes = rw (frames_are, scratch_is) sizes;
-  protected = length-take-le at words (omega (arith, long)) ∙ count ∙ ap (λ f. 512 * (17 + registry_pages f + f)) (sym frames_are);
-  scratch_pages = length-drop at words ∙ rest ∙ ap (λ s. 512 * s) (sym scratch_is);
-}
-  where
-    rest : length words - at ≡ 512 * scratch
-    rest = omega (arith, long)
-
-    frames_are : slice_index (take at words) 2 ≡ frames
-    frames_are = get_or-take at words 2 0 (omega (arith, count)) ∙ two
-
-    scratch_is : slice_index (take at words) 3 ≡ scratch
-    scratch_is = get_or-take at words 3 0 (omega (arith, count)) ∙ three
-
--- an image's words, of which all but the scratch pages are protected
-pub layout_of : (words : List ℕ) (frames scratch : ℕ) → slice_index words 2 ≡ frames → slice_index words 3 ≡ scratch → AreImageSizes frames scratch → length words ≡ 512 * image_pages frames scratch
-    → HasLayout (take (length words - 512 * scratch) words) (drop (length words - 512 * scratch) words)
-layout_of words frames scratch two three sizes long =
-    split_layout words frames scratch (length words - 512 * scratch) two three sizes (omega (arith, long)) (omega (arith, long))

@@ -134,12 +134,6 @@ before f = before_by (undo_records f) (live f)
 abbrev pub CoversAll : List UndoRecord → ℕ → ℕ → Type 0
 CoversAll records first count = (q : ℕ) → first ≤ q → q < first + count → is_covered records q ≡ true
 
--- a record of the words of a span
-pub record Saves (words : ℕ → ℕ) (from n : ℕ) (r : UndoRecord) : Type 0 where
-  pub first : r.first ≡ from
-  pub count : length r.old ≡ n
-  pub old : (k : ℕ) → k < n → slice_index r.old k ≡ words (from + k)
-
 -- the record of the words of a span
 abbrev pub saving : (ℕ → ℕ) → ℕ → ℕ → UndoRecord
 saving words first count = record { first = first; old = map words (range_with_len first count) }

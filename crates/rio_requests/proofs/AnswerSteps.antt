@@ -1,17 +1,11 @@
 -- How answers follow, case by case: by room, of paths by their names, and of names that are moved.
-use Rattle.std.proofs.Common.{◌≡◌, ◌≢◌, ◌==◌, ℕ, ◌+◌, ◌<◌, ◌≤◌, Bool, true, false, cond, List, [], ◌∷◌, length, drop, get_or, refl, sym, ap, subst, ◌∙◌, arith}
-use Rattle.std.specs.Prelude.{IfOk, Result, Ok, Err, ◌&&◌, nat_lt}
+use Rattle.rio_requests.proofs.Common.{◌≡◌, ◌≢◌, ◌==◌, ℕ, ◌+◌, ◌<◌, ◌≤◌, Bool, true, false, cond, List, [], ◌∷◌, length, drop, get_or, refl, sym, ap, subst, ◌∙◌, arith, Result, Ok, Err, ◌&&◌, nat_lt, get, nat_tests, drop_all, drop_more, front_of, last_of, walk, walk_to_dir, free_count, State}
+use Rattle.std.specs.Prelude.{IfOk}
 use Rattle.std.specs.Str.{bytes_eq}
-use Rattle.std.specs.FinMap.{get}
-use Rattle.std.proofs.lemmas.Bool.Decides.{nat_tests}
-use Rattle.std.proofs.lemmas.List.{drop_all, drop_more, length-drop}
+use Rattle.std.proofs.lemmas.List.{length-drop}
 use Rattle.rio_requests.specs.Answer.{at_inode, refused}
-use Rattle.rio_model.specs.States.{front_of, last_of}
 use Rattle.rio_requests.specs.Answers.{at_row, is_below, is_empty, rename_at, rename_row, rename_to, with_room}
-use Rattle.rio_model.specs.Paths.{walk, walk_to_dir}
-use Rattle.rio_model.specs.Sizes.{free_count}
 use Rattle.rio_requests.specs.declared.plain.Answered.{Answered}
-use Rattle.rio_model.specs.declared.state.State.{State}
 
 -- what ends as one value ends as an equal one
 pub ends_as : {A E : Type 0} (r : Result A E) (x y : A) → x ≡ y → IfOk r (λ a. a ≡ x) → IfOk r (λ a. a ≡ y)

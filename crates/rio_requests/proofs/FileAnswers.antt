@@ -1,18 +1,14 @@
 -- What a file becomes, and how it is answered, case by case.
-use Rattle.std.proofs.Common.{◌≡◌, ℕ, ◌+◌, ◌-◌, ◌^◌, ◌<◌, ◌≤◌, ◌⊎◌, cond, Bool, true, false, List, [], ◌∷◌, ◌++◌, length, take, drop, replicate, refl, sym, ap, ◌∙◌, arith, inl, inr}
-use Rattle.std.specs.Prelude.{min, nat_lt}
+use Rattle.rio_requests.proofs.Common.{◌≡◌, ℕ, ◌+◌, ◌-◌, ◌<◌, ◌≤◌, cond, Bool, true, false, List, [], ◌∷◌, ◌++◌, length, take, drop, refl, sym, ap, ◌∙◌, arith, inl, inr, nat_lt, nat_tests, drop_all, with_node, resized, free_count, largest_size, File, State}
+use Rattle.std.proofs.Common.{◌^◌, ◌⊎◌, replicate}
+use Rattle.std.specs.Prelude.{min}
 use Rattle.std.proofs.lemmas.Bool.{cases_lt}
-use Rattle.std.proofs.lemmas.Bool.Decides.{nat_tests}
-use Rattle.std.proofs.lemmas.List.{append-nil, drop_all, length-append, length-replicate, length-take, take_all, take-append-le, take_min}
+use Rattle.std.proofs.lemmas.List.{append-nil, length-append, length-replicate, length-take, take_all, take-append-le, take_min}
 use Rattle.rio_requests.specs.Answer.{answered, refused}
-use Rattle.rio_model.specs.States.{with_node}
 use Rattle.rio_requests.specs.Answers.{wanted, with_size, write_file}
-use Rattle.rio_model.specs.FileParts.{resized, written}
-use Rattle.rio_model.specs.Sizes.{free_count, largest_size}
-use Rattle.rio_model.specs.declared.node.Node.TheVariants.{File}
+use Rattle.rio_model.specs.FileParts.{written}
 use Rattle.rio_requests.specs.declared.plain.Answered.{Answered}
 use Rattle.rio_requests.specs.declared.reply.Reply.TheVariants.{Number}
-use Rattle.rio_model.specs.declared.state.State.{State}
 
 -- ---- by size and room
 

@@ -1,7 +1,6 @@
 -- The inodes that are left to look at.
-use Rattle.std.proofs.Common.{◌≡◌, ◌<◌, ◌+◌, ◌-◌, ℕ, suc, Bool, true, false, cond, ◌∷◌, ap, ◌∙◌, arith}
-use Rattle.std.specs.Prelude.{Some, find}
-use Rattle.std.specs.List.{range_with_len}
+use Rattle.rio_requests.proofs.Common.{◌≡◌, ◌<◌, ◌+◌, ◌-◌, ℕ, suc, Bool, true, false, cond, ◌∷◌, ap, ◌∙◌, arith, find, range_with_len}
+use Rattle.std.specs.Prelude.{Some}
 
 range_more : (a b n : ℕ) → b < n → range_with_len a (n - b) ≡ a ∷ range_with_len (a + 1) (n - (b + 1))
 range_more a b n below = let e : n - b ≡ suc (n - (b + 1)) = omega arith in ap (range_with_len a) e

@@ -1,6 +1,10 @@
-pub mod Listing
-pub mod FreeInodes
-pub mod Room
-pub mod RegionSteps
-pub mod FileAnswers
+pub mod AnswerRules
 pub mod AnswerSteps
+pub mod Common
+pub mod CrashFiles
+pub mod CrashRules
+pub mod FileAnswers
+pub mod FreeInodes
+pub mod Listing
+pub mod RegionSteps
+pub mod Room

@@ -1,13 +1,14 @@
 -- Rows in the order of their keys, and the names of a directory among them.
-use Rattle.std.proofs.Common.{rules, ◌≡◌, ◌≢◌, ◌==◌, ◌<◌, ◌≤◌, ◌+◌, ◌-◌, ℕ, Bool, true, false, cond, List, [], ◌∷◌, ◌++◌, length, map, take, drop, set, get_or, refl, sym, ap, ◌∙◌, arith, append_assoc}
+use Rattle.rio_requests.proofs.Common.{◌≡◌, ◌≢◌, ◌==◌, ◌<◌, ◌≤◌, ◌+◌, ◌-◌, ℕ, Bool, true, false, cond, List, [], ◌∷◌, ◌++◌, length, map, take, drop, get_or, refl, sym, ap, ◌∙◌, arith, put, drop_more, drop_all, name_cmp, row_entries}
+use Rattle.std.proofs.Common.{rules, set, append_assoc}
 use Rattle.std.specs.Prelude.{filter}
 use Rattle.std.specs.List.{AllZip, each_same}
 use Rattle.std.specs.declared.cmp.Ordering.TheVariants.{Less, Equal}
-use Rattle.std.specs.FinMap.{empty, entries, from_entries, put, len-entries, len-empty}
+use Rattle.std.specs.FinMap.{empty, entries, from_entries, len-entries, len-empty}
 use Rattle.std.specs.FinMap.Entries.{by_order}
-use Rattle.std.proofs.lemmas.List.{map-append, drop_more, drop_all, take_more, take_all, get_or_default, take_more_set, take-append-drop, drop-set-lt}
+use Rattle.std.proofs.lemmas.List.{map-append, take_more, take_all, get_or_default, take_more_set, take-append-drop, drop-set-lt}
 use Rattle.std.proofs.lemmas.List.Elements.{filter-append}
-use Rattle.rio_model.specs.Names.{NameKey, Names, name_cmp, row_entry, row_entries}
+use Rattle.rio_model.specs.Names.{NameKey, Names, row_entry}
 use Rattle.rio_model.specs.declared.rows.NameRow.{NameRow}
 use Rattle.rio_model.proofs.NameOrder.{name_entries-insert}
 

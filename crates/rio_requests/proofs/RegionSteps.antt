@@ -1,12 +1,10 @@
 -- How what the plain program finds of a region follows, step by step.
-use Rattle.std.proofs.Common.{◌≡◌, ℕ, suc, ◌+◌, ◌-◌, ◌*◌, ◌<◌, ◌==◌, Bool, true, false, cond, List, [], ◌∷◌, ◌++◌, length, map, take, drop, set, get_or, refl, sym, ap, ◌∙◌, arith, append_assoc}
-use Rattle.std.specs.Prelude.{nat_lt, ◌&&◌, not, Option, Err}
-use Rattle.std.specs.List.{range_with_len}
+use Rattle.rio_requests.proofs.Common.{◌≡◌, ℕ, suc, ◌+◌, ◌-◌, ◌*◌, ◌<◌, ◌==◌, Bool, true, false, cond, List, [], ◌∷◌, ◌++◌, length, map, take, drop, get_or, refl, sym, ap, ◌∙◌, arith, nat_lt, ◌&&◌, Err, range_with_len, drop_more, RegionNode, Txn}
+use Rattle.std.proofs.Common.{set, append_assoc}
+use Rattle.std.specs.Prelude.{not, Option}
 use Rattle.std.proofs.lemmas.List.FromFn.{map-range_with_len_more}
-use Rattle.std.proofs.lemmas.List.{drop_more, take_more_set, take-append-drop, drop-set-lt}
+use Rattle.std.proofs.lemmas.List.{take_more_set, take-append-drop, drop-set-lt}
 use Rattle.rio_model.specs.Heap.{in_block}
-use Rattle.rio_model.specs.declared.node.RegionNode.{RegionNode}
-use Rattle.rio_model.specs.declared.txn.Txn.{Txn}
 use Rattle.rio_requests.specs.RegionAnswers.{Outcome, all_free, all_in_range, in_range, with_undo}
 use Rattle.rio_requests.specs.Transactions.{set_txn, txn_before}
 

@@ -1,18 +1,10 @@
 -- How many blocks nodes take, and how many are left.
-use Rattle.std.proofs.Common.{◌≡◌, ◌≢◌, ◌==◌, ℕ, suc, ◌+◌, ◌-◌, ◌*◌, ◌/◌, ◌≤◌, cond, true, false, length, map, ap, ◌∙◌, arith}
-use Rattle.std.specs.Prelude.{sum}
+use Rattle.rio_requests.proofs.Common.{◌≡◌, ◌≢◌, ◌==◌, ℕ, suc, ◌+◌, ◌-◌, ◌*◌, ◌/◌, ◌≤◌, cond, true, false, length, map, ap, ◌∙◌, arith, sum, range_with_len, get, nat_tests, reserved, names_in, blocks_for, free_count, node_blocks, region_words, State}
 use Rattle.std.specs.Int.{div_ceil}
-use Rattle.std.specs.List.{range_with_len}
-use Rattle.std.specs.FinMap.{get}
-use Rattle.std.proofs.lemmas.Bool.Decides.{nat_tests}
-use Rattle.rio_base.specs.Shapes.{more_bitmap, reserved}
+use Rattle.rio_base.specs.Shapes.{more_bitmap}
 use Rattle.rio_base.specs.declared.places.VolumeShape.{VolumeShape}
-use Rattle.rio_model.specs.States.{names_in}
 use Rattle.rio_requests.specs.Answers.{row_wanted}
-use Rattle.rio_model.specs.CountRules.{sum_last}
-use Rattle.rio_model.specs.Sizes.{blocks_for, free_count, node_blocks}
-use Rattle.rio_model.specs.Undo.{region_words}
-use Rattle.rio_model.specs.declared.state.State.{State}
+use Rattle.rio_model.proofs.CountRules.{sum_last}
 
 -- ---- what is reserved, by the version
 

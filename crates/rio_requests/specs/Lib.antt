@@ -1,9 +1,7 @@
 pub mod Answer
-pub mod AnswerRules
 pub mod Answers
 pub mod Crash
 pub mod CrashFiles
-pub mod CrashRules
 pub mod OnRegions
 pub mod Parts
 pub mod RegionAnswers

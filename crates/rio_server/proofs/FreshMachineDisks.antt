@@ -6,17 +6,18 @@ use Rattle.std.proofs.lemmas.Bool.{cases_eq}
 use Rattle.std.proofs.lemmas.Bool.Decides.{nat_tests}
 use Rattle.std.proofs.lemmas.List.FromFn.{get_or-map-range_with_len, length-map-range_with_len}
 use Rattle.rio_base.specs.declared.places.VolumeShape.{VolumeShape}
-use Rattle.rio_base.specs.Bitmap.{bitmap_block, first_bitmap, used_bit}
+use Rattle.rio_base.specs.Bitmap.{bitmap_block, used_bit}
+use Rattle.rio_base.proofs.Bitmap.{first_bitmap}
 use Rattle.rio_base.specs.Blocks.{BlockWords}
 use Rattle.rio_base.specs.Disks.{is_pending}
 use Rattle.rio_base.specs.Layout.{HasSuperblock, inode_block, inode_place}
 use Rattle.rio_base.specs.Rules.{true_false}
 use Rattle.rio_base.specs.Shapes.{more_bitmap, reserved}
 use Rattle.rio_model.specs.Cover.{home_word}
-use Rattle.rio_model.specs.CoverSteps.{none_pending}
+use Rattle.rio_model.proofs.CoverSteps.{none_pending}
 use Rattle.rio_model.specs.FreshVolume.{IsFreshVolume}
 use Rattle.rio_model.specs.VolumeRules.{bitmap_bits}
-use Rattle.rio_model.specs.WordRules.{differs}
+use Rattle.rio_model.proofs.WordRules.{differs}
 use Rattle.image_codec.specs.Volume.{IsVolumeShape, block_words, fresh_volume_word, fresh_volume_words}
 use Rattle.block_disk.specs.declared.mem_disk.MemDisk.{MemDisk}
 use Rattle.block_disk.specs.MemDisks.{MemDiskState, contents_of, state_of, upcoming, words_state}

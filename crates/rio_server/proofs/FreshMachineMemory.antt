@@ -6,7 +6,8 @@ use Rattle.rio_base.specs.Image.{AreImageSizes, entry_at, image_pages, registry_
 use Rattle.rio_base.specs.Machine.{Contents, Running}
 use Rattle.rio_base.specs.Rules.{true_false}
 use Rattle.image_codec.specs.Image.{IsImage, fresh_image_word, fresh_image_words}
-use Rattle.rio_model.specs.Registry.{HasLayout, IsValid, KeepsRegistry, frames_of, gate_of, is_valid, layout_of, tag_at}
+use Rattle.rio_model.specs.Registry.{HasLayout, IsValid, KeepsRegistry, frames_of, gate_of, is_valid, tag_at}
+use Rattle.rio_model.proofs.RegistryRules.{layout_of}
 use Rattle.rio_server.specs.FreshMachines.{IsFreshMemory}
 
 -- where no entry has a tag, none is valid

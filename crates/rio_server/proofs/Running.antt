@@ -18,7 +18,8 @@ use Rattle.request_codec.specs.Lines.{Fails, Gives, HasEnded, HasNoEnd, Passes, 
 use Rattle.request_codec.specs.Text.{text_of}
 use Rattle.rio_server.specs.declared.ends.ServeEnd.{ServeEnd}
 use Rattle.rio_server.specs.declared.ends.ServeEnd.TheVariants.{End, SourceFault, SinkFault, InputLimit, Memory, Stopped}
-use Rattle.rio_server.specs.ServeRun.{Answers, AreFirst, EachMeans, Finishes, Replied, Serves, ServesCounted, StopsOn, ended_lines, fault_of, faults_in, texts}
+use Rattle.rio_server.proofs.ServeRun.{Answers}
+use Rattle.rio_server.specs.ServeRun.{AreFirst, EachMeans, Finishes, Replied, Serves, ServesCounted, StopsOn, ended_lines, fault_of, faults_in, texts}
 use Rattle.rio_server.specs.Asking.{AsksFor, Stops}
 
 -- bytes without the separator are one piece

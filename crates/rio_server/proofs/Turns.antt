@@ -4,7 +4,8 @@ use Rattle.std.specs.Prelude.{Option, Some, None, Result, Ok, Err, IfOk, OnErr, 
 use Rattle.rio_base.specs.declared.failures.Stopped.{Stopped as MachineStopped}
 use Rattle.rio_base.specs.Blocks.{EndsBy, Health}
 use Rattle.rio_base.specs.Counts.{Rose, RoseBy}
-use Rattle.rio_base.specs.Rules.{goes_refl, rose_by_none}
+use Rattle.rio_base.specs.Rules.{goes_refl}
+use Rattle.rio_base.proofs.Rules.{rose_by_none}
 use Rattle.rio_base.specs.Streams.{appended}
 use Rattle.rio_base.specs.Volume.{Below, LimitLasts, Runs}
 use Rattle.rio_requests.specs.declared.reply.Reply.{Reply}

@@ -81,10 +81,6 @@ pub record Serves (s t : State) (end : ServeEnd) (left left_after written writte
   pub run : ServeRun s t taken left_after end out
   pub wrote : written_after ≡ appended written out
 
--- the line's reply, and the state after it
-abbrev pub Answers : State → List ℕ → Reply → State → Type 0
-Answers s line reply t = (request : Option Request) × Means line request × Step s request reply t
-
 -- ---- replies that tell of a device fault
 
 abbrev pub fault_of : Reply → ℕ

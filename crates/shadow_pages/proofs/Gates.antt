@@ -5,11 +5,13 @@ use Rattle.std.proofs.lemmas.List.{length-set}
 use Rattle.rio_base.specs.Image.{entry_at, registry_pages}
 use Rattle.rio_base.specs.Machine.{Contents}
 use Rattle.rio_model.specs.Cover.{Coherent, SameNames, frame_page, is_loose}
-use Rattle.rio_model.specs.CoverChanges.{frame_behind, frame_same, place_bare}
-use Rattle.rio_model.specs.CoverStands.{begin_stands, commit_stands, found_named, gate_reads}
-use Rattle.rio_model.specs.CoverSteps.{firm_by, pending_same}
+use Rattle.rio_model.proofs.CoverChanges.{frame_behind, frame_same}
+use Rattle.rio_model.specs.CoverChanges.{place_bare}
+use Rattle.rio_model.proofs.CoverStands.{begin_stands, commit_stands, found_named, gate_reads}
+use Rattle.rio_model.proofs.CoverSteps.{firm_by, pending_same}
 use Rattle.rio_model.specs.Registry.{IsValid, KeepsRegistry, frames_of, gate_of, is_dirty, is_valid, shadow_at, tag_at, tag_block}
-use Rattle.rio_model.specs.RegistryRules.{EntryKeeps, entry_keeps}
+use Rattle.rio_model.specs.RegistryRules.{EntryKeeps}
+use Rattle.rio_model.proofs.RegistryRules.{entry_keeps}
 use Rattle.shadow_pages.specs.Steps.{Gated}
 use Rattle.shadow_pages.specs.Updates.{AreBare, Committed, Opened}
 

@@ -5,10 +5,11 @@ use Rattle.std.proofs.lemmas.Bool.{cases_eq}
 use Rattle.rio_base.specs.Image.{registry_pages}
 use Rattle.rio_base.specs.Machine.{Contents, Copied}
 use Rattle.rio_model.specs.Cover.{Coherent, Keeps, SameNames, cover_by, entry_of_block, frame_page, is_loose, reads, stands}
-use Rattle.rio_model.specs.CoverChanges.{OnePage, SameEntries, cover_off, covers_by, entry_same, found_entries, frame_behind, frame_entries, header_same, off_page, place_bare, place_cases, place_entries, place_shadow, same_entries, tag_same}
-use Rattle.rio_model.specs.CoverFills.{frame_off, frame_past, page_off, registry_same, valid_same}
+use Rattle.rio_model.specs.CoverChanges.{OnePage, SameEntries, covers_by, place_bare}
+use Rattle.rio_model.proofs.CoverChanges.{cover_off, entry_same, found_entries, frame_behind, frame_entries, header_same, off_page, place_cases, place_entries, place_shadow, same_entries, tag_same}
+use Rattle.rio_model.proofs.CoverFills.{frame_off, frame_past, page_off, registry_same, valid_same}
 use Rattle.rio_model.specs.CoverLookups.{cover_same, found_is}
-use Rattle.rio_model.specs.CoverSteps.{disk_same, firm_by, pending_same}
+use Rattle.rio_model.proofs.CoverSteps.{disk_same, firm_by, pending_same}
 use Rattle.rio_model.specs.Registry.{IsValid, KeepsRegistry, frames_of, gate_of, is_dirty, page_of_entry, shadow_at, tag_at}
 use Rattle.shadow_pages.specs.Steps.{IsRestored, Restores}
 

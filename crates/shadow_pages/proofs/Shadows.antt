@@ -6,11 +6,14 @@ use Rattle.rio_base.specs.Image.{entry_at, registry_pages}
 use Rattle.rio_base.specs.Machine.{Contents}
 use Rattle.rio_base.specs.Rules.{true_false}
 use Rattle.rio_model.specs.Cover.{Keeps, SameNames, cover_by, entry_of_block, frame_page, reads, stands}
-use Rattle.rio_model.specs.CoverChanges.{covers_by, found_kept, frame_word_one, page_word_one, place_bare, place_shadow, reads_kept}
-use Rattle.rio_model.specs.CoverLookups.{behind_one, cover_same, entry_one, frames_one, header_one, tag_one}
-use Rattle.rio_model.specs.CoverSteps.{coherent_one, disk_same, firm_by, pending_same}
+use Rattle.rio_model.specs.CoverChanges.{covers_by, place_bare}
+use Rattle.rio_model.proofs.CoverChanges.{found_kept, frame_word_one, page_word_one, place_shadow, reads_kept}
+use Rattle.rio_model.proofs.CoverLookups.{behind_one, entry_one, frames_one, header_one, tag_one}
+use Rattle.rio_model.specs.CoverLookups.{cover_same}
+use Rattle.rio_model.proofs.CoverSteps.{coherent_one, disk_same, firm_by, pending_same}
 use Rattle.rio_model.specs.Registry.{IsValid, OneEntry, file_at, frames_of, gate_of, index_at, is_data, is_dirty, is_valid, page_of_entry, shadow_at, size_at, tag_at, tag_block}
-use Rattle.rio_model.specs.RegistryRules.{EntryKeeps, entry_keeps, registry_one}
+use Rattle.rio_model.specs.RegistryRules.{EntryKeeps}
+use Rattle.rio_model.proofs.RegistryRules.{entry_keeps, registry_one}
 use Rattle.registry.specs.Entries.{entry_of}
 use Rattle.registry.specs.declared.entry.Entry.{Entry}
 use Rattle.shadow_pages.specs.Steps.{CanShadow, Clears, IsCopied, StoresWords}

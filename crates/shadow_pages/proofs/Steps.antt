@@ -4,12 +4,12 @@ use Rattle.std.proofs.Common.{◌∙◌, ap, sym, subst, inl, inr, arith}
 use Rattle.std.proofs.lemmas.Bool.{cases_eq}
 use Rattle.rio_base.specs.Image.{registry_pages}
 use Rattle.rio_base.specs.Machine.{Contents, Copied, Running, StepEnds}
-use Rattle.rio_base.specs.MachineRules.{ends_after, lasts_refl, lasts_trans}
+use Rattle.rio_base.proofs.MachineRules.{ends_after, lasts_refl, lasts_trans}
 use Rattle.rio_base.specs.Rules.{true_false}
 use Rattle.rio_model.specs.Cover.{Coherent, Keeps, SameNames, frame_page}
-use Rattle.rio_model.specs.CoverChanges.{frame_behind, frame_entries, header_same, off_page}
-use Rattle.rio_model.specs.CoverStands.{same_names_refl, same_names_trans}
-use Rattle.rio_model.specs.CoverSteps.{coherent_on, keeps_refl, keeps_trans, layout_is}
+use Rattle.rio_model.proofs.CoverChanges.{frame_behind, frame_entries, header_same, off_page}
+use Rattle.rio_model.proofs.CoverStands.{same_names_refl, same_names_trans}
+use Rattle.rio_model.proofs.CoverSteps.{coherent_on, keeps_refl, keeps_trans, layout_is}
 use Rattle.rio_model.specs.Registry.{HasLayout, IsValid, frames_of, gate_of, is_data, is_valid, shadow_at}
 use Rattle.shadow_pages.specs.Steps.{CanShadow, Clears, HasShadow, IsCleared, IsCopied, IsRestored, Restores, StoresWords}
 use Rattle.shadow_pages.specs.Updates.{AreBare, Committed, ListsShadows, Opened, Undone}

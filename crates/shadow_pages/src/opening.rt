@@ -27,7 +27,7 @@ fn take_shadow<M: Machine>(m: &mut M, k: u32) -> Result<(), Stopped>
 }
 
 /// Takes its shadow from entry `k`, if it is valid and has one, while no update is open.
-#[tactic(auto, using(crate::proofs::Steps::layout_now, crate::proofs::Steps::clears_refl, rio_base::specs::MachineRules::ends_none))]
+#[tactic(auto, using(crate::proofs::Steps::layout_now, crate::proofs::Steps::clears_refl, rio_base::proofs::MachineRules::ends_none))]
 fn clear_shadow<M: Machine>(m: &mut M, k: u32) -> Result<(), Stopped>
     requires coherent { Coherent (M.contents m.old) (length (M.run m.old).scratch) }
     requires closed { (M.contents m.old).open_page ≡ None }
@@ -48,7 +48,7 @@ fn clear_shadow<M: Machine>(m: &mut M, k: u32) -> Result<(), Stopped>
 }
 
 /// Takes their shadows from the listed entries, while no update is open.
-#[tactic(auto, using(crate::proofs::Steps::clears_refl, rio_base::specs::MachineRules::steps_refl, rio_base::specs::MachineRules::ends_none))]
+#[tactic(auto, using(crate::proofs::Steps::clears_refl, rio_base::proofs::MachineRules::steps_refl, rio_base::proofs::MachineRules::ends_none))]
 fn clear_shadows<M: Machine>(m: &mut M, shadowed: &[u32]) -> Result<(), Stopped>
     requires coherent { Coherent (M.contents m.old) (length (M.run m.old).scratch) }
     requires closed { (M.contents m.old).open_page ≡ None }
@@ -86,7 +86,7 @@ fn open_gate<M: Machine>(m: &mut M) -> Result<(), Stopped>
 /// Opens an update that has no shadow yet. `shadowed` lists the entries that may have a shadow from an earlier update;
 /// those of them that are not valid, or have no shadow, are passed over. `Stopped` changes nothing that reads or stands,
 /// and no update is open then.
-#[tactic(auto, using(crate::proofs::Steps::stores_trans, crate::proofs::Steps::ends_then, rio_model::specs::CoverStands::same_names_trans))]
+#[tactic(auto, using(crate::proofs::Steps::stores_trans, crate::proofs::Steps::ends_then, rio_model::proofs::CoverStands::same_names_trans))]
 pub fn begin<M: Machine>(m: &mut M, shadowed: &[u32]) -> Result<(), Stopped>
     requires coherent { Coherent (M.contents m.old) (length (M.run m.old).scratch) }
     requires closed { (M.contents m.old).open_page ≡ None }

@@ -29,7 +29,7 @@ fn copy_back<M: Machine>(m: &mut M, k: u32, s: u32) -> Result<(), Stopped>
 }
 
 /// Copies back the shadow page of entry `k`, if it is valid and has one.
-#[tactic(auto, using(crate::proofs::Steps::layout_now, crate::proofs::Steps::shadow_few, crate::proofs::Steps::stores_refl, crate::proofs::Restores::restores_refl, crate::proofs::Restores::restored_bare, rio_base::specs::MachineRules::ends_none))]
+#[tactic(auto, using(crate::proofs::Steps::layout_now, crate::proofs::Steps::shadow_few, crate::proofs::Steps::stores_refl, crate::proofs::Restores::restores_refl, crate::proofs::Restores::restored_bare, rio_base::proofs::MachineRules::ends_none))]
 fn restore_frame<M: Machine>(m: &mut M, k: u32) -> Result<(), Stopped>
     requires coherent { Coherent (M.contents m.old) (length (M.run m.old).scratch) }
     requires closed { (M.contents m.old).open_page ≡ None }
@@ -51,7 +51,7 @@ fn restore_frame<M: Machine>(m: &mut M, k: u32) -> Result<(), Stopped>
 }
 
 /// Copies back the shadow pages of the listed entries.
-#[tactic(auto, using(crate::proofs::Steps::stores_refl, crate::proofs::Restores::restores_refl, rio_base::specs::MachineRules::steps_refl, rio_base::specs::MachineRules::ends_none))]
+#[tactic(auto, using(crate::proofs::Steps::stores_refl, crate::proofs::Restores::restores_refl, rio_base::proofs::MachineRules::steps_refl, rio_base::proofs::MachineRules::ends_none))]
 fn restore_frames<M: Machine>(m: &mut M, shadowed: &[u32]) -> Result<(), Stopped>
     requires coherent { Coherent (M.contents m.old) (length (M.run m.old).scratch) }
     requires closed { (M.contents m.old).open_page ≡ None }

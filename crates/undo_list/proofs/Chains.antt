@@ -2,8 +2,9 @@
 use Rattle.std.proofs.Common.{◌≡◌, ℕ, ◌+◌, ◌-◌, ◌*◌, ◌<◌, ◌≤◌, List, [], ◌∷◌, length, refl, sym, ap, subst, ◌∙◌, arith}
 use Rattle.rio_base.specs.Regions.{RegionContent}
 use Rattle.rio_model.specs.Undo.{UndoRecord, taken, undo_word, undo_words, undo_records, IsRecord, places, IsRegion}
-use Rattle.rio_model.specs.UndoRules.{links_head}
-use Rattle.undo_list.specs.Chains.{IsChain, IsNewest, ChainHead}
+use Rattle.rio_model.proofs.UndoRules.{links_head}
+use Rattle.undo_list.specs.Chains.{IsChain, IsNewest}
+use Rattle.undo_list.proofs.ChainsLaws.{ChainHead}
 use Rattle.undo_list.specs.declared.records.SavedAt.{SavedAt}
 
 pub chain_head : (f : RegionContent) (head : ℕ) (rs : List UndoRecord) → 0 < head → IsChain f head rs → ChainHead f head rs

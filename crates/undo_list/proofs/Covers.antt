@@ -3,7 +3,7 @@ use Rattle.std.proofs.Common.{◌≡◌, ℕ, ◌+◌, ◌<◌, ◌≤◌, ◌�
 use Rattle.std.proofs.lemmas.Bool.Decides.{nat_tests}
 use Rattle.rio_base.specs.Rules.{true_false}
 use Rattle.rio_model.specs.Undo.{UndoRecord, CoversAll, is_covered}
-use Rattle.rio_model.specs.UndoRules.{covered_by, covered_else}
+use Rattle.rio_model.proofs.UndoRules.{covered_by, covered_else}
 use Rattle.undo_list.specs.declared.covering.Span.{Span}
 
 -- of some places those outside what is left are covered, as these records tell. Inside, the rest of them tell of each place

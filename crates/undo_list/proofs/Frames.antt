@@ -5,8 +5,8 @@ use Rattle.std.proofs.lemmas.List.{get_or-append-add, get_or-take, get_or_append
 use Rattle.std.proofs.lemmas.List.FromFn.{get_or-map-range_with_len, length-map-range_with_len}
 use Rattle.rio_base.specs.Rules.{true_false}
 use Rattle.rio_base.specs.Regions.{AreWords, RegionContent, put_word, put_words, OldOrPutWord, OldOrPutWords}
-use Rattle.rio_model.specs.Undo.{UndoRecord, taken, undo_word, undo_words, undo_records, is_covered, IsRecord, places, live, map_from, saving, Saves, IsRegion, SameSizes, Rests, Gains, Undoes, Dropped, Sets, Puts, CoversAll}
-use Rattle.rio_model.specs.UndoRules.{rests_undoes, gains_undoes, undoes_trans, sizes_trans, head_sizes, head_live, gains_by, region_same, covered_keeps, covered_by, newest_dropped, dropped_by, sets_covered, puts_covered}
+use Rattle.rio_model.specs.Undo.{UndoRecord, taken, undo_word, undo_words, undo_records, is_covered, IsRecord, places, live, map_from, saving, IsRegion, SameSizes, Rests, Gains, Undoes, Dropped, Sets, Puts, CoversAll}
+use Rattle.rio_model.proofs.UndoRules.{Saves, rests_undoes, gains_undoes, undoes_trans, sizes_trans, head_sizes, head_live, gains_by, region_same, covered_keeps, covered_by, newest_dropped, dropped_by, sets_covered, puts_covered}
 use Rattle.undo_list.specs.Copies.{CopiedFront, copied}
 use Rattle.undo_list.specs.Stages.{Off, Staged, PutsFront}
 use Rattle.undo_list.specs.declared.records.SavedAt.{SavedAt}

@@ -3,7 +3,7 @@ use Rattle.std.proofs.Common.{◌≡◌, ℕ, ◌+◌, ◌-◌, ◌<◌, ◌≤�
 use Rattle.rio_base.specs.Rules.{true_false}
 use Rattle.rio_base.specs.Regions.{RegionContent}
 use Rattle.rio_model.specs.Undo.{UndoRecord, CoversAll, is_covered, places}
-use Rattle.rio_model.specs.UndoRules.{covered_by, covered_else}
+use Rattle.rio_model.proofs.UndoRules.{covered_by, covered_else}
 use Rattle.undo_list.specs.declared.covering.Span.{Span}
 use Rattle.undo_list.specs.declared.records.SavedAt.{SavedAt}
 use Rattle.undo_list.specs.Chains.{IsChain, MarksRecord}

@@ -1,7 +1,7 @@
 -- The records that a head names, read one after the other.
-use Rattle.std.specs.Prelude.{◌≡◌, ℕ, suc, ◌+◌, ◌-◌, ◌<◌, ◌≤◌, ◌⊎◌, List, ◌∷◌, length}
+use Rattle.std.specs.Prelude.{◌≡◌, ℕ, ◌+◌, ◌-◌, ◌<◌, ◌≤◌, ◌⊎◌, List, ◌∷◌, length}
 use Rattle.rio_base.specs.Regions.{RegionContent}
-use Rattle.rio_model.specs.Undo.{UndoRecord, IsRecord, Links, Within, is_covered, places, taken, undo_records, undo_word, undo_words}
+use Rattle.rio_model.specs.Undo.{UndoRecord, Links, Within, is_covered, places, taken, undo_records, undo_word, undo_words}
 use Rattle.undo_list.specs.Marks.{mark_of}
 use Rattle.undo_list.specs.declared.covering.Span.{Span}
 use Rattle.undo_list.specs.declared.records.SavedAt.{SavedAt}
@@ -11,17 +11,6 @@ pub record IsChain (f : RegionContent) (head : ℕ) (rs : List UndoRecord) : Typ
   pub links : Links f head rs
   pub room : taken rs ≤ undo_words f
   pub within : Within (places f) rs
-
--- the newest of some records
-pub record ChainHead (f : RegionContent) (head : ℕ) (rs : List UndoRecord) : Type 0 where
-  pub newest : UndoRecord
-  pub rest : List UndoRecord
-  pub is : rs ≡ newest ∷ rest
-  pub at : head ≡ suc (taken rest)
-  pub lies : IsRecord f (taken rest) newest
-  pub room : taken rest + 3 + length newest.old ≤ undo_words f
-  pub within : newest.first + length newest.old ≤ places f
-  pub chain : IsChain f (undo_word f (taken rest)) rest
 
 -- what was read of the newest of some records
 pub record IsNewest (f : RegionContent) (rs : List UndoRecord) (v : SavedAt) : Type 0 where

@@ -1,18 +1,11 @@
 -- What a block that is taken or given back comes to.
-use Rattle.std.proofs.Common.{◌≡◌, ℕ, ◌+◌, ◌-◌, ◌*◌, ◌/◌, ◌%◌, ◌<◌, ◌≤◌, ◌⊎◌, inl, inr, ◌++◌, true, false, cond, Some, Err, List, ◌∷◌, length, map, refl, sym, ap, ◌∙◌, arith}
-use Rattle.std.specs.Prelude.{IsErrOf, nat_eq}
-use Rattle.std.specs.List.{range_with_len}
+use Rattle.vista_region.proofs.Common.{◌≡◌, ℕ, ◌+◌, ◌-◌, ◌*◌, ◌/◌, ◌%◌, ◌<◌, ◌≤◌, ◌⊎◌, inl, inr, ◌++◌, true, false, cond, Some, Err, List, ◌∷◌, length, map, refl, sym, ap, ◌∙◌, arith, IsErrOf, nat_eq, range_with_len, nat_tests, length-map-range_with_len, RegionContent, RegionNode, Txn, OfBlocks, heap_blocks, units_of, before, data_from, live, map_pages, taken, undo_records, undo_words, Outcome}
 use Rattle.std.proofs.lemmas.Bool.{cases_lt}
-use Rattle.std.proofs.lemmas.Bool.Decides.{nat_tests}
 use Rattle.std.proofs.lemmas.List.{append-nil}
-use Rattle.std.proofs.lemmas.List.FromFn.{length-map-range_with_len}
-use Rattle.rio_base.specs.Regions.{RegionContent}
-use Rattle.rio_model.specs.declared.node.RegionNode.{RegionNode}
-use Rattle.rio_model.specs.declared.txn.Txn.{Txn}
-use Rattle.rio_model.specs.Heap.{Allocates, IsBlock, IsFirstFit, IsGap, OfBlocks, OffBlock, Releases, block_size, heap_blocks, touched_pages, units_of, with_block, without_block}
-use Rattle.rio_model.specs.HeapRules.{block_listed, no_block_listed}
-use Rattle.rio_model.specs.Undo.{SameSizes, Undoes, before, data_from, live, map_pages, saving, taken, undo_records, undo_words}
-use Rattle.rio_requests.specs.RegionAnswers.{Outcome, alloc_on, first_fit, free_on, give_back, map_record, take_fit, units_in, with_used}
+use Rattle.rio_model.specs.Heap.{Allocates, IsBlock, IsFirstFit, IsGap, OffBlock, Releases, block_size, touched_pages, with_block, without_block}
+use Rattle.rio_model.proofs.HeapRules.{block_listed, no_block_listed}
+use Rattle.rio_model.specs.Undo.{SameSizes, Undoes, saving}
+use Rattle.rio_requests.specs.RegionAnswers.{alloc_on, first_fit, free_on, give_back, map_record, take_fit, units_in, with_used}
 use Rattle.rio_requests.specs.declared.reply.Reply.TheVariants.{Ok as Done, Number}
 use Rattle.vista_region.specs.Ends.{DoneAs, TxnEnds, says_done}
 use Rattle.vista_region.specs.Failures.{heap_handed}

@@ -1,11 +1,11 @@
 -- Bytes that words are, read by runs.
-use Rattle.std.proofs.Common.{◌≡◌, ℕ, zero, suc, ◌+◌, ◌-◌, ◌*◌, ◌/◌, ◌%◌, ◌<◌, ◌≤◌, List, [], ◌∷◌, ◌++◌, length, map, take, drop, slice_index, refl, ap, ◌∙◌, arith, length-drop}
-use Rattle.std.specs.List.{flat_map, range_with_len}
-use Rattle.std.proofs.lemmas.List.{append_assoc, get_or-drop, get_or-take, length-take-le}
+use Rattle.vista_region.proofs.Common.{◌≡◌, ℕ, zero, suc, ◌+◌, ◌-◌, ◌*◌, ◌/◌, ◌%◌, ◌<◌, ◌≤◌, List, [], ◌∷◌, ◌++◌, length, map, take, drop, slice_index, refl, ap, ◌∙◌, arith, length-drop, range_with_len, length-take-le, byte_in, bytes_in}
+use Rattle.std.specs.List.{flat_map}
+use Rattle.std.proofs.lemmas.List.{append_assoc, get_or-drop, get_or-take}
 use Rattle.std.proofs.lemmas.List.FromFn.{fill_by_all}
 use Rattle.byteorder.specs.Endian.{little_bytes}
 use Rattle.rio_base.specs.Regions.{AreWords}
-use Rattle.rio_model.specs.Held.{byte_in, byte_of, bytes_in}
+use Rattle.rio_model.specs.Held.{byte_of}
 
 abbrev bytes_of : List ℕ → List ℕ
 bytes_of words = flat_map (little_bytes 8) words

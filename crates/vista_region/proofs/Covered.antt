@@ -1,9 +1,8 @@
 -- A data word is in a range of the transaction exactly where a record covers its place.
-use Rattle.std.proofs.Common.{◌≡◌, ℕ, zero, suc, ◌+◌, ◌-◌, ◌<◌, ◌≤◌, ◌⊎◌, inl, inr, ◌++◌, Bool, true, false, cond, ◌&&◌, ◌||◌, nat_lt, nat_le, Option, Some, None, List, [], ◌∷◌, length, refl, sym, ap, ◌∙◌, arith}
-use Rattle.std.specs.Prelude.{is_some, max, slice_index}
-use Rattle.std.proofs.lemmas.Bool.Decides.{nat_tests}
-use Rattle.rio_base.specs.Rules.{true_false}
-use Rattle.rio_model.specs.Undo.{UndoRecord, CoversAll, covers, first_some, is_covered, own_word, saved_word}
+use Rattle.vista_region.proofs.Common.{◌≡◌, ℕ, zero, suc, ◌+◌, ◌-◌, ◌<◌, ◌≤◌, ◌⊎◌, inl, inr, ◌++◌, Bool, true, false, cond, ◌&&◌, nat_lt, Option, Some, None, List, [], ◌∷◌, length, refl, sym, ap, ◌∙◌, arith, is_some, nat_tests, true_false, CoversAll}
+use Rattle.std.proofs.Common.{◌||◌, nat_le}
+use Rattle.std.specs.Prelude.{max, slice_index}
+use Rattle.rio_model.specs.Undo.{UndoRecord, covers, first_some, is_covered, own_word, saved_word}
 use Rattle.rio_requests.specs.RegionAnswers.{all_in_range, in_range}
 use Rattle.vista_region.specs.Regions.{range_of, ranges_of}
 

@@ -1,12 +1,6 @@
 -- What the end of a transaction comes to.
-use Rattle.std.proofs.Common.{◌≡◌, ◌≢◌, ℕ, ◌⊎◌, inl, inr, Bool, true, false, cond, Option, Some, None, Result, Ok, Err, [], ◌∷◌, refl, sym, ap, subst, ◌∙◌, arith}
-use Rattle.std.specs.Prelude.{IsErrOf, is_some, nat_eq}
-use Rattle.std.proofs.lemmas.Bool.{cases_eq}
-use Rattle.std.proofs.lemmas.Bool.Decides.{nat_tests}
-use Rattle.rio_base.specs.Rules.{true_false}
-use Rattle.rio_base.specs.Regions.{RegionContent}
-use Rattle.rio_model.specs.Heap.{OfBlocks}
-use Rattle.rio_model.specs.Undo.{Dropped, IsRegion, Undone, live, undo_records}
+use Rattle.vista_region.proofs.Common.{◌≡◌, ◌≢◌, ℕ, ◌⊎◌, inl, inr, Bool, true, false, cond, Option, Some, None, Result, Ok, Err, [], ◌∷◌, refl, sym, ap, subst, ◌∙◌, arith, IsErrOf, is_some, nat_eq, cases_eq, nat_tests, true_false, RegionContent, OfBlocks, IsRegion, Undone, live, undo_records}
+use Rattle.rio_model.specs.Undo.{Dropped}
 use Rattle.rio_model.specs.VolumeReads.{region_in}
 use Rattle.rio_requests.specs.RegionAnswers.{abort_on, commit_on}
 use Rattle.rio_requests.specs.declared.reply.Reply.TheVariants.{Ok as Done}

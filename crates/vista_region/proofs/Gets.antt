@@ -1,11 +1,7 @@
 -- What bytes that are read come to.
-use Rattle.std.proofs.Common.{◌≡◌, ℕ, ◌+◌, ◌-◌, ◌*◌, ◌/◌, ◌%◌, ◌<◌, ◌≤◌, ◌++◌, Bool, true, false, Option, Some, None, Err, List, [], refl, sym, ap, ◌∙◌, arith}
-use Rattle.std.proofs.lemmas.List.FromFn.{get_or-map-range_with_len}
-use Rattle.rio_base.specs.Regions.{RegionContent}
-use Rattle.rio_base.specs.Rules.{true_false}
-use Rattle.rio_model.specs.Held.{byte_in, byte_of, bytes_in}
-use Rattle.rio_model.specs.Undo.{data_from, live}
-use Rattle.rio_requests.specs.RegionAnswers.{Outcome, data_word, get_on, unless_doomed}
+use Rattle.vista_region.proofs.Common.{◌≡◌, ℕ, ◌+◌, ◌-◌, ◌*◌, ◌/◌, ◌%◌, ◌<◌, ◌≤◌, ◌++◌, Bool, true, false, Option, Some, None, Err, List, [], refl, sym, ap, ◌∙◌, arith, get_or-map-range_with_len, RegionContent, true_false, byte_in, bytes_in, data_from, live, Outcome}
+use Rattle.rio_model.specs.Held.{byte_of}
+use Rattle.rio_requests.specs.RegionAnswers.{data_word, get_on, unless_doomed}
 use Rattle.rio_requests.specs.declared.reply.Reply.TheVariants.{Bytes}
 use Rattle.vista_region.specs.Marks.{Marks, mark_of, marked_txn, txn_in}
 use Rattle.vista_region.specs.Regions.{region_now}

@@ -1,14 +1,9 @@
 -- The heap map lies before the data: data words that change leave it, and its blocks.
-use Rattle.std.proofs.Common.{◌≡◌, ℕ, zero, suc, ◌+◌, ◌*◌, ◌/◌, ◌<◌, ◌≤◌, ◌⊎◌, inl, inr, Bool, true, false, cond, eqb, ◌&&◌, nat_le, Some, None, List, ◌∷◌, refl, sym, ap, ◌∙◌, arith}
-use Rattle.std.specs.Prelude.{find, not}
-use Rattle.std.specs.List.{range_with_len}
-use Rattle.std.proofs.lemmas.Bool.Decides.{nat_tests}
-use Rattle.std.proofs.lemmas.List.FromFn.{length-map-range_with_len}
-use Rattle.rio_base.specs.Regions.{RegionContent}
-use Rattle.rio_base.specs.Rules.{true_false}
-use Rattle.rio_model.specs.Heap.{IsFirstFit, IsGap, OfBlocks, blocks_from, heap_blocks, in_block, run_length, starts, units_of, used}
-use Rattle.rio_model.specs.HeapRules.{in_block_used, used_below}
-use Rattle.rio_model.specs.Undo.{data_from, live, map_pages}
+use Rattle.vista_region.proofs.Common.{◌≡◌, ℕ, zero, suc, ◌+◌, ◌*◌, ◌/◌, ◌<◌, ◌≤◌, ◌⊎◌, inl, inr, Bool, true, false, cond, ◌&&◌, Some, None, List, ◌∷◌, refl, sym, ap, ◌∙◌, arith, not, range_with_len, nat_tests, length-map-range_with_len, RegionContent, true_false, OfBlocks, heap_blocks, units_of, data_from, live, map_pages}
+use Rattle.std.proofs.Common.{eqb, nat_le}
+use Rattle.std.specs.Prelude.{find}
+use Rattle.rio_model.specs.Heap.{IsFirstFit, IsGap, blocks_from, in_block, run_length, starts, used}
+use Rattle.rio_model.proofs.HeapRules.{in_block_used, used_below}
 use Rattle.rio_requests.specs.RegionAnswers.{all_free, first_fit, units_in}
 use Rattle.vista_region.specs.Regions.{region_now}
 

@@ -12,3 +12,4 @@ mod Ranges
 mod Spans
 mod TestTables
 mod Words
+pub mod Common

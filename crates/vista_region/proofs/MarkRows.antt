@@ -1,11 +1,9 @@
 -- The rows of open transactions, as those of a map.
-use Rattle.std.proofs.Common.{◌≡◌, ◌≢◌, ℕ, ◌⊎◌, inl, inr, Bool, true, false, cond, nat_eq, Option, Some, None, [], ◌∷◌, Result, Ok, Err, refl, sym, ap, subst, ◌∙◌, arith}
-use Rattle.std.specs.Prelude.{OnOk, OnErr, is_err, is_some}
-use Rattle.std.proofs.lemmas.Bool.{cases_eq}
-use Rattle.std.proofs.lemmas.Bool.Decides.{nat_tests}
+use Rattle.vista_region.proofs.Common.{◌≡◌, ◌≢◌, ℕ, ◌⊎◌, inl, inr, Bool, true, false, cond, Option, Some, None, [], ◌∷◌, Result, Ok, Err, refl, sym, ap, subst, ◌∙◌, arith, OnOk, is_some, cases_eq, nat_tests, true_false}
+use Rattle.std.proofs.Common.{nat_eq}
+use Rattle.std.specs.Prelude.{OnErr, is_err}
 use Rattle.std.specs.Map.{lookup, remove_entry}
 use Rattle.indexmap.specs.IndexMap.{insert_entry}
-use Rattle.rio_base.specs.Rules.{true_false}
 use Rattle.vista_region.specs.Marks.{Marks, mark_of, set_mark}
 
 turned : (a b : ℕ) → nat_eq a b ≡ nat_eq b a

@@ -1,12 +1,7 @@
 -- The region and its transaction, where words at the places and records are as they were.
-use Rattle.std.proofs.Common.{◌≡◌, ℕ, ◌+◌, ◌*◌, Bool, Option, Some, None, List, map, refl, ap, ◌∙◌}
-use Rattle.std.specs.List.{range_with_len}
-use Rattle.rio_base.specs.Regions.{RegionContent}
-use Rattle.rio_model.specs.declared.node.RegionNode.{RegionNode}
-use Rattle.rio_model.specs.declared.txn.Txn.{Txn}
-use Rattle.rio_model.specs.Heap.{heap_blocks}
-use Rattle.rio_model.specs.Undo.{before, data_from, live, map_pages, taken, undo_records, Rests, SameSizes, Undone}
-use Rattle.rio_model.specs.UndoRules.{rests_undoes}
+use Rattle.vista_region.proofs.Common.{◌≡◌, ℕ, ◌+◌, ◌*◌, Bool, Option, Some, None, List, map, refl, ap, ◌∙◌, range_with_len, RegionContent, RegionNode, Txn, heap_blocks, before, data_from, live, map_pages, taken, undo_records, Rests, Undone}
+use Rattle.rio_model.specs.Undo.{SameSizes}
+use Rattle.rio_model.proofs.UndoRules.{rests_undoes}
 use Rattle.rio_model.specs.VolumeReads.{region_in}
 use Rattle.vista_region.specs.Marks.{Marks, mark_of, marked_txn, txn_in}
 use Rattle.vista_region.specs.Regions.{ranges_of, region_now, txn_now}

@@ -1,21 +1,15 @@
 -- What calls on a transaction come to, step by step, and at their ends.
-use Rattle.std.proofs.Common.{◌≡◌, ◌≢◌, ℕ, ◌+◌, ◌*◌, ◌%◌, ◌<◌, ◌≤◌, ◌⊎◌, inl, inr, Bool, true, false, cond, eqb, ◌&&◌, nat_lt, Option, Some, None, Result, Ok, Err, [], length, refl, sym, ap, subst, ◌∙◌, arith}
-use Rattle.std.specs.Prelude.{IsOk, is_ok, MatchBool, not, nat_eq}
-use Rattle.std.proofs.lemmas.Bool.{cases_eq}
-use Rattle.std.proofs.lemmas.Bool.Decides.{nat_tests}
-use Rattle.std.proofs.lemmas.List.FromFn.{length-map-range_with_len}
-use Rattle.rio_base.specs.Regions.{RegionContent}
-use Rattle.rio_model.specs.declared.node.RegionNode.{RegionNode}
-use Rattle.rio_model.specs.declared.txn.Txn.{Txn}
-use Rattle.rio_model.specs.Undo.{IsRegion, Links, data_from, live, taken, undo_records, undo_words}
-use Rattle.rio_model.specs.UndoRules.{no_records}
-use Rattle.rio_requests.specs.RegionAnswers.{Outcome, of_words, on_open, with_undo, within}
+use Rattle.vista_region.proofs.Common.{◌≡◌, ◌≢◌, ℕ, ◌+◌, ◌*◌, ◌%◌, ◌<◌, ◌≤◌, ◌⊎◌, inl, inr, Bool, true, false, cond, ◌&&◌, nat_lt, Option, Some, None, Result, Ok, Err, [], length, refl, sym, ap, subst, ◌∙◌, arith, not, nat_eq, cases_eq, nat_tests, length-map-range_with_len, RegionContent, RegionNode, Txn, IsRegion, data_from, live, taken, undo_records, undo_words, Outcome, of_words, within, true_false}
+use Rattle.std.proofs.Common.{eqb}
+use Rattle.std.specs.Prelude.{IsOk, is_ok, MatchBool}
+use Rattle.rio_model.specs.Undo.{Links}
+use Rattle.rio_model.proofs.UndoRules.{no_records}
+use Rattle.rio_requests.specs.RegionAnswers.{on_open, with_undo}
 use Rattle.rio_requests.specs.declared.reply.Reply.{Reply}
 use Rattle.vista_region.specs.Ends.{RefusedAs, TxnEnds, refusal_of}
 use Rattle.vista_region.specs.Marks.{Marks, mark_of, marked_txn, txn_in}
 use Rattle.vista_region.specs.Regions.{region_now, txn_now}
 use Rattle.vista_region.specs.Steps.{opened, whole}
-use Rattle.rio_base.specs.Rules.{true_false}
 use Rattle.vista_region.specs.declared.failures.TxnFail.{TxnFail}
 use Rattle.vista_region.specs.declared.failures.TxnFail.TheVariants.{NotAligned}
 use Rattle.vista_region.proofs.Nodes.{marked}

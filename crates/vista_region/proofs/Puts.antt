@@ -1,19 +1,15 @@
 -- What bytes that are put come to.
-use Rattle.std.proofs.Common.{◌≡◌, ℕ, ◌+◌, ◌-◌, ◌*◌, ◌/◌, ◌%◌, ◌<◌, ◌≤◌, ◌⊎◌, inl, inr, ◌++◌, Bool, true, false, cond, Some, Err, List, length, map, take, drop, slice_index, refl, sym, ap, subst, ◌∙◌, arith, length-append, length-drop}
+use Rattle.vista_region.proofs.Common.{◌≡◌, ℕ, ◌+◌, ◌-◌, ◌*◌, ◌/◌, ◌%◌, ◌<◌, ◌≤◌, ◌⊎◌, inl, inr, ◌++◌, Bool, true, false, cond, Some, Err, List, length, map, take, drop, slice_index, refl, sym, ap, subst, ◌∙◌, arith, length-drop, range_with_len, length-take-le, get_or-map-range_with_len, length-map-range_with_len, RegionContent, RegionNode, Txn, OfBlocks, heap_blocks, units_of, CoversAll, IsRegion, Puts, data_from, live, map_pages, undo_records, Outcome, of_words, within, words_of}
+use Rattle.std.proofs.Common.{length-append}
 use Rattle.std.specs.Prelude.{MatchBool}
-use Rattle.std.specs.List.{range_with_len}
 use Rattle.std.proofs.lemmas.Bool.{cases_lt}
-use Rattle.std.proofs.lemmas.List.{ext_get_or, get_or-append_right, get_or-drop, get_or-take, get_or_append_left, length-take-le, take_all}
-use Rattle.std.proofs.lemmas.List.FromFn.{get_or-map-range_with_len, length-map-range_with_len}
+use Rattle.std.proofs.lemmas.List.{ext_get_or, get_or-append_right, get_or-drop, get_or-take, get_or_append_left, take_all}
 use Rattle.rio_base.specs.declared.failures.VolFail.{VolFail}
 use Rattle.rio_base.specs.declared.failures.VolFail.TheVariants.{Fault as WordFault, Stopped as WordStopped}
-use Rattle.rio_base.specs.Regions.{RegionContent, put_words}
+use Rattle.rio_base.specs.Regions.{put_words}
 use Rattle.rio_model.specs.FileParts.{put_at}
-use Rattle.rio_model.specs.declared.node.RegionNode.{RegionNode}
-use Rattle.rio_model.specs.declared.txn.Txn.{Txn}
-use Rattle.rio_model.specs.Heap.{OfBlocks, heap_blocks, units_of}
-use Rattle.rio_model.specs.Undo.{CoversAll, IsRegion, Keeps, Puts, data_from, live, map_pages, undo_records}
-use Rattle.rio_requests.specs.RegionAnswers.{Outcome, all_in_range, of_words, put_on, with_words, within, words_of}
+use Rattle.rio_model.specs.Undo.{Keeps}
+use Rattle.rio_requests.specs.RegionAnswers.{all_in_range, put_on, with_words}
 use Rattle.rio_requests.specs.declared.reply.Reply.TheVariants.{Number}
 use Rattle.vista_region.specs.Ends.{DoneAs, Fits, OnFault, PutPart, says_number}
 use Rattle.vista_region.specs.Failures.{handed}

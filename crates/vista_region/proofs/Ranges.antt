@@ -1,12 +1,8 @@
 -- What a range comes to.
-use Rattle.std.proofs.Common.{◌≡◌, ℕ, ◌+◌, ◌/◌, ◌<◌, ◌≤◌, ◌++◌, false, Some, Ok, Err, List, [], ◌∷◌, length, refl, sym, ap, ◌∙◌, arith}
-use Rattle.std.specs.Prelude.{IsErrOf}
-use Rattle.std.proofs.lemmas.List.FromFn.{length-map-range_with_len}
-use Rattle.rio_base.specs.Regions.{RegionContent}
-use Rattle.rio_model.specs.declared.txn.Txn.{Txn}
-use Rattle.rio_model.specs.Undo.{Gains, Rests, data_from, live, saving, taken, undo_records, undo_words}
-use Rattle.rio_model.specs.UndoRules.{gains_taken, gains_undoes}
-use Rattle.rio_requests.specs.RegionAnswers.{Outcome, of_words, range_on, with_range, with_undo, within}
+use Rattle.vista_region.proofs.Common.{◌≡◌, ℕ, ◌+◌, ◌/◌, ◌<◌, ◌≤◌, ◌++◌, false, Some, Ok, Err, List, [], ◌∷◌, length, refl, sym, ap, ◌∙◌, arith, IsErrOf, length-map-range_with_len, RegionContent, Txn, Rests, data_from, live, taken, undo_records, undo_words, Outcome, of_words, within}
+use Rattle.rio_model.specs.Undo.{Gains, saving}
+use Rattle.rio_model.proofs.UndoRules.{gains_taken, gains_undoes}
+use Rattle.rio_requests.specs.RegionAnswers.{range_on, with_range, with_undo}
 use Rattle.rio_requests.specs.declared.reply.Reply.TheVariants.{Ok as Done}
 use Rattle.vista_region.specs.Ends.{DoneAs, OnFault, TxnEnds, says_done}
 use Rattle.vista_region.specs.Failures.{undo_handed}

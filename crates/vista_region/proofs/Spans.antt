@@ -1,7 +1,5 @@
 -- What the checks of the bytes that a call is made on come to.
-use Rattle.std.proofs.Common.{◌≡◌, ℕ, ◌+◌, ◌*◌, ◌<◌, ◌≤◌, Some, Result, Ok, Err, sym, ap, subst, ◌∙◌}
-use Rattle.rio_base.specs.Regions.{RegionContent}
-use Rattle.rio_requests.specs.RegionAnswers.{Outcome, of_words, within}
+use Rattle.vista_region.proofs.Common.{◌≡◌, ℕ, ◌+◌, ◌*◌, ◌<◌, ◌≤◌, Some, Result, Ok, Err, sym, ap, subst, ◌∙◌, RegionContent, Outcome, of_words, within}
 use Rattle.vista_region.specs.Ends.{refusal_of}
 use Rattle.vista_region.specs.Regions.{region_now}
 use Rattle.vista_region.specs.Steps.{IsSpan, whole}

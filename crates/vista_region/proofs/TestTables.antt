@@ -1,11 +1,9 @@
 -- The calls of tests keep their regions sound.
-use Rattle.std.proofs.Common.{◌≡◌, ℕ, ◌⊎◌, inl, inr, false, Some, None, Result, Ok, Err, [], sym, ap, subst, ◌∙◌, refl}
-use Rattle.std.specs.Prelude.{IsErrOf, OnOk, slice_index_or}
-use Rattle.rio_base.specs.Regions.{RegionContent}
-use Rattle.rio_model.specs.Heap.{OfBlocks}
-use Rattle.rio_model.specs.Undo.{Dropped, IsRegion, Undoes, Undone, before, before_by, live}
+use Rattle.vista_region.proofs.Common.{◌≡◌, ℕ, ◌⊎◌, inl, inr, false, Some, None, Result, Ok, Err, [], sym, ap, subst, ◌∙◌, refl, IsErrOf, OnOk, RegionContent, OfBlocks, IsRegion, Undone, before, live}
+use Rattle.std.specs.Prelude.{slice_index_or}
+use Rattle.rio_model.specs.Undo.{Dropped, Undoes, before_by}
 use Rattle.rio_requests.specs.RegionAnswers.{commit_on}
-use Rattle.rio_model.specs.UndoRules.{dropped_before}
+use Rattle.rio_model.proofs.UndoRules.{dropped_before}
 use Rattle.undo_list.specs.declared.faulty_region.FaultyRegion.{FaultyRegion}
 use Rattle.undo_list.specs.FaultyRegions.{IsFreshRegion, OnlyCounts, faulty_content}
 use Rattle.vista_region.specs.Ends.{Fits, OnFault, TxnEnds, says_done}

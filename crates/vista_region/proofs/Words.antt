@@ -1,17 +1,11 @@
 -- Words that bytes are, stored by runs.
-use Rattle.std.proofs.Common.{◌≡◌, ℕ, ◌+◌, ◌-◌, ◌*◌, ◌/◌, ◌<◌, ◌≤◌, ◌⊎◌, inl, inr, Result, List, length, take, drop, slice_index, nat_lt, cond, true, false, ◌&&◌, sym, ap, subst, ◌∙◌, arith, length-drop}
-use Rattle.std.specs.Prelude.{OnOk, not}
-use Rattle.std.proofs.lemmas.Bool.Decides.{nat_tests}
-use Rattle.std.proofs.lemmas.List.{drop-drop, drop-take, ext_get_or, length-take-le}
-use Rattle.std.proofs.lemmas.List.FromFn.{get_or-map-range_with_len, length-map-range_with_len}
+use Rattle.vista_region.proofs.Common.{◌≡◌, ℕ, ◌+◌, ◌-◌, ◌*◌, ◌/◌, ◌<◌, ◌≤◌, ◌⊎◌, inl, inr, Result, List, length, take, drop, slice_index, nat_lt, cond, true, false, ◌&&◌, sym, ap, subst, ◌∙◌, arith, length-drop, OnOk, not, nat_tests, length-take-le, get_or-map-range_with_len, length-map-range_with_len, FaultAt, RunFail, RegionContent, IsRegion, Puts, live, words_of}
+use Rattle.std.proofs.lemmas.List.{drop-drop, drop-take, ext_get_or}
 use Rattle.byteorder.specs.Endian.{little_number}
 use Rattle.byteorder.specs.Numbers.{little_from-take}
-use Rattle.rio_base.specs.Blocks.{FaultAt}
-use Rattle.rio_base.specs.declared.failures.RunFail.{RunFail}
-use Rattle.rio_base.specs.Regions.{RegionContent, put_words}
-use Rattle.rio_model.specs.Undo.{IsRegion, Keeps, Puts, live}
-use Rattle.rio_model.specs.UndoRules.{keeps_refl, keeps_trans}
-use Rattle.rio_requests.specs.RegionAnswers.{words_of}
+use Rattle.rio_base.specs.Regions.{put_words}
+use Rattle.rio_model.specs.Undo.{Keeps}
+use Rattle.rio_model.proofs.UndoRules.{keeps_refl, keeps_trans}
 
 abbrev word_at : List ℕ → ℕ → ℕ
 word_at bytes j = little_number 8 (drop (8 * j) bytes)

@@ -4,11 +4,11 @@ use Rattle.std.proofs.Common.{◌∙◌, ap, sym, subst, inl, inr, arith}
 use Rattle.std.proofs.lemmas.Bool.{cases_eq}
 use mir.Val.{bool_byte}
 use Rattle.rio_base.specs.Machine.{Contents, Lasts, Running, Steps}
-use Rattle.rio_base.specs.MachineRules.{lasts_refl, lasts_trans, steps_refl, steps_trans}
+use Rattle.rio_base.proofs.MachineRules.{lasts_refl, lasts_trans, steps_refl, steps_trans}
 use Rattle.rio_model.specs.Cover.{HeldEntry, IsCleaned, Keeps, OnDisk, home_word}
-use Rattle.rio_model.specs.CoverChanges.{frame_word_one}
-use Rattle.rio_model.specs.CoverLookups.{entry_one, frames_one, tag_one}
-use Rattle.rio_model.specs.CoverSteps.{keeps_refl, keeps_trans}
+use Rattle.rio_model.proofs.CoverChanges.{frame_word_one}
+use Rattle.rio_model.proofs.CoverLookups.{entry_one, frames_one, tag_one}
+use Rattle.rio_model.proofs.CoverSteps.{keeps_refl, keeps_trans}
 use Rattle.rio_model.specs.Registry.{OneEntry, file_at, frames_of, gate_of, index_at, is_dirty, is_valid, shadow_at, size_at, tag_at, tag_block}
 use Rattle.registry.specs.Entries.{entry_of}
 use Rattle.registry.specs.declared.entry.Entry.{Entry}

@@ -9,12 +9,13 @@ use Rattle.rio_base.specs.declared.places.PageName.{PageName}
 use Rattle.rio_base.specs.Disks.{block_at}
 use Rattle.rio_base.specs.Image.{registry_pages}
 use Rattle.rio_base.specs.Machine.{Contents, Running, StepEnds, WritesBlock}
-use Rattle.rio_base.specs.MachineRules.{ends_after, steps_trans}
+use Rattle.rio_base.proofs.MachineRules.{ends_after, steps_trans}
 use Rattle.rio_base.specs.Memory.{page_at}
 use Rattle.rio_base.specs.Rules.{true_false}
 use Rattle.rio_model.specs.Cover.{Coherent, HeldEntry, Keeps, Narrows, OnDisk, entry_of_block, frame_page, home_word, name_in}
-use Rattle.rio_model.specs.CoverLookups.{entry_one, found_at, found_is, frames_one, tag_one}
-use Rattle.rio_model.specs.CoverSteps.{Retagged, coherent_on, hold_cleaned, keeps_trans, layout_is}
+use Rattle.rio_model.proofs.CoverLookups.{entry_one, found_at, frames_one, tag_one}
+use Rattle.rio_model.specs.CoverLookups.{found_is}
+use Rattle.rio_model.proofs.CoverSteps.{Retagged, coherent_on, hold_cleaned, keeps_trans, layout_is}
 use Rattle.rio_model.specs.Registry.{BlockRule, HasLayout, IsValid, OneEntry, file_at, frames_of, index_at, is_data, is_valid, size_at, tag_at, tag_block, without_dirty}
 use Rattle.registry.specs.Entries.{entry_of}
 use Rattle.registry.specs.declared.entry.Entry.{Entry}

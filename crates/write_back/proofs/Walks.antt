@@ -6,9 +6,9 @@ use Rattle.std.proofs.lemmas.Bool.{and_parts, cases_eq}
 use Rattle.std.proofs.lemmas.List.{length-append}
 use Rattle.rio_base.specs.Disks.{raised}
 use Rattle.rio_base.specs.Machine.{Contents, Lasts, Running, Steps}
-use Rattle.rio_base.specs.MachineRules.{lasts_refl, lasts_trans, steps_refl, steps_trans}
+use Rattle.rio_base.proofs.MachineRules.{lasts_refl, lasts_trans, steps_refl, steps_trans}
 use Rattle.rio_model.specs.Cover.{Keeps, OnDisk}
-use Rattle.rio_model.specs.CoverSteps.{keeps_refl, keeps_trans}
+use Rattle.rio_model.proofs.CoverSteps.{keeps_refl, keeps_trans}
 use Rattle.rio_model.specs.Registry.{IsValid, frames_of}
 use Rattle.write_back.specs.Flushing.{WroteFirst, dirty_before, dirty_entries, needs_write, once}
 use Rattle.write_back.proofs.DirtyEntries.{before_none, before_small, before_with, before_without, dirty_at, dirty_member, front_at, front_length}

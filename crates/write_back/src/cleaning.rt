@@ -41,7 +41,7 @@ pub fn page_of_frame<M: Machine>(m: &M, k: u32) -> Page
 
 /// Writes the page of entry `k`, which is dirty, as its block. `Fault` leaves the block reading as anything: the entry
 /// stays dirty, and so its page counts.
-#[tactic(auto, using(crate::proofs::Steps::layout_now, crate::proofs::Steps::on_disk, crate::proofs::Steps::stays_on_disk, rio_model::specs::CoverSteps::keeps_write))]
+#[tactic(auto, using(crate::proofs::Steps::layout_now, crate::proofs::Steps::on_disk, crate::proofs::Steps::stays_on_disk, rio_model::proofs::CoverSteps::keeps_write))]
 pub(crate) fn write_entry<M: Machine>(m: &mut M, k: u32, page: Page) -> Result<(), VolFail>
     requires coherent { Coherent (M.contents m.old) (length (M.run m.old).scratch) }
     requires closed { (M.contents m.old).open_page ≡ None }
@@ -65,7 +65,7 @@ pub(crate) fn write_entry<M: Machine>(m: &mut M, k: u32, page: Page) -> Result<(
 }
 
 /// Brings all that was written to the device.
-#[tactic(auto, using(rio_model::specs::CoverSteps::keeps_marks, rio_model::specs::CoverSteps::none_pending))]
+#[tactic(auto, using(rio_model::proofs::CoverSteps::keeps_marks, rio_model::proofs::CoverSteps::none_pending))]
 pub(crate) fn sync_disk<M: Machine>(m: &mut M) -> Result<(), VolFail>
     requires closed { (M.contents m.old).open_page ≡ None }
     ensures keeps { Keeps (M.contents m.old) (M.contents m.new) }

@@ -1,6 +1,6 @@
 use Rattle.std.proofs.Common.{arith, ap, ◌∙◌, length, le_trans}
-use Rattle.rio_base.specs.Rules.{looks_trans}
-use Rattle.rio_base.specs.BlockRules.{caches_trans}
+use Rattle.rio_base.proofs.Rules.{looks_trans}
+use Rattle.rio_base.proofs.BlockRules.{caches_trans}
 use Rattle.block_alloc.proofs.Free.{run_on, count_more, count_fits, whole}
 use Rattle.block_alloc.proofs.counting.free_count.Goals as goal
 

@@ -1,5 +1,5 @@
 use Rattle.std.proofs.Common.{arith, sym}
-use Rattle.rio_base.specs.Bitmap.{first_bitmap}
+use Rattle.rio_base.proofs.Bitmap.{first_bitmap}
 use Rattle.block_alloc.proofs.marking.bitmap_block.Goals as goal
 
 pub returns : goal.returns

@@ -1,6 +1,6 @@
 use Rattle.std.proofs.Common.{arith, ap, ◌∙◌, le_trans}
-use Rattle.rio_base.specs.Rules.{looks_trans}
-use Rattle.rio_base.specs.BlockRules.{caches_trans}
+use Rattle.rio_base.proofs.Rules.{looks_trans}
+use Rattle.rio_base.proofs.BlockRules.{caches_trans}
 use Rattle.block_alloc.proofs.Free.{run_on, take_more, too_few, enough}
 use Rattle.block_alloc.specs.Bitmap.{numbers}
 use Rattle.block_alloc.proofs.taking.take.Goals.{then-loop-w-test+else-len-n, else-loop-w-test}

@@ -1,4 +1,4 @@
-use Rattle.std.proofs.Common.{arith}
+use Rattle.directories.proofs.Common.{arith}
 use Rattle.directories.proofs.dir_tests.add_all.Goals as goal
 
 pub add-requires-clause-ino : goal.add-requires-clause-ino

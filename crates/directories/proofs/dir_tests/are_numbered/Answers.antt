@@ -1,4 +1,4 @@
-use Rattle.std.proofs.Common.{arith}
+use Rattle.directories.proofs.Common.{arith}
 use Rattle.directories.proofs.dir_tests.are_numbered.Goals as goal
 
 pub ino_of-requires-clause-dir : goal.ino_of-requires-clause-dir

@@ -1,4 +1,4 @@
-use Rattle.std.proofs.Common.{arith}
+use Rattle.directories.proofs.Common.{arith}
 use Rattle.directories.proofs.dir_tests.remove_numbered.Goals as goal
 
 pub remove-requires-clause-dir : goal.remove-requires-clause-dir

@@ -1,6 +1,6 @@
-use Rattle.std.proofs.Common.{◌≡◌, ◌+◌, ◌*◌, ◌%◌, ◌^◌, ◌∷◌, ◌++◌, [], ◌∙◌, ap, arith, bit_or, length, subst, sym}
+use Rattle.directories.proofs.Common.{◌≡◌, ◌+◌, ◌*◌, ◌%◌, ◌^◌, ◌∷◌, ◌++◌, [], ◌∙◌, ap, arith, length, subst, sym, append-nil}
+use Rattle.std.proofs.Common.{bit_or}
 use Rattle.std.specs.Int.Bits.{or_shifted_r}
-use Rattle.std.proofs.lemmas.List.{append-nil}
 use Rattle.directories.specs.Entries.{IsEntryOf}
 use Rattle.directories.proofs.NameWords.{entry_of}
 use Rattle.directories.proofs.entries.entry_words.Goals as goal

@@ -1,4 +1,5 @@
-use Rattle.std.proofs.Common.{◌≡◌, ◌*◌, ◌/◌, ◌%◌, ◌^◌, ◌∙◌, ap, arith, bit_or}
+use Rattle.directories.proofs.Common.{◌≡◌, ◌*◌, ◌/◌, ◌%◌, ◌^◌, ◌∙◌, ap, arith}
+use Rattle.std.proofs.Common.{bit_or}
 use Rattle.std.specs.Int.Bits.{or_shifted_r}
 use Rattle.directories.proofs.entries.first_with_ino.Goals as goal
 

@@ -1,4 +1,4 @@
-use Rattle.std.proofs.Common.{◌*◌, ◌+◌, ◌∙◌, ap, arith, length, sym, slice_index}
+use Rattle.directories.proofs.Common.{◌*◌, ◌+◌, ◌∙◌, ap, arith, length, sym, slice_index}
 use Rattle.directories.proofs.NameWords.{key_has, key_same, name_length}
 use Rattle.directories.proofs.entries.has_name.Goals as goal
 

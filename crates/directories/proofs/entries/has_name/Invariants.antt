@@ -1,4 +1,4 @@
-use Rattle.std.proofs.Common.{◌≡◌, ◌+◌, ◌*◌, ◌<◌, ℕ, bit_and, slice_index}
+use Rattle.directories.proofs.Common.{◌≡◌, ◌+◌, ◌*◌, ◌<◌, ℕ, bit_and, slice_index}
 use Rattle.directories.proofs.entries.has_name.Given as goal
 
 -- the first t words of the name are the key's

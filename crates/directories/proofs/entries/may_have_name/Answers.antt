@@ -1,5 +1,4 @@
-use Rattle.std.proofs.Common.{◌*◌, ◌+◌, ◌∙◌, ap, arith, length, sym, slice_index}
-use Rattle.std.proofs.lemmas.Bool.Decides.{nat_tests}
+use Rattle.directories.proofs.Common.{◌*◌, ◌+◌, ◌∙◌, ap, arith, length, sym, slice_index, nat_tests}
 use Rattle.directories.proofs.NameWords.{key_differs}
 use Rattle.directories.proofs.entries.may_have_name.Goals as goal
 

@@ -1,4 +1,4 @@
-use Rattle.std.proofs.Common.{◌≡◌, ◌-◌, ◌*◌, ◌^◌, ◌∙◌, min, arith, ap}
+use Rattle.directories.proofs.Common.{◌≡◌, ◌-◌, ◌*◌, ◌^◌, ◌∙◌, min, arith, ap}
 use Rattle.std.proofs.lemmas.List.{length-set}
 use Rattle.directories.proofs.NameWords.{set_next}
 use Rattle.directories.proofs.entries.name_masks.Goals as goal

@@ -1,4 +1,4 @@
-use Rattle.std.proofs.Common.{◌≡◌, ◌-◌, ◌*◌, ◌^◌, ◌<◌, ℕ, length, min, slice_index}
+use Rattle.directories.proofs.Common.{◌≡◌, ◌-◌, ◌*◌, ◌^◌, ◌<◌, ℕ, length, min, slice_index}
 use Rattle.directories.proofs.entries.name_masks.Given as goal
 
 -- the first t masks are made

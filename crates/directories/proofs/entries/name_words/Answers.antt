@@ -1,4 +1,5 @@
-use Rattle.std.proofs.Common.{ap, arith, length, replicate, sym}
+use Rattle.directories.proofs.Common.{ap, arith, length, sym}
+use Rattle.std.proofs.Common.{replicate}
 use Rattle.directories.proofs.NameWords.{words_of_name, zeros_at}
 use Rattle.directories.proofs.entries.name_words.Goals as goal
 

@@ -1,5 +1,6 @@
-use Rattle.std.proofs.Common.{◌∷◌, ◌∙◌, arith, drop, length-drop, sym, subst, slice_index}
-use Rattle.std.proofs.lemmas.List.{append-nil, take_all}
+use Rattle.directories.proofs.Common.{◌∷◌, ◌∙◌, arith, drop, sym, subst, slice_index, append-nil}
+use Rattle.std.proofs.Common.{length-drop}
+use Rattle.std.proofs.lemmas.List.{take_all}
 use Rattle.directories.specs.Entries.{IsEntryOf, name_in}
 use Rattle.directories.proofs.NameWords.{with_ino_of}
 use Rattle.directories.proofs.entries.with_ino.Goals as goal

@@ -1,6 +1,4 @@
-use Rattle.std.proofs.Common.{subst}
-use Rattle.rio_model.specs.Placed.{volume_layout}
-use Rattle.rio_model.specs.VolumeReady.{AllNamed}
+use Rattle.directories.proofs.Common.{subst, volume_layout, AllNamed}
 use Rattle.directories.proofs.finding.find.Goals as goal
 
 pub returns-clause-named : goal.returns-clause-named

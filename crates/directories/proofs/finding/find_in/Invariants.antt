@@ -1,4 +1,4 @@
-use Rattle.std.proofs.Common.{◌≢◌, ◌<◌, ℕ, slice_index}
+use Rattle.directories.proofs.Common.{◌≢◌, ◌<◌, ℕ, slice_index}
 use Rattle.directories.specs.Entries.{name_in}
 use Rattle.directories.proofs.finding.find_in.Given as goal
 

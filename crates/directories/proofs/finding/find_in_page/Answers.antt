@@ -1,11 +1,5 @@
-use Rattle.std.proofs.Common.{◌*◌, ◌<◌, ◌≡◌, ◌∙◌, ◌-◌, ◌/◌, ℕ, min, sym, ap, subst, arith}
-use Rattle.std.specs.Prelude.{IfOk}
-use Rattle.std.proofs.lemmas.Result.{err_from_is_err_and}
-use Rattle.rio_base.specs.Blocks.{BlockWords}
-use Rattle.rio_base.specs.BlockRules.{ends_later}
-use Rattle.rio_model.specs.Held.{held}
-use Rattle.rio_model.specs.Placed.{placed_at}
-use Rattle.file_pages.specs.LookingUpRules.{look_trans}
+use Rattle.directories.proofs.Common.{◌*◌, ◌<◌, ◌≡◌, ◌∙◌, ◌-◌, ◌/◌, ℕ, min, sym, ap, subst, arith, IfOk, err_from_is_err_and, BlockWords, held, placed_at, look_trans}
+use Rattle.rio_base.proofs.BlockRules.{ends_later}
 use Rattle.directories.specs.Entries.{FindsIn}
 use Rattle.directories.proofs.CanRead.{block_on, can_page, can_stays, dir_held, dir_size, has_page, looked_page, page_below, page_on}
 use Rattle.directories.proofs.EndsAs.{ends_err}

@@ -1,11 +1,6 @@
-use Rattle.std.proofs.Common.{◌≡◌, ◌∙◌, arith, le_trans, sym, ap, subst}
-use Rattle.std.specs.Prelude.{None}
-use Rattle.std.proofs.lemmas.Result.{err_from_is_err_and}
-use Rattle.rio_base.specs.Blocks.{BlockWords}
-use Rattle.rio_base.specs.BlockRules.{ends_later}
-use Rattle.inode_table.specs.Inodes.{IsInode}
-use Rattle.rio_model.specs.Held.{held_of}
-use Rattle.file_pages.specs.LookingUpRules.{look_trans}
+use Rattle.directories.proofs.Common.{◌≡◌, ◌∙◌, arith, sym, ap, subst, None, err_from_is_err_and, BlockWords, IsInode, held_of, look_trans}
+use Rattle.std.proofs.Common.{le_trans}
+use Rattle.rio_base.proofs.BlockRules.{ends_later}
 use Rattle.directories.specs.Entries.{FindsInPage}
 use Rattle.directories.proofs.EndsAs.{ends_err, ends_ok}
 use Rattle.directories.proofs.Found.{none_next}

@@ -1,7 +1,4 @@
-use Rattle.std.proofs.Common.{◌≡◌, ◌≢◌, ◌*◌, ◌/◌, ◌<◌, ◌≤◌, ℕ}
-use Rattle.rio_model.specs.Held.{entry_name, held_of}
-use Rattle.file_pages.specs.LookingUp.{LooksUp}
-use Rattle.inode_table.specs.Inodes.{IsInode}
+use Rattle.directories.proofs.Common.{◌≡◌, ◌≢◌, ◌*◌, ◌/◌, ◌<◌, ◌≤◌, ℕ, entry_name, held_of, LooksUp, IsInode}
 use Rattle.directories.specs.Reading.{CanReadDir}
 use Rattle.directories.proofs.finding.find_in_pages.Given as goal
 

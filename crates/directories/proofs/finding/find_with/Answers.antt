@@ -1,4 +1,4 @@
-use Rattle.file_pages.specs.LookingUpRules.{named_on}
+use Rattle.directories.proofs.Common.{named_on}
 use Rattle.directories.proofs.finding.find_with.Goals as goal
 
 pub returns-clause-named : goal.returns-clause-named

@@ -1,4 +1,4 @@
-use Rattle.std.proofs.Common.{◌∙◌, ◌++◌, ap, arith, take}
+use Rattle.directories.proofs.Common.{◌∙◌, ◌++◌, ap, arith, take}
 use Rattle.directories.proofs.Listed.{name_made}
 use Rattle.directories.proofs.listing.name_of.Goals as goal
 

@@ -1,9 +1,4 @@
-use Rattle.std.proofs.Common.{◌≡◌, ◌∙◌, ◌/◌, map, sym, ap, subst, arith}
-use Rattle.std.specs.List.{range_with_len}
-use Rattle.rio_base.specs.Blocks.{BlockWords}
-use Rattle.rio_model.specs.Held.{Held, entry_name, held_of}
-use Rattle.rio_model.specs.Placed.{placed_at}
-use Rattle.file_pages.specs.LookingUpRules.{look_trans, named_on}
+use Rattle.directories.proofs.Common.{◌≡◌, ◌∙◌, ◌/◌, map, sym, ap, subst, arith, range_with_len, BlockWords, Held, entry_name, held_of, placed_at, look_trans, named_on}
 use Rattle.directories.proofs.CanRead.{can_read, dir_held}
 use Rattle.directories.proofs.Found.{sized}
 use Rattle.directories.proofs.Listed.{front_of, lists_sorted}

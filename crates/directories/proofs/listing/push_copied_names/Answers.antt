@@ -1,4 +1,4 @@
-use Rattle.std.proofs.Common.{refl}
+use Rattle.directories.proofs.Common.{refl}
 use Rattle.directories.proofs.Listed.{names_read}
 use Rattle.directories.proofs.listing.push_copied_names.Goals as goal
 

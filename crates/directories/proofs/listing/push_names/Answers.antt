@@ -1,4 +1,4 @@
-use Rattle.std.proofs.Common.{slice_index}
+use Rattle.directories.proofs.Common.{slice_index}
 use Rattle.directories.specs.Entries.{name_in}
 use Rattle.directories.proofs.Listed.{name_next}
 use Rattle.directories.proofs.listing.push_names.Goals as goal

@@ -1,5 +1,4 @@
-use Rattle.std.proofs.Common.{◌≡◌, ◌++◌, map, slice_index}
-use Rattle.std.specs.List.{range_with_len}
+use Rattle.directories.proofs.Common.{◌≡◌, ◌++◌, map, slice_index, range_with_len}
 use Rattle.directories.specs.Entries.{name_in}
 use Rattle.directories.proofs.listing.push_names.Given as goal
 

@@ -1,11 +1,6 @@
-use Rattle.std.proofs.Common.{◌≡◌, ◌∙◌, ◌++◌, ◌-◌, ◌*◌, ◌/◌, ◌%◌, map, min, arith, le_trans, sym, ap, subst}
-use Rattle.std.specs.List.{range_with_len}
-use Rattle.std.proofs.lemmas.Result.{err_from_is_err_and}
-use Rattle.rio_base.specs.Blocks.{BlockWords}
-use Rattle.rio_base.specs.Rules.{ends_by_after}
-use Rattle.inode_table.specs.Inodes.{IsInode}
-use Rattle.rio_model.specs.Held.{entry_name, held_of}
-use Rattle.file_pages.specs.LookingUpRules.{look_refl, look_trans}
+use Rattle.directories.proofs.Common.{◌≡◌, ◌∙◌, ◌++◌, ◌-◌, ◌*◌, ◌/◌, ◌%◌, map, min, arith, sym, ap, subst, range_with_len, err_from_is_err_and, BlockWords, ends_by_after, IsInode, entry_name, held_of, look_trans}
+use Rattle.std.proofs.Common.{le_trans}
+use Rattle.file_pages.proofs.LookingUpRules.{look_refl}
 use Rattle.file_pages.proofs.Ends.{ends_read}
 use Rattle.directories.proofs.CanRead.{can_look, dir_size}
 use Rattle.directories.proofs.Listed.{pages_next}

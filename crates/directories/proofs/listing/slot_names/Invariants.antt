@@ -1,8 +1,4 @@
-use Rattle.std.proofs.Common.{◌≡◌, ◌*◌, ◌/◌, ◌≤◌, map, min}
-use Rattle.std.specs.List.{range_with_len}
-use Rattle.rio_model.specs.Held.{entry_name, held_of}
-use Rattle.file_pages.specs.LookingUp.{LooksUp}
-use Rattle.inode_table.specs.Inodes.{IsInode}
+use Rattle.directories.proofs.Common.{◌≡◌, ◌*◌, ◌/◌, ◌≤◌, map, min, range_with_len, entry_name, held_of, LooksUp, IsInode}
 use Rattle.directories.specs.Reading.{CanReadDir}
 use Rattle.directories.proofs.listing.slot_names.Given as goal
 

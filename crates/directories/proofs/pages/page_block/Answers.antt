@@ -1,6 +1,5 @@
-use Rattle.std.proofs.Common.{◌∙◌}
-use Rattle.rio_model.specs.Placed.{placed_at}
-use Rattle.rio_model.specs.PlacedRules.{direct_of, lies_self}
+use Rattle.directories.proofs.Common.{◌∙◌, placed_at}
+use Rattle.rio_model.proofs.PlacedRules.{direct_of, lies_self}
 use Rattle.directories.proofs.CanRead.{can_stays}
 use Rattle.directories.proofs.pages.page_block.Goals as goal
 

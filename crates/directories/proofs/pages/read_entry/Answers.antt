@@ -1,5 +1,4 @@
-use Rattle.std.proofs.Common.{◌/◌}
-use Rattle.file_pages.specs.LookingUpRules.{look_trans}
+use Rattle.directories.proofs.Common.{◌/◌, look_trans}
 use Rattle.directories.proofs.CanRead.{block_on, can_stays, has_slot, looked_page, page_on}
 use Rattle.directories.proofs.pages.read_entry.Goals as goal
 

@@ -1,19 +1,10 @@
-use Rattle.std.proofs.Common.{◌≡◌, ◌+◌, ◌*◌, ◌/◌, ◌%◌, ◌<◌, ◌≤◌, ℕ, List, [], length, refl, sym, ap, subst, ◌∙◌, arith, inl, inr}
+use Rattle.directories.proofs.Common.{◌≡◌, ◌+◌, ◌*◌, ◌/◌, ◌%◌, ◌<◌, ◌≤◌, ℕ, List, [], length, refl, sym, ap, subst, ◌∙◌, arith, inl, inr, err_from_is_err_and, BlockWords, ◌then◌, ends_by_after, numbers, PlansSize, free_beside, wanted_blocks, leaves_looked, leaves_trans, ready_left, IsInode, held_of, AtPage, placed_at, volume_layout, LeavesInUse}
 use Rattle.std.specs.Prelude.{slice_index}
-use Rattle.std.proofs.lemmas.Result.{err_from_is_err_and}
 use Rattle.rio_base.specs.declared.places.Block.{Block}
-use Rattle.rio_base.specs.Blocks.{BlockWords}
-use Rattle.rio_base.specs.Rules.{◌then◌, ends_by_after}
-use Rattle.block_alloc.specs.Bitmap.{numbers}
-use Rattle.file_pages.specs.Changes.{PlansFor, PlansSize, free_beside, wanted_blocks}
-use Rattle.file_pages.specs.OrderRules.{leaves_looked, leaves_trans, ready_left}
+use Rattle.file_pages.specs.Changes.{PlansFor}
 use Rattle.file_pages.specs.declared.failures.SizeFail.TheVariants.{NoSpace, TooLarge}
 use Rattle.file_pages.proofs.Listed.{as_many}
 use Rattle.file_pages.proofs.Ends.{ends_vol_size, ends_well_memory, ends_well_ok, err_handed, size_err, size_then, unrefused_memory, unrefused_vol}
-use Rattle.inode_table.specs.Inodes.{IsInode}
-use Rattle.rio_model.specs.Held.{held_of}
-use Rattle.rio_model.specs.Placed.{AtPage, placed_at, volume_layout}
-use Rattle.rio_model.specs.VolumeReady.{LeavesInUse}
 use Rattle.directories.specs.Reading.{CanReadDir}
 use Rattle.directories.specs.Rows.{HasRow}
 use Rattle.directories.specs.declared.storing.EntryWords.{EntryWords}

@@ -1,10 +1,5 @@
-use Rattle.std.proofs.Common.{◌≡◌, ◌+◌, ◌-◌, ◌*◌, ◌/◌, arith}
+use Rattle.directories.proofs.Common.{◌≡◌, ◌+◌, ◌-◌, ◌*◌, ◌/◌, arith, err_from_is_err_and, ◌then◌, ends_by_after, if_ok_map, look_trans, leaves_looked}
 use Rattle.std.specs.Prelude.{[], ◌∷◌, slice_index}
-use Rattle.std.proofs.lemmas.Result.{err_from_is_err_and}
-use Rattle.rio_base.specs.Rules.{◌then◌, ends_by_after}
-use Rattle.file_pages.proofs.PlannedSize.{if_ok_map}
-use Rattle.file_pages.specs.LookingUpRules.{look_trans}
-use Rattle.file_pages.specs.OrderRules.{leaves_looked}
 use Rattle.directories.specs.Contents.{sized_to, with_entry}
 use Rattle.directories.specs.Plans.{PlansDir}
 use Rattle.directories.proofs.EndsAs.{ends_vol_read}

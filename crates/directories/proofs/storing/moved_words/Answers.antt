@@ -1,4 +1,4 @@
-use Rattle.file_pages.specs.LookingUpRules.{look_trans}
+use Rattle.directories.proofs.Common.{look_trans}
 use Rattle.directories.proofs.storing.moved_words.Goals as goal
 
 pub returns-clause-looks : goal.returns-clause-looks

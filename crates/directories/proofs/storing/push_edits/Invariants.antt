@@ -1,6 +1,4 @@
-use Rattle.std.proofs.Common.{◌≡◌, ◌-◌, ◌++◌, map, slice_index}
-use Rattle.file_pages.specs.Changes.{word_edit}
-use Rattle.rio_model.specs.Updates.{run_edits}
+use Rattle.directories.proofs.Common.{◌≡◌, ◌-◌, ◌++◌, map, slice_index, word_edit, run_edits}
 use Rattle.directories.proofs.storing.push_edits.Given as goal
 
 -- the first t words are edits

@@ -1,5 +1,4 @@
-use Rattle.std.proofs.Common.{map}
-use Rattle.file_pages.specs.Changes.{word_edit}
+use Rattle.directories.proofs.Common.{map, word_edit}
 use Rattle.directories.proofs.PushedEdits.{entry_in, entry_pushed}
 use Rattle.directories.proofs.storing.with_entries.Goals as goal
 

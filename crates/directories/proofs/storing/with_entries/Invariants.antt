@@ -1,5 +1,4 @@
-use Rattle.std.proofs.Common.{◌≡◌, ◌++◌, map, take}
-use Rattle.file_pages.specs.Changes.{word_edit}
+use Rattle.directories.proofs.Common.{◌≡◌, ◌++◌, map, take, word_edit}
 use Rattle.directories.specs.Contents.{all_edits}
 use Rattle.directories.proofs.storing.with_entries.Given as goal
 

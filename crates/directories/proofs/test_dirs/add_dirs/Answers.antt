@@ -1,6 +1,4 @@
-use Rattle.std.proofs.Common.{◌≡◌, ◌+◌, ◌-◌, ◌≤◌, sym, ap, subst, ◌∙◌, arith}
-use Rattle.inode_table.specs.Inodes.{inode_words}
-use Rattle.rio_base.specs.Rules.{firm_trans}
+use Rattle.directories.proofs.Common.{◌≡◌, ◌+◌, ◌-◌, ◌≤◌, sym, ap, subst, ◌∙◌, arith, inode_words, firm_trans}
 use Rattle.rio_model.specs.Updates.{with_inode}
 use Rattle.directories.specs.TestDirs.{DirsMade}
 use Rattle.directories.proofs.NewDirs.{dir_made}

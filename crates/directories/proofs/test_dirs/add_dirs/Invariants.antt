@@ -1,6 +1,4 @@
-use Rattle.std.proofs.Common.{◌≡◌, ◌-◌, ◌≤◌, false}
-use Rattle.rio_base.specs.Shapes.{HasShape}
-use Rattle.rio_base.specs.Volume.{Firm}
+use Rattle.directories.proofs.Common.{◌≡◌, ◌-◌, ◌≤◌, false, HasShape, Firm}
 use Rattle.directories.specs.TestDirs.{DirsMade}
 use Rattle.directories.proofs.test_dirs.add_dirs.Given as goal
 

@@ -1,7 +1,4 @@
-use Rattle.std.proofs.Common.{sym, subst}
-use Rattle.std.specs.Prelude.{IfOk}
-use Rattle.rio_base.specs.Blocks.{BlockWords}
-use Rattle.rio_model.specs.Held.{held_of}
+use Rattle.directories.proofs.Common.{sym, subst, IfOk, BlockWords, held_of}
 use Rattle.directories.specs.Rows.{Finds}
 use Rattle.directories.proofs.PlansMade.{dirs_read}
 use Rattle.directories.proofs.test_dirs.find_row.Goals as goal

@@ -1,5 +1,5 @@
-use Rattle.std.proofs.Common.{arith}
-use Rattle.file_pages.specs.LookingUpRules.{can_look_up, looked_low}
+use Rattle.directories.proofs.Common.{arith}
+use Rattle.file_pages.proofs.LookingUpRules.{can_look_up, looked_low}
 use Rattle.directories.proofs.PlansMade.{dirs_looked}
 use Rattle.directories.proofs.test_dirs.free_blocks.Goals as goal
 

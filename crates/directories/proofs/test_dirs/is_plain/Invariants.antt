@@ -1,4 +1,4 @@
-use Rattle.std.proofs.Common.{◌<◌, ℕ}
+use Rattle.directories.proofs.Common.{◌<◌, ℕ}
 use Rattle.std.specs.Prelude.{slice_index}
 use Rattle.directories.specs.TestDirs.{IsPlainByte}
 use Rattle.directories.proofs.test_dirs.is_plain.Given as goal

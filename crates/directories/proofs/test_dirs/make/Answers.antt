@@ -1,5 +1,5 @@
-use Rattle.std.proofs.Common.{sym, ◌∙◌}
-use Rattle.rio_base.specs.BlockRules.{shape_dropped}
+use Rattle.directories.proofs.Common.{sym, ◌∙◌}
+use Rattle.rio_base.proofs.BlockRules.{shape_dropped}
 use Rattle.directories.proofs.OpenPlans.{can_passed, order_passed}
 use Rattle.directories.proofs.PlansMade.{dirs_idle, ready_dirs}
 use Rattle.directories.proofs.test_dirs.make.Goals as goal

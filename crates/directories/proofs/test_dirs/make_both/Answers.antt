@@ -1,4 +1,4 @@
-use Rattle.rio_base.specs.BlockRules.{shape_dropped}
+use Rattle.rio_base.proofs.BlockRules.{shape_dropped}
 use Rattle.directories.proofs.OpenPlans.{can_passed, order_passed}
 use Rattle.directories.proofs.PlansMade.{dirs_idle, ready_dirs}
 use Rattle.directories.proofs.test_dirs.make_both.Goals as goal

@@ -1,11 +1,5 @@
-use Rattle.std.proofs.Common.{refl, sym, subst, inl}
-use Rattle.std.specs.Prelude.{None}
-use Rattle.rio_base.specs.BlockSets.{caches_by_one, caches_by_trans}
-use Rattle.rio_base.specs.Blocks.{BlockWords}
-use Rattle.rio_base.specs.Rules.{firm_trans}
-use Rattle.rio_model.specs.Updates.{Applied}
-use Rattle.file_pages.specs.Updating.{IsUpdated}
-use Rattle.directories.specs.MakingOrder.{plan_applies}
+use Rattle.directories.proofs.Common.{refl, sym, subst, inl, None, caches_by_one, caches_by_trans, BlockWords, firm_trans, Applied, IsUpdated}
+use Rattle.directories.proofs.MakingOrder.{plan_applies}
 use Rattle.directories.specs.Plans.{dir_update}
 use Rattle.directories.specs.TestDirs.{KeepsRows}
 use Rattle.directories.proofs.BothPlans.{other_can}

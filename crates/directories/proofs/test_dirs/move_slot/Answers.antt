@@ -1,5 +1,4 @@
-use Rattle.std.proofs.Common.{◌≡◌, ℕ, ◌+◌, ◌≤◌, sym, subst, arith}
-use Rattle.rio_model.specs.Held.{Held, held_of}
+use Rattle.directories.proofs.Common.{◌≡◌, ℕ, ◌+◌, ◌≤◌, sym, subst, arith, Held, held_of}
 use Rattle.directories.specs.RowChanges.{AddsRow, RemovesRow}
 use Rattle.directories.specs.Rows.{HasRow}
 use Rattle.directories.specs.TestDirs.{IsTestDir}

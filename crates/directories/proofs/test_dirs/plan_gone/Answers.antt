@@ -1,5 +1,4 @@
-use Rattle.rio_model.specs.Held.{held_of}
-use Rattle.file_pages.proofs.PlannedSize.{if_ok_map}
+use Rattle.directories.proofs.Common.{held_of, if_ok_map}
 use Rattle.directories.specs.Plans.{PlansDir}
 use Rattle.directories.specs.RowChanges.{RemovesRow}
 use Rattle.directories.specs.TestDirs.{CanMake}

@@ -1,6 +1,4 @@
-use Rattle.std.proofs.Common.{refl}
-use Rattle.rio_model.specs.Held.{held_of}
-use Rattle.file_pages.proofs.PlannedSize.{if_ok_map}
+use Rattle.directories.proofs.Common.{refl, held_of, if_ok_map}
 use Rattle.directories.specs.Plans.{PlansDir}
 use Rattle.directories.specs.RowChanges.{SetsRow}
 use Rattle.directories.specs.TestDirs.{CanMake}

@@ -1,10 +1,6 @@
-use Rattle.std.proofs.Common.{◌≡◌, ◌+◌, ◌<◌, ◌≤◌, ℕ, true, length, refl, sym, ap, subst, ◌∙◌, arith, inl, inr, slice_index_or}
-use Rattle.std.specs.Prelude.{None}
-use Rattle.rio_base.specs.BlockRules.{shape_beside}
-use Rattle.rio_base.specs.BlockSets.{caches_by_one, caches_by_trans}
-use Rattle.rio_base.specs.Rules.{firm_trans, looks_trans}
-use Rattle.file_pages.specs.Updating.{IsEdited}
-use Rattle.file_pages.specs.declared.changes.Edit.{Edit}
+use Rattle.directories.proofs.Common.{◌≡◌, ◌+◌, ◌<◌, ◌≤◌, ℕ, true, length, refl, sym, ap, subst, ◌∙◌, arith, inl, inr, slice_index_or, None, caches_by_one, caches_by_trans, firm_trans, IsEdited, Edit}
+use Rattle.rio_base.proofs.BlockRules.{shape_beside}
+use Rattle.rio_base.proofs.Rules.{looks_trans}
 use Rattle.directories.specs.Plans.{InThreeBlocks}
 use Rattle.directories.proofs.OpenPlans.{edit_on, three_most, touch_counts, touch_more, touch_named, touch_place, touched_next}
 use Rattle.directories.proofs.test_dirs.touch_edits.Goals as goal

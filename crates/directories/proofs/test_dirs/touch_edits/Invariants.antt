@@ -1,11 +1,4 @@
-use Rattle.std.proofs.Common.{◌≡◌, ◌+◌, ◌<◌, ◌≤◌, ℕ, true, slice_index_or}
-use Rattle.std.specs.Prelude.{None}
-use Rattle.rio_base.specs.BlockSets.{CachesBy}
-use Rattle.rio_base.specs.Blocks.{Looks}
-use Rattle.rio_base.specs.Shapes.{HasShape}
-use Rattle.rio_base.specs.Volume.{Firm}
-use Rattle.file_pages.specs.Updating.{IsEdited}
-use Rattle.file_pages.specs.declared.changes.Edit.{Edit}
+use Rattle.directories.proofs.Common.{◌≡◌, ◌+◌, ◌<◌, ◌≤◌, ℕ, true, slice_index_or, None, CachesBy, Looks, HasShape, Firm, IsEdited, Edit}
 use Rattle.directories.specs.Plans.{InThreeBlocks}
 use Rattle.directories.proofs.OpenPlans.{of_three}
 use Rattle.directories.proofs.test_dirs.touch_edits.Given as goal

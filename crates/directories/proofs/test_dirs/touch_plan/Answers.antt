@@ -1,6 +1,4 @@
-use Rattle.std.proofs.Common.{sym, subst}
-use Rattle.std.specs.Prelude.{None}
-use Rattle.rio_base.specs.Blocks.{Caches}
+use Rattle.directories.proofs.Common.{sym, subst, None, Caches}
 use Rattle.directories.specs.TestDirs.{CanTouch}
 use Rattle.directories.proofs.OpenPlans.{touch_still}
 use Rattle.directories.proofs.test_dirs.touch_plan.Goals as goal

@@ -1,5 +1,4 @@
-use Rattle.std.proofs.Common.{sym, subst}
-use Rattle.rio_base.specs.Blocks.{BlockWords}
+use Rattle.directories.proofs.Common.{sym, subst, BlockWords}
 use Rattle.rio_fakes.specs.ListVolumes.{list_seen}
 use Rattle.directories.specs.TestDirs.{DirsMade}
 use Rattle.directories.proofs.NewDirs.{dirs_ready, fresh_made}

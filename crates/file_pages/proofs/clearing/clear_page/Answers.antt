@@ -1,5 +1,4 @@
-use Rattle.std.proofs.Common.{◌/◌, ◌∙◌, refl, sym, ap, subst, arith}
-use Rattle.rio_base.specs.Rules.{◌then◌}
+use Rattle.file_pages.proofs.Common.{◌/◌, ◌∙◌, refl, sym, ap, subst, arith, ◌then◌}
 use Rattle.file_pages.proofs.Stored.{names_grown, stores_page, stores_run, stored_read}
 use Rattle.file_pages.specs.Storing.{KeepsFront}
 use Rattle.file_pages.proofs.Tails.{clears_run, run_front, run_whole, run_zeros}

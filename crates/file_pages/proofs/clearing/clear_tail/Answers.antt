@@ -1,9 +1,6 @@
-use Rattle.std.proofs.Common.{◌≡◌, ◌/◌, ◌%◌, true, subst, arith}
-use Rattle.rio_base.specs.Rules.{◌then◌}
-use Rattle.rio_model.specs.Placed.{placed_at, volume_layout}
-use Rattle.rio_model.specs.VolumeReady.{NamedNode}
+use Rattle.file_pages.proofs.Common.{◌≡◌, ◌/◌, ◌%◌, true, subst, arith, ◌then◌, placed_at, volume_layout, NamedNode}
 use Rattle.file_pages.specs.Storing.{KeepsFront, NamedAs, TailCleared, ZerosFrom}
-use Rattle.file_pages.specs.OrderRules.{leaves_looked, ready_left}
+use Rattle.file_pages.proofs.OrderRules.{leaves_looked, ready_left}
 use Rattle.file_pages.proofs.Stored.{bytes_front, last_page, on_both, stores_after, stores_looked}
 use Rattle.file_pages.proofs.clearing.clear_tail.Goals as goal
 

@@ -1,4 +1,4 @@
-use Rattle.std.proofs.Common.{◌/◌, ◌∙◌, arith}
+use Rattle.file_pages.proofs.Common.{◌/◌, ◌∙◌, arith}
 use Rattle.file_pages.proofs.Tails.{many_words, one_word, other_word}
 use Rattle.file_pages.proofs.clearing.cleared_words.Goals as goal
 

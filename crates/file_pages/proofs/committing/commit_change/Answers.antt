@@ -1,4 +1,4 @@
-use Rattle.std.proofs.lemmas.Result.{err_from_is_err_and}
+use Rattle.file_pages.proofs.Common.{err_from_is_err_and}
 use Rattle.file_pages.proofs.Prepared.{change_of, committed_done, committed_err}
 use Rattle.file_pages.proofs.Ends.{unrefused_vol, unrefused_ok}
 use Rattle.file_pages.proofs.committing.commit_change.Goals as goal

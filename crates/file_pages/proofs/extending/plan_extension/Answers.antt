@@ -1,14 +1,8 @@
-use Rattle.std.proofs.Common.{◌-◌, ◌∙◌, ap, subst}
-use Rattle.std.proofs.lemmas.Result.{err_from_is_err_and}
-use Rattle.rio_base.specs.Rules.{◌then◌}
-use Rattle.block_alloc.specs.Bitmap.{numbers}
-use Rattle.rio_model.specs.NodeChanges.{grown}
-use Rattle.rio_model.specs.Placed.{volume_layout}
-use Rattle.rio_model.specs.VolumeReady.{LeavesInUse, Ready}
+use Rattle.file_pages.proofs.Common.{◌-◌, ◌∙◌, ap, subst, err_from_is_err_and, ◌then◌, numbers, grown, volume_layout, LeavesInUse, Ready}
 use Rattle.file_pages.specs.Changes.{Grows, given_node}
 use Rattle.file_pages.specs.LookingUp.{page_blocks}
-use Rattle.file_pages.specs.LookingUpRules.{can_look_up}
-use Rattle.file_pages.specs.OrderRules.{leaves_looked, leaves_trans, ready_left}
+use Rattle.file_pages.proofs.LookingUpRules.{can_look_up}
+use Rattle.file_pages.proofs.OrderRules.{leaves_looked, leaves_trans, ready_left}
 use Rattle.file_pages.proofs.Ends.{ends_size, size_then}
 use Rattle.file_pages.proofs.Extension.{extends_looked}
 use Rattle.file_pages.proofs.extending.plan_extension.Goals as goal

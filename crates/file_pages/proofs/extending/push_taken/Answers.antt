@@ -1,5 +1,4 @@
-use Rattle.std.proofs.Common.{◌-◌, ◌∙◌, arith}
-use Rattle.block_alloc.specs.Bitmap.{numbers}
+use Rattle.file_pages.proofs.Common.{◌-◌, ◌∙◌, arith, numbers}
 use Rattle.file_pages.proofs.Listed.{block_next, number_at}
 use Rattle.file_pages.proofs.extending.push_taken.Goals as goal
 

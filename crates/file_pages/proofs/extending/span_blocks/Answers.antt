@@ -1,9 +1,4 @@
-use Rattle.std.proofs.Common.{◌-◌, ◌++◌, ◌∙◌, sym, ap, arith}
-use Rattle.std.specs.Prelude.{slice_index}
-use Rattle.block_alloc.specs.Bitmap.{numbers}
-use Rattle.rio_model.specs.GrowthRules.{page_new, page_old}
-use Rattle.rio_model.specs.NodeChanges.{grown}
-use Rattle.rio_model.specs.Placed.{placed_at}
+use Rattle.file_pages.proofs.Common.{◌-◌, ◌++◌, ◌∙◌, sym, ap, arith, slice_index, numbers, page_new, page_old, grown, placed_at}
 use Rattle.file_pages.specs.Changes.{given_node}
 use Rattle.file_pages.specs.LookingUp.{page_blocks}
 use Rattle.file_pages.proofs.Extension.{span_joined}

@@ -1,10 +1,7 @@
-use Rattle.std.proofs.Common.{◌+◌, ◌/◌, length, sym, subst, arith}
-use Rattle.std.proofs.lemmas.Result.{err_from_is_err_and}
-use Rattle.rio_base.specs.Rules.{◌then◌, ends_by_after}
-use Rattle.block_alloc.specs.Bitmap.{numbers}
+use Rattle.file_pages.proofs.Common.{◌+◌, ◌/◌, length, sym, subst, arith, err_from_is_err_and, ◌then◌, ends_by_after, numbers}
 use Rattle.file_pages.specs.Changes.{planned_node}
 use Rattle.file_pages.specs.Extending.{Extends}
-use Rattle.file_pages.specs.OrderRules.{ready_left}
+use Rattle.file_pages.proofs.OrderRules.{ready_left}
 use Rattle.file_pages.specs.Preparing.{Prepared}
 use Rattle.file_pages.proofs.Dropped.{file_kind}
 use Rattle.file_pages.proofs.ExtensionEnds.{parts_err, planned_err, tail_err}

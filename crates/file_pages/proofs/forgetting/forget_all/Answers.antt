@@ -1,7 +1,4 @@
-use Rattle.std.proofs.Common.{◌≡◌, ◌<◌, ◌≤◌, false, length, sym, subst, ◌∙◌, le_trans, arith}
-use Rattle.std.specs.List.{Contains}
-use Rattle.rio_base.specs.Rules.{goes_trans}
-use Rattle.block_alloc.specs.Bitmap.{numbers}
+use Rattle.file_pages.proofs.Common.{◌≡◌, ◌<◌, ◌≤◌, false, length, sym, subst, ◌∙◌, le_trans, arith, Contains, goes_trans, numbers}
 use Rattle.file_pages.proofs.Forgotten.{forgotten_all, forgotten_more}
 use Rattle.file_pages.proofs.Listed.{as_many, block_place, number_at, listed}
 use Rattle.file_pages.proofs.Staged.{beside_drops, beside_trans, beside_wider}

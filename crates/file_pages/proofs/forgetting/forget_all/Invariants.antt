@@ -1,8 +1,4 @@
-use Rattle.std.proofs.Common.{◌≡◌, ◌<◌, ◌≤◌, ℕ, false}
-use Rattle.std.specs.Prelude.{slice_index}
-use Rattle.std.specs.List.{Contains}
-use Rattle.rio_base.specs.Volume.{Goes}
-use Rattle.block_alloc.specs.Bitmap.{numbers}
+use Rattle.file_pages.proofs.Common.{◌≡◌, ◌<◌, ◌≤◌, ℕ, false, slice_index, Contains, Goes, numbers}
 use Rattle.file_pages.specs.Staging.{Beside}
 use Rattle.file_pages.proofs.forgetting.forget_all.Given as goal
 

@@ -1,5 +1,4 @@
-use Rattle.std.proofs.Common.{◌≤◌, ◌∙◌, arith, min}
-use Rattle.block_alloc.specs.Bitmap.{numbers}
+use Rattle.file_pages.proofs.Common.{◌≤◌, ◌∙◌, arith, min, numbers}
 use Rattle.file_pages.proofs.Runs.{direct_done}
 use Rattle.file_pages.proofs.growing.grown_inode.Goals as goal
 

@@ -1,6 +1,4 @@
-use Rattle.std.proofs.Common.{ℕ, ◌≡◌, ◌<◌, ◌≤◌, length}
-use Rattle.std.specs.Prelude.{slice_index}
-use Rattle.block_alloc.specs.Bitmap.{numbers}
+use Rattle.file_pages.proofs.Common.{ℕ, ◌≡◌, ◌<◌, ◌≤◌, length, slice_index, numbers}
 use Rattle.file_pages.specs.Growing.{new_direct}
 use Rattle.file_pages.proofs.growing.grown_inode.Given as goal
 

@@ -1,6 +1,4 @@
-use Rattle.std.proofs.Common.{◌≡◌, ◌-◌, ◌∙◌, map, ap, arith}
-use Rattle.block_alloc.specs.Bitmap.{numbers}
-use Rattle.rio_model.specs.Updates.{run_edits}
+use Rattle.file_pages.proofs.Common.{◌≡◌, ◌-◌, ◌∙◌, map, ap, arith, numbers, run_edits}
 use Rattle.file_pages.specs.Changes.{word_edit}
 use Rattle.file_pages.specs.Growing.{new_word}
 use Rattle.file_pages.proofs.Runs.{run_next}

@@ -1,6 +1,4 @@
-use Rattle.std.proofs.Common.{◌≡◌, ◌-◌, ◌≤◌, map}
-use Rattle.block_alloc.specs.Bitmap.{numbers}
-use Rattle.rio_model.specs.Updates.{run_edits}
+use Rattle.file_pages.proofs.Common.{◌≡◌, ◌-◌, ◌≤◌, map, numbers, run_edits}
 use Rattle.file_pages.specs.Changes.{word_edit}
 use Rattle.file_pages.specs.Growing.{new_word}
 use Rattle.file_pages.proofs.growing.table_edits.Given as goal

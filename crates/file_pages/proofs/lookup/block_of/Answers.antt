@@ -1,8 +1,6 @@
-use Rattle.std.proofs.Common.{◌-◌, ◌/◌, ◌∙◌, ap, sym, refl, arith}
-use Rattle.rio_base.specs.Blocks.{BlockWords}
-use Rattle.rio_model.specs.Placed.{AtTable, placed_at}
+use Rattle.file_pages.proofs.Common.{◌-◌, ◌/◌, ◌∙◌, ap, sym, refl, arith, BlockWords, AtTable, placed_at}
 use Rattle.file_pages.proofs.Looked.{direct_value, table_value, later_value}
-use Rattle.file_pages.specs.LookingUpRules.{look_trans}
+use Rattle.file_pages.proofs.LookingUpRules.{look_trans}
 use Rattle.file_pages.proofs.lookup.block_of.Goals as goal
 
 pub returns-then-index-lt-DIRECT_PAGES-clause-value : goal.returns-then-index-lt-DIRECT_PAGES-clause-value

@@ -1,4 +1,4 @@
-use Rattle.file_pages.specs.LookingUpRules.{looked_inode}
+use Rattle.file_pages.proofs.LookingUpRules.{looked_inode}
 use Rattle.file_pages.proofs.lookup.inode_word.Goals as goal
 
 pub returns-clause-looks : goal.returns-clause-looks

@@ -1,4 +1,4 @@
-use Rattle.file_pages.specs.LookingUpRules.{looked_table}
+use Rattle.file_pages.proofs.LookingUpRules.{looked_table}
 use Rattle.file_pages.proofs.lookup.read_table.Goals as goal
 
 pub returns-clause-looks : goal.returns-clause-looks

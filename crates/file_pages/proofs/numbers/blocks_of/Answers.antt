@@ -1,12 +1,7 @@
-use Rattle.std.proofs.Common.{◌≡◌, ◌-◌, ◌∙◌, ap, arith}
+use Rattle.file_pages.proofs.Common.{◌≡◌, ◌-◌, ◌∙◌, ap, arith, numbers, BlockWords, placed_at, lies_self, table_of, pages, tables}
 use Rattle.std.specs.Prelude.{nat_eq}
-use Rattle.block_alloc.specs.Bitmap.{numbers}
-use Rattle.rio_base.specs.Blocks.{BlockWords}
-use Rattle.rio_model.specs.Placed.{placed_at}
-use Rattle.rio_model.specs.PlacedRules.{lies_self, table_of}
-use Rattle.rio_model.specs.Sizes.{pages, tables}
 use Rattle.file_pages.specs.LookingUp.{page_blocks}
-use Rattle.file_pages.specs.LookingUpRules.{look_trans}
+use Rattle.file_pages.proofs.LookingUpRules.{look_trans}
 use Rattle.file_pages.proofs.Listed.{table_is, table_test, whole_numbers}
 use Rattle.file_pages.proofs.numbers.blocks_of.Goals as goal
 

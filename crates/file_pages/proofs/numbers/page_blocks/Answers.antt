@@ -1,11 +1,6 @@
-use Rattle.std.proofs.Common.{◌-◌, ◌<◌, ◌≤◌, ◌++◌, ◌∙◌, ap, arith}
-use Rattle.rio_model.specs.Placed.{AtPage, AtTable, placed_at}
-use Rattle.rio_model.specs.PlacedRules.{first_table}
-use Rattle.rio_model.specs.Sizes.{pages}
-use Rattle.block_alloc.specs.Bitmap.{numbers}
+use Rattle.file_pages.proofs.Common.{◌-◌, ◌<◌, ◌≤◌, ◌++◌, ◌∙◌, ap, arith, AtPage, AtTable, placed_at, first_table, pages, numbers, err_from_is_err_and}
 use Rattle.file_pages.specs.Changes.{given_node}
 use Rattle.file_pages.specs.LookingUp.{page_blocks}
-use Rattle.std.proofs.lemmas.Result.{err_from_is_err_and}
 use Rattle.file_pages.proofs.Ends.{ends_read}
 use Rattle.file_pages.proofs.Given.{given_most, given_of}
 use Rattle.file_pages.proofs.Listed.{blocks_joined}

@@ -1,7 +1,4 @@
-use Rattle.std.proofs.Common.{ℕ, ◌≡◌, ◌-◌, ◌<◌, ◌≤◌, ◌++◌}
-use Rattle.std.specs.Prelude.{slice_index}
-use Rattle.block_alloc.specs.Bitmap.{numbers}
-use Rattle.rio_model.specs.Placed.{AtPage, Placed}
+use Rattle.file_pages.proofs.Common.{ℕ, ◌≡◌, ◌-◌, ◌<◌, ◌≤◌, ◌++◌, slice_index, numbers, AtPage, Placed}
 use Rattle.file_pages.specs.LookingUp.{page_blocks}
 use Rattle.file_pages.proofs.numbers.push_direct.Given as goal
 

@@ -1,7 +1,5 @@
-use Rattle.std.proofs.Common.{ℕ, List, ◌-◌, ◌/◌, ◌∙◌, ap, arith}
-use Rattle.std.specs.Prelude.{slice_index}
+use Rattle.file_pages.proofs.Common.{ℕ, List, ◌-◌, ◌/◌, ◌∙◌, ap, arith, slice_index, AtPage, HasSlot, placed_at}
 use Rattle.rio_base.specs.Layout.{half}
-use Rattle.rio_model.specs.Placed.{AtPage, HasSlot, placed_at}
 use Rattle.file_pages.proofs.Looked.{run_number}
 use Rattle.file_pages.proofs.numbers.push_later.Goals as goal
 

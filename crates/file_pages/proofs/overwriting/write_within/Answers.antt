@@ -1,12 +1,5 @@
-use Rattle.std.proofs.Common.{◌≡◌, ◌/◌, ◌≤◌, ◌∙◌, length, sym, ap, subst, arith, inl}
-use Rattle.std.proofs.lemmas.Result.{err_from_is_err_and}
-use Rattle.rio_base.specs.Rules.{◌then◌, ends_by_after}
-use Rattle.block_alloc.specs.Bitmap.{numbers}
-use Rattle.rio_model.specs.Placed.{Layout, placed_at, volume_layout}
-use Rattle.rio_model.specs.PlacedRules.{numbered_of}
-use Rattle.rio_model.specs.Sizes.{largest_size}
-use Rattle.rio_model.specs.VolumeReady.{LeavesInUse}
-use Rattle.file_pages.specs.OrderRules.{leaves_looked}
+use Rattle.file_pages.proofs.Common.{◌≡◌, ◌/◌, ◌≤◌, ◌∙◌, length, sym, ap, subst, arith, inl, err_from_is_err_and, ◌then◌, ends_by_after, numbers, Layout, placed_at, volume_layout, numbered_of, largest_size, LeavesInUse}
+use Rattle.file_pages.proofs.OrderRules.{leaves_looked}
 use Rattle.file_pages.specs.Spans.{SpanNamed}
 use Rattle.file_pages.proofs.Given.{given_most}
 use Rattle.file_pages.proofs.Listed.{as_many}

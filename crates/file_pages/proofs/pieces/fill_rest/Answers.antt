@@ -1,5 +1,4 @@
-use Rattle.std.proofs.Common.{◌∙◌, arith}
-use Rattle.std.proofs.lemmas.List.{length-take-le, take_rest}
+use Rattle.file_pages.proofs.Common.{◌∙◌, arith, length-take-le, take_rest}
 use Rattle.file_pages.proofs.Filled.{rest_part, rest_whole}
 use Rattle.file_pages.proofs.pieces.fill_rest.Goals as goal
 

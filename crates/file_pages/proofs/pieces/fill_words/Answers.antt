@@ -1,5 +1,5 @@
-use Rattle.std.proofs.Common.{◌-◌, ◌%◌, set, ap, arith}
-use Rattle.std.proofs.lemmas.List.{length-drop, length-set, length-take-le, take_rest}
+use Rattle.file_pages.proofs.Common.{◌-◌, ◌%◌, set, ap, arith, length-set, length-take-le, take_rest}
+use Rattle.std.proofs.lemmas.List.{length-drop}
 use Rattle.file_pages.proofs.Filled.{words_filled}
 use Rattle.file_pages.proofs.pieces.fill_words.Goals as goal
 

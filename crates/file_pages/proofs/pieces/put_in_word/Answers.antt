@@ -1,4 +1,4 @@
-use Rattle.std.proofs.Common.{arith}
+use Rattle.file_pages.proofs.Common.{arith}
 use Rattle.file_pages.proofs.Filled.{word_put}
 use Rattle.file_pages.proofs.pieces.put_in_word.Goals as goal
 

@@ -1,5 +1,4 @@
-use Rattle.std.proofs.Common.{refl}
-use Rattle.rio_base.specs.Rules.{◌then◌}
+use Rattle.file_pages.proofs.Common.{refl, ◌then◌}
 use Rattle.file_pages.proofs.PutPieces.{makes, puts_all, puts_front, puts_told}
 use Rattle.file_pages.proofs.pieces.store_words.Goals as goal
 

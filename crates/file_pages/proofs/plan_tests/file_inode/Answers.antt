@@ -1,7 +1,4 @@
-use Rattle.std.proofs.Common.{sym, subst}
-use Rattle.std.specs.Prelude.{IfOk}
-use Rattle.rio_base.specs.Blocks.{BlockWords}
-use Rattle.inode_table.specs.Inodes.{IsInode}
+use Rattle.file_pages.proofs.Common.{sym, subst, IfOk, BlockWords, IsInode}
 use Rattle.file_pages.proofs.TestFiles.{files_looked, inode_is_file}
 use Rattle.file_pages.proofs.plan_tests.file_inode.Goals as goal
 

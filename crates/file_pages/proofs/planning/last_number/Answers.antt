@@ -1,8 +1,5 @@
-use Rattle.std.proofs.Common.{ℕ, ◌-◌, ◌/◌, ◌∙◌, ap, arith}
+use Rattle.file_pages.proofs.Common.{ℕ, ◌-◌, ◌/◌, ◌∙◌, ap, arith, AtPage, AtTable, first_table, pages}
 use Rattle.rio_base.specs.Layout.{half}
-use Rattle.rio_model.specs.Placed.{AtPage, AtTable}
-use Rattle.rio_model.specs.PlacedRules.{first_table}
-use Rattle.rio_model.specs.Sizes.{pages}
 use Rattle.file_pages.specs.Changes.{given_node}
 use Rattle.file_pages.proofs.Given.{given_of}
 use Rattle.file_pages.proofs.Looked.{later_value}

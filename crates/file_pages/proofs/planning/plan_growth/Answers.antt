@@ -1,16 +1,9 @@
-use Rattle.std.proofs.Common.{◌≡◌, ◌<◌, ◌-◌, ◌+◌, ℕ, length, refl, ap, sym, subst, ◌∙◌, arith, le_trans}
-use Rattle.std.specs.Prelude.{slice_index}
-use Rattle.std.proofs.lemmas.Result.{err_from_is_err_and}
-use Rattle.rio_base.specs.Rules.{◌then◌, ends_by_after}
-use Rattle.block_alloc.specs.Bitmap.{numbers}
-use Rattle.rio_model.specs.GrowthRules.{most_tables, one_table}
-use Rattle.rio_model.specs.NodeChanges.{Takes, grown}
-use Rattle.rio_model.specs.Placed.{Placed, volume_layout}
-use Rattle.rio_model.specs.Sizes.{pages, tables}
+use Rattle.file_pages.proofs.Common.{◌≡◌, ◌<◌, ◌-◌, ◌+◌, ℕ, length, refl, ap, sym, subst, ◌∙◌, arith, le_trans, slice_index, err_from_is_err_and, ◌then◌, ends_by_after, numbers, most_tables, one_table, Takes, grown, Placed, volume_layout, pages, tables}
 use Rattle.file_pages.specs.Changes.{given_node}
-use Rattle.file_pages.specs.Growing.{end_word, first_word, new_word}
-use Rattle.file_pages.specs.LookingUpRules.{can_look_up}
-use Rattle.file_pages.specs.OrderRules.{leaves_looked}
+use Rattle.file_pages.proofs.GrowingLaws.{end_word, first_word}
+use Rattle.file_pages.specs.Growing.{new_word}
+use Rattle.file_pages.proofs.LookingUpRules.{can_look_up}
+use Rattle.file_pages.proofs.OrderRules.{leaves_looked}
 use Rattle.file_pages.specs.declared.changes.SizeChange.{SizeChange}
 use Rattle.file_pages.proofs.Ends.{ends_vol_size, ends_well_memory, ends_well_ok, unrefused_memory, unrefused_ok, unrefused_vol}
 use Rattle.file_pages.proofs.Given.{given_of}

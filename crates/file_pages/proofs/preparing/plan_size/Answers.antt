@@ -1,13 +1,6 @@
-use Rattle.std.proofs.Common.{◌≡◌, ◌<◌, ◌≤◌, ◌∙◌, ℕ, take, length, sym, ap, subst, arith}
-use Rattle.std.specs.Prelude.{slice_index}
-use Rattle.std.proofs.lemmas.Result.{err_from_is_err_and}
-use Rattle.rio_base.specs.Rules.{◌then◌}
-use Rattle.block_alloc.specs.Bitmap.{numbers}
-use Rattle.rio_model.specs.Placed.{IsFree, volume_layout}
-use Rattle.rio_model.specs.Sizes.{largest_size}
-use Rattle.rio_model.specs.VolumeReady.{LeavesInUse}
+use Rattle.file_pages.proofs.Common.{◌≡◌, ◌<◌, ◌≤◌, ◌∙◌, ℕ, take, length, sym, ap, subst, arith, slice_index, err_from_is_err_and, ◌then◌, numbers, IsFree, volume_layout, largest_size, LeavesInUse}
 use Rattle.file_pages.specs.Changes.{Grows, PlansFor, PlansSize, Shrinks, free_beside, wanted_blocks}
-use Rattle.file_pages.specs.OrderRules.{leaves_looked, leaves_trans, ready_left}
+use Rattle.file_pages.proofs.OrderRules.{leaves_looked, leaves_trans, ready_left}
 use Rattle.file_pages.specs.declared.failures.SizeFail.TheVariants.{NoSpace, TooLarge}
 use Rattle.file_pages.proofs.Ends.{err_handed, size_err, size_then}
 use Rattle.file_pages.proofs.Listed.{as_many}

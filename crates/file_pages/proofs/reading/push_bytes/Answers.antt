@@ -1,5 +1,4 @@
-use Rattle.std.proofs.Common.{◌-◌, ◌*◌, ◌/◌, ◌%◌, ◌∙◌, ◌++◌, ap, arith, refl}
-use Rattle.std.specs.Prelude.{slice_index}
+use Rattle.file_pages.proofs.Common.{◌-◌, ◌*◌, ◌/◌, ◌%◌, ◌∙◌, ◌++◌, ap, arith, refl, slice_index}
 use Rattle.rio_model.specs.Held.{byte_of}
 use Rattle.file_pages.proofs.PageRead.{bytes_next, part_bytes}
 use Rattle.file_pages.proofs.reading.push_bytes.Goals as goal

@@ -1,4 +1,4 @@
-use Rattle.std.proofs.Common.{◌∙◌, ◌-◌, ◌++◌, refl, ap, arith}
+use Rattle.file_pages.proofs.Common.{◌∙◌, ◌-◌, ◌++◌, refl, ap, arith}
 use Rattle.file_pages.proofs.PageRead.{run_block}
 use Rattle.file_pages.proofs.reading.push_copy.Goals as goal
 

@@ -1,4 +1,4 @@
-use Rattle.std.proofs.Common.{◌∙◌, ◌++◌, ap, arith}
+use Rattle.file_pages.proofs.Common.{◌∙◌, ◌++◌, ap, arith}
 use Rattle.file_pages.proofs.PageRead.{line_run}
 use Rattle.file_pages.proofs.reading.push_line.Goals as goal
 

@@ -1,5 +1,4 @@
-use Rattle.std.proofs.Common.{refl, arith}
-use Rattle.rio_model.specs.Placed.{placed_at}
+use Rattle.file_pages.proofs.Common.{refl, arith, placed_at}
 use Rattle.file_pages.proofs.PageRead.{looked_page, page_bytes}
 use Rattle.file_pages.proofs.Stored.{names_grown}
 use Rattle.file_pages.proofs.reading.push_page.Goals as goal

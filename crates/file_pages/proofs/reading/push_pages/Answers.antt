@@ -1,10 +1,5 @@
-use Rattle.std.proofs.Common.{◌≡◌, ◌+◌, ◌-◌, ◌*◌, ◌/◌, ◌∙◌, ◌++◌, map, sym, subst, arith, le_trans}
-use Rattle.std.specs.List.{range_with_len}
-use Rattle.rio_base.specs.Blocks.{BlockWords}
-use Rattle.rio_model.specs.Held.{byte_in, word_in}
-use Rattle.rio_model.specs.Placed.{placed_at, volume_layout}
-use Rattle.rio_model.specs.VolumeReady.{AllNamed}
-use Rattle.file_pages.specs.LookingUpRules.{look_trans, named_on}
+use Rattle.file_pages.proofs.Common.{◌≡◌, ◌+◌, ◌-◌, ◌*◌, ◌/◌, ◌∙◌, ◌++◌, map, sym, subst, arith, le_trans, range_with_len, BlockWords, byte_in, word_in, placed_at, volume_layout, AllNamed}
+use Rattle.file_pages.proofs.LookingUpRules.{look_trans, named_on}
 use Rattle.file_pages.proofs.PageRead.{bytes_next, page_at}
 use Rattle.file_pages.proofs.reading.push_pages.Goals as goal
 

@@ -1,6 +1,5 @@
-use Rattle.std.proofs.Common.{◌≡◌, ◌-◌, ◌≤◌, ◌++◌}
-use Rattle.rio_model.specs.Held.{bytes_in, held}
-use Rattle.rio_model.specs.Placed.{placed_at}
+use Rattle.file_pages.proofs.Common.{◌≡◌, ◌-◌, ◌≤◌, ◌++◌, held, placed_at}
+use Rattle.rio_model.specs.Held.{bytes_in}
 use Rattle.file_pages.specs.LookingUp.{LooksUp}
 use Rattle.file_pages.proofs.reading.push_pages.Given as goal
 

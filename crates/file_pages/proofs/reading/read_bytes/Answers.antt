@@ -1,9 +1,6 @@
-use Rattle.std.proofs.Common.{◌/◌, ◌∙◌, length, sym, ap, subst, arith}
-use Rattle.rio_model.specs.Placed.{placed_at, volume_layout}
-use Rattle.rio_model.specs.VolumeReady.{AllNamed}
-use Rattle.block_alloc.specs.Bitmap.{numbers}
+use Rattle.file_pages.proofs.Common.{◌/◌, ◌∙◌, length, sym, ap, subst, arith, placed_at, volume_layout, AllNamed, numbers}
 use Rattle.file_pages.specs.LookingUp.{page_blocks}
-use Rattle.file_pages.specs.LookingUpRules.{look_trans, named_on}
+use Rattle.file_pages.proofs.LookingUpRules.{look_trans, named_on}
 use Rattle.file_pages.proofs.PageRead.{many_blocks}
 use Rattle.file_pages.proofs.reading.read_bytes.Goals as goal
 

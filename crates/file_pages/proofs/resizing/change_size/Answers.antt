@@ -1,17 +1,8 @@
-use Rattle.std.proofs.Common.{◌<◌, ◌≤◌, ◌∙◌, ℕ, length, sym, subst, arith, inl, inr}
-use Rattle.std.specs.Prelude.{OnOk}
-use Rattle.std.proofs.lemmas.Result.{err_from_is_err_and}
-use Rattle.rio_base.specs.Bitmap.{free_blocks}
-use Rattle.rio_base.specs.Rules.{◌then◌, ends_by_after}
-use Rattle.inode_table.specs.Inodes.{IsInode}
-use Rattle.rio_model.specs.Placed.{placed_at, volume_layout}
-use Rattle.rio_model.specs.PlacedRules.{numbered_of}
-use Rattle.rio_model.specs.Sizes.{largest_size}
-use Rattle.rio_model.specs.VolumeReady.{LeavesInUse}
+use Rattle.file_pages.proofs.Common.{◌<◌, ◌≤◌, ◌∙◌, ℕ, length, sym, subst, arith, inl, inr, OnOk, err_from_is_err_and, free_blocks, ◌then◌, ends_by_after, IsInode, placed_at, volume_layout, numbered_of, largest_size, LeavesInUse}
 use Rattle.file_pages.specs.Changes.{wanted_blocks}
 use Rattle.file_pages.specs.Files.{HasSpace}
 use Rattle.file_pages.specs.Forgetting.{Forgets}
-use Rattle.file_pages.specs.OrderRules.{leaves_looked, leaves_trans, ready_left}
+use Rattle.file_pages.proofs.OrderRules.{leaves_looked, leaves_trans, ready_left}
 use Rattle.file_pages.proofs.Ends.{ends_vol_size, unrefused_vol}
 use Rattle.file_pages.proofs.Given.{given_most}
 use Rattle.file_pages.proofs.Prepared.{leaves_err}

@@ -1,18 +1,12 @@
-use Rattle.std.proofs.Common.{◌<◌, ℕ, length, subst, arith, inl, inr}
-use Rattle.std.proofs.lemmas.Result.{err_from_is_err_and}
-use Rattle.rio_base.specs.Rules.{◌then◌}
-use Rattle.block_alloc.specs.Bitmap.{numbers}
-use Rattle.rio_model.specs.Placed.{volume_layout}
-use Rattle.rio_model.specs.PlacedRules.{layout_refl}
-use Rattle.rio_model.specs.VolumeReady.{LeavesInUse}
+use Rattle.file_pages.proofs.Common.{◌<◌, ℕ, length, subst, arith, inl, inr, err_from_is_err_and, ◌then◌, numbers, volume_layout, LeavesInUse, free_blocks}
+use Rattle.rio_model.proofs.PlacedRules.{layout_refl}
 use Rattle.file_pages.specs.Changes.{Grows, planned_node}
 use Rattle.file_pages.specs.Files.{SetsBoth, file_bytes}
-use Rattle.file_pages.specs.OrderRules.{leaves_looked, leaves_trans, ready_left}
+use Rattle.file_pages.proofs.OrderRules.{leaves_looked, leaves_trans, ready_left}
 use Rattle.file_pages.specs.Preparing.{Prepared}
 use Rattle.file_pages.proofs.Dropped.{file_kind}
 use Rattle.file_pages.proofs.Ends.{err_handed, size_err, unrefused_err}
 use Rattle.file_pages.specs.declared.failures.SizeFail.TheVariants.{NoSpace, TooLarge}
-use Rattle.rio_base.specs.Bitmap.{free_blocks}
 use Rattle.file_pages.proofs.Extended.{grow_new, grow_old, grow_prepared}
 use Rattle.file_pages.proofs.Forgotten.{grown_frees, prepared_forgets}
 use Rattle.file_pages.proofs.GrowEnds.{cleared_both, cleared_err, has_space}

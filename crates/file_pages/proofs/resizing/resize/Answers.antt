@@ -1,10 +1,4 @@
-use Rattle.std.proofs.Common.{◌≡◌, ◌<◌, ◌≤◌, ◌⊎◌, length, sym, subst}
-use Rattle.std.specs.Prelude.{IsErrOf, OnOk}
-use Rattle.rio_base.specs.Bitmap.{free_blocks}
-use Rattle.rio_base.specs.Layout.{IsIno}
-use Rattle.rio_model.specs.Placed.{placed_at, volume_layout}
-use Rattle.rio_model.specs.Sizes.{largest_size}
-use Rattle.rio_model.specs.VolumeReady.{LeavesInUse}
+use Rattle.file_pages.proofs.Common.{◌≡◌, ◌<◌, ◌≤◌, ◌⊎◌, length, sym, subst, IsErrOf, OnOk, free_blocks, IsIno, placed_at, volume_layout, largest_size, LeavesInUse}
 use Rattle.file_pages.specs.Changes.{wanted_blocks}
 use Rattle.file_pages.specs.Files.{HasSpace, file_bytes}
 use Rattle.file_pages.specs.declared.failures.SizeFail.TheVariants.{NoSpace}

@@ -1,14 +1,8 @@
-use Rattle.std.proofs.Common.{◌∙◌, ℕ, sym, subst, arith, inl}
-use Rattle.std.specs.List.{Contains}
-use Rattle.std.proofs.lemmas.Result.{err_from_is_err_and}
-use Rattle.rio_base.specs.Rules.{◌then◌}
-use Rattle.block_alloc.specs.Bitmap.{numbers}
-use Rattle.rio_model.specs.Placed.{volume_layout}
-use Rattle.rio_model.specs.VolumeReady.{LeavesInUse}
+use Rattle.file_pages.proofs.Common.{◌∙◌, ℕ, sym, subst, arith, inl, Contains, err_from_is_err_and, ◌then◌, numbers, volume_layout, LeavesInUse}
 use Rattle.file_pages.specs.Changes.{planned_node}
 use Rattle.file_pages.specs.Forgetting.{Uncached}
-use Rattle.file_pages.specs.OrderRules.{leaves_beside, leaves_looked, ready_left}
-use Rattle.file_pages.specs.LookingUpRules.{can_look_up}
+use Rattle.file_pages.proofs.OrderRules.{leaves_beside, leaves_looked, ready_left}
+use Rattle.file_pages.proofs.LookingUpRules.{can_look_up}
 use Rattle.file_pages.specs.Preparing.{Prepared}
 use Rattle.file_pages.proofs.Dropped.{dropped_ok, dropped_stopped, file_fits, file_kind, freed_free, freed_place, new_bytes, old_bytes}
 use Rattle.file_pages.proofs.Ends.{ends_well_ok, size_err, size_halted, size_then, unrefused_err, unrefused_ok, unrefused_stop}

@@ -1,9 +1,4 @@
-use Rattle.std.proofs.Common.{◌≡◌, ◌-◌, Bool, refl, ap, sym, subst, ◌∙◌, arith}
-use Rattle.std.specs.Prelude.{nat_lt}
-use Rattle.std.specs.List.{Contains}
-use Rattle.std.proofs.lemmas.Result.{err_from_is_err_and}
-use Rattle.block_alloc.specs.Bitmap.{numbers}
-use Rattle.rio_model.specs.Sizes.{pages, tables}
+use Rattle.file_pages.proofs.Common.{◌≡◌, ◌-◌, Bool, refl, ap, sym, subst, ◌∙◌, arith, nat_lt, Contains, err_from_is_err_and, numbers, pages, tables}
 use Rattle.file_pages.specs.Changes.{given_node}
 use Rattle.file_pages.specs.LookingUp.{page_blocks}
 use Rattle.file_pages.specs.declared.changes.SizeChange.{SizeChange}

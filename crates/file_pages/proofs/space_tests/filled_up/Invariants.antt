@@ -1,4 +1,5 @@
-use Rattle.rio_fakes.specs.ListVolumes.{ListSound, list_kept, list_seen}
+use Rattle.file_pages.proofs.Common.{list_kept, list_seen}
+use Rattle.rio_fakes.specs.ListVolumes.{ListSound}
 use Rattle.file_pages.specs.declared.test_volume.TheConstants.{SMALL}
 use Rattle.file_pages.specs.TestFiles.{FilesReady}
 use Rattle.file_pages.proofs.space_tests.filled_up.Given as goal

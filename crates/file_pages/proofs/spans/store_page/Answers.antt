@@ -1,6 +1,4 @@
-use Rattle.std.proofs.Common.{◌/◌, ◌-◌, refl, arith}
-use Rattle.std.proofs.lemmas.Result.{err_from_is_err_and}
-use Rattle.block_alloc.specs.Bitmap.{numbers}
+use Rattle.file_pages.proofs.Common.{◌/◌, ◌-◌, refl, arith, err_from_is_err_and, numbers}
 use Rattle.file_pages.proofs.Listed.{as_many, block_place}
 use Rattle.file_pages.proofs.Spanned.{beside_stored, page_at, page_in, page_named, page_piece, page_whole, span_can}
 use Rattle.file_pages.proofs.spans.store_page.Goals as goal

@@ -1,7 +1,4 @@
-use Rattle.std.proofs.Common.{◌≡◌, ◌-◌, min, arith, ap, subst, sym, ◌∙◌}
-use Rattle.std.specs.Prelude.{Err}
-use Rattle.rio_base.specs.Rules.{◌then◌, ends_by_after, ends_by_as, firm_trans}
-use Rattle.block_alloc.specs.Bitmap.{numbers}
+use Rattle.file_pages.proofs.Common.{◌≡◌, ◌-◌, min, arith, ap, subst, sym, ◌∙◌, Err, ◌then◌, firm_trans, ends_by_after, ends_by_as, numbers}
 use Rattle.file_pages.specs.Spans.{PutsLead}
 use Rattle.file_pages.proofs.Spanned.{fault_told, parts_first, parts_then, parts_whole}
 use Rattle.file_pages.proofs.Staged.{beside_trans}

@@ -1,7 +1,5 @@
-use Rattle.std.proofs.Common.{◌≡◌, ◌+◌, Fits, w64, arith, le_trans, subst, sym, ap, ◌∙◌}
-use Rattle.std.specs.Prelude.{Err}
-use Rattle.rio_base.specs.Rules.{firm_trans, goes_trans}
-use Rattle.block_alloc.specs.Bitmap.{numbers}
+use Rattle.file_pages.proofs.Common.{◌≡◌, ◌+◌, arith, le_trans, subst, sym, ap, ◌∙◌, Err, firm_trans, goes_trans, numbers}
+use Rattle.std.proofs.Common.{Fits, w64}
 use Rattle.file_pages.specs.Spans.{PutsSpan}
 use Rattle.file_pages.proofs.Spanned.{fault_told, span_more}
 use Rattle.file_pages.proofs.Staged.{beside_trans}

@@ -1,7 +1,4 @@
-use Rattle.std.proofs.Common.{◌≡◌, ◌≤◌, ◌-◌, false, length}
-use Rattle.std.specs.List.{Contains}
-use Rattle.rio_base.specs.Volume.{Firm, Goes}
-use Rattle.block_alloc.specs.Bitmap.{numbers}
+use Rattle.file_pages.proofs.Common.{◌≡◌, ◌≤◌, ◌-◌, false, length, Contains, Firm, Goes, numbers}
 use Rattle.file_pages.specs.Spans.{PutsSpan, SpanNamed}
 use Rattle.file_pages.specs.Staging.{Beside}
 use Rattle.file_pages.proofs.spans.store_span.Given as goal

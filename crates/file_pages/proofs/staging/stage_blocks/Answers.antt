@@ -1,10 +1,5 @@
-use Rattle.std.proofs.Common.{◌≡◌, ◌<◌, sym, ap, subst, ◌∙◌, le_trans, length}
-use Rattle.std.specs.List.{Contains}
-use Rattle.std.specs.Prelude.{slice_index}
-use Rattle.rio_base.specs.Rules.{goes_trans}
-use Rattle.block_alloc.specs.Bitmap.{numbers}
-use Rattle.file_pages.specs.Staging.{taken_name}
-use Rattle.file_pages.specs.Staging.{Beside}
+use Rattle.file_pages.proofs.Common.{◌≡◌, ◌<◌, sym, ap, subst, ◌∙◌, le_trans, length, Contains, slice_index, goes_trans, numbers}
+use Rattle.file_pages.specs.Staging.{taken_name, Beside}
 use Rattle.file_pages.proofs.Staged.{beside_trans, beside_wider, staged_more}
 use Rattle.file_pages.proofs.Listed.{as_many, number_at, listed}
 use Rattle.file_pages.proofs.staging.stage_blocks.Goals as goal

@@ -1,9 +1,5 @@
-use Rattle.std.proofs.Common.{◌≡◌, ◌≤◌, false}
-use Rattle.std.specs.List.{Contains}
-use Rattle.rio_base.specs.Volume.{Goes}
-use Rattle.block_alloc.specs.Bitmap.{numbers}
-use Rattle.file_pages.specs.Staging.{Beside, Zeroed}
-use Rattle.file_pages.specs.Staging.{taken_name}
+use Rattle.file_pages.proofs.Common.{◌≡◌, ◌≤◌, false, Contains, Goes, numbers}
+use Rattle.file_pages.specs.Staging.{Beside, Zeroed, taken_name}
 use Rattle.file_pages.proofs.staging.stage_blocks.Given as goal
 
 abbrev pub invariant-loop-t : goal.invariant-loop-t

@@ -1,7 +1,4 @@
-use Rattle.std.proofs.Common.{◌≡◌, ◌<◌, ◌∙◌, ℕ, sym, ap, subst, arith, inl, inr}
-use Rattle.std.specs.Prelude.{slice_index}
-use Rattle.std.proofs.lemmas.Bool.{cases_lt}
-use Rattle.block_alloc.specs.Bitmap.{numbers}
+use Rattle.file_pages.proofs.Common.{◌≡◌, ◌<◌, ◌∙◌, ℕ, sym, ap, subst, arith, inl, inr, slice_index, cases_lt, numbers}
 use Rattle.file_pages.proofs.Listed.{as_many, number_at}
 use Rattle.file_pages.proofs.Skipped.{among_at, among_none}
 use Rattle.file_pages.proofs.taking.is_among.Goals as goal

@@ -1,6 +1,4 @@
-use Rattle.std.proofs.Common.{ℕ, ◌≢◌, ◌<◌}
-use Rattle.std.specs.Prelude.{slice_index}
-use Rattle.block_alloc.specs.Bitmap.{numbers}
+use Rattle.file_pages.proofs.Common.{ℕ, ◌≢◌, ◌<◌, slice_index, numbers}
 use Rattle.file_pages.proofs.taking.is_among.Given as goal
 
 abbrev pub invariant-loop-k : goal.invariant-loop-k

@@ -1,5 +1,5 @@
-use Rattle.std.proofs.Common.{◌<◌, ◌∙◌, ◌++◌, ◌&&◌, cond, nat_lt, ℕ, [], ◌∷◌, not, length, sym, subst, arith}
-use Rattle.block_alloc.specs.Bitmap.{numbers}
+use Rattle.file_pages.proofs.Common.{◌<◌, ◌∙◌, ◌++◌, ◌&&◌, cond, ℕ, [], ◌∷◌, not, length, sym, subst, arith, numbers}
+use Rattle.std.proofs.Common.{nat_lt}
 use Rattle.file_pages.specs.Changes.{is_among}
 use Rattle.file_pages.proofs.Listed.{as_many, number_at}
 use Rattle.file_pages.proofs.Skipped.{left_more}

@@ -1,6 +1,4 @@
-use Rattle.std.proofs.Common.{◌≡◌, ◌≤◌, length, not, take}
-use Rattle.std.specs.List.{filter}
-use Rattle.block_alloc.specs.Bitmap.{numbers}
+use Rattle.file_pages.proofs.Common.{◌≡◌, ◌≤◌, length, not, take, filter, numbers}
 use Rattle.file_pages.specs.Changes.{is_among}
 use Rattle.file_pages.proofs.taking.leave_out.Given as goal
 

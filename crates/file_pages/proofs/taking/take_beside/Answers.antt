@@ -1,8 +1,4 @@
-use Rattle.std.proofs.Common.{◌<◌, ◌≤◌, ◌+◌, ◌∙◌, ℕ, not, length, take, sym, ap, subst, arith}
-use Rattle.std.specs.List.{filter}
-use Rattle.std.proofs.lemmas.Result.{err_from_is_err_and}
-use Rattle.rio_base.specs.Bitmap.{free_blocks}
-use Rattle.block_alloc.specs.Bitmap.{numbers}
+use Rattle.file_pages.proofs.Common.{◌<◌, ◌≤◌, ◌+◌, ◌∙◌, ℕ, not, length, take, sym, ap, subst, arith, filter, err_from_is_err_and, free_blocks, numbers}
 use Rattle.file_pages.specs.Changes.{is_among}
 use Rattle.file_pages.specs.declared.failures.SizeFail.TheVariants.{NoSpace}
 use Rattle.file_pages.proofs.Ends.{err_handed}

@@ -1,7 +1,5 @@
-use Rattle.std.proofs.Common.{sym, subst, arith}
-use Rattle.std.proofs.lemmas.Result.{err_from_is_err_and}
-use Rattle.rio_base.specs.Bitmap.{free_blocks}
-use Rattle.file_pages.specs.LookingUpRules.{can_look_up, looked_low}
+use Rattle.file_pages.proofs.Common.{sym, subst, arith, err_from_is_err_and, free_blocks}
+use Rattle.file_pages.proofs.LookingUpRules.{can_look_up, looked_low}
 use Rattle.file_pages.specs.Changes.{Apart}
 use Rattle.file_pages.proofs.FreeLists.{ends_short, ends_small, ends_take, ends_taken, first_apart, first_count, first_free, lists_apart}
 use Rattle.file_pages.proofs.taking.take_lowest.Goals as goal

@@ -1,5 +1,5 @@
-use Rattle.std.proofs.Common.{arith}
-use Rattle.file_pages.specs.LookingUpRules.{can_look_up, looked_low}
+use Rattle.file_pages.proofs.Common.{arith}
+use Rattle.file_pages.proofs.LookingUpRules.{can_look_up, looked_low}
 use Rattle.file_pages.proofs.TestFiles.{files_looked}
 use Rattle.file_pages.proofs.test_volume.used_count.Goals as goal
 

@@ -1,4 +1,5 @@
-use Rattle.rio_fakes.specs.ListVolumes.{list_kept, list_seen, list_settled}
+use Rattle.file_pages.proofs.Common.{list_kept, list_seen}
+use Rattle.rio_fakes.specs.ListVolumes.{list_settled}
 use Rattle.file_pages.proofs.TestFiles.{files_stand}
 use Rattle.file_pages.proofs.TestVolume.{memory_made}
 use Rattle.file_pages.proofs.test_volume.with_files.Goals as goal

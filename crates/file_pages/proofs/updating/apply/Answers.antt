@@ -1,4 +1,4 @@
-use Rattle.std.proofs.Common.{sym, subst}
+use Rattle.file_pages.proofs.Common.{sym, subst}
 use Rattle.file_pages.specs.Updating.{IsTouched}
 use Rattle.file_pages.proofs.Updated.{applied_as, can_update, size_can}
 use Rattle.file_pages.proofs.updating.apply.Goals as goal

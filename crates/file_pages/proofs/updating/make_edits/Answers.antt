@@ -1,5 +1,5 @@
-use Rattle.std.proofs.Common.{◌∙◌, le_trans}
-use Rattle.rio_base.specs.Rules.{drops_trans, firm_trans, goes_trans}
+use Rattle.file_pages.proofs.Common.{◌∙◌, le_trans, firm_trans, goes_trans}
+use Rattle.rio_base.proofs.Rules.{drops_trans}
 use Rattle.file_pages.proofs.Updated.{update_trans, edited_next, make_place}
 use Rattle.file_pages.proofs.updating.make_edits.Goals as goal
 

@@ -1,7 +1,4 @@
-use Rattle.std.proofs.Common.{◌≡◌, ◌≤◌, drop, map}
-use Rattle.rio_base.specs.Blocks.{Drops}
-use Rattle.rio_base.specs.Volume.{Goes, Firm, SameUpdate}
-use Rattle.rio_model.specs.Updates.{edited}
+use Rattle.file_pages.proofs.Common.{◌≡◌, ◌≤◌, drop, map, Drops, Goes, Firm, SameUpdate, edited}
 use Rattle.file_pages.specs.Changes.{word_edit}
 use Rattle.file_pages.proofs.updating.make_edits.Given as goal
 

@@ -1,5 +1,4 @@
-use Rattle.std.proofs.Common.{◌<◌, ℕ, sym, subst}
-use Rattle.block_alloc.specs.Bitmap.{numbers}
+use Rattle.file_pages.proofs.Common.{◌<◌, ℕ, sym, subst, numbers}
 use Rattle.file_pages.specs.Updating.{SetsBits}
 use Rattle.file_pages.proofs.Listed.{as_many}
 use Rattle.file_pages.proofs.Updated.{applied}

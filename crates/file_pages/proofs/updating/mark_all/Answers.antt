@@ -1,7 +1,5 @@
-use Rattle.std.proofs.Common.{Bool, ◌<◌, ℕ, length, sym, ap, subst, ◌∙◌, le_trans}
-use Rattle.rio_base.specs.BlockRules.{caches_trans}
-use Rattle.rio_base.specs.Rules.{firm_trans, goes_trans}
-use Rattle.block_alloc.specs.Bitmap.{numbers}
+use Rattle.file_pages.proofs.Common.{Bool, ◌<◌, ℕ, length, sym, ap, subst, ◌∙◌, le_trans, firm_trans, goes_trans, numbers}
+use Rattle.rio_base.proofs.BlockRules.{caches_trans}
 use Rattle.file_pages.proofs.Listed.{number_at, listed, as_many}
 use Rattle.file_pages.proofs.Updated.{caches_first, in_first, sets_more, update_trans}
 use Rattle.file_pages.proofs.updating.mark_all.Goals as goal

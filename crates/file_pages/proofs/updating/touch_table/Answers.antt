@@ -1,4 +1,4 @@
-use Rattle.std.proofs.Common.{sym, ◌∙◌}
+use Rattle.file_pages.proofs.Common.{sym, ◌∙◌}
 use Rattle.file_pages.proofs.Updated.{first_place, first_touched, some_length}
 use Rattle.file_pages.proofs.updating.touch_table.Goals as goal
 

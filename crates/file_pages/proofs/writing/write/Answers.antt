@@ -1,8 +1,4 @@
-use Rattle.std.proofs.Common.{◌≡◌, ◌+◌, ◌<◌, ◌∙◌, length, sym, subst, arith}
-use Rattle.std.proofs.lemmas.Result.{err_from_is_err_and}
-use Rattle.rio_base.specs.Bitmap.{free_blocks}
-use Rattle.rio_base.specs.Layout.{IsIno}
-use Rattle.rio_model.specs.Placed.{placed_at}
+use Rattle.file_pages.proofs.Common.{◌≡◌, ◌+◌, ◌<◌, ◌∙◌, length, sym, subst, arith, err_from_is_err_and, free_blocks, IsIno, placed_at}
 use Rattle.file_pages.specs.Changes.{wanted_blocks}
 use Rattle.file_pages.specs.Files.{HasSpace, file_bytes}
 use Rattle.file_pages.specs.declared.failures.WriteFail.TheVariants.{NoSpace}

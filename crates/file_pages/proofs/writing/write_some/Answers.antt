@@ -1,16 +1,7 @@
-use Rattle.std.proofs.Common.{◌+◌, ◌<◌, ◌≤◌, ◌∙◌, ℕ, length, sym, subst, arith, inl}
-use Rattle.std.specs.Prelude.{OnOk}
-use Rattle.std.proofs.lemmas.Result.{err_from_is_err_and}
-use Rattle.rio_base.specs.Bitmap.{free_blocks}
-use Rattle.rio_base.specs.Rules.{◌then◌, ends_by_after}
-use Rattle.inode_table.specs.Inodes.{IsInode}
-use Rattle.rio_model.specs.Placed.{placed_at, volume_layout}
-use Rattle.rio_model.specs.PlacedRules.{numbered_of}
-use Rattle.rio_model.specs.Sizes.{largest_size}
-use Rattle.rio_model.specs.VolumeReady.{LeavesInUse}
+use Rattle.file_pages.proofs.Common.{◌+◌, ◌<◌, ◌≤◌, ◌∙◌, ℕ, length, sym, subst, arith, inl, OnOk, err_from_is_err_and, free_blocks, ◌then◌, ends_by_after, IsInode, placed_at, volume_layout, numbered_of, largest_size, LeavesInUse}
 use Rattle.file_pages.specs.Changes.{wanted_blocks}
 use Rattle.file_pages.specs.Files.{HasSpace}
-use Rattle.file_pages.specs.OrderRules.{leaves_looked, ready_left}
+use Rattle.file_pages.proofs.OrderRules.{leaves_looked, ready_left}
 use Rattle.file_pages.proofs.Given.{given_most}
 use Rattle.file_pages.proofs.Resized.{held_file, on_any, space_less}
 use Rattle.file_pages.proofs.Written.{ends_write_vol, none_vol, vol_unrefused, write_after}

@@ -1,9 +1,7 @@
-use Rattle.std.proofs.Common.{◌≡◌, ◌≤◌, false, length, subst, ◌∙◌, le_trans, arith}
-use Rattle.rio_base.specs.BlockSets.{firm_outside_one, firm_outside_trans, same_outside_one, same_outside_trans}
-use Rattle.rio_base.specs.Rules.{drops_trans, goes_trans}
-use Rattle.block_alloc.specs.Bitmap.{numbers}
+use Rattle.file_store.proofs.Common.{◌≡◌, ◌≤◌, false, length, subst, ◌∙◌, le_trans, arith, firm_outside_trans, goes_trans, numbers, number_at}
+use Rattle.rio_base.proofs.BlockSets.{firm_outside_one, same_outside_one, same_outside_trans}
+use Rattle.rio_base.proofs.Rules.{drops_trans}
 use Rattle.file_pages.proofs.Forgotten.{forgotten_all, forgotten_more}
-use Rattle.file_pages.proofs.Listed.{number_at}
 use Rattle.file_store.proofs.Several.{number_in, number_place}
 use Rattle.file_store.proofs.committing.forget_blocks.Goals as goal
 

@@ -1,10 +1,4 @@
-use Rattle.std.proofs.Common.{◌≡◌, ◌<◌, ◌≤◌, ℕ, false}
-use Rattle.std.specs.Prelude.{slice_index}
-use Rattle.std.specs.List.{Contains}
-use Rattle.rio_base.specs.BlockSets.{FirmOutside, SameOutside}
-use Rattle.rio_base.specs.Blocks.{Drops}
-use Rattle.rio_base.specs.Volume.{Goes}
-use Rattle.block_alloc.specs.Bitmap.{numbers}
+use Rattle.file_store.proofs.Common.{◌≡◌, ◌<◌, ◌≤◌, ℕ, false, slice_index, Contains, FirmOutside, SameOutside, Drops, Goes, numbers}
 use Rattle.file_store.proofs.committing.forget_blocks.Given as goal
 
 abbrev pub invariant-loop-t : goal.invariant-loop-t

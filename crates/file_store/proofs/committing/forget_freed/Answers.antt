@@ -1,6 +1,6 @@
-use Rattle.std.proofs.Common.{◌<◌, refl, sym, subst, ◌∙◌, le_refl, le_trans, arith}
-use Rattle.rio_base.specs.BlockSets.{firm_outside_refl, firm_outside_trans, firm_outside_wider, same_outside_refl, same_outside_trans, same_outside_wider}
-use Rattle.rio_base.specs.Rules.{drops_trans, goes_refl, goes_trans}
+use Rattle.file_store.proofs.Common.{◌<◌, refl, sym, subst, ◌∙◌, le_refl, le_trans, arith, firm_outside_trans, goes_refl, goes_trans}
+use Rattle.rio_base.proofs.BlockSets.{firm_outside_refl, firm_outside_wider, same_outside_refl, same_outside_trans, same_outside_wider}
+use Rattle.rio_base.proofs.Rules.{drops_trans}
 use Rattle.file_store.proofs.Forgotten.{forgotten_every, forgotten_next, forgotten_none}
 use Rattle.file_store.proofs.Several.{freed_in}
 use Rattle.file_store.proofs.committing.forget_freed.Goals as goal

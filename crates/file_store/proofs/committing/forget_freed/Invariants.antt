@@ -1,7 +1,4 @@
-use Rattle.std.proofs.Common.{◌≡◌, ◌≤◌, false}
-use Rattle.rio_base.specs.BlockSets.{FirmOutside, SameOutside}
-use Rattle.rio_base.specs.Blocks.{Drops}
-use Rattle.rio_base.specs.Volume.{Goes}
+use Rattle.file_store.proofs.Common.{◌≡◌, ◌≤◌, false, FirmOutside, SameOutside, Drops, Goes}
 use Rattle.file_store.specs.Changes.{IsFreed}
 use Rattle.file_store.proofs.Forgotten.{ForgottenTo}
 use Rattle.file_store.proofs.committing.forget_freed.Given as goal

@@ -1,6 +1,4 @@
-use Rattle.std.proofs.Common.{◌∙◌, sym, le_trans, arith}
-use Rattle.rio_base.specs.BlockSets.{caches_by_trans}
-use Rattle.rio_base.specs.Rules.{firm_trans, goes_trans}
+use Rattle.file_store.proofs.Common.{◌∙◌, sym, le_trans, arith, caches_by_trans, firm_trans, goes_trans}
 use Rattle.file_pages.proofs.Updated.{update_trans}
 use Rattle.file_store.proofs.Several.{all_made, caches_bitmap, can_update, touched_on, made_next}
 use Rattle.file_store.proofs.committing.make_changes.Goals as goal

@@ -1,8 +1,5 @@
-use Rattle.std.proofs.Common.{◌≡◌, ◌≤◌, true, drop, map}
-use Rattle.rio_base.specs.BlockSets.{CachesBy}
-use Rattle.rio_base.specs.Blocks.{BlockWords}
-use Rattle.rio_base.specs.Shapes.{HasShape}
-use Rattle.rio_base.specs.Volume.{Firm, Goes, SameUpdate}
+use Rattle.file_store.proofs.Common.{◌≡◌, ◌≤◌, true, drop, map, CachesBy, BlockWords, HasShape, Firm, Goes}
+use Rattle.rio_base.specs.Volume.{SameUpdate}
 use Rattle.file_store.specs.Changes.{AllApplied, IsTouchedBy, node_update}
 use Rattle.file_store.proofs.committing.make_changes.Given as goal
 

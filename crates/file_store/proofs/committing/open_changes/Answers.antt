@@ -1,4 +1,4 @@
-use Rattle.rio_base.specs.BlockRules.{shape_dropped}
+use Rattle.rio_base.proofs.BlockRules.{shape_dropped}
 use Rattle.file_store.proofs.Several.{can_on_drops}
 use Rattle.file_store.proofs.committing.open_changes.Goals as goal
 

@@ -1,6 +1,4 @@
-use Rattle.std.proofs.Common.{◌∙◌, arith, inl, inr, le_trans, sym}
-use Rattle.rio_base.specs.BlockSets.{caches_by_trans}
-use Rattle.rio_base.specs.Rules.{firm_trans, goes_trans, looks_trans}
+use Rattle.file_store.proofs.Common.{◌∙◌, arith, inl, inr, le_trans, sym, caches_by_trans, firm_trans, goes_trans, looks_trans}
 use Rattle.file_pages.proofs.Updated.{touched_now}
 use Rattle.file_store.proofs.Several.{all_are_touched, caches_bitmap, caches_node, can_make_on, shape_on, touched_none, touched_to_next, touches_most}
 use Rattle.file_store.proofs.committing.touch_changes.Goals as goal

@@ -1,7 +1,4 @@
-use Rattle.std.proofs.Common.{◌≡◌, ◌+◌, ◌*◌, ◌≤◌, true}
-use Rattle.rio_base.specs.BlockSets.{CachesBy}
-use Rattle.rio_base.specs.Blocks.{Looks}
-use Rattle.rio_base.specs.Volume.{Firm, Goes}
+use Rattle.file_store.proofs.Common.{◌≡◌, ◌+◌, ◌*◌, ◌≤◌, true, CachesBy, Looks, Firm, Goes}
 use Rattle.file_store.specs.Changes.{IsTouchedBy}
 use Rattle.file_store.proofs.Several.{TouchedTo}
 use Rattle.file_store.proofs.committing.touch_changes.Given as goal

@@ -1,6 +1,7 @@
-use Rattle.std.proofs.Common.{◌<◌, ◌∙◌, le_refl, le_trans, refl, arith, subst, sym}
-use Rattle.rio_base.specs.BlockSets.{caches_by_refl, caches_by_trans}
-use Rattle.rio_base.specs.Rules.{firm_refl, firm_trans, goes_refl, goes_trans, looks_refl, looks_trans}
+use Rattle.file_store.proofs.Common.{◌<◌, ◌∙◌, le_refl, le_trans, refl, arith, subst, sym, caches_by_trans, firm_trans, goes_refl, goes_trans, looks_trans}
+use Rattle.rio_base.proofs.BlockSets.{caches_by_refl}
+use Rattle.rio_base.specs.Rules.{firm_refl}
+use Rattle.rio_base.proofs.Rules.{looks_refl}
 use Rattle.file_pages.proofs.Updated.{can_touch, touched_still}
 use Rattle.file_store.proofs.Several.{all_touched, caches_edit, edit_in_three, edit_place, edit_was_unnamed, edits_next, edits_unnamed, three_most, three_room, touches_three}
 use Rattle.file_store.proofs.committing.touch_edits.Goals as goal

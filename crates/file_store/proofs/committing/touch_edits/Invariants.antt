@@ -1,9 +1,4 @@
-use Rattle.std.proofs.Common.{◌≡◌, ◌+◌, ◌<◌, ◌≤◌, ℕ, true}
-use Rattle.std.specs.Prelude.{slice_index}
-use Rattle.rio_base.specs.BlockSets.{CachesBy}
-use Rattle.rio_base.specs.Blocks.{Looks}
-use Rattle.rio_base.specs.Volume.{Firm, Goes}
-use Rattle.directories.specs.Plans.{InThreeBlocks}
+use Rattle.file_store.proofs.Common.{◌≡◌, ◌+◌, ◌<◌, ◌≤◌, ℕ, true, slice_index, CachesBy, Looks, Firm, Goes, InThreeBlocks}
 use Rattle.file_store.specs.Changes.{IsEditOf, edited_blocks}
 use Rattle.file_store.proofs.Several.{three_touched}
 use Rattle.file_store.proofs.committing.touch_edits.Given as goal

@@ -1,5 +1,4 @@
-use Rattle.std.proofs.Common.{inr, arith, subst, sym}
-use Rattle.directories.specs.Plans.{InThreeBlocks}
+use Rattle.file_store.proofs.Common.{inr, arith, subst, sym, InThreeBlocks}
 use Rattle.file_store.proofs.Several.{node_edits_fit, node_touched, touches_most}
 use Rattle.file_store.proofs.committing.touch_node.Goals as goal
 

@@ -1,15 +1,8 @@
-use Rattle.std.proofs.Common.{◌≡◌, refl, sym, subst}
-use Rattle.std.proofs.lemmas.Result.{err_from_is_err_and}
-use Rattle.rio_model.specs.Held.{held_of}
-use Rattle.rio_model.specs.Paths.{names_of, walk}
+use Rattle.file_store.proofs.Common.{◌≡◌, refl, sym, subst, err_from_is_err_and, held_of, names_of, walk, answered, ◌then◌, file_bytes, NoneDone}
 use Rattle.rio_requests.specs.declared.reply.Reply.TheVariants.{Bytes}
-use Rattle.rio_requests.specs.Answer.{answered}
 use Rattle.rio_model.specs.States.{bytes_from}
 use Rattle.std.specs.Prelude.{drop, take}
-use Rattle.rio_base.specs.Rules.{◌then◌}
-use Rattle.file_pages.specs.Files.{file_bytes}
 use Rattle.rio_requests.specs.Answers.{read as read_of}
-use Rattle.rio_requests.specs.Parts.{NoneDone}
 use Rattle.file_store.specs.Ends.{SaysBytes}
 use Rattle.file_store.proofs.AnsweredAt.{ends_answered, ends_look, fails_file, fails_read, read_answer}
 use Rattle.file_store.proofs.CallEnds.{after_well, ends_ok, ends_on, ends_read, well, well_read}

@@ -1,19 +1,8 @@
-use Rattle.std.proofs.Common.{◌≡◌, Ok, refl, sym, subst}
-use Rattle.std.proofs.lemmas.Result.{err_from_is_err_and}
-use Rattle.rio_base.specs.Rules.{◌then◌}
-use Rattle.rio_model.specs.Held.{held_of}
-use Rattle.rio_model.specs.Paths.{names_of, walk}
-use Rattle.rio_model.specs.VolumeReads.{ReadsAs}
+use Rattle.file_store.proofs.Common.{◌≡◌, refl, sym, subst, err_from_is_err_and, ◌then◌, held_of, names_of, walk, ReadsAs, File, answered, with_node, resized, with_size, NoneDone, volume_layout, Forgets}
+use Rattle.std.proofs.Common.{Ok}
 use Rattle.rio_requests.specs.declared.reply.Reply.TheVariants.{Ok as Done}
-use Rattle.rio_model.specs.declared.node.Node.TheVariants.{File}
-use Rattle.rio_requests.specs.Answer.{answered}
-use Rattle.rio_model.specs.States.{with_node}
-use Rattle.rio_model.specs.FileParts.{resized}
 use Rattle.std.specs.Prelude.{length}
-use Rattle.rio_requests.specs.Answers.{truncate as truncate_of, with_size}
-use Rattle.rio_requests.specs.Parts.{NoneDone}
-use Rattle.rio_model.specs.Placed.{volume_layout}
-use Rattle.file_pages.specs.Forgetting.{Forgets}
+use Rattle.rio_requests.specs.Answers.{truncate as truncate_of}
 use Rattle.file_store.specs.Ends.{SaysDone}
 use Rattle.file_store.proofs.AnsweredAt.{ends_after, ends_look, fails_file, size_ends_err, size_ends_ok}
 use Rattle.file_store.proofs.CallEnds.{after_well, ends_ok, ends_on, ends_size, well, well_size}

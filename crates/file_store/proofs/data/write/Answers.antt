@@ -1,11 +1,6 @@
-use Rattle.std.proofs.Common.{◌≡◌, Ok, refl, sym, subst, inl}
-use Rattle.std.proofs.lemmas.Result.{err_from_is_err_and}
-use Rattle.rio_base.specs.Rules.{◌then◌}
-use Rattle.rio_model.specs.Held.{held_of}
-use Rattle.rio_model.specs.Paths.{names_of, walk}
-use Rattle.rio_model.specs.VolumeReads.{ReadsAs}
+use Rattle.file_store.proofs.Common.{◌≡◌, refl, sym, subst, inl, err_from_is_err_and, ◌then◌, held_of, names_of, walk, ReadsAs, WriteDone}
+use Rattle.std.proofs.Common.{Ok}
 use Rattle.rio_requests.specs.Answers.{write as write_of, write_file}
-use Rattle.rio_requests.specs.Parts.{WriteDone}
 use Rattle.file_store.specs.Ends.{SaysCount}
 use Rattle.file_store.proofs.AnsweredAt.{ends_after, ends_look, fails_file, write_ends_err, write_ends_ok}
 use Rattle.file_store.proofs.CallEnds.{after_well, ends_ok, ends_on, ends_write, well, well_write}

@@ -1,14 +1,6 @@
-use Rattle.std.proofs.Common.{◌≡◌, refl, sym, subst}
-use Rattle.std.proofs.lemmas.Result.{err_from_is_err_and}
-use Rattle.rio_model.specs.Held.{held_of}
-use Rattle.rio_model.specs.Paths.{names_of, walk_to_dir}
+use Rattle.file_store.proofs.Common.{◌≡◌, refl, sym, subst, err_from_is_err_and, held_of, names_of, walk_to_dir, answered, names_in, ◌then◌, ListsNames, NoneDone}
 use Rattle.rio_requests.specs.declared.reply.Reply.TheVariants.{Names as NamesOf}
-use Rattle.rio_requests.specs.Answer.{answered}
-use Rattle.rio_model.specs.States.{names_in}
-use Rattle.rio_base.specs.Rules.{◌then◌}
-use Rattle.directories.specs.Rows.{ListsNames}
 use Rattle.rio_requests.specs.Answers.{list as list_of}
-use Rattle.rio_requests.specs.Parts.{NoneDone}
 use Rattle.file_store.specs.Ends.{SaysNames}
 use Rattle.file_store.proofs.AnsweredAt.{ends_answered, ends_look, fails_read, fails_walk, list_answer}
 use Rattle.file_store.proofs.CallEnds.{after_well, ends_ok, ends_on, ends_read, well, well_read}

@@ -1,8 +1,5 @@
-use Rattle.std.proofs.Common.{◌*◌, arith, refl, ap, ◌∙◌}
-use Rattle.std.proofs.lemmas.Result.{err_from_is_err_and}
-use Rattle.rio_base.specs.Blocks.{BlockWords}
-use Rattle.rio_base.specs.Rules.{looks_trans}
-use Rattle.file_pages.specs.LookingUpRules.{can_look_up, named_on}
+use Rattle.file_store.proofs.Common.{◌*◌, arith, refl, ap, ◌∙◌, err_from_is_err_and, BlockWords, looks_trans, can_look_up}
+use Rattle.file_pages.proofs.LookingUpRules.{named_on}
 use Rattle.file_store.proofs.CallEnds.{after_well, ends_ok, ends_vol, well_vol}
 use Rattle.file_store.proofs.RegionHeader.{has_header, header_block, header_name, header_named, header_shape, header_small, header_word}
 use Rattle.file_store.proofs.Unchanged.{can_again, leaves_read}

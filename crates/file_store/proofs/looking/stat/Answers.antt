@@ -1,19 +1,12 @@
-use Rattle.std.proofs.Common.{◌≡◌, ◌*◌, ◌<◌, refl, sym, subst, ◌∙◌}
-use Rattle.std.proofs.lemmas.Result.{err_from_is_err_and}
-use Rattle.rio_base.specs.Rules.{◌then◌}
-use Rattle.rio_model.specs.Held.{held_of}
-use Rattle.rio_model.specs.Paths.{names_of, walk}
+use Rattle.file_store.proofs.Common.{◌≡◌, ◌*◌, ◌<◌, refl, sym, subst, ◌∙◌, err_from_is_err_and, ◌then◌, held_of, names_of, walk, IsInode, NoneDone, get}
 use Rattle.rio_requests.specs.declared.reply.Reply.TheVariants.{Stat}
-use Rattle.inode_table.specs.Inodes.{IsInode}
 use Rattle.rio_requests.specs.Answers.{stat as stat_of, stat_node}
-use Rattle.rio_requests.specs.Parts.{NoneDone}
 use Rattle.file_store.specs.Ends.{SaysStat}
 use Rattle.file_store.proofs.AnsweredAt.{ends_answered, ends_look, fails_unrefused, fails_walk}
 use Rattle.file_store.proofs.CallEnds.{after_well, ends_ok, ends_on, well}
 use Rattle.file_store.proofs.LookedAt.{inode_kind_held}
 use Rattle.file_store.proofs.StatAnswered.{stat_answer}
 use Rattle.file_store.proofs.Unchanged.{leaves_then}
-use Rattle.std.specs.FinMap.{get}
 use Rattle.file_store.proofs.looking.stat.Goals as goal
 
 pub returns-in_err-i-clause-leaves : goal.returns-in_err-i-clause-leaves

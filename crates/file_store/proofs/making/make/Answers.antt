@@ -1,17 +1,6 @@
-use Rattle.std.proofs.Common.{◌≡◌, ℕ, le_refl, refl, sym, ap, subst}
-use Rattle.std.specs.Prelude.{OnOk}
-use Rattle.std.proofs.lemmas.Result.{err_from_is_err_and}
-use Rattle.rio_base.specs.Rules.{◌then◌, ends_by_well}
+use Rattle.file_store.proofs.Common.{◌≡◌, ℕ, le_refl, refl, sym, ap, subst, OnOk, err_from_is_err_and, ◌then◌, ends_by_well, held_of, names_of, volume_layout, ReadsAs, HasRow, Forgets, leaves_refl, empty_node, NoneDone}
 use Rattle.rio_model.specs.States.{least_free as least_of}
-use Rattle.rio_model.specs.Held.{held_of}
-use Rattle.rio_model.specs.Paths.{names_of}
-use Rattle.rio_model.specs.Placed.{volume_layout}
-use Rattle.rio_model.specs.VolumeReads.{ReadsAs}
-use Rattle.directories.specs.Rows.{HasRow}
-use Rattle.file_pages.specs.Forgetting.{Forgets}
-use Rattle.file_pages.specs.OrderRules.{leaves_refl}
-use Rattle.rio_requests.specs.Answers.{empty_node, make as make_of, make_new as make_new_of}
-use Rattle.rio_requests.specs.Parts.{NoneDone}
+use Rattle.rio_requests.specs.Answers.{make as make_of, make_new as make_new_of}
 use Rattle.file_store.specs.Ends.{SaysIno}
 use Rattle.file_store.specs.declared.failures.FileFail.TheVariants.{Refused}
 use Rattle.file_store.proofs.AnsweredAt.{ends_after, ends_look}

@@ -1,13 +1,5 @@
-use Rattle.std.proofs.Common.{[], ◌∷◌, refl, ap, ◌∙◌, arith}
-use Rattle.std.proofs.lemmas.Result.{err_from_is_err_and}
-use Rattle.std.specs.Prelude.{Some}
-use Rattle.rio_base.specs.Rules.{◌then◌}
-use Rattle.rio_requests.specs.Answer.{answered}
-use Rattle.rio_model.specs.States.{with_new}
-use Rattle.rio_requests.specs.declared.reply.Reply.TheVariants.{Number}
-use Rattle.rio_requests.specs.Answers.{empty_node, make_new}
+use Rattle.file_store.proofs.Common.{[], ◌∷◌, refl, ap, ◌∙◌, arith, err_from_is_err_and, Some, ◌then◌, answered, with_new, Number, empty_node, make_new, NoneDone}
 use Rattle.file_store.specs.Changes.{of_dir}
-use Rattle.rio_requests.specs.Parts.{NoneDone}
 use Rattle.file_store.specs.Ends.{SaysNumber}
 use Rattle.file_store.specs.declared.failures.FileFail.TheVariants.{Memory}
 use Rattle.file_store.proofs.AnsweredAt.{ends_look}

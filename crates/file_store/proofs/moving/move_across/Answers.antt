@@ -1,18 +1,7 @@
-use Rattle.std.proofs.Common.{◌≡◌, ◌≤◌, ◌+◌, ◌∙◌, ℕ, [], ◌∷◌, refl, sym, ap, subst, arith}
-use Rattle.std.proofs.lemmas.Result.{err_from_is_err_and}
-use Rattle.rio_base.specs.Rules.{◌then◌}
-use Rattle.rio_model.specs.Held.{Held}
-use Rattle.rio_model.specs.Placed.{volume_layout}
-use Rattle.rio_model.specs.Sizes.{largest_size}
-use Rattle.rio_model.specs.VolumeReadRules.{reads_agree}
-use Rattle.rio_model.specs.VolumeReady.{LeavesInUse}
-use Rattle.rio_model.specs.VolumeRules.{EntryRule}
+use Rattle.file_store.proofs.Common.{◌≡◌, ◌≤◌, ◌+◌, ◌∙◌, ℕ, [], ◌∷◌, refl, sym, ap, subst, arith, err_from_is_err_and, ◌then◌, Held, volume_layout, largest_size, reads_agree, LeavesInUse, EntryRule, leaves_trans, ready_left, HasRow, moved, NoneDone}
 use Rattle.rio_requests.specs.declared.reply.Reply.TheVariants.{Ok as Done}
-use Rattle.file_pages.specs.OrderRules.{leaves_trans, ready_left}
-use Rattle.directories.specs.Rows.{HasRow}
-use Rattle.rio_requests.specs.Answers.{moved, move_row as move_row_of}
+use Rattle.rio_requests.specs.Answers.{move_row as move_row_of}
 use Rattle.file_store.specs.Changes.{of_dir}
-use Rattle.rio_requests.specs.Parts.{NoneDone}
 use Rattle.file_store.specs.Ends.{SaysDone}
 use Rattle.file_store.specs.declared.failures.FileFail.TheVariants.{Memory}
 use Rattle.file_store.proofs.AnsweredAt.{ends_look, fails_read}

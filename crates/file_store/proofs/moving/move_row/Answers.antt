@@ -1,8 +1,5 @@
-use Rattle.std.proofs.Common.{sym, subst}
-use Rattle.rio_model.specs.Held.{held_of}
-use Rattle.directories.specs.Rows.{HasRow}
+use Rattle.file_store.proofs.Common.{sym, subst, held_of, HasRow, NoneDone}
 use Rattle.rio_requests.specs.Answers.{move_row as move_row_of}
-use Rattle.rio_requests.specs.Parts.{NoneDone}
 use Rattle.file_store.specs.Ends.{FileEnds, SaysDone}
 use Rattle.file_store.specs.WalkRules.{OutOfReach}
 use Rattle.file_store.proofs.moving.move_row.Goals as goal

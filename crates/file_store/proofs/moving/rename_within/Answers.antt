@@ -1,13 +1,7 @@
-use Rattle.std.proofs.Common.{◌∙◌, [], ◌∷◌, refl, ap, arith}
-use Rattle.std.proofs.lemmas.Result.{err_from_is_err_and}
-use Rattle.rio_base.specs.Rules.{◌then◌}
-use Rattle.rio_model.specs.Held.{entry_ino, held_of}
-use Rattle.rio_model.specs.Placed.{volume_layout}
-use Rattle.rio_model.specs.VolumeReady.{LeavesInUse}
+use Rattle.file_store.proofs.Common.{◌∙◌, [], ◌∷◌, refl, ap, arith, err_from_is_err_and, ◌then◌, entry_ino, held_of, volume_layout, LeavesInUse, moved, NoneDone}
 use Rattle.rio_requests.specs.declared.reply.Reply.TheVariants.{Ok as Done}
-use Rattle.rio_requests.specs.Answers.{moved, move_row as move_row_of}
+use Rattle.rio_requests.specs.Answers.{move_row as move_row_of}
 use Rattle.file_store.specs.Changes.{of_dir}
-use Rattle.rio_requests.specs.Parts.{NoneDone}
 use Rattle.file_store.specs.Ends.{SaysDone}
 use Rattle.file_store.specs.declared.failures.FileFail.TheVariants.{Memory}
 use Rattle.file_store.proofs.AnsweredAt.{ends_look, fails_read}

@@ -1,18 +1,6 @@
-use Rattle.std.proofs.Common.{◌≡◌, ◌≢◌, inl, inr, ◌∙◌, refl, sym, subst}
-use Rattle.std.specs.Prelude.{OnOk}
-use Rattle.std.proofs.lemmas.Result.{err_from_is_err_and}
-use Rattle.rio_base.specs.Rules.{◌then◌}
-use Rattle.rio_requests.specs.Answer.{answered}
-use Rattle.rio_model.specs.Held.{held_of}
-use Rattle.rio_model.specs.Placed.{volume_layout}
-use Rattle.rio_model.specs.VolumeReads.{ReadsAs}
-use Rattle.rio_model.specs.VolumeReady.{LeavesInUse}
+use Rattle.file_store.proofs.Common.{◌≡◌, ◌≢◌, inl, inr, ◌∙◌, refl, sym, subst, OnOk, err_from_is_err_and, ◌then◌, answered, held_of, volume_layout, ReadsAs, LeavesInUse, IsInode, leaves_refl, replaced, NoneDone, Forgets}
 use Rattle.rio_requests.specs.declared.reply.Reply.TheVariants.{Ok as Done}
-use Rattle.inode_table.specs.Inodes.{IsInode}
-use Rattle.file_pages.specs.OrderRules.{leaves_refl}
-use Rattle.rio_requests.specs.Answers.{replaced, replace_row as replace_row_of}
-use Rattle.rio_requests.specs.Parts.{NoneDone}
-use Rattle.file_pages.specs.Forgetting.{Forgets}
+use Rattle.rio_requests.specs.Answers.{replace_row as replace_row_of}
 use Rattle.file_store.specs.Ends.{SaysDone}
 use Rattle.file_store.specs.Walks.{IsRow, ino_numbers}
 use Rattle.file_store.proofs.AnsweredAt.{ends_answered, ends_look, fails_unrefused}

@@ -1,16 +1,6 @@
-use Rattle.std.proofs.Common.{◌∙◌, [], ◌∷◌, refl, sym, ap, subst, arith}
-use Rattle.std.proofs.lemmas.Result.{err_from_is_err_and}
-use Rattle.rio_base.specs.Rules.{◌then◌}
-use Rattle.rio_requests.specs.Answer.{answered}
-use Rattle.rio_model.specs.Held.{HasEntry, entry_ino, held_of}
-use Rattle.rio_model.specs.Placed.{volume_layout}
-use Rattle.rio_model.specs.VolumeReady.{LeavesInUse, Ready}
+use Rattle.file_store.proofs.Common.{◌∙◌, [], ◌∷◌, refl, sym, ap, subst, arith, err_from_is_err_and, ◌then◌, answered, HasEntry, entry_ino, held_of, volume_layout, LeavesInUse, Ready, can_look_up, leaves_looked, leaves_trans, ready_left, replaced, NoneDone}
 use Rattle.rio_requests.specs.declared.reply.Reply.TheVariants.{Ok as Done}
-use Rattle.file_pages.specs.LookingUpRules.{can_look_up}
-use Rattle.file_pages.specs.OrderRules.{leaves_looked, leaves_trans, ready_left}
-use Rattle.rio_requests.specs.Answers.{replaced}
 use Rattle.file_store.specs.Changes.{of_dir}
-use Rattle.rio_requests.specs.Parts.{NoneDone}
 use Rattle.file_store.specs.Ends.{SaysDone}
 use Rattle.file_store.specs.declared.failures.FileFail.TheVariants.{Memory}
 use Rattle.file_store.proofs.AnsweredAt.{ends_look, fails_read}

@@ -1,6 +1,5 @@
-use Rattle.std.proofs.Common.{◌+◌, ◌∙◌, subst, sym}
+use Rattle.file_store.proofs.Common.{◌+◌, ◌∙◌, subst, sym, IsName}
 use Rattle.std.proofs.lemmas.List.{take_rest}
-use Rattle.rio_model.specs.Paths.{IsName}
 use Rattle.file_store.proofs.PathNames.{cut_front, cut_name, cut_place, last_named}
 use Rattle.file_store.proofs.paths.cut_last.Goals as goal
 

@@ -1,4 +1,4 @@
-use Rattle.std.proofs.Common.{sym}
+use Rattle.file_store.proofs.Common.{sym}
 use Rattle.file_store.proofs.BelowPaths.{below_other, below_short, below_slash}
 use Rattle.file_store.proofs.paths.is_below.Goals as goal
 

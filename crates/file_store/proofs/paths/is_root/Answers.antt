@@ -1,5 +1,4 @@
-use Rattle.std.proofs.Common.{arith}
-use Rattle.std.proofs.lemmas.Bool.Decides.{nat_tests}
+use Rattle.file_store.proofs.Common.{arith, nat_tests}
 use Rattle.file_store.proofs.PathNames.{root_long, root_short}
 use Rattle.file_store.proofs.paths.is_root.Goals as goal
 

@@ -1,5 +1,4 @@
-use Rattle.file_pages.specs.LookingUpRules.{can_look_up}
-use Rattle.file_pages.specs.OrderRules.{leaves_looked, ready_left}
+use Rattle.file_store.proofs.Common.{can_look_up, leaves_looked, ready_left}
 use Rattle.file_store.proofs.RegionPlaces.{direct_page, page_owned}
 use Rattle.file_store.proofs.region_pages.page_block.Goals as goal
 

@@ -1,4 +1,4 @@
-use Rattle.std.proofs.Common.{arith}
+use Rattle.file_store.proofs.Common.{arith}
 use Rattle.file_store.proofs.RegionPlaces.{can_name, page_below, page_looked}
 use Rattle.file_store.proofs.region_pages.read_word.Goals as goal
 

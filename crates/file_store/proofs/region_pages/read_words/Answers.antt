@@ -1,5 +1,4 @@
-use Rattle.std.proofs.Common.{subst, sym}
-use Rattle.inode_table.specs.Inodes.{IsInode}
+use Rattle.file_store.proofs.Common.{subst, sym, IsInode}
 use Rattle.file_store.proofs.region_pages.read_words.Goals as goal
 
 pub read_more-requires-clause-inode : goal.read_more-requires-clause-inode

@@ -1,7 +1,5 @@
-use Rattle.std.proofs.Common.{length, ◌-◌, ◌≡◌, ◌≤◌}
+use Rattle.file_store.proofs.Common.{length, ◌-◌, ◌≡◌, ◌≤◌, held_of, Ready}
 use Rattle.rio_base.specs.Regions.{AreWords}
-use Rattle.rio_model.specs.Held.{held_of}
-use Rattle.rio_model.specs.VolumeReady.{Ready}
 use Rattle.file_store.proofs.region_pages.read_words.Given as goal
 
 -- the first words are read

@@ -1,5 +1,4 @@
-use Rattle.std.proofs.Common.{◌<◌, subst, sym, arith}
-use Rattle.file_pages.specs.OrderRules.{ready_left}
+use Rattle.file_store.proofs.Common.{◌<◌, subst, sym, arith, ready_left}
 use Rattle.file_store.proofs.LookedAt.{leaves_inode}
 use Rattle.file_store.proofs.region_pages.region_inode.Goals as goal
 

@@ -1,6 +1,4 @@
-use Rattle.std.proofs.Common.{◌≡◌, ◌<◌, length, le_refl, refl, subst, sym}
-use Rattle.rio_base.specs.Regions.{put_words}
-use Rattle.rio_model.specs.Held.{held_of}
+use Rattle.file_store.proofs.Common.{◌≡◌, ◌<◌, length, le_refl, refl, subst, sym, put_words, held_of}
 use Rattle.file_store.proofs.RegionParts.{front_of_part, part_done, part_told}
 use Rattle.file_store.proofs.RunEnds.{ends_fault, ends_stop, fault_told}
 use Rattle.file_store.proofs.region_pages.store_page.Goals as goal

@@ -1,5 +1,4 @@
-use Rattle.std.proofs.Common.{length, le_refl, refl, arith}
-use Rattle.rio_base.specs.Rules.{◌then◌}
+use Rattle.file_store.proofs.Common.{length, le_refl, refl, arith, ◌then◌}
 use Rattle.file_store.proofs.RegionPlaces.{held_none, many_front, many_put, many_same_but, page_done, rest_by}
 use Rattle.file_store.proofs.RunEnds.{fault_as, ok_as}
 use Rattle.file_store.proofs.region_pages.store_part.Goals as goal

@@ -1,5 +1,4 @@
-use Rattle.std.proofs.Common.{refl}
-use Rattle.rio_base.specs.Rules.{◌then◌}
+use Rattle.file_store.proofs.Common.{refl, ◌then◌}
 use Rattle.file_store.proofs.RegionPlaces.{one_either, one_put, one_same_but, page_done, rest_by}
 use Rattle.file_store.proofs.RunEnds.{ok_as}
 use Rattle.file_store.proofs.region_pages.store_word.Goals as goal

@@ -1,8 +1,4 @@
-use Rattle.std.proofs.Common.{length, ◌-◌, ◌≡◌, ◌≤◌}
-use Rattle.rio_base.specs.Regions.{put_words}
-use Rattle.rio_base.specs.Volume.{Goes}
-use Rattle.rio_model.specs.Held.{held_of}
-use Rattle.rio_model.specs.VolumeReady.{Ready}
+use Rattle.file_store.proofs.Common.{length, ◌-◌, ◌≡◌, ◌≤◌, put_words, Goes, held_of, Ready}
 use Rattle.file_store.specs.Views.{RestHeld}
 use Rattle.file_store.proofs.region_pages.store_words.Given as goal
 

@@ -1,4 +1,4 @@
-use Rattle.rio_fakes.specs.ListVolumes.{ListSound, list_kept, list_seen}
+use Rattle.file_store.proofs.Common.{ListSound, list_kept, list_seen}
 use Rattle.file_store.specs.Ends.{CanServe}
 use Rattle.file_store.proofs.region_tests.are_zero.Given as goal
 

@@ -1,6 +1,6 @@
 use Rattle.rio_requests.specs.Answers.{make_region as make_region_of}
-use Rattle.file_store.specs.EndRules.{can_after}
-use Rattle.rio_requests.specs.Parts.{NoneDone}
+use Rattle.file_store.proofs.EndRules.{can_after}
+use Rattle.file_store.proofs.Common.{NoneDone}
 use Rattle.file_store.specs.Ends.{SaysIno}
 use Rattle.file_store.proofs.TestEnds.{answered_goes, failed_so, start_after}
 use Rattle.file_store.proofs.region_tests.make_one.Goals as goal

@@ -1,5 +1,4 @@
-use Rattle.std.proofs.Common.{◌∙◌, ap}
-use Rattle.std.specs.Prelude.{Err}
+use Rattle.file_store.proofs.Common.{◌∙◌, ap, Err}
 use Rattle.file_store.proofs.region_tests.make_or_start.Goals as goal
 
 pub start_again-requires-clause-start : goal.start_again-requires-clause-start

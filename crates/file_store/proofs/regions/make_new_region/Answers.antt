@@ -1,19 +1,7 @@
-use Rattle.std.proofs.Common.{◌≡◌, ℕ, refl, sym, ap, subst}
-use Rattle.std.proofs.lemmas.Result.{err_from_is_err_and}
-use Rattle.std.specs.Prelude.{Ok, None, Some}
-use Rattle.rio_base.specs.Layout.{inode_kind}
-use Rattle.rio_base.specs.Rules.{◌then◌}
-use Rattle.rio_model.specs.declared.node.Node.TheVariants.{Region}
+use Rattle.file_store.proofs.Common.{◌≡◌, ℕ, refl, sym, ap, subst, err_from_is_err_and, Ok, None, Some, inode_kind, ◌then◌, Region, held_of, volume_layout, ReadsAs, LeavesInUse, HasRow, new_region, NoneDone, Forgets}
 use Rattle.rio_model.specs.States.{least_free as least_of}
-use Rattle.rio_model.specs.Held.{held_of}
-use Rattle.rio_model.specs.Placed.{volume_layout}
-use Rattle.rio_model.specs.VolumeReads.{ReadsAs}
-use Rattle.rio_model.specs.VolumeReady.{LeavesInUse}
 use Rattle.inode_table.specs.Inodes.{FindsFree}
-use Rattle.directories.specs.Rows.{HasRow}
-use Rattle.rio_requests.specs.Answers.{make_new as make_new_of, new_region}
-use Rattle.rio_requests.specs.Parts.{NoneDone}
-use Rattle.file_pages.specs.Forgetting.{Forgets}
+use Rattle.rio_requests.specs.Answers.{make_new as make_new_of}
 use Rattle.file_store.specs.Ends.{SaysIno, SaysNumber}
 use Rattle.file_store.specs.declared.failures.FileFail.TheVariants.{Refused}
 use Rattle.file_store.proofs.AnsweredAt.{ends_after, ends_look}

@@ -1,16 +1,4 @@
-use Rattle.std.proofs.Common.{[], ◌∷◌, refl, ap, ◌∙◌, arith}
-use Rattle.std.proofs.lemmas.Result.{err_from_is_err_and}
-use Rattle.std.specs.Prelude.{Some}
-use Rattle.rio_base.specs.Rules.{◌then◌}
-use Rattle.rio_model.specs.declared.node.Node.TheVariants.{Region}
-use Rattle.rio_model.specs.declared.state.State.{State}
-use Rattle.rio_model.specs.States.{with_new}
-use Rattle.rio_model.specs.Placed.{volume_layout}
-use Rattle.rio_model.specs.VolumeReady.{LeavesInUse}
-use Rattle.file_pages.specs.OrderRules.{leaves_trans, ready_left}
-use Rattle.rio_requests.specs.Answers.{make_new, new_region}
-use Rattle.rio_requests.specs.Parts.{NoneDone}
-use Rattle.rio_requests.specs.declared.reply.Reply.TheVariants.{Number}
+use Rattle.file_store.proofs.Common.{[], ◌∷◌, refl, ap, ◌∙◌, arith, err_from_is_err_and, Some, ◌then◌, Region, State, with_new, volume_layout, LeavesInUse, leaves_trans, ready_left, make_new, new_region, NoneDone, Number}
 use Rattle.file_store.specs.Changes.{of_dir}
 use Rattle.file_store.specs.Ends.{SaysNumber}
 use Rattle.file_store.specs.declared.failures.FileFail.TheVariants.{Memory}

@@ -1,8 +1,4 @@
-use Rattle.std.proofs.Common.{sym, subst}
-use Rattle.std.specs.List.{Contains}
-use Rattle.rio_base.specs.Rules.{◌then◌}
-use Rattle.block_alloc.specs.Bitmap.{numbers}
-use Rattle.rio_model.specs.Placed.{AtPage, IsFree, volume_layout}
+use Rattle.file_store.proofs.Common.{sym, subst, Contains, ◌then◌, numbers, AtPage, IsFree, volume_layout}
 use Rattle.file_store.proofs.RegionPlanned.{PutsHeader, TakesRegion, are_beside, are_free, first_page, header_at, header_named, header_place, plans_region, put_leaves, put_spares}
 use Rattle.file_store.proofs.regions.plan_region.Goals as goal
 

@@ -1,4 +1,4 @@
-use Rattle.std.proofs.lemmas.Result.{err_from_is_err_and}
+use Rattle.file_store.proofs.Common.{err_from_is_err_and}
 use Rattle.file_store.proofs.CallEnds.{ends_ok, ends_on, well}
 use Rattle.file_store.proofs.RegionFound.{found_on, memory_on}
 use Rattle.file_store.proofs.regions.region_of.Goals as goal

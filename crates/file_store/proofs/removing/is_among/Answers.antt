@@ -1,5 +1,4 @@
-use Rattle.std.proofs.Common.{◌≡◌, ◌∙◌, sym, ap, arith, inl, inr}
-use Rattle.std.specs.Prelude.{slice_index}
+use Rattle.file_store.proofs.Common.{◌≡◌, ◌∙◌, sym, ap, arith, inl, inr, slice_index}
 use Rattle.std.proofs.lemmas.Bool.{cases_lt}
 use Rattle.file_store.specs.Walks.{ino_numbers}
 use Rattle.file_store.proofs.AmongInodes.{among_at, among_none, number_at}

@@ -1,5 +1,4 @@
-use Rattle.std.proofs.Common.{ℕ, ◌≢◌, ◌<◌}
-use Rattle.std.specs.Prelude.{slice_index}
+use Rattle.file_store.proofs.Common.{ℕ, ◌≢◌, ◌<◌, slice_index}
 use Rattle.file_store.specs.Walks.{ino_numbers}
 use Rattle.file_store.proofs.removing.is_among.Given as goal
 

@@ -1,20 +1,6 @@
-use Rattle.std.proofs.Common.{◌≡◌, ◌<◌, ◌∙◌, le_refl, refl, sym, ap, subst}
-use Rattle.std.specs.Prelude.{OnOk}
-use Rattle.std.proofs.lemmas.Result.{err_from_is_err_and}
-use Rattle.rio_base.specs.Rules.{◌then◌, ends_by_well}
+use Rattle.file_store.proofs.Common.{◌≡◌, ◌<◌, ◌∙◌, le_refl, refl, sym, ap, subst, OnOk, err_from_is_err_and, ◌then◌, ends_by_well, answered, last_of, held_of, names_of, volume_layout, ReadsAs, LeavesInUse, IsInode, leaves_refl, without, NoneDone, Forgets}
 use Rattle.rio_requests.specs.declared.reply.Reply.TheVariants.{Ok as Done}
-use Rattle.rio_requests.specs.Answer.{answered}
-use Rattle.rio_model.specs.States.{last_of}
-use Rattle.rio_model.specs.Held.{held_of}
-use Rattle.rio_model.specs.Paths.{names_of}
-use Rattle.rio_model.specs.Placed.{volume_layout}
-use Rattle.rio_model.specs.VolumeReads.{ReadsAs}
-use Rattle.rio_model.specs.VolumeReady.{LeavesInUse}
-use Rattle.inode_table.specs.Inodes.{IsInode}
-use Rattle.file_pages.specs.OrderRules.{leaves_refl}
-use Rattle.rio_requests.specs.Answers.{unlink as unlink_of, unlink_at, without}
-use Rattle.rio_requests.specs.Parts.{NoneDone}
-use Rattle.file_pages.specs.Forgetting.{Forgets}
+use Rattle.rio_requests.specs.Answers.{unlink as unlink_of, unlink_at}
 use Rattle.file_store.specs.Ends.{SaysDone}
 use Rattle.file_store.specs.Walks.{IsRow, ino_numbers}
 use Rattle.file_store.specs.declared.failures.FileFail.TheVariants.{Refused}

@@ -1,17 +1,6 @@
-use Rattle.std.proofs.Common.{◌≡◌, ◌<◌, ◌∙◌, refl, sym, ap, subst}
-use Rattle.std.specs.Prelude.{OnOk}
-use Rattle.std.specs.FinMap.{get}
-use Rattle.std.proofs.lemmas.Result.{err_from_is_err_and}
-use Rattle.rio_base.specs.Rules.{◌then◌}
-use Rattle.rio_model.specs.States.{last_of}
-use Rattle.rio_model.specs.Held.{held_of}
-use Rattle.rio_model.specs.Paths.{names_of, walk_to_dir as walk_to_dir_of}
-use Rattle.rio_model.specs.Placed.{volume_layout}
-use Rattle.rio_model.specs.VolumeReads.{ReadsAs}
-use Rattle.rio_model.specs.VolumeReady.{LeavesInUse}
+use Rattle.file_store.proofs.Common.{◌≡◌, ◌<◌, ◌∙◌, refl, sym, ap, subst, OnOk, get, err_from_is_err_and, ◌then◌, last_of, held_of, names_of, volume_layout, ReadsAs, LeavesInUse, NoneDone, Forgets}
+use Rattle.rio_model.specs.Paths.{walk_to_dir as walk_to_dir_of}
 use Rattle.rio_requests.specs.Answers.{rename as rename_of, rename_row as rename_row_of}
-use Rattle.rio_requests.specs.Parts.{NoneDone}
-use Rattle.file_pages.specs.Forgetting.{Forgets}
 use Rattle.file_store.specs.Ends.{SaysDone}
 use Rattle.file_store.specs.Walks.{IsRow, ino_numbers}
 use Rattle.file_store.proofs.AnsweredAt.{ends_look}

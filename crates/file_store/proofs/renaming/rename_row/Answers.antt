@@ -1,16 +1,5 @@
-use Rattle.std.proofs.Common.{◌≡◌, ◌<◌, List, ℕ, refl, sym, ap, subst}
-use Rattle.std.specs.Prelude.{None, OnOk, Some}
-use Rattle.std.specs.FinMap.{get}
-use Rattle.std.proofs.lemmas.Result.{err_from_is_err_and}
-use Rattle.rio_base.specs.Rules.{◌then◌}
-use Rattle.rio_model.specs.Held.{held_of}
-use Rattle.rio_model.specs.Placed.{volume_layout}
-use Rattle.rio_model.specs.VolumeReads.{ReadsAs}
-use Rattle.rio_model.specs.VolumeReady.{LeavesInUse}
-use Rattle.directories.specs.Rows.{Finds, HasRow, IsEntry}
+use Rattle.file_store.proofs.Common.{◌≡◌, ◌<◌, List, ℕ, refl, sym, ap, subst, None, OnOk, Some, get, err_from_is_err_and, ◌then◌, held_of, volume_layout, ReadsAs, LeavesInUse, Finds, HasRow, IsEntry, NoneDone, Forgets}
 use Rattle.rio_requests.specs.Answers.{rename_row as rename_row_of}
-use Rattle.rio_requests.specs.Parts.{NoneDone}
-use Rattle.file_pages.specs.Forgetting.{Forgets}
 use Rattle.file_store.specs.Ends.{SaysDone}
 use Rattle.file_store.specs.Walks.{IsRow, ino_numbers}
 use Rattle.file_store.proofs.AnsweredAt.{ends_look}

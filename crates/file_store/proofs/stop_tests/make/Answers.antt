@@ -1,6 +1,6 @@
 use Rattle.rio_requests.specs.Answers.{create as create_of}
-use Rattle.file_store.specs.EndRules.{can_after}
-use Rattle.rio_requests.specs.Parts.{NoneDone}
+use Rattle.file_store.proofs.EndRules.{can_after}
+use Rattle.file_store.proofs.Common.{NoneDone}
 use Rattle.file_store.specs.Ends.{SaysIno}
 use Rattle.file_store.proofs.TestEnds.{answered_goes, failed_so, start_after}
 use Rattle.file_store.proofs.stop_tests.make.Goals as goal

@@ -1,4 +1,4 @@
-use Rattle.std.proofs.lemmas.Result.{err_from_is_err_and}
+use Rattle.file_store.proofs.Common.{err_from_is_err_and}
 use Rattle.file_store.proofs.TestEnds.{stop_on}
 use Rattle.file_store.proofs.stop_tests.make_and_replace.Goals as goal
 

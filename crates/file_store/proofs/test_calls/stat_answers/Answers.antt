@@ -1,6 +1,6 @@
 use Rattle.rio_requests.specs.Answers.{stat as stat_of}
-use Rattle.file_store.specs.EndRules.{can_after}
-use Rattle.rio_requests.specs.Parts.{NoneDone}
+use Rattle.file_store.proofs.EndRules.{can_after}
+use Rattle.file_store.proofs.Common.{NoneDone}
 use Rattle.file_store.specs.Ends.{SaysStat}
 use Rattle.file_store.proofs.test_calls.stat_answers.Goals as goal
 

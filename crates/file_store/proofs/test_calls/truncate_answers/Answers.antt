@@ -1,6 +1,6 @@
 use Rattle.rio_requests.specs.Answers.{truncate as truncate_of}
-use Rattle.file_store.specs.EndRules.{can_after}
-use Rattle.rio_requests.specs.Parts.{NoneDone}
+use Rattle.file_store.proofs.EndRules.{can_after}
+use Rattle.file_store.proofs.Common.{NoneDone}
 use Rattle.file_store.specs.Ends.{SaysDone}
 use Rattle.file_store.proofs.test_calls.truncate_answers.Goals as goal
 

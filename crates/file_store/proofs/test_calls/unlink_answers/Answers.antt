@@ -1,6 +1,6 @@
 use Rattle.rio_requests.specs.Answers.{unlink as unlink_of}
-use Rattle.file_store.specs.EndRules.{can_after}
-use Rattle.rio_requests.specs.Parts.{NoneDone}
+use Rattle.file_store.proofs.EndRules.{can_after}
+use Rattle.file_store.proofs.Common.{NoneDone}
 use Rattle.file_store.specs.Ends.{SaysDone}
 use Rattle.file_store.specs.Walks.{ino_numbers}
 use Rattle.file_store.proofs.test_calls.unlink_answers.Goals as goal

@@ -1,6 +1,6 @@
 use Rattle.rio_requests.specs.Answers.{write as write_of}
-use Rattle.file_store.specs.EndRules.{can_after}
-use Rattle.rio_requests.specs.Parts.{WriteDone}
+use Rattle.file_store.proofs.EndRules.{can_after}
+use Rattle.file_store.proofs.Common.{WriteDone}
 use Rattle.file_store.specs.Ends.{SaysCount}
 use Rattle.file_store.proofs.test_calls.write_answers.Goals as goal
 

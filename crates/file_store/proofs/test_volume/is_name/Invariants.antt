@@ -1,5 +1,4 @@
-use Rattle.std.proofs.Common.{◌<◌, ℕ}
-use Rattle.std.specs.Prelude.{slice_index}
+use Rattle.file_store.proofs.Common.{◌<◌, ℕ, slice_index}
 use Rattle.rio_model.specs.Paths.{IsNameByte}
 use Rattle.file_store.proofs.test_volume.is_name.Given as goal
 

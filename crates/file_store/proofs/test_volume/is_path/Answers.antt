@@ -1,5 +1,4 @@
-use Rattle.std.proofs.Common.{◌≤◌, arith}
-use Rattle.std.proofs.lemmas.Bool.Decides.{nat_tests}
+use Rattle.file_store.proofs.Common.{◌≤◌, arith, nat_tests}
 use Rattle.file_store.proofs.TestPaths.{names_all, names_more, names_none}
 use Rattle.file_store.proofs.test_volume.is_path.Goals as goal
 

@@ -1,4 +1,4 @@
-use Rattle.std.proofs.Common.{◌-◌, ◌≤◌, length}
+use Rattle.file_store.proofs.Common.{◌-◌, ◌≤◌, length}
 use Rattle.file_store.proofs.TestPaths.{NamesTo}
 use Rattle.file_store.proofs.test_volume.is_path.Given as goal
 

@@ -1,4 +1,4 @@
-use Rattle.std.specs.Prelude.{None}
+use Rattle.file_store.proofs.Common.{None}
 use Rattle.file_store.proofs.FreshStore.{restarted}
 use Rattle.file_store.proofs.test_volume.start_again.Goals as goal
 

@@ -1,10 +1,4 @@
-use Rattle.std.proofs.Common.{◌≡◌, ◌%◌, ◌<◌, ◌≤◌, arith, ap, subst, sym, ◌∙◌}
-use Rattle.rio_fakes.specs.declared.list_volume.ListVolume.{ListVolume}
-use Rattle.rio_fakes.specs.ListVolumes.{list_kept, list_seen}
-use Rattle.rio_model.specs.Held.{held_of}
-use Rattle.rio_model.specs.Placed.{placed_at}
-use Rattle.rio_model.specs.VolumeReady.{Ready}
-use Rattle.file_pages.specs.OrderRules.{ready_left}
+use Rattle.file_store.proofs.Common.{◌≡◌, ◌%◌, ◌<◌, ◌≤◌, arith, ap, subst, sym, ◌∙◌, ListVolume, list_kept, list_seen, held_of, placed_at, Ready, ready_left}
 use Rattle.file_store.proofs.LookedAt.{leaves_inode}
 use Rattle.file_store.proofs.Reached.{kind_held}
 use Rattle.file_store.proofs.TestRegions.{WholePages, kind_held_put, kind_ready, whole_by}

@@ -1,9 +1,4 @@
-use Rattle.std.proofs.Common.{◌≡◌, ◌<◌, ap, sym, subst}
-use Rattle.std.proofs.lemmas.Result.{err_from_is_err_and}
-use Rattle.rio_base.specs.Rules.{◌then◌}
-use Rattle.rio_model.specs.Held.{held_of}
-use Rattle.rio_model.specs.Paths.{names_of, walk}
-use Rattle.inode_table.specs.Inodes.{IsInode}
+use Rattle.file_store.proofs.Common.{◌≡◌, ◌<◌, ap, sym, subst, err_from_is_err_and, ◌then◌, held_of, names_of, walk, IsInode}
 use Rattle.file_store.specs.Failures.{Refuses}
 use Rattle.file_store.specs.Walks.{ino_in}
 use Rattle.file_store.proofs.CallEnds.{after_well, ends_ok, ends_on, well}

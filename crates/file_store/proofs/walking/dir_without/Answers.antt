@@ -1,10 +1,4 @@
-use Rattle.std.proofs.Common.{◌≡◌, ap, sym, subst, ◌∙◌}
-use Rattle.std.proofs.lemmas.Result.{err_from_is_err_and}
-use Rattle.rio_base.specs.Rules.{◌then◌}
-use Rattle.rio_model.specs.Held.{held_of}
-use Rattle.rio_model.specs.Paths.{names_of}
-use Rattle.inode_table.specs.Inodes.{IsInode}
-use Rattle.directories.specs.Rows.{Finds}
+use Rattle.file_store.proofs.Common.{◌≡◌, ap, sym, subst, ◌∙◌, err_from_is_err_and, ◌then◌, held_of, names_of, IsInode, Finds}
 use Rattle.file_store.specs.Walks.{ino_in}
 use Rattle.file_store.proofs.AnsweredRows.{none_found}
 use Rattle.file_store.proofs.CallEnds.{after_well, ends_ok, ends_on, ends_refused, ends_vol, well, well_vol}

@@ -1,6 +1,4 @@
-use Rattle.std.proofs.lemmas.Result.{err_from_is_err_and}
-use Rattle.rio_model.specs.Placed.{volume_layout}
-use Rattle.rio_model.specs.VolumeReady.{LeavesInUse}
+use Rattle.file_store.proofs.Common.{err_from_is_err_and, volume_layout, LeavesInUse}
 use Rattle.file_store.proofs.CallEnds.{ends_vol}
 use Rattle.file_store.proofs.LookedAt.{leaves_inode}
 use Rattle.file_store.proofs.Unchanged.{can_again}

@@ -1,5 +1,4 @@
-use Rattle.std.proofs.Common.{refl, sym, ◌∙◌}
-use Rattle.std.proofs.lemmas.Result.{err_from_is_err_and}
+use Rattle.file_store.proofs.Common.{refl, sym, ◌∙◌, err_from_is_err_and}
 use Rattle.file_store.proofs.CallEnds.{ends_ok, ends_on, ends_refused, well}
 use Rattle.file_store.proofs.LookedAt.{inode_kind_held, unrefused_on}
 use Rattle.file_store.proofs.walking.must_be_dir.Goals as goal

@@ -1,9 +1,4 @@
-use Rattle.std.proofs.Common.{◌≡◌, ℕ, sym, subst}
-use Rattle.std.proofs.lemmas.Result.{err_from_is_err_and}
-use Rattle.rio_base.specs.Rules.{◌then◌}
-use Rattle.rio_model.specs.Held.{held_of}
-use Rattle.inode_table.specs.Inodes.{IsInode}
-use Rattle.directories.specs.Rows.{HasRow, IsEntry}
+use Rattle.file_store.proofs.Common.{◌≡◌, ℕ, sym, subst, err_from_is_err_and, ◌then◌, held_of, IsInode, HasRow, IsEntry}
 use Rattle.file_store.specs.Failures.{Refuses}
 use Rattle.file_store.proofs.CallEnds.{after_well, ends_ok, ends_on, well}
 use Rattle.file_store.proofs.LookedAt.{row_used, step_no_dir, step_no_row, step_taken}

@@ -1,9 +1,4 @@
-use Rattle.std.proofs.Common.{◌<◌, arith, refl, sym, subst, ◌∙◌}
-use Rattle.std.proofs.lemmas.Result.{err_from_is_err_and}
-use Rattle.rio_base.specs.Rules.{ends_by_well, goes_refl, ◌then◌}
-use Rattle.rio_model.specs.Held.{held_of}
-use Rattle.rio_model.specs.VolumeReads.{ReadsAs}
-use Rattle.file_pages.specs.OrderRules.{leaves_refl}
+use Rattle.file_store.proofs.Common.{◌<◌, arith, refl, sym, subst, ◌∙◌, err_from_is_err_and, ends_by_well, goes_refl, ◌then◌, held_of, ReadsAs, leaves_refl}
 use Rattle.file_store.proofs.CallEnds.{after_well, ends_ok, ends_on, well}
 use Rattle.file_store.proofs.LookedAt.{comes_same}
 use Rattle.file_store.proofs.Reached.{root_held}

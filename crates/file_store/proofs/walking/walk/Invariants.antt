@@ -1,12 +1,4 @@
-use Rattle.std.proofs.Common.{◌≡◌, ◌+◌, ◌-◌, ◌<◌, ◌≤◌, length}
-use Rattle.rio_base.specs.Blocks.{EndsBy}
-use Rattle.rio_base.specs.Volume.{Goes}
-use Rattle.rio_model.specs.Held.{held_of}
-use Rattle.rio_model.specs.Paths.{names_of, walk}
-use Rattle.rio_model.specs.Placed.{volume_layout}
-use Rattle.rio_model.specs.VolumeReads.{ReadsAs}
-use Rattle.rio_model.specs.VolumeReady.{LeavesInUse}
-use Rattle.rio_model.specs.declared.state.State.{State}
+use Rattle.file_store.proofs.Common.{◌≡◌, ◌+◌, ◌-◌, ◌<◌, ◌≤◌, length, EndsBy, Goes, held_of, names_of, walk, volume_layout, ReadsAs, LeavesInUse, State}
 use Rattle.file_store.specs.Ends.{CanServe}
 use Rattle.file_store.proofs.WalkedOn.{walk_left}
 use Rattle.file_store.proofs.walking.walk.Given as goal

@@ -1,5 +1,4 @@
-use Rattle.std.proofs.lemmas.Result.{err_from_is_err_and}
-use Rattle.rio_model.specs.Paths.{names_of, walk_to_dir}
+use Rattle.file_store.proofs.Common.{err_from_is_err_and, names_of, walk_to_dir}
 use Rattle.file_store.proofs.CallEnds.{ends_ok, ends_on, well}
 use Rattle.file_store.proofs.LookedAt.{comes_in}
 use Rattle.file_store.proofs.walking.walk_to_dir.Goals as goal

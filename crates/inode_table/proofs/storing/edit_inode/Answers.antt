@@ -1,6 +1,7 @@
 use Rattle.std.proofs.Common.{arith, refl, ◌∙◌, le_refl, le_trans}
-use Rattle.rio_base.specs.BlockRules.{shape_dropped}
-use Rattle.rio_base.specs.Rules.{drops_trans, firm_refl, firm_trans, goes_refl, goes_trans}
+use Rattle.rio_base.proofs.BlockRules.{shape_dropped}
+use Rattle.rio_base.proofs.Rules.{drops_trans}
+use Rattle.rio_base.specs.Rules.{firm_refl, firm_trans, goes_refl, goes_trans}
 use Rattle.rio_base.specs.Layout.{inode_block, inode_place}
 use Rattle.rio_base.proofs.VolumeRuns.{put_none}
 use Rattle.inode_table.specs.Inodes.{inode_words}

@@ -1,6 +1,5 @@
-use Rattle.std.proofs.Common.{subst}
-use Rattle.rio_model.specs.CoverChanges.{OnePage}
-use Rattle.rio_model.specs.CoverFills.{keeps_fill}
+use Rattle.page_cache.proofs.Common.{subst, OnePage}
+use Rattle.rio_model.proofs.CoverFills.{keeps_fill}
 use Rattle.page_cache.proofs.filling.fill.Goals as goal
 
 pub returns-in_err-store_page-clause-keeps : goal.returns-in_err-store_page-clause-keeps

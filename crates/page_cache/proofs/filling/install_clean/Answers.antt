@@ -1,6 +1,6 @@
 use Rattle.std.proofs.Common.{false}
-use Rattle.rio_model.specs.CoverFills.{keeps_begun, keeps_made}
-use Rattle.rio_model.specs.CoverSteps.{rest_stored}
+use Rattle.rio_model.proofs.CoverFills.{keeps_begun, keeps_made}
+use Rattle.rio_model.proofs.CoverSteps.{rest_stored}
 use Rattle.page_cache.proofs.Fills.{made_new}
 use Rattle.page_cache.proofs.filling.install_clean.Goals as goal
 

@@ -1,5 +1,5 @@
 use Rattle.std.proofs.Common.{◌≡◌, ℕ, true}
-use Rattle.frame_pool.specs.Pools.{is_pinned}
+use Rattle.page_cache.proofs.Common.{is_pinned}
 use Rattle.page_cache.specs.Caches.{SameTables}
 use Rattle.page_cache.specs.Updating.{SameButPins}
 use Rattle.page_cache.proofs.Pins.{ListedFrom}

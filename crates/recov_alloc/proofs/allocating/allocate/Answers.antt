@@ -1,9 +1,9 @@
 use Rattle.std.proofs.Common.{◌∙◌, ◌*◌, ◌/◌, ap, sym, subst, ℕ}
-use Rattle.rio_base.specs.RegionRules.{stays_trans}
+use Rattle.rio_base.proofs.RegionRules.{stays_trans}
 use Rattle.rio_model.specs.Undo.{live}
-use Rattle.rio_model.specs.UndoRules.{gains_covers}
+use Rattle.rio_model.proofs.UndoRules.{gains_covers}
 use Rattle.rio_model.specs.Heap.{Allocates, Finds, OfBlocks, touched_pages}
-use Rattle.rio_model.specs.HeapRules.{alone_added, blocks_added}
+use Rattle.rio_model.proofs.HeapRules.{alone_added, blocks_added}
 use Rattle.recov_alloc.proofs.Marks.{allocated}
 use Rattle.recov_alloc.proofs.allocating.allocate.Goals as goal
 

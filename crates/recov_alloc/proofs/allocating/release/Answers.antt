@@ -1,9 +1,9 @@
 use Rattle.std.proofs.Common.{◌∙◌, ◌+◌, ◌*◌, ◌/◌, ◌≤◌, ap, sym, subst, ℕ}
-use Rattle.rio_base.specs.RegionRules.{stays_trans}
+use Rattle.rio_base.proofs.RegionRules.{stays_trans}
 use Rattle.rio_model.specs.Undo.{live, taken, undo_records, undo_words}
-use Rattle.rio_model.specs.UndoRules.{gains_covers}
+use Rattle.rio_model.proofs.UndoRules.{gains_covers}
 use Rattle.rio_model.specs.Heap.{OfBlocks, Releases, touched_pages}
-use Rattle.rio_model.specs.HeapRules.{alone_removed, blocks_removed}
+use Rattle.rio_model.proofs.HeapRules.{alone_removed, blocks_removed}
 use Rattle.recov_alloc.specs.Extents.{BlockAt}
 use Rattle.recov_alloc.proofs.Marks.{released}
 use Rattle.recov_alloc.proofs.allocating.release.Goals as goal

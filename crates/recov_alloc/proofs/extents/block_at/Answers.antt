@@ -1,5 +1,5 @@
 use Rattle.std.proofs.Common.{arith, subst, ◌*◌, IfOk}
-use Rattle.rio_base.specs.RegionRules.{stays_trans}
+use Rattle.rio_base.proofs.RegionRules.{stays_trans}
 use Rattle.rio_model.specs.Undo.{live}
 use Rattle.recov_alloc.specs.Extents.{BlockAt}
 use Rattle.recov_alloc.proofs.extents.block_at.Goals as goal

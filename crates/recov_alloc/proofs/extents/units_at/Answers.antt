@@ -1,5 +1,5 @@
 use Rattle.std.proofs.Common.{arith, rules, sym, subst, ◌≡◌, ◌*◌}
-use Rattle.rio_base.specs.RegionRules.{stays_trans}
+use Rattle.rio_base.proofs.RegionRules.{stays_trans}
 use Rattle.rio_model.specs.Undo.{live}
 use Rattle.rio_model.specs.Heap.{starts}
 use Rattle.recov_alloc.specs.Extents.{Within}

@@ -1,6 +1,6 @@
 use Rattle.std.proofs.Common.{arith, ◌∙◌, ◌≡◌, ◌*◌, ◌+◌, ◌/◌, sym, subst, le_trans, length}
 use Rattle.rio_base.specs.Regions.{AreWords}
-use Rattle.rio_base.specs.RegionRules.{stays_trans}
+use Rattle.rio_base.proofs.RegionRules.{stays_trans}
 use Rattle.rio_model.specs.Undo.{IsRegion, live}
 use Rattle.recov_alloc.proofs.Reaches.{block_by, stops_at, within_more}
 use Rattle.recov_alloc.proofs.extents.units_from.Goals as goal

@@ -1,5 +1,5 @@
 use Rattle.std.proofs.Common.{arith, ◌∙◌, ◌+◌, ◌*◌, sym, subst, le_trans}
-use Rattle.rio_base.specs.RegionRules.{stays_trans}
+use Rattle.rio_base.proofs.RegionRules.{stays_trans}
 use Rattle.rio_model.specs.Undo.{IsRegion, live}
 use Rattle.recov_alloc.specs.Scans.{Before, ScanEnds}
 use Rattle.recov_alloc.proofs.fitting.fit_from.Goals as goal

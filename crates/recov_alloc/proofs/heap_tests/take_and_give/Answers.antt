@@ -1,4 +1,4 @@
-use Rattle.rio_base.specs.RegionRules.{stays_trans}
+use Rattle.rio_base.proofs.RegionRules.{stays_trans}
 use Rattle.recov_alloc.proofs.heap_tests.take_and_give.Goals as goal
 
 pub returns-in_err-release-clause-stays : goal.returns-in_err-release-clause-stays

@@ -1,5 +1,5 @@
 use Rattle.std.proofs.Common.{arith, ◌∙◌, ◌*◌, ◌+◌, ◌/◌, ap, sym, subst, le_trans}
-use Rattle.rio_base.specs.RegionRules.{stays_trans}
+use Rattle.rio_base.proofs.RegionRules.{stays_trans}
 use Rattle.rio_model.specs.Undo.{IsRegion, live}
 use Rattle.rio_model.specs.Heap.{IsBlock, heap_blocks}
 use Rattle.recov_alloc.proofs.Reaches.{listed_all, listed_more, listed_on, next_starts}

@@ -1,7 +1,7 @@
 use Rattle.std.proofs.Common.{arith, sym, subst, refl, ◌∙◌, cond, le_trans}
-use Rattle.rio_base.specs.RegionRules.{stays_trans}
+use Rattle.rio_base.proofs.RegionRules.{stays_trans}
 use Rattle.rio_model.specs.Undo.{IsRegion, Keeps, live}
-use Rattle.rio_model.specs.UndoRules.{keeps_trans}
+use Rattle.rio_model.proofs.UndoRules.{keeps_trans}
 use Rattle.recov_alloc.proofs.Marks.{block_marked, page_covered, units_more}
 use Rattle.recov_alloc.proofs.marking.mark_block.Goals as goal
 

@@ -1,8 +1,7 @@
-use Rattle.std.proofs.Common.{◌≡◌, ◌∙◌, Ok, sym, ap, subst}
+use Rattle.rio_core.proofs.Common.{◌≡◌, ◌∙◌, Ok, sym, ap, subst, crashed}
 use Rattle.rio_requests.specs.declared.reply.Reply.TheVariants.{Err as RefusedBy}
 use Rattle.rio_requests.specs.declared.request.Request.TheVariants.{Mkdir, Create, Region as MakeRegion, Write, Read, Truncate, Unlink, Rmdir, Rename, Stat as StatOf, List as ListOf}
 use Rattle.rio_requests.specs.Answers.{rename, unlink}
-use Rattle.rio_requests.specs.Crash.{crashed}
 use Rattle.rio_requests.specs.Parts.{NoneDone}
 use Rattle.file_store.specs.Ends.{FileEnds, SaysBytes, SaysCount, SaysDone, SaysIno, SaysNames, SaysStat}
 use Rattle.rio_core.specs.Serving.{RequestEnds}

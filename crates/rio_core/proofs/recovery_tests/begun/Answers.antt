@@ -1,4 +1,4 @@
-use Rattle.std.proofs.Common.{◌≡◌, arith}
+use Rattle.rio_core.proofs.Common.{◌≡◌, arith}
 use Rattle.rio_core.proofs.Recovering.{begun_fits}
 use Rattle.rio_core.proofs.recovery_tests.begun.Goals as goal
 

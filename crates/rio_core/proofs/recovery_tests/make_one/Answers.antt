@@ -1,7 +1,7 @@
-use Rattle.std.proofs.Common.{[], ◌∷◌}
+use Rattle.rio_core.proofs.Common.{[], ◌∷◌}
 use Rattle.rio_requests.specs.Answers.{make_region as make_region_of}
 use Rattle.rio_requests.specs.Parts.{NoneDone}
-use Rattle.file_store.specs.EndRules.{can_after}
+use Rattle.file_store.proofs.EndRules.{can_after}
 use Rattle.file_store.specs.Ends.{SaysIno}
 use Rattle.file_store.proofs.TestEnds.{answered_goes}
 use Rattle.rio_core.proofs.Recovering.{path_r}

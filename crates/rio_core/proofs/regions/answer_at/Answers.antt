@@ -1,10 +1,6 @@
-use Rattle.std.proofs.Common.{◌≡◌, ◌∙◌, Ok, sym, ap, subst}
-use Rattle.std.specs.Prelude.{IsErr, IsErrOf}
-use Rattle.rio_base.specs.Rules.{ends_by_as}
-use Rattle.rio_requests.specs.declared.request.Request.TheVariants.{Begin, Range, Put, Get, Alloc, Free, Commit, Abort}
-use Rattle.vista_region.specs.Ends.{IsFault}
+use Rattle.rio_core.proofs.Common.{◌≡◌, ◌∙◌, Ok, sym, ap, subst, IsErr, IsErrOf, Begin, Range, Put, Get, Alloc, Free, Commit, Abort, IsFault, Stopped}
+use Rattle.rio_base.proofs.Rules.{ends_by_as}
 use Rattle.vista_region.specs.declared.failures.GetFail.TheVariants.{Fault as GetFault, Stopped as GetStopped}
-use Rattle.vista_region.specs.declared.failures.TxnFail.TheVariants.{Stopped}
 use Rattle.rio_core.specs.CallEnds.{IsAt}
 use Rattle.rio_core.specs.Serving.{RequestEnds, TellsFault}
 use Rattle.rio_core.proofs.Lookups.{none_region}

@@ -1,13 +1,7 @@
-use Rattle.std.proofs.Common.{Ok, sym, subst}
-use Rattle.std.specs.Prelude.{IsErr}
-use Rattle.rio_base.specs.declared.places.Ino.{Ino}
-use Rattle.rio_base.specs.declared.places.VolumeShape.{VolumeShape}
-use Rattle.rio_base.specs.Rules.{◌then◌, ends_by_after}
-use Rattle.rio_model.specs.Paths.{names_of}
-use Rattle.rio_model.specs.VolumeReady.{Ready}
-use Rattle.rio_requests.specs.Crash.{crashed}
-use Rattle.rio_requests.specs.CrashRules.{walk_crashed}
-use Rattle.file_store.specs.NewRegions.{FindsRegion}
+use Rattle.rio_core.proofs.Common.{Ok, sym, subst, IsErr, Ino, VolumeShape, names_of, Ready, crashed, FindsRegion}
+use Rattle.rio_base.specs.Rules.{◌then◌}
+use Rattle.rio_base.proofs.Rules.{ends_by_after}
+use Rattle.rio_requests.proofs.CrashRules.{walk_crashed}
 use Rattle.rio_core.specs.Serving.{RequestEnds, TellsFault}
 use Rattle.rio_core.proofs.RegionEnds.{look_ends}
 use Rattle.rio_core.proofs.Standing.{stands, stands_fits}

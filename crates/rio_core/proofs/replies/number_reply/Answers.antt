@@ -1,6 +1,4 @@
-use Rattle.std.proofs.Common.{ℕ, Result, Err, sym, subst, ap, ◌∙◌}
-use Rattle.vista_region.specs.Ends.{IsFault, says_number}
-use Rattle.vista_region.specs.declared.failures.TxnFail.{TxnFail}
+use Rattle.rio_core.proofs.Common.{ℕ, Result, Err, sym, subst, ap, ◌∙◌, IsFault, says_number, TxnFail}
 use Rattle.rio_core.specs.CallEnds.{TellsAs, told}
 use Rattle.rio_core.proofs.replies.number_reply.Goals as goal
 

@@ -1,7 +1,5 @@
-use Rattle.std.proofs.Common.{Ok, sym, subst, refl}
-use Rattle.rio_requests.specs.Crash.{crashed}
+use Rattle.rio_core.proofs.Common.{Ok, sym, subst, refl, crashed, Stands}
 use Rattle.rio_requests.specs.declared.reply.Reply.TheVariants.{Ok as Done}
-use Rattle.file_store.specs.Ends.{Stands}
 use Rattle.page_cache.specs.Caches.{cache_below, cache_health, cache_kept, cache_seen}
 use Rattle.rio_core.specs.Serving.{Answering, Holds}
 use Rattle.rio_core.proofs.Served.{answering, synced, txns_told, wild_refused}

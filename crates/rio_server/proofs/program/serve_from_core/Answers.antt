@@ -1,6 +1,6 @@
 use Rattle.std.proofs.Common.{ap}
 use Rattle.rio_base.specs.Blocks.{Health}
-use Rattle.rio_base.specs.Rules.{rose_stays}
+use Rattle.rio_base.proofs.Rules.{rose_stays}
 use Rattle.rio_server.proofs.ServedRuns.{complete_of, limit_of, line_before, never_stops, over_of, run_served, sink_failed, source_failed}
 use Rattle.rio_server.proofs.program.serve_from_core.Goals as goal
 

@@ -1,5 +1,5 @@
 use Rattle.std.proofs.Common.{◌∙◌}
-use Rattle.rio_base.specs.MachineRules.{steps_trans}
+use Rattle.rio_base.proofs.MachineRules.{steps_trans}
 use Rattle.shadow_pages.proofs.Steps.{clears_trans, cleared_next, coherent_then, not_stopped}
 use Rattle.shadow_pages.proofs.opening.clear_shadows.Goals as goal
 

@@ -1,5 +1,5 @@
 use Rattle.std.proofs.Common.{◌∙◌}
-use Rattle.rio_base.specs.MachineRules.{steps_trans}
+use Rattle.rio_base.proofs.MachineRules.{steps_trans}
 use Rattle.shadow_pages.proofs.Restores.{restores_trans}
 use Rattle.shadow_pages.proofs.Steps.{coherent_restored, not_stopped, restored_next, stores_trans}
 use Rattle.shadow_pages.proofs.undoing.restore_frames.Goals as goal

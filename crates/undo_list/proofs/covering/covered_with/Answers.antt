@@ -1,4 +1,4 @@
-use Rattle.rio_base.specs.RegionRules.{stays_trans}
+use Rattle.rio_base.proofs.RegionRules.{stays_trans}
 use Rattle.undo_list.proofs.covering.covered_with.Goals as goal
 
 pub returns-then-not-branch-clause-stays : goal.returns-then-not-branch-clause-stays

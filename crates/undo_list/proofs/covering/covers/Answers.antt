@@ -1,5 +1,5 @@
 use Rattle.std.proofs.Common.{◌<◌, arith, sym, subst, ◌∙◌, List, le_trans}
-use Rattle.rio_base.specs.RegionRules.{stays_trans}
+use Rattle.rio_base.proofs.RegionRules.{stays_trans}
 use Rattle.rio_model.specs.Undo.{IsRegion, UndoRecord, undo_records}
 use Rattle.undo_list.specs.declared.covering.Span.{Span}
 use Rattle.undo_list.specs.Chains.{IsChain}

@@ -1,5 +1,5 @@
 use Rattle.std.proofs.Common.{◌-◌, ◌<◌, sym, subst, ◌∙◌, le_trans, arith}
-use Rattle.rio_base.specs.RegionRules.{stays_trans}
+use Rattle.rio_base.proofs.RegionRules.{stays_trans}
 use Rattle.rio_model.specs.Undo.{CoversAll, IsRegion, undo_records}
 use Rattle.undo_list.proofs.Chains.{newest_fits, no_chain}
 use Rattle.undo_list.proofs.MarkedRecords.{Marking, marked_hole, marked_more, marking_next, passed_more}

@@ -1,7 +1,7 @@
 use Rattle.std.proofs.Common.{arith, ap, sym, refl, ◌∙◌}
 use Rattle.rio_model.specs.Undo.{taken}
 use Rattle.undo_list.proofs.Chains.{newest_at}
-use Rattle.rio_model.specs.UndoRules.{no_records}
+use Rattle.rio_model.proofs.UndoRules.{no_records}
 use Rattle.undo_list.proofs.records.taken.Goals as goal
 
 pub returns-then-head-eq0-clause-value : goal.returns-then-head-eq0-clause-value

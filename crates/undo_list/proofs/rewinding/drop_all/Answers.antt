@@ -1,4 +1,4 @@
-use Rattle.rio_model.specs.UndoRules.{dropped_by}
+use Rattle.rio_model.proofs.UndoRules.{dropped_by}
 use Rattle.undo_list.proofs.Frames.{drop_ends, drop_region}
 use Rattle.undo_list.proofs.rewinding.drop_all.Goals as goal
 

@@ -1,5 +1,5 @@
 use Rattle.std.proofs.Common.{arith, sym, ◌∙◌}
-use Rattle.rio_model.specs.UndoRules.{undone_by}
+use Rattle.rio_model.proofs.UndoRules.{undone_by}
 use Rattle.undo_list.proofs.rewinding.rewind.Goals as goal
 
 pub returns-clause-ok : goal.returns-clause-ok

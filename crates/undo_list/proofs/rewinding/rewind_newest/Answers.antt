@@ -1,6 +1,6 @@
 use Rattle.std.proofs.Common.{ap, sym, refl, ℕ, ◌+◌, ◌*◌, ◌≡◌}
 use Rattle.rio_model.specs.Undo.{map_from}
-use Rattle.rio_base.specs.RegionRules.{stays_trans}
+use Rattle.rio_base.proofs.RegionRules.{stays_trans}
 use Rattle.undo_list.proofs.Chains.{newest_at, older_at}
 use Rattle.undo_list.proofs.Frames.{front_back, newest_ends}
 use Rattle.undo_list.proofs.rewinding.rewind_newest.Goals as goal

@@ -1,5 +1,5 @@
 use Rattle.std.proofs.Common.{arith, ◌∙◌, le_trans, ◌+◌, ◌≡◌, length, take, length-take, ap}
-use Rattle.rio_base.specs.RegionRules.{stays_trans}
+use Rattle.rio_base.proofs.RegionRules.{stays_trans}
 use Rattle.undo_list.specs.Copies.{copied}
 use Rattle.undo_list.proofs.Copies.{copied_on, front_on}
 use Rattle.undo_list.proofs.runs.copy_by_runs.Goals as goal

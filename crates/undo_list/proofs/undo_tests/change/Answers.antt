@@ -1,5 +1,5 @@
 use Rattle.std.proofs.Common.{arith}
-use Rattle.rio_model.specs.UndoRules.{gains_covers}
+use Rattle.rio_model.proofs.UndoRules.{gains_covers}
 use Rattle.undo_list.proofs.undo_tests.change.Goals as goal
 
 pub put_covered-requires-clause-covered : goal.put_covered-requires-clause-covered

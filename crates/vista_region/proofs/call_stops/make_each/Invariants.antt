@@ -1,4 +1,4 @@
-use Rattle.rio_model.specs.Undo.{IsRegion}
+use Rattle.vista_region.proofs.Common.{IsRegion}
 use Rattle.vista_region.specs.TestTables.{Sound}
 use Rattle.vista_region.proofs.call_stops.make_each.Given as goal
 

@@ -1,4 +1,4 @@
-use Rattle.std.proofs.Common.{◌/◌, ap, arith, refl, ◌+◌}
+use Rattle.vista_region.proofs.Common.{◌/◌, ap, arith, refl, ◌+◌}
 use Rattle.vista_region.proofs.data.data_span.Goals as goal
 
 pub returns : goal.returns

@@ -1,7 +1,5 @@
-use Rattle.std.proofs.Common.{ℕ, Err, ◌≡◌, ◌<◌, ◌≤◌, ◌+◌, ◌*◌, ◌/◌, ◌∙◌, ap, sym, subst, refl, arith}
-use Rattle.std.proofs.lemmas.Result.{err_from_is_err_and}
-use Rattle.rio_model.specs.Heap.{IsBlock, Releases, heap_blocks, touched_pages, units_of, without_block}
-use Rattle.rio_model.specs.Undo.{live, taken, undo_records, undo_words}
+use Rattle.vista_region.proofs.Common.{ℕ, Err, ◌≡◌, ◌<◌, ◌≤◌, ◌+◌, ◌*◌, ◌/◌, ◌∙◌, ap, sym, subst, refl, arith, err_from_is_err_and, heap_blocks, units_of, live, taken, undo_records, undo_words}
+use Rattle.rio_model.specs.Heap.{IsBlock, Releases, touched_pages, without_block}
 use Rattle.rio_requests.specs.RegionAnswers.{free_on}
 use Rattle.vista_region.specs.Ends.{TxnEnds, says_done}
 use Rattle.vista_region.specs.Marks.{txn_in}

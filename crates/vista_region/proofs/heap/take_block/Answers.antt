@@ -1,5 +1,4 @@
-use Rattle.std.proofs.Common.{ℕ, Err, ◌∙◌, ap, sym, subst, refl, arith}
-use Rattle.std.proofs.lemmas.Result.{err_from_is_err_and}
+use Rattle.vista_region.proofs.Common.{ℕ, Err, ◌∙◌, ap, sym, subst, refl, arith, err_from_is_err_and}
 use Rattle.rio_requests.specs.RegionAnswers.{alloc_on}
 use Rattle.vista_region.specs.Ends.{DoneAs, TxnEnds}
 use Rattle.vista_region.specs.Failures.{heap_handed}

@@ -1,8 +1,5 @@
-use Rattle.std.proofs.Common.{◌≡◌, le_trans, ◌+◌, ◌-◌, ◌*◌, ◌/◌, ◌∙◌, ◌++◌, ap, sym, subst, arith}
-use Rattle.rio_base.specs.RegionRules.{stays_trans}
-use Rattle.rio_base.specs.Regions.{RegionContent}
-use Rattle.rio_model.specs.Held.{byte_in, bytes_in}
-use Rattle.rio_model.specs.Undo.{IsRegion, live}
+use Rattle.vista_region.proofs.Common.{◌≡◌, ◌+◌, ◌-◌, ◌*◌, ◌/◌, ◌∙◌, ◌++◌, ap, sym, subst, arith, stays_trans, RegionContent, byte_in, bytes_in, IsRegion, live}
+use Rattle.std.proofs.Common.{le_trans}
 use Rattle.vista_region.proofs.Bytes.{bytes_moved, bytes_next}
 use Rattle.vista_region.proofs.Outcomes.{ok_apart}
 use Rattle.vista_region.specs.declared.failures.GetFail.TheVariants.{Stopped}

@@ -1,7 +1,4 @@
-use Rattle.std.proofs.Common.{◌≡◌, ◌≤◌, ◌+◌, ◌-◌, ◌++◌}
-use Rattle.rio_base.specs.Regions.{Stays}
-use Rattle.rio_model.specs.Held.{bytes_in}
-use Rattle.rio_model.specs.Undo.{IsRegion, live}
+use Rattle.vista_region.proofs.Common.{◌≡◌, ◌≤◌, ◌+◌, ◌-◌, ◌++◌, Stays, bytes_in, IsRegion, live}
 use Rattle.vista_region.proofs.runs.push_bytes.Given as goal
 
 -- the bytes up to `at` are read

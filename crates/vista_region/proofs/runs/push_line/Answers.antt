@@ -1,4 +1,4 @@
-use Rattle.std.proofs.Common.{◌∙◌, ◌++◌, ap, arith}
+use Rattle.vista_region.proofs.Common.{◌∙◌, ◌++◌, ap, arith}
 use Rattle.vista_region.proofs.Bytes.{line_run}
 use Rattle.vista_region.proofs.runs.push_line.Goals as goal
 

@@ -1,5 +1,4 @@
-use Rattle.std.proofs.Common.{◌∙◌, ◌++◌, ap}
-use Rattle.rio_model.specs.Undo.{live}
+use Rattle.vista_region.proofs.Common.{◌∙◌, ◌++◌, ap, live}
 use Rattle.vista_region.proofs.Bytes.{bytes_read}
 use Rattle.vista_region.proofs.runs.push_through.Goals as goal
 

@@ -1,9 +1,5 @@
-use Rattle.std.proofs.Common.{le_trans, Err, ◌∙◌, ◌≡◌, ◌≤◌, ◌+◌, ◌-◌, ◌*◌, ◌/◌, sym, subst, arith, length, length-drop, length-take, take, drop}
-use Rattle.rio_base.specs.Blocks.{FaultAt}
-use Rattle.rio_base.specs.declared.failures.RunFail.{RunFail}
-use Rattle.rio_base.specs.RegionRules.{stays_trans}
-use Rattle.rio_model.specs.Undo.{IsRegion, Puts}
-use Rattle.rio_requests.specs.RegionAnswers.{words_of}
+use Rattle.vista_region.proofs.Common.{Err, ◌∙◌, ◌≡◌, ◌≤◌, ◌+◌, ◌-◌, ◌*◌, ◌/◌, sym, subst, arith, length, length-drop, take, drop, FaultAt, RunFail, stays_trans, IsRegion, Puts, words_of}
+use Rattle.std.proofs.Common.{le_trans, length-take}
 use Rattle.vista_region.proofs.Words.{puts_next}
 use Rattle.vista_region.proofs.runs.put_bytes.Goals as goal
 

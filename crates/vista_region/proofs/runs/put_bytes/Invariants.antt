@@ -1,7 +1,4 @@
-use Rattle.std.proofs.Common.{◌≡◌, ◌≤◌, ◌-◌}
-use Rattle.rio_base.specs.Regions.{Stays}
-use Rattle.rio_model.specs.Undo.{IsRegion, Puts}
-use Rattle.rio_requests.specs.RegionAnswers.{words_of}
+use Rattle.vista_region.proofs.Common.{◌≡◌, ◌≤◌, ◌-◌, Stays, IsRegion, Puts, words_of}
 use Rattle.vista_region.proofs.runs.put_bytes.Given as goal
 
 -- the first `done` words are stored

@@ -1,4 +1,4 @@
-use Rattle.std.proofs.Common.{arith}
+use Rattle.vista_region.proofs.Common.{arith}
 use Rattle.vista_region.proofs.Words.{stored_fault, stored_ok, words_read}
 use Rattle.vista_region.proofs.runs.put_through.Goals as goal
 

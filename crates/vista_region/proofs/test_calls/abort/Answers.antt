@@ -1,4 +1,4 @@
-use Rattle.std.specs.Prelude.{IsErrOf}
+use Rattle.vista_region.proofs.Common.{IsErrOf}
 use Rattle.vista_region.specs.TestTables.{Sound}
 use Rattle.vista_region.specs.declared.failures.TxnFail.TheVariants.{Stopped}
 use Rattle.vista_region.proofs.TestTables.{on_ok, still}

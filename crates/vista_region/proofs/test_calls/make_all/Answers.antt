@@ -1,4 +1,4 @@
-use Rattle.rio_base.specs.RegionRules.{stays_trans}
+use Rattle.vista_region.proofs.Common.{stays_trans}
 use Rattle.vista_region.proofs.test_calls.make_all.Goals as goal
 
 pub returns-in_err-make-clause-stays : goal.returns-in_err-make-clause-stays

@@ -1,5 +1,4 @@
-use Rattle.rio_base.specs.Regions.{Stays}
-use Rattle.rio_model.specs.Undo.{IsRegion}
+use Rattle.vista_region.proofs.Common.{Stays, IsRegion}
 use Rattle.vista_region.specs.TestTables.{Sound}
 use Rattle.vista_region.proofs.test_calls.make_all.Given as goal
 

@@ -1,4 +1,4 @@
-use Rattle.rio_model.specs.CoverSteps.{keeps_clear}
+use Rattle.rio_model.proofs.CoverSteps.{keeps_clear}
 use Rattle.write_back.proofs.Steps.{retagged}
 use Rattle.write_back.proofs.cleaning.drop_entry.Goals as goal
 

@@ -1,4 +1,4 @@
-use Rattle.rio_model.specs.CoverSteps.{keeps_clean}
+use Rattle.rio_model.proofs.CoverSteps.{keeps_clean}
 use Rattle.write_back.proofs.Steps.{retagged}
 use Rattle.write_back.proofs.cleaning.mark_clean.Goals as goal
 

@@ -2,7 +2,7 @@ use Rattle.std.proofs.Common.{ap, ◌∙◌, sym, length}
 use Rattle.rio_base.specs.Disks.{is_pending}
 use Rattle.rio_base.specs.Machine.{Contents}
 use Rattle.rio_base.specs.Rules.{true_false}
-use Rattle.rio_model.specs.CoverSteps.{keeps_marks, none_pending}
+use Rattle.rio_model.proofs.CoverSteps.{keeps_marks, none_pending}
 use Rattle.write_back.proofs.cleaning.sync_disk.Goals as goal
 
 pub returns-clause-keeps : goal.returns-clause-keeps

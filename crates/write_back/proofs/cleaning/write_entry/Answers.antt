@@ -1,6 +1,6 @@
 use Rattle.std.proofs.Common.{◌<◌, ◌∙◌, subst, sym, ap, arith, length}
 use Rattle.rio_model.specs.Registry.{tag_block}
-use Rattle.rio_model.specs.CoverSteps.{keeps_write}
+use Rattle.rio_model.proofs.CoverSteps.{keeps_write}
 use Rattle.write_back.proofs.Steps.{frame_begins, on_disk}
 use Rattle.write_back.proofs.cleaning.write_entry.Goals as goal
 

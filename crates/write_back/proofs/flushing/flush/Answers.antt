@@ -1,5 +1,5 @@
 use Rattle.std.proofs.Common.{◌∙◌, arith}
-use Rattle.rio_model.specs.CoverSteps.{keeps_trans}
+use Rattle.rio_model.proofs.CoverSteps.{keeps_trans}
 use Rattle.write_back.proofs.Steps.{coherent_then, narrows_all}
 use Rattle.write_back.proofs.flushing.flush.Goals as goal
 

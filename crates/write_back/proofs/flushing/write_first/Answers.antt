@@ -1,5 +1,5 @@
 use Rattle.std.proofs.Common.{◌∙◌, ◌<◌, ◌≤◌, arith, inl, subst, sym}
-use Rattle.rio_model.specs.CoverSteps.{keeps_trans}
+use Rattle.rio_model.proofs.CoverSteps.{keeps_trans}
 use Rattle.write_back.proofs.Steps.{coherent_then, frame_next}
 use Rattle.write_back.proofs.Walks.{Writes, counts_small, once_small, wrote_by, wrote_first, wrote_next, wrote_none}
 use Rattle.write_back.proofs.flushing.write_first.Goals as goal

@@ -1,7 +1,6 @@
 use Rattle.std.proofs.Common.{◌≡◌}
 use Rattle.rio_base.specs.declared.wild.Wild.TheVariants.{Changed}
-use Rattle.board.specs.Guards.{after_store}
-use Rattle.board.specs.Guards.{Lands}
+use Rattle.board.specs.Guards.{after_store, Lands}
 use Rattle.board.proofs.Places.{wild_changed}
 use Rattle.board.proofs.board.BoardMachine.wild.Goals as goal
 

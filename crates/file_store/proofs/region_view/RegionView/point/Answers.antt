@@ -1,5 +1,4 @@
-use Rattle.std.proofs.Common.{refl, subst, sym}
-use Rattle.inode_table.specs.Inodes.{IsInode}
+use Rattle.file_store.proofs.Common.{refl, subst, sym, IsInode}
 use Rattle.file_store.proofs.RegionStood.{few_bytes, on_region}
 use Rattle.file_store.proofs.region_view.RegionView.point.Goals as goal
 

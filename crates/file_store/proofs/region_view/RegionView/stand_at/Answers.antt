@@ -1,6 +1,4 @@
-use Rattle.std.proofs.Common.{subst, sym}
-use Rattle.std.proofs.lemmas.Result.{err_from_is_err_and}
-use Rattle.inode_table.specs.Inodes.{IsInode}
+use Rattle.file_store.proofs.Common.{subst, sym, err_from_is_err_and, IsInode}
 use Rattle.file_store.proofs.CallEnds.{ends_ok, ends_on, well}
 use Rattle.file_store.proofs.RegionFound.{found_on}
 use Rattle.file_store.proofs.RegionStood.{few_bytes, on_region}

@@ -1,5 +1,5 @@
-use Rattle.std.proofs.Common.{refl}
-use Rattle.file_store.specs.Views.{inode_still, on_still}
+use Rattle.file_store.proofs.Common.{refl}
+use Rattle.file_store.proofs.Views.{inode_still, on_still}
 use Rattle.file_store.proofs.region_view.RegionViewRegionWords.set_run.Goals as goal
 
 pub returns-clause-stays : goal.returns-clause-stays

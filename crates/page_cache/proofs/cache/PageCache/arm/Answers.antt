@@ -1,6 +1,7 @@
 use Rattle.page_cache.proofs.Wilds.{arm_sound, arms_of, kept_on, place_of}
 use Rattle.page_cache.proofs.cache.PageCache.arm.Goals as goal
-use Rattle.std.proofs.Common.{ap, refl}
+use Rattle.page_cache.proofs.Common.{ap}
+use Rattle.std.proofs.Common.{refl}
 use Rattle.page_cache.specs.Caches.{cache_seen}
 
 pub arm-requires : goal.arm-requires

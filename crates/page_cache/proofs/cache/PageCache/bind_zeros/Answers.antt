@@ -1,10 +1,9 @@
-use Rattle.std.proofs.Common.{ap, refl, true}
-use Rattle.rio_base.specs.Machine.{Contents}
+use Rattle.page_cache.proofs.Common.{ap, Contents}
+use Rattle.std.proofs.Common.{refl, true}
 use Rattle.page_cache.proofs.Rooms.{adds_narrows, begun_narrows, begun_sound, frame_free, free_of, unbound}
-use Rattle.page_cache.proofs.Zeros.{begun_keeps, frees_keeps, new_made, zeros_adds, zeros_frees, zeros_sound}
+use Rattle.page_cache.proofs.Zeros.{begun_keeps, frees_keeps, new_made, zeros_adds, zeros_frees, zeros_sound, made_found}
 use Rattle.page_cache.proofs.cache.PageCache.bind_zeros.Goals as goal
 use Rattle.page_cache.proofs.Uses.{stay_begun, stay_made}
-use Rattle.page_cache.proofs.Zeros.{made_found}
 
 pub install-requires-clause-free : goal.install-requires-clause-free
 install-requires-clause-free g c = free_of c.args.b.0 (g.M.Machine.contents c.args.self.now.machine).words c.requires.uncached

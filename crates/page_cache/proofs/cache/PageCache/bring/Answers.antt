@@ -1,11 +1,7 @@
-use Rattle.std.proofs.Common.{IsErrOf, arith, refl}
-use Rattle.rio_base.specs.declared.failures.VolFail.TheVariants.{Stopped}
+use Rattle.page_cache.proofs.Common.{IsErrOf, arith, ◌∙◌, ap, Stopped, used_last, order_of, FramePool}
+use Rattle.std.proofs.Common.{refl}
 use Rattle.page_cache.proofs.cache.PageCache.bring.Goals as goal
-use Rattle.std.proofs.Common.{◌∙◌, ap}
-use Rattle.frame_pool.specs.Orders.{used_last}
-use Rattle.frame_pool.specs.Pools.{order_of}
 use Rattle.page_cache.proofs.Goes.{ends_ok, ends_stop}
-use Rattle.frame_pool.specs.declared.frame_pool.FramePool.{FramePool}
 
 pub returns-in_err-bind_frame-clause-ends : goal.returns-in_err-bind_frame-clause-ends
 returns-in_err-bind_frame-clause-ends g c =

@@ -1,13 +1,9 @@
-use Rattle.std.proofs.Common.{◌<◌, ◌∙◌, IsErr, ap, arith, subst, sym}
-use Rattle.rio_base.specs.Machine.{StepEnds}
-use Rattle.rio_base.specs.MachineRules.{ends_after}
-use Rattle.rio_model.specs.Registry.{is_valid}
+use Rattle.page_cache.proofs.Common.{◌∙◌, IsErr, ap, arith, subst, sym, StepEnds, ends_after, is_valid, used_last, order_of}
+use Rattle.std.proofs.Common.{◌<◌}
 use Rattle.page_cache.proofs.Rooms.{adds_after, adds_narrows}
 use Rattle.page_cache.proofs.Zeros.{cleared_then, frees_after, frees_keeps}
 use Rattle.page_cache.proofs.cache.PageCache.bring_zeros.Goals as goal
 use Rattle.page_cache.proofs.Uses.{stay_found, stay_trans}
-use Rattle.frame_pool.specs.Orders.{used_last}
-use Rattle.frame_pool.specs.Pools.{order_of}
 use Rattle.page_cache.proofs.Goes.{ends_ok}
 use Rattle.page_cache.proofs.Stores.{narrows_cached}
 use Rattle.page_cache.specs.declared.tables.CacheTables.{CacheTables}

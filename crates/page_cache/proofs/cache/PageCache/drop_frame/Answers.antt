@@ -1,7 +1,5 @@
-use Rattle.std.proofs.Common.{ap, refl}
-use Rattle.rio_base.specs.Machine.{Contents}
-use Rattle.registry.specs.declared.entry.Entry.{Entry}
-use Rattle.rio_model.specs.CoverLookups.{found_is}
+use Rattle.page_cache.proofs.Common.{ap, Contents, Entry, found_is}
+use Rattle.std.proofs.Common.{refl}
 use Rattle.page_cache.proofs.Stores.{sound_same}
 use Rattle.page_cache.proofs.Rooms.{frame_bound, narrows_gone}
 use Rattle.page_cache.proofs.Freed.{cleared_frees, cleared_lost, cleared_sound, frees_same, narrows_same, unpinned_idle}

@@ -1,9 +1,7 @@
-use Rattle.std.proofs.Common.{rules, IsErrOf, ap, arith, is_some, refl, sym, ◌∙◌}
-use Rattle.rio_base.specs.Rules.{true_false}
-use Rattle.rio_model.specs.CoverStands.{narrows_trans}
-use Rattle.rio_base.specs.Machine.{StepEnds}
-use Rattle.rio_base.specs.MachineRules.{ends_after}
-use Rattle.rio_base.specs.declared.failures.VolFail.TheVariants.{Fault, Stopped}
+use Rattle.page_cache.proofs.Common.{rules, IsErrOf, ap, arith, sym, ◌∙◌, true_false, StepEnds, ends_after, Stopped}
+use Rattle.std.proofs.Common.{is_some, refl}
+use Rattle.rio_model.proofs.CoverStands.{narrows_trans}
+use Rattle.rio_base.specs.declared.failures.VolFail.TheVariants.{Fault}
 use Rattle.page_cache.proofs.Rooms.{none_bound, none_still, some_bound}
 use Rattle.page_cache.proofs.Stills.{few_then}
 use Rattle.page_cache.proofs.cache.PageCache.fetch.Goals as goal

@@ -1,5 +1,5 @@
-use Rattle.std.proofs.Common.{◌∙◌, ap, refl, sym}
-use Rattle.rio_base.specs.Machine.{Contents}
+use Rattle.page_cache.proofs.Common.{◌∙◌, ap, sym, Contents}
+use Rattle.std.proofs.Common.{refl}
 use Rattle.page_cache.proofs.Rooms.{filled_home, filled_narrows, filled_sound, filled_tag, read_sound, touches_filled}
 use Rattle.page_cache.proofs.cache.PageCache.fill_frame.Goals as goal
 use Rattle.page_cache.proofs.Uses.{stay_filled}

@@ -1,5 +1,5 @@
-use Rattle.std.proofs.Common.{refl, arith}
-use Rattle.std.proofs.lemmas.List.{length-set}
+use Rattle.page_cache.proofs.Common.{arith, length-set}
+use Rattle.std.proofs.Common.{refl}
 use Rattle.page_cache.proofs.Touches.{given_sound, shadow_kept}
 use Rattle.page_cache.proofs.Updates.{sound_same}
 use Rattle.page_cache.proofs.cache.PageCache.give_shadow.Goals as goal

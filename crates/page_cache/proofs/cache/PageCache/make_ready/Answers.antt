@@ -1,6 +1,4 @@
-use Rattle.std.proofs.Common.{IsErr, arith}
-use Rattle.rio_base.specs.Machine.{StepEnds}
-use Rattle.rio_base.specs.MachineRules.{ends_after}
+use Rattle.page_cache.proofs.Common.{IsErr, arith, StepEnds, ends_after}
 use Rattle.page_cache.proofs.StoreCalls.{named_after, widens_after, widens_cached}
 use Rattle.page_cache.proofs.Goes.{ends_ok}
 use Rattle.page_cache.proofs.cache.PageCache.make_ready.Goals as goal

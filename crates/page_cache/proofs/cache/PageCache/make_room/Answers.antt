@@ -1,5 +1,5 @@
-use Rattle.std.proofs.Common.{rules, ◌≡◌, ◌<◌, ◌∙◌, true, ap, arith, subst, sym}
-use Rattle.rio_model.specs.Registry.{is_valid, tag_at}
+use Rattle.page_cache.proofs.Common.{rules, ◌∙◌, ap, arith, subst, sym, is_valid, tag_at}
+use Rattle.std.proofs.Common.{◌≡◌, ◌<◌, true}
 use Rattle.page_cache.proofs.Roomy.{few_evicted}
 use Rattle.page_cache.proofs.cache.PageCache.make_room.Goals as goal
 

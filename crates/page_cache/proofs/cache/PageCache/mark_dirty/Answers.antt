@@ -1,5 +1,4 @@
-use Rattle.std.proofs.Common.{ap}
-use Rattle.rio_base.specs.Machine.{Contents}
+use Rattle.page_cache.proofs.Common.{ap, Contents}
 use Rattle.page_cache.proofs.Stores.{cached_held, dirtied_held, dirtied_keeps, dirtied_sound, held_same}
 use Rattle.page_cache.proofs.cache.PageCache.mark_dirty.Goals as goal
 

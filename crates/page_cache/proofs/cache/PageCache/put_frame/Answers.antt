@@ -1,6 +1,4 @@
-use Rattle.std.proofs.Common.{◌∙◌, ap}
-use Rattle.rio_base.specs.Machine.{Contents}
-use Rattle.rio_model.specs.CoverLookups.{found_is}
+use Rattle.page_cache.proofs.Common.{◌∙◌, ap, Contents, found_is}
 use Rattle.page_cache.proofs.Stores.{cached_entries}
 use Rattle.page_cache.proofs.Runs.{put_entries, put_rewrites, rewrites_sound}
 use Rattle.page_cache.proofs.cache.PageCache.put_frame.Goals as goal

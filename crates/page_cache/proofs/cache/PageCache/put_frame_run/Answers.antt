@@ -1,7 +1,5 @@
-use Rattle.std.proofs.Common.{ℕ, ◌≤◌, arith, length}
-use Rattle.rio_base.specs.Volume.{put_run}
-use Rattle.rio_model.specs.Cover.{reads}
-use Rattle.rio_model.specs.CoverLookups.{found_is}
+use Rattle.page_cache.proofs.Common.{arith, put_run, reads, found_is}
+use Rattle.std.proofs.Common.{ℕ, ◌≤◌, length}
 use Rattle.page_cache.specs.Stores.{Rewrites}
 use Rattle.page_cache.proofs.Stores.{cached_entries}
 use Rattle.page_cache.proofs.Runs.{run_entries, run_rewrites, run_sound}

@@ -1,6 +1,5 @@
-use Rattle.std.proofs.Common.{IsErrOf, arith, refl}
-use Rattle.rio_base.specs.declared.failures.VolFail.TheVariants.{Stopped}
-use Rattle.rio_model.specs.CoverLookups.{found_is}
+use Rattle.page_cache.proofs.Common.{IsErrOf, arith, Stopped, found_is}
+use Rattle.std.proofs.Common.{refl}
 use Rattle.page_cache.proofs.StoreCalls.{found_ready, named_ready, stored_adds, stored_ready}
 use Rattle.page_cache.proofs.cache.PageCache.ready.Goals as goal
 use Rattle.page_cache.proofs.Goes.{ends_ok, ends_stop}

@@ -1,6 +1,5 @@
-use Rattle.std.proofs.Common.{◌+◌, ◌∙◌, IsErr, ap, arith, sym}
-use Rattle.rio_base.specs.Machine.{StepEnds}
-use Rattle.rio_base.specs.MachineRules.{ends_after}
+use Rattle.page_cache.proofs.Common.{◌∙◌, IsErr, ap, arith, sym, StepEnds, ends_after}
+use Rattle.std.proofs.Common.{◌+◌}
 use Rattle.page_cache.specs.declared.tables.CacheTables.{CacheTables}
 use Rattle.page_cache.proofs.Touches.{gives_next, pages_held, pages_named, pages_trans}
 use Rattle.page_cache.proofs.cache.PageCache.shadow_frame.Goals as goal

@@ -1,7 +1,5 @@
-use Rattle.std.proofs.Common.{◌<◌, ap, arith, subst, sym}
-use Rattle.rio_base.specs.Blocks.{InRange}
-use Rattle.rio_model.specs.Registry.{size_at}
-use Rattle.registry.specs.declared.entry.Entry.{Entry}
+use Rattle.page_cache.proofs.Common.{ap, arith, subst, sym, InRange, size_at, Entry}
+use Rattle.std.proofs.Common.{◌<◌}
 use Rattle.page_cache.specs.Stores.{Widens}
 use Rattle.page_cache.proofs.Widths.{larger_keeps, larger_sound, larger_widens}
 use Rattle.page_cache.proofs.cache.PageCache.widen.Goals as goal

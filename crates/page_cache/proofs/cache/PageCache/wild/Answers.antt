@@ -1,6 +1,7 @@
 use Rattle.page_cache.proofs.Wilds.{kept_on, place_of, strikes_of, wild_sound}
 use Rattle.page_cache.proofs.cache.PageCache.wild.Goals as goal
-use Rattle.std.proofs.Common.{ap, refl}
+use Rattle.page_cache.proofs.Common.{ap}
+use Rattle.std.proofs.Common.{refl}
 use Rattle.page_cache.specs.Caches.{cache_seen}
 
 pub wild-requires-clause-place : goal.wild-requires-clause-place

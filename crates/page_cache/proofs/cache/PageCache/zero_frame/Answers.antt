@@ -1,4 +1,5 @@
-use Rattle.std.proofs.Common.{◌+◌, ◌*◌, ◌∙◌, ap, slice_index}
+use Rattle.page_cache.proofs.Common.{◌∙◌, ap}
+use Rattle.std.proofs.Common.{◌+◌, ◌*◌, slice_index}
 use Rattle.std.proofs.lemmas.List.{get_or-replicate}
 use Rattle.page_cache.proofs.Fills.{tag_stays}
 use Rattle.page_cache.proofs.Zeros.{filled_cached, filled_same, filled_sound}

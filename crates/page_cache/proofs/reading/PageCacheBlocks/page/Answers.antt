@@ -1,4 +1,5 @@
-use Rattle.std.proofs.Common.{◌∙◌, ap, arith, length, ℕ, List}
+use Rattle.page_cache.proofs.Common.{◌∙◌, ap, arith}
+use Rattle.std.proofs.Common.{length, ℕ, List}
 use Rattle.page_cache.proofs.Frames.{page_count, page_run}
 use Rattle.page_cache.proofs.Rooms.{some_bound}
 use Rattle.page_cache.proofs.reading.PageCacheBlocks.page.Goals as goal

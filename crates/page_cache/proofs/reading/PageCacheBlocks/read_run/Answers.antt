@@ -1,5 +1,5 @@
-use Rattle.std.proofs.Common.{ap, arith, length, ℕ, List}
-use Rattle.rio_model.specs.CoverLookups.{found_is}
+use Rattle.page_cache.proofs.Common.{ap, arith, found_is}
+use Rattle.std.proofs.Common.{length, ℕ, List}
 use Rattle.page_cache.proofs.Frames.{copied_run, page_count}
 use Rattle.page_cache.proofs.Rooms.{passes_of}
 use Rattle.page_cache.proofs.reading.PageCacheBlocks.read_run.Goals as goal

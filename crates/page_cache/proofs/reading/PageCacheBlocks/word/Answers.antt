@@ -1,6 +1,5 @@
-use Rattle.std.proofs.Common.{◌≡◌, ◌∙◌, arith, subst}
-use Rattle.rio_model.specs.Cover.{reads}
-use Rattle.rio_model.specs.CoverLookups.{found_is}
+use Rattle.page_cache.proofs.Common.{◌∙◌, arith, subst, reads, found_is}
+use Rattle.std.proofs.Common.{◌≡◌}
 use Rattle.page_cache.proofs.Rooms.{passes_of, word_read}
 use Rattle.page_cache.proofs.reading.PageCacheBlocks.word.Goals as goal
 

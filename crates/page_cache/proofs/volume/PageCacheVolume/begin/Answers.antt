@@ -1,7 +1,5 @@
-use Rattle.std.proofs.Common.{◌∙◌, ap, arith, refl, sym}
-use Rattle.rio_model.specs.CoverStands.{stands_idle}
-use Rattle.frame_pool.specs.declared.frame_pool.FramePool.{FramePool}
-use Rattle.frame_pool.specs.Pools.{is_pinned}
+use Rattle.page_cache.proofs.Common.{◌∙◌, ap, arith, sym, stands_idle, FramePool, is_pinned}
+use Rattle.std.proofs.Common.{refl}
 use Rattle.page_cache.specs.Settled.{gate_shut}
 use Rattle.page_cache.proofs.Pins.{pins_refl, shut_unpinned}
 use Rattle.page_cache.proofs.Updates.{begun_of, drops_named, sound_begun, sound_shut}

@@ -1,5 +1,6 @@
-use Rattle.std.proofs.Common.{◌<◌, ap, is_some, refl, subst, sym}
-use Rattle.rio_base.specs.MachineRules.{lasts_refl, steps_refl}
+use Rattle.page_cache.proofs.Common.{ap, subst, sym}
+use Rattle.std.proofs.Common.{◌<◌, is_some, refl}
+use Rattle.rio_base.proofs.MachineRules.{lasts_refl, steps_refl}
 use Rattle.page_cache.proofs.Kept.{tables_refl}
 use Rattle.page_cache.proofs.Rooms.{none_bound, some_bound}
 use Rattle.page_cache.proofs.StoreCalls.{drops_narrows}

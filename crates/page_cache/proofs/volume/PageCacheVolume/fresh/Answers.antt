@@ -1,5 +1,5 @@
-use Rattle.std.proofs.Common.{◌<◌, ◌∙◌, subst, sym}
-use Rattle.rio_base.specs.MachineRules.{lasts_trans, steps_trans}
+use Rattle.page_cache.proofs.Common.{◌∙◌, subst, sym, ap, lasts_trans, steps_trans, order_of}
+use Rattle.std.proofs.Common.{◌<◌}
 use Rattle.page_cache.proofs.Kept.{tables_trans}
 use Rattle.page_cache.proofs.Rooms.{adds_after, adds_narrows, caches_adds, none_still}
 use Rattle.page_cache.proofs.StoreCalls.{cached_none}
@@ -7,8 +7,6 @@ use Rattle.page_cache.proofs.Freed.{loose_none, marks_after, same_marks, settled
 use Rattle.page_cache.proofs.Zeros.{cleared_then, frees_after, frees_keeps}
 use Rattle.page_cache.proofs.volume.PageCacheVolume.fresh.Goals as goal
 use Rattle.page_cache.proofs.Uses.{leaves_then, used_bound}
-use Rattle.std.proofs.Common.{ap}
-use Rattle.frame_pool.specs.Pools.{order_of}
 use Rattle.page_cache.proofs.Goes.{ends_of, ends_ok}
 use Rattle.page_cache.proofs.Stills.{few_then}
 use Rattle.page_cache.specs.declared.tables.CacheTables.{CacheTables}

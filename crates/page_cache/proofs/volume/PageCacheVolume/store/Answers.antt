@@ -1,5 +1,4 @@
-use Rattle.std.proofs.Common.{rules, ◌∙◌, ap, inl, inr}
-use Rattle.rio_base.specs.MachineRules.{lasts_trans, steps_trans}
+use Rattle.page_cache.proofs.Common.{rules, ◌∙◌, ap, inl, inr, lasts_trans, steps_trans}
 use Rattle.page_cache.specs.declared.tables.CacheTables.{CacheTables}
 use Rattle.page_cache.proofs.StoreCalls.{named_put, stored_put}
 use Rattle.page_cache.proofs.Settling.{keeps_to, put_then, same_put, settles, settles_kept}

@@ -1,5 +1,5 @@
-use Rattle.std.proofs.Common.{◌∙◌, ap, arith, length}
-use Rattle.rio_base.specs.MachineRules.{lasts_trans, steps_trans}
+use Rattle.page_cache.proofs.Common.{◌∙◌, ap, arith, lasts_trans, steps_trans}
+use Rattle.std.proofs.Common.{length}
 use Rattle.page_cache.specs.declared.tables.CacheTables.{CacheTables}
 use Rattle.page_cache.proofs.StoreCalls.{stored_put}
 use Rattle.page_cache.proofs.Settling.{run_front, run_then, same_run, settles, settles_kept}

@@ -1,7 +1,5 @@
-use Rattle.std.proofs.Common.{◌∙◌}
-use Rattle.rio_base.specs.MachineRules.{lasts_trans, steps_trans}
-use Rattle.rio_model.specs.CoverLookups.{found_is}
-use Rattle.rio_model.specs.CoverSteps.{keeps_trans}
+use Rattle.page_cache.proofs.Common.{◌∙◌, lasts_trans, steps_trans, found_is}
+use Rattle.rio_model.proofs.CoverSteps.{keeps_trans}
 use Rattle.page_cache.specs.Settled.{gate_open}
 use Rattle.page_cache.proofs.Rooms.{caches_adds}
 use Rattle.page_cache.proofs.Stills.{few_then}

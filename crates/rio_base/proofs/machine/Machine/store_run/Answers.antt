@@ -1,7 +1,7 @@
 use Rattle.std.proofs.Common.{◌+◌, length, slice_index, slice_set, refl, ◌∙◌, sym, ap, subst}
 use Rattle.rio_base.specs.Disks.{raised}
 use Rattle.rio_base.specs.Machine.{Contents, Falls}
-use Rattle.rio_base.specs.MachineRules.{steps_trans, falls_trans}
+use Rattle.rio_base.proofs.MachineRules.{steps_trans, falls_trans}
 use Rattle.rio_base.specs.Rules.{true_false}
 use Rattle.rio_base.proofs.PageCopies.{raised_next}
 use Rattle.rio_base.proofs.WordRuns.{front_next, run_within}

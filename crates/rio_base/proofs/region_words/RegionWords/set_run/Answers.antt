@@ -1,5 +1,5 @@
 use Rattle.std.proofs.Common.{◌+◌, slice_index, refl, ◌∙◌, ap, le_trans}
-use Rattle.rio_base.specs.RegionRules.{stays_trans}
+use Rattle.rio_base.proofs.RegionRules.{stays_trans}
 use Rattle.rio_base.specs.Regions.{RegionContent, put_word}
 use Rattle.rio_base.proofs.RegionRuns.{set_front, set_next}
 use Rattle.rio_base.proofs.region_words.RegionWords.set_run.Goals as goal

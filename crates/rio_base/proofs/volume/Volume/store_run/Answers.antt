@@ -1,11 +1,10 @@
-use Rattle.std.proofs.Common.{◌≡◌, ◌<◌, ◌+◌, ℕ, ◌⊎◌, ◌∙◌, ap, le_trans, Option, true, subst, inl, inr, refl, arith, List, slice_index}
-use Rattle.std.proofs.Common.{◌≢◌}
+use Rattle.std.proofs.Common.{◌≡◌, ◌<◌, ◌+◌, ℕ, ◌⊎◌, ◌∙◌, ap, le_trans, Option, true, subst, inl, inr, refl, arith, List, slice_index, ◌≢◌}
 use Rattle.std.proofs.lemmas.Bool.{cases_eq}
 use Rattle.rio_base.specs.declared.places.PageName.{PageName}
 use Rattle.rio_base.specs.Blocks.{BlockWords, Seen}
 use Rattle.rio_base.specs.Rules.{goes_trans, firm_trans}
 use Rattle.rio_base.specs.Volume.{OldOrPut, OldOrRun, RunName, put, put_run, stored_name}
-use Rattle.rio_base.specs.BlockRules.{can_name_stored, same_trans, stored_trans}
+use Rattle.rio_base.proofs.BlockRules.{can_name_stored, same_trans, stored_trans}
 use Rattle.rio_base.proofs.VolumeRuns.{put_next, run_name_next}
 use Rattle.rio_base.proofs.volume.Volume.store_run.Goals as goal
 

@@ -1,4 +1,4 @@
-use Rattle.std.proofs.Common.{ap, ◌∙◌}
+use Rattle.rio_model.proofs.Common.{ap, ◌∙◌}
 use Rattle.std.specs.Str.{bytes_eq}
 use Rattle.rio_model.proofs.NameOrder.{name_tied_in}
 use Rattle.rio_model.proofs.rows.NameRow.is_at.Goals as goal

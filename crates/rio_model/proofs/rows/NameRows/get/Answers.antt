@@ -1,5 +1,4 @@
-use Rattle.std.proofs.Common.{ap, ◌∙◌}
-use Rattle.std.specs.FinMap.{get}
+use Rattle.rio_model.proofs.Common.{ap, ◌∙◌, get}
 use Rattle.rio_model.proofs.NameOrder.{name_get-from_entries}
 use Rattle.rio_model.proofs.rows.NameRows.get.Goals as goal
 

@@ -1,5 +1,4 @@
-use Rattle.std.proofs.Common.{◌≡◌, drop}
-use Rattle.std.specs.FinMap.{get, find}
+use Rattle.rio_model.proofs.Common.{◌≡◌, drop, get, find}
 use Rattle.rio_model.specs.Names.{name_cmp, row_entries}
 use Rattle.rio_model.proofs.rows.NameRows.get.Given as goal
 

@@ -1,7 +1,5 @@
-use Rattle.std.proofs.Common.{rules, ap, ◌∙◌}
-use Rattle.std.specs.Prelude.{not}
-use Rattle.std.specs.FinMap.{from_entries, remove}
-use Rattle.std.specs.Ordering.{eq_by_cmp}
+use Rattle.rio_model.proofs.Common.{ap, ◌∙◌, not, from_entries, remove, eq_by_cmp}
+use Rattle.std.proofs.Common.{rules}
 use Rattle.std.proofs.lemmas.Fn.{filter_same}
 use Rattle.rio_model.specs.Names.{name_cmp, row_entry, row_entries}
 use Rattle.rio_model.specs.declared.rows.NameRow.{NameRow}

@@ -1,6 +1,4 @@
-use Rattle.std.proofs.Common.{ap, ◌∙◌}
-use Rattle.std.specs.FinMap.{get, get-from_entries}
-use Rattle.std.specs.Cmp.{nat_cmp_total}
+use Rattle.rio_model.proofs.Common.{ap, ◌∙◌, get, get-from_entries, nat_cmp_total}
 use Rattle.rio_model.proofs.rows.NodeRows.get.Goals as goal
 
 pub loop-row-init : goal.loop-row-init

@@ -1,6 +1,4 @@
-use Rattle.std.proofs.Common.{◌≡◌, drop}
-use Rattle.std.specs.Ordering.{nat_cmp}
-use Rattle.std.specs.FinMap.{get, find}
+use Rattle.rio_model.proofs.Common.{◌≡◌, drop, nat_cmp, get, find}
 use Rattle.rio_model.specs.Nodes.{node_entries}
 use Rattle.rio_model.proofs.rows.NodeRows.get.Given as goal
 

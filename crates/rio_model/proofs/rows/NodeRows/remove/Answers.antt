@@ -1,7 +1,5 @@
-use Rattle.std.proofs.Common.{rules, ap, ◌∙◌}
-use Rattle.std.specs.Prelude.{not}
-use Rattle.std.specs.FinMap.{from_entries, remove}
-use Rattle.std.specs.Ordering.{nat_cmp, eq_by_cmp}
+use Rattle.rio_model.proofs.Common.{ap, ◌∙◌, not, from_entries, remove, nat_cmp, eq_by_cmp}
+use Rattle.std.proofs.Common.{rules}
 use Rattle.std.proofs.lemmas.Fn.{filter_same}
 use Rattle.rio_model.specs.Nodes.{node_entries}
 use Rattle.rio_model.specs.declared.rows.NodeRow.{NodeRow}

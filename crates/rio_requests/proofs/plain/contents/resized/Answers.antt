@@ -1,4 +1,4 @@
-use Rattle.std.proofs.Common.{◌≡◌, ◌++◌, take, ap, arith, ◌∙◌}
+use Rattle.rio_requests.proofs.Common.{◌≡◌, ◌++◌, take, ap, arith, ◌∙◌}
 use Rattle.rio_requests.proofs.FileAnswers.{resized_by}
 use Rattle.rio_requests.proofs.plain.contents.resized.Goals as goal
 

@@ -1,10 +1,5 @@
-use Rattle.std.proofs.Common.{length, sym, ap, ◌∙◌}
-use Rattle.std.specs.Prelude.{nat_lt}
+use Rattle.rio_requests.proofs.Common.{length, sym, ap, ◌∙◌, nat_lt, with_node, resized, free_count, File}
 use Rattle.rio_requests.specs.Answer.{answered}
-use Rattle.rio_model.specs.States.{with_node}
-use Rattle.rio_model.specs.FileParts.{resized}
-use Rattle.rio_model.specs.Sizes.{free_count}
-use Rattle.rio_model.specs.declared.node.Node.TheVariants.{File}
 use Rattle.rio_requests.specs.declared.reply.Reply.TheVariants.{Ok as Done}
 use Rattle.rio_requests.proofs.AnswerSteps.{ends_as}
 use Rattle.rio_requests.proofs.FileAnswers.{len_large, len_small, room_lacking, room_there, too_large}

@@ -1,5 +1,4 @@
-use Rattle.std.proofs.Common.{◌<◌, length, arith, ◌∙◌}
-use Rattle.std.proofs.lemmas.Bool.Decides.{nat_tests}
+use Rattle.rio_requests.proofs.Common.{◌<◌, length, arith, ◌∙◌, nat_tests}
 use Rattle.rio_requests.proofs.AnswerSteps.{ends_as}
 use Rattle.rio_requests.proofs.FileAnswers.{end_large, end_small, none_written, write_lacks, write_large, write_there}
 use Rattle.rio_requests.proofs.plain.contents.write_file.Goals as goal

@@ -1,5 +1,4 @@
-use Rattle.std.proofs.Common.{◌≡◌, ◌<◌, ◌≤◌, ◌++◌, length, drop, ap, arith, ◌∙◌}
-use Rattle.std.proofs.lemmas.Bool.Decides.{nat_tests}
+use Rattle.rio_requests.proofs.Common.{◌≡◌, ◌<◌, ◌≤◌, ◌++◌, length, drop, ap, arith, ◌∙◌, nat_tests}
 use Rattle.std.proofs.lemmas.List.{take_rest}
 use Rattle.rio_requests.proofs.FileAnswers.{written_past, written_within}
 use Rattle.rio_requests.proofs.plain.contents.written.Goals as goal

@@ -1,4 +1,4 @@
-use Rattle.std.proofs.Common.{sym, ◌∙◌}
+use Rattle.rio_requests.proofs.Common.{sym, ◌∙◌}
 use Rattle.rio_requests.proofs.RegionSteps.{range_passed}
 use Rattle.rio_requests.proofs.plain.data.all_in_range.Goals as goal
 

@@ -1,4 +1,4 @@
-use Rattle.std.proofs.Common.{◌≡◌, ◌+◌, ◌-◌}
+use Rattle.rio_requests.proofs.Common.{◌≡◌, ◌+◌, ◌-◌}
 use Rattle.rio_requests.specs.RegionAnswers.{all_in_range}
 use Rattle.rio_requests.proofs.plain.data.all_in_range.Given as goal
 

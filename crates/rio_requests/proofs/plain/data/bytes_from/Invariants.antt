@@ -1,4 +1,4 @@
-use Rattle.std.proofs.Common.{◌≡◌}
+use Rattle.rio_requests.proofs.Common.{◌≡◌}
 use Rattle.std.specs.Prelude.{slice_index_or}
 use Rattle.rio_model.specs.Held.{bytes_in}
 use Rattle.rio_requests.proofs.plain.data.bytes_from.Given as goal

@@ -1,4 +1,4 @@
-use Rattle.std.proofs.Common.{◌≡◌, drop}
+use Rattle.rio_requests.proofs.Common.{◌≡◌, drop}
 use Rattle.rio_requests.specs.RegionAnswers.{in_range}
 use Rattle.rio_requests.proofs.plain.data.in_range.Given as goal
 

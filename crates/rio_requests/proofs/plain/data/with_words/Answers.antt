@@ -1,4 +1,4 @@
-use Rattle.std.proofs.Common.{◌≡◌, ◌/◌, length, ap, ◌∙◌, arith}
+use Rattle.rio_requests.proofs.Common.{◌≡◌, ◌/◌, length, ap, ◌∙◌, arith}
 use Rattle.std.proofs.lemmas.List.FromFn.{length-map-range_with_len}
 use Rattle.rio_requests.proofs.plain.data.with_words.Goals as goal
 

@@ -1,4 +1,4 @@
-use Rattle.std.proofs.Common.{◌≡◌, ◌+◌, ◌*◌, drop, ap, ◌∙◌, arith}
+use Rattle.rio_requests.proofs.Common.{◌≡◌, ◌+◌, ◌*◌, drop, ap, ◌∙◌, arith}
 use Rattle.byteorder.specs.Endian.{little_number}
 use Rattle.rio_requests.proofs.RegionSteps.{pushed}
 use Rattle.rio_requests.proofs.plain.data.words_of.Goals as goal

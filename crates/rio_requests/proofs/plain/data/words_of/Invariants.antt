@@ -1,5 +1,4 @@
-use Rattle.std.proofs.Common.{◌≡◌, ◌*◌, map, drop}
-use Rattle.std.specs.List.{range_with_len}
+use Rattle.rio_requests.proofs.Common.{◌≡◌, ◌*◌, map, drop, range_with_len}
 use Rattle.byteorder.specs.Endian.{little_number}
 use Rattle.rio_requests.proofs.plain.data.words_of.Given as goal
 

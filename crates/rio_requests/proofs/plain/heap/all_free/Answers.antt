@@ -1,4 +1,4 @@
-use Rattle.std.proofs.Common.{sym, ◌∙◌}
+use Rattle.rio_requests.proofs.Common.{sym, ◌∙◌}
 use Rattle.rio_requests.proofs.RegionSteps.{free_passed}
 use Rattle.rio_requests.proofs.plain.heap.all_free.Goals as goal
 

@@ -1,4 +1,4 @@
-use Rattle.std.proofs.Common.{◌≡◌, ◌+◌, ◌-◌}
+use Rattle.rio_requests.proofs.Common.{◌≡◌, ◌+◌, ◌-◌}
 use Rattle.rio_requests.specs.RegionAnswers.{all_free}
 use Rattle.rio_requests.proofs.plain.heap.all_free.Given as goal
 

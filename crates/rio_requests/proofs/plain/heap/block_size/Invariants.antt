@@ -1,4 +1,4 @@
-use Rattle.std.proofs.Common.{◌≡◌, drop}
+use Rattle.rio_requests.proofs.Common.{◌≡◌, drop}
 use Rattle.rio_model.specs.Heap.{block_size}
 use Rattle.rio_requests.proofs.plain.heap.block_size.Given as goal
 

@@ -1,5 +1,5 @@
-use Rattle.std.proofs.Common.{◌+◌, sym, ap, ◌∙◌}
-use Rattle.std.specs.Prelude.{nat_le, ◌&&◌}
+use Rattle.rio_requests.proofs.Common.{◌+◌, sym, ap, ◌∙◌, ◌&&◌}
+use Rattle.std.specs.Prelude.{nat_le}
 use Rattle.rio_requests.specs.RegionAnswers.{all_free}
 use Rattle.rio_requests.proofs.FreeInodes.{find-passed}
 use Rattle.rio_requests.proofs.plain.heap.first_fit.Goals as goal

@@ -1,6 +1,5 @@
-use Rattle.std.proofs.Common.{◌≡◌, ◌+◌, ◌-◌}
-use Rattle.std.specs.Prelude.{find, nat_le, ◌&&◌}
-use Rattle.std.specs.List.{range_with_len}
+use Rattle.rio_requests.proofs.Common.{◌≡◌, ◌+◌, ◌-◌, find, ◌&&◌, range_with_len}
+use Rattle.std.specs.Prelude.{nat_le}
 use Rattle.rio_requests.specs.RegionAnswers.{all_free, first_fit, units_in}
 use Rattle.rio_requests.proofs.plain.heap.first_fit.Given as goal
 

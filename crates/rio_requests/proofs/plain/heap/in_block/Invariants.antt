@@ -1,4 +1,4 @@
-use Rattle.std.proofs.Common.{◌≡◌, drop}
+use Rattle.rio_requests.proofs.Common.{◌≡◌, drop}
 use Rattle.rio_model.specs.Heap.{in_block}
 use Rattle.rio_requests.proofs.plain.heap.in_block.Given as goal
 

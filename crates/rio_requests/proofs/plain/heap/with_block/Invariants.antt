@@ -1,4 +1,4 @@
-use Rattle.std.proofs.Common.{◌≡◌, ◌++◌, take, drop}
+use Rattle.rio_requests.proofs.Common.{◌≡◌, ◌++◌, take, drop}
 use Rattle.rio_model.specs.Heap.{with_block}
 use Rattle.rio_requests.proofs.plain.heap.with_block.Given as goal
 

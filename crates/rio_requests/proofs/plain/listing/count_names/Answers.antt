@@ -1,4 +1,4 @@
-use Rattle.std.proofs.Common.{length, ap, ◌∙◌}
+use Rattle.rio_requests.proofs.Common.{length, ap, ◌∙◌}
 use Rattle.rio_requests.proofs.plain.listing.count_names.Goals as goal
 
 pub returns-clause-is : goal.returns-clause-is

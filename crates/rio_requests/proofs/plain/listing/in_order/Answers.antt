@@ -1,4 +1,4 @@
-use Rattle.std.proofs.Common.{arith}
+use Rattle.rio_requests.proofs.Common.{arith}
 use Rattle.rio_requests.proofs.Listing.{none_placed, placed_next}
 use Rattle.rio_requests.proofs.plain.listing.in_order.Goals as goal
 

@@ -1,6 +1,5 @@
-use Rattle.std.proofs.Common.{◌≡◌, ◌≤◌, length, drop}
+use Rattle.rio_requests.proofs.Common.{◌≡◌, ◌≤◌, length, drop, name_cmp, row_entries}
 use Rattle.std.specs.FinMap.{entries, from_entries}
-use Rattle.rio_model.specs.Names.{name_cmp, row_entries}
 use Rattle.rio_requests.proofs.plain.listing.in_order.Given as goal
 
 abbrev pub decreases-loop-left : goal.decreases-loop-left

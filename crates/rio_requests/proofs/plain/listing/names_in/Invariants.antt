@@ -1,4 +1,4 @@
-use Rattle.std.proofs.Common.{◌≡◌, take}
+use Rattle.rio_requests.proofs.Common.{◌≡◌, take}
 use Rattle.rio_requests.proofs.Listing.{names_among}
 use Rattle.rio_requests.proofs.plain.listing.names_in.Given as goal
 

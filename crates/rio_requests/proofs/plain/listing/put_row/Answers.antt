@@ -1,6 +1,4 @@
-use Rattle.std.proofs.Common.{◌<◌, ◌≤◌, length, sym, ap, ◌∙◌, arith}
-use Rattle.std.specs.FinMap.{put}
-use Rattle.rio_model.specs.Names.{name_cmp, row_entries}
+use Rattle.rio_requests.proofs.Common.{◌<◌, ◌≤◌, length, sym, ap, ◌∙◌, arith, put, name_cmp, row_entries}
 use Rattle.rio_requests.proofs.Listing.{put-less, put-set, put-end, same_read}
 use Rattle.rio_model.specs.declared.rows.NameRow.{NameRow}
 use Rattle.rio_requests.proofs.plain.listing.put_row.Goals as goal

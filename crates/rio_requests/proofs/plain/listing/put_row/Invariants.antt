@@ -1,6 +1,4 @@
-use Rattle.std.proofs.Common.{◌≡◌, ◌++◌, take, drop}
-use Rattle.std.specs.FinMap.{put}
-use Rattle.rio_model.specs.Names.{name_cmp, row_entries}
+use Rattle.rio_requests.proofs.Common.{◌≡◌, ◌++◌, take, drop, put, name_cmp, row_entries}
 use Rattle.rio_requests.proofs.plain.listing.put_row.Given as goal
 
 -- the row belongs behind those passed

@@ -1,4 +1,4 @@
-use Rattle.std.proofs.Common.{◌*◌, ap}
+use Rattle.rio_requests.proofs.Common.{◌*◌, ap}
 use Rattle.rio_requests.proofs.AnswerSteps.{ends_as}
 use Rattle.rio_requests.proofs.plain.looking.rows_size.Goals as goal
 

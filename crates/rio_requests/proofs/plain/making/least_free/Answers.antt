@@ -1,6 +1,4 @@
-use Rattle.std.proofs.Common.{◌+◌, ap, ◌∙◌}
-use Rattle.std.specs.Prelude.{is_none}
-use Rattle.std.specs.FinMap.{get}
+use Rattle.rio_requests.proofs.Common.{◌+◌, ap, ◌∙◌, is_none, get}
 use Rattle.rio_requests.proofs.FreeInodes.{find-passed}
 use Rattle.rio_requests.proofs.plain.making.least_free.Goals as goal
 

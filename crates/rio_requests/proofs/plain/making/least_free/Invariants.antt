@@ -1,8 +1,4 @@
-use Rattle.std.proofs.Common.{◌≡◌, ◌+◌, ◌-◌}
-use Rattle.std.specs.Prelude.{is_none, find}
-use Rattle.std.specs.List.{range_with_len}
-use Rattle.std.specs.FinMap.{get}
-use Rattle.rio_model.specs.States.{least_free}
+use Rattle.rio_requests.proofs.Common.{◌≡◌, ◌+◌, ◌-◌, is_none, find, range_with_len, get, least_free}
 use Rattle.rio_requests.proofs.plain.making.least_free.Given as goal
 
 -- none below is free

@@ -1,9 +1,6 @@
-use Rattle.std.proofs.Common.{◌+◌, ap, ◌∙◌}
-use Rattle.std.specs.Prelude.{nat_lt}
+use Rattle.rio_requests.proofs.Common.{◌+◌, ap, ◌∙◌, nat_lt, with_new, free_count}
 use Rattle.rio_requests.specs.Answer.{answered}
-use Rattle.rio_model.specs.States.{with_new}
 use Rattle.rio_requests.specs.Answers.{new_blocks, row_wanted}
-use Rattle.rio_model.specs.Sizes.{free_count}
 use Rattle.rio_requests.specs.declared.reply.Reply.TheVariants.{Number}
 use Rattle.rio_requests.proofs.AnswerSteps.{ends_as, room_is, room_lacks}
 use Rattle.rio_requests.proofs.plain.making.make_new.Goals as goal

@@ -1,9 +1,7 @@
-use Rattle.std.proofs.Common.{◌≡◌, ◌<◌, [], ◌∷◌, ◌++◌, length, get_or, arith}
-use Rattle.std.proofs.lemmas.Bool.Decides.{nat_tests}
+use Rattle.rio_requests.proofs.Common.{◌≡◌, ◌<◌, [], ◌∷◌, ◌++◌, length, get_or, arith, nat_tests}
 use Rattle.rio_model.proofs.PathPieces.{piece_ended, piece_longer, Lacks-longer, Lacks-none, pieces_and_last, pieces_alone}
 use Rattle.rio_requests.proofs.plain.paths.pieces.Goals as goal
-use Rattle.rio_requests.proofs.plain.paths.pieces.Goals.{then-byte-eq47+in_ok-push, else-byte-eq47+in_ok-push-2}
-use Rattle.rio_requests.proofs.plain.paths.pieces.Goals.{then-not-is_empty+in_ok-push-3, else-not-is_empty}
+use Rattle.rio_requests.proofs.plain.paths.pieces.Goals.{then-byte-eq47+in_ok-push, else-byte-eq47+in_ok-push-2, then-not-is_empty+in_ok-push-3, else-not-is_empty}
 
 pub loop-byte-preserved : goal.loop-byte-preserved
 loop-byte-preserved c = elim c.if-byte-eq47.branch [

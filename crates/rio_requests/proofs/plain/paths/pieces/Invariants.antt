@@ -1,4 +1,4 @@
-use Rattle.std.proofs.Common.{◌≡◌, ◌++◌, drop}
+use Rattle.rio_requests.proofs.Common.{◌≡◌, ◌++◌, drop}
 use Rattle.rio_base.specs.Pieces.{pieces, Lacks}
 use Rattle.rio_requests.proofs.plain.paths.pieces.Given as goal
 

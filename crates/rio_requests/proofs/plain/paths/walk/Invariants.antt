@@ -1,5 +1,4 @@
-use Rattle.std.proofs.Common.{◌≡◌, drop}
-use Rattle.rio_model.specs.Paths.{walk}
+use Rattle.rio_requests.proofs.Common.{◌≡◌, drop, walk}
 use Rattle.rio_requests.proofs.plain.paths.walk.Given as goal
 
 -- the rest of the walk ends as the whole of it

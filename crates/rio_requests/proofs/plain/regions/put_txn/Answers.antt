@@ -1,4 +1,4 @@
-use Rattle.std.proofs.Common.{◌+◌, ◌++◌, take, drop, sym, ap, ◌∙◌}
+use Rattle.rio_requests.proofs.Common.{◌+◌, ◌++◌, take, drop, sym, ap, ◌∙◌}
 use Rattle.rio_requests.specs.Transactions.{txn_before}
 use Rattle.rio_requests.proofs.RegionSteps.{row_set}
 use Rattle.rio_requests.proofs.plain.regions.put_txn.Goals as goal

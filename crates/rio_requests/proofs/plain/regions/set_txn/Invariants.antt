@@ -1,4 +1,4 @@
-use Rattle.std.proofs.Common.{◌≡◌, ◌++◌, take, drop}
+use Rattle.rio_requests.proofs.Common.{◌≡◌, ◌++◌, take, drop}
 use Rattle.rio_requests.specs.Transactions.{set_txn}
 use Rattle.rio_requests.proofs.plain.regions.set_txn.Given as goal
 

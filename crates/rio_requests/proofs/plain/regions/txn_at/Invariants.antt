@@ -1,4 +1,4 @@
-use Rattle.std.proofs.Common.{◌≡◌, drop}
+use Rattle.rio_requests.proofs.Common.{◌≡◌, drop}
 use Rattle.rio_requests.specs.Transactions.{txn_at}
 use Rattle.rio_requests.proofs.plain.regions.txn_at.Given as goal
 

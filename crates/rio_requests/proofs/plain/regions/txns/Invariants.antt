@@ -1,5 +1,4 @@
-use Rattle.std.proofs.Common.{◌≡◌, map, take}
-use Rattle.rio_model.specs.declared.txn.Txn.{Txn}
+use Rattle.rio_requests.proofs.Common.{◌≡◌, map, take, Txn}
 use Rattle.rio_requests.proofs.plain.regions.txns.Given as goal
 
 -- those passed are listed

@@ -1,6 +1,5 @@
-use Rattle.std.proofs.Common.{◌≡◌, drop, map}
+use Rattle.rio_requests.proofs.Common.{◌≡◌, drop, map, Txn}
 use Rattle.rio_requests.specs.Answers.{is_among}
-use Rattle.rio_model.specs.declared.txn.Txn.{Txn}
 use Rattle.rio_requests.proofs.plain.removing.is_among.Given as goal
 
 -- the transactions left tell

@@ -1,7 +1,5 @@
-use Rattle.std.proofs.Common.{◌≡◌, ◌<◌, ◌≤◌, true, false, length, arith, sym, ap, ◌∙◌}
-use Rattle.std.specs.Prelude.{nat_lt}
+use Rattle.rio_requests.proofs.Common.{◌≡◌, ◌<◌, ◌≤◌, true, false, length, arith, sym, ap, ◌∙◌, nat_lt, nat_tests}
 use Rattle.std.specs.Str.{bytes_eq}
-use Rattle.std.proofs.lemmas.Bool.Decides.{nat_tests}
 use Rattle.rio_requests.proofs.AnswerSteps.{below_apart, below_end, below_next, below_past}
 use Rattle.rio_requests.proofs.plain.renaming.is_below.Goals as goal
 

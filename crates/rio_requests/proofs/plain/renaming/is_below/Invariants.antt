@@ -1,4 +1,4 @@
-use Rattle.std.proofs.Common.{◌≡◌, drop}
+use Rattle.rio_requests.proofs.Common.{◌≡◌, drop}
 use Rattle.rio_requests.specs.Answers.{is_below}
 use Rattle.rio_requests.proofs.plain.renaming.is_below.Given as goal
 

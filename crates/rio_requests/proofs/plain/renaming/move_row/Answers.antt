@@ -1,8 +1,6 @@
-use Rattle.std.proofs.Common.{◌==◌, cond, ap, ◌∙◌}
-use Rattle.std.specs.Prelude.{nat_lt}
+use Rattle.rio_requests.proofs.Common.{◌==◌, cond, ap, ◌∙◌, nat_lt, free_count}
 use Rattle.rio_requests.specs.Answer.{answered}
 use Rattle.rio_requests.specs.Answers.{moved, row_wanted}
-use Rattle.rio_model.specs.Sizes.{free_count}
 use Rattle.rio_requests.specs.declared.reply.Reply.TheVariants.{Ok as Done}
 use Rattle.rio_requests.proofs.AnswerSteps.{ends_as, room_is, room_lacks}
 use Rattle.rio_requests.proofs.plain.renaming.move_row.Goals as goal

@@ -1,4 +1,4 @@
-use Rattle.rio_model.specs.Transactions.{open_inodes}
+use Rattle.rio_requests.proofs.Common.{open_inodes}
 use Rattle.rio_requests.proofs.AnswerSteps.{ends_as, from_missing}
 use Rattle.rio_requests.proofs.plain.renaming.rename_at.Goals as goal
 

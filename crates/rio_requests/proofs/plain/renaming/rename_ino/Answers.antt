@@ -1,6 +1,4 @@
-use Rattle.std.proofs.Common.{arith}
-use Rattle.std.proofs.lemmas.Bool.Decides.{nat_tests}
-use Rattle.rio_model.specs.Transactions.{open_inodes}
+use Rattle.rio_requests.proofs.Common.{arith, nat_tests, open_inodes}
 use Rattle.rio_requests.proofs.AnswerSteps.{ends_as, to_found, to_missing, to_root}
 use Rattle.rio_requests.proofs.plain.renaming.rename_ino.Goals as goal
 

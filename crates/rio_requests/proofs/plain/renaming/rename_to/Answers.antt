@@ -1,9 +1,5 @@
-use Rattle.std.proofs.Common.{◌<◌, length, sym, ap, arith, ◌∙◌}
-use Rattle.std.specs.FinMap.{get}
-use Rattle.rio_model.specs.States.{last_of}
+use Rattle.rio_requests.proofs.Common.{◌<◌, length, sym, ap, arith, ◌∙◌, get, last_of, nat_tests, open_inodes}
 use Rattle.rio_requests.specs.Answers.{rename_row}
-use Rattle.std.proofs.lemmas.Bool.Decides.{nat_tests}
-use Rattle.rio_model.specs.Transactions.{open_inodes}
 use Rattle.rio_requests.proofs.AnswerSteps.{ends_as, from_above, from_astray, from_found, from_root}
 use Rattle.rio_requests.proofs.plain.renaming.rename_to.Goals as goal
 

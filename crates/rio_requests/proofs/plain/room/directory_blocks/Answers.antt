@@ -1,5 +1,4 @@
-use Rattle.std.proofs.Common.{◌*◌, ap, ◌∙◌}
-use Rattle.rio_model.specs.Sizes.{blocks_for}
+use Rattle.rio_requests.proofs.Common.{◌*◌, ap, ◌∙◌, blocks_for}
 use Rattle.rio_requests.proofs.plain.room.directory_blocks.Goals as goal
 
 pub returns : goal.returns

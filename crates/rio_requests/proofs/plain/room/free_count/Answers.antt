@@ -1,6 +1,4 @@
-use Rattle.std.proofs.Common.{arith}
-use Rattle.std.specs.FinMap.{get}
-use Rattle.rio_model.specs.Sizes.{node_blocks}
+use Rattle.rio_requests.proofs.Common.{arith, get, node_blocks}
 use Rattle.rio_requests.proofs.Room.{left_all, left_more}
 use Rattle.rio_requests.proofs.plain.room.free_count.Goals as goal
 

@@ -1,9 +1,4 @@
-use Rattle.std.proofs.Common.{◌≡◌, ◌-◌, map}
-use Rattle.std.specs.Prelude.{sum}
-use Rattle.std.specs.List.{range_with_len}
-use Rattle.std.specs.FinMap.{get}
-use Rattle.rio_base.specs.Shapes.{reserved}
-use Rattle.rio_model.specs.Sizes.{node_blocks}
+use Rattle.rio_requests.proofs.Common.{◌≡◌, ◌-◌, map, sum, range_with_len, get, reserved, node_blocks}
 use Rattle.rio_requests.proofs.plain.room.free_count.Given as goal
 
 -- what the nodes passed leave

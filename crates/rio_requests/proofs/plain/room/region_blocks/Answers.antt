@@ -1,5 +1,4 @@
-use Rattle.std.proofs.Common.{◌+◌, cond, ap, ◌∙◌}
-use Rattle.std.specs.Prelude.{nat_lt}
+use Rattle.rio_requests.proofs.Common.{◌+◌, cond, ap, ◌∙◌, nat_lt}
 use Rattle.rio_model.specs.Sizes.{data_pages}
 use Rattle.rio_requests.proofs.Room.{region_pages}
 use Rattle.rio_requests.proofs.plain.room.region_blocks.Goals as goal

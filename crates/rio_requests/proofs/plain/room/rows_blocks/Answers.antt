@@ -1,5 +1,4 @@
-use Rattle.std.proofs.Common.{◌≡◌, ◌+◌, ◌*◌, ◌/◌, cond, ap, ◌∙◌, arith}
-use Rattle.std.specs.Prelude.{nat_lt}
+use Rattle.rio_requests.proofs.Common.{◌≡◌, ◌+◌, ◌*◌, ◌/◌, cond, ap, ◌∙◌, arith, nat_lt}
 use Rattle.rio_requests.proofs.plain.room.rows_blocks.Goals as goal
 
 pub returns-clause-is : goal.returns-clause-is

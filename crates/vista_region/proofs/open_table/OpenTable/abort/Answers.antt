@@ -1,7 +1,5 @@
-use Rattle.std.proofs.Common.{refl, ◌∙◌, sym, subst, ap}
-use Rattle.std.specs.Prelude.{IsErr, OnOk, not}
-use Rattle.std.proofs.lemmas.Result.{err_from_is_err_and}
-use Rattle.rio_model.specs.Undo.{IsRegion, Undone}
+use Rattle.vista_region.proofs.Common.{refl, ◌∙◌, sym, subst, ap, OnOk, not, err_from_is_err_and, IsRegion, Undone}
+use Rattle.std.specs.Prelude.{IsErr}
 use Rattle.vista_region.proofs.Ended.{abort_done, dooming_fits, not_stopped, some_of}
 use Rattle.vista_region.proofs.open_table.OpenTable.abort.Goals as goal
 

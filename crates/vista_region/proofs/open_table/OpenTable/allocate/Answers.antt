@@ -1,6 +1,4 @@
-use Rattle.std.proofs.Common.{◌∙◌, sym, subst}
-use Rattle.std.proofs.lemmas.Result.{err_from_is_err_and}
-use Rattle.rio_model.specs.Undo.{IsRegion}
+use Rattle.vista_region.proofs.Common.{◌∙◌, sym, subst, err_from_is_err_and, IsRegion}
 use Rattle.vista_region.proofs.Ended.{dooming_fits, fits_open, not_stopped}
 use Rattle.vista_region.proofs.Outcomes.{is_open}
 use Rattle.vista_region.proofs.open_table.OpenTable.allocate.Goals as goal

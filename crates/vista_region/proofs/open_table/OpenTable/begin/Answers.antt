@@ -1,4 +1,4 @@
-use Rattle.std.proofs.Common.{false, sym, subst, ◌∙◌, ◌≡◌, None, Some}
+use Rattle.vista_region.proofs.Common.{false, sym, subst, ◌∙◌, ◌≡◌, None, Some}
 use Rattle.vista_region.specs.Marks.{Marks, mark_of, set_mark}
 use Rattle.vista_region.proofs.MarkRows.{began}
 use Rattle.vista_region.proofs.open_table.OpenTable.begin.Goals as goal

@@ -1,4 +1,4 @@
-use Rattle.std.proofs.Common.{None, ◌∙◌, sym, ap}
+use Rattle.vista_region.proofs.Common.{None, ◌∙◌, sym, ap}
 use Rattle.vista_region.specs.Marks.{set_mark}
 use Rattle.vista_region.proofs.MarkRows.{mark_is, removed}
 use Rattle.vista_region.proofs.open_table.OpenTable.close.Goals as goal

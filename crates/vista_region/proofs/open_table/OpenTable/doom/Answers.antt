@@ -1,4 +1,4 @@
-use Rattle.std.proofs.Common.{Bool, Some, true, ◌≡◌, ◌∙◌, subst, sym, ap}
+use Rattle.vista_region.proofs.Common.{Bool, Some, true, ◌≡◌, ◌∙◌, subst, sym, ap}
 use Rattle.vista_region.specs.Marks.{mark_of, set_mark}
 use Rattle.vista_region.proofs.MarkRows.{doomed}
 use Rattle.vista_region.proofs.open_table.OpenTable.doom.Goals as goal

@@ -1,10 +1,6 @@
-use Rattle.std.proofs.Common.{◌≡◌, ℕ, Some, Err, ◌+◌, ◌-◌, ◌*◌, ◌<◌, ◌≤◌, ◌∙◌, ◌++◌, ap, sym, subst}
+use Rattle.vista_region.proofs.Common.{◌≡◌, ℕ, Some, Err, ◌+◌, ◌-◌, ◌*◌, ◌<◌, ◌≤◌, ◌∙◌, ◌++◌, ap, sym, subst, err_from_is_err_and, RegionContent, bytes_in, live, map_pages}
 use Rattle.std.specs.Prelude.{IfErr}
-use Rattle.std.proofs.lemmas.Result.{err_from_is_err_and}
-use Rattle.rio_base.specs.Regions.{RegionContent}
 use Rattle.rio_base.specs.Rules.{none_some}
-use Rattle.rio_model.specs.Held.{bytes_in}
-use Rattle.rio_model.specs.Undo.{live, map_pages}
 use Rattle.rio_requests.specs.RegionAnswers.{get_on}
 use Rattle.vista_region.specs.Ends.{get_refusal_of}
 use Rattle.vista_region.specs.Marks.{txn_in}

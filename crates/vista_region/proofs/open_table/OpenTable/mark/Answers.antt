@@ -1,4 +1,4 @@
-use Rattle.std.proofs.Common.{◌∙◌, ap}
+use Rattle.vista_region.proofs.Common.{◌∙◌, ap}
 use Rattle.vista_region.specs.Marks.{mark_of}
 use Rattle.vista_region.proofs.MarkRows.{mark_is}
 use Rattle.vista_region.proofs.open_table.OpenTable.mark.Goals as goal

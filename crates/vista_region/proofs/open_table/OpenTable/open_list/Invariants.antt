@@ -1,4 +1,4 @@
-use Rattle.std.proofs.Common.{◌≡◌, ◌++◌, map}
+use Rattle.vista_region.proofs.Common.{◌≡◌, ◌++◌, map}
 use Rattle.rio_base.specs.declared.places.Ino.{Ino}
 use Rattle.vista_region.proofs.open_table.OpenTable.open_list.Given as goal
 

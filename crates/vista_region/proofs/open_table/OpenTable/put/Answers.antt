@@ -1,10 +1,5 @@
-use Rattle.std.proofs.Common.{ℕ, Err, ◌*◌, ◌/◌, ◌≤◌, ◌∙◌, ap, refl, sym, subst, length}
-use Rattle.std.proofs.lemmas.Result.{err_from_is_err_and}
-use Rattle.rio_base.specs.Blocks.{FaultAt}
-use Rattle.rio_base.specs.Regions.{RegionContent}
-use Rattle.rio_base.specs.declared.failures.RunFail.{RunFail}
-use Rattle.rio_model.specs.Undo.{CoversAll, Puts, undo_records}
-use Rattle.rio_requests.specs.RegionAnswers.{put_on, words_of}
+use Rattle.vista_region.proofs.Common.{ℕ, Err, ◌*◌, ◌/◌, ◌≤◌, ◌∙◌, ap, refl, sym, subst, length, err_from_is_err_and, FaultAt, RegionContent, RunFail, CoversAll, Puts, undo_records, words_of}
+use Rattle.rio_requests.specs.RegionAnswers.{put_on}
 use Rattle.vista_region.specs.Ends.{OnFault, PutPart, says_number}
 use Rattle.vista_region.specs.Marks.{txn_in}
 use Rattle.vista_region.specs.Regions.{region_now}

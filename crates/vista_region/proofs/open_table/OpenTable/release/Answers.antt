@@ -1,5 +1,4 @@
-use Rattle.std.proofs.Common.{◌∙◌, sym, subst}
-use Rattle.rio_model.specs.Undo.{IsRegion}
+use Rattle.vista_region.proofs.Common.{◌∙◌, sym, subst, IsRegion}
 use Rattle.vista_region.proofs.Ended.{dooming_fits, fits_open}
 use Rattle.vista_region.proofs.Outcomes.{is_open}
 use Rattle.vista_region.proofs.open_table.OpenTable.release.Goals as goal

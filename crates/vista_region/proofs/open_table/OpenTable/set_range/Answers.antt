@@ -1,7 +1,5 @@
-use Rattle.std.proofs.Common.{◌≡◌, Err, ◌+◌, ◌<◌, ◌≤◌, ◌∙◌, ap, refl, sym, subst}
-use Rattle.std.proofs.lemmas.Result.{err_from_is_err_and}
-use Rattle.rio_base.specs.Regions.{RegionContent}
-use Rattle.rio_model.specs.Undo.{Gains, Rests, taken, undo_records, undo_words}
+use Rattle.vista_region.proofs.Common.{◌≡◌, Err, ◌+◌, ◌<◌, ◌≤◌, ◌∙◌, ap, refl, sym, subst, err_from_is_err_and, RegionContent, Rests, taken, undo_records, undo_words}
+use Rattle.rio_model.specs.Undo.{Gains}
 use Rattle.rio_requests.specs.RegionAnswers.{range_on}
 use Rattle.vista_region.specs.Ends.{OnFault, TxnEnds, says_done}
 use Rattle.vista_region.specs.Marks.{txn_in}

@@ -1,0 +1,175 @@
+-- Laws of what specs/WalkRules.antt defines.
+use Rattle.file_store.proofs.Common.{None, Some, Result, Ok, Err, get, VolumeShape, BlockWords, State, front_of, last_of, held_of, walk_to_dir, from_found, is_dir, walk, found, is_below, ◌≡◌, ℕ, ◌+◌, ◌-◌, ◌<◌, ◌&&◌, Bool, true, false, cond, List, [], ◌∷◌, ◌++◌, length, Option, refl, sym, ap, subst, ◌∙◌, arith, append_assoc, append-nil, drop_more, take-append-drop, true_false, TreeRule}
+use Rattle.std.specs.Prelude.{◌≡◌, ℕ, List}
+use Rattle.rio_model.specs.Paths.{as_dir}
+use Rattle.std.proofs.Common.{Some, None, Ok, Err, Result}
+use Rattle.std.proofs.lemmas.List.{drop_all}
+use Rattle.std.proofs.lemmas.Slice.Eq.{bytes_eq-Decides}
+use Rattle.file_store.specs.WalkRules.{OutOfReach}
+
+-- the kind of a node
+abbrev pub kind_of : VolumeShape → BlockWords → ℕ → ℕ
+kind_of shape f i = (held_of shape f i).kind
+
+-- ---- over names and more names
+
+-- one name on
+pub walk_step : (s : State) (i j : ℕ) (name : List ℕ) (more : List (List ℕ)) → is_dir (get s.nodes i) ≡ true → get s.names (i, name) ≡ Some j → walk s i (name ∷ more) ≡ walk s j more
+walk_step s i j name more dir row = ap (λ b. cond b (from_found (get s.names (i, name)) (λ y. walk s y more)) (Err 4)) dir ∙ ap (λ o. from_found o (λ y. walk s y more)) row
+
+-- a walk over one name and more takes a row of a directory
+pub record Stepped (s : State) (i : ℕ) (name : List ℕ) (more : List (List ℕ)) (j : ℕ) : Type 0 where
+  pub over : ℕ
+  pub dir : is_dir (get s.nodes i) ≡ true
+  pub row : get s.names (i, name) ≡ Some over
+  pub rest : walk s over more ≡ Ok j
+
+pub stepped : (s : State) (i j : ℕ) (name : List ℕ) (more : List (List ℕ)) → walk s i (name ∷ more) ≡ Ok j → Stepped s i name more j
+stepped s i j name more e = by _ _ refl refl e
+  where
+    by : (b : Bool) (o : Option ℕ) → is_dir (get s.nodes i) ≡ b → get s.names (i, name) ≡ o → cond b (from_found o (λ y. walk s y more)) (Err 4) ≡ Ok j → Stepped s i name more j
+    by true (Some y) d o h = record { over = y; dir = d; row = o; rest = h }
+    by true None d o h = absurd (cc (h))
+    by false o d is h = absurd (cc (h))
+
+-- on from where a walk ended, or its refusal
+abbrev pub walk_on : State → Result ℕ ℕ → List (List ℕ) → Result ℕ ℕ
+walk_on s (Ok j) more = walk s j more
+walk_on s (Err number) more = Err number
+
+-- over names and more names, it goes on from where the first ones end
+pub walk_over : (s : State) (i : ℕ) (names more : List (List ℕ)) → walk s i (names ++ more) ≡ walk_on s (walk s i names) more
+walk_over s i [] more = refl
+walk_over s i (n ∷ ns) more = by (is_dir (get s.nodes i)) (get s.names (i, n)) (λ y. walk_over s y ns more)
+  where
+    by : (b : Bool) (o : Option ℕ) → ((y : ℕ) → walk s y (ns ++ more) ≡ walk_on s (walk s y ns) more) → cond b (from_found o (λ y. walk s y (ns ++ more))) (Err 4) ≡ walk_on s (cond b (from_found o (λ y. walk s y ns)) (Err 4)) more
+    by true (Some y) rec = rec y
+    by true None rec = refl
+    by false o rec = refl
+
+pub walk_append : (s : State) (i j : ℕ) (names more : List (List ℕ)) → walk s i names ≡ Ok j → walk s i (names ++ more) ≡ walk s j more
+walk_append s i j names more e = walk_over s i names more ∙ ap (λ r. walk_on s r more) e
+
+pub walk_append_err : (s : State) (i number : ℕ) (names more : List (List ℕ)) → walk s i names ≡ Err number → walk s i (names ++ more) ≡ Err number
+walk_append_err s i number names more e = walk_over s i names more ∙ ap (λ r. walk_on s r more) e
+
+-- ---- up to the last name
+
+pub split_last : (q : List (List ℕ)) → 0 < length q → q ≡ front_of q ++ last_of q ∷ []
+split_last q some =
+    sym (take-append-drop (length q - 1) q)
+    ∙ ap (λ x. front_of q ++ x) (drop_more q (length q - 1) [] (omega (arith, some)))
+    ∙ ap (λ x. front_of q ++ last_of q ∷ x) (drop_all (length q - 1 + 1) q (omega (arith, some)))
+
+-- a walk to a directory ends there, at a directory
+pub record AtDir (s : State) (r : Result ℕ ℕ) (dir : ℕ) : Type 0 where
+  pub ends : r ≡ Ok dir
+  pub is : is_dir (get s.nodes dir) ≡ true
+
+pub at_dir : (s : State) (r : Result ℕ ℕ) (dir : ℕ) → as_dir s r ≡ Ok dir → AtDir s r dir
+at_dir s (Err c) dir e = absurd (cc (e))
+at_dir s (Ok i) dir e = by _ refl e
+  where
+    by : (b : Bool) → is_dir (get s.nodes i) ≡ b → ◌≡◌ {A = Result ℕ ℕ} (cond b (Ok i) (Err 4)) (Ok dir) → AtDir s (Ok i) dir
+    by true d h = record { ends = h; is = subst (λ k. is_dir (get s.nodes k) ≡ true) (cc (h)) d }
+    by false d h = absurd (cc (h))
+
+pub to_dir : (s : State) (names : List (List ℕ)) (dir : ℕ) → walk_to_dir s names ≡ Ok dir → AtDir s (walk s 1 names) dir
+to_dir s names dir e = at_dir s (walk s 1 names) dir e
+
+-- the last name is looked up in the directory of the others
+pub walk_last : (s : State) (q : List (List ℕ)) (dir : ℕ) → 0 < length q → walk_to_dir s (front_of q) ≡ Ok dir → walk s 1 q ≡ found s dir (last_of q)
+walk_last s q dir some e =
+    let at = to_dir s (front_of q) dir e in
+    ap (walk s 1) (split_last q some)
+    ∙ walk_append s 1 dir (front_of q) (last_of q ∷ []) at.ends
+    ∙ ap (λ b. cond b (found s dir (last_of q)) (Err 4)) at.is
+
+pub walk_last_err : (s : State) (q : List (List ℕ)) (number : ℕ) → 0 < length q → walk_to_dir s (front_of q) ≡ Err number → walk s 1 q ≡ Err number
+walk_last_err s q number some e = ap (walk s 1) (split_last q some) ∙ walk_over s 1 (front_of q) (last_of q ∷ []) ∙ by (walk s 1 (front_of q)) e
+  where
+    by_dir : (i : ℕ) (b : Bool) → ◌≡◌ {A = Result ℕ ℕ} (cond b (Ok i) (Err 4)) (Err number) → cond b (found s i (last_of q)) (Err 4) ≡ Err number
+    by_dir i true h = absurd (cc (h))
+    by_dir i false h = h
+
+    by : (r : Result ℕ ℕ) → as_dir s r ≡ Err number → walk_on s r (last_of q ∷ []) ≡ Err number
+    by (Ok i) h = by_dir i (is_dir (get s.nodes i)) h
+    by (Err c) h = h
+
+pub found_row : (s : State) (dir i : ℕ) (name : List ℕ) → found s dir name ≡ Ok i → get s.names (dir, name) ≡ Some i
+found_row s dir i name e = by _ refl e
+  where
+    by : (o : Option ℕ) → get s.names (dir, name) ≡ o → ◌≡◌ {A = Result ℕ ℕ} (from_found o Ok) (Ok i) → get s.names (dir, name) ≡ Some i
+    by (Some j) is h = is ∙ ap Some (cc (h))
+    by None is h = absurd (cc (h))
+
+-- the row that a path ends at
+pub path_row : (s : State) (q : List (List ℕ)) (dir i : ℕ) → 0 < length q → walk_to_dir s (front_of q) ≡ Ok dir → walk s 1 q ≡ Ok i → get s.names (dir, last_of q) ≡ Some i
+path_row s q dir i some at e = found_row s dir i (last_of q) (sym (walk_last s q dir some at) ∙ e)
+
+-- a path that leads to a node has a directory for its last name
+pub path_dir : (s : State) (q : List (List ℕ)) (i : ℕ) → 0 < length q → walk s 1 q ≡ Ok i → (dir : ℕ) × (walk_to_dir s (front_of q) ≡ Ok dir)
+path_dir s q i some e = by _ refl
+  where
+    by : (r : Result ℕ ℕ) → walk_to_dir s (front_of q) ≡ r → (dir : ℕ) × (walk_to_dir s (front_of q) ≡ Ok dir)
+    by (Ok dir) at = (dir, at)
+    by (Err number) at = absurd (cc (walk_last_err s q number some at, e))
+
+-- ---- by the rows from a node up to the root
+
+-- a row of a directory
+pub record Hangs (s : State) (d : ℕ) (name : List ℕ) (i : ℕ) : Type 0 where
+  pub dir : is_dir (get s.nodes d) ≡ true
+  pub row : get s.names (d, name) ≡ Some i
+
+-- these names, the last one first, lead from the root to node i
+abbrev pub Up : State → List (List ℕ) → ℕ → Type 0
+Up s [] i = i ≡ 1
+Up s (name ∷ names) i = (d : ℕ) × Up s names d × Hangs s d name i
+
+abbrev pub turned : List (List ℕ) → List (List ℕ) → List (List ℕ)
+turned [] more = more
+turned (name ∷ names) more = turned names (name ∷ more)
+
+turned_twice : (p q more : List (List ℕ)) → turned (turned p q) more ≡ turned q (p ++ more)
+turned_twice [] q more = refl
+turned_twice (name ∷ p) q more = turned_twice p (name ∷ q) more
+
+turned_back : (p : List (List ℕ)) → turned (turned p []) [] ≡ p
+turned_back p = turned_twice p [] [] ∙ append-nil p
+
+pub up_walk : (s : State) (i j : ℕ) (up names : List (List ℕ)) → Up s up i → walk s i names ≡ Ok j → Up s (turned names up) j
+up_walk s i j up [] h e = subst (Up s up) (cc (e)) h
+up_walk s i j up (n ∷ ns) h e = let t = stepped s i j n ns e in up_walk s t.over j (n ∷ up) ns (i, h, record { dir = t.dir; row = t.row }) t.rest
+
+pub walk_up : (s : State) (i j : ℕ) (up names : List (List ℕ)) → Up s up i → walk s i names ≡ Ok j → walk s 1 (turned up names) ≡ Ok j
+walk_up s i j [] names h e = ap (λ k. walk s k names) (sym h) ∙ e
+walk_up s i j (n ∷ up) names h e = walk_up s h.0 j up (n ∷ names) h.1 (walk_step s h.0 i n names h.2.dir h.2.row ∙ e)
+
+-- ---- the one path
+
+one_up : (s : State) (i : ℕ) (p q : List (List ℕ)) → TreeRule s → Up s p i → Up s q i → p ≡ q
+one_up s i [] [] tree h k = refl
+one_up s i [] (b ∷ q) tree h k = absurd (tree.root k.0 b (k.2.row ∙ ap Some h))
+one_up s i (a ∷ p) [] tree h k = absurd (tree.root h.0 a (h.2.row ∙ ap Some k))
+one_up s i (a ∷ p) (b ∷ q) tree h k =
+    let same = tree.one h.0 k.0 a b i h.2.row k.2.row in
+    let rest : p ≡ q = one_up s k.0 p q tree (subst (Up s p) same.0 h.1) k.1 in
+    (λ t. same.1 t ∷ rest t)
+
+pub one_path : (s : State) (i : ℕ) (p q : List (List ℕ)) → TreeRule s → walk s 1 p ≡ Ok i → walk s 1 q ≡ Ok i → p ≡ q
+one_path s i p q tree to_p to_q =
+    let same = one_up s i (turned p []) (turned q []) tree (up_walk s 1 i [] p refl to_p) (up_walk s 1 i [] q refl to_q) in
+    sym (turned_back p) ∙ ap (λ r. turned r []) same ∙ turned_back q
+
+pub below_append : (p names : List (List ℕ)) (name : List ℕ) → is_below p (p ++ (names ++ name ∷ [])) ≡ true
+below_append [] [] name = refl
+below_append [] (n ∷ names) name = refl
+below_append (top ∷ p) names name = ap (λ b. b && is_below p (p ++ (names ++ name ∷ []))) ((bytes_eq-Decides top top).1 refl) ∙ below_append p names name
+
+-- the directory of a path that does not go on where another ends
+pub out_of_reach : (s : State) (i dir : ℕ) (p q : List (List ℕ)) → TreeRule s → walk s 1 p ≡ Ok i → walk_to_dir s (front_of q) ≡ Ok dir → 0 < length q → is_below p q ≡ false → OutOfReach s i dir
+out_of_reach s i dir p q tree at to some apart names way =
+    let same : p ++ names ≡ front_of q = one_path s dir (p ++ names) (front_of q) tree (walk_append s 1 i p names at ∙ way) (to_dir s (front_of q) dir to).ends in
+    let whole : p ++ (names ++ last_of q ∷ []) ≡ q = sym (append_assoc p names (last_of q ∷ [])) ∙ ap (λ x. x ++ last_of q ∷ []) same ∙ sym (split_last q some) in
+    true_false (sym (below_append p names (last_of q)) ∙ ap (is_below p) whole ∙ apart)
