@@ -165,11 +165,6 @@ push_done items k first rest zs none kept =
     let empty : take k (set_bits rest first) ≡ [] = ap (λ r. take k (set_bits r first)) none ∙ ap (take k) (no_bits first) ∙ take-nil k in
     sym (append-nil (numbers items)) ∙ ap (λ (xs : List ℕ). numbers items ++ xs) (sym empty) ∙ kept
 
-pub push_full : (items : List Block) (n : ℕ) (xs zs : List ℕ) → n ≤ length items → numbers items ++ take (n - length items) xs ≡ zs → numbers items ≡ zs
-push_full items n xs zs full kept =
-    let none : n - length items ≡ 0 = omega arith in
-    sym (append-nil (numbers items)) ∙ ap (λ k. numbers items ++ take k xs) (sym none) ∙ kept
-
 -- one more word of the bitmap
 pub take_more : (shape : VolumeShape) (words now : BlockWords) (w x n : ℕ) (items new : List Block) → now ≡ words → FreeBits shape now w x → numbers items ≡ take n (free_before shape words w) → numbers new ≡ numbers items ++ take (n - length items) (set_bits x (64 * w)) → numbers new ≡ take n (free_before shape words (w + 1))
 take_more shape words now w x n items new same bits before pushed =

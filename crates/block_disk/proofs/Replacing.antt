@@ -16,9 +16,6 @@ pub record ReplacedBelow (n : ℕ) (pending : List Bool) (words : ℕ → List �
   pub done : (b : ℕ) → b < n → block_at new b ≡ replaced_block pending words old b
   pub rest : (b : ℕ) → n ≤ b → block_at new b ≡ block_at old b
 
-pub below_none : (pending : List Bool) (words : ℕ → List ℕ) (old : List (List ℕ)) → ReplacedBelow 0 pending words old old
-below_none pending words old = record { count = refl; done = λ b h. absurd (omega (arith, h)); rest = λ b h. refl }
-
 marked : (mark : Bool) (words old : List ℕ) → mark ≡ true → (if mark then words else old) ≡ words
 marked true words old e = refl
 marked false words old e = cc
@@ -47,18 +44,10 @@ below_skip n pending words old now new s mark e = record {
   rest = λ b above. ap (λ (bs : List (List ℕ)). block_at bs b) e ∙ s.rest b (omega (arith, above));
 }
 
-pub below_all : (n : ℕ) (pending : List Bool) (words : ℕ → List ℕ) (old new : List (List ℕ)) → ReplacedBelow n pending words old new → n ≡ length old → Replaced pending words old new
-below_all n pending words old new s e = record { count = s.count; blocks = λ b h. s.done b (omega (arith, h, e)) }
-
 -- a choice of two lists of one length
 either : (mark : Bool) (words old : List ℕ) (n : ℕ) → length words ≡ n → length old ≡ n → length (if mark then words else old) ≡ n
 either true words old n h k = h
 either false words old n h k = k
-
-pub replaced_whole : (pending : List Bool) (words : ℕ → List ℕ) (old new : List (List ℕ)) → Replaced pending words old new → AreWhole old → ((b : ℕ) → b < length old → length (words b) ≡ 512) → AreWhole new
-replaced_whole pending words old new s whole fits b h =
-    let within : b < length old = omega (arith, h, s.count) in
-    ap length (s.blocks b within) ∙ either (is_pending pending b) (words b) (block_at old b) 512 (fits b within) (whole b within)
 
 settled_block : (mark : Bool) (read synced : List ℕ) → (mark ≡ false → synced ≡ read) → (if mark then read else synced) ≡ read
 settled_block true read synced h = refl

@@ -1,15 +1,12 @@
 -- Several steps in a row: what stops the board among them, and what they leave.
 use Rattle.std.proofs.Common.{◌≡◌, ℕ, ◌+◌, ◌-◌, ◌^◌, ◌<◌, ◌≤◌, true, false, ◌⊎◌, List, slice_set, Option, Some, None, refl, sym, ◌∙◌, ap, subst, inl, inr, arith}
-use Rattle.std.specs.Option.{option_map}
 use Rattle.std.proofs.lemmas.Bool.{cases_lt}
 use Rattle.rio_base.specs.Disks.{raised}
-use Rattle.rio_base.specs.Machine.{Falls, StepEnds}
 use Rattle.rio_base.specs.Rules.{true_false}
 use Rattle.rio_base.specs.declared.wild.Wild.TheVariants.{Trapped, Spared}
 use Rattle.board.specs.declared.guard.Armed.{Armed}
 use Rattle.board.specs.declared.guard.Guard.{Guard}
-use Rattle.board.specs.Boards.{running_of}
-use Rattle.board.specs.Guards.{FallsBy, FallsWithin, Halts, HaltsSooner, HaltsWithin, IsClear, IsDue, IsOver, Lands, Makes, MakesSteps, Proceeds, counted, later, with_fallen}
+use Rattle.board.specs.Guards.{FallsBy, FallsWithin, HaltsSooner, HaltsWithin, IsClear, IsDue, IsOver, Lands, Makes, MakesSteps, Proceeds, counted, later, with_fallen}
 
 -- a stop that is given is a u64
 abbrev pub StopFits : Guard → Type 0
@@ -31,10 +28,6 @@ later_some : (n : ℕ) (o : Option Armed) (a : Armed) → later n o ≡ Some a �
 later_some n None a e = absurd (cc)
 later_some n (Some b) a e = (b, refl, cc)
 
-armed_later : (n : ℕ) (o : Option Armed) → option_map {T = Armed} (λ a. a.at.0) (later n o) ≡ option_map {T = Armed} (λ a. a.at.0) o
-armed_later n None = refl
-armed_later n (Some a) = refl
-
 -- ---- which steps halt
 
 not_over : (g : Guard) → (IsOver g → ⊥) → (most : ℕ) → g.stop_after ≡ Some most → g.steps < most
@@ -43,11 +36,6 @@ not_over g over most e = by_room (cases_lt g.steps most)
     by_room : (g.steps < most) ⊎ (most ≤ g.steps) → g.steps < most
     by_room (inl less) = less
     by_room (inr more) = absurd (over (inr (most, e, more)))
-
-pub halts_within : (g : Guard) (n size : ℕ) → 0 < n → Halts g size → HaltsWithin g n size
-halts_within g n size some (inl (inl s)) = inl (s, some)
-halts_within g n size some (inl (inr t)) = inr (inl (t.0, t.1, omega (arith, t.2, some)))
-halts_within g n size some (inr t) = inr (inr (t.0, t.1.0, t.2, omega (arith, t.1.1, some)))
 
 pub never_at_once : (g : Guard) (size : ℕ) → HaltsWithin g 0 size → ⊥
 never_at_once g size (inl s) = omega (arith, s.1)
@@ -209,29 +197,3 @@ makes_one size first last old new h = record { made = (h.made.0, falls_one size 
 
 pub makes_clear : (n size : ℕ) (words : List ℕ) (old new : Guard) → IsClear old n → new ≡ counted n old → MakesSteps n size words old words new
 makes_clear n size words old new clear e = record { made = (None, inl (clear.armed, e), refl) }
-
--- ---- as a machine
-
-pub passed_ends : (words : List ℕ) (pages n : ℕ) (g new : Guard) → g.stopped ≡ false → new ≡ counted n g → StepEnds (running_of words pages g) (running_of words pages new) ⊥
-passed_ends words pages n g new runs e = rw (e, armed_later n g.armed) (record {
-  steps = record {
-    protected = refl;
-    stop_set = refl;
-    later = omega arith;
-    armed = inl refl;
-    frozen = λ s. absurd (true_false (sym s ∙ runs));
-    running = λ s. refl;
-    reason = λ s d. absurd (true_false (sym d ∙ s));
-    scratch_count = refl;
-    unarmed = λ i ne. refl;
-    unfallen = λ s. refl;
-  };
-  told = λ s. absurd s;
-  runs = λ s. refl;
-})
-
-pub passed_falls : (o : Option ℕ) (words : List ℕ) (pages n : ℕ) (g new : Guard) → new ≡ counted n g → Falls o (running_of words pages g) (running_of words pages new)
-passed_falls o words pages n g new e = rw (e, armed_later n g.armed) (record { fell = λ at k none. absurd (wrong at k none); closed = λ at k m t. absurd (m t) })
-  where
-    wrong : (at : ℕ) → option_map {T = Armed} (λ a. a.at.0) g.armed ≡ Some at → option_map {T = Armed} (λ a. a.at.0) g.armed ≡ None → ⊥
-    wrong at k none = cc

@@ -9,9 +9,6 @@ use Rattle.board.specs.declared.guard.Guard.{Guard}
 use Rattle.board.specs.Boards.{protected_count, protected_of, running_of, scratch_of}
 use Rattle.board.specs.BoardLaws.{count_protected}
 
-pub front_none : (at : ℕ) (from old : List ℕ) → FrontStored at 0 from old old
-front_none at from old = record { count = refl; front = λ i less. absurd (omega arith); below = λ i less. refl; above = λ i more. refl }
-
 -- a part of a run, behind the front that is stored
 pub front_more : (at k n : ℕ) (from old mid new : List ℕ) → FrontStored at k from old mid → FrontStored (at + k) n (take n (drop k from)) mid new → FrontStored at (k + n) from old new
 front_more at k n from old mid new h i = record {
@@ -73,11 +70,6 @@ scratch_front at n pages from words now h fits = rw h.count (same_number_lists _
 -- it doesn't change how the board runs
 pub running_front : (at n pages : ℕ) (from words now : List ℕ) (g : Guard) → FrontStored at n from words now → at + n ≤ protected_count words pages → running_of now pages g ≡ running_of words pages g
 running_front at n pages from words now g h fits = rw (scratch_front at n pages from words now h fits, h.count) refl
-
--- ---- copies of a page
-
-pub copied_none : (from to : ℕ) (old : List ℕ) → Copied from to 0 old old
-copied_none from to old = record { count = refl; front = λ known i less. absurd (omega arith); below = λ i less. refl; above = λ i more. refl }
 
 -- a word of page `from` is as before
 source_word : (from to k i : ℕ) (old mid : List ℕ) → from ≢ to → k ≤ 512 → i < 512 → Copied from to k old mid → (from < to) ⊎ (to ≤ from) → slice_index mid (512 * from + i) ≡ slice_index old (512 * from + i)

@@ -60,9 +60,6 @@ looked_page shape x y d p b h has at looks caches = record {
 pub dir_size : (shape : VolumeShape) (x : Seen) (d : ℕ) → CanReadDir shape x d → (placed_at x.words d).size % 64 ≡ 0
 dir_size shape x d h = (h.mapped.laid.sizes.each d h.ino (let k = h.dir in omega (arith, k))).directory h.dir
 
-pub dir_most : (shape : VolumeShape) (x : Seen) (d : ℕ) → CanReadDir shape x d → (placed_at x.words d).size ≤ 4292608
-dir_most shape x d h = (h.mapped.laid.sizes.each d h.ino (let k = h.dir in omega (arith, k))).most
-
 pub dir_held : (shape : VolumeShape) (x : Seen) (d : ℕ) → CanReadDir shape x d → held_of shape x.words d ≡ held x.words (placed_at x.words d)
 dir_held shape x d h = held_ino (volume_layout shape x.words) x.words d h.ino
 

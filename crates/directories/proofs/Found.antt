@@ -1,10 +1,9 @@
 -- Names found among the entries of a page, and among those of a directory.
-use Rattle.directories.proofs.Common.{◌≡◌, ◌≢◌, ℕ, ◌+◌, ◌-◌, ◌*◌, ◌/◌, ◌%◌, ◌^◌, ◌<◌, ◌≤◌, min, List, length, sym, ap, subst, ◌∙◌, arith, slice_index, cond, true, inl, inr, nat_lt, IfOk, Option, None, Some, Result, cases_lt, nat_tests, Ino, VolumeShape, BlockWords, IsIno, Held, entry_name, held, held_of, held_ino, AtPage, Placed, placed_at, volume_layout}
+use Rattle.directories.proofs.Common.{◌≡◌, ◌≢◌, ℕ, ◌+◌, ◌-◌, ◌*◌, ◌/◌, ◌%◌, ◌^◌, ◌<◌, ◌≤◌, min, List, length, sym, ap, subst, ◌∙◌, arith, slice_index, cond, true, inl, inr, nat_lt, IfOk, Option, None, Some, Result, cases_lt, nat_tests, Ino, BlockWords, Held, entry_name, held, AtPage, Placed}
 use Rattle.std.specs.Prelude.{Ok, Err}
 use Rattle.rio_base.specs.Blocks.{IsRun}
 use Rattle.rio_model.proofs.WordRules.{held_word}
-use Rattle.directories.specs.Entries.{FindsIn, FindsInPage, name_in}
-use Rattle.directories.specs.Rows.{Finds, IsEntry}
+use Rattle.directories.specs.Entries.{FindsIn, FindsInPage}
 use Rattle.directories.proofs.NameWords.{name_moved}
 
 -- entries of other words that are the same
@@ -67,7 +66,3 @@ none_next h p name before here j within low = elim (cases_lt (j / 64) p) [
   | inl below ↦ before j within below
   | inr past ↦ here j within (omega (arith, low, past))
 ]
-
--- and no entry at all
-pub none_all : (h : Held) (pages : ℕ) (name : List ℕ) → ((j : ℕ) → 64 * j < h.size → j / 64 < pages → entry_name h j ≢ name) → h.size ≤ 4096 * pages → Finds h name None
-none_all h pages name none all i row = none row.0 row.1.within (let within = row.1.within in omega (arith, within, all)) row.1.named

@@ -1,5 +1,5 @@
 -- A change that is prepared after its directory was read, told of the volume as it was before.
-use Rattle.directories.proofs.Common.{◌≡◌, ℕ, ◌+◌, ◌*◌, ◌/◌, ◌%◌, ◌<◌, List, sym, subst, VolumeShape, BlockWords, Health, Seen, Below, Kept, Passes, Inode, IsInode, LooksUp, leaves_looked, leaves_trans, ready_left, AtPage, placed_at, volume_layout, LeavesInUse, Ready}
+use Rattle.directories.proofs.Common.{◌≡◌, ℕ, ◌+◌, ◌*◌, ◌/◌, ◌%◌, ◌<◌, List, subst, VolumeShape, BlockWords, Health, Seen, Below, Kept, Passes, LooksUp, leaves_looked, leaves_trans, ready_left, AtPage, placed_at, volume_layout, LeavesInUse, Ready}
 use Rattle.std.specs.Prelude.{slice_index}
 use Rattle.directories.specs.Contents.{GoesInto}
 use Rattle.directories.specs.declared.storing.EntryWords.{EntryWords}
@@ -9,9 +9,6 @@ ready_on shape s t o n x z k l ready looks passes = ready_left shape x k z l rea
 
 pub leaves_on : (shape : VolumeShape) (s t : Health) (o n : Below) (x z : Seen) (k l : Kept) (y : Seen) (j : Kept) → Ready shape x k → LooksUp shape x z → Passes s o k t n l → LeavesInUse (volume_layout shape z.words) z l y j → LeavesInUse (volume_layout shape x.words) x k y j
 leaves_on shape s t o n x z k l y j ready looks passes leaves = leaves_trans shape x k z l y j ready (leaves_looked shape s t o n x z k l ready looks passes) leaves
-
-pub inode_on : (shape : VolumeShape) (x z : Seen) (d : ℕ) (inode : Inode) → LooksUp shape x z → IsInode x.words d inode → IsInode z.words d inode
-inode_on shape x z d inode looks is = subst (λ f. IsInode f d inode) (sym looks.looks.words) is
 
 pub into_back : (shape : VolumeShape) (x z : Seen) (d slot : ℕ) (e : EntryWords) → LooksUp shape x z → GoesInto (placed_at z.words d) slot e → GoesInto (placed_at x.words d) slot e
 into_back shape x z d slot e looks into = subst (λ (f : BlockWords). GoesInto (placed_at f d) slot e) looks.looks.words into

@@ -23,7 +23,6 @@ pub mod Listed
 pub mod Looked
 pub mod LookingUpRules
 pub mod OrderRules
-pub mod PageBytes
 pub mod PageRead
 pub mod Planned
 pub mod PlannedSize

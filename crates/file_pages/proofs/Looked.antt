@@ -1,5 +1,5 @@
 -- Block numbers as they are read from an inode and from an indirect block.
-use Rattle.file_pages.proofs.Common.{slice_index, List, ◌≡◌, ℕ, ◌+◌, ◌-◌, ◌/◌, ◌<◌, ◌≤◌, sym, ap, subst, ◌∙◌, arith, VolumeShape, BlockWords, IsIno, AtPage, AtTable, HasSlot, placed_at, volume_layout, Owns, first_table, later_of, lies_self, table_of, pages, IsNumbered}
+use Rattle.file_pages.proofs.Common.{slice_index, List, ◌≡◌, ℕ, ◌+◌, ◌-◌, ◌/◌, ◌<◌, ◌≤◌, ap, ◌∙◌, arith, BlockWords, AtPage, AtTable, HasSlot, placed_at, first_table, later_of, lies_self, table_of}
 use Rattle.rio_base.specs.Blocks.{IsRun}
 use Rattle.rio_base.specs.Layout.{half, inode_word}
 use Rattle.rio_model.proofs.PlacedRules.{direct_of}
@@ -12,16 +12,6 @@ table_value f i p w b past has word is = is ∙ ap (λ x. half x 0) word ∙ tab
 
 pub later_value : (f : BlockWords) (i p w b x : ℕ) → 24 ≤ p → HasSlot (placed_at f i) (AtPage p) → x ≡ (p - 24) / 2 → w ≡ f ((placed_at f i).block (AtTable 0)) x → b ≡ half w p → b ≡ (placed_at f i).block (AtPage p)
 later_value f i p w b x past has at word is = is ∙ ap (λ z. half z p) (word ∙ ap (f ((placed_at f i).block (AtTable 0))) at) ∙ later_of f i (placed_at f i) p (lies_self f i) past has
-
--- a page that counts is one of 1,048
-pub page_most : (shape : VolumeShape) (f : BlockWords) (i p : ℕ) → IsNumbered shape f → IsIno shape i → HasSlot (placed_at f i) (AtPage p) → p < 1048
-page_most shape f i p h ino has = let within : p < pages (placed_at f i).size = has.within in let most = (h.sizes.each i ino has.used).most in omega (arith, within, most)
-
-pub owns_table : (shape : VolumeShape) (f : BlockWords) (i p : ℕ) → IsIno shape i → 24 ≤ p → HasSlot (placed_at f i) (AtPage p) → Owns (volume_layout shape f) i (AtTable 0)
-owns_table shape f i p ino past has = record { ino = ino; slot = first_table (placed_at f i) p has past }
-
-pub owns_seen : (shape : VolumeShape) (f g : BlockWords) (i p : ℕ) → g ≡ f → IsIno shape i → 24 ≤ p → HasSlot (placed_at f i) (AtPage p) → Owns (volume_layout shape g) i (AtTable 0)
-owns_seen shape f g i p same ino past has = subst (λ h. Owns (volume_layout shape h) i (AtTable 0)) (sym same) (owns_table shape f i p ino past has)
 
 -- a number in words of the indirect block that were read as a run
 pub run_number : (f : BlockWords) (i p w count : ℕ) (words : List ℕ) → IsRun f ((placed_at f i).block (AtTable 0)) w count words → 24 ≤ p → HasSlot (placed_at f i) (AtPage p) → w ≤ (p - 24) / 2 → (p - 24) / 2 < w + count → half (slice_index words ((p - 24) / 2 - w)) p ≡ (placed_at f i).block (AtPage p)

@@ -180,10 +180,6 @@ parts_whole f g h blocks first off bytes n within a b =
     let all : n + length (drop n bytes) ≡ length bytes = (let long = length-drop n bytes in omega (arith, long, within)) in
     subst (PutsSpan f h blocks first off bytes) all (span_before f g h blocks first off bytes n (length (drop n bytes)) (subst (λ xs. PutsSpan f g blocks first (off + n) xs (length xs)) (take_rest bytes n) a) (subst (PutsSpan g h blocks first off (take n bytes)) (length-take-le n bytes within) b))
 
--- nothing stored leaves the same bytes
-pub lead_none : (f g : BlockWords) (blocks : List ℕ) (first size off : ℕ) (bytes : List ℕ) → PutsLead f g blocks first size off bytes 0 → (x : ℕ) → 4096 * first ≤ x → x < 4096 * (first + length blocks) → x < size → span_byte g blocks first x ≡ span_byte f blocks first x
-lead_none f g blocks first size off bytes h x low high below = h.each x low high below ∙ over_none (span_byte f blocks first) off bytes x
-
 -- ---- names
 
 same_named : (i len p : ℕ) (own : Option PageName) (given : PageName) → NamedAs i len p own → given.file.0 ≡ i → given.index ≡ p → SamePage own (Some given)

@@ -1,8 +1,8 @@
 -- A page of a file stored to leaves the volume in order.
-use Rattle.file_pages.proofs.Common.{◌≡◌, ◌≢◌, ℕ, ◌+◌, ◌-◌, ◌*◌, ◌/◌, ◌%◌, ◌<◌, ◌≤◌, ◌⊎◌, Bool, true, false, List, refl, sym, ap, subst, ◌∙◌, arith, inl, inr, max, Option, None, Some, Result, Ok, Err, OnOk, cases_eq, cases_lt, PageName, VolumeShape, BlockWords, Caches, Health, Looks, Seen, IsIno, reserved, Below, Firm, Kept, Passes, SameBut, byte_in, held, held_bytes, word_in, Slot, AtPage, Placed, HasSlot, placed_at, Layout, volume_layout, Owns, IsFree, AgreesBeside, SameLayout, lays_same, lays_self, page_page, pages, Bears, BearsOwn, NamedNode, NamesPage, Ready, IsLaid, beside_agrees, lays_beside, mapped_beside, run_same_but, same_map}
+use Rattle.file_pages.proofs.Common.{◌≡◌, ◌≢◌, ℕ, ◌+◌, ◌-◌, ◌*◌, ◌/◌, ◌%◌, ◌<◌, ◌≤◌, ◌⊎◌, true, false, List, refl, sym, ap, subst, ◌∙◌, arith, inl, inr, max, Option, None, Some, Result, Ok, Err, OnOk, cases_eq, cases_lt, PageName, VolumeShape, BlockWords, Caches, Health, Looks, Seen, IsIno, reserved, Below, Firm, Kept, Passes, SameBut, byte_in, held, held_bytes, word_in, Slot, AtPage, Placed, HasSlot, placed_at, Layout, volume_layout, Owns, IsFree, AgreesBeside, SameLayout, lays_same, lays_self, page_page, pages, Bears, BearsOwn, NamedNode, NamesPage, Ready, IsLaid, beside_agrees, lays_beside, mapped_beside, run_same_but, same_map}
 use Rattle.std.specs.Prelude.{min}
 use Rattle.rio_base.proofs.BlockRules.{shape_beside_stored, stored_trans}
-use Rattle.rio_base.specs.Volume.{CachesStored, OldOrRun, RunName, widened}
+use Rattle.rio_base.specs.Volume.{CachesStored, OldOrRun, widened}
 use Rattle.rio_model.specs.Held.{byte_of}
 use Rattle.rio_model.proofs.WordRules.{beside_page, held_word}
 use Rattle.file_pages.specs.LookingUp.{LooksUp}
@@ -27,20 +27,6 @@ widened_as i size p None given (o, is, h) = absurd (subst Some_only (sym is) tt)
     Some_only None = ⊥
     Some_only (Some n) = Unit {0}
 widened_as i size p (Some own) given named = let h = named_own i size p own named in (record own { size = max own.size given.size }, refl, record { file = h.file; index = h.index; size_from = (let s = h.size_from in omega (arith, s)) })
-
--- also where the given name alone is as wide
-pub widened_to : (i small size p : ℕ) (own : Option PageName) (given : PageName) → NamedAs i small p own → NamesPage i size p given → NamedAs i size p (widened own (Some given))
-widened_to i small size p None given (o, is, h) to = absurd (subst Some_only (sym is) tt)
-  where
-    Some_only : Option PageName → Type 0
-    Some_only None = ⊥
-    Some_only (Some n) = Unit {0}
-widened_to i small size p (Some own) given named to = let h = named_own i small p own named in (record own { size = max own.size given.size }, refl, record { file = h.file; index = h.index; size_from = (let s = to.size_from in omega (arith, s)) })
-
-pub run_named : (i small size p : ℕ) (cached : Bool) (own : Option PageName) (given : PageName) (now : Option PageName) → (cached ≡ true → NamedAs i small p own) → NamesPage i size p given → RunName cached own (Some given) now → NamedAs i size p now
-run_named i small size p true own given now named to (inl is) = subst (NamedAs i size p) (sym is) (widened_to i small size p own given (named refl) to)
-run_named i small size p false own given now named to (inl is) = (given, is, to)
-run_named i small size p cached own given now named to (inr is) = (given, is, to)
 
 pub bears_as : (i : ℕ) (n : Placed) (p : ℕ) (name : Option PageName) → n.kind ≡ 2 → NamedAs i n.size p name → Bears i n (AtPage p) name
 bears_as i n p name kind (own, is, h) = subst (Bears i n (AtPage p)) (sym is) ((λ dir. omega (arith, kind, dir)), h)
@@ -126,25 +112,11 @@ stores_run shape s t o n x k y j z l i p b w words most given h own at kind wide
 pub names_grown : (i size len p : ℕ) (own : PageName) → own.file.0 ≡ i → own.index ≡ p → own.size ≡ min 4096 (len - 4096 * p) → size ≤ len → NamesPage i size p own
 names_grown i size len p own file index wide grows = record { file = file; index = index; size_from = omega (arith, wide, grows) }
 
--- the name of a page of which a run was stored
-pub named_run : (shape : VolumeShape) (x y : Seen) (z : Seen) (k : Kept) (i p b len : ℕ) (given : PageName) → Ready shape x k → Owns (volume_layout shape x.words) i (AtPage p) → b ≡ (placed_at x.words i).block (AtPage p) → (placed_at x.words i).kind ≡ 2 → NamesPage i len p given → (placed_at x.words i).size ≤ len → Caches x y b (Some given) → RunName (y.cached b) (y.names b) (Some given) (z.names b) → NamedAs i len p (z.names b)
-named_run shape x y z k i p b len given h own at kind wide grows caches now = run_named i (placed_at x.words i).size len p (y.cached b) (y.names b) given (z.names b) (λ on. by (caches.named on)) wide now
-  where
-    by : ((x.cached b ≡ true) × (y.names b ≡ x.names b)) ⊎ (y.names b ≡ Some given) → NamedAs i (placed_at x.words i).size p (y.names b)
-    by (inl kept) = subst (NamedAs i (placed_at x.words i).size p) (sym kept.1) (as_bears i (placed_at x.words i) p (x.names b) kind (subst (λ c. Bears i (placed_at x.words i) (AtPage p) (x.names c)) (sym at) (h.named.each i own.ino (AtPage p) own.slot (subst (λ c. x.cached c ≡ true) at kept.0))))
-    by (inr is) = (given, is, (let s = wide.size_from in record { file = wide.file; index = wide.index; size_from = omega (arith, s, grows) }))
-
 -- ---- the tail of a file's last page
 
 -- all pages are full
 full_named : (i size len p : ℕ) (name : Option PageName) → 4096 * (p + 1) ≤ size → NamedAs i size p name → NamedAs i len p name
 full_named i size len p name full (own, is, h) = (own, is, (let s = h.size_from in record { file = h.file; index = h.index; size_from = omega (arith, s, full) }))
-
-pub whole_pages : (f : BlockWords) (y : Seen) (i size len : ℕ) → (placed_at f i).kind ≡ 2 → (placed_at f i).size ≡ size → size % 4096 ≡ 0 → NamedNode i (placed_at f i) y → TailCleared f y i size len
-whole_pages f y i size len kind is whole named = record {
-  zeros = λ x past within. absurd (omega (arith, whole, past, within));
-  named = λ p within on. full_named i size len p _ (omega (arith, whole, within)) (subst (λ z. NamedAs i z p (y.names ((placed_at f i).block (AtPage p)))) is (as_bears i (placed_at f i) p _ kind (named (AtPage p) (record { used = omega (arith, kind); within = omega (arith, within, is) }) on)));
-}
 
 -- the last page is cleared
 pub last_page : (f : BlockWords) (y : Seen) (i size len b : ℕ) → (placed_at f i).kind ≡ 2 → (placed_at f i).size ≡ size → 0 < size % 4096 → b ≡ (placed_at f i).block (AtPage (size / 4096)) → ZerosFrom y.words b (size % 4096) → (y.cached b ≡ true → NamedAs i len (size / 4096) (y.names b)) → NamedNode i (placed_at f i) y → TailCleared f y i size len

@@ -6,7 +6,6 @@ use Rattle.std.proofs.lemmas.List.{get_or_default}
 use Rattle.std.proofs.Math.Seq.{drop-cons}
 use Rattle.rio_base.specs.Bitmap.{bitmap_block}
 use Rattle.rio_base.proofs.Bitmap.{first_bitmap}
-use Rattle.rio_base.proofs.BlockSets.{caches_by_wider}
 use Rattle.rio_base.specs.Blocks.{IsPlace}
 use Rattle.rio_base.specs.Shapes.{IsShape}
 use Rattle.rio_base.specs.Volume.{Touches, put}
@@ -17,7 +16,7 @@ use Rattle.rio_model.specs.Updates.{with_inode}
 use Rattle.rio_model.specs.VolumeRules.{bitmap_bits}
 use Rattle.inode_table.specs.Inodes.{inode_words}
 use Rattle.file_pages.specs.Changes.{node_update, word_edit}
-use Rattle.file_pages.specs.Updating.{CanMake, CanUpdate, IsEdited, IsUpdated, SetsBits}
+use Rattle.file_pages.specs.Updating.{CanMake, CanUpdate, SetsBits}
 use Rattle.file_pages.specs.declared.changes.Edit.{Edit}
 use Rattle.file_pages.specs.declared.changes.SizeChange.{SizeChange}
 use Rattle.file_pages.proofs.Listed.{place_of}
@@ -73,9 +72,6 @@ sets_more shape f g h bs n b bit fits within at a s = record {
   ];
   others = λ c out. s.others c (λ e. out n (omega arith) (sym at ∙ sym e)) ∙ a.others c (λ t few. out t (omega (arith, few)));
 }
-
-pub sets_none : (shape : VolumeShape) (f : BlockWords) (bs : List ℕ) (bit : ℕ) → SetsBits shape f f bs 0 bit
-sets_none shape f bs bit = record { elsewhere = λ b w away. refl; set = λ t few. absurd (omega (arith, few)); others = λ b out. refl }
 
 -- ---- the whole update
 
@@ -140,16 +136,6 @@ can_touch y b none = record { in_range = tt; agrees = λ on. subst (λ o. SamePa
 -- a block stays unnamed where another is cached as metadata
 pub unnamed_on : (x y : Seen) (a b : ℕ) → Caches x y a None → (x.cached b ≡ true → x.names b ≡ None) → y.cached b ≡ true → y.names b ≡ None
 unnamed_on x y a b h was = unnamed_kept (λ c name. name ≡ None) x y b (λ name e. e) (caches_by_one _ x y a None h refl) was
-
--- blocks of the update, newly cached
-pub updated_bitmap : (i : ℕ) (edits : List Edit) (x y : Seen) → Caches x y 1 None → CachesBy (IsUpdated i edits) x y
-updated_bitmap i edits x y h = caches_by_one (IsUpdated i edits) x y 1 None h (inl refl, refl)
-
-pub updated_inode : (i b : ℕ) (edits : List Edit) (x y : Seen) → b ≡ inode_block i → Caches x y b None → CachesBy (IsUpdated i edits) x y
-updated_inode i b edits x y is h = caches_by_one (IsUpdated i edits) x y b None h (inr (inl is), refl)
-
-pub updated_edits : (i : ℕ) (es edits : List Edit) (x y : Seen) → es ≡ edits → CachesBy (λ b name. IsEdited es b × (name ≡ None)) x y → CachesBy (IsUpdated i edits) x y
-updated_edits i es edits x y same h = caches_by_wider (λ b name. IsEdited es b × (name ≡ None)) (IsUpdated i edits) x y (λ b name e. (inr (inr (subst (λ us. IsEdited us b) same e.0)), e.1)) h
 
 -- the first of edits that are all in one block
 pub first_place : (es : List Edit) (n count : ℕ) (d : Edit) → 0 < length es → ((e : Edit) → Contains es e → e.block.0 < n) → count ≡ n → (slice_index_or es 0 d).block.0 < count

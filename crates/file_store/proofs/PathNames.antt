@@ -144,13 +144,6 @@ one_place front last (Some k) name (at, here) = omega (arith, low, high)
 pub cut_place : (path : List ℕ) (found : Option ℕ) → IsPath path → 0 < length (names_of path) → IsLastByte (is_byte 47) path found → unwrap_or found 0 ≡ length (slashed (front_of (names_of path)))
 cut_place path found p some last = one_place (slashed (front_of (names_of path))) (last_of (names_of path)) found (last_named path p some) (subst (λ xs. IsLastByte (is_byte 47) xs found) (path_cut path p some) last)
 
--- the cut is within the path
-pub cut_within : (path : List ℕ) (at : ℕ) → IsPath path → 0 < length (names_of path) → at ≡ length (slashed (front_of (names_of path))) → at < length path
-cut_within path at p some is =
-    let same : length path ≡ length (slashed (front_of (names_of path)) ++ 47 ∷ last_of (names_of path)) = ap length (path_cut path p some) in
-    let long : length (slashed (front_of (names_of path)) ++ 47 ∷ last_of (names_of path)) ≡ length (slashed (front_of (names_of path))) + suc (length (last_of (names_of path))) = length-append (slashed (front_of (names_of path))) (47 ∷ last_of (names_of path)) in
-    omega (arith, same, long, is)
-
 front_named : (names : List (List ℕ)) → All IsName names → All IsName (front_of names)
 front_named names all = All-take IsName (length names - 1) names all
 

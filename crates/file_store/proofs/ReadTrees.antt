@@ -1,13 +1,10 @@
 -- Where the laws of trees begin: what a volume reads as, and what requests look at before they change a row.
-use Rattle.file_store.proofs.Common.{◌≡◌, ◌≢◌, ℕ, zero, suc, ◌+◌, ◌%◌, ◌<◌, ◌≤◌, ◌==◌, ◌&&◌, ◌||◌, Bool, false, true, cond, List, [], ◌∷◌, length, map, Option, refl, sym, ap, subst, ◌∙◌, arith, nat_le, nat_lt, is_some, list_any, range_with_len, get, eq_by_cmp, nat_tests, Decides-eqb, true_false, VolumeShape, BlockWords, IsIno, Node, File, Region, State, least_free, names_in, Held, held, held_bytes, held_of, nothing, entry_ino, held_ino, NameKey, name_cmp, is_dir, placed_at, volume_layout, node_in, region_in, Reads, ReadsAs, reads_dir, EntryRule, differs}
-use Rattle.std.proofs.Common.{filter, Some, None}
-use Rattle.std.specs.Prelude.{if◌then◌else◌, is_none, find}
-use Rattle.std.specs.FinMap.{keys, contains_key-keys}
+use Rattle.file_store.proofs.Common.{◌≡◌, ◌≢◌, ℕ, ◌%◌, ◌<◌, ◌≤◌, ◌==◌, ◌&&◌, Bool, false, true, cond, length, Option, refl, sym, ap, subst, ◌∙◌, arith, nat_le, nat_lt, get, nat_tests, Decides-eqb, true_false, VolumeShape, BlockWords, IsIno, Node, File, Region, State, names_in, Held, held, held_bytes, held_of, nothing, entry_ino, held_ino, is_dir, placed_at, volume_layout, node_in, region_in, Reads, ReadsAs, reads_dir, EntryRule, differs}
+use Rattle.std.proofs.Common.{Some, None}
+use Rattle.std.specs.Prelude.{if◌then◌else◌}
 use Rattle.rio_model.specs.declared.node.Node.TheVariants.{Dir}
-use Rattle.rio_model.specs.States.{names_below}
 use Rattle.rio_model.proofs.FreeByState.{names_counted}
-use Rattle.rio_requests.specs.Answers.{is_empty}
-use Rattle.file_store.proofs.NameRules.{key_of, same_some}
+use Rattle.file_store.proofs.NameRules.{same_some}
 use Rattle.file_store.proofs.RowCounts.{InShape, rows_fewer}
 use Rattle.file_store.proofs.TreeRules.{RowsFit, dir_used}
 
@@ -78,55 +75,3 @@ names_few shape f s d h is =
     let many = names_counted (held_of shape f) s d h.reads h.apart dir whole in
     let few = rows_fewer (held_of shape f) s d h.reads h.apart h.tree (in_shape shape f s h) (rows_fit (held_of shape f) s h.reads h.entries) dir whole in
     omega (arith, many, few)
-
--- ---- of requests
-
-no_names : (names : List (List ℕ)) → is_empty names ≡ true → names ≡ []
-no_names [] e = refl
-no_names (n ∷ names) e = absurd (true_false (sym e))
-
-none_below : (ks : List NameKey) (i : ℕ) (q : NameKey) → names_below ks i ≡ [] → list_any (eq_by_cmp name_cmp q) ks ≡ true → q.0 ≢ i
-none_below [] i q none member here = true_false (sym member)
-none_below (k ∷ ks) i q none member here = by _ _ refl refl none member (λ e m. none_below ks i q e m here)
-  where
-    by : (b c : Bool) → (k.0 == i) ≡ b → eq_by_cmp name_cmp q k ≡ c → map (λ (key : NameKey). key.1) (cond b (k ∷ filter (λ (key : NameKey). key.0 == i) ks) (filter (λ (key : NameKey). key.0 == i) ks)) ≡ [] → (c || list_any (eq_by_cmp name_cmp q) ks) ≡ true → (names_below ks i ≡ [] → list_any (eq_by_cmp name_cmp q) ks ≡ true → ⊥) → ⊥
-    by true c is same e m rest = cc (e)
-    by false true is same e m rest = true_false (sym ((Decides-eqb k.0 i).1 (ap (λ (x : NameKey). x.0) (sym (key_of q k same)) ∙ here)) ∙ is)
-    by false false is same e m rest = rest e m
-
--- a directory without names has no row
-pub empty_rows : (s : State) (i : ℕ) → is_empty (names_in s i) ≡ true → (n : List ℕ) → get s.names (i, n) ≡ None
-empty_rows s i empty n = by _ refl
-  where
-    by : (o : Option ℕ) → get s.names (i, n) ≡ o → o ≡ None
-    by None row = refl
-    by (Some j) row = absurd (none_below (keys s.names) i (i, n) (no_names _ empty) (sym (contains_key-keys s.names (i, n)) ∙ ap is_some row) refl)
-
-record FoundIn (p : ℕ → Bool) (a n i : ℕ) : Type 0 where
-  from : a ≤ i
-  to : i < a + n
-  test : p i ≡ true
-
-found_in : (p : ℕ → Bool) (a n i : ℕ) → find p (range_with_len a n) ≡ Some i → FoundIn p a n i
-found_in p a zero i e = absurd (cc (e))
-found_in p a (suc n) i e = by _ refl e (found_in p (a + 1) n i)
-  where
-    here : (x : ℕ) → a ≡ x → p a ≡ true → FoundIn p a (suc n) x
-    here x same is = record { from = omega (arith, same); to = omega (arith, same); test = ap p (sym same) ∙ is }
-
-    by : (b : Bool) → p a ≡ b → cond b (Some a) (find p (range_with_len (a + 1) n)) ≡ Some i → (find p (range_with_len (a + 1) n) ≡ Some i → FoundIn p (a + 1) n i) → FoundIn p a (suc n) i
-    by true is h rest = here i (cc (h)) is
-    by false is h rest = (let later = rest h in let from = later.from in let to = later.to in record { from = omega (arith, from); to = omega (arith, to); test = later.test })
-
-none_of : (o : Option Node) → is_none o ≡ true → o ≡ None
-none_of None e = refl
-none_of (Some n) e = absurd (true_false (sym e))
-
--- the inode that a new node gets
-pub record IsFreeIno (s : State) (i : ℕ) : Type 0 where
-  pub free : get s.nodes i ≡ None
-  pub from : 1 ≤ i
-  pub to : i ≤ s.shape.inodes
-
-pub least_is_free : (s : State) (i : ℕ) → least_free s ≡ Some i → IsFreeIno s i
-least_is_free s i e = let at = found_in (λ x. is_none (get s.nodes x)) 1 s.shape.inodes i e in record { free = none_of (get s.nodes i) at.test; from = at.from; to = (let to = at.to in omega (arith, to)) }

@@ -1,5 +1,5 @@
 -- A word of a region: the block and the name of its page, and what a call on that block leaves in order.
-use Rattle.file_store.proofs.Common.{◌≡◌, ◌≢◌, ℕ, ◌+◌, ◌-◌, ◌*◌, ◌/◌, ◌%◌, ◌<◌, ◌≤◌, ◌==◌, ◌&&◌, ◌⊎◌, Bool, true, false, cond, List, length, Option, refl, sym, ap, subst, ◌∙◌, arith, inl, inr, nat_lt, cases_eq, nat_tests, PageName, VolumeShape, BlockWords, Caches, CanName, Health, Looks, SamePage, Seen, IsIno, put_words, reserved, Below, CachesStored, Firm, Kept, Passes, put, put_run, widened, Held, held_of, counts_of, held_ino, Slot, AtPage, Placed, HasSlot, placed_at, Layout, volume_layout, Owns, SameLayout, inode_low, lays_same, lays_self, lies_self, Bears, NamesPage, Ready, IsMapped, run_same_but, Inode, IsInode, firm_on, ready_order}
+use Rattle.file_store.proofs.Common.{◌≡◌, ◌≢◌, ℕ, ◌+◌, ◌-◌, ◌*◌, ◌/◌, ◌%◌, ◌<◌, ◌≤◌, ◌==◌, ◌&&◌, ◌⊎◌, Bool, true, false, cond, List, length, Option, refl, sym, ap, subst, ◌∙◌, arith, inl, inr, nat_lt, cases_eq, nat_tests, PageName, VolumeShape, BlockWords, Caches, CanName, Health, Looks, SamePage, Seen, IsIno, put_words, reserved, Below, CachesStored, Firm, Kept, Passes, put, put_run, widened, Held, held_of, held_ino, Slot, AtPage, Placed, HasSlot, placed_at, Layout, volume_layout, Owns, SameLayout, inode_low, lays_same, lays_self, lies_self, Bears, NamesPage, Ready, IsMapped, run_same_but, Inode, IsInode, firm_on, ready_order}
 use Rattle.std.proofs.Common.{slice_index, None, Some}
 use Rattle.std.specs.Prelude.{not}
 use Rattle.rio_base.proofs.BlockRules.{shape_beside_stored}
@@ -127,14 +127,6 @@ rest_held shape i f g mapped ino beside =
       size = ap (λ (h : Held). h.size) now ∙ sym (ap (λ (h : Held). h.size) was);
       inode = λ w few. beside.low _ _ (inode_low shape i mapped.laid.shape_fits ino);
     }
-
--- ---- the words of it
-
-pub word_read : (shape : VolumeShape) (f : BlockWords) (i at b w : ℕ) → IsMapped shape f → IsWordPage shape f i at b → w ≡ at % 512 → f b w ≡ (held_of shape f i).word at
-word_read shape f i at b w mapped h place =
-    let counts = counts_of (placed_at f i).kind (placed_at f i).size at h.own.slot.used h.within in
-    let page = (placed_at f i).block (AtPage (at / 512)) in
-    ap (λ c. f c w) h.block ∙ ap (f page) place ∙ sym (ap (λ (k : Held). k.word at) (held_ino (volume_layout shape f) f i h.own.ino) ∙ ap (λ t. cond t (f page (at % 512)) 0) counts)
 
 is_at : (shape : VolumeShape) (f : BlockWords) (i at b w : ℕ) → IsWordPage shape f i at b → w ≡ at % 512 → IsAt (volume_layout shape f) i at b w
 is_at shape f i at b w h place = record { page = h.own; block = sym h.block; word = sym place }

@@ -1,12 +1,11 @@
 -- A new region, prepared: its blocks are taken as zeros, and then its header is stored in the block of page 0.
-use Rattle.file_store.proofs.Common.{◌≡◌, ◌≢◌, ℕ, zero, suc, ◌-◌, ◌*◌, ◌/◌, ◌%◌, ◌<◌, ◌≤◌, ◌&&◌, ◌⊎◌, Bool, true, false, cond, List, length, refl, sym, ap, subst, ◌∙◌, arith, inl, inr, slice_index_or, None, Some, nat_lt, slice_index, Contains, cases_eq, nat_tests, Block, Ino, PageName, VolumeShape, BlockWords, CanName, SamePage, Seen, IsIno, inode_kind, true_false, HasShape, CachesStored, Firm, Kept, put_run, widened, numbers, Inode, held, counts_of, same_held, Slot, AtPage, AtTable, Placed, HasSlot, IsFree, Agrees, placed_at, volume_layout, SameLayout, cases_lt, lays_agree, lays_same, lays_self, blocks_for, pages, Bears, LeavesInUse, NamedNode, NamesPage, Ready, IsMapped, run_same_but, wanted_blocks, leaves_trans, ready_left, as_many, number_at}
+use Rattle.file_store.proofs.Common.{◌≡◌, ◌≢◌, ℕ, zero, suc, ◌-◌, ◌*◌, ◌/◌, ◌%◌, ◌<◌, ◌≤◌, ◌&&◌, ◌⊎◌, Bool, true, false, cond, List, length, refl, sym, ap, subst, ◌∙◌, arith, inl, inr, slice_index_or, None, Some, nat_lt, slice_index, Contains, cases_eq, nat_tests, Block, Ino, PageName, VolumeShape, BlockWords, CanName, SamePage, Seen, IsIno, inode_kind, true_false, HasShape, CachesStored, Firm, Kept, put_run, widened, numbers, Inode, held, counts_of, same_held, Slot, AtPage, AtTable, Placed, HasSlot, IsFree, Agrees, placed_at, volume_layout, SameLayout, cases_lt, lays_agree, lays_same, lays_self, pages, Bears, LeavesInUse, NamedNode, NamesPage, Ready, IsMapped, run_same_but, wanted_blocks, leaves_trans, ready_left, as_many, number_at}
 use Rattle.std.specs.Prelude.{Option}
 use Rattle.rio_base.proofs.BlockSets.{caches_by_stored, firm_outside_all, same_outside_one}
-use Rattle.rio_base.specs.Volume.{OldOrRun, SameBut}
+use Rattle.rio_base.specs.Volume.{SameBut}
 use Rattle.rio_model.proofs.GrowthRules.{page_new}
 use Rattle.rio_model.proofs.HeldRules.{page_counts}
 use Rattle.rio_model.proofs.PlacedRules.{owned_back, page_page, table_page}
-use Rattle.rio_model.specs.VolumeRules.{SizeFits}
 use Rattle.file_pages.specs.Changes.{PlansSize, Spares, free_beside, planned_node}
 use Rattle.file_pages.proofs.OrderRules.{leaves_beside}
 use Rattle.file_pages.specs.Staging.{Beside}
@@ -25,18 +24,6 @@ use Rattle.file_store.proofs.NewRegionWords.{new_zero}
 pub region_long : (r : RegionSizes) → FitRegion r → 16384 ≤ r.bytes
 region_long r fit = let undo = fit.undo in let data_pages = fit.data_pages in let bytes = fit.bytes in omega (arith, undo, data_pages, bytes)
 
-pub region_fits : (r : RegionSizes) (kind : ℕ) → FitRegion r → kind ≡ 3 → SizeFits kind r.bytes
-region_fits r kind fit three = record {
-  most = fit.most;
-  directory = λ one. omega (arith, one, three);
-  region = λ _. (let bytes = fit.bytes in omega (arith, bytes));
-  region_pages = λ _. region_long r fit;
-}
-
--- blocks of a node that had none
-pub all_wanted : (size len : ℕ) → size ≡ 0 → wanted_blocks size len ≡ blocks_for len
-all_wanted size len none = ap (λ n. wanted_blocks n len) none ∙ (let all : blocks_for len - 0 ≡ blocks_for len = omega arith in all)
-
 -- ---- a store into a free block
 
 -- what the store of the header leaves, whatever its end
@@ -47,10 +34,6 @@ pub record PutsHeader (x : Seen) (k : Kept) (y : Seen) (j : Kept) (b : ℕ) (i :
   pub count : y.count ≡ x.count
   pub caches : CachesStored x y b (Some (header_name i))
   pub idle : j.updating ≡ false
-
--- a run of words differs in its block alone
-pub run_others : (f g : BlockWords) (b w : ℕ) (words : List ℕ) (most : ℕ) → OldOrRun f g b w words most → SameBut b f g
-run_others f g b w words most (n, few, is) = subst (SameBut b f) (sym is) (run_same_but f b w n words)
 
 put_beside : (x : Seen) (k : Kept) (y : Seen) (j : Kept) (b : ℕ) (i : Ino) → PutsHeader x k y j b i → Beside (λ c. c ≡ b) x k y j
 put_beside x k y j b i h = record {

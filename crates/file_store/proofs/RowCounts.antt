@@ -89,6 +89,3 @@ rows_fewer h s d reads apart tree within fit dir whole =
 
     named : (j : ℕ) → j < n → IsNamed s (entry_ino (h d) j)
     named j less = names_inode h s d j reads tree within fit (has j less)
-
-pub rows_few : (h : ℕ → Held) (s : State) (d : ℕ) → Reads h s → NamesApartRule h → TreeRule s → InShape s → RowsFit s → (h d).kind ≡ 1 → (h d).size % 64 ≡ 0 → (h d).size ≤ 64 * s.shape.inodes
-rows_few h s d reads apart tree within fit dir whole = let most = rows_fewer h s d reads apart tree within fit dir whole in omega (arith, most)

@@ -26,10 +26,6 @@ reads_of_rows h s nodes rows idle = record {
   idle = idle;
 }
 
--- what a directory has of a name is what the state has
-pub finds_none : (h : ℕ → Held) (s : State) (d : ℕ) (name : List ℕ) → Reads h s → Finds (h d) name None → get s.names (d, name) ≡ None
-finds_none h s d name r none = no_value _ (λ i e. none i ((rows_of_reads h s r).back d name i e).1)
-
 pub finds_some : (h : ℕ → Held) (s : State) (d : ℕ) (name : List ℕ) (found : Ino × ℕ) → Reads h s → (h d).kind ≡ 1 → Finds (h d) name (Some found) → get s.names (d, name) ≡ Some found.0.0
 finds_some h s d name found r dir at = (rows_of_reads h s r).on d name found.0.0 dir (found.1, at)
 
@@ -89,9 +85,6 @@ dir_kind h s i r is = elim (cases_eq (h i).kind 1) [
     no_dir true file = refl
     no_dir false true = refl
     no_dir false false = refl
-
-pub leaf_kind : (h : ℕ → Held) (s : State) (i : ℕ) → Reads h s → is_dir (get s.nodes i) ≡ false → (h i).kind ≢ 1
-leaf_kind h s i r is dir = true_false (sym (ap is_dir (r.nodes i ∙ reads_dir (h i) dir)) ∙ is)
 
 pub by_each : (h : ℕ → Held) (s : State) → SoundReads h s → EachReads h s
 by_each h s r = record {
@@ -181,10 +174,6 @@ bare_names h s x r bare name = no_value _ (λ v e. let at = r.rows.back name v e
 -- a slot's row is a name
 pub row_named : (h : ℕ → Held) (s : State) (d j : ℕ) (name : List ℕ) (i : ℕ) → EachReads h s → (h d).kind ≡ 1 → IsEntry (h d) j name i → get s.names (d, name) ≡ Some i
 row_named h s d j name i r dir entry = (r.each d).rows.on name i dir (j, entry)
-
--- rows stand in directories
-pub row_in_dir : (h : ℕ → Held) (s : State) (d : ℕ) (name : List ℕ) (i : ℕ) → EachReads h s → get s.names (d, name) ≡ Some i → is_dir (get s.nodes d) ≡ true
-row_in_dir h s d name i r e = ap is_dir ((r.each d).node ∙ reads_dir (h d) ((r.each d).rows.back name i e).0)
 
 -- ---- the whole
 

@@ -10,7 +10,7 @@ use Rattle.rio_base.proofs.BlockSets.{caches_by_drops, caches_by_one, caches_by_
 use Rattle.rio_base.specs.Volume.{HasRoom, SameUpdate, Touches}
 use Rattle.file_pages.specs.Updating.{IsTouched, IsUpdated, CanUpdate}
 use Rattle.file_pages.proofs.Listed.{listed}
-use Rattle.file_pages.proofs.Updated.{touched_now, touched_still, unnamed_on, updated_edits, updated_inode}
+use Rattle.file_pages.proofs.Updated.{touched_now, touched_still, unnamed_on}
 use Rattle.file_store.specs.Changes.{AllApplied, AllTouched, CanMakeNode, CanCommit, IsEditOf, IsFreed, IsTouchedBy, MakesFit, edited_blocks, node_update}
 use Rattle.file_pages.specs.Changes.{node_update as one_update}
 use Rattle.file_store.specs.Committing.{Commits, Makes, Touched}
@@ -229,12 +229,6 @@ node_touched k l m b i es edits is same bitmap t more done = record {
   inode = more _ (subst (λ a. l.touched a ≡ true) is (touched_now b k l t));
   edited = λ e on. done e (subst (λ xs. Contains xs e) (sym same) on);
 }
-
-pub node_more : (k l m : Kept) (b : ℕ) → Touches b k l → ((a : ℕ) → l.touched a ≡ true → m.touched a ≡ true) → (a : ℕ) → k.touched a ≡ true → m.touched a ≡ true
-node_more k l m b t more a was = more a (touched_still b a k l t was)
-
-pub node_caches : (i b : ℕ) (es edits : List Edit) (x y z : Seen) → b ≡ inode_block i → es ≡ edits → Caches x y b None → CachesBy (IsEditOf es) y z → CachesBy (IsUpdated i edits) x z
-node_caches i b es edits x y z is same h k = caches_by_trans _ x y z (updated_inode i b edits x y is h) (updated_edits i es edits y z same k)
 
 -- ---- touching the blocks of all changes
 

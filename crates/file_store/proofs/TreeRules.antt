@@ -1,5 +1,5 @@
 -- The names of a state stay a tree: where a node is made, goes, is moved, or is moved over another.
-use Rattle.file_store.proofs.Common.{◌≡◌, ◌≢◌, ℕ, false, true, List, [], ◌∷◌, ◌++◌, Option, refl, sym, ap, subst, ◌∙◌, inl, inr, get, insert, remove, cases_eq, true_false, Node, State, with_new, NameKey, is_dir, walk, TreeRule, name_get_other, name_get_same, get_here, get_there, moved, replaced, without}
+use Rattle.file_store.proofs.Common.{◌≡◌, ◌≢◌, ℕ, false, true, List, [], ◌∷◌, ◌++◌, Option, refl, sym, ap, subst, ◌∙◌, inl, inr, get, insert, remove, cases_eq, true_false, Node, State, with_new, NameKey, is_dir, walk, TreeRule, name_get_other, name_get_same, get_there, moved, replaced, without}
 use Rattle.std.proofs.Common.{Some, None, Ok}
 use Rattle.file_store.proofs.NameRules.{cases_key, some_none, same_some, row_kept, row_left, row_moved, row_put, row_stays, OneRow, one_left, one_moved, one_put, node_kept, node_left}
 use Rattle.file_store.proofs.WalkRules.{Hangs, Up, stepped, turned, up_walk, walk_append, walk_step, walk_up}
@@ -12,14 +12,6 @@ pub record RowsFit (s : State) : Type 0 where
 
 pub dir_used : (o : Option Node) → is_dir o ≡ true → o ≢ None
 dir_used o dir none = true_false (sym dir ∙ ap is_dir none)
-
--- in a node that is no directory there is none
-pub leaf_empty : (s : State) (i : ℕ) → RowsFit s → is_dir (get s.nodes i) ≡ false → (n : List ℕ) → get s.names (i, n) ≡ None
-leaf_empty s i fit leaf n = by _ refl
-  where
-    by : (o : Option ℕ) → get s.names (i, n) ≡ o → o ≡ None
-    by None row = refl
-    by (Some j) row = absurd (true_false (sym (fit.dirs i n j row) ∙ leaf))
 
 -- ---- a tree by its rows from each node up to the root
 
@@ -75,21 +67,6 @@ tree_new s d name i node fit tree dir free new = tree_by t root (one_put s.names
     below : Reached s d
     below = reached s d tree (dir_used _ dir)
 
-pub rows_new : (s : State) (d : ℕ) (name : List ℕ) (i : ℕ) (node : Node) → RowsFit s → is_dir (get s.nodes d) ≡ true → get s.nodes i ≡ None → RowsFit (with_new s d name i node)
-rows_new s d name i node fit dir new = record {
-  used = λ c n j e. elim (row_put s.names (d, name) i (c, n) j e) [
-    | inl here ↦ (λ none. there (ap (get (insert s.nodes i node)) here.1 ∙ none))
-    | inr r ↦ (λ none. fit.used c n j r.row (sym (get_there s.nodes i node j (λ here. fit.used c n j r.row (ap (get s.nodes) here ∙ new))) ∙ none))
-  ];
-  dirs = λ c n j e. elim (row_put s.names (d, name) i (c, n) j e) [
-    | inl here ↦ subst (λ x. is_dir (get (insert s.nodes i node) x) ≡ true) (sym (ap (λ (k : NameKey). k.0) here.0)) (dir_stays s i node d new dir)
-    | inr r ↦ dir_stays s i node c new (fit.dirs c n j r.row)
-  ];
-}
-  where
-    there : get (insert s.nodes i node) i ≢ None
-    there none = cc (get_here s.nodes i node, none)
-
 -- ---- a node that goes
 
 pub tree_without : (s : State) (d : ℕ) (name : List ℕ) (i : ℕ) → TreeRule s → get s.names (d, name) ≡ Some i → ((n : List ℕ) → get s.names (i, n) ≡ None) → TreeRule (without s d name i)
@@ -105,12 +82,6 @@ tree_without s d name i tree row empty = tree_by t root (one_left s.names (d, na
     step c n y off h =
         let away : c ≢ i = (λ here. some_none _ y (ap (λ x. get s.names (x, n)) here ∙ empty n) h.row) in
         (away, record { dir = ap is_dir (node_kept s.nodes i c away) ∙ h.dir; row = row_kept s.names (d, name) (c, n) (λ same. off (same_some _ y i h.row (ap (get s.names) same ∙ row))) ∙ h.row })
-
-pub rows_without : (s : State) (d : ℕ) (name : List ℕ) (i : ℕ) → RowsFit s → TreeRule s → get s.names (d, name) ≡ Some i → ((n : List ℕ) → get s.names (i, n) ≡ None) → RowsFit (without s d name i)
-rows_without s d name i fit tree row empty = record {
-  used = λ c n j e none. let r = row_left s.names (d, name) (c, n) j e in fit.used c n j r.row (sym (node_kept s.nodes i j (λ here. r.away (one_row s tree (c, n) (d, name) i (r.row ∙ ap Some here) row))) ∙ none);
-  dirs = λ c n j e. let r = row_left s.names (d, name) (c, n) j e in ap is_dir (node_kept s.nodes i c (λ here. some_none _ j (ap (λ x. get s.names (x, n)) here ∙ empty n) r.row)) ∙ fit.dirs c n j r.row;
-}
 
 -- ---- a node that is moved
 
@@ -143,12 +114,6 @@ tree_moved s d a e b i tree from dir free apart = tree_by t (root_moved s d a e 
       | inr off ↦ (let way = reach up h.0 h.1 in (n ∷ way.0, (h.0, way.1, record { dir = h.2.dir; row = row_stays s.names (d, a) (e, b) i (h.0, n) off (on h.0 n x h.2.row) ∙ h.2.row })))
     ]
 
-pub rows_moved : (s : State) (d : ℕ) (a : List ℕ) (e : ℕ) (b : List ℕ) (i : ℕ) → RowsFit s → get s.names (d, a) ≡ Some i → is_dir (get s.nodes e) ≡ true → RowsFit (moved s d a e b i)
-rows_moved s d a e b i fit from dir = record {
-  used = λ c n k is. elim (row_moved s.names (d, a) (e, b) i (c, n) k is) [ inl new ↦ fit.used d a k (from ∙ ap Some new.1) | inr r ↦ fit.used c n k r.row ];
-  dirs = λ c n k is. elim (row_moved s.names (d, a) (e, b) i (c, n) k is) [ inl new ↦ subst (λ x. is_dir (get s.nodes x) ≡ true) (sym (ap (λ (q : NameKey). q.0) new.0)) dir | inr r ↦ fit.dirs c n k r.row ];
-}
-
 -- ---- a node that is moved over another, neither of them a directory
 
 pub tree_replaced : (s : State) (d : ℕ) (a : List ℕ) (e : ℕ) (b : List ℕ) (i j : ℕ) → RowsFit s → TreeRule s → get s.names (d, a) ≡ Some i → get s.names (e, b) ≡ Some j → i ≢ j → is_dir (get s.nodes i) ≡ false → is_dir (get s.nodes j) ≡ false → TreeRule (replaced s d a e b i j)
@@ -176,18 +141,3 @@ tree_replaced s d a e b i j fit tree from to other leaf_i leaf_j = tree_by t (ro
       | inl same ↦ (let below = reached s e tree (dir_used _ (fit.dirs e b j to)) in (b ∷ below.0, (e, dir_up below.0 e (fit.dirs e b j to) below.1, record { dir = dir_kept e (fit.dirs e b j to); row = name_get_same (remove s.names (d, a)) (e, b) i ∙ sym from ∙ sym (ap (get s.names) same) ∙ h.2.row })))
       | inr away ↦ (n ∷ up, (h.0, dir_up up h.0 h.2.dir h.1, record { dir = dir_kept h.0 h.2.dir; row = row_stays s.names (d, a) (e, b) i (h.0, n) away (λ same. off (same_some _ x j h.2.row (ap (get s.names) same ∙ to))) ∙ h.2.row }))
     ]
-
-pub rows_replaced : (s : State) (d : ℕ) (a : List ℕ) (e : ℕ) (b : List ℕ) (i j : ℕ) → RowsFit s → TreeRule s → get s.names (d, a) ≡ Some i → get s.names (e, b) ≡ Some j → i ≢ j → is_dir (get s.nodes j) ≡ false → RowsFit (replaced s d a e b i j)
-rows_replaced s d a e b i j fit tree from to other leaf = record {
-  used = λ c n k is none. elim (row_moved s.names (d, a) (e, b) i (c, n) k is) [
-    | inl new ↦ fit.used d a i from (sym (node_kept s.nodes j i other) ∙ ap (get (remove s.nodes j)) new.1 ∙ none)
-    | inr r ↦ fit.used c n k r.row (sym (node_kept s.nodes j k (λ here. r.on (one_row s tree (c, n) (e, b) j (r.row ∙ ap Some here) to))) ∙ none)
-  ];
-  dirs = λ c n k is. elim (row_moved s.names (d, a) (e, b) i (c, n) k is) [
-    | inl new ↦ subst (λ x. is_dir (get (remove s.nodes j) x) ≡ true) (sym (ap (λ (q : NameKey). q.0) new.0)) (dir_kept e (fit.dirs e b j to))
-    | inr r ↦ dir_kept c (fit.dirs c n k r.row)
-  ];
-}
-  where
-    dir_kept : (c : ℕ) → is_dir (get s.nodes c) ≡ true → is_dir (get (remove s.nodes j) c) ≡ true
-    dir_kept c is = ap is_dir (node_kept s.nodes j c (λ here. true_false (sym is ∙ ap (λ x. is_dir (get s.nodes x)) here ∙ leaf))) ∙ is

@@ -1,15 +1,11 @@
 -- Laws of what specs/WalkRules.antt defines.
-use Rattle.file_store.proofs.Common.{None, Some, Result, Ok, Err, get, VolumeShape, BlockWords, State, front_of, last_of, held_of, walk_to_dir, from_found, is_dir, walk, found, is_below, ◌≡◌, ℕ, ◌+◌, ◌-◌, ◌<◌, ◌&&◌, Bool, true, false, cond, List, [], ◌∷◌, ◌++◌, length, Option, refl, sym, ap, subst, ◌∙◌, arith, append_assoc, append-nil, drop_more, take-append-drop, true_false, TreeRule}
+use Rattle.file_store.proofs.Common.{None, Some, Result, Ok, Err, get, State, front_of, last_of, walk_to_dir, from_found, is_dir, walk, found, is_below, ◌≡◌, ℕ, ◌+◌, ◌-◌, ◌<◌, ◌&&◌, Bool, true, false, cond, List, [], ◌∷◌, ◌++◌, length, Option, refl, sym, ap, subst, ◌∙◌, arith, append_assoc, append-nil, drop_more, take-append-drop, true_false, TreeRule}
 use Rattle.std.specs.Prelude.{◌≡◌, ℕ, List}
 use Rattle.rio_model.specs.Paths.{as_dir}
 use Rattle.std.proofs.Common.{Some, None, Ok, Err, Result}
 use Rattle.std.proofs.lemmas.List.{drop_all}
 use Rattle.std.proofs.lemmas.Slice.Eq.{bytes_eq-Decides}
 use Rattle.file_store.specs.WalkRules.{OutOfReach}
-
--- the kind of a node
-abbrev pub kind_of : VolumeShape → BlockWords → ℕ → ℕ
-kind_of shape f i = (held_of shape f i).kind
 
 -- ---- over names and more names
 
@@ -49,9 +45,6 @@ walk_over s i (n ∷ ns) more = by (is_dir (get s.nodes i)) (get s.names (i, n))
 
 pub walk_append : (s : State) (i j : ℕ) (names more : List (List ℕ)) → walk s i names ≡ Ok j → walk s i (names ++ more) ≡ walk s j more
 walk_append s i j names more e = walk_over s i names more ∙ ap (λ r. walk_on s r more) e
-
-pub walk_append_err : (s : State) (i number : ℕ) (names more : List (List ℕ)) → walk s i names ≡ Err number → walk s i (names ++ more) ≡ Err number
-walk_append_err s i number names more e = walk_over s i names more ∙ ap (λ r. walk_on s r more) e
 
 -- ---- up to the last name
 
@@ -106,14 +99,6 @@ found_row s dir i name e = by _ refl e
 -- the row that a path ends at
 pub path_row : (s : State) (q : List (List ℕ)) (dir i : ℕ) → 0 < length q → walk_to_dir s (front_of q) ≡ Ok dir → walk s 1 q ≡ Ok i → get s.names (dir, last_of q) ≡ Some i
 path_row s q dir i some at e = found_row s dir i (last_of q) (sym (walk_last s q dir some at) ∙ e)
-
--- a path that leads to a node has a directory for its last name
-pub path_dir : (s : State) (q : List (List ℕ)) (i : ℕ) → 0 < length q → walk s 1 q ≡ Ok i → (dir : ℕ) × (walk_to_dir s (front_of q) ≡ Ok dir)
-path_dir s q i some e = by _ refl
-  where
-    by : (r : Result ℕ ℕ) → walk_to_dir s (front_of q) ≡ r → (dir : ℕ) × (walk_to_dir s (front_of q) ≡ Ok dir)
-    by (Ok dir) at = (dir, at)
-    by (Err number) at = absurd (cc (walk_last_err s q number some at, e))
 
 -- ---- by the rows from a node up to the root
 

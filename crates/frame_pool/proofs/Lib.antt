@@ -3,7 +3,6 @@ pub mod Counts
 pub mod Fresh
 pub mod Holding
 pub mod Moves
-pub mod PoolLaws
 pub mod Ranges
 pub mod Standing
 pub mod Times

@@ -15,15 +15,6 @@ pub record AreLinked (o y : ℕ → ℕ) (n : ℕ) : Type 0 where
   pub younger : (k : ℕ) → k < n → y k ≡ k + 1
   pub older : (k : ℕ) → k < n → o (k + 1) ≡ k
 
-pub none_linked : (o y : ℕ → ℕ) → AreLinked o y 0
-none_linked o y = record { younger = λ k less. absurd (omega (arith, less)); older = λ k less. absurd (omega (arith, less)) }
-
-pub one_linked : (o y p q : ℕ → ℕ) (n : ℕ) → AreLinked o y n → Joins n (n + 1) o y p q → AreLinked p q (n + 1)
-one_linked o y p q n are j = record {
-  younger = λ k less. ⊎_elim (λ e. ap q e ∙ j.younger ∙ ap (λ i. i + 1) (sym e)) (λ ne. j.youngers k ne ∙ are.younger k (omega (arith, less, ne))) (cases_eq k n);
-  older = λ k less. ⊎_elim (λ e. ap (λ i. p (i + 1)) e ∙ j.older ∙ sym e) (λ ne. j.olders (k + 1) (λ d. absurd (omega (arith, d, ne))) ∙ are.older k (omega (arith, less, ne))) (cases_eq k n);
-}
-
 range_chain : (o y : ℕ → ℕ) (n m s a : ℕ) → AreLinked o y n → s + m ≡ n → y a ≡ s → o s ≡ a → y n ≡ 0 → Chain o y a (range_with_len s m) n
 unfolding Chain
 range_chain o y n zero s a are end after before back =

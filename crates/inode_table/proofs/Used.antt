@@ -1,10 +1,9 @@
 -- The kinds of the 32 inodes of a block, and which of them is the first free one.
-use Rattle.std.proofs.Common.{◌≡◌, ◌≢◌, ℕ, ◌+◌, ◌-◌, ◌*◌, ◌%◌, ◌<◌, ◌≤◌, ◌⊎◌, Some, None, List, slice_index, sym, ap, subst, ◌∙◌, arith, inl, inr}
-use Rattle.std.proofs.lemmas.Bool.{cases_eq}
+use Rattle.std.proofs.Common.{◌≡◌, ◌≢◌, ℕ, ◌+◌, ◌-◌, ◌*◌, ◌%◌, ◌<◌, ◌≤◌, ◌⊎◌, Some, List, slice_index, sym, ap, subst, ◌∙◌, arith, inl, inr}
 use Rattle.rio_base.specs.declared.places.VolumeShape.{VolumeShape}
 use Rattle.rio_base.specs.Blocks.{BlockWords, IsRun}
 use Rattle.rio_base.specs.Layout.{inode_block, inode_place, inode_kind}
-use Rattle.rio_base.specs.Shapes.{IsShape, reserved}
+use Rattle.rio_base.specs.Shapes.{IsShape}
 use Rattle.inode_table.specs.Inodes.{AreUsed, FindsBelow, FindsFree}
 
 -- where the kind of inode first + k stands
@@ -13,18 +12,6 @@ kind_at f first k from start few =
     let block : inode_block (first + k) ≡ inode_block first = omega (arith, from, start, few) in
     let place : inode_place (first + k) + 0 ≡ 16 * k = omega (arith, from, start, few) in
     (λ t. f (block t) (place t))
-
--- one more inode is used
-pub used_more : (f : BlockWords) (first k : ℕ) → AreUsed f first k → 0 < inode_kind f (first + k) → AreUsed f first (k + 1)
-used_more f first k h more = record {
-  each = λ i low high. elim (cases_eq i (first + k)) [
-    | inl last ↦ subst (λ x. 0 < inode_kind f x) (sym last) more
-    | inr away ↦ h.each i low (omega (arith, high, away))
-  ];
-}
-
-pub none_used : (f : BlockWords) (first : ℕ) → AreUsed f first 0
-none_used f first = record { each = λ i low high. absurd (omega (arith, low, high)) }
 
 pub used_on : (f : BlockWords) (a b c : ℕ) → AreUsed f a b → AreUsed f (a + b) c → AreUsed f a (b + c)
 used_on f a b c h k = record {
@@ -40,14 +27,6 @@ used_on f a b c h k = record {
 -- from the words of a page: those before word 16 * k that are kinds are not 0
 pub record KindsPass (words : List ℕ) (k : ℕ) : Type 0 where
   pub each : (j : ℕ) → j < k → slice_index words (16 * j) ≢ 0
-
-pub pass_more : (words : List ℕ) (k : ℕ) → KindsPass words k → slice_index words (16 * k) ≢ 0 → KindsPass words (k + 1)
-pass_more words k h more = record {
-  each = λ j few. elim (cases_eq j k) [
-    | inl last ↦ subst (λ x. slice_index words (16 * x) ≢ 0) (sym last) more
-    | inr away ↦ h.each j (omega (arith, few, away))
-  ];
-}
 
 pub used_page : (f : BlockWords) (words : List ℕ) (first k : ℕ) → 1 ≤ first → first % 32 ≡ 1 → IsRun f (inode_block first) 0 512 words → k ≤ 32 → KindsPass words k → AreUsed f first k
 used_page f words first k from start run few h = record {
@@ -67,11 +46,6 @@ free_page f words first k from start run few h zero =
     let place : 0 + 16 * k ≡ 16 * k = omega arith in
     (few, kind_at f first k from start few ∙ sym (ap (f (inode_block first)) place) ∙ sym word ∙ zero, used_page f words first k from start run (omega (arith, few)) h)
 
--- ---- block after block
-
-pub block_below : (shape : VolumeShape) (first : ℕ) → IsShape shape → first ≤ shape.inodes → inode_block first < reserved shape
-block_below shape first h few = omega (arith, h.inode_blocks, few)
-
 pub found : (shape : VolumeShape) (f : BlockWords) (first k : ℕ) → IsShape shape → 1 ≤ first → first % 32 ≡ 1 → first ≤ shape.inodes → AreUsed f 1 (first - 1) → FindsBelow f first 32 (Some k) → FindsFree shape f (Some (record { 0 = first + k }))
 found shape f first k h from start few before find =
     let within = find.0 in
@@ -84,6 +58,3 @@ passed f first from before more =
     let at : 1 + (first - 1) ≡ first = omega (arith, from) in
     let all : (first - 1) + 32 ≡ first + 32 - 1 = omega (arith, from) in
     subst (AreUsed f 1) all (used_on f 1 (first - 1) 32 before (subst (λ x. AreUsed f x 32) (sym at) more))
-
-pub none_free : (shape : VolumeShape) (f : BlockWords) (first : ℕ) → shape.inodes < first → AreUsed f 1 (first - 1) → FindsFree shape f None
-none_free shape f first past before = record { each = λ i low high. before.each i low (omega (arith, high, past)) }

@@ -1,11 +1,8 @@
 -- A cache after a flush: entries say of their pages what they said.
-use Rattle.page_cache.proofs.Common.{◌≡◌, ◌≢◌, ℕ, ◌<◌, ◌==◌, Bool, false, None, refl, ◌∙◌, sym, subst, arith, Contents, Lasts, Coherent, HeldEntry, Keeps, entry_block, IsValid, frames_of, gate_of}
+use Rattle.page_cache.proofs.Common.{◌≡◌, ◌≢◌, ℕ, ◌<◌, ◌==◌, false, None, refl, ◌∙◌, sym, subst, arith, Contents, Lasts, Coherent, HeldEntry, Keeps, entry_block, IsValid, frames_of, gate_of}
 use Rattle.page_cache.specs.declared.tables.CacheTables.{CacheTables}
 use Rattle.page_cache.specs.Caches.{CacheSound}
 use Rattle.page_cache.proofs.Kept.{sizes_keep, sound_stays, tables_same}
-
-abbrev block_by : Bool → ℕ → ℕ
-block_by valid block = block
 
 pub shut_by : (g : ℕ) → (g == 1) ≡ false → g ≢ 1
 shut_by g e one = grind (arith, e, one)

@@ -157,9 +157,6 @@ bound_made k b n m old new t u s h l same closed made stay bound others = made_s
 pub found_new : (k b : ℕ) (old new : List ℕ) → Made k b false old new → BlockRule new → entry_of_block new b ≡ Some k
 found_new k b old new made rule = found_at new b k rule (is_valid_made k b false old new made) made.block
 
-some_same : (x y : ℕ) → Some x ≡ Some y → x ≡ y
-some_same x y e = cc
-
 pub adds_made : (k b : ℕ) (name : Option PageName) (old new : List ℕ) → Made k b false old new → BlockRule new → name_in new (Some k) ≡ name → Adds b name old new
 adds_made k b name old new made rule named = record {
   others = λ c j ne e. let v = found_is new c j e in let differ : j ≢ k = λ q. ne (sym v.1 ∙ ap (λ y. tag_block (tag_at new y)) q ∙ made.block) in (sym (found_other k c old new made.one (λ x. absurd (true_false (sym x ∙ made.was))) (λ x q. ne (sym q ∙ made.block))) ∙ e, name_other k j old new made.one differ);

@@ -42,9 +42,6 @@ pub cached_none : (o : Option ℕ) → is_some o ≡ false → o ≡ None
 cached_none None e = refl
 cached_none (Some k) e = absurd (true_false e)
 
-some_same : (x y : ℕ) → Some x ≡ Some y → x ≡ y
-some_same x y e = cc
-
 widened_self : (o : Option PageName) → widened o o ≡ o
 widened_self None = refl
 widened_self (Some p) = ap (λ s. Some (record p { size = s })) (omega arith)

@@ -83,11 +83,6 @@ gives_next k a b c t u one held bare some others count = record {
   count = count ∙ rw bare refl;
 }
 
--- ---- the whole of it
-
-name_by : Bool → ℕ → ℕ → ℕ → Option PageName
-name_by named file index size = if named then Some (record { file = record { 0 = file }; index = index; size = size }) else None
-
 is_touched_at : (words : List ℕ) (b k : ℕ) → gate_of words ≡ 1 → entry_of_block words b ≡ Some k → is_touched words b ≡ not (shadow_at words k == 0)
 is_touched_at words b k is found = rw (eq-eqb _ _ is) (ap (has_shadow words) found)
 

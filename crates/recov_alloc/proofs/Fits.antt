@@ -4,18 +4,9 @@ use Rattle.std.specs.Prelude.{slice_index}
 use Rattle.std.specs.Int.{bit_at}
 use Rattle.std.proofs.lemmas.Nat.Bits.{bit_at_ones}
 use Rattle.rio_base.specs.Regions.{AreWords}
-use Rattle.rio_model.specs.Heap.{used, starts, IsFirstFit, IsGap}
+use Rattle.rio_model.specs.Heap.{used, starts}
 use Rattle.undo_list.specs.Bits.{IsOnes, IsZeros}
 use Rattle.recov_alloc.specs.Scans.{Before, FoundBy}
-
-pub none_before : (l : ℕ → ℕ) (n : ℕ) → 1 ≤ n → Before l n 0 0
-none_before l n some = record {
-  small = omega arith;
-  within = omega arith;
-  free = λ y a b. absurd (omega arith);
-  edge = λ h. absurd (omega arith);
-  none = λ s h k. absurd (omega arith);
-}
 
 -- ---- units of a word
 
@@ -126,14 +117,3 @@ full_page l word page units before all is b = subst (λ x. Before l units x 0) (
 
 pub word_in : (f : ℕ → ℕ) (words : List ℕ) (page count i : ℕ) → AreWords f (2 * page) (2 * count) words → i < count → slice_index words (2 * i) ≡ f (2 * (page + i))
 word_in f words page count i h small = h.each (2 * i) (omega arith) ∙ ap f (omega arith)
-
--- ---- the whole map
-
-pub first_by : (l : ℕ → ℕ) (units n x t : ℕ) → x ≤ units → FoundBy l n x t → IsFirstFit l units n t
-first_by l units n x t within h = record {
-  gap = record { within = omega (arith, h.within); free = h.free };
-  lowest = λ s below g. h.lowest s below g.free;
-}
-
-pub none_fits : (l : ℕ → ℕ) (units n k : ℕ) → Before l n units k → (s : ℕ) → IsGap l units s n → ⊥
-none_fits l units n k b s g = b.none s g.within g.free

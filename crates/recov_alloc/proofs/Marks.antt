@@ -5,11 +5,9 @@ use mir.Val.{bool_byte}
 use Rattle.std.proofs.lemmas.Bool.{cases_eq}
 use Rattle.std.proofs.lemmas.Bool.Decides.{nat_tests}
 use Rattle.rio_base.specs.Regions.{AreWords, RegionContent, put_words}
-use Rattle.rio_model.specs.Undo.{CoversAll, Gains, Keeps, Undoes, is_covered, live, saving, undo_records}
-use Rattle.rio_model.proofs.UndoRules.{undoes_trans}
+use Rattle.rio_model.specs.Undo.{CoversAll, Gains, is_covered, live, saving, undo_records}
 use Rattle.rio_model.specs.Heap.{AddsBlock, Allocates, IsBlock, IsFirstFit, OffBlock, Releases, RemovesBlock, starts, touched_pages, used}
 use Rattle.undo_list.specs.Bits.{WithBits}
-use Rattle.undo_list.specs.Stages.{PutsFront}
 use Rattle.recov_alloc.specs.Marks.{MapCovered, MarksBlock, StoresPair}
 use Rattle.recov_alloc.proofs.MarksLaws.{MarksUnits}
 
@@ -42,20 +40,6 @@ pair_stored l l1 m x n s v a b pair same read used_bits start_bits put = record 
 
     here : (q : ℕ) → m q ≡ put_words l place 2 (a ∷ b ∷ []) q
     here q = ap (λ (f : ℕ → ℕ). f q) put ∙ ap (λ (f : ℕ → ℕ). put_words f place 2 (a ∷ b ∷ []) q) same
-
-pub keeps_front : (n k : ℕ) (f f1 g : RegionContent) (place : ℕ) (words : List ℕ) → f1 ≡ f → k ≡ n → PutsFront k f1 g place words → Keeps n f g
-keeps_front n k f f1 g place words same size p = subst (λ j. Keeps j f g) size (subst (λ w. Keeps k w g) same p.2.keeps)
-
--- ---- the units of a block
-
-pub marked_none : (l : ℕ → ℕ) (t v : ℕ) → MarksUnits l l t t v
-marked_none l t v = record { used = λ y. none y; starts = λ y. no_start y; others = λ q out. refl }
-  where
-    none : (y : ℕ) → used l y ≡ cond (nat_le t y && nat_lt y t) v (used l y)
-    none y = grind (arith, nat_tests)
-
-    no_start : (y : ℕ) → starts l y ≡ cond (eqb y t && nat_lt t t) v (starts l y)
-    no_start y = grind (arith, nat_tests)
 
 in_units : (t x u v : ℕ) (y : ℕ) → t ≤ y → y < x → cond (nat_le t y && nat_lt y x) v u ≡ v
 in_units t x u v y low high = grind (arith, nat_tests)
@@ -172,6 +156,3 @@ released f f2 g h k units t same block gain marks recs = record {
   where
     present : live g ≡ live f
     present = gain.present ∙ ap live same
-
-pub undone_through : (n k j : ℕ) (f f1 g h : RegionContent) → f1 ≡ f → k ≡ n → j ≡ k → Undoes k f1 g → Keeps j g h → Undoes n f h
-undone_through n k j f f1 g h same size more a b = subst (λ c. Undoes c f h) size (subst (λ w. Undoes k w h) same (undoes_trans k f1 g h a (subst (λ x. Undoes x g h) more b.undoes)))

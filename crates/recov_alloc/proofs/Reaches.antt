@@ -12,9 +12,6 @@ use Rattle.recov_alloc.specs.Bits.{GoesOn, ReachesInPage}
 use Rattle.recov_alloc.specs.Extents.{Within}
 use Rattle.recov_alloc.proofs.Fits.{used_bit, starts_bit}
 
-pub within_none : (l : ℕ → ℕ) (t : ℕ) → Within l t (t + 1)
-within_none l t = record { each = λ y low high. absurd (omega arith) }
-
 pub within_more : (l : ℕ → ℕ) (t x n : ℕ) (pair : List ℕ) → AreWords l (2 * (x / 64)) 2 pair → Within l t x → GoesOn (slice_index pair 0) (slice_index pair 1) (x % 64) n → Within l t (x + n)
 within_more l t x n pair words w z = record { each = λ y low high. at y low high (grind arith) }
   where
@@ -138,11 +135,6 @@ from_block l units x n b =
         let count : units - (x + 1) ≡ n - 1 + (units - (x + n)) = omega (arith, b.within, b.some) in
         let at : x + 1 + (n - 1) ≡ x + n = omega (arith, b.some) in
         ap (blocks_from l (x + 1)) count ∙ from_skip l (x + 1) (n - 1) (units - (x + n)) (λ y low high. b.inner y (omega arith) (omega (arith, b.some))) ∙ ap (λ z. blocks_from l z (units - (x + n))) at
-
--- ---- the list, as far as it was made
-
-pub none_listed : (l : ℕ → ℕ) (units : ℕ) → blocks_from l 0 units ≡ [] ++ blocks_from l 0 (units - 0)
-none_listed l units = let count : units ≡ units - 0 = omega arith in ap (blocks_from l 0) count
 
 -- units that start no block are passed over
 pub listed_on : (l : ℕ → ℕ) (word units x j : ℕ) (all items : List (ℕ × ℕ)) → word ≡ l (2 * (x / 64) + 1) → IsZeros word (x % 64) j → x + j ≤ units → all ≡ items ++ blocks_from l x (units - x) → all ≡ items ++ blocks_from l (x + j) (units - (x + j))

@@ -9,7 +9,6 @@ pub mod Names
 pub mod NearEnds
 pub mod Numbers
 pub mod OneMeaning
-pub mod PathNames
 pub mod Passing
 pub mod Sendings
 pub mod Texts

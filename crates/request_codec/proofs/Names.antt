@@ -74,9 +74,6 @@ pub record Counted (text : List ℕ) (count : ℕ) (left : List ℕ) : Type 0 wh
   pub back : (names : List (List ℕ)) → AreNames left names → (all : List (List ℕ)) × AreNames text all
   pub ahead : (all : List (List ℕ)) → AreNames text all → (names : List (List ℕ)) × AreNames left names × (length all ≡ count + length names)
 
-pub none_counted : (text : List ℕ) → Counted text 0 text
-none_counted text = record { back = λ names are. (names, are); ahead = λ all are. (all, are, omega arith) }
-
 all_named : (name : List ℕ) (names : List (List ℕ)) → IsName name → All IsName names → All IsName (name ∷ names)
 all_named name names one rest zero d below = one
 all_named name names one rest (suc k) d below = rest k d (omega arith)

@@ -1,6 +1,6 @@
 -- Digits that write a number, read from the first one on.
-use Rattle.std.proofs.Common.{◌≡◌, ◌<◌, ◌≤◌, ◌^◌, ℕ, zero, suc, ◌+◌, ◌*◌, ◌%◌, List, [], ◌∷◌, length, drop, get_or, slice_index, refl, arith, ap, sym, subst, ◌∙◌, Some, inl, inr}
-use Rattle.std.proofs.Math.Nat.{pow-suc, pow-le-pow_right}
+use Rattle.std.proofs.Common.{◌≡◌, ◌<◌, ◌≤◌, ◌^◌, ℕ, zero, suc, ◌+◌, ◌*◌, ◌%◌, List, [], ◌∷◌, length, drop, get_or, slice_index, arith, ap, sym, subst, ◌∙◌, Some, inl, inr}
+use Rattle.std.proofs.Math.Nat.{pow-le-pow_right}
 use Rattle.std.proofs.lemmas.Bool.{cases_lt}
 use Rattle.std.proofs.lemmas.Bool.Decides.{nat_tests}
 use Rattle.std.proofs.lemmas.Fmt.{decimal_is_IsNumeral, decimal_digit, decimal-digits_value, first_decimal, length-decimal-le}
@@ -21,33 +21,14 @@ pub record Parsed (digits : List ℕ) (i number : ℕ) : Type 0 where
   pub whole : AllDigits 10 (drop i digits) → AllDigits 10 digits
   pub parts : AllDigits 10 digits → AllDigits 10 (drop i digits)
 
-pub none_parsed : (digits : List ℕ) → Parsed digits 0 0
-none_parsed digits = record { small = omega arith; value = refl; whole = λ all. all; parts = λ all. all }
-
 pub bounded : (digits : List ℕ) (i number : ℕ) → Parsed digits i number → i ≤ 18 → number < 10 ^ 18
 bounded digits i number h few = let most : 10 ^ i ≤ 10 ^ 18 = pow-le-pow_right (omega arith) few in omega (arith, h.small, most)
 
 pub bounded_below : (digits : List ℕ) (i number : ℕ) → Parsed digits i number → i ≤ 17 → number < 10 ^ 17
 bounded_below digits i number h few = let most : 10 ^ i ≤ 10 ^ 17 = pow-le-pow_right (omega arith) few in omega (arith, h.small, most)
 
-digit_is : (c : ℕ) → c < 256 → (c + 208) % 256 ≤ 9 → digit_value c ≡ (c + 208) % 256
-digit_is c small digit = grind (arith, nat_tests)
-
 other_is : (c : ℕ) → c < 256 → 9 < (c + 208) % 256 → digit_value c < 10 → ⊥
 other_is c small other digit = grind (arith, nat_tests)
-
-pub one_parsed : (digits : List ℕ) (i number c next : ℕ) → Parsed digits i number → i < length digits → c ≡ slice_index digits i → c < 256 → (c + 208) % 256 ≤ 9 → next ≡ 10 * number + (c + 208) % 256 → Parsed digits (i + 1) next
-one_parsed digits i number c next h inside here small digit is =
-    let cut : drop i digits ≡ c ∷ drop (i + 1) digits = drop_more digits i 0 inside ∙ ap (λ x. x ∷ drop (i + 1) digits) (sym here) in
-    let value : digit_value c ≡ (c + 208) % 256 = digit_is c small digit in
-    let step : number * 10 + digit_value c ≡ next = omega (arith, value, is) in
-    let power : 10 ^ (i + 1) ≡ 10 ^ i * 10 = ap (λ k. 10 ^ k) (omega arith) ∙ pow-suc 10 i in
-    record {
-      small = omega (arith, h.small, power, is, digit);
-      value = ap (λ n. digits_value_after 10 n (drop (i + 1) digits)) (sym step) ∙ ap (λ xs. digits_value_after 10 number xs) (sym cut) ∙ h.value;
-      whole = λ all. h.whole (subst (λ xs. AllDigits 10 xs) (sym cut) (omega (arith, value, digit), all));
-      parts = λ all. (subst (λ xs. AllDigits 10 xs) cut (h.parts all)).1;
-    }
 
 -- ---- digits that write no number
 

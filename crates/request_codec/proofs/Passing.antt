@@ -49,9 +49,6 @@ pub record Along (old : Reading) (old_left : Option (List ℕ)) (gathered : Gath
   pub kept : Keeps gathered line
   pub passed : Passes old old_left line new new_left
 
-pub along_start : (old : Reading) (left : Option (List ℕ)) (gathered : Gathered) → Keeps gathered [] → Along old left gathered old left
-along_start old left gathered kept = record { line = []; whole = tt; kept = kept; passed = passes_held old old left [] refl refl }
-
 -- the line's end was found
 pub found_line : (old mid inside new : Reading) (left now : Option (List ℕ)) (before after : Gathered) (found : Bool) (next : NextLine) → Along old left before mid now → inside ≡ mid → Gathers inside.held before found new.held after → found ≡ true → new.taken ≡ inside.taken → ((line : List ℕ) → Keeps after line → IsKept line next) → Gives old left next new now
 found_line old mid inside new left now before after found next began same_inside gathers_is is_found same finish =
@@ -105,10 +102,6 @@ last_line old new left now gathered next along over finish =
         (line, record { whole = whole; passed = inr (passed, kept.1, over) }, kept.0)
     gives_last old new left now line End whole passed over kept =
         (subst (λ (zs : List ℕ). Passes old left zs new now) kept passed, over)
-
--- no memory for the line
-pub no_memory : (old new : Reading) (left now : Option (List ℕ)) (gathered : Gathered) → Along old left gathered new now → new.taken ≤ 2 ^ 40 → Fails old left Memory new now
-no_memory old new left now gathered along within = (along.line, record { whole = along.whole; passed = along.passed }, within)
 
 -- reading on failed
 pub fails_along : (old mid new : Reading) (left told now : Option (List ℕ)) (gathered : Gathered) (fail : LineFail) → Along old left gathered mid told → Fails mid told fail new now → Fails old left fail new now

@@ -1,7 +1,7 @@
 -- A text on its way to a sink: how its parts follow one another.
 use Rattle.std.proofs.Common.{◌≡◌, ℕ, ◌+◌, ◌-◌, ◌≤◌, ◌<◌, List, [], ◌++◌, length, take, drop, Option, Some, None, Result, Ok, Err, refl, sym, ap, ◌∙◌, arith, subst, length-append, length-drop}
 use Rattle.std.specs.Prelude.{OnOk, OnErr, IsErr}
-use Rattle.std.proofs.lemmas.List.{append_assoc, append-nil, take-append-drop, drop-drop, drop_all, take_rest, take_at}
+use Rattle.std.proofs.lemmas.List.{append_assoc, append-nil, take-append-drop, drop-drop, take_rest, take_at}
 use Rattle.std.proofs.lemmas.Result.{on_ok_weaker, on_err_weaker}
 use Rattle.rio_base.specs.Counts.{HasCause, Rose}
 use Rattle.rio_base.specs.Streams.{appended}
@@ -43,39 +43,11 @@ drop_in_two i n xs = sym (take-append-drop n (drop i xs)) ∙ ap (λ rest. take 
 took_piece : (b c : Option (List ℕ)) (i n : ℕ) (text : List ℕ) → c ≡ appended b (take n (drop i text)) → Took b (drop i text) c (drop (i + n) text)
 took_piece b c i n text wrote = record { front = take n (drop i text); wrote = wrote; whole = sym (drop_in_two i n text) }
 
--- ---- a loop of calls
-
-pub sent_start : (a : Option (List ℕ)) (f : ℕ) (text : List ℕ) → Sent a f [] text a f text
-sent_start a f text = record { took = took_none a a text refl; steady = refl }
-
 pub sent_piece : (a : Option (List ℕ)) (f : ℕ) (text : List ℕ) (b : Option (List ℕ)) (f1 i n : ℕ) (c : Option (List ℕ)) (f2 : ℕ) → Sent a f [] text b f1 (drop i text) → c ≡ appended b (take n (take (length text - i) (drop i text))) → f2 ≡ f1 → Sent a f [] text c f2 (drop (i + n) text)
 sent_piece a f text b f1 i n c f2 s wrote steady = record {
   took = took_then a text b (drop i text) c (drop (i + n) text) s.took (took_piece b c i n text (rw (take_rest text i) at wrote));
   steady = steady ∙ s.steady;
 }
-
--- a failed call that wrote nothing
-pub cut_here : (a : Option (List ℕ)) (f : ℕ) (text : List ℕ) (b : Option (List ℕ)) (f1 : ℕ) (rest : List ℕ) (c : Option (List ℕ)) (f2 : ℕ) → Sent a f [] text b f1 rest → c ≡ b → f1 ≤ f2 → Rose f1 f2 → IsCutOff a f [] text c f2
-cut_here a f text b f1 rest c f2 s same later rose = record {
-  lost = rest;
-  took = took_then a text b rest c rest s.took (took_none b c rest same);
-  later = omega (arith, s.steady);
-  rose = rw (sym s.steady) rose;
-}
-
--- every byte is written
-pub sent_all : (a : Option (List ℕ)) (f : ℕ) (text : List ℕ) (b : Option (List ℕ)) (f1 i : ℕ) → Sent a f [] text b f1 (drop i text) → length text ≤ i → Sent a f [] text b f1 []
-sent_all a f text b f1 i s all = rw (drop_all i text all) at s
-
--- a call that took nothing
-pub cut_nothing : (a : Option (List ℕ)) (f : ℕ) (text : List ℕ) (b : Option (List ℕ)) (f1 i : ℕ) (c : Option (List ℕ)) (f2 n : ℕ) → Sent a f [] text b f1 (drop i text) → n ≡ 0 → c ≡ appended b (take n (take (length text - i) (drop i text))) → f1 ≤ f2 → Rose f1 f2 → IsCutOff a f [] text c f2
-cut_nothing a f text b f1 i c f2 n s none wrote later rose =
-    let same : c ≡ appended b [] = wrote ∙ ap (λ (k : ℕ). appended b (take k (take (length text - i) (drop i text)))) none in
-    cut_here a f text b f1 (drop i text) c f2 s (same ∙ sym (appended_nothing b)) later rose
-
--- a slice that starts within a text isn't empty
-pub some_left : (text : List ℕ) (i : ℕ) → i < length text → 0 < length (take (length text - i) (drop i text))
-some_left text i within = rw (take_rest text i) (omega (arith, length-drop i text))
 
 pub fits_left : (text : List ℕ) (i n : ℕ) → i < length text → n ≤ length (take (length text - i) (drop i text)) → i + n ≤ length text
 fits_left text i n within fits =

@@ -120,9 +120,6 @@ can_name_stored s t b name h k = record { in_range = h.in_range; agrees = λ e. 
     from (inr (inl e)) = subst (λ o. SamePage o name) (sym e) (same_page name)
     from (inr (inr e)) = subst (λ o. SamePage o name) (sym e.1) (same_widened _ _ (h.agrees e.0))
 
-pub stored_refl : (s : Seen) (b : ℕ) (name : Option PageName) → CachesStored s s b name
-stored_refl s b name = record { others = λ c n e. (e, refl); named = λ e. inl (e, refl) }
-
 abbrev Named : Seen → Seen → ℕ → Option PageName → Type 0
 Named s t b name = ((s.cached b ≡ true) × (t.names b ≡ s.names b)) ⊎ (t.names b ≡ name) ⊎ ((s.cached b ≡ true) × (t.names b ≡ widened (s.names b) name))
 
@@ -146,24 +143,6 @@ stored_trans s t u b name h k = record {
     through (inl e) = kept e.1 (h.named e.0)
     through (inr (inl e)) = inr (inl e)
     through (inr (inr e)) = wider e.1 (h.named e.0)
-
--- ---- a name beside what another block is called
-
--- a block that bears the name that it had, or is cached no more, may be asked for as before
-pub can_name_kept : (s t : Seen) (c : ℕ) (name : Option PageName) → CanName s c name → (t.cached c ≡ true → (s.cached c ≡ true) × (t.names c ≡ s.names c)) → CanName t c name
-can_name_kept s t c name h kept = record { in_range = h.in_range; agrees = λ cached. subst (λ o. SamePage o name) (sym (kept cached).1) (h.agrees (kept cached).0) }
-
--- a call on another block
-pub can_name_beside : (s t : Seen) (b c : ℕ) (given name : Option PageName) → c ≢ b → CanName s c name → Caches s t b given → CanName t c name
-can_name_beside s t b c given name away h k = can_name_kept s t c name h (k.others c away)
-
--- a store into another block
-pub can_name_beside_stored : (s t : Seen) (b c : ℕ) (given name : Option PageName) → c ≢ b → CanName s c name → CachesStored s t b given → CanName t c name
-can_name_beside_stored s t b c given name away h k = can_name_kept s t c name h (k.others c away)
-
--- blocks were dropped
-pub can_name_dropped : (s t : Seen) (c : ℕ) (name : Option PageName) → CanName s c name → Drops s t → CanName t c name
-can_name_dropped s t c name h k = can_name_kept s t c name h (k.kept c)
 
 -- ---- the shape, after a call on a block that isn't reserved
 

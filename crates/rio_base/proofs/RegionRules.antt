@@ -1,13 +1,10 @@
 -- What every call on a region's words leaves so, any number of calls leave so.
-use Rattle.std.specs.Prelude.{ℕ, refl}
+use Rattle.std.specs.Prelude.{ℕ}
 use Rattle.std.proofs.Common.{◌∙◌}
 use Rattle.rio_base.specs.Blocks.{Health}
 use Rattle.rio_base.specs.Volume.{Below}
 use Rattle.rio_base.specs.Regions.{Stays}
-use Rattle.rio_base.specs.Rules.{goes_refl, goes_trans}
-
-pub stays_refl : {S : Type 0} (keeps : S → S → Type 0) (stands : S → Type 0) (size : S → ℕ) (health : S → Health) (below : S → Below) (x : S) → keeps x x → stands x → Stays keeps stands size health below x x
-stays_refl keeps stands size health below x same ready = record { rest = same; ready = ready; count = refl; goes = goes_refl (health x) (below x) }
+use Rattle.rio_base.specs.Rules.{goes_trans}
 
 pub stays_trans : {S : Type 0} {keeps : S → S → Type 0} {stands : S → Type 0} {size : S → ℕ} {health : S → Health} {below : S → Below} {x y z : S} → ((x y z : S) → keeps x y → keeps y z → keeps x z) → Stays keeps stands size health below x y → Stays keeps stands size health below y z → Stays keeps stands size health below x z
 stays_trans {health = health} {below = below} {x = x} {y = y} {z = z} trans h k = record {

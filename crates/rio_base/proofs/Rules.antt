@@ -1,10 +1,10 @@
 -- Laws of what specs/Rules.antt defines.
-use Rattle.std.specs.Prelude.{◌≡◌, ℕ, ◌+◌, ◌≤◌, Result, Ok, Err, IsErr, IsErrOf, refl}
+use Rattle.std.specs.Prelude.{◌≡◌, ℕ, ◌+◌, ◌≤◌, Result, Ok, Err, IsErrOf, refl}
 use Rattle.std.proofs.Common.{le_trans, ◌∙◌, inl, inr, arith}
 use Rattle.rio_base.specs.declared.failures.VolFail.{VolFail}
 use Rattle.rio_base.specs.declared.failures.VolFail.TheVariants.{Fault, Stopped}
 use Rattle.rio_base.specs.Counts.{Rose, RoseBy}
-use Rattle.rio_base.specs.Blocks.{Seen, Health, Looks, Drops, Ends, EndsBy, Halts}
+use Rattle.rio_base.specs.Blocks.{Seen, Health, Looks, Drops, Ends, EndsBy}
 
 -- ---- what is only read
 
@@ -48,15 +48,6 @@ pub rose_stays : (a b c : ℕ) → Rose a b → b ≤ c → Rose a c
 rose_stays a b c (inl h) k = inl (omega arith)
 rose_stays a b c (inr h) k = inr (omega arith)
 
-pub ends_by_before : (s t u : Health) (fault stop : Type 0) → EndsBy s t fault stop → (stop → ⊥) → t.faults ≤ u.faults → u.stopped ≡ t.stopped → EndsBy s u fault stop
-ends_by_before s t u fault stop h no_stop later same = record {
-  later = le_trans h.later later;
-  stays = λ e. same ∙ h.stays e;
-  cause = λ f. rose_stays s.faults t.faults u.faults (h.cause f) later;
-  told = λ p. absurd (no_stop p);
-  runs = λ n. same ∙ h.runs n;
-}
-
 -- the same call, by what another answer says of it
 pub ends_by_as : (s t : Health) (fault stop fault_as stop_as : Type 0) → (fault_as → fault) → (stop_as → stop) → (stop → stop_as) → EndsBy s t fault stop → EndsBy s t fault_as stop_as
 ends_by_as s t fault stop fault_as stop_as f g h e = record {
@@ -73,22 +64,8 @@ ends_by s t (Ok x) h = record { later = h.later; stays = h.stays; cause = λ f. 
 ends_by s t (Err Fault) h = record { later = h.later; stays = h.stays; cause = λ f. h.cause.0; told = λ p. cc; runs = λ n. h.cause.1 }
 ends_by s t (Err Stopped) h = record { later = h.later; stays = h.stays; cause = λ f. cc; told = λ p. h.cause; runs = λ n. absurd (n refl) }
 
--- a call whose one failure is the stop
-pub halts_by : {T E : Type 0} (s t : Health) (answer : Result T E) → Halts s t answer → EndsBy s t ⊥ (IsErr answer)
-halts_by s t (Ok x) h = record { later = h.later; stays = h.stays; cause = λ f. absurd f; told = λ p. cc; runs = λ n. h.cause }
-halts_by s t (Err e) h = record { later = h.later; stays = h.stays; cause = λ f. absurd f; told = λ p. h.cause; runs = λ n. absurd (n cc) }
-
--- ---- how often a count rose
-
-pub rose_by_none : (a b : ℕ) → a ≤ b → RoseBy 0 a b
-rose_by_none a b h = inl (omega arith)
-
 pub rose_by_more : (n a b c : ℕ) → RoseBy n a b → Rose b c → RoseBy (n + 1) a c
 rose_by_more n a b c (inl h) (inl k) = inl (omega arith)
 rose_by_more n a b c (inl h) (inr k) = inr k
 rose_by_more n a b c (inr h) (inl k) = inr (omega arith)
 rose_by_more n a b c (inr h) (inr k) = inr k
-
-pub rose_by_later : (n a b c : ℕ) → RoseBy n a b → b ≤ c → RoseBy n a c
-rose_by_later n a b c (inl h) k = inl (omega arith)
-rose_by_later n a b c (inr h) k = inr (omega arith)

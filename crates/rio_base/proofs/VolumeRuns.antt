@@ -21,10 +21,6 @@ next_at f b w n v words c x value =
 pub put_next : (f : BlockWords) (b w n v : ℕ) (words : List ℕ) → v ≡ slice_index words n → put (put_run f b w n words) b (w + n) v ≡ put_run f b w (n + 1) words
 put_next f b w n v words value = λ i c x. next_at f b w n v words c x value i
 
--- the name after a first store, and after one more
-pub run_name_first : (cached : Bool) (own given now : Option PageName) → now ≡ stored_name cached own given → RunName cached own given now
-run_name_first cached own given now e = inl e
-
 run_from : (cached : Bool) (own given mid now : Option PageName) → now ≡ widened mid given → RunName cached own given mid → RunName cached own given now
 run_from true own given mid now e (inl h) = inl (e ∙ ap (λ o. widened o given) h ∙ widen_twice own given)
 run_from false own given mid now e (inl h) = inr (e ∙ ap (λ o. widened o given) h ∙ widen_self given)

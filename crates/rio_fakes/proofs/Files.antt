@@ -1,8 +1,8 @@
 -- A list of files, of which each name finds the first that has it.
-use Rattle.std.proofs.Common.{◌≡◌, ◌≢◌, ◌<◌, ◌+◌, ℕ, zero, suc, Bool, true, false, not, cond, List, [], ◌∷◌, ◌++◌, length, set, get_or, refl, sym, ap, ◌∙◌, arith, inl, inr, Option, Some, None, Result, Ok, Err, OnOk, OnErr}
+use Rattle.std.proofs.Common.{◌≡◌, ◌≢◌, ℕ, zero, suc, Bool, true, false, not, cond, List, [], ◌∷◌, ◌++◌, set, get_or, refl, sym, ap, ◌∙◌, arith, inl, inr, Option, Some, None, Result, Ok, Err, OnOk, OnErr}
 use Rattle.std.specs.Result.{is_err}
-use Rattle.std.proofs.lemmas.List.{get_or_default, get_or-map, map-set, set-get_or}
-use Rattle.std.proofs.lemmas.Bool.{cases_Bool, cases_lt}
+use Rattle.std.proofs.lemmas.List.{get_or-map, map-set, set-get_or}
+use Rattle.std.proofs.lemmas.Bool.{cases_Bool}
 use Rattle.std.proofs.lemmas.Map.Text.{is_eq-slice_cmp}
 use Rattle.std.proofs.lemmas.Slice.Eq.{bytes_eq-Decides}
 use Rattle.std.specs.Cmp.Lexicographic.{slice_cmp, nat_list_cmp_total}
@@ -137,27 +137,6 @@ pub filter_is : (files : List MemFile) (name : List ℕ) → files_of (filter (�
 filter_is files name =
     same_map nat_list_cmp_total (slice_cmp-IsAntisymmetric nat_cmp-IsAntisymmetric) (files_of (filter (λ f. not (bytes_eq (string_bytes f.name) name)) files)) (remove (files_of files) name)
     (λ q. get_files (filter (λ f. not (bytes_eq (string_bytes f.name) name)) files) q ∙ found_kept files name q ∙ ap (cond (same q name) None) (sym (get_files files q)) ∙ sym (get-remove nat_list_cmp_total (files_of files) name q))
-
--- one file more was looked at, and hasn't the name
-pub lacks_more : (files : List MemFile) (name : List ℕ) (i : ℕ) (f : MemFile) → i < length files → f ≡ get_or files i f → string_bytes f.name ≢ name
-    → ((j : ℕ) (d : MemFile) → j < i → string_bytes (get_or files j d).name ≢ name) → (j : ℕ) (d : MemFile) → j < i + 1 → string_bytes (get_or files j d).name ≢ name
-lacks_more files name i f within read apart before j d lt = elim (cases_lt j i) [
-  | inl below ↦ before j d below
-  | inr at ↦
-      let here : i ≡ j = omega arith in
-      let same_file : get_or files j d ≡ f = ap (λ k. get_or files k d) (sym here) ∙ get_or_default files i d f within ∙ sym read in
-      λ e. apart (ap (λ g. string_bytes g.name) (sym same_file) ∙ e)
-]
-
--- the file that was looked at is the first of the name
-pub first_at : (files : List MemFile) (name : List ℕ) (i : ℕ) (f : MemFile) → i < length files → f ≡ get_or files i f → string_bytes f.name ≡ name
-    → ((j : ℕ) (d : MemFile) → j < i → string_bytes (get_or files j d).name ≢ name) → IsFirst files name i
-first_at files name i f within read named before =
-    record {
-      within = within;
-      here = λ d. ap (λ g. string_bytes g.name) (get_or_default files i d f within ∙ sym read) ∙ named;
-      before = before;
-    }
 
 pub get_read : (files : List MemFile) (name : List ℕ) (i : ℕ) (f : MemFile) → IsFirst files name i → f ≡ get_or files i f → get (files_of files) name ≡ Some f.bytes.items
 get_read files name i f first read = get_first files name i f first ∙ ap (λ (g : MemFile). Some g.bytes.items) (sym read)

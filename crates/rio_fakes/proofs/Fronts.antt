@@ -6,7 +6,7 @@ use Rattle.std.proofs.Math.Seq.{paste}
 use Rattle.rio_fakes.specs.ListVolumes.{flat}
 use Rattle.rio_base.specs.Memory.{FrontStored}
 use Rattle.rio_base.specs.Blocks.{BlockWords}
-use Rattle.rio_base.specs.Volume.{SameBut, put, put_run}
+use Rattle.rio_base.specs.Volume.{SameBut, put_run}
 use Rattle.rio_base.specs.Regions.{put_words}
 
 mid_stored : (xs from : List ℕ) (a n : ℕ) → a + n ≤ length xs → n ≤ length from → FrontStored a n from xs (take a xs ++ (take n from ++ drop (a + n) xs))
@@ -47,14 +47,6 @@ content_pasted old new from at n is room enough = λ i x. at_word old new from a
 
 pub length_pasted : (old new from : List ℕ) (at n : ℕ) → new ≡ paste old at from n → at + n ≤ length old → n ≤ length from → length new ≡ length old
 length_pasted old new from at n is room enough = ap length is ∙ (pasted_stored old from at n room enough).count
-
--- ---- no other block changes
-
-pub same_put : (f g : BlockWords) (b w v : ℕ) → g ≡ put f b w v → SameBut b f g
-same_put f g b w v h = record { others = λ c x away. ap (λ (k : BlockWords). k c x) h ∙ away_put f b w v c x away }
-  where
-    away_put : (f : BlockWords) (b w v c x : ℕ) → c ≢ b → put f b w v c x ≡ f c x
-    away_put f b w v c x away = grind (arith, nat_tests)
 
 pub same_run : (f g : BlockWords) (b w n : ℕ) (from : List ℕ) → g ≡ put_run f b w n from → SameBut b f g
 same_run f g b w n from h = record { others = λ c x away. ap (λ (k : BlockWords). k c x) h ∙ away_run f b w n from c x away }

@@ -296,7 +296,3 @@ counted l f h low_marked k =
 
 pub free_by_layout : (shape : VolumeShape) (f : BlockWords) → IsMapped shape f → length (free_blocks shape f) ≡ shape.blocks - reserved shape - layout_blocks (volume_layout shape f)
 free_by_layout shape f h = (counted (volume_layout shape f) f h.laid h.reserved_marked h.marks).free
-
--- the nodes have no more blocks than there are past the reserved ones
-pub blocks_fit : (shape : VolumeShape) (f : BlockWords) → IsMapped shape f → layout_blocks (volume_layout shape f) + reserved shape ≤ shape.blocks
-blocks_fit shape f h = (counted (volume_layout shape f) f h.laid h.reserved_marked h.marks).fit

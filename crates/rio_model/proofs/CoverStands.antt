@@ -7,7 +7,7 @@ use Rattle.rio_base.specs.Image.{entry_at}
 use Rattle.rio_base.specs.declared.places.PageName.{PageName}
 use Rattle.rio_model.specs.Registry.{IsValid, frames_of, gate_of, file_at, index_at, is_data, is_valid, page_of_entry, shadow_at, size_at, tag_at, tag_block}
 use Rattle.rio_model.specs.Cover.{Coherent, MayLeave, Narrows, SameNames, entry_of_block, frame_page, has_dirty, is_loose, name_in, reads, stands, stands_on}
-use Rattle.rio_model.proofs.Cover.{Named, Sound}
+use Rattle.rio_model.proofs.Cover.{Sound}
 use Rattle.rio_model.specs.CoverChanges.{covers_by, place_bare}
 use Rattle.rio_model.proofs.CoverChanges.{frame_behind, frame_same}
 use Rattle.rio_model.specs.CoverLookups.{cover_same, found_is}
@@ -64,10 +64,6 @@ narrows_refl words = record { found = λ b k e. (e, refl) }
 
 pub narrows_trans : (a b c : List ℕ) → Narrows a b → Narrows b c → Narrows a c
 narrows_trans a b c h k = record { found = λ x j e. let now = k.found x j e in let was = h.found x j now.0 in (was.0, now.1 ∙ was.1) }
-
--- entries that were there under their names keep the rule of names
-pub named_narrows : (old new : List ℕ) (count : ℕ) (bears : ℕ → Option PageName → Type 0) → Narrows old new → Named old count bears → Named new count bears
-named_narrows old new count bears h named = record { each = λ b k e. let was = h.found b k e in let n = named.each b k was.0 in (n.0, subst (bears b) (sym was.1) n.1) }
 
 place_past : (k : ℕ) → 512 ≤ entry_at k
 unfolding entry_at

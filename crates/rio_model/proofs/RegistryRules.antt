@@ -1,11 +1,10 @@
 -- Laws of what specs/RegistryRules.antt defines.
 use Rattle.rio_model.proofs.Common.{length, slice_index, ◌∙◌, ap, sym, arith, subst, inl, inr, cases_eq, eq-eqb}
-use Rattle.std.specs.Prelude.{◌≡◌, ◌≢◌, ℕ, ◌+◌, ◌-◌, ◌*◌, ◌%◌, ◌^◌, ◌<◌, ◌≤◌, ◌==◌, ◌⊎◌, true, false, List, take, drop}
+use Rattle.std.specs.Prelude.{◌≡◌, ◌≢◌, ℕ, ◌+◌, ◌-◌, ◌*◌, ◌%◌, ◌^◌, ◌<◌, ◌≤◌, ◌==◌, ◌⊎◌, true, List, take, drop}
 use Rattle.std.proofs.Common.{length-take-le, get_or-take}
 use Rattle.std.proofs.lemmas.List.{length-drop}
 use Rattle.rio_base.specs.Image.{AreImageSizes, image_pages, registry_pages}
 use Rattle.rio_base.specs.Memory.{page_at}
-use Rattle.std.proofs.lemmas.Bool.{ne_eqb}
 use Rattle.rio_model.specs.Registry.{IsValid, KeepsRegistry, OneEntry, frames_of, is_data, is_dirty, is_valid, shadow_at, tag_at, tag_block, with_dirty, without_dirty, HasLayout, page_of_entry}
 use Rattle.rio_model.proofs.CoverLookups.{entry_one, frames_one, header_one, tag_one}
 use Rattle.rio_model.specs.RegistryRules.{EntryKeeps}
@@ -122,6 +121,3 @@ cleaned_block t = omega arith
 
 pub cleaned_bits : (t : ℕ) → t % 2 ^ 32 < 8 → without_dirty t % 2 ^ 32 < 8
 cleaned_bits t h = omega (arith, h)
-
-pub cleaned_clean : (t : ℕ) → is_dirty (without_dirty t) ≡ false
-cleaned_clean t = ne_eqb _ 1 (omega arith)

@@ -6,13 +6,13 @@ use Rattle.rio_base.specs.Volume.{Kept, Settled}
 use Rattle.rio_model.specs.declared.node.Node.{Node}
 use Rattle.rio_model.specs.declared.node.Node.TheVariants.{Dir, File, Region}
 use Rattle.rio_model.specs.declared.state.State.{State}
-use Rattle.rio_model.specs.Held.{Held, held_in, held_of, held_bytes}
+use Rattle.rio_model.specs.Held.{Held, held_of, held_bytes}
 use Rattle.rio_model.proofs.HeldRules.{same_all, held_by, held_in_agree}
 use Rattle.rio_model.specs.Placed.{Layout, volume_layout, Agrees}
-use Rattle.rio_model.proofs.PlacedRules.{Lays, lays_self, lays_agree, mapped_agree, mapped_by}
+use Rattle.rio_model.proofs.PlacedRules.{lays_self, lays_agree, mapped_agree}
 use Rattle.rio_model.specs.VolumeReads.{node_in, region_in, Reads, ReadsAs}
 use Rattle.rio_model.specs.VolumeReady.{Firmly}
-use Rattle.rio_model.specs.VolumeRules.{EntryRule, IsLaid, IsMapped, MarkRule, NamesApartRule, RegionRule, ReservedRule, SuperblockRule, TreeRule}
+use Rattle.rio_model.specs.VolumeRules.{EntryRule, IsMapped, NamesApartRule, RegionRule}
 
 -- ---- a held node, by its kind
 
@@ -30,22 +30,6 @@ reads_file h e = ap (by_kind h) e
 
 pub reads_region : (h : Held) → h.kind ≡ 3 → node_in h ≡ Some (Region (region_in h.word))
 reads_region h e = ap (by_kind h) e
-
--- ---- by a layout
-
--- blocks that say a layout read as what they read as by it
-pub reads_by : (l : Layout) (f : BlockWords) (s : State) → s.shape ≡ l.shape → SuperblockRule l.shape f → ReservedRule l.shape f → IsLaid l → Lays l f → MarkRule l f → EntryRule (held_in l f) → NamesApartRule (held_in l f) → TreeRule s → RegionRule (held_in l f) → Reads (held_in l f) s → ReadsAs l.shape f s
-reads_by l f s shape top marked laid lays marks entries apart tree regions reads =
-    let same : held_in l f ≡ held_of l.shape f = sym (same_all _ _ (held_by l f lays)) in
-    record {
-      sizes = shape;
-      mapped = mapped_by l f top marked laid lays marks;
-      entries = subst EntryRule same entries;
-      apart = subst NamesApartRule same apart;
-      tree = tree;
-      regions = subst RegionRule same regions;
-      reads = subst (λ h. Reads h s) same reads;
-    }
 
 -- ---- the blocks in use alone
 

@@ -1,5 +1,5 @@
 -- The inodes that are left to look at.
-use Rattle.rio_requests.proofs.Common.{◌≡◌, ◌<◌, ◌+◌, ◌-◌, ℕ, suc, Bool, true, false, cond, ◌∷◌, ap, ◌∙◌, arith, find, range_with_len}
+use Rattle.rio_requests.proofs.Common.{◌≡◌, ◌<◌, ◌+◌, ◌-◌, ℕ, suc, Bool, false, cond, ◌∷◌, ap, ◌∙◌, arith, find, range_with_len}
 use Rattle.std.specs.Prelude.{Some}
 
 range_more : (a b n : ℕ) → b < n → range_with_len a (n - b) ≡ a ∷ range_with_len (a + 1) (n - (b + 1))
@@ -8,7 +8,3 @@ range_more a b n below = let e : n - b ≡ suc (n - (b + 1)) = omega arith in ap
 -- one of them is passed
 pub find-passed : (p : ℕ → Bool) (a b n : ℕ) → b < n → p a ≡ false → find p (range_with_len a (n - b)) ≡ find p (range_with_len (a + 1) (n - (b + 1)))
 find-passed p a b n below taken = ap (find p) (range_more a b n below) ∙ ap (λ t. cond t (Some a) (find p (range_with_len (a + 1) (n - (b + 1))))) taken
-
--- one of them is found
-pub find-found : (p : ℕ → Bool) (a b n : ℕ) → b < n → p a ≡ true → find p (range_with_len a (n - b)) ≡ Some a
-find-found p a b n below here = ap (find p) (range_more a b n below) ∙ ap (λ t. cond t (Some a) (find p (range_with_len (a + 1) (n - (b + 1))))) here

@@ -1,16 +1,12 @@
 -- How a file is read whole, and what is found of it.
-use Rattle.std.proofs.Common.{◌≡◌, ◌≢◌, ℕ, ◌+◌, ◌<◌, ◌≤◌, List, ◌++◌, length, take, drop, replicate, Option, Some, None, refl, sym, ap, subst, ◌∙◌, inl, inr, arith, length-drop}
+use Rattle.std.proofs.Common.{◌≡◌, ◌≢◌, ℕ, ◌+◌, ◌≤◌, List, ◌++◌, length, take, drop, Option, Some, None, refl, sym, ap, ◌∙◌, arith, length-drop}
 use Rattle.std.specs.Option.{option_map}
 use Rattle.std.specs.FinMap.{get}
 use Rattle.std.proofs.Math.Seq.{take-add}
-use Rattle.std.proofs.lemmas.List.{length-take, length-replicate, take_all}
-use Rattle.rio_base.specs.Counts.{Rose}
+use Rattle.std.proofs.lemmas.List.{length-take, take_all}
 use Rattle.rio_base.specs.Hosts.{EndsBy, Files, HasBytes, HasSize}
-use Rattle.image_codec.specs.Image.{FailsFirst}
 use Rattle.image_codec.specs.declared.fault.ImageFault.TheVariants.{BadLength, BadMagic, BadVersion, BadGeometry, Memory as NoMemory}
-use Rattle.rio_server.specs.declared.ends.RegistryEnd.{RegistryEnd}
-use Rattle.rio_server.specs.declared.ends.RegistryEnd.TheVariants.{Listed, Refused, Absent, HostFault, SinkFault, Memory}
-use Rattle.rio_server.specs.Registry.{Breaks, FailsAs, IsFile, Misses}
+use Rattle.rio_server.specs.Registry.{IsFile}
 
 -- the first bytes of a file stand in front of a room that is as long as the file
 abbrev pub HasFront : Option Files → List ℕ → ℕ → List ℕ → Type 0
@@ -61,29 +57,6 @@ front_ended (Some files) name done room (whole, is, size, front) (whole', is', e
     let one : length whole' ≡ length whole = ap length (some_list whole' whole (sym is' ∙ is)) in
     is ∙ ap Some (sym (front ∙ take_all done whole (omega (arith, one))))
 
--- ---- what is found
-
-too_many : (bytes : List ℕ) (size : ℕ) → length bytes ≡ size → 34217984 < size → FailsFirst bytes BadLength
-too_many bytes size is more = λ length_is. omega (arith, length_is.most)
-
-pub too_long : (files : Option Files) (name : List ℕ) (size : ℕ) → HasSize files name (Some size) → 34217984 < size → Breaks files name 1
-too_long None name size is more = record { bytes = replicate size 0; file = tt; fails = inl (refl, too_many (replicate size 0) size (length-replicate size 0) more) }
-too_long (Some files) name size is more =
-    let whole = sized files name size is in
-    record { bytes = whole.0; file = whole.1; fails = inl (refl, too_many whole.0 size whole.2 more) }
-
-pub missed_bytes : (end : RegistryEnd) (files : Option Files) (image bytes : List ℕ) (host_rose : Type 0) → IsFile files image bytes → FailsAs end bytes → Misses end image host_rose files
-missed_bytes Listed files image bytes host_rose file fails = fails
-missed_bytes (Refused rule) files image bytes host_rose file fails = record { bytes = bytes; file = file; fails = fails }
-missed_bytes Memory files image bytes host_rose file fails = tt
-missed_bytes Absent files image bytes host_rose file fails = absurd fails
-missed_bytes HostFault files image bytes host_rose file fails = absurd fails
-missed_bytes SinkFault files image bytes host_rose file fails = fails
-
-rose_before : (old mid new : ℕ) → old ≤ mid → Rose mid new → Rose old new
-rose_before old mid new later (inl rose) = inl (omega arith)
-rose_before old mid new later (inr rose) = inr rose
-
 pub length_fault : BadLength ≢ NoMemory
 length_fault e = cc
 
@@ -95,12 +68,3 @@ version_fault e = cc
 
 pub geometry_fault : BadGeometry ≢ NoMemory
 geometry_fault e = cc
-
--- the same, seen from an earlier count
-pub missed_before : (end : RegistryEnd) (files mid_files : Option Files) (image : List ℕ) (old mid new : ℕ) → mid_files ≡ files → old ≤ mid → Misses end image (Rose mid new) mid_files → Misses end image (Rose old new) files
-missed_before Listed files mid_files image old mid new same later misses = misses
-missed_before (Refused rule) files mid_files image old mid new same later misses = subst (λ (f : Option Files). Breaks f image rule) same misses
-missed_before Memory files mid_files image old mid new same later misses = tt
-missed_before Absent files mid_files image old mid new same later misses = subst (λ (f : Option Files). Misses Absent image (Rose old new) f) same misses
-missed_before HostFault files mid_files image old mid new same later misses = rose_before old mid new later misses
-missed_before SinkFault files mid_files image old mid new same later misses = misses

@@ -1,25 +1,24 @@
 -- A served run over every state that the server may hold: its turns, and each of its ends.
-use Rattle.std.proofs.Common.{◌≡◌, ◌≤◌, ℕ, true, false, List, [], length, take, refl, sym, subst, inl, inr, arith}
-use Rattle.std.specs.Prelude.{Option, Some, None, Result, Ok, Err, IfOk, OnErr, IsErr}
+use Rattle.std.proofs.Common.{◌≡◌, ◌≤◌, ℕ, false, List, [], length, take, refl, sym, subst, inl, arith}
+use Rattle.std.specs.Prelude.{Option, Some, None, Result, Ok, Err, OnErr}
 use Rattle.rio_base.specs.declared.failures.Stopped.{Stopped as MachineStopped}
-use Rattle.rio_base.specs.Blocks.{EndsBy, Health}
-use Rattle.rio_base.specs.Counts.{Rose, RoseBy}
+use Rattle.rio_base.specs.Blocks.{Health}
+use Rattle.rio_base.specs.Counts.{RoseBy}
 use Rattle.rio_base.specs.Rules.{goes_refl}
-use Rattle.rio_base.proofs.Rules.{rose_by_none}
 use Rattle.rio_base.specs.Streams.{appended}
 use Rattle.rio_base.specs.Volume.{Below, LimitLasts, Runs}
 use Rattle.rio_requests.specs.declared.reply.Reply.{Reply}
-use Rattle.rio_requests.specs.declared.reply.Reply.TheVariants.{Ok as Done, Number, Bytes, Stat, Names, Inos, Err as Refused, Fault}
+use Rattle.rio_requests.specs.declared.reply.Reply.TheVariants.{Err as Refused}
 use Rattle.rio_requests.specs.declared.request.Request.{Request}
 use Rattle.rio_model.specs.declared.state.State.{State}
 use Rattle.rio_requests.specs.Parts.{IsPart}
 use Rattle.rio_requests.specs.Run.{Step}
 use Rattle.request_codec.specs.Reading.{Reading}
 use Rattle.request_codec.specs.Text.{text_of}
-use Rattle.rio_core.specs.Serving.{Answering, TellsFault}
+use Rattle.rio_core.specs.Serving.{Answering}
 use Rattle.rio_server.specs.declared.ends.ServeEnd.{ServeEnd}
 use Rattle.rio_server.specs.declared.ends.ServeEnd.TheVariants.{End, SourceFault, SinkFault, InputLimit, Memory, Stopped}
-use Rattle.rio_server.specs.ServeRun.{AnswersLine, RunEnds, ServesCounted, StopsOn, fault_of}
+use Rattle.rio_server.specs.ServeRun.{AnswersLine, RunEnds, ServesCounted, fault_of}
 use Rattle.rio_server.specs.Asking.{AsksFor, Stops}
 use Rattle.rio_server.proofs.Running.{TookCounted, count_end, count_more, count_sink, count_start, no_start, stopped_end}
 
@@ -93,26 +92,6 @@ answering_line holds stands s r request (Err e) is h = (r, is, h.0, h.1, h.2)
 
 pub no_request : (holds stands : State → Type 0) (s : State) (request : Option Request) → request ≡ None → holds s → AnswersLine holds stands s request (Ok (Refused 1))
 no_request holds stands s request is h = (s, subst (λ (o : Option Request). Step s o (Refused 1) s) (sym is) (refl, refl), h)
-
-rose_by_one : (a b : ℕ) → Rose a b → RoseBy 1 a b
-rose_by_one a b (inl h) = inl (omega (arith, h))
-rose_by_one a b (inr h) = inr h
-
--- a reply that tells of a fault has its cause
-pub counts_reply : (s t : Health) (q : Result Reply MachineStopped) → EndsBy s t (TellsFault q) (IsErr q) → IfOk q (λ reply. RoseBy (fault_of reply) s.faults t.faults)
-counts_reply s t (Ok Done) h = rose_by_none s.faults t.faults h.later
-counts_reply s t (Ok (Number n)) h = rose_by_none s.faults t.faults h.later
-counts_reply s t (Ok (Bytes bytes)) h = rose_by_none s.faults t.faults h.later
-counts_reply s t (Ok (Stat ino kind size)) h = rose_by_none s.faults t.faults h.later
-counts_reply s t (Ok (Names names)) h = rose_by_none s.faults t.faults h.later
-counts_reply s t (Ok (Inos inos)) h = rose_by_none s.faults t.faults h.later
-counts_reply s t (Ok (Refused number)) h = rose_by_none s.faults t.faults h.later
-counts_reply s t (Ok (Fault done)) h = rose_by_one s.faults t.faults (h.cause tt)
-counts_reply s t (Err e) h = tt
-
-pub halts_reply : (s t : Health) (q : Result Reply MachineStopped) → EndsBy s t (TellsFault q) (IsErr q) → OnErr q (t.stopped ≡ true)
-halts_reply s t (Ok reply) h = tt
-halts_reply s t (Err e) h = h.told refl
 
 pub runs_same : (s : Health) (b : Below) → Runs s b s b
 runs_same s b = (goes_refl s b).runs

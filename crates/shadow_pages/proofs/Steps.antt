@@ -10,9 +10,9 @@ use Rattle.rio_model.specs.Cover.{Coherent, Keeps, SameNames, frame_page}
 use Rattle.rio_model.proofs.CoverChanges.{frame_behind, frame_entries, header_same, off_page}
 use Rattle.rio_model.proofs.CoverStands.{same_names_refl, same_names_trans}
 use Rattle.rio_model.proofs.CoverSteps.{coherent_on, keeps_refl, keeps_trans, layout_is}
-use Rattle.rio_model.specs.Registry.{HasLayout, IsValid, frames_of, gate_of, is_data, is_valid, shadow_at}
+use Rattle.rio_model.specs.Registry.{HasLayout, IsValid, frames_of, is_data, is_valid, shadow_at}
 use Rattle.shadow_pages.specs.Steps.{CanShadow, Clears, HasShadow, IsCleared, IsCopied, IsRestored, Restores, StoresWords}
-use Rattle.shadow_pages.specs.Updates.{AreBare, Committed, ListsShadows, Opened, Undone}
+use Rattle.shadow_pages.specs.Updates.{Committed, ListsShadows, Undone}
 use Rattle.shadow_pages.proofs.Restores.{all_restored, one_page, restored_bare, restored_still, restored_whole, restores_coherent, restores_front, restores_names, restores_shadows, restores_stands, restores_unused, keeps_unused}
 
 -- of a call that answered Ok
@@ -110,17 +110,6 @@ keeps_filled k s from to old new n h can place front stores = keeps_unused s fro
 pub two_pages : (k s from to : ℕ) (words : List ℕ) → CanShadow k s words → from ≡ frame_page words k → to ≡ registry_pages (frames_of words) + s → from ≢ to
 two_pages k s from to words can frame shadow e = absurd (omega (arith, e, frame, shadow, can.to, frame_behind words k))
 
-pub gate_kept : (a b : Contents) → Keeps a b → gate_of a.words ≢ 1 → gate_of b.words ≢ 1
-gate_kept a b h shut e = shut (sym (h.header 4 (omega arith)) ∙ e)
-
--- all listed entries are cleared, so all are bare
-pub all_bare : (old new : Contents) (listed : List ℕ) → Clears old new → ListsShadows old.words listed → ((i : ℕ) → i < length listed → IsCleared new.words (slice_index listed i)) → AreBare new.words
-all_bare old new listed h lists cleared = λ k v. at k v (valid_before old.words new.words k h.names v) (cases_eq (shadow_at old.words k) 0)
-  where
-    at : (k : ℕ) → IsValid new.words k → IsValid old.words k → (shadow_at old.words k ≡ 0) ⊎ (shadow_at old.words k ≢ 0) → shadow_at new.words k ≡ 0
-    at k v was (inl none) = (cleared_still old new k h (record { bare = λ x. none })).bare v
-    at k v was (inr some) = let place = lists k was some in (subst (IsCleared new.words) place.2 (cleared place.0 place.1)).bare v
-
 -- all listed entries are restored, so all are
 pub all_listed : (old new : List ℕ) (listed : List ℕ) → Restores old new → ListsShadows old listed → ((i : ℕ) → i < length listed → IsRestored new (slice_index listed i)) → (k : ℕ) → IsValid new k → IsRestored new k
 all_listed old new listed h lists restored k v = at (valid_before old new k (restores_names old new h) v) (cases_eq (shadow_at old k) 0)
@@ -128,11 +117,6 @@ all_listed old new listed h lists restored k v = at (valid_before old new k (res
     at : IsValid old k → (shadow_at old k ≡ 0) ⊎ (shadow_at old k ≢ 0) → IsRestored new k
     at was (inl none) = restored_bare k new (restores_shadows old new k h was.within ∙ none)
     at was (inr some) = let place = lists k was some in subst (IsRestored new) place.2 (restored place.0 place.1)
-
--- ---- the whole
-
-pub opened_after : (a b c : Contents) → Clears a b → Opened b c → Opened a c
-opened_after a b c h k = record { stands = k.stands ∙ h.keeps.reads; reads = k.reads ∙ h.keeps.reads; gate = k.gate; bare = k.bare }
 
 pub undone_after : (a b c : Contents) (listed : List ℕ) → StoresWords a b → Restores a.words b.words → ListsShadows a.words listed → ((i : ℕ) → i < length listed → IsRestored b.words (slice_index listed i)) → Committed b c → Undone a c
 undone_after a b c listed stores h lists restored k =

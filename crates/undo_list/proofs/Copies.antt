@@ -4,12 +4,6 @@ use Rattle.std.proofs.lemmas.Bool.Decides.{nat_tests}
 use Rattle.rio_base.specs.Regions.{RegionContent}
 use Rattle.undo_list.specs.Copies.{Apart, CopiedFront, copied}
 
-pub copied_none : (f : RegionContent) (from to : ℕ) → f ≡ copied f from to 0
-copied_none f from to = λ i x. none x i
-  where
-    none : (x : ℕ) → f x ≡ copied f from to 0 x
-    none x = grind (arith, nat_tests)
-
 -- a copy behind what was copied
 pub copied_on : (f m : RegionContent) (from to n k j : ℕ) → Apart from to n → k + j ≤ n → m ≡ copied f from to k → copied m (from + k) (to + k) j ≡ copied f from to (k + j)
 copied_on f m from to n k j apart small is = ap (λ w. copied w (from + k) (to + k) j) is ∙ (λ i x. one x (grind arith) i)

@@ -194,16 +194,6 @@ puts_at n f f1 g at place k most words same h small covered is put = puts_covere
 pub puts_front : (n : ℕ) (f f1 g : RegionContent) (at place : ℕ) (words : List ℕ) → f1 ≡ f → IsRegion n f → CoversAll (undo_records f) place (length words) → at ≡ map_from f + place → OldOrPutWords f1 g at words (length words) → PutsFront n f g place words
 puts_front n f f1 g at place words same h covered is o = (o.0, o.1, puts_at n f f1 g at place o.0 (length words) words same h o.1 covered is o.2)
 
-none_put : (f : RegionContent) (at : ℕ) (words : List ℕ) → f ≡ put_words f at 0 words
-none_put f at words = λ i x. one x i
-  where
-    one : (x : ℕ) → f x ≡ put_words f at 0 words x
-    one x = grind (arith, nat_tests)
-
--- nothing is stored
-pub puts_none : (n : ℕ) (f g : RegionContent) (place : ℕ) (words : List ℕ) → IsRegion n f → g ≡ f → Puts n f g place 0 words
-puts_none n f g place words h same = puts_covered n f g place 0 words h (λ q low high. absurd (omega arith)) (same ∙ none_put f (map_from f + place) words)
-
 -- ---- the region at a later state
 
 pub region_at : (n k : ℕ) (f g : RegionContent) → IsRegion n f → k ≡ n → g ≡ f → IsRegion k g

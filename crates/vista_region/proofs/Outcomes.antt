@@ -7,7 +7,7 @@ use Rattle.rio_model.proofs.UndoRules.{no_records}
 use Rattle.rio_requests.specs.RegionAnswers.{on_open, with_undo}
 use Rattle.rio_requests.specs.declared.reply.Reply.{Reply}
 use Rattle.vista_region.specs.Ends.{RefusedAs, TxnEnds, refusal_of}
-use Rattle.vista_region.specs.Marks.{Marks, mark_of, marked_txn, txn_in}
+use Rattle.vista_region.specs.Marks.{Marks, mark_of, txn_in}
 use Rattle.vista_region.specs.Regions.{region_now, txn_now}
 use Rattle.vista_region.specs.Steps.{opened, whole}
 use Rattle.vista_region.specs.declared.failures.TxnFail.{TxnFail}
@@ -35,17 +35,6 @@ or_none None = 0
 Has : Option ℕ → Type 0
 Has (Some n) = Unit {0}
 Has None = ⊥
-
--- a transaction that is not open, or may only be aborted, refuses all calls
-closed_goes : (i : ℕ) (f : RegionContent) (o : Option Bool) (number : ℕ) (go : Txn → Outcome) → number_of (opened o) ≡ Some number → on_open (marked_txn i f o) go ≡ Err number
-unfolding number_of or_none Has
-closed_goes i f None number go e = ap (λ n. Err n) (ap or_none e)
-closed_goes i f (Some true) number go e = ap (λ n. Err n) (ap or_none e)
-closed_goes i f (Some false) number go e = absurd (subst Has (sym e) tt)
-
-pub not_open : (marks : Marks) (i : ℕ) (f : RegionContent) (e : TxnFail) (go : Txn → Outcome) → Err e ≡ opened (mark_of marks i) → (number : ℕ) → refusal_of e ≡ Some number → on_open (txn_in marks i f) go ≡ Err number
-unfolding number_of
-not_open marks i f e go is number r = closed_goes i f (mark_of marks i) number go (ap number_of (sym is) ∙ r)
 
 pub open_goes : (marks : Marks) (i : ℕ) (f : RegionContent) (go : Txn → Outcome) → mark_of marks i ≡ Some false → on_open (txn_in marks i f) go ≡ go (txn_now i f false)
 open_goes marks i f go e = ap (λ o. on_open o go) (marked marks i f false e)

@@ -1,11 +1,11 @@
 -- Words that bytes are, stored by runs.
-use Rattle.vista_region.proofs.Common.{◌≡◌, ℕ, ◌+◌, ◌-◌, ◌*◌, ◌/◌, ◌<◌, ◌≤◌, ◌⊎◌, inl, inr, Result, List, length, take, drop, slice_index, nat_lt, cond, true, false, ◌&&◌, sym, ap, subst, ◌∙◌, arith, length-drop, OnOk, not, nat_tests, length-take-le, get_or-map-range_with_len, length-map-range_with_len, FaultAt, RunFail, RegionContent, IsRegion, Puts, live, words_of}
+use Rattle.vista_region.proofs.Common.{◌≡◌, ℕ, ◌+◌, ◌-◌, ◌*◌, ◌/◌, ◌<◌, ◌≤◌, ◌⊎◌, inl, inr, Result, List, length, take, drop, slice_index, nat_lt, cond, true, false, ◌&&◌, sym, ap, subst, ◌∙◌, arith, length-drop, OnOk, not, nat_tests, length-take-le, get_or-map-range_with_len, length-map-range_with_len, FaultAt, RunFail, RegionContent, Puts, live, words_of}
 use Rattle.std.proofs.lemmas.List.{drop-drop, drop-take, ext_get_or}
 use Rattle.byteorder.specs.Endian.{little_number}
 use Rattle.byteorder.specs.Numbers.{little_from-take}
 use Rattle.rio_base.specs.Regions.{put_words}
 use Rattle.rio_model.specs.Undo.{Keeps}
-use Rattle.rio_model.proofs.UndoRules.{keeps_refl, keeps_trans}
+use Rattle.rio_model.proofs.UndoRules.{keeps_trans}
 
 abbrev word_at : List ℕ → ℕ → ℕ
 word_at bytes j = little_number 8 (drop (8 * j) bytes)
@@ -45,12 +45,6 @@ put_out f at n x words out = ap (λ b. cond b (slice_index words (x - at)) (f x)
     test : (x < at) ⊎ (at + n ≤ x) → (not (nat_lt x at) && nat_lt x (at + n)) ≡ false
     test (inl h) = grind (arith, nat_tests)
     test (inr h) = grind (arith, nat_tests)
-
-pub puts_none : (n : ℕ) (f : RegionContent) (place : ℕ) (words : List ℕ) → IsRegion n f → Puts n f f place 0 words
-puts_none n f place words h = record { keeps = keeps_refl n f h; present = λ i x. sym (put_out (live f) place 0 x words (out x)) i }
-  where
-    out : (x : ℕ) → (x < place) ⊎ (place + 0 ≤ x)
-    out x = grind arith
 
 puts_on : (l : ℕ → ℕ) (place a k : ℕ) (words more : List ℕ) → ((j : ℕ) → j < k → slice_index more j ≡ slice_index words (a + j)) → put_words (put_words l place a words) (place + a) k more ≡ put_words l place (a + k) words
 puts_on l place a k words more same = λ i x. one x (grind arith) i

@@ -1,5 +1,5 @@
 -- The walk of a flush that marks entries clean.
-use Rattle.std.specs.Prelude.{◌≡◌, ◌≢◌, ◌⊎◌, ℕ, ◌+◌, ◌<◌, ◌≤◌, ◌&&◌, Bool, true, false, List, length, slice_index, refl}
+use Rattle.std.specs.Prelude.{◌≡◌, ◌≢◌, ◌⊎◌, ℕ, ◌+◌, ◌<◌, ◌&&◌, Bool, true, false, List, slice_index, refl}
 use Rattle.std.proofs.Common.{◌∙◌, ap, sym, subst, inl, inr, arith}
 use Rattle.std.proofs.lemmas.Bool.{cases_eq}
 use mir.Val.{bool_byte}
@@ -9,12 +9,12 @@ use Rattle.rio_model.specs.Cover.{HeldEntry, IsCleaned, Keeps, OnDisk, home_word
 use Rattle.rio_model.proofs.CoverChanges.{frame_word_one}
 use Rattle.rio_model.proofs.CoverLookups.{entry_one, frames_one, tag_one}
 use Rattle.rio_model.proofs.CoverSteps.{keeps_refl, keeps_trans}
-use Rattle.rio_model.specs.Registry.{OneEntry, file_at, frames_of, gate_of, index_at, is_dirty, is_valid, shadow_at, size_at, tag_at, tag_block}
+use Rattle.rio_model.specs.Registry.{OneEntry, file_at, frames_of, index_at, is_dirty, is_valid, shadow_at, size_at, tag_at, tag_block}
 use Rattle.registry.specs.Entries.{entry_of}
 use Rattle.registry.specs.declared.entry.Entry.{Entry}
 use Rattle.write_back.specs.Flushing.{CleanedFirst, dirty_entries, needs_write, once}
 use Rattle.write_back.proofs.Steps.{held_each, held_same, held_then}
-use Rattle.write_back.proofs.Walks.{Counts, counted, counts_all, counts_next, counts_none, counts_this, once_is}
+use Rattle.write_back.proofs.Walks.{Counts, counted, counts_next, counts_none, counts_this, once_is}
 
 -- ---- an entry that another one's change leaves
 
@@ -157,9 +157,3 @@ marked_next n i w one dirty old mid new r s t less ne once_byte h k = subst (λ 
       cleaned = λ x small. earlier x (omega (arith, small));
       others = λ j within none. ap (λ (ws : List ℕ). entry_of ws j) (k.same (needs_same n i w old mid r s less h ∙ sym e)) ∙ h.entries.others j within (λ x small. none x (omega (arith, small)));
     }
-
-pub marked_all : (n i w : ℕ) (old new : Contents) (r s : Running) → n ≤ length (dirty_entries old.words) → i ≤ frames_of old.words → Marked n i w old new r s → (w ≡ n) ⊎ (i ≡ frames_of old.words) → CleanedFirst n old.words new.words
-marked_all n i w old new r s many le h e = subst (λ x. CleanedFirst x old.words new.words) (omega (arith, many, counts_all n i w (frames_of old.words) old.words le h.count e)) h.entries
-
-pub bare_still : (old new : List ℕ) → gate_of new ≡ gate_of old → gate_of old ≢ 1 → gate_of new ≢ 1
-bare_still old new same ne e = ne (sym same ∙ e)

@@ -21,9 +21,6 @@ raised_none a = omega arith
 pub raised_on : (a m n : ℕ) → raised (raised a m) n ≡ raised a (m + n)
 raised_on a m n = omega arith
 
-pub raised_up : (a m n : ℕ) → m ≤ n → raised a m ≤ raised a n
-raised_up a m n le = omega (arith, le)
-
 pub once_is : (b : Bool) → bool_byte b ≡ once b
 once_is true = refl
 once_is false = refl
