@@ -4,5 +4,7 @@
 mod list_mem;
 #[cfg(test)]
 mod list_mem_tests;
+#[cfg(test)]
+mod same;
 
 pub use list_mem::ListMem;

@@ -5,6 +5,8 @@
 mod entry;
 mod entry_changes;
 mod image_rules;
+#[cfg(test)]
+mod same;
 mod tag;
 #[cfg(test)]
 mod tag_tests;
