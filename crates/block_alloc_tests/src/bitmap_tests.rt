@@ -4,10 +4,12 @@ ghost use Rattle.std.specs.Prelude.{◌≡◌, ◌<◌, ◌≤◌, false, length
 ghost use Rattle.rio_fakes.specs.ListVolumes.{list_seen, list_kept, ListSound};
 ghost use Rattle.rio_base.specs.Shapes.{HasShape};
 
+use crate::same::same;
 use block_alloc::{TakeFail, bitmap_block, free_count, mark, take, unmark};
-use rio_base::{Block, Blocks, VolFail, Volume, VolumeShape};
+use rio_base::{Block, BlockList, Blocks, Stopped, VolFail, Volume, VolumeShape};
 use rio_fakes::{FaultyVolume, ListVolume};
 use std::alloc::Global;
+use std::process::Abort;
 use std::test::Fail;
 
 /// A volume of 130 blocks, three of them reserved: its bitmap has two full words and two bits of a third.
@@ -37,30 +39,100 @@ fn with_bitmap(alloc: Global, blocks: u32, words: &[u64]) -> Result<ListVolume, 
     Ok(v)
 }
 
+/// A call of the crate on a volume. Each reads its bitmap alone.
+#[derive(Clone, Copy)]
+enum Call {
+    Count,
+    /// Chooses so many blocks, up to three.
+    Take(u32),
+}
+
+/// What it answers.
+#[derive(Debug, Drop, PartialEq)]
+enum Said {
+    Free(u32),
+    /// How many blocks were chosen, and the first three of them. Where there are fewer, 0 stands for the rest.
+    Taken(usize, [u32; 3]),
+    NotCounted(VolFail),
+    NotTaken(TakeFail),
+}
+
+/// The numbers of the first three blocks.
+fn numbers(blocks: &BlockList) -> [u32; 3] {
+    let blocks = blocks.as_slice();
+    let mut first = [0; 3];
+    for i in 0..blocks.len().min(3) {
+        first[i] = blocks[i].0;
+    }
+    first
+}
+
+/// Makes a call.
+fn make<V: Volume>(alloc: Global, v: &mut V, shape: &VolumeShape, call: Call) -> Said
+    requires sound { V.sound v.old }
+    requires shape { HasShape shape.now (V.seen v.old) }
+    ensures sound { V.sound v.new }
+    ensures shape { HasShape shape.now (V.seen v.new) }
+{
+    match call {
+        Call::Count => match free_count(v, shape) {
+            Ok(free) => Said::Free(free),
+            Err(fail) => Said::NotCounted(fail),
+        },
+        Call::Take(n) => match take(alloc, v, shape, n) {
+            Ok(blocks) => Said::Taken(blocks.as_slice().len(), numbers(&blocks)),
+            Err(fail) => Said::NotTaken(fail),
+        },
+    }
+}
+
+/// Makes calls, of which each must answer as its row says.
+fn make_all<V: Volume>(
+    rt: &impl Abort,
+    alloc: Global,
+    table: &str,
+    v: &mut V,
+    shape: &VolumeShape,
+    rows: &[(Call, Said)],
+)
+    requires sound { V.sound v.old }
+    requires shape { HasShape shape.now (V.seen v.old) }
+{
+    for row in 0..rows.len() {
+        let came = make(alloc, v, shape, rows[row].0);
+        same(rt, table, row, &came, &rows[row].1);
+    }
+}
+
+/// Three words of a bitmap, how many blocks are free, and what taking three answers.
+const THREE_WORDS: [([u64; 3], u32, Said); 5] = [
+    (
+        [u64::MAX, u64::MAX, u64::MAX],
+        0,
+        Said::NotTaken(TakeFail::NoSpace),
+    ),
+    ([0b111, 0, 0], 127, Said::Taken(3, [3, 4, 5])),
+    (
+        [!(1 << 5), !(1 << 63), !1],
+        3,
+        Said::Taken(3, [5, 127, 128]),
+    ),
+    ([!(1 << 63), u64::MAX, 0], 3, Said::Taken(3, [63, 128, 129])),
+    (
+        [u64::MAX, u64::MAX, 0],
+        2,
+        Said::NotTaken(TakeFail::NoSpace),
+    ),
+];
+
 #[test]
 fn three_lowest_blocks_are_taken(rt: HostRuntime) -> Result<(), Fail> {
-    for (words, free, taken) in [
-        ([u64::MAX, u64::MAX, u64::MAX], 0, None),
-        ([0b111, 0, 0], 127, Some([3, 4, 5])),
-        ([!(1 << 5), !(1 << 63), !1], 3, Some([5, 127, 128])),
-        ([!(1 << 63), u64::MAX, 0], 3, Some([63, 128, 129])),
-        ([u64::MAX, u64::MAX, 0], 2, None),
-    ] {
-        let mut v = with_bitmap(rt.alloc(), SHAPE.blocks, &words)?;
-        assert_eq!(rt; free_count(&mut v, &SHAPE)?, free);
-        match take(rt.alloc(), &mut v, &SHAPE, 3) {
-            Ok(blocks) => {
-                let [a, b, c] = taken.ok_or("too few")?;
-                assert_eq!(rt;
-                    blocks.as_slice(),
-                    [Block(a), Block(b), Block(c)].as_slice()
-                );
-            }
-            Err(fail) => {
-                assert!(rt; fail == TakeFail::NoSpace);
-                assert_eq!(rt; taken, None);
-            }
-        }
+    for (row, (words, free, taken)) in THREE_WORDS.iter().enumerate() {
+        let mut v = with_bitmap(rt.alloc(), SHAPE.blocks, words)?;
+        let count = make(rt.alloc(), &mut v, &SHAPE, Call::Count);
+        same(&rt, "three words, counted", row, &count, &Said::Free(*free));
+        let came = make(rt.alloc(), &mut v, &SHAPE, Call::Take(3));
+        same(&rt, "three words, taken", row, &came, taken);
     }
     Ok(())
 }
@@ -77,25 +149,25 @@ fn two_runs(some: [u64; 4]) -> [u64; 67]
     words
 }
 
+/// Words 0, 63, 64 and 66 of a bitmap, and the three blocks that are free. Word w has blocks 64 * w to 64 * w + 63: words
+/// 0 to 63 those below 4,096.
+const RUNS: [([u64; 4], [u32; 3]); 3] = [
+    ([u64::MAX, u64::MAX, !(1 << 7), 0], [4103, 4224, 4225]),
+    ([!(1 << 5), u64::MAX, !1, !2], [5, 4096, 4225]),
+    (
+        [!(1 << 63), !(1 << 63), !(1 << 63), u64::MAX],
+        [63, 4095, 4159],
+    ),
+];
+
 #[test]
 fn blocks_of_both_runs_are_taken(rt: HostRuntime) -> Result<(), Fail> {
-    // word w has blocks 64 * w to 64 * w + 63: words 0 to 63 those below 4,096
-    for (words, taken) in [
-        ([u64::MAX, u64::MAX, !(1 << 7), 0], [4103, 4224, 4225]),
-        ([!(1 << 5), u64::MAX, !1, !2], [5, 4096, 4225]),
-        (
-            [!(1 << 63), !(1 << 63), !(1 << 63), u64::MAX],
-            [63, 4095, 4159],
-        ),
-    ] {
-        let mut v = with_bitmap(rt.alloc(), TWO_RUNS.blocks, &two_runs(words))?;
-        assert_eq!(rt; free_count(&mut v, &TWO_RUNS)?, 3);
-        let blocks = take(rt.alloc(), &mut v, &TWO_RUNS, 3)?;
-        let [a, b, c] = taken;
-        assert_eq!(rt;
-            blocks.as_slice(),
-            [Block(a), Block(b), Block(c)].as_slice()
-        );
+    for (row, (words, taken)) in RUNS.iter().enumerate() {
+        let mut v = with_bitmap(rt.alloc(), TWO_RUNS.blocks, &two_runs(*words))?;
+        let count = make(rt.alloc(), &mut v, &TWO_RUNS, Call::Count);
+        same(&rt, "two runs, counted", row, &count, &Said::Free(3));
+        let came = make(rt.alloc(), &mut v, &TWO_RUNS, Call::Take(3));
+        same(&rt, "two runs, taken", row, &came, &Said::Taken(3, *taken));
     }
     Ok(())
 }
@@ -125,26 +197,62 @@ fn change<V: Volume>(v: &mut V, a: Block, b: Block, unmarked: Block) -> Result<(
 fn blocks_are_marked_and_unmarked(rt: HostRuntime) -> Result<(), Fail> {
     let mut v = with_bitmap(rt.alloc(), SHAPE.blocks, &[0b10111, 0, 0])?;
     change(&mut v, Block(129), Block(64), Block(4))?;
-    assert_eq!(rt; v.word(Block(1), None, 0)?, 0b111);
-    assert_eq!(rt; v.word(Block(1), None, 1)?, 1);
-    assert_eq!(rt; v.word(Block(1), None, 2)?, 2);
+    let mut words = [9; 3];
+    v.read_run(Block(1), None, 0, &mut words)?;
+    same(&rt, "marked", 0, &words, &[0b111, 1, 2]);
     Ok(())
 }
 
+/// Calls on a volume whose second word fails once.
+const SECOND_WORD_FAILS: [(Call, Said); 2] = [
+    (Call::Count, Said::NotCounted(VolFail::Fault)),
+    (Call::Count, Said::Free(127)),
+];
+
+/// Calls on a volume whose first word fails once.
+const FIRST_WORD_FAILS: [(Call, Said); 2] = [
+    (Call::Take(3), Said::NotTaken(TakeFail::Fault)),
+    (Call::Take(3), Said::Taken(3, [3, 4, 5])),
+];
+
+/// Calls on a volume that is stopped.
+const STOPPED: [(Call, Said); 2] = [
+    (Call::Count, Said::NotCounted(VolFail::Stopped)),
+    (Call::Take(3), Said::NotTaken(TakeFail::Stopped)),
+];
+
+/// Calls on a volume whose first word of the second run fails once. Two blocks are free below it.
+const SECOND_RUN_FAILS: [(Call, Said); 3] = [
+    (Call::Take(2), Said::Taken(2, [5, 4095, 0])),
+    (Call::Take(3), Said::NotTaken(TakeFail::Fault)),
+    (Call::Count, Said::Free(3)),
+];
+
 #[test]
 fn a_fault_and_a_stop_are_handed_on(rt: HostRuntime) -> Result<(), Fail> {
-    let mut v = FaultyVolume::new(with_bitmap(rt.alloc(), SHAPE.blocks, &[0b111, 0, 0])?, 2);
-    assert!(rt;
-        free_count(&mut v, &SHAPE) == Err(VolFail::Fault),
-        "at the second word"
+    let words = [0b111, 0, 0];
+    let mut v = FaultyVolume::new(with_bitmap(rt.alloc(), SHAPE.blocks, &words)?, 2);
+    make_all(
+        &rt,
+        rt.alloc(),
+        "the second word fails",
+        &mut v,
+        &SHAPE,
+        &SECOND_WORD_FAILS,
     );
-    assert!(rt; free_count(&mut v, &SHAPE) == Ok(127));
-    let mut v = FaultyVolume::new(with_bitmap(rt.alloc(), SHAPE.blocks, &[0b111, 0, 0])?, 1);
-    assert!(rt; matches!(take(rt.alloc(), &mut v, &SHAPE, 3), Err(TakeFail::Fault)));
+    let mut v = FaultyVolume::new(with_bitmap(rt.alloc(), SHAPE.blocks, &words)?, 1);
+    make_all(
+        &rt,
+        rt.alloc(),
+        "the first word fails",
+        &mut v,
+        &SHAPE,
+        &FIRST_WORD_FAILS,
+    );
     let mut v = ListVolume::new(rt.alloc(), SHAPE.blocks, Some(0))?;
-    assert!(rt; v.begin().is_err());
-    assert!(rt; free_count(&mut v, &SHAPE) == Err(VolFail::Stopped));
-    assert!(rt; matches!(take(rt.alloc(), &mut v, &SHAPE, 3), Err(TakeFail::Stopped)));
+    let begun = v.begin();
+    same(&rt, "it stops", 0, &begun, &Err(Stopped));
+    make_all(&rt, rt.alloc(), "it is stopped", &mut v, &SHAPE, &STOPPED);
     Ok(())
 }
 
@@ -152,8 +260,13 @@ fn a_fault_and_a_stop_are_handed_on(rt: HostRuntime) -> Result<(), Fail> {
 fn the_second_run_is_read_where_it_is_wanted(rt: HostRuntime) -> Result<(), Fail> {
     let words = two_runs([!(1 << 5), !(1 << 63), !1, u64::MAX]);
     let mut v = FaultyVolume::new(with_bitmap(rt.alloc(), TWO_RUNS.blocks, &words)?, 65);
-    assert!(rt; take(rt.alloc(), &mut v, &TWO_RUNS, 2).is_ok());
-    assert!(rt; matches!(take(rt.alloc(), &mut v, &TWO_RUNS, 3), Err(TakeFail::Fault)));
-    assert!(rt; free_count(&mut v, &TWO_RUNS) == Ok(3));
+    make_all(
+        &rt,
+        rt.alloc(),
+        "the second run fails",
+        &mut v,
+        &TWO_RUNS,
+        &SECOND_RUN_FAILS,
+    );
     Ok(())
 }

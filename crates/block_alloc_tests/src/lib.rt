@@ -3,3 +3,5 @@
 
 #[cfg(test)]
 mod bitmap_tests;
+#[cfg(test)]
+mod same;

@@ -5,6 +5,7 @@ ghost use Rattle.frame_pool.specs.Pools.{NoneFree, block_of, blocks_in, frames_i
 
 use crate::FramePool;
 use crate::frame_pool_tests::full_pool;
+use crate::same::same;
 use rio_base::Block;
 use std::test::Fail;
 
@@ -164,10 +165,11 @@ fn drawn_calls_are_as_expected(rt: HostRuntime) -> Result<(), Fail> {
     let mut pool = full_pool(rt.alloc())?;
     let mut plain = full_plain();
     let mut seed = 20;
-    for _step in 0..5000 {
+    for drawn in 0..5000 {
         let b = (draw(&mut seed) % 64) as u32;
         let pin = draw(&mut seed) % 4 == 0;
-        assert!(rt; step(&mut pool, &mut plain, b, pin));
+        let expected = step(&mut pool, &mut plain, b, pin);
+        same(&rt, "drawn calls", drawn, &expected, &true);
     }
     Ok(())
 }

@@ -4,6 +4,7 @@ ghost use Rattle.std.specs.Prelude.{◌≡◌, ◌≢◌, ◌<◌, ◌≤◌, �
 ghost use Rattle.frame_pool.specs.Pools.{NoneFree, block_of, blocks_in, frames_in, is_pinned, pins_in};
 
 use crate::FramePool;
+use crate::same::same;
 use rio_base::Block;
 use std::alloc::{AllocError, Global};
 use std::test::Fail;
@@ -34,25 +35,37 @@ fn victims_go_by_use_and_pins(rt: HostRuntime) -> Result<(), Fail> {
     let mut pool = full_pool(rt.alloc())?;
     pool.use_slot(0);
     pool.pin(1);
-    assert_eq!(rt; pool.victim(), 2);
+    let pinned = pool.victim();
     pool.unpin(1);
-    assert_eq!(rt; pool.victim(), 1);
+    let unpinned = pool.victim();
     pool.unbind(9);
-    assert_eq!(rt; pool.victim(), 9);
-    assert_eq!(rt; pool.find(Block(9)), None);
-    assert_eq!(rt; pool.find(Block(10)), Some(10));
+    let victims = [pinned, unpinned, pool.victim()];
+    let found = [pool.find(Block(9)), pool.find(Block(10))];
+    same(
+        &rt,
+        "use and pins",
+        0,
+        &(victims, found),
+        &([2, 1, 9], [None, Some(10)]),
+    );
     Ok(())
 }
 
 #[test]
 fn new_frames_are_free_in_order_of_their_numbers(rt: HostRuntime) -> Result<(), Fail> {
     let mut pool = FramePool::new(rt.alloc(), FRAMES, BLOCKS)?;
-    assert_eq!(rt; pool.find(Block(63)), None);
-    assert_eq!(rt; pool.victim(), 0);
+    let none = pool.find(Block(63));
+    let first = pool.victim();
     pool.bind(0, Block(63));
-    assert_eq!(rt; pool.victim(), 1);
-    assert_eq!(rt; pool.find(Block(63)), Some(0));
-    assert_eq!(rt; pool.find(Block(0)), None);
+    let victims = [first, pool.victim()];
+    let found = [none, pool.find(Block(63)), pool.find(Block(0))];
+    same(
+        &rt,
+        "new frames",
+        0,
+        &(victims, found),
+        &([0, 1], [None, Some(0), None]),
+    );
     Ok(())
 }
 
@@ -62,12 +75,18 @@ fn frames_that_were_unbound_are_used_first(rt: HostRuntime) -> Result<(), Fail> 
     pool.pin(0);
     pool.unbind(4);
     pool.unbind(31);
-    assert_eq!(rt; pool.victim(), 31);
+    let last_unbound = pool.victim();
     pool.bind(31, Block(40));
-    assert_eq!(rt; pool.victim(), 4);
+    let first_unbound = pool.victim();
     pool.bind(4, Block(31));
-    assert_eq!(rt; pool.victim(), 1);
-    assert_eq!(rt; pool.find(Block(31)), Some(4));
-    assert_eq!(rt; pool.find(Block(4)), None);
+    let victims = [last_unbound, first_unbound, pool.victim()];
+    let found = [pool.find(Block(31)), pool.find(Block(4))];
+    same(
+        &rt,
+        "unbound frames",
+        0,
+        &(victims, found),
+        &([31, 4, 1], [Some(4), None]),
+    );
     Ok(())
 }

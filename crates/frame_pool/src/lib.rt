@@ -9,5 +9,7 @@ mod frame_pool;
 mod frame_pool_tests;
 mod records;
 mod ring;
+#[cfg(test)]
+mod same;
 
 pub use frame_pool::FramePool;

@@ -6,6 +6,8 @@ mod fault;
 mod image;
 mod laws;
 #[cfg(test)]
+mod same;
+#[cfg(test)]
 mod tests;
 mod volume;
 

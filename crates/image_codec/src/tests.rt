@@ -4,6 +4,7 @@ ghost use Rattle.std.specs.Prelude.{IfOk, length, ◌≤◌};
 ghost use Rattle.rio_base.specs.Image.{AreImageSizes};
 ghost use Rattle.image_codec.specs.Volume.{IsVolumeShape};
 
+use crate::same::same;
 use crate::{ImageFault, fill_image, fresh_image, fresh_volume, read_image, write_image};
 use rio_base::VolumeShape;
 use std::alloc::Global;
@@ -28,33 +29,60 @@ fn volume(alloc: Global, blocks: u32, inodes: u32) -> Result<Vec<u8>, Fail>
     Ok(write_image(alloc, &fresh_volume(alloc, &shape)?)?)
 }
 
-/// Why a fresh image of 32 frames and 1 scratch page is refused once it has this size and these bytes.
-fn fault_of(
-    alloc: Global,
-    size: usize,
-    changes: &[(usize, u8)],
-) -> Result<Option<ImageFault>, Fail> {
-    let mut bytes = image(alloc, 32, 1)?;
-    bytes.resize(size, 0)?;
-    for &(at, byte) in changes {
-        if at < bytes.len() {
-            bytes[at] = byte;
+/// A byte of a file, and its place.
+type At = (usize, u8);
+
+/// Puts bytes at their places.
+fn put(file: &mut [u8], bytes: &[At]) {
+    for &(at, byte) in bytes {
+        if at < file.len() {
+            file[at] = byte;
         }
     }
+}
+
+/// A file of so many bytes that begins with a text and has these bytes at their places. All others are zeros.
+fn file_of(alloc: Global, size: usize, text: &[u8], bytes: &[At]) -> Result<Vec<u8>, Fail> {
+    let mut file = vec![in alloc; 0; size]?;
+    for at in 0..text.len() {
+        put(&mut file, &[(at, text[at])]);
+    }
+    put(&mut file, bytes);
+    Ok(file)
+}
+
+/// The first place at which two files differ.
+fn difference(came: &[u8], due: &[u8]) -> Option<usize> {
+    for at in 0..came.len().max(due.len()) {
+        if came.get(at) != due.get(at) {
+            return Some(at);
+        }
+    }
+    None
+}
+
+/// Why a fresh image of 32 frames and 1 scratch page is refused once it has this size and these bytes.
+fn fault_of(alloc: Global, size: usize, changes: &[At]) -> Result<Option<ImageFault>, Fail> {
+    let mut bytes = image(alloc, 32, 1)?;
+    bytes.resize(size, 0)?;
+    put(&mut bytes, changes);
     Ok(read_image(alloc, &bytes).err())
 }
 
 #[test]
-fn a_fresh_image_has_its_header(rt: HostRuntime) -> Result<(), Fail> {
-    let bytes = image(rt.alloc(), 64, 1)?;
-    assert_eq!(rt; bytes.len(), 339_968);
-    assert_eq!(rt; &bytes[..8], b"RIOCACHE".as_slice());
-    assert_eq!(rt;
-        &bytes[8..24],
-        [1, 0, 0, 0, 0, 0, 0, 0, 64, 0, 0, 0, 0, 0, 0, 0].as_slice()
-    );
-    assert_eq!(rt; &bytes[24..32], [1, 0, 0, 0, 0, 0, 0, 0].as_slice());
-    assert!(rt; bytes[32..].iter().all(|byte| *byte == 0));
+fn fresh_files_have_their_headers(rt: HostRuntime) -> Result<(), Fail> {
+    let came = image(rt.alloc(), 64, 1)?;
+    let due = file_of(
+        rt.alloc(),
+        339_968,
+        b"RIOCACHE",
+        &[(8, 1), (16, 64), (24, 1)],
+    )?;
+    same(&rt, "an image", 0, &difference(&came, &due), &None);
+    let came = volume(rt.alloc(), 256, 64)?;
+    let bytes = [(8, 1), (17, 1), (24, 64), (4096, 15), (8192, 1)];
+    let due = file_of(rt.alloc(), 1_048_576, b"RIOVOLUM", &bytes)?;
+    same(&rt, "a volume", 0, &difference(&came, &due), &None);
     Ok(())
 }
 
@@ -63,64 +91,51 @@ fn images_at_the_ends_of_the_ranges_are_read_back(rt: HostRuntime) -> Result<(),
     // 17 pages and the registry's, the frames and the scratch pages
     for (frames, scratch, pages) in [(32, 1, 51), (102, 64, 184), (103, 1, 123), (8192, 64, 8354)] {
         let bytes = image(rt.alloc(), frames, scratch)?;
-        assert_eq!(rt; bytes.len(), 4096 * pages, "at {frames}");
         let words = read_image(rt.alloc(), &bytes)?;
-        assert_eq!(rt; words.len(), 512 * pages, "at {frames}");
-        assert_eq!(rt; words[2], frames as u64, "at {frames}");
-        assert_eq!(rt; words[3], scratch as u64, "at {frames}");
+        let came = [bytes.len() as u64, words.len() as u64, words[2], words[3]];
+        let due = [4096 * pages, 512 * pages, frames as u64, scratch as u64];
+        same(&rt, "an image of frames", frames as usize, &came, &due);
     }
     Ok(())
 }
+
+/// The size of a fresh image of 32 frames and 1 scratch page.
+const WHOLE: usize = 51 * 4096;
+
+/// A size and changed bytes, and the rule that is told.
+const RULES: [(usize, &[At], Option<ImageFault>); 19] = [
+    (WHOLE, &[], None),
+    (WHOLE, &[(32, 7), (4096, 9)], None),
+    (0, &[], Some(ImageFault::BadLength)),
+    (WHOLE - 1, &[], Some(ImageFault::BadLength)),
+    (WHOLE - 4096, &[], Some(ImageFault::BadLength)),
+    (8355 * 4096, &[], Some(ImageFault::BadLength)),
+    (WHOLE, &[(0, b'r')], Some(ImageFault::BadMagic)),
+    (WHOLE, &[(8, 2)], Some(ImageFault::BadVersion)),
+    (WHOLE, &[(12, 1)], Some(ImageFault::BadVersion)),
+    (WHOLE, &[(16, 31)], Some(ImageFault::BadGeometry)),
+    (WHOLE, &[(16, 33)], Some(ImageFault::BadGeometry)),
+    (WHOLE, &[(24, 0)], Some(ImageFault::BadGeometry)),
+    (WHOLE + 4096, &[], Some(ImageFault::BadGeometry)),
+    (WHOLE - 1, &[(0, b'r')], Some(ImageFault::BadLength)),
+    (WHOLE - 1, &[(8, 2)], Some(ImageFault::BadLength)),
+    (WHOLE - 4096, &[(16, 31)], Some(ImageFault::BadLength)),
+    (WHOLE, &[(7, b'e'), (8, 0)], Some(ImageFault::BadMagic)),
+    (WHOLE, &[(7, b'e'), (24, 65)], Some(ImageFault::BadMagic)),
+    (WHOLE + 4096, &[(8, 2)], Some(ImageFault::BadVersion)),
+];
 
 #[test]
 fn the_first_rule_that_fails_is_told(rt: HostRuntime) -> Result<(), Fail> {
-    const WHOLE: usize = 51 * 4096;
-    let table: [(usize, &[(usize, u8)], Option<ImageFault>); 19] = [
-        (WHOLE, &[], None),
-        (WHOLE, &[(32, 7), (4096, 9)], None),
-        (0, &[], Some(ImageFault::BadLength)),
-        (WHOLE - 1, &[], Some(ImageFault::BadLength)),
-        (WHOLE - 4096, &[], Some(ImageFault::BadLength)),
-        (8355 * 4096, &[], Some(ImageFault::BadLength)),
-        (WHOLE, &[(0, b'r')], Some(ImageFault::BadMagic)),
-        (WHOLE, &[(8, 2)], Some(ImageFault::BadVersion)),
-        (WHOLE, &[(12, 1)], Some(ImageFault::BadVersion)),
-        (WHOLE, &[(16, 31)], Some(ImageFault::BadGeometry)),
-        (WHOLE, &[(16, 33)], Some(ImageFault::BadGeometry)),
-        (WHOLE, &[(24, 0)], Some(ImageFault::BadGeometry)),
-        (WHOLE + 4096, &[], Some(ImageFault::BadGeometry)),
-        (WHOLE - 1, &[(0, b'r')], Some(ImageFault::BadLength)),
-        (WHOLE - 1, &[(8, 2)], Some(ImageFault::BadLength)),
-        (WHOLE - 4096, &[(16, 31)], Some(ImageFault::BadLength)),
-        (WHOLE, &[(7, b'e'), (8, 0)], Some(ImageFault::BadMagic)),
-        (WHOLE, &[(7, b'e'), (24, 65)], Some(ImageFault::BadMagic)),
-        (WHOLE + 4096, &[(8, 2)], Some(ImageFault::BadVersion)),
-    ];
-    for (size, changes, want) in table {
-        assert_eq!(rt;
-            fault_of(rt.alloc(), size, changes)?,
-            want,
-            "at {size} with {changes:?}"
+    for (row, (size, changes, due)) in RULES.iter().enumerate() {
+        same(
+            &rt,
+            "rules",
+            row,
+            &fault_of(rt.alloc(), *size, changes)?,
+            due,
         );
     }
-    Ok(())
-}
-
-#[test]
-fn a_fresh_volume_has_its_first_blocks(rt: HostRuntime) -> Result<(), Fail> {
-    let bytes = volume(rt.alloc(), 256, 64)?;
-    assert_eq!(rt; bytes.len(), 1_048_576);
-    assert_eq!(rt; &bytes[..8], b"RIOVOLUM".as_slice());
-    assert_eq!(rt;
-        &bytes[8..24],
-        [1, 0, 0, 0, 0, 0, 0, 0, 0, 1, 0, 0, 0, 0, 0, 0].as_slice()
-    );
-    assert_eq!(rt; &bytes[24..32], [64, 0, 0, 0, 0, 0, 0, 0].as_slice());
-    assert_eq!(rt; &bytes[4096..4104], [15, 0, 0, 0, 0, 0, 0, 0].as_slice());
-    assert_eq!(rt; &bytes[8192..8200], [1, 0, 0, 0, 0, 0, 0, 0].as_slice());
-    assert!(rt; bytes[32..4096].iter().all(|byte| *byte == 0));
-    assert!(rt; bytes[4104..8192].iter().all(|byte| *byte == 0));
-    assert!(rt; bytes[8200..].iter().all(|byte| *byte == 0));
     Ok(())
 }
 
@@ -149,10 +164,16 @@ fn volumes_at_the_ends_of_the_ranges_mark_what_is_reserved(rt: HostRuntime) -> R
             inodes,
         };
         let words = fresh_volume(rt.alloc(), &shape)?;
-        assert_eq!(rt; words.len(), 512 * blocks as usize, "at {blocks}");
-        assert!(rt; has_bitmap(&words, full, last), "at {blocks}");
-        assert!(rt; words.get(1024) == Some(&1), "at {blocks}");
-        assert!(rt; words.get(1025) == Some(&0), "at {blocks}");
+        let marked = has_bitmap(&words, full, last);
+        let kinds = [words.get(1024), words.get(1025)];
+        let due = (512 * blocks as usize, true, [Some(&1), Some(&0)]);
+        same(
+            &rt,
+            "a volume of blocks",
+            blocks as usize,
+            &(words.len(), marked, kinds),
+            &due,
+        );
     }
     Ok(())
 }
@@ -161,5 +182,6 @@ fn volumes_at_the_ends_of_the_ranges_mark_what_is_reserved(rt: HostRuntime) -> R
 fn bytes_are_filled_in(rt: HostRuntime) {
     let mut bytes = [0; 16];
     fill_image(&[0x0102_0304_0506_0708, 9], &mut bytes);
-    assert_eq!(rt; bytes, [8, 7, 6, 5, 4, 3, 2, 1, 9, 0, 0, 0, 0, 0, 0, 0]);
+    let due = [8, 7, 6, 5, 4, 3, 2, 1, 9, 0, 0, 0, 0, 0, 0, 0];
+    same(&rt, "filled", 0, &bytes, &due);
 }

@@ -5,8 +5,9 @@ ghost use Rattle.rio_base.specs.Layout.{IsIno, inode_kind};
 ghost use Rattle.rio_fakes.specs.ListVolumes.{ListSound, list_kept, list_seen};
 ghost use Rattle.rio_base.specs.Shapes.{HasShape};
 
+use crate::same::same;
 use inode_table::{Inode, edit_inode, inode_block, least_free, read_inode};
-use rio_base::{Block, Blocks, Ino, RunFail, VolFail, Volume, VolumeShape};
+use rio_base::{Block, Blocks, Ino, RunFail, Stopped, VolFail, Volume, VolumeShape};
 use rio_fakes::{FaultyVolume, ListVolume};
 use std::alloc::Global;
 use std::test::Fail;
@@ -72,11 +73,34 @@ fn inodes_read_as_they_were_stored(rt: HostRuntime) -> Result<(), Fail> {
             let mut v = zeros(rt.alloc(), None)?;
             store(&mut v, Ino(i), &inode)?;
             let found = read_inode(&mut v, &SHAPE, Ino(i))?;
-            assert!(rt; found == inode, "inode {i} of kind {kind}");
+            same(&rt, "inode", i as usize, &found, &inode);
         }
     }
     Ok(())
 }
+
+/// Words 15 to 32 of a block in which inode 34 is stored: the last word of inode 33, those of inode 34, and the first of
+/// inode 35. A word has two numbers, the lower half first.
+const INODE_34: [u64; 18] = [
+    0,
+    2,
+    98_305,
+    1000 + (1001 << 32),
+    1002 + (1003 << 32),
+    1004 + (1005 << 32),
+    1006 + (1007 << 32),
+    1008 + (1009 << 32),
+    1010 + (1011 << 32),
+    1012 + (1013 << 32),
+    1014 + (1015 << 32),
+    1016 + (1017 << 32),
+    1018 + (1019 << 32),
+    1020 + (1021 << 32),
+    1022 + (1023 << 32),
+    0xffff_ffff,
+    7,
+    0,
+];
 
 #[test]
 fn inode_34_is_in_words_16_to_31_of_block_3(rt: HostRuntime) -> Result<(), Fail> {
@@ -84,14 +108,7 @@ fn inode_34_is_in_words_16_to_31_of_block_3(rt: HostRuntime) -> Result<(), Fail>
     store(&mut v, Ino(34), &numbered(2, 98_305))?;
     let mut words = [0; 18];
     v.read_run(Block(3), None, 15, &mut words)?;
-    assert_eq!(rt; words[0], 0);
-    assert_eq!(rt; words[1], 2);
-    assert_eq!(rt; words[2], 98_305);
-    assert_eq!(rt; words[3], 1000 + (1001 << 32));
-    assert_eq!(rt; words[14], 1022 + (1023 << 32));
-    assert_eq!(rt; words[15], 0xffff_ffff);
-    assert_eq!(rt; words[16], 7);
-    assert_eq!(rt; words[17], 0);
+    same(&rt, "words of inode", 34, &words, &INODE_34);
     Ok(())
 }
 
@@ -130,9 +147,14 @@ fn high_halves_of_words_14_and_15_are_not_looked_at(rt: HostRuntime) -> Result<(
     words[15] = (9 << 32) + 6;
     let mut v = with_words(rt.alloc(), &words)?;
     let inode = read_inode(&mut v, &SHAPE, Ino(1))?;
-    assert_eq!(rt; inode.kind, 3);
-    assert_eq!(rt; inode.indirect, 5);
-    assert_eq!(rt; inode.double, 6);
+    let due = Inode {
+        kind: 3,
+        size: 0,
+        direct: [0; 24],
+        indirect: 5,
+        double: 6,
+    };
+    same(&rt, "high halves", 0, &inode, &due);
     Ok(())
 }
 
@@ -154,12 +176,16 @@ fn with_used(alloc: Global, used: u32) -> Result<ListVolume, Fail>
 fn the_first_free_inode_is_found(rt: HostRuntime) -> Result<(), Fail> {
     for used in 0..65 {
         let mut v = with_used(rt.alloc(), used)?;
-        let least = if used < 64 { Some(Ino(used + 1)) } else { None };
-        assert!(rt; least_free(&mut v, &SHAPE)? == least, "after {used}");
+        let due = if used < 64 { Some(Ino(used + 1)) } else { None };
+        let least = least_free(&mut v, &SHAPE)?;
         let mut asked = FaultyVolume::new(v, 0);
-        assert!(rt;
-            least_free(&mut asked, &SHAPE)? == least,
-            "after {used}, word by word"
+        let word_by_word = least_free(&mut asked, &SHAPE)?;
+        same(
+            &rt,
+            "used inodes",
+            used as usize,
+            &(least, word_by_word),
+            &(due, due),
         );
     }
     Ok(())
@@ -170,7 +196,14 @@ fn an_inode_that_is_free_again_is_the_least(rt: HostRuntime) -> Result<(), Fail>
     for freed in 1..65 {
         let mut v = with_used(rt.alloc(), 64)?;
         store(&mut v, Ino(freed), &numbered(0, 0))?;
-        assert!(rt; least_free(&mut v, &SHAPE)? == Some(Ino(freed)));
+        let least = least_free(&mut v, &SHAPE)?;
+        same(
+            &rt,
+            "freed inode",
+            freed as usize,
+            &least,
+            &Some(Ino(freed)),
+        );
     }
     Ok(())
 }
@@ -182,12 +215,12 @@ fn each_word_that_is_read_may_fail(rt: HostRuntime) -> Result<(), Fail> {
         words[0] = 2;
         let mut v = FaultyVolume::new(with_words(rt.alloc(), &words)?, n);
         let failed = read_inode(&mut v, &SHAPE, Ino(1)) == Err(VolFail::Fault);
-        assert_eq!(rt; failed, n <= 16, "at word {n}");
+        same(&rt, "fault at word", n as usize, &failed, &(n <= 16));
     }
-    for n in 1..4 {
+    for n in 1..5 {
         let mut v = FaultyVolume::new(with_used(rt.alloc(), 2)?, n);
         let failed = least_free(&mut v, &SHAPE) == Err(VolFail::Fault);
-        assert_eq!(rt; failed, n <= 3, "at inode {n}");
+        same(&rt, "fault at inode", n as usize, &failed, &(n <= 3));
     }
     Ok(())
 }
@@ -196,12 +229,11 @@ fn each_word_that_is_read_may_fail(rt: HostRuntime) -> Result<(), Fail> {
 fn an_inode_is_stored_without_the_disk(rt: HostRuntime) -> Result<(), Fail> {
     let mut v = FaultyVolume::new(zeros(rt.alloc(), None)?, 2);
     store(&mut v, Ino(5), &numbered(2, 1))?;
-    assert!(rt;
-        least_free(&mut v, &SHAPE) == Err(VolFail::Fault),
-        "the next call"
-    );
+    let next = least_free(&mut v, &SHAPE);
+    same(&rt, "the next call fails", 0, &next, &Err(VolFail::Fault));
     let mut v = FaultyVolume::new(zeros(rt.alloc(), None)?, 1);
-    assert!(rt; store(&mut v, Ino(5), &numbered(2, 1)) == Err(VolFail::Fault));
+    let stored = store(&mut v, Ino(5), &numbered(2, 1));
+    same(&rt, "the touch fails", 0, &stored, &Err(VolFail::Fault));
     Ok(())
 }
 
@@ -209,16 +241,25 @@ fn an_inode_is_stored_without_the_disk(rt: HostRuntime) -> Result<(), Fail> {
 fn a_stopped_update_leaves_no_word_of_an_inode(rt: HostRuntime) -> Result<(), Fail> {
     // begin, touch, 16 words and commit are 19 steps
     for steps in 0..20 {
-        let mut v = zeros(rt.alloc(), Some(steps))?;
+        let mut v = zeros(rt.alloc(), Some(steps as u64))?;
         let ended = store(&mut v, Ino(3), &numbered(2, 10));
-        let done = ended.is_ok();
-        assert_eq!(rt; done, 19 <= steps, "after {steps} steps");
-        assert!(rt; done || ended == Err(VolFail::Stopped));
-        assert_eq!(rt; v.standing(Block(2), 32), if done { 2 } else { 0 });
-        assert_eq!(rt; v.standing(Block(2), 47), if done { 7 } else { 0 });
+        let stands = [v.standing(Block(2), 32), v.standing(Block(2), 47)];
+        let due = if steps < 19 {
+            (Err(VolFail::Stopped), [0, 0])
+        } else {
+            (Ok(()), [2, 7])
+        };
+        same(&rt, "steps", steps, &(ended, stands), &due);
     }
     let mut v = zeros(rt.alloc(), Some(0))?;
-    assert!(rt; v.begin().is_err());
-    assert!(rt; least_free(&mut v, &SHAPE) == Err(VolFail::Stopped));
+    let begun = v.begin();
+    let least = least_free(&mut v, &SHAPE);
+    same(
+        &rt,
+        "stopped",
+        0,
+        &(begun, least),
+        &(Err(Stopped), Err(VolFail::Stopped)),
+    );
     Ok(())
 }

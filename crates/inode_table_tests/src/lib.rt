@@ -3,3 +3,5 @@
 
 #[cfg(test)]
 mod inode_tests;
+#[cfg(test)]
+mod same;

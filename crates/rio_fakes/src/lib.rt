@@ -11,6 +11,8 @@ mod list_volume;
 mod mem_host;
 mod mem_sink;
 mod mem_source;
+#[cfg(test)]
+mod same;
 mod step_limit;
 #[cfg(test)]
 mod volume_tests;

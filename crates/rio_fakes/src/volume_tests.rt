@@ -7,6 +7,7 @@ ghost use Rattle.rio_base.specs.Volume.{put, OldOrNew, Goes};
 use crate::faulty_volume::FaultyVolume;
 use crate::list_region::ListRegion;
 use crate::list_volume::ListVolume;
+use crate::same::same;
 use rio_base::{Block, Blocks, RegionWords, RunFail, VolFail, Volume};
 use std::test::Fail;
 
@@ -36,72 +37,126 @@ fn update<V: Volume>(v: &mut V, a: Block, b: Block, value: u64) -> Result<(), Vo
 #[test]
 fn update_is_whole_or_absent(rt: HostRuntime) -> Result<(), Fail> {
     for steps in 0..8 {
-        let mut v = ListVolume::new(rt.alloc(), 8, Some(steps))?;
+        let mut v = ListVolume::new(rt.alloc(), 8, Some(steps as u64))?;
         let done = update(&mut v, Block(5), Block(6), 7).is_ok();
-        assert_eq!(rt; done, 6 <= steps, "after {steps} steps");
-        let both = if done { 7 } else { 0 };
-        assert_eq!(rt; v.standing(Block(5), 0), both, "after {steps} steps");
-        assert_eq!(rt; v.standing(Block(6), 0), both, "after {steps} steps");
+        let stands = [v.standing(Block(5), 0), v.standing(Block(6), 0)];
+        let due = if steps < 6 {
+            (false, [0, 0])
+        } else {
+            (true, [7, 7])
+        };
+        same(
+            &rt,
+            "an update after so many steps",
+            steps,
+            &(done, stands),
+            &due,
+        );
     }
     Ok(())
 }
+
+/// Whether a run of three words is stored after so many steps, and what stands of it.
+const RUNS: [(bool, [u64; 3]); 5] = [
+    (false, [0, 0, 0]),
+    (false, [3, 0, 0]),
+    (false, [3, 5, 0]),
+    (true, [3, 5, 8]),
+    (true, [3, 5, 8]),
+];
 
 #[test]
 fn runs_are_stored_up_to_the_stop(rt: HostRuntime) -> Result<(), Fail> {
-    let stands = [[0, 0, 0], [3, 0, 0], [3, 5, 0], [3, 5, 8], [3, 5, 8]];
-    for steps in 0..5 {
+    for steps in 0..RUNS.len() {
         let mut v = ListVolume::new(rt.alloc(), 8, Some(steps as u64))?;
         let done = v.store_run(Block(5), None, 509, &[3, 5, 8]).is_ok();
-        assert_eq!(rt; done, 3 <= steps, "after {steps} steps");
         v.restart(None);
         let mut words = [9; 3];
         v.read_run(Block(5), None, 509, &mut words)?;
-        assert_eq!(rt; words, stands[steps], "after {steps} steps");
+        same(
+            &rt,
+            "a run after so many steps",
+            steps,
+            &(done, words),
+            &RUNS[steps],
+        );
     }
     Ok(())
 }
 
+/// How a run of three words ends where the call of this number fails, and what is stored of it. With 0 none fails.
+const FAULTS: [(Result<(), RunFail>, [u64; 3]); 4] = [
+    (Ok(()), [3, 5, 8]),
+    (Err(RunFail::Fault(0)), [0, 0, 0]),
+    (Err(RunFail::Fault(1)), [3, 0, 0]),
+    (Err(RunFail::Fault(2)), [3, 5, 0]),
+];
+
 #[test]
 fn a_run_is_stored_up_to_the_fault(rt: HostRuntime) -> Result<(), Fail> {
-    let mut v = FaultyVolume::new(ListVolume::new(rt.alloc(), 8, None)?, 3);
-    assert!(rt; v.store_run(Block(5), None, 509, &[3, 5, 8]) == Err(RunFail::Fault(2)));
-    let mut words = [9; 3];
-    v.read_run(Block(5), None, 509, &mut words)?;
-    assert_eq!(rt; words, [3, 5, 0]);
+    for call in 0..FAULTS.len() {
+        let mut v = FaultyVolume::new(ListVolume::new(rt.alloc(), 8, None)?, call as u64);
+        let ended = v.store_run(Block(5), None, 509, &[3, 5, 8]);
+        let mut words = [9; 3];
+        v.read_run(Block(5), None, 509, &mut words)?;
+        same(
+            &rt,
+            "a run whose call of this number fails",
+            call,
+            &(ended, words),
+            &FAULTS[call],
+        );
+    }
     Ok(())
 }
 
 #[test]
 fn calls_of_a_running_volume_succeed(rt: HostRuntime) -> Result<(), Fail> {
     let mut v = ListVolume::new(rt.alloc(), 4, None)?;
-    assert_eq!(rt; v.volume_blocks(), 4);
+    let blocks = u64::from(v.volume_blocks());
     v.store(Block(3), None, 511, 9)?;
     v.begin()?;
     v.touch(Block(3))?;
     v.edit(Block(3), 511, 10)?;
-    assert_eq!(rt; v.word(Block(3), None, 511)?, 10);
+    let edited = v.word(Block(3), None, 511)?;
     v.rollback()?;
-    assert_eq!(rt; v.word(Block(3), None, 511)?, 9);
-    assert_eq!(rt; v.flush(5)?, 0);
+    let back = v.word(Block(3), None, 511)?;
+    let flushed = u64::from(v.flush(5)?);
     v.fresh(Block(3), None)?;
-    assert_eq!(rt; v.word(Block(3), None, 511)?, 0);
-    assert!(rt; v.page(Block(3)).is_some());
+    let fresh = v.word(Block(3), None, 511)?;
+    let lent = v.page(Block(3)).is_some();
     v.forget(Block(3))?;
     v.restart(Some(0));
-    assert!(rt; v.store(Block(1), None, 0, 1) == Err(VolFail::Stopped));
+    let stopped = v.store(Block(1), None, 0, 1);
+    let came = [blocks, edited, back, flushed, fresh];
+    same(&rt, "what calls answer", 0, &came, &[4, 10, 9, 0, 0]);
+    same(
+        &rt,
+        "lent, and stopped",
+        1,
+        &(lent, stopped),
+        &(true, Err(VolFail::Stopped)),
+    );
     Ok(())
 }
 
 #[test]
 fn a_region_is_stored_until_it_stops(rt: HostRuntime) -> Result<(), Fail> {
     let mut region = ListRegion::new(rt.alloc(), 3, Some(2))?;
-    assert_eq!(rt; region.len(), 3);
+    let count = region.len();
     region.set(2, 5)?;
-    assert_eq!(rt; region.word(2)?, 5);
+    let set = region.word(2)?;
     region.set_run(0, &[7])?;
     let mut words = [9; 3];
     region.read_run(0, &mut words)?;
-    assert_eq!(rt; words, [7, 0, 5]);
-    assert!(rt; region.set_run(0, &[8]) == Err(RunFail::Stopped));
+    let stopped = region.set_run(0, &[8]);
+    let came = (count, set, words, stopped);
+    same(
+        &rt,
+        "a region",
+        0,
+        &came,
+        &(3, 5, [7, 0, 5], Err(RunFail::Stopped)),
+    );
     Ok(())
 }
