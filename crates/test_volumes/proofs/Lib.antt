@@ -1,0 +1,2 @@
+pub mod FreshVolumes
+pub mod MadeNodes
