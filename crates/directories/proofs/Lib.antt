@@ -1,5 +1,4 @@
 pub mod AddedRow
-pub mod BothPlans
 pub mod CanRead
 pub mod Common
 pub mod EndsAs
@@ -9,13 +8,10 @@ pub mod Listed
 pub mod MakingOrder
 pub mod MakingRules
 pub mod NameWords
-pub mod NewDirs
-pub mod OpenPlans
 pub mod PlannedDir
 pub mod PlannedOn
 pub mod PlannedRows
 pub mod PlannedSizes
-pub mod PlansMade
 pub mod PushedEdits
 pub mod RowLaws
 pub mod SlotRows

@@ -5,4 +5,3 @@ pub mod Plans
 pub mod Reading
 pub mod RowChanges
 pub mod Rows
-pub mod TestDirs

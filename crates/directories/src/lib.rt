@@ -3,8 +3,6 @@
 
 mod applying;
 mod changes;
-#[cfg(test)]
-mod dir_tests;
 mod entries;
 mod finding;
 mod listing;
@@ -12,8 +10,6 @@ mod pages;
 mod planning;
 mod removing;
 mod storing;
-#[cfg(test)]
-mod test_dirs;
 
 pub use applying::apply;
 pub use changes::DirChange;

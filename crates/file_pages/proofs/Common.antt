@@ -23,7 +23,6 @@ pub use Rattle.rio_base.specs.declared.failures.VolFail.{VolFail}
 pub use Rattle.rio_base.specs.declared.places.Block.{Block}
 pub use Rattle.rio_base.specs.declared.places.PageName.{PageName}
 pub use Rattle.rio_base.specs.declared.places.VolumeShape.{VolumeShape}
-pub use Rattle.rio_fakes.specs.ListVolumes.{list_kept, list_seen}
 pub use Rattle.rio_model.proofs.GrowthRules.{IsNew, few_tables, most_tables, one_table, page_new, page_old, same_old, shrunk_has, sourced}
 pub use Rattle.rio_model.proofs.NodeChangeRules.{lays_replaced, node_here, node_there}
 pub use Rattle.rio_model.proofs.PlacedRules.{SameLayout, first_table, has_same, inode_low, later_of, lays_same, lays_self, lies_self, numbered_of, owned_back, page_page, table_of, table_page, with_placed}

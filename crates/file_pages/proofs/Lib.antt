@@ -36,8 +36,6 @@ pub mod Spanned
 pub mod Staged
 pub mod Stored
 pub mod Tails
-pub mod TestFiles
-pub mod TestVolume
 pub mod Updated
 pub mod Within
 pub mod Written

@@ -12,6 +12,5 @@ pub mod Preparing
 pub mod Spans
 pub mod Staging
 pub mod Storing
-pub mod TestFiles
 pub mod Updating
 pub mod Writing

@@ -191,13 +191,10 @@ pub fn store_piece<V: Volume>(
 }
 
 /// How many of `len` bytes from byte `at` of a page on are stored, where the first `n` words are.
-fn stored_bytes(at: usize, len: usize, n: usize) -> u64
+pub fn stored_bytes(at: usize, len: usize, n: usize) -> u64
     requires within { at + len ≤ 4096 }
     requires few { n ≤ 512 }
     ensures { result ≡ bytes_stored at len n }
 {
     (8 * (at / 8 + n)).saturating_sub(at).min(len) as u64
 }
-
-#[cfg(test)]
-mod tests;

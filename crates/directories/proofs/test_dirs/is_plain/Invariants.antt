@@ -1,7 +1,0 @@
-use Rattle.directories.proofs.Common.{◌<◌, ℕ}
-use Rattle.std.specs.Prelude.{slice_index}
-use Rattle.directories.specs.TestDirs.{IsPlainByte}
-use Rattle.directories.proofs.test_dirs.is_plain.Given as goal
-
-abbrev pub invariant-loop-k : goal.invariant-loop-k
-invariant-loop-k l = (q : ℕ) → q < l.k → IsPlainByte (slice_index l.name q)

@@ -1,0 +1,4 @@
+pub mod MadeDirs
+pub mod PlansMade
+pub mod OpenPlans
+pub mod BothPlans

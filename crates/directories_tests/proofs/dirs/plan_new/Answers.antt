@@ -1,0 +1,24 @@
+use Rattle.directories.proofs.Common.{held_of, if_ok_map}
+use Rattle.directories.specs.Plans.{PlansDir}
+use Rattle.directories.specs.RowChanges.{AddsRow}
+use Rattle.directories_tests.specs.TestDirs.{CanMake}
+use Rattle.directories.proofs.CanRead.{dir_ino}
+use Rattle.directories_tests.proofs.PlansMade.{add_keeps, can_make, dirs_left}
+use Rattle.directories_tests.proofs.dirs.plan_new.Goals as goal
+
+pub returns-clause-can : goal.returns-clause-can
+returns-clause-can g c =
+    let shape = c.args.shape.now in
+    let x = g.V.Blocks.seen c.args.v.now in
+    let k = g.V.Volume.kept c.args.v.now in
+    let y = g.V.Blocks.seen c.plan_add.new.v in
+    let j = g.V.Volume.kept c.plan_add.new.v in
+    let d = c.args.dir.0 in
+    let name = c.args.name.now in
+    let i = c.args.i.0 in
+    let kind = c.requires.dirs.dirs d c.requires.dir in
+    if_ok_map (PlansDir shape x.words y j d (AddsRow name i)) (CanMake shape y j) c.plan_add.result
+    (λ change p. can_make shape x k y j d (AddsRow name i) change c.requires.dirs c.requires.dir (dir_ino shape x.words d kind) c.plan_add.ensures.leaves (λ h row. add_keeps (held_of shape x.words d) h name i c.requires.is_name c.requires.ino row) p) c.plan_add.ensures.ok
+
+pub returns-clause-dirs : goal.returns-clause-dirs
+returns-clause-dirs g c = dirs_left c.args.shape.now _ _ _ _ c.requires.dirs c.plan_add.ensures.leaves

@@ -1,0 +1,31 @@
+use Rattle.directories.proofs.Common.{refl, held_of, if_ok_map}
+use Rattle.directories.specs.Plans.{PlansDir}
+use Rattle.directories.specs.RowChanges.{SetsRow}
+use Rattle.directories_tests.specs.TestDirs.{CanMake}
+use Rattle.directories.proofs.CanRead.{dir_ino}
+use Rattle.directories_tests.proofs.PlansMade.{can_make, dirs_left, set_keeps}
+use Rattle.directories_tests.proofs.dirs.plan_other.Goals as goal
+
+pub plan_set-requires-clause-slot : goal.plan_set-requires-clause-slot
+plan_set-requires-clause-slot g c = record { dir = c.requires.dirs.dirs c.args.dir.0 c.requires.dir; within = c.requires.slot }
+
+pub plan_set-requires-clause-absent : goal.plan_set-requires-clause-absent
+plan_set-requires-clause-absent g c = λ a within named. absurd (c.requires.absent _ (a, record { within = within; named = named; ino = refl }))
+
+pub returns-clause-can : goal.returns-clause-can
+returns-clause-can g c =
+    let shape = c.args.shape.now in
+    let x = g.V.Blocks.seen c.args.v.now in
+    let k = g.V.Volume.kept c.args.v.now in
+    let y = g.V.Blocks.seen c.plan_set.new.v in
+    let j = g.V.Volume.kept c.plan_set.new.v in
+    let d = c.args.dir.0 in
+    let slot = c.args.slot in
+    let name = c.args.name.now in
+    let i = c.args.i.0 in
+    let kind = c.requires.dirs.dirs d c.requires.dir in
+    if_ok_map (PlansDir shape x.words y j d (SetsRow slot name i)) (CanMake shape y j) c.plan_set.result
+    (λ change p. can_make shape x k y j d (SetsRow slot name i) change c.requires.dirs c.requires.dir (dir_ino shape x.words d kind) c.plan_set.ensures.leaves (λ h row. set_keeps (held_of shape x.words d) h slot name i c.requires.is_name c.requires.ino row) p) c.plan_set.ensures.ok
+
+pub returns-clause-dirs : goal.returns-clause-dirs
+returns-clause-dirs g c = dirs_left c.args.shape.now _ _ _ _ c.requires.dirs c.plan_set.ensures.leaves

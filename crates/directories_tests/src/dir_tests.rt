@@ -1,0 +1,140 @@
+//! Rows of directories: added, found, listed, set, removed and replaced.
+
+use crate::dirs::SMALL;
+use crate::rows::{Change, Dir, Row, check_rows};
+use std::test::Fail;
+use test_volumes::SHAPE;
+
+/// The longest name.
+const LONG: [u8; 56] = [b'x'; 56];
+
+/// The longest name but for a byte.
+const LESS: [u8; 55] = [b'x'; 55];
+
+/// A name that is too long.
+const TOO_LONG: [u8; 57] = [b'x'; 57];
+
+#[test]
+fn names_are_found_and_listed_in_byte_order(rt: HostRuntime) -> Result<(), Fail> {
+    let rows = [
+        Row::Names(Dir::Root, b"a", None),
+        Row::Make(Change::Add(Dir::Root, b"b", 2)),
+        Row::Make(Change::Add(Dir::Root, b"a", 3)),
+        Row::Make(Change::Add(Dir::Root, &LONG, 4)),
+        Row::Make(Change::Add(Dir::Root, b"aa", 5)),
+        Row::Make(Change::Add(Dir::Root, b"longer-name", 6)),
+        Row::Names(Dir::Root, b"b", Some(2)),
+        Row::Names(Dir::Root, b"a", Some(3)),
+        Row::Names(Dir::Root, &LONG, Some(4)),
+        Row::Names(Dir::Root, b"aa", Some(5)),
+        Row::Names(Dir::Root, b"longer-name", Some(6)),
+        Row::Names(Dir::Root, b"longer-namf", None),
+        Row::Names(Dir::Root, b"longer-nam", None),
+        Row::Names(Dir::Root, &LESS, None),
+        Row::Names(Dir::Root, b"", None),
+        Row::Names(Dir::Root, &TOO_LONG, None),
+        Row::Names(Dir::Other, b"a", None),
+        Row::Lists(Dir::Root, &[b"a", b"aa", b"b", b"longer-name", &LONG]),
+    ];
+    check_rows(&rt, rt.alloc(), &SHAPE, &rows)
+}
+
+#[test]
+fn the_last_entry_moves_into_the_gap(rt: HostRuntime) -> Result<(), Fail> {
+    let rows = [
+        Row::Make(Change::Add(Dir::Root, b"a", 2)),
+        Row::Make(Change::Add(Dir::Root, b"b", 3)),
+        Row::Make(Change::Add(Dir::Root, b"c", 4)),
+        Row::Make(Change::Remove(Dir::Root, b"a")),
+        Row::Slot(Dir::Root, b"c", 0),
+        Row::Names(Dir::Root, b"c", Some(4)),
+        Row::Names(Dir::Root, b"a", None),
+        Row::Size(Dir::Root, 128),
+        Row::Make(Change::Remove(Dir::Root, b"b")),
+        Row::Free(251),
+        Row::Make(Change::Remove(Dir::Root, b"c")),
+        Row::Size(Dir::Root, 0),
+        Row::Free(252),
+    ];
+    check_rows(&rt, rt.alloc(), &SHAPE, &rows)
+}
+
+#[test]
+fn a_directory_of_many_pages_grows_and_shrinks(rt: HostRuntime) -> Result<(), Fail> {
+    let rows = [
+        Row::Make(Change::AddNumbered(1700)),
+        Row::Free(252 - 27 - 1),
+        Row::Numbered(1700),
+        Row::Make(Change::RemoveNumbered(1700)),
+        Row::Free(252),
+    ];
+    check_rows(&rt, rt.alloc(), &SHAPE, &rows)
+}
+
+#[test]
+fn a_row_is_set(rt: HostRuntime) -> Result<(), Fail> {
+    let rows = [
+        Row::Make(Change::Add(Dir::Root, b"a", 2)),
+        Row::Make(Change::Add(Dir::Root, b"b", 3)),
+        Row::Make(Change::Add(Dir::Root, b"c", 4)),
+        Row::Make(Change::Set(Dir::Root, b"b", b"other", 3)),
+        Row::Names(Dir::Root, b"a", Some(2)),
+        Row::Names(Dir::Root, b"b", None),
+        Row::Names(Dir::Root, b"other", Some(3)),
+        Row::Names(Dir::Root, b"c", Some(4)),
+    ];
+    check_rows(&rt, rt.alloc(), &SHAPE, &rows)
+}
+
+#[test]
+fn rows_are_replaced(rt: HostRuntime) -> Result<(), Fail> {
+    let rows = [
+        Row::Make(Change::Add(Dir::Root, b"x0", 2)),
+        Row::Make(Change::Add(Dir::Root, b"x1", 3)),
+        Row::Make(Change::Add(Dir::Root, b"x2", 4)),
+        Row::Make(Change::Replace(Dir::Root, b"x0", 9, b"x1")),
+        Row::Names(Dir::Root, b"x0", Some(9)),
+        Row::Names(Dir::Root, b"x1", None),
+        Row::Names(Dir::Root, b"x2", Some(4)),
+        Row::Make(Change::Add(Dir::Other, b"x0", 2)),
+        Row::Make(Change::Add(Dir::Other, b"x1", 3)),
+        Row::Make(Change::Add(Dir::Other, b"x2", 4)),
+        Row::Make(Change::Replace(Dir::Other, b"x0", 9, b"x2")),
+        Row::Names(Dir::Other, b"x0", Some(9)),
+        Row::Names(Dir::Other, b"x1", Some(3)),
+        Row::Names(Dir::Other, b"x2", None),
+        Row::Make(Change::Add(Dir::Third, b"x0", 2)),
+        Row::Make(Change::Add(Dir::Third, b"x1", 3)),
+        Row::Make(Change::Add(Dir::Third, b"x2", 4)),
+        Row::Make(Change::Replace(Dir::Third, b"x2", 9, b"x0")),
+        Row::Names(Dir::Third, b"x0", None),
+        Row::Names(Dir::Third, b"x1", Some(3)),
+        Row::Names(Dir::Third, b"x2", Some(9)),
+    ];
+    check_rows(&rt, rt.alloc(), &SHAPE, &rows)
+}
+
+#[test]
+fn a_row_moves_to_another_directory_in_one_update(rt: HostRuntime) -> Result<(), Fail> {
+    let rows = [
+        Row::Make(Change::Add(Dir::Root, b"a", 2)),
+        Row::Make(Change::Add(Dir::Root, b"b", 3)),
+        Row::Make(Change::Move(b"a", b"c", 2)),
+        Row::Names(Dir::Root, b"a", None),
+        Row::Names(Dir::Root, b"b", Some(3)),
+        Row::Names(Dir::Other, b"c", Some(2)),
+        Row::Free(250),
+    ];
+    check_rows(&rt, rt.alloc(), &SHAPE, &rows)
+}
+
+#[test]
+fn a_full_volume_has_no_space_for_a_page(rt: HostRuntime) -> Result<(), Fail> {
+    let rows = [
+        Row::Make(Change::Add(Dir::Root, b"a", 3)),
+        Row::Make(Change::Add(Dir::Other, b"a", 4)),
+        Row::NoSpace(Dir::Third, b"c", 3),
+        Row::Make(Change::Add(Dir::Root, b"b", 4)),
+    ];
+    check_rows(&rt, rt.alloc(), &SMALL, &rows)
+}

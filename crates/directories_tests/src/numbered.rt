@@ -1,0 +1,81 @@
+//! Rows of many numbered names in the root.
+
+ghost use Rattle.std.specs.Prelude.{OnOk};
+ghost use Rattle.directories_tests.specs.TestDirs.{DirsReady};
+
+use crate::dirs::{ROOT, add, ino_of, remove};
+use rio_base::{Ino, VolFail, Volume, VolumeShape};
+use std::alloc::Global;
+use std::test::Fail;
+
+/// The name of number `n`.
+pub(crate) fn numbered(n: u32) -> [u8; 9] {
+    let mut name = *b"file-0000";
+    name[5] = b'0' + (n / 1000 % 10) as u8;
+    name[6] = b'0' + (n / 100 % 10) as u8;
+    name[7] = b'0' + (n / 10 % 10) as u8;
+    name[8] = b'0' + (n % 10) as u8;
+    name
+}
+
+/// Adds rows of so many numbered names.
+pub(crate) fn add_numbered<V: Volume>(
+    alloc: Global,
+    v: &mut V,
+    shape: &VolumeShape,
+    count: u32,
+) -> Result<(), Fail>
+    requires sound { V.sound v.old }
+    requires dirs { DirsReady shape.now (V.seen v.old) (V.kept v.old) }
+    ensures dirs { OnOk result (DirsReady shape.now (V.seen v.new) (V.kept v.new)) }
+    ensures sound { V.sound v.new }
+{
+    for n in 0..count {
+        add(
+            alloc,
+            v,
+            shape,
+            ROOT,
+            numbered(n).as_slice(),
+            Ino(n % 8 + 2),
+        )?;
+    }
+    Ok(())
+}
+
+/// Whether each of them names its inode.
+pub(crate) fn are_numbered<V: Volume>(
+    v: &mut V,
+    shape: &VolumeShape,
+    count: u32,
+) -> Result<bool, VolFail>
+    requires sound { V.sound v.old }
+    requires dirs { DirsReady shape.now (V.seen v.old) (V.kept v.old) }
+    ensures dirs { DirsReady shape.now (V.seen v.new) (V.kept v.new) }
+    ensures sound { V.sound v.new }
+{
+    for n in 0..count {
+        if ino_of(v, shape, ROOT, numbered(n).as_slice())? != Some(n % 8 + 2) {
+            return Ok(false);
+        }
+    }
+    Ok(true)
+}
+
+/// Removes all of them.
+pub(crate) fn remove_numbered<V: Volume>(
+    alloc: Global,
+    v: &mut V,
+    shape: &VolumeShape,
+    count: u32,
+) -> Result<(), Fail>
+    requires sound { V.sound v.old }
+    requires dirs { DirsReady shape.now (V.seen v.old) (V.kept v.old) }
+    ensures dirs { OnOk result (DirsReady shape.now (V.seen v.new) (V.kept v.new)) }
+    ensures sound { V.sound v.new }
+{
+    for n in 0..count {
+        remove(alloc, v, shape, ROOT, numbered(n).as_slice())?;
+    }
+    Ok(())
+}

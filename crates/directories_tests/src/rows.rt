@@ -1,0 +1,224 @@
+//! Tables of calls on the directories of a test, each with what must come of it.
+
+ghost use Rattle.std.specs.Prelude.{◌≡◌, OnOk};
+ghost use Rattle.test_volumes.specs.TestVolumes.{IsTestShape};
+ghost use Rattle.directories_tests.specs.TestDirs.{DirsReady, IsTestDir};
+
+use crate::compare::{holds, same, same_items};
+use crate::dirs::{
+    OTHER, ROOT, add, free_blocks, ino_of, list, move_row, plan_row, remove, replace, set_row,
+    size_of, slot_of, with_dirs,
+};
+use crate::numbered::{add_numbered, are_numbered, numbered, remove_numbered};
+use file_pages::SizeFail;
+use rio_base::{Ino, Volume, VolumeShape};
+use std::alloc::Global;
+use std::process::Abort;
+use std::test::Fail;
+
+/// A directory of a test.
+#[derive(Clone, Copy)]
+pub(crate) enum Dir {
+    Root,
+    Other,
+    Third,
+}
+
+/// A name.
+type Name = &'static [u8];
+
+/// A change of rows.
+#[derive(Clone, Copy)]
+pub(crate) enum Change {
+    /// A row of this name, for this inode.
+    Add(Dir, Name, u32),
+    Remove(Dir, Name),
+    /// The row of the first name gets the second one, for this inode.
+    Set(Dir, Name, Name, u32),
+    /// The row of the first name is set to this inode, and that of the second one goes.
+    Replace(Dir, Name, u32, Name),
+    /// The row of the first name of the root goes to the directory beside it, under the second one.
+    Move(Name, Name, u32),
+    /// So many numbered names are added to the root.
+    AddNumbered(u32),
+    RemoveNumbered(u32),
+}
+
+/// A call on the directories or their volume, with what must come of it.
+#[derive(Clone, Copy)]
+pub(crate) enum Row {
+    /// The change is made.
+    Make(Change),
+    /// A row of this name finds no space.
+    NoSpace(Dir, Name, u32),
+    /// The name names this inode, or none.
+    Names(Dir, Name, Option<u32>),
+    /// The row of the name lies in this slot.
+    Slot(Dir, Name, u32),
+    /// The directory has so many bytes.
+    Size(Dir, u64),
+    /// So many blocks are free.
+    Free(u32),
+    /// The directory has just these names, in this order.
+    Lists(Dir, &'static [Name]),
+    /// So many numbered names name their inodes, and the next one names none.
+    Numbered(u32),
+}
+
+/// The node of a directory.
+fn dir_of(dir: Dir) -> Ino
+    ensures { IsTestDir result.0 }
+{
+    match dir {
+        Dir::Root => ROOT,
+        Dir::Other => OTHER,
+        Dir::Third => Ino(3),
+    }
+}
+
+/// A node that a row may name: one of the directories.
+fn node_of(i: u32) -> Ino
+    ensures { IsTestDir result.0 }
+{
+    if 1 <= i && i <= 9 {
+        return Ino(i);
+    }
+    ROOT
+}
+
+/// Makes a change.
+fn make_change<V: Volume>(
+    alloc: Global,
+    v: &mut V,
+    shape: &VolumeShape,
+    change: Change,
+) -> Result<(), Fail>
+    requires sound { V.sound v.old }
+    requires dirs { DirsReady shape.now (V.seen v.old) (V.kept v.old) }
+    ensures dirs { OnOk result (DirsReady shape.now (V.seen v.new) (V.kept v.new)) }
+    ensures sound { V.sound v.new }
+{
+    match change {
+        Change::Add(dir, name, i) => add(alloc, v, shape, dir_of(dir), name, node_of(i)),
+        Change::Remove(dir, name) => remove(alloc, v, shape, dir_of(dir), name),
+        Change::Set(dir, name, other, i) => {
+            set_row(alloc, v, shape, dir_of(dir), name, other, node_of(i))
+        }
+        Change::Replace(dir, name, i, gone) => {
+            replace(alloc, v, shape, dir_of(dir), name, node_of(i), gone)
+        }
+        Change::Move(name, other, i) => move_row(alloc, v, shape, name, other, node_of(i)),
+        Change::AddNumbered(count) => add_numbered(alloc, v, shape, count),
+        Change::RemoveNumbered(count) => remove_numbered(alloc, v, shape, count),
+    }
+}
+
+/// Compares the names of a directory with those of row `k`.
+fn check_list<V: Volume>(
+    rt: &impl Abort,
+    alloc: Global,
+    v: &mut V,
+    shape: &VolumeShape,
+    k: u64,
+    dir: Ino,
+    due: &[Name],
+) -> Result<(), Fail>
+    requires sound { V.sound v.old }
+    requires dirs { DirsReady shape.now (V.seen v.old) (V.kept v.old) }
+    requires dir { IsTestDir dir.0 }
+    ensures dirs { DirsReady shape.now (V.seen v.new) (V.kept v.new) }
+    ensures sound { V.sound v.new }
+{
+    let names = list(alloc, v, shape, dir)?;
+    let came = names.as_slice();
+    same(rt, k, &came.len(), &due.len());
+    for n in 0..came.len().min(due.len()) {
+        same_items(rt, k, came[n].as_slice(), due[n]);
+    }
+    Ok(())
+}
+
+/// Looks whether so many numbered names are there, and not the next one.
+fn check_numbered<V: Volume>(
+    rt: &impl Abort,
+    v: &mut V,
+    shape: &VolumeShape,
+    k: u64,
+    count: u32,
+) -> Result<(), Fail>
+    requires sound { V.sound v.old }
+    requires dirs { DirsReady shape.now (V.seen v.old) (V.kept v.old) }
+    ensures dirs { DirsReady shape.now (V.seen v.new) (V.kept v.new) }
+    ensures sound { V.sound v.new }
+{
+    let all = are_numbered(v, shape, count)?;
+    holds(rt, "each names its inode", k, all);
+    let next = ino_of(v, shape, ROOT, numbered(count).as_slice())?;
+    same(rt, k, &next, &None);
+    Ok(())
+}
+
+/// Makes the call of a row, the `k`th of its table.
+fn check_row<V: Volume>(
+    rt: &impl Abort,
+    alloc: Global,
+    v: &mut V,
+    shape: &VolumeShape,
+    k: u64,
+    row: Row,
+) -> Result<(), Fail>
+    requires sound { V.sound v.old }
+    requires dirs { DirsReady shape.now (V.seen v.old) (V.kept v.old) }
+    ensures dirs { OnOk result (DirsReady shape.now (V.seen v.new) (V.kept v.new)) }
+    ensures sound { V.sound v.new }
+{
+    match row {
+        Row::Make(made) => make_change(alloc, v, shape, made),
+        Row::NoSpace(dir, name, i) => {
+            let came = plan_row(alloc, v, shape, dir_of(dir), name, node_of(i));
+            same(rt, k, &came.err(), &Some(SizeFail::NoSpace));
+            Ok(())
+        }
+        Row::Names(dir, name, due) => {
+            let came = ino_of(v, shape, dir_of(dir), name)?;
+            same(rt, k, &came, &due);
+            Ok(())
+        }
+        Row::Slot(dir, name, due) => {
+            let came = slot_of(v, shape, dir_of(dir), name)?;
+            same(rt, k, &came, &due);
+            Ok(())
+        }
+        Row::Size(dir, due) => {
+            let came = size_of(v, shape, dir_of(dir))?;
+            same(rt, k, &came, &due);
+            Ok(())
+        }
+        Row::Free(due) => {
+            let came = free_blocks(v, shape)?;
+            same(rt, k, &came, &due);
+            Ok(())
+        }
+        Row::Lists(dir, due) => check_list(rt, alloc, v, shape, k, dir_of(dir), due),
+        Row::Numbered(count) => check_numbered(rt, v, shape, k, count),
+    }
+}
+
+/// Makes the calls of a table one after the other, on a volume with nine directories without names.
+pub(crate) fn check_rows(
+    rt: &impl Abort,
+    alloc: Global,
+    shape: &VolumeShape,
+    rows: &[Row],
+) -> Result<(), Fail>
+    requires { IsTestShape shape.now }
+{
+    let mut v = with_dirs(alloc, shape)?;
+    for k in 0..rows.len() {
+        if let Err(fail) = check_row(rt, alloc, &mut v, shape, k as u64, rows[k]) {
+            holds(rt, "no failure", k as u64, false);
+            return Err(fail);
+        }
+    }
+    Ok(())
+}

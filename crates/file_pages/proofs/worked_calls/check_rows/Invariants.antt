@@ -1,8 +1,0 @@
-use Rattle.file_pages.specs.TestFiles.{FilesReady}
-use Rattle.file_pages.proofs.worked_calls.check_rows.Given as goal
-
-abbrev pub invariant-loop-k : goal.invariant-loop-k
-invariant-loop-k g l = record {
-  sound : g.V.Blocks.sound l.v;
-  files : FilesReady l.shape (g.V.Blocks.seen l.v) (g.V.Volume.kept l.v);
-}

@@ -1,0 +1,201 @@
+//! Calls that are stopped at each step, and in which each call below fails.
+
+ghost use Rattle.std.specs.Prelude.{◌≡◌};
+
+use crate::calls::{Call, all_of};
+use crate::compare::{holds, same};
+use crate::ended_calls::{Case, MANY, after, fail_at, fail_each, stop_at, stop_each};
+use crate::plain_file::plain_call;
+use crate::volumes::{FILE, SMALL};
+use rio_base::ReadFail;
+use rio_fakes::FaultyVolume;
+use std::alloc::Global;
+use std::process::Abort;
+use std::test::Fail;
+use test_volumes::SHAPE;
+
+/// A write of 16 bytes at 4 to a file of 8.
+const OVER_THE_END: Case = Case {
+    shape: SHAPE,
+    first: Call::Write(0, 8, 0xaa),
+    call: Call::Write(4, 16, 0xbb),
+};
+
+/// The file with all 16 bytes written.
+const WHOLE: &[u8] =
+    b"\xaa\xaa\xaa\xaa\xbb\xbb\xbb\xbb\xbb\xbb\xbb\xbb\xbb\xbb\xbb\xbb\xbb\xbb\xbb\xbb";
+
+/// How many of the 16 bytes the file shows: none, those before its end, or all. No answer where it shows anything else.
+fn shown(bytes: &[u8]) -> Option<u64> {
+    if bytes == b"\xaa\xaa\xaa\xaa\xaa\xaa\xaa\xaa".as_slice() {
+        return Some(0);
+    }
+    if bytes == b"\xaa\xaa\xaa\xaa\xbb\xbb\xbb\xbb".as_slice() {
+        return Some(4);
+    }
+    if bytes == WHOLE {
+        return Some(16);
+    }
+    None
+}
+
+#[test]
+fn a_stopped_write_over_the_end_is_absent_led_or_whole(rt: HostRuntime) -> Result<(), Fail> {
+    let mut last = Some(0);
+    let mut led = false;
+    for steps in 0..MANY {
+        let (done, bytes) = stop_at(&rt, rt.alloc(), &OVER_THE_END, steps, WHOLE)?;
+        let now = shown(bytes.as_slice());
+        holds(&rt, "no less than before", steps, last <= now);
+        same(&rt, steps, &(now == Some(16)), &done);
+        if done {
+            holds(&rt, "led once", steps, led);
+            return Ok(());
+        }
+        led = led || now == Some(4);
+        last = now;
+    }
+    Err("never done")?
+}
+
+#[test]
+fn a_fault_of_a_write_over_the_end_says_how_much_is_done(rt: HostRuntime) -> Result<(), Fail> {
+    let mut last = 0;
+    for n in 1..MANY {
+        let Some((done, bytes)) = fail_at(&rt, rt.alloc(), &OVER_THE_END, n, WHOLE)? else {
+            same(&rt, n, &last, &4);
+            return Ok(());
+        };
+        same(&rt, n, &shown(bytes.as_slice()), &Some(done));
+        holds(&rt, "from the last up to 4", n, last <= done && done <= 4);
+        last = done;
+    }
+    Err("never done")?
+}
+
+/// Stops a call at each step, and lets each call below fail.
+fn end_each(rt: &impl Abort, alloc: Global, first: Call, call: Call) -> Result<(), Fail> {
+    let case = Case {
+        shape: SMALL,
+        first,
+        call,
+    };
+    stop_each(rt, alloc, &case)?;
+    fail_each(rt, alloc, &case)?;
+    Ok(())
+}
+
+#[test]
+fn a_write_far_past_the_end_is_absent_or_whole(rt: HostRuntime) -> Result<(), Fail> {
+    let first = Call::Write(0, 5, 0x61);
+    end_each(&rt, rt.alloc(), first, Call::Write(10_000, 1, 0x61))
+}
+
+#[test]
+fn a_growth_to_all_direct_pages_is_absent_or_whole(rt: HostRuntime) -> Result<(), Fail> {
+    end_each(&rt, rt.alloc(), Call::Resize(0), Call::Resize(98_304))
+}
+
+#[test]
+fn a_growth_by_the_indirect_block_is_absent_or_whole(rt: HostRuntime) -> Result<(), Fail> {
+    end_each(&rt, rt.alloc(), Call::Resize(98_304), Call::Resize(98_305))
+}
+
+#[test]
+fn a_shrink_by_the_indirect_block_is_absent_or_whole(rt: HostRuntime) -> Result<(), Fail> {
+    end_each(&rt, rt.alloc(), Call::Resize(98_305), Call::Resize(98_304))
+}
+
+#[test]
+fn a_first_write_of_two_pages_is_absent_or_whole(rt: HostRuntime) -> Result<(), Fail> {
+    end_each(&rt, rt.alloc(), Call::Resize(0), Call::Write(0, 5000, 0xaa))
+}
+
+#[test]
+fn a_cut_to_100_bytes_is_absent_or_whole(rt: HostRuntime) -> Result<(), Fail> {
+    let first = Call::Write(0, 5000, 0xaa);
+    end_each(&rt, rt.alloc(), first, Call::Resize(100))
+}
+
+#[test]
+fn a_write_past_the_end_of_a_cut_file_is_absent_or_whole(rt: HostRuntime) -> Result<(), Fail> {
+    let first = Call::Write(0, 100, 0xaa);
+    end_each(&rt, rt.alloc(), first, Call::Write(4000, 1, 0xbb))
+}
+
+#[test]
+fn a_write_over_two_pages_leads(rt: HostRuntime) -> Result<(), Fail> {
+    let first = Call::Write(0, 8192, 0xaa);
+    end_each(&rt, rt.alloc(), first, Call::Write(4088, 16, 0xbb))
+}
+
+#[test]
+fn a_long_write_over_the_end_leads(rt: HostRuntime) -> Result<(), Fail> {
+    let first = Call::Write(0, 4093, 0xaa);
+    end_each(&rt, rt.alloc(), first, Call::Write(4001, 200, 0xbb))
+}
+
+/// A write of bytes from 4088 on to a file of two pages.
+fn over_two_pages(count: usize) -> Case
+    ensures { result.shape ≡ SMALL }
+{
+    Case {
+        shape: SMALL,
+        first: Call::Write(0, 8192, 0xaa),
+        call: Call::Write(4088, count, 0xbb),
+    }
+}
+
+/// Bytes 4080 to 4112 of a file of two pages.
+fn middle(bytes: &[u8]) -> &[u8] {
+    if bytes.len() < 4112 {
+        return &[];
+    }
+    &bytes[4080..4112]
+}
+
+/// These bytes where the part of the write in the first page stands alone.
+const LED: &[u8] =
+    b"\xaa\xaa\xaa\xaa\xaa\xaa\xaa\xaa\xbb\xbb\xbb\xbb\xbb\xbb\xbb\xbb\xaa\xaa\xaa\xaa\xaa\xaa\xaa\xaa\xaa\xaa\xaa\xaa\xaa\xaa\xaa\xaa";
+
+/// Lets each call below fail of a write of `count` bytes over two pages. As many fail before any byte counts as the part in
+/// the first page has alone: so no call is about the second page before all of the first one is stored. Behind them are
+/// the `rest` calls for the second page.
+fn fail_by_pages(rt: &impl Abort, alloc: Global, count: usize, rest: u64) -> Result<(), Fail> {
+    let alone = fail_each(rt, alloc, &over_two_pages(8))?;
+    let case = over_two_pages(count);
+    let old = plain_call(alloc, &[], case.first)?;
+    let new = plain_call(alloc, &old, case.call)?;
+    for n in 1..MANY {
+        let Some((done, bytes)) = fail_at(rt, alloc, &case, n, &new)? else {
+            same(rt, n, &(n - 1), &alone.saturating_add(rest));
+            return Ok(());
+        };
+        let first = n > alone;
+        same(rt, n, &done, if first { &8 } else { &0 });
+        same(rt, n, &(middle(bytes.as_slice()) == LED), &first);
+    }
+    Err("never done")?
+}
+
+#[test]
+fn no_page_is_looked_at_before_those_before_it_are_stored(rt: HostRuntime) -> Result<(), Fail> {
+    fail_by_pages(&rt, rt.alloc(), 16, 1)?; // its word is stored
+    fail_by_pages(&rt, rt.alloc(), 12, 3) // half of it: read as its first and as its last word, and stored
+}
+
+#[test]
+fn a_read_that_failed_can_be_made_again(rt: HostRuntime) -> Result<(), Fail> {
+    let alloc = rt.alloc();
+    for n in 1..MANY {
+        let mut v = FaultyVolume::new(after(alloc, &SMALL, Call::Write(0, 8, 0xaa))?, n);
+        if let Err(fail) = all_of(alloc, &mut v, &SMALL, FILE) {
+            same(&rt, n, &fail, &ReadFail::Fault);
+        } else {
+            return Ok(());
+        }
+        let bytes = all_of(alloc, &mut v, &SMALL, FILE)?;
+        same(&rt, n, &shown(bytes.as_slice()), &Some(0));
+    }
+    Err("never done")?
+}

@@ -1,0 +1,78 @@
+//! The bytes of a file as a plain list, and what calls make of them.
+
+use crate::calls::Call;
+use std::alloc::{AllocError, Global};
+
+/// Byte `k` of a file with `bytes` written over it from `off` on.
+fn plain_byte(old: &[u8], off: usize, bytes: &[u8], k: usize) -> u8 {
+    if off <= k && k - off < bytes.len() {
+        return bytes[k - off];
+    }
+    if k < old.len() { old[k] } else { 0 }
+}
+
+/// The bytes with zeros behind them up to `len`, and none past it.
+fn plain_resize(alloc: Global, old: &[u8], len: usize) -> Result<Vec<u8>, AllocError> {
+    let mut new = Vec::new(alloc);
+    for k in 0..len {
+        new.push(plain_byte(old, 0, &[], k))?;
+    }
+    Ok(new)
+}
+
+/// The bytes with others put over them from `off` on.
+pub(crate) fn plain_write(
+    alloc: Global,
+    old: &[u8],
+    off: usize,
+    bytes: &[u8],
+) -> Result<Vec<u8>, AllocError> {
+    if bytes.is_empty() {
+        return plain_resize(alloc, old, old.len());
+    }
+    let mut new = Vec::new(alloc);
+    for k in 0..old.len().max(off.saturating_add(bytes.len())) {
+        new.push(plain_byte(old, off, bytes, k))?;
+    }
+    Ok(new)
+}
+
+/// What a call makes of a file's bytes.
+pub(crate) fn plain_call(alloc: Global, old: &[u8], call: Call) -> Result<Vec<u8>, AllocError> {
+    match call {
+        Call::Write(off, count, byte) => {
+            let bytes = vec![in alloc; byte; count]?;
+            plain_write(alloc, old, off as usize, &bytes)
+        }
+        Call::Resize(len) => plain_resize(alloc, old, len as usize),
+    }
+}
+
+/// Where two files begin to differ.
+pub(crate) fn same_up_to(one: &[u8], other: &[u8]) -> usize {
+    let both = one.len().min(other.len());
+    for k in 0..both {
+        if one[k] != other[k] {
+            return k;
+        }
+    }
+    both
+}
+
+/// Whether a file of the old size has the new bytes up to byte `end`, and from there the old ones.
+pub(crate) fn is_led(bytes: &[u8], old: &[u8], new: &[u8], end: usize) -> bool {
+    if bytes.len() != old.len() {
+        return false;
+    }
+    for k in 0..old.len() {
+        let byte = if k < end && k < new.len() {
+            new[k]
+        } else {
+            old[k]
+        };
+        if bytes[k] != byte {
+            return false;
+        }
+    }
+    true
+}

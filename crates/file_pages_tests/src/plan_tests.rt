@@ -1,0 +1,272 @@
+//! Changes of size that are prepared, row by row: what is taken, freed and edited, and what the inode becomes.
+
+ghost use Rattle.std.specs.Prelude.{◌≤◌};
+ghost use Rattle.test_volumes.specs.TestVolumes.{IsTestShape};
+
+use crate::calls::{Call, make, put};
+use crate::compare::{holds, same, same_items};
+use crate::plans::{NEW_SIZE, lowest, page_block, plan_file, plan_node};
+use crate::volumes::{FILE, SMALL, with_files};
+use file_pages::{Edit, SizeChange, SizeFail};
+use inode_table::Inode;
+use rio_base::{Block, VolumeShape};
+use std::alloc::Global;
+use std::process::Abort;
+use std::test::Fail;
+use test_volumes::SHAPE;
+
+/// The node that a change is prepared for.
+#[derive(Clone, Copy)]
+enum Node {
+    /// The file, made another size.
+    File,
+    /// A new node of four pages.
+    NewDirectory,
+    NewFile,
+    NewRegion,
+}
+
+/// A number that an inode has.
+#[derive(Clone, Copy)]
+enum Number {
+    /// The block of a page, below 24.
+    Page(usize),
+    /// The block that has the numbers of further pages.
+    Table,
+}
+
+/// What is prepared.
+#[derive(Clone, Copy)]
+struct Plan {
+    /// The first of the blocks that are taken, which lie one behind the other, and how many they are.
+    taken: (u32, usize),
+    freed: &'static [Block],
+    edits: &'static [Edit],
+    numbers: &'static [(Number, u32)],
+}
+
+/// What comes of preparing it.
+#[derive(Clone, Copy)]
+enum Due {
+    Plan(Plan),
+    /// It is prepared, in whatever blocks.
+    Fits,
+    NoSpace,
+    TooLarge,
+}
+
+/// A change of size to be prepared.
+#[derive(Clone, Copy)]
+struct Row {
+    /// The call that made the file what it is before.
+    first: Call,
+    node: Node,
+    /// How many of the lowest free blocks are to be skipped.
+    skip: u32,
+    /// How many bytes the node shall have.
+    len: u64,
+    due: Due,
+}
+
+/// Nothing is done to the file before.
+const NOTHING: Call = Call::Resize(0);
+
+/// A file of two pages, in the lowest blocks.
+const TWO_PAGES: Plan = Plan {
+    taken: (4, 2),
+    freed: &[],
+    edits: &[],
+    numbers: &[(Number::Page(0), 4), (Number::Page(1), 5)],
+};
+
+/// The same behind three blocks that are skipped.
+const TWO_PAGES_LATER: Plan = Plan {
+    taken: (7, 2),
+    freed: &[],
+    edits: &[],
+    numbers: &[(Number::Page(0), 7), (Number::Page(1), 8)],
+};
+
+/// A new node of four pages, behind two blocks that are skipped.
+const FOUR_PAGES: Plan = Plan {
+    taken: (6, 4),
+    freed: &[],
+    edits: &[],
+    numbers: &[(Number::Page(3), 9)],
+};
+
+/// A file of 25 pages. The number of the 25th page is an edit of the new table.
+const PAST_THE_INODE: Plan = Plan {
+    taken: (4, 26),
+    freed: &[],
+    edits: &[Edit {
+        block: Block(29),
+        word: 0,
+        value: 28,
+    }],
+    numbers: &[(Number::Page(23), 27), (Number::Table, 29)],
+};
+
+/// A file of three pages cut to its first one.
+const CUT: Plan = Plan {
+    taken: (0, 0),
+    freed: &[Block(5), Block(6)],
+    edits: &[],
+    numbers: &[],
+};
+
+/// A row of a file that has no bytes.
+const fn file(skip: u32, len: u64, due: Due) -> Row {
+    Row {
+        first: NOTHING,
+        node: Node::File,
+        skip,
+        len,
+        due,
+    }
+}
+
+/// A row of a new node.
+const fn new_node(node: Node) -> Row {
+    Row {
+        first: NOTHING,
+        node,
+        skip: 2,
+        len: NEW_SIZE,
+        due: Due::Plan(FOUR_PAGES),
+    }
+}
+
+/// The kind of a node.
+fn kind_of(node: Node) -> u8
+    ensures { (1 ≤ result) × (result ≤ 3) }
+{
+    match node {
+        Node::NewDirectory => 1,
+        Node::File | Node::NewFile => 2,
+        Node::NewRegion => 3,
+    }
+}
+
+/// A number of an inode.
+fn number_in(inode: &Inode, number: Number) -> Option<u32> {
+    match number {
+        Number::Page(p) => inode.direct.get(p).copied(),
+        Number::Table => Some(inode.indirect),
+    }
+}
+
+/// Whether blocks lie one behind the other from a block on.
+fn lie_from(blocks: &[Block], first: u32) -> bool {
+    for k in 0..blocks.len() {
+        if blocks[k].0 as u64 != first as u64 + k as u64 {
+            return false;
+        }
+    }
+    true
+}
+
+/// Prepares the change of a row.
+fn prepared(
+    alloc: Global,
+    shape: &VolumeShape,
+    row: Row,
+) -> Result<Result<SizeChange, SizeFail>, Fail>
+    requires { IsTestShape shape.now }
+{
+    let mut v = with_files(alloc, shape)?;
+    make(alloc, &mut v, shape, FILE, row.first)?;
+    let skip = lowest(alloc, &mut v, shape, row.skip)?;
+    match row.node {
+        Node::File => Ok(plan_file(alloc, &mut v, shape, FILE, row.len, &skip)),
+        node => Ok(plan_node(alloc, &mut v, shape, kind_of(node), &skip)),
+    }
+}
+
+/// Compares what is prepared for row `k`.
+fn check_plan(rt: &impl Abort, k: u64, row: Row, change: &SizeChange, plan: Plan) {
+    let (first, count) = plan.taken;
+    let taken = change.taken.as_slice();
+    same(rt, k, &taken.len(), &count);
+    holds(rt, "the taken blocks", k, lie_from(taken, first));
+    same_items(rt, k, change.freed.as_slice(), plan.freed);
+    same_items(rt, k, change.edits.as_slice(), plan.edits);
+    same(rt, k, &change.inode.kind, &kind_of(row.node));
+    same(rt, k, &change.inode.size, &row.len);
+    for (number, block) in plan.numbers {
+        same(rt, k, &number_in(&change.inode, *number), &Some(*block));
+    }
+}
+
+/// Compares what came of row `k`.
+fn check_row(rt: &impl Abort, k: u64, row: Row, came: Result<SizeChange, SizeFail>) {
+    match (came, row.due) {
+        (Ok(change), Due::Plan(plan)) => check_plan(rt, k, row, &change, plan),
+        (Ok(_), due) => holds(rt, "it was prepared", k, matches!(due, Due::Fits)),
+        (Err(SizeFail::NoSpace), due) => {
+            holds(rt, "no space", k, matches!(due, Due::NoSpace));
+        }
+        (Err(fail), due) => {
+            same(rt, k, &fail, &SizeFail::TooLarge);
+            holds(rt, "too large", k, matches!(due, Due::TooLarge));
+        }
+    }
+}
+
+/// Prepares the changes of a table, each on a volume of its own.
+fn check_rows(rt: &impl Abort, alloc: Global, shape: &VolumeShape, rows: &[Row]) -> Result<(), Fail>
+    requires { IsTestShape shape.now }
+{
+    for k in 0..rows.len() {
+        let came = prepared(alloc, shape, rows[k])?;
+        check_row(rt, k as u64, rows[k], came);
+    }
+    Ok(())
+}
+
+#[test]
+fn changes_of_size_are_prepared_in_the_lowest_blocks(rt: HostRuntime) -> Result<(), Fail> {
+    let rows = [
+        file(0, 4097, Due::Plan(TWO_PAGES)),
+        file(3, 4097, Due::Plan(TWO_PAGES_LATER)),
+        new_node(Node::NewDirectory),
+        new_node(Node::NewFile),
+        new_node(Node::NewRegion),
+        file(0, 98_305, Due::Plan(PAST_THE_INODE)),
+        Row {
+            first: Call::Write(8192, 1, b'a'),
+            node: Node::File,
+            skip: 0,
+            len: 4096,
+            due: Due::Plan(CUT),
+        },
+        // blocks that are skipped are not space: 33 of 36 are left
+        file(3, 4096 * 32, Due::Fits),
+        file(3, 4096 * 33, Due::NoSpace),
+    ];
+    check_rows(&rt, rt.alloc(), &SMALL, &rows)?;
+    check_rows(
+        &rt,
+        rt.alloc(),
+        &SHAPE,
+        &[file(0, 4_292_609, Due::TooLarge)],
+    )
+}
+
+#[test]
+fn pages_lie_in_the_blocks_that_they_took(rt: HostRuntime) -> Result<(), Fail> {
+    let alloc = rt.alloc();
+    let mut v = with_files(alloc, &SMALL)?;
+    put(alloc, &mut v, &SMALL, FILE, 98_304, b"a".as_slice())?;
+    for (page, due) in [
+        (0, Some(Block(4))),
+        (1, Some(Block(5))),
+        (23, Some(Block(27))),
+        (24, Some(Block(28))),
+        (25, None),
+    ] {
+        let came = page_block(&mut v, &SMALL, FILE, page)?;
+        same(&rt, page as u64, &came, &due);
+    }
+    Ok(())
+}
