@@ -51,8 +51,6 @@ pub use Rattle.rio_base.specs.declared.places.Block.{Block}
 pub use Rattle.rio_base.specs.declared.places.Ino.{Ino}
 pub use Rattle.rio_base.specs.declared.places.PageName.{PageName}
 pub use Rattle.rio_base.specs.declared.places.VolumeShape.{VolumeShape}
-pub use Rattle.rio_fakes.specs.ListVolumes.{ListSound, list_kept, list_seen}
-pub use Rattle.rio_fakes.specs.declared.list_volume.ListVolume.{ListVolume}
 pub use Rattle.rio_model.proofs.FreeByState.{free_by_state}
 pub use Rattle.rio_model.proofs.HeldRules.{counts_of, same_held}
 pub use Rattle.rio_model.proofs.NameOrder.{name_get_other, name_get_same}

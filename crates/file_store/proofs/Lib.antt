@@ -14,7 +14,6 @@ pub mod Fitting
 pub mod Forgotten
 pub mod FreeFound
 pub mod FreeRows
-pub mod FreshStore
 pub mod LookedAt
 pub mod NameRules
 pub mod NameSteps
@@ -47,9 +46,6 @@ pub mod Several
 pub mod StatAnswered
 pub mod Steps
 pub mod Stood
-pub mod TestEnds
-pub mod TestPaths
-pub mod TestRegions
 pub mod TreeRules
 pub mod Unchanged
 pub mod Views

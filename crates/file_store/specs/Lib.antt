@@ -3,7 +3,6 @@ pub mod Committing
 pub mod Ends
 pub mod Failures
 pub mod NewRegions
-pub mod TestVolumes
 pub mod WalkRules
 pub mod Walks
 pub mod Views

@@ -10,22 +10,10 @@ mod making;
 mod moving;
 mod paths;
 mod region_pages;
-#[cfg(test)]
-mod region_tests;
 mod region_view;
 mod regions;
 mod removing;
 mod renaming;
-#[cfg(test)]
-mod row_tests;
-#[cfg(test)]
-mod stop_tests;
-#[cfg(test)]
-mod test_calls;
-#[cfg(test)]
-mod test_volume;
-#[cfg(test)]
-mod view_tests;
 mod walking;
 
 pub use data::{read, truncate, write};

@@ -7,7 +7,6 @@ pub mod HeldRules
 pub mod Lookups
 pub mod ReadMoves
 pub mod Recoveries
-pub mod Recovering
 pub mod RegionEnds
 pub mod RegionReplies
 pub mod RegionRequests

@@ -2,8 +2,6 @@
 #![tactic(auto)]
 
 mod answering;
-#[cfg(test)]
-mod recovery_tests;
 mod regions;
 mod replies;
 mod running_core;

@@ -1,9 +1,0 @@
-use Rattle.rio_requests.specs.Answers.{rename as rename_of}
-use Rattle.file_store.proofs.EndRules.{can_after}
-use Rattle.file_store.proofs.Common.{NoneDone}
-use Rattle.file_store.specs.Ends.{SaysDone}
-use Rattle.file_store.specs.Walks.{ino_numbers}
-use Rattle.file_store.proofs.test_calls.rename_answers.Goals as goal
-
-pub returns-clause-can : goal.returns-clause-can
-returns-clause-can g c = λ is. can_after SaysDone c.args.shape.now (g.V.Blocks.seen c.args.v.now) (g.V.Volume.kept c.args.v.now) (g.V.Blocks.seen c.rename-answer.new.v) (g.V.Volume.kept c.rename-answer.new.v) (λ s. rename_of s c.args.path.now c.args.to.now (ino_numbers c.from-busy.result)) (λ s. NoneDone s) c.rename-answer.result c.requires.can c.rename-answer.ensures.leaves (c.does.ensures is)

@@ -1,0 +1,49 @@
+-- How requests of the tests end: another may follow, or the volume is started again.
+use Rattle.std.proofs.Common.{◌≡◌, ℕ, Bool, subst, sym, arith}
+use Rattle.std.specs.Prelude.{◌↔◌, Result, Ok, Err, IsErr, IsErrOf, None}
+use Rattle.rio_base.specs.declared.failures.Stopped.{Stopped as MachineStopped}
+use Rattle.rio_base.specs.declared.places.VolumeShape.{VolumeShape}
+use Rattle.rio_base.specs.Blocks.{BlockWords, Caches, Health, Looks, Seen}
+use Rattle.rio_base.specs.Volume.{Below, Kept, Passes}
+use Rattle.rio_requests.specs.declared.plain.Answered.{Answered}
+use Rattle.rio_requests.specs.declared.reply.Reply.{Reply}
+use Rattle.rio_model.specs.declared.state.State.{State}
+use Rattle.rio_model.specs.Fresh.{fresh_state}
+use Rattle.rio_model.specs.VolumeReads.{ReadsAs}
+use Rattle.rio_model.specs.VolumeReady.{Ready}
+use Rattle.file_pages.proofs.LookingUpRules.{can_look_up, looked_low}
+use Rattle.file_pages.proofs.OrderRules.{leaves_looked}
+use Rattle.file_store.specs.declared.failures.FileFail.{FileFail}
+use Rattle.file_store.specs.declared.failures.FileFail.TheVariants.{Refused, Fault, Stopped, Memory}
+use Rattle.file_store.proofs.EndRules.{can_after}
+use Rattle.file_store.specs.Ends.{CanServe, FileEnds}
+use Rattle.file_store.proofs.Unchanged.{can_again}
+use Rattle.test_volumes.specs.TestVolumes.{IsFresh}
+use Rattle.file_store_tests.specs.Playing.{CanStart, Follows}
+
+start_as : (T : Type 0) (says : T → Reply → Type 0) (shape : VolumeShape) (x : Seen) (k : Kept) (y : Seen) (j : Kept) (s : State) (a : Answered) (leads : ℕ → State → Type 0) (r : Result T FileFail) → FileEnds says shape x k y j s a leads r → IsErrOf r Stopped → CanStart shape y j
+start_as T says shape x k y j s a leads (Ok v) h stopped = absurd cc
+start_as T says shape x k y j s a leads (Err (Refused c)) h stopped = absurd cc
+start_as T says shape x k y j s a leads (Err (Fault n)) h stopped = absurd cc
+start_as T says shape x k y j s a leads (Err Stopped) (t, part, stands) stopped = record { ready = stands.ready; state = t; reads = stands.reads }
+start_as T says shape x k y j s a leads (Err Memory) h stopped = absurd cc
+
+-- a request that is answered, or stopped
+pub follows_end : {T : Type 0} (says : T → Reply → Type 0) (shape : VolumeShape) (x : Seen) (k : Kept) (y : Seen) (j : Kept) (a : State → Answered) (leads : State → ℕ → State → Type 0) (r : Result T FileFail) (q : Result Bool MachineStopped) → CanServe shape x k → ((s : State) → ReadsAs shape x.words s → FileEnds says shape x k y j s (a s) (leads s) r) → (IsErr q ↔ IsErrOf r Stopped) → Follows shape y j q
+follows_end says shape x k y j a leads r (Ok due) can h tells = record { ok = can_after says shape x k y j a leads r can h (λ stopped. tells.1 stopped); err = tt }
+follows_end {T = T} says shape x k y j a leads r (Err stop) can h tells = record { ok = tt; err = start_as T says shape x k y j can.state (a can.state) (leads can.state) r (h can.state can.reads) (tells.0 tt) }
+
+pub follows_ok : {T : Type 0} (shape : VolumeShape) (x : Seen) (k : Kept) (v : T) → CanServe shape x k → Follows {T = T} shape x k (Ok v)
+follows_ok shape x k v can = record { ok = can; err = tt }
+
+-- a look at the bitmap leaves a volume that may be asked again
+pub can_counted : (shape : VolumeShape) (s t : Health) (o n : Below) (x y : Seen) (k j : Kept) → CanServe shape x k → Looks x y → Caches x y 1 None → Passes s o k t n j → CanServe shape y j
+can_counted shape s t o n x y k j can looks caches passes =
+    can_again shape x k y j can (leaves_looked shape s t o n x y k j can.ready (looked_low shape x y 1 (can_look_up shape x can.ready.has_shape can.ready.mapped can.ready.named) (omega arith) looks caches) passes) looks.words
+
+-- a fresh volume may be asked, and one that is started again
+pub fresh_can : (shape : VolumeShape) (x : Seen) (k : Kept) → IsFresh shape x k → CanServe shape x k
+fresh_can shape x k fresh = record { ready = fresh.ready; state = fresh_state shape 0 0; reads = fresh.reads }
+
+pub started_can : (shape : VolumeShape) (x : Seen) (k : Kept) (y : Seen) (j : Kept) → CanStart shape x k → Ready shape y j → y.words ≡ k.standing → CanServe shape y j
+started_can shape x k y j start ready words = record { ready = ready; state = start.state; reads = subst (λ (f : BlockWords). ReadsAs shape f start.state) (sym words) start.reads }

@@ -1,0 +1,6 @@
+use Rattle.rio_fakes.specs.ListVolumes.{ListSound, list_kept, list_seen}
+use Rattle.file_store.specs.Ends.{CanServe}
+use Rattle.file_store_tests.proofs.playing.is_among.Given as goal
+
+abbrev pub invariant-loop-t : goal.invariant-loop-t
+invariant-loop-t l = record { can : CanServe l.shape (list_seen l.v) (list_kept l.v); sound : ListSound l.v }
