@@ -2,19 +2,7 @@
 //! standard output.
 #![tactic(auto)]
 
-mod os_host;
-#[cfg(test)]
-mod os_host_tests;
-#[cfg(test)]
-mod os_host_trouble_tests;
-mod streams;
-#[cfg(test)]
-mod test_folder;
-#[cfg(test)]
-mod watched_files;
-
-use crate::os_host::OsHost;
-use crate::streams::{InputSource, OutputSink};
+use rio_os::{InputSource, OsHost, OutputSink};
 use rio_server::{end_without_memory, run};
 use std::alloc::Global;
 use std::process::ExitCode;

@@ -1,31 +1,30 @@
-//! A folder of a test's own.
+//! A folder of a session's own, below the one where the program runs.
 
 use std::alloc::{AllocError, Global};
+use std::fs;
 use std::io::{self, ErrorKind};
-use std::rt::{Env, Files};
-use std::{env, fs};
+use std::rt::Files;
 
 /// How many names are tried for a folder.
 const TRIES: u32 = 1_000_000;
 
 /// A folder that was made under a name that was free. It is removed, with all that is in it, where it is dropped.
-pub struct TestFolder<R: Files + Drop> {
+pub struct OwnFolder<R: Files + Drop> {
     alloc: Global,
     files: R,
     path: String,
 }
 
-impl<R: Files + Env + AllocGlobal + Clone + Drop> TestFolder<R> {
-    /// Makes an empty folder where the system has its temporary files.
-    pub fn make(rt: &R) -> io::Result<TestFolder<R>> {
+impl<R: Files + AllocGlobal + Clone + Drop> OwnFolder<R> {
+    /// Makes an empty folder.
+    pub fn make(rt: &R) -> io::Result<OwnFolder<R>> {
         let alloc = rt.alloc();
-        let parent = env::temp_dir(rt)?;
         for number in 0..TRIES {
-            let path = format!(in alloc; "{}/rio-test-{number}", parent.as_str())?;
+            let path = format!(in alloc; "./rio-session-{number}")?;
             match fs::create_dir(rt, path.as_str()) {
                 Ok(()) => {
                     let files = rt.clone()?;
-                    return Ok(TestFolder { alloc, files, path });
+                    return Ok(OwnFolder { alloc, files, path });
                 }
                 Err(error) if error.kind() == ErrorKind::AlreadyExists => {}
                 Err(error) => return Err(error),
@@ -55,9 +54,9 @@ impl<R: Files + Env + AllocGlobal + Clone + Drop> TestFolder<R> {
     }
 }
 
-impl<R: Files + Drop> Drop for TestFolder<R> {
+impl<R: Files + Drop> Drop for OwnFolder<R> {
     fn drop(self) {
-        let TestFolder { alloc, files, path } = self;
+        let OwnFolder { alloc, files, path } = self;
         let _ = files.remove_dir_all(alloc, path.as_str());
     }
 }

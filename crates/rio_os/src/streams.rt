@@ -5,9 +5,6 @@ ghost use Rattle.std.specs.Io.KnownBytes.{ReadConsumes, WriteAppends};
 ghost use Rattle.rio_base.specs.Counts.{HasCause, Rose};
 ghost use Rattle.rio_base.specs.Streams.{appended, prepended, IsSpent};
 
-#[cfg(test)]
-mod tests;
-
 use rio_base::{Failed, Sink, Source};
 use std::io::{self, ErrorKind, Read, Write};
 
@@ -53,6 +50,13 @@ impl<R: Read> InputSource<R> {
         ensures faults { result.faults ≡ 0 }
     {
         InputSource { reader, faults: 0 }
+    }
+
+    /// How many calls have failed.
+    pub fn faults(&self) -> u64
+        ensures { result ≡ self.now.faults }
+    {
+        self.faults
     }
 
     /// Counts a read that failed.
@@ -103,6 +107,13 @@ impl<W: Write> OutputSink<W> {
         ensures faults { result.faults ≡ 0 }
     {
         OutputSink { writer, faults: 0 }
+    }
+
+    /// How many calls have failed.
+    pub fn faults(&self) -> u64
+        ensures { result ≡ self.now.faults }
+    {
+        self.faults
     }
 
     /// Counts a write that failed.

@@ -1,6 +1,6 @@
 -- An interrupted write gives nothing.
 use Rattle.std.specs.Io.KnownBytes.{Keeps}
-use Rattle.rio.proofs.streams.write_retrying.Given as goal
+use Rattle.rio_os.proofs.streams.write_retrying.Given as goal
 
 abbrev pub invariant-loop : goal.invariant-loop
 invariant-loop g l = Keeps (g.W.Write.contents l.initial.writer) (g.W.Write.contents l.writer)

@@ -1,7 +1,7 @@
 -- An interrupted read takes nothing, and the piece keeps its length.
 use Rattle.std.proofs.Common.{◌≡◌, length}
 use Rattle.std.specs.Io.KnownBytes.{Keeps}
-use Rattle.rio.proofs.streams.read_retrying.Given as goal
+use Rattle.rio_os.proofs.streams.read_retrying.Given as goal
 
 abbrev pub invariant-loop : goal.invariant-loop
 invariant-loop g l = (length l.into ≡ length l.initial.into) × Keeps (g.R.Read.remaining l.initial.reader) (g.R.Read.remaining l.reader)

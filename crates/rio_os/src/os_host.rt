@@ -162,7 +162,7 @@ fn refuse_no_file<R: Files>(files: &R, name: &String) -> io::Result<()> {
 }
 
 /// The folder of a file, as a path.
-pub(crate) fn folder_of(name: &String) -> &str {
+pub fn folder_of(name: &String) -> &str {
     match name.as_str().rsplit_once('/') {
         None => ".",
         Some(("", _)) => "/",

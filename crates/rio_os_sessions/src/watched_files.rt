@@ -1,5 +1,6 @@
-//! Files of the system whose calls are recorded, and made to fail where a test wants it.
+//! Files of the system whose calls are recorded, and made to fail where a session wants it.
 
+use crate::trouble::Trouble;
 use std::alloc::{Allocator, Global};
 use std::cell::{Cell, RefCell};
 use std::fs::{Metadata, OpenFile, OpenOptions};
@@ -37,38 +38,100 @@ pub enum Call {
     Copy,
 }
 
-/// What goes wrong at a call.
-#[derive(Clone, Copy)]
-pub enum Trouble {
-    /// It does nothing and fails.
-    Fails(ErrorKind),
-    /// It reads or writes at most this many bytes.
-    Moves(usize),
+impl Call {
+    /// The call of this name.
+    pub fn named(name: &str) -> Option<Call> {
+        match name {
+            "Look" => Some(Call::Look),
+            "OpenFolder" => Some(Call::OpenFolder),
+            "OpenFile" => Some(Call::OpenFile),
+            "MakeFile" => Some(Call::MakeFile),
+            "Seek" => Some(Call::Seek),
+            "Read" => Some(Call::Read),
+            "Write" => Some(Call::Write),
+            "SyncFile" => Some(Call::SyncFile),
+            "SyncFolder" => Some(Call::SyncFolder),
+            "Rename" => Some(Call::Rename),
+            "Remove" => Some(Call::Remove),
+            _ => None,
+        }
+    }
 }
 
 /// The calls so far, and the troubles to come, in their order. A trouble is for the next call of its kind.
 #[derive(Drop)]
-pub struct Watch<'a> {
-    troubles: &'a [(Call, Trouble)],
+pub struct Watch {
+    alloc: Global,
+    troubles: RefCell<Vec<(Call, Trouble)>>,
     met: Cell<usize>,
     calls: RefCell<Vec<Call>>,
 }
 
-impl<'a> Watch<'a> {
-    /// No call yet.
-    pub fn new(alloc: Global, troubles: &'a [(Call, Trouble)]) -> Watch<'a> {
+/// What the cells of a watch are not ready for.
+fn busy() -> io::Error {
+    io::Error::from(ErrorKind::ResourceBusy)
+}
+
+impl Watch {
+    /// No call yet, and no trouble.
+    pub fn new(alloc: Global) -> Watch {
         Watch {
-            troubles,
+            alloc,
+            troubles: RefCell::new(Vec::new(alloc)),
             met: Cell::new(0),
             calls: RefCell::new(Vec::new(alloc)),
         }
     }
 
-    /// The calls so far.
-    pub fn calls(&self, alloc: Global) -> io::Result<Vec<Call>> {
-        match self.calls.try_borrow() {
-            Ok(calls) => Ok(Vec::from_slice(alloc, calls.as_slice())?),
-            Err(_) => Err(io::Error::from(ErrorKind::ResourceBusy)),
+    /// Forgets the calls and the troubles.
+    pub fn begin_anew(&self) -> io::Result<()> {
+        self.met.set(0);
+        match self.troubles.try_borrow_mut() {
+            Ok(mut troubles) => troubles.clear(),
+            Err(_) => return Err(busy()),
+        }
+        match self.calls.try_borrow_mut() {
+            Ok(mut calls) => calls.clear(),
+            Err(_) => return Err(busy()),
+        }
+        Ok(())
+    }
+
+    /// One more trouble, behind those before.
+    pub fn add_trouble(&self, call: Call, trouble: Trouble) -> io::Result<()> {
+        match self.troubles.try_borrow_mut() {
+            Ok(mut troubles) => Ok(troubles.push((call, trouble))?),
+            Err(_) => Err(busy()),
+        }
+    }
+
+    /// The calls so far, with a space between them.
+    pub fn calls(&self) -> io::Result<String> {
+        let Ok(calls) = self.calls.try_borrow() else {
+            return Err(busy());
+        };
+        let mut text = String::new(self.alloc);
+        for call in calls.iter() {
+            if !text.is_empty() {
+                text.push(' ')?;
+            }
+            text.push_str(format!(in self.alloc; "{call:?}")?.as_str())?;
+        }
+        Ok(text)
+    }
+
+    /// The trouble of this call, if it is the next.
+    fn trouble_of(&self, call: Call) -> io::Result<Option<Trouble>> {
+        let Ok(troubles) = self.troubles.try_borrow() else {
+            return Err(busy());
+        };
+        let met = self.met.get();
+        match troubles.get(met) {
+            Some((due, trouble)) if *due == call => {
+                self.met.set(met.saturating_add(1));
+                Ok(Some(*trouble))
+            }
+            _ => Ok(None),
         }
     }
 
@@ -76,18 +139,12 @@ impl<'a> Watch<'a> {
     fn record(&self, call: Call) -> io::Result<usize> {
         match self.calls.try_borrow_mut() {
             Ok(mut calls) => calls.push(call)?,
-            Err(_) => return Err(io::Error::from(ErrorKind::ResourceBusy)),
+            Err(_) => return Err(busy()),
         }
-        let met = self.met.get();
-        match self.troubles.get(met) {
-            Some((due, trouble)) if *due == call => {
-                self.met.set(met.saturating_add(1));
-                match trouble {
-                    Trouble::Fails(kind) => Err(io::Error::from(*kind)),
-                    Trouble::Moves(most) => Ok(*most),
-                }
-            }
-            _ => Ok(usize::MAX),
+        match self.trouble_of(call)? {
+            Some(Trouble::Fails(kind)) => Err(io::Error::from(kind)),
+            Some(Trouble::Moves(most)) => Ok(most),
+            None => Ok(usize::MAX),
         }
     }
 }
@@ -96,12 +153,12 @@ impl<'a> Watch<'a> {
 #[derive(Drop)]
 pub struct WatchedFiles<'a, R: Files> {
     files: R,
-    watch: &'a Watch<'a>,
+    watch: &'a Watch,
 }
 
 impl<'a, R: Files> WatchedFiles<'a, R> {
     /// The calls of these files are recorded by `watch`.
-    pub fn new(files: R, watch: &'a Watch<'a>) -> WatchedFiles<'a, R> {
+    pub fn new(files: R, watch: &'a Watch) -> WatchedFiles<'a, R> {
         WatchedFiles { files, watch }
     }
 }
@@ -111,7 +168,7 @@ impl<'a, R: Files> WatchedFiles<'a, R> {
 pub struct WatchedFile<'a, F> {
     file: F,
     is_folder: bool,
-    watch: &'a Watch<'a>,
+    watch: &'a Watch,
 }
 
 impl<'a, F: Read> Read for WatchedFile<'a, F> {

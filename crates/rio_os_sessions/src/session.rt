@@ -1,0 +1,157 @@
+//! A session: lines of a script put files into a folder, make calls of a host over them, and ask what came.
+
+use crate::adapters::{read_as_said, write_as_said};
+use crate::host_calls::make_call;
+use crate::own_folder::OwnFolder;
+use crate::trouble::Trouble;
+use crate::watched_files::{Call, Watch};
+use rio_os::{OsHost, folder_of};
+use std::alloc::Global;
+use std::fs;
+use std::io::{self, PipeReader, PipeWriter, Read};
+use std::os::fd::AsRawFd;
+use std::os::unix::fs::symlink;
+use std::rt::Files;
+use test_scripts::{first_word, tell_line};
+
+/// A folder, and two hosts: over the files of the system as they are, and over the same files watched.
+#[derive(Drop)]
+pub struct Session<'a, R: Files + AllocGlobal + Clone + Drop, W: Files + Drop> {
+    rt: R,
+    alloc: Global,
+    watch: &'a Watch,
+    folder: OwnFolder<R>,
+    plain: OsHost<R>,
+    watched: OsHost<W>,
+    is_watched: bool,
+    /// The file that is held open.
+    held: Option<R::File>,
+    /// The pipe that is held open.
+    pipe: Option<(PipeReader, PipeWriter)>,
+}
+
+impl<'a, R: Files + AllocGlobal + Clone + Drop, W: Files + Drop> Session<'a, R, W> {
+    /// An empty folder, and no call yet. The calls of `files` are recorded by `watch`.
+    pub fn begin(rt: &R, files: W, watch: &'a Watch) -> io::Result<Session<'a, R, W>> {
+        watch.begin_anew()?;
+        let alloc = rt.alloc();
+        Ok(Session {
+            rt: rt.clone()?,
+            alloc,
+            watch,
+            folder: OwnFolder::make(rt)?,
+            plain: OsHost::new(alloc, rt.clone()?),
+            watched: OsHost::new(alloc, files),
+            is_watched: false,
+            held: None,
+            pipe: None,
+        })
+    }
+
+    /// Does what a line of the script says. Answers the line, and behind it what it came to.
+    pub fn step(&mut self, line: &str) -> io::Result<Vec<u8>> {
+        let mut out = Vec::from_slice(self.alloc, line.as_bytes())?;
+        out.push(b'\n')?;
+        let (word, rest) = first_word(line);
+        match word {
+            "==" => {}
+            "source" => read_as_said(self.alloc, rest, &mut out)?,
+            "sink" => write_as_said(self.alloc, rest, &mut out)?,
+            "folder-of" => {
+                let name = String::from_str(self.alloc, rest)?;
+                tell_line(&mut out, folder_of(&name).as_bytes())?;
+            }
+            _ => self.act(word, rest, &mut out)?,
+        }
+        Ok(out)
+    }
+
+    /// Does what a word says of the file that is named behind it.
+    fn act(&mut self, word: &str, rest: &str, out: &mut Vec<u8>) -> io::Result<()> {
+        let (name, rest) = first_word(rest);
+        let path = self.path(name)?;
+        match word {
+            "file" => fs::write(&self.rt, path.as_str(), rest),
+            "folder" => fs::create_dir(&self.rt, path.as_str()),
+            "link" => symlink(&self.rt, rest, path.as_str()),
+            "pipe" => self.make_pipe(&path),
+            "hold" => self.hold(&path),
+            "watch" => {
+                self.is_watched = true;
+                Ok(())
+            }
+            "trouble" => self.add_trouble(name, rest),
+            _ => self.ask(word, &path, rest, out),
+        }
+    }
+
+    /// Tells what a word asks, or makes the call of the host that it is.
+    fn ask(&mut self, word: &str, path: &String, rest: &str, out: &mut Vec<u8>) -> io::Result<()> {
+        match word {
+            "held" => self.tell_held(out),
+            "bytes" => self.tell_bytes(path, out),
+            "names" => Ok(tell_line(out, self.folder.names()?.as_bytes())?),
+            "calls" => Ok(tell_line(out, self.watch.calls()?.as_bytes())?),
+            "is-file" => self.tell_whether_file(path, out),
+            _ if self.is_watched => make_call(self.alloc, &mut self.watched, word, path, rest, out),
+            _ => make_call(self.alloc, &mut self.plain, word, path, rest, out),
+        }
+    }
+
+    /// The path of a name: in the folder, but for one that begins with a slash.
+    fn path(&self, name: &str) -> io::Result<String> {
+        if name.starts_with('/') {
+            return Ok(String::from_str(self.alloc, name)?);
+        }
+        Ok(self.folder.path(name)?)
+    }
+
+    /// Makes a pipe, and a link to it. It is the session's own, since a wrong body would take away what stands there.
+    fn make_pipe(&mut self, path: &String) -> io::Result<()> {
+        let (reader, writer) = io::pipe(&self.rt)?;
+        let target = format!(in self.alloc; "/proc/self/fd/{}", reader.as_raw_fd())?;
+        symlink(&self.rt, target.as_str(), path.as_str())?;
+        self.pipe = Some((reader, writer));
+        Ok(())
+    }
+
+    /// Opens a file, and holds it open.
+    fn hold(&mut self, path: &String) -> io::Result<()> {
+        self.held = Some(fs::open(&self.rt, path.as_str())?);
+        Ok(())
+    }
+
+    /// Tells what the file has that is held open, from its beginning.
+    fn tell_held(&mut self, out: &mut Vec<u8>) -> io::Result<()> {
+        let mut bytes = Vec::new(self.alloc);
+        if let Some(file) = &mut self.held {
+            file.read_to_end(&mut bytes)?;
+        }
+        Ok(tell_line(out, bytes.as_slice())?)
+    }
+
+    /// The next call of this kind meets a trouble, once those before it were met.
+    fn add_trouble(&mut self, call: &str, trouble: &str) -> io::Result<()> {
+        match Call::named(call) {
+            Some(call) => self.watch.add_trouble(call, Trouble::said(trouble)),
+            None => Err(io::Error::from(io::ErrorKind::InvalidInput)),
+        }
+    }
+
+    /// Tells what a file has.
+    fn tell_bytes(&self, path: &String, out: &mut Vec<u8>) -> io::Result<()> {
+        match fs::read(&self.rt, path.as_str()) {
+            Ok(bytes) => Ok(tell_line(out, bytes.as_slice())?),
+            Err(_) => Ok(tell_line(out, b"no file")?),
+        }
+    }
+
+    /// Tells whether there is a file under a name, and no link or folder.
+    fn tell_whether_file(&self, path: &String, out: &mut Vec<u8>) -> io::Result<()> {
+        if fs::symlink_metadata(&self.rt, path.as_str())?.is_file() {
+            Ok(tell_line(out, b"yes")?)
+        } else {
+            Ok(tell_line(out, b"no")?)
+        }
+    }
+}
