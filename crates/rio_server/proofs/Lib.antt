@@ -13,5 +13,4 @@ pub mod ServeRun
 pub mod ServeWords
 pub mod ServedRuns
 pub mod Telling
-pub mod TestServers
 pub mod Turns

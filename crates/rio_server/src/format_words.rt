@@ -80,7 +80,7 @@ fn option_number(name: &str, key: &String, number: &String) -> Option<u64>
 }
 
 /// These numbers as sizes, where a fresh pair can have them.
-pub(crate) fn sizes_of(frames: u64, blocks: u64, inodes: u64, scratch: u64) -> Option<FormatSizes>
+pub fn sizes_of(frames: u64, blocks: u64, inodes: u64, scratch: u64) -> Option<FormatSizes>
     ensures { MatchOption result ((sizes : Sizes) → AreRanged frames blocks inodes scratch sizes → ⊥) (λ sizes. AreRanged frames blocks inodes scratch sizes) }
 {
     if frames < 32 || 8192 < frames {

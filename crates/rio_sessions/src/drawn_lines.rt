@@ -10,18 +10,18 @@ const LARGEST: u32 = 200_000;
 
 /// Draws by a linear congruential generator.
 #[derive(Drop)]
-pub(crate) struct Draws {
+pub struct Draws {
     state: u64,
 }
 
 impl Draws {
     /// Draws from this seed on.
-    pub(crate) fn new(seed: u64) -> Draws {
+    pub fn new(seed: u64) -> Draws {
         Draws { state: seed }
     }
 
     /// A number below `n`.
-    pub(crate) fn below(&mut self, n: u32) -> u32
+    pub fn below(&mut self, n: u32) -> u32
         requires { 0 < n }
         ensures { result < n }
     {
@@ -35,12 +35,12 @@ impl Draws {
 }
 
 /// The path of a directory.
-pub(crate) fn dir_path(alloc: Global, dir: u32) -> Result<String, AllocError> {
+pub fn dir_path(alloc: Global, dir: u32) -> Result<String, AllocError> {
     format!(in alloc; "/d{dir}")
 }
 
 /// The path of a file.
-pub(crate) fn file_path(alloc: Global, dir: u32, file: u32) -> Result<String, AllocError> {
+pub fn file_path(alloc: Global, dir: u32, file: u32) -> Result<String, AllocError> {
     format!(in alloc; "/d{dir}/n{file}")
 }
 
@@ -244,11 +244,7 @@ fn drawn_region_line(alloc: Global, draws: &mut Draws) -> Result<String, AllocEr
 }
 
 /// A line without its end. It is no flush. Of 16 lines `regions` are drawn on regions.
-pub(crate) fn drawn_line(
-    alloc: Global,
-    draws: &mut Draws,
-    regions: u32,
-) -> Result<String, AllocError> {
+pub fn drawn_line(alloc: Global, draws: &mut Draws, regions: u32) -> Result<String, AllocError> {
     if regions > 0 && draws.below(16) < regions {
         return drawn_region_line(alloc, draws);
     }
@@ -268,7 +264,7 @@ pub(crate) fn drawn_line(
 }
 
 /// A line that cleans up to 40 frames.
-pub(crate) fn drawn_flush(alloc: Global, draws: &mut Draws) -> Result<String, AllocError> {
+pub fn drawn_flush(alloc: Global, draws: &mut Draws) -> Result<String, AllocError> {
     let count = draws.below(41);
     format!(in alloc; "flush {count}")
 }

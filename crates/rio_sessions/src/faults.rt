@@ -8,45 +8,30 @@ ghost use Rattle.rio_model.specs.declared.state.State.{State as StateOf};
 ghost use Rattle.rio_server.specs.FreshMachines.{IsFreshDisk};
 
 use crate::drawn_lines::{Draws, drawn_line, file_path};
-use crate::fresh_machine::{fresh_core, fresh_disk};
 use crate::plain_server::{root_alone, text_of};
-use crate::test_cores::{Sizes, checked};
+use crate::served::{Sizes, checked};
 use block_disk::MemDisk;
 use request_codec::parse_line;
 use rio_base::{Ino, Octets, Stopped, VolumeShape};
 use rio_core::Server;
 use rio_model::{State, TxnList};
 use rio_requests::{Answered, Reply, Request, answer};
+use rio_server::{fresh_core, fresh_disk};
 use std::alloc::{AllocError, Global};
-use std::test::Fail;
-
-/// More blocks than frames: pages are read again, and written to make room.
-const EVICTING: Sizes = Sizes {
-    frames: 32,
-    blocks: 512,
-    inodes: 64,
-};
-
-/// The same, and no more blocks than one run takes.
-const SMALL: Sizes = Sizes {
-    frames: 32,
-    blocks: 64,
-    inodes: 64,
-};
 
 /// A run from a fresh volume.
 #[derive(Drop)]
-struct Run {
-    sizes: Sizes,
+pub struct Run {
+    pub sizes: Sizes,
     /// The lines that are made, in order.
-    lines: Vec<String>,
+    pub lines: Vec<String>,
     /// The lines that are read after each fault. They change nothing.
-    readings: Vec<String>,
+    pub readings: Vec<String>,
 }
 
 /// Why a walk ended before its last request.
 #[derive(Clone, Copy, Debug, PartialEq, Eq)]
-enum WalkEnd {
+pub enum WalkEnd {
     /// The core stopped.
     Stopped,
     /// The reply to this request, counted from 0, is not the definition's, or what is read after it is not what it allows.
@@ -325,8 +310,8 @@ fn failing_disk(
     Ok(disk)
 }
 
-/// Walks over such a disk.
-fn faults_of(
+/// Walks over such a disk, and counts the requests that met a fault.
+pub fn faults_of(
     alloc: Global,
     run: &Run,
     each: u64,
@@ -342,8 +327,8 @@ fn faults_of(
     Ok(ended)
 }
 
-/// A run of drawn lines on files, which reads all files after a fault.
-fn drawn_run(alloc: Global, seed: u64) -> Result<Run, AllocError> {
+/// A run of 300 drawn lines on files, which reads all files after a fault.
+pub fn drawn_run(alloc: Global, sizes: Sizes, seed: u64) -> Result<Run, AllocError> {
     let mut draws = Draws::new(seed);
     let mut lines = Vec::new(alloc);
     for _ in 0..300usize {
@@ -355,82 +340,8 @@ fn drawn_run(alloc: Global, seed: u64) -> Result<Run, AllocError> {
         readings.push(format!(in alloc; "read {path} 0 1048576")?)?;
     }
     Ok(Run {
-        sizes: EVICTING,
+        sizes,
         lines,
         readings,
     })
-}
-
-#[test]
-fn after_a_fault_each_file_is_as_the_definition_allows(rt: HostRuntime) -> Result<(), Fail> {
-    let mut met = 0u32;
-    for (seed, each) in [(1u64, 7u64), (2, 7), (3, 11), (4, 5), (5, 5)] {
-        let run = drawn_run(rt.alloc(), seed)?;
-        match faults_of(rt.alloc(), &run, each, 300)? {
-            Ok(count) => met = met.saturating_add(count),
-            Err(end) => panic!(rt; "{end:?} from {seed}"),
-        }
-    }
-    assert!(rt; met > 3, "{met} faults");
-    Ok(())
-}
-
-/// Transactions on two regions, of which the first has more pages than there are frames: the range of all its data, and its
-/// abort, take the pages of the second out of memory.
-const TRANSACTIONS: [&str; 17] = [
-    "create /f",
-    "write /f 0 0123456789abcdef",
-    "region /a 20 21",
-    "region /b 1 1",
-    "begin /b",
-    "range /b 0 16",
-    "put /b 0 11111111111111112222222222222222",
-    "begin /a",
-    "range /a 0 81920",
-    "alloc /b 3",
-    "put /a 4088 33333333333333334444444444444444",
-    "free /b 0",
-    "abort /a",
-    "put /b 8 5555555555555555",
-    "commit /b",
-    "begin /b",
-    "abort /b",
-];
-
-/// What is read after a fault in them.
-const READINGS: [&str; 5] = [
-    "read /f 0 16",
-    "get /a 4080 24",
-    "get /b 0 24",
-    "stat /a",
-    "txns",
-];
-
-/// These lines.
-fn lines_of(alloc: Global, lines: &[&str]) -> Result<Vec<String>, AllocError> {
-    let mut list = Vec::new(alloc);
-    for n in 0..lines.len() {
-        list.push(String::from_str(alloc, lines[n])?)?;
-    }
-    Ok(list)
-}
-
-#[test]
-fn each_fault_of_transactions_is_told_as_defined(rt: HostRuntime) -> Result<(), Fail> {
-    let run = Run {
-        sizes: SMALL,
-        lines: lines_of(rt.alloc(), &TRANSACTIONS)?,
-        readings: lines_of(rt.alloc(), &READINGS)?,
-    };
-    let mut met = 0u32;
-    for nth in 1..400u64 {
-        match faults_of(rt.alloc(), &run, nth, 1)? {
-            // The calls before were all there are.
-            Ok(0) => break,
-            Ok(count) => met = met.saturating_add(count),
-            Err(end) => panic!(rt; "{end:?} at call {nth}"),
-        }
-    }
-    assert!(rt; met > 100, "{met} faults");
-    Ok(())
 }

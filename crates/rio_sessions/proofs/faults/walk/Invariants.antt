@@ -1,5 +1,5 @@
 use Rattle.rio_model.specs.declared.state.State.{State}
-use Rattle.rio_server.proofs.fault_tests.all_read_as.Given as goal
+use Rattle.rio_sessions.proofs.faults.walk.Given as goal
 
 -- the core holds some state
 abbrev pub invariant-loop-n : goal.invariant-loop-n

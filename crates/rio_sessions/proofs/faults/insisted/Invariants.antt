@@ -1,9 +1,9 @@
 use Rattle.rio_model.specs.declared.state.State.{State}
-use Rattle.rio_server.proofs.fault_tests.walk.Given as goal
+use Rattle.rio_sessions.proofs.faults.insisted.Given as goal
 
 -- the core holds some state
-abbrev pub invariant-loop-n : goal.invariant-loop-n
-invariant-loop-n g l = record {
+abbrev pub invariant-tries : goal.invariant-tries
+invariant-tries g l = record {
   sound : g.C.Server.sound l.core;
   holds : (s : State) × g.C.Server.holds l.core s;
 }

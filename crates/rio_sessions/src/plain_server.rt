@@ -1,6 +1,6 @@
 //! A server that answers each line by the plain definition, over the state alone.
 
-use crate::test_cores::Sizes;
+use crate::served::Sizes;
 use request_codec::{parse_line, write_reply};
 use rio_base::{Ino, VolumeShape};
 use rio_fakes::MemSink;
@@ -9,7 +9,7 @@ use rio_requests::{Answered, Reply, Request, answer};
 use std::alloc::{AllocError, Global};
 
 /// The state with the root directory alone.
-pub(crate) fn root_alone(alloc: Global, sizes: Sizes) -> Result<State, AllocError> {
+pub fn root_alone(alloc: Global, sizes: Sizes) -> Result<State, AllocError> {
     let root = NodeRow {
         ino: Ino(1),
         node: Node::Dir,
@@ -29,7 +29,7 @@ pub(crate) fn root_alone(alloc: Global, sizes: Sizes) -> Result<State, AllocErro
 }
 
 /// The text of a reply.
-pub(crate) fn text_of(alloc: Global, reply: &Reply) -> Result<Vec<u8>, AllocError> {
+pub fn text_of(alloc: Global, reply: &Reply) -> Result<Vec<u8>, AllocError> {
     let mut sink = MemSink::new(alloc);
     let _sent = write_reply(reply, &mut sink);
     Vec::from_slice(alloc, sink.bytes().as_slice())
@@ -61,7 +61,7 @@ fn answered(alloc: Global, s: &State, request: &Option<Request>) -> Result<Answe
 }
 
 /// Answers a line: the state after it, and its reply behind those before it.
-pub(crate) fn answer_line(
+pub fn answer_line(
     alloc: Global,
     s: State,
     line: &str,

@@ -1,0 +1,169 @@
+//! The files of a session, in memory: what the script puts there, and what it asks about them.
+
+use rio_base::Host;
+use rio_fakes::{MemHost, MemSink, MemSource};
+use rio_server::run;
+use std::alloc::{AllocError, Global};
+use std::mem;
+use test_scripts::{first_word, number, tell_line};
+
+/// A fresh pair of an image with 64 frames and a volume of 256 blocks.
+const FRESH: &str = "format m d --frames 64 --blocks 256 --inodes 64 --scratch 1";
+
+/// Files in memory, and the bytes that one of them had when it was kept.
+#[derive(Drop)]
+pub struct Shelf {
+    alloc: Global,
+    host: MemHost,
+    kept: Vec<u8>,
+}
+
+impl Shelf {
+    /// No file.
+    pub fn new(alloc: Global) -> Shelf {
+        Shelf {
+            alloc,
+            host: MemHost::new(alloc),
+            kept: Vec::new(alloc),
+        }
+    }
+
+    /// Hands the files out, and has none.
+    pub fn take(&mut self) -> MemHost {
+        mem::replace(&mut self.host, MemHost::new(self.alloc))
+    }
+
+    /// Has these files.
+    pub fn put_back(&mut self, host: MemHost) {
+        self.host = host;
+    }
+
+    /// Does what a line says of files, and tells what it asks. Whether the word is one of files is the answer.
+    pub fn act(&mut self, word: &str, rest: &str, out: &mut Vec<u8>) -> Result<bool, AllocError> {
+        let (name, value) = first_word(rest);
+        let name = String::from_str(self.alloc, name)?;
+        match word {
+            "fresh" => self.make_fresh_pair()?,
+            "file" => self.host.put(&name, value.as_bytes())?,
+            "patch" => self.patch(&name, value)?,
+            "cut" => self.cut(&name, value)?,
+            "lengthen" => self.lengthen(&name, value)?,
+            "keep" => self.kept = self.bytes_of(&name)?,
+            "host-fails" => self.host.fail_call(number(rest).max(1))?,
+            _ => return self.tell_of(word, &name, value, out),
+        }
+        Ok(true)
+    }
+
+    /// Tells what a line asks about files.
+    fn tell_of(
+        &mut self,
+        word: &str,
+        name: &String,
+        value: &str,
+        out: &mut Vec<u8>,
+    ) -> Result<bool, AllocError> {
+        match word {
+            "same" => self.tell_whether_same(name, out)?,
+            "size" => self.tell_size(name, out)?,
+            "bytes" => tell_line(out, self.bytes_of(name)?.as_slice())?,
+            "word" => self.tell_word(name, value, out)?,
+            "host-faults" => {
+                let faults = self.host.faults();
+                tell_line(out, format!(in self.alloc; "{faults}")?.as_bytes())?;
+            }
+            _ => return Ok(false),
+        }
+        Ok(true)
+    }
+
+    /// The bytes of a file, or none where there is no such file.
+    fn bytes_of(&self, name: &String) -> Result<Vec<u8>, AllocError> {
+        match self.host.file(name) {
+            Some(bytes) => Vec::from_slice(self.alloc, bytes.as_slice()),
+            None => Ok(Vec::new(self.alloc)),
+        }
+    }
+
+    /// Makes a fresh pair, `m` and `d`.
+    fn make_fresh_pair(&mut self) -> Result<(), AllocError> {
+        let words = words_of(self.alloc, FRESH)?;
+        let mut source = MemSource::new(self.alloc, b"", 1)?;
+        let mut sink = MemSink::new(self.alloc);
+        let host = self.take();
+        let (_, host) = run(self.alloc, &words, &mut source, &mut sink, host);
+        self.put_back(host);
+        Ok(())
+    }
+
+    /// Writes a word into a file, at the place of a word.
+    fn patch(&mut self, name: &String, value: &str) -> Result<(), AllocError> {
+        let (place, word) = first_word(value);
+        let word = number(word).to_le_bytes();
+        let written = self
+            .host
+            .write_at(name, number(place).saturating_mul(8), word.as_slice());
+        written.map_err(|_| AllocError)
+    }
+
+    /// Takes all bytes of a file away but the first.
+    fn cut(&mut self, name: &String, size: &str) -> Result<(), AllocError> {
+        let mut bytes = self.bytes_of(name)?;
+        bytes.truncate(number(size) as usize);
+        self.host.put(name, bytes.as_slice())
+    }
+
+    /// Writes a zero as the last byte that a file of this size has.
+    fn lengthen(&mut self, name: &String, size: &str) -> Result<(), AllocError> {
+        let written = self
+            .host
+            .write_at(name, number(size).saturating_sub(1), b"\0");
+        written.map_err(|_| AllocError)
+    }
+
+    /// Tells whether a file has the bytes that were kept.
+    fn tell_whether_same(&self, name: &String, out: &mut Vec<u8>) -> Result<(), AllocError> {
+        let bytes = self.bytes_of(name)?;
+        if bytes.as_slice() == self.kept.as_slice() {
+            tell_line(out, b"yes")
+        } else {
+            tell_line(out, b"no")
+        }
+    }
+
+    /// Tells how many bytes a file has.
+    fn tell_size(&self, name: &String, out: &mut Vec<u8>) -> Result<(), AllocError> {
+        match self.host.file(name) {
+            Some(bytes) => {
+                let size = bytes.len();
+                tell_line(out, format!(in self.alloc; "{size}")?.as_bytes())
+            }
+            None => tell_line(out, b"no file"),
+        }
+    }
+
+    /// Tells the eight bytes of a file's word.
+    fn tell_word(&self, name: &String, place: &str, out: &mut Vec<u8>) -> Result<(), AllocError> {
+        let bytes = self.bytes_of(name)?;
+        let Some(word) = bytes.as_slice().chunks_exact(8).nth(number(place) as usize) else {
+            return tell_line(out, b"no word");
+        };
+        let mut text = String::new(self.alloc);
+        for byte in word {
+            text.push_str(format!(in self.alloc; "{byte:02x}")?.as_str())?;
+        }
+        tell_line(out, text.as_bytes())
+    }
+}
+
+/// The words of a command, which has one space between them. An empty one has none.
+pub fn words_of(alloc: Global, command: &str) -> Result<Vec<String>, AllocError> {
+    let mut words = Vec::new(alloc);
+    if command.is_empty() {
+        return Ok(words);
+    }
+    for word in command.split(' ') {
+        words.push(String::from_str(alloc, word)?)?;
+    }
+    Ok(words)
+}

@@ -1,0 +1,92 @@
+//! Cores of any size, served from lines in memory.
+
+ghost use Rattle.std.specs.Prelude.{IfOk, IfSome};
+ghost use Rattle.block_disk.specs.MemDisks.{state_of};
+ghost use Rattle.rio_base.specs.Image.{AreImageSizes};
+ghost use Rattle.image_codec.specs.Volume.{IsVolumeShape};
+ghost use Rattle.rio_server.specs.FreshMachines.{IsFreshDisk};
+
+use block_disk::MemDisk;
+use rio_base::{Block, VolumeShape};
+use rio_fakes::{MemSink, MemSource};
+use rio_server::{FormatSizes, ServeEnd, fresh_core, fresh_disk, serve, sizes_of};
+use std::alloc::{AllocError, Global};
+
+/// A volume that is served, and the frames of the memory before it.
+#[derive(Clone, Copy, Debug)]
+pub struct Sizes {
+    pub frames: u32,
+    pub blocks: u32,
+    pub inodes: u32,
+}
+
+/// Those that the program serves.
+pub const SERVED: Sizes = Sizes {
+    frames: 64,
+    blocks: 256,
+    inodes: 64,
+};
+
+/// A block that the disk fails to read so many times.
+#[derive(Clone, Copy, Debug)]
+pub struct BadBlock {
+    pub block: Block,
+    pub reads: u64,
+}
+
+/// These sizes, where there can be such a machine.
+pub fn checked(sizes: Sizes) -> Option<FormatSizes>
+    ensures { IfSome result (λ found. AreImageSizes found.frames 1 × IsVolumeShape found.shape) }
+{
+    let frames = u64::from(sizes.frames);
+    let blocks = u64::from(sizes.blocks);
+    let inodes = u64::from(sizes.inodes);
+    match sizes_of(frames, blocks, inodes, 1) {
+        Some(found) => Some(found),
+        None => None,
+    }
+}
+
+/// What a served run left.
+#[derive(Drop)]
+pub struct Served {
+    pub end: ServeEnd,
+    pub text: Vec<u8>,
+    /// How many blocks were written to the disk.
+    pub writes: u64,
+}
+
+/// A disk with a fresh volume, of which the first reads of a block fail.
+fn disk_failing_at(alloc: Global, shape: &VolumeShape, bad: BadBlock) -> Result<MemDisk, AllocError>
+    requires shape { IsVolumeShape shape.now }
+    ensures { IfOk result (λ d. IsFreshDisk shape.now (state_of d).blocks (state_of d).pending) }
+{
+    let mut disk = fresh_disk(alloc, shape)?;
+    disk.fail_reads(bad.block, bad.reads);
+    Ok(disk)
+}
+
+/// Serves lines from a fresh volume on such a disk. They come in pieces of `most` bytes.
+pub fn serve_lines_of(
+    alloc: Global,
+    sizes: Sizes,
+    bad: BadBlock,
+    input: &[u8],
+    most: usize,
+) -> Result<Served, AllocError> {
+    let Some(found) = checked(sizes) else {
+        return Err(AllocError);
+    };
+    let mut source = MemSource::new(alloc, input, most.max(1))?;
+    let mut sink = MemSink::new(alloc);
+    let disk = disk_failing_at(alloc, &found.shape, bad)?;
+    let mut core = fresh_core(alloc, found.frames, found.shape, disk)?;
+    let end = serve(alloc, &mut core, &mut source, &mut sink);
+    let (_, disk) = core.into_machine().into_parts();
+    let text = Vec::from_slice(alloc, sink.bytes().as_slice())?;
+    Ok(Served {
+        end,
+        text,
+        writes: disk.writes(),
+    })
+}

@@ -1,0 +1,82 @@
+//! Walks of drawn requests, whose replies are those of the plain definition.
+
+use crate::drawn_lines::{Draws, drawn_flush, drawn_line};
+use crate::plain_server::{answer_line, root_alone};
+use crate::served::Sizes;
+use std::alloc::{AllocError, Global};
+
+/// What is drawn.
+#[derive(Clone, Copy, Debug)]
+pub struct Mix {
+    /// How many of 16 lines are on regions.
+    regions: u32,
+    /// Whether some lines between the others flush. The others are the same.
+    flushes: bool,
+}
+
+impl Mix {
+    /// The mix of this name: `files`, `flushed-files`, `regions` or `flushed-regions`. Of the last two most lines are on
+    /// regions.
+    pub fn named(name: &str) -> Option<Mix> {
+        let (regions, flushes) = match name {
+            "files" => (0, false),
+            "flushed-files" => (0, true),
+            "regions" => (13, false),
+            "flushed-regions" => (13, true),
+            _ => return None,
+        };
+        Some(Mix { regions, flushes })
+    }
+}
+
+/// Request lines, and what they are answered.
+#[derive(Drop)]
+pub struct Walk {
+    pub input: String,
+    pub wanted: Vec<u8>,
+}
+
+/// Draws a walk of `count` lines, and as many flushes as are put between.
+pub fn walk_of(
+    alloc: Global,
+    sizes: Sizes,
+    mix: Mix,
+    seed: u64,
+    count: u64,
+) -> Result<Walk, AllocError> {
+    let mut draws = Draws::new(seed);
+    let mut flush_draws = Draws::new(seed.wrapping_add(1));
+    let mut s = root_alone(alloc, sizes)?;
+    let mut input = String::new(alloc);
+    let mut wanted = Vec::new(alloc);
+    for _ in 0..count {
+        if mix.flushes && flush_draws.below(8) == 0 {
+            let line = drawn_flush(alloc, &mut flush_draws)?;
+            s = answer_line(alloc, s, line.as_str(), &mut wanted)?;
+            input.push_str(line.as_str())?;
+            input.push('\n')?;
+        }
+        let line = drawn_line(alloc, &mut draws, mix.regions)?;
+        s = answer_line(alloc, s, line.as_str(), &mut wanted)?;
+        input.push_str(line.as_str())?;
+        input.push('\n')?;
+    }
+    Ok(Walk { input, wanted })
+}
+
+/// The number of the first line, from 1, in which two texts differ, or `None` where they are the same.
+pub fn line_that_differs(came: &[u8], wanted: &[u8]) -> Option<usize> {
+    if came == wanted {
+        return None;
+    }
+    let mut line = 1usize;
+    for (a, b) in came.iter().zip(wanted.iter()) {
+        if a != b {
+            return Some(line);
+        }
+        if *a == b'\n' {
+            line = line.saturating_add(1);
+        }
+    }
+    Some(line)
+}
