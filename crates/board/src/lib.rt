@@ -3,7 +3,5 @@
 
 mod board;
 mod guard;
-#[cfg(test)]
-mod guard_tests;
 
 pub use board::Board;

@@ -1,10 +1,6 @@
 pub mod BlankImages
 pub mod CachePlaces
-pub mod Covers
 pub mod DirtyPages
-pub mod Reading
 pub mod TestImages
 pub mod TwoEntries
 pub mod WalkNames
-pub mod WorkedPair
-pub mod WorkedPairLaws

@@ -1,11 +1,11 @@
 -- The words of a machine whose memory is an image with 64 frames and one scratch page.
-use Rattle.std.specs.Prelude.{◌≡◌, ℕ, ◌+◌, ◌-◌, ◌*◌, ◌%◌, ◌<◌, ◌≤◌, ◌==◌, true, false, Bool, List, length, slice_index, take, drop, None}
-use Rattle.std.proofs.Common.{◌∙◌, ap, sym, subst, arith, eq-eqb, get_or-take}
+use Rattle.std.specs.Prelude.{◌≡◌, ℕ, ◌+◌, ◌-◌, ◌*◌, ◌%◌, ◌<◌, ◌≤◌, ◌==◌, true, false, List, length, slice_index, take, drop, None}
+use Rattle.std.proofs.Common.{◌∙◌, ap, sym, subst, arith, get_or-take}
 use Rattle.rio_base.specs.Image.{AreImageSizes, entry_at, image_pages, registry_pages}
 use Rattle.rio_base.specs.Machine.{Contents, Running}
 use Rattle.rio_base.specs.Rules.{true_false}
 use Rattle.image_codec.specs.Image.{IsImage}
-use Rattle.rio_model.specs.Registry.{frames_of, is_valid, tag_at, tag_of, without_dirty}
+use Rattle.rio_model.specs.Registry.{frames_of, is_valid, tag_at, without_dirty}
 use Rattle.rio_model.proofs.RegistryRules.{layout_of}
 use Rattle.registry.specs.Changes.{CanChange}
 use Rattle.registry.specs.Entries.{IsFree}
@@ -52,9 +52,3 @@ still_valid tag valid = ap (λ n. n == 1) (same tag) ∙ valid
   where
     same : (tag : ℕ) → without_dirty tag % 2 ≡ tag % 2
     same tag = omega arith
-
-pub valid_tag : (block : ℕ) (dirty named : Bool) → is_valid (tag_of block dirty named) ≡ true
-valid_tag block true true = eq-eqb _ 1 (omega arith)
-valid_tag block true false = eq-eqb _ 1 (omega arith)
-valid_tag block false true = eq-eqb _ 1 (omega arith)
-valid_tag block false false = eq-eqb _ 1 (omega arith)

@@ -1,5 +1,4 @@
 pub mod Blanks
-pub mod Covers
 pub mod Ready
 pub mod TwoEntries
 pub mod Walks

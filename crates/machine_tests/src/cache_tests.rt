@@ -1,14 +1,14 @@
 //! Tests of the page cache by short rows of calls: which block leaves the cache, and what stands of an update that is
 //! stopped.
 
-ghost use Rattle.std.specs.Prelude.{◌≡◌, ◌+◌, ◌<◌, ◌≤◌, true, false, IfOk, OnOk, length};
-ghost use Rattle.rio_base.specs.Volume.{SameUpdate};
+ghost use Rattle.std.specs.Prelude.{◌≡◌, ◌+◌, ◌<◌, ◌≤◌, true, false, OnOk};
 ghost use Rattle.machine_tests.specs.Walks.{Walks};
 
-use crate::block_lists::{BLOCK_WORDS, BLOCKS};
 use crate::cache_walks::cache_of;
 use crate::crashes::crashed;
+use crate::same::same;
 use block_disk::{DiskChoice, MemDisk};
+use machine_readers::{BLOCK_WORDS, BLOCKS};
 use rio_base::{Block, Blocks, VolFail, Volume};
 use std::alloc::Global;
 use std::test::Fail;
@@ -66,9 +66,8 @@ fn lent_after(alloc: Global) -> Result<(Result<(), VolFail>, [bool; 4]), Fail> {
 
 #[test]
 fn the_block_used_longest_ago_leaves(rt: HostRuntime) -> Result<(), Fail> {
-    let (end, lent) = lent_after(rt.alloc())?;
-    assert_eq!(rt; end, Ok(()));
-    assert_eq!(rt; lent, [true, false, true, true]);
+    let due = (Ok(()), [true, false, true, true]);
+    same(&rt, "what is in memory", 0, &lent_after(rt.alloc())?, &due);
     Ok(())
 }
 
@@ -105,35 +104,49 @@ fn update_two<V: Volume>(v: &mut V) -> Result<(), VolFail>
     Ok(())
 }
 
-/// How the update ends that stops after so many steps, and the first words of the two blocks that stand then.
-fn stopped_update(alloc: Global, steps: u64) -> Result<(Result<(), VolFail>, [u64; 2]), Fail> {
-    let disk = MemDisk::new(alloc, BLOCKS)?;
-    let mut v = cache_of(alloc, 32, disk, Some(steps))?;
-    let end = update_two(&mut v);
-    let (mem, disk) = v.into_machine().into_parts();
-    let found = crashed(alloc, &mem.into_words(), disk, DiskChoice::AsSynced)?;
-    Ok((end, [found[BLOCK_WORDS * 5], found[BLOCK_WORDS * 6]]))
+/// What stands of the first words of the two blocks.
+#[derive(Clone, Copy, Debug, PartialEq, Eq)]
+enum Stands {
+    /// Both as before, or both as the update makes them.
+    Whole,
+    /// Anything else.
+    Torn([u64; 2]),
 }
 
-/// How many steps the update takes.
-fn update_steps(alloc: Global) -> Result<u64, Fail> {
+/// How the update ends that stops after so many steps, if it does, how many it made, and the first words of the two blocks
+/// that stand then.
+fn updated(
+    alloc: Global,
+    stop_after: Option<u64>,
+) -> Result<(Result<(), VolFail>, u64, [u64; 2]), Fail> {
     let disk = MemDisk::new(alloc, BLOCKS)?;
-    let mut v = cache_of(alloc, 32, disk, None)?;
-    let _end = update_two(&mut v);
-    Ok(v.into_machine().steps())
+    let mut v = cache_of(alloc, 32, disk, stop_after)?;
+    let end = update_two(&mut v);
+    let machine = v.into_machine();
+    let steps = machine.steps();
+    let (mem, disk) = machine.into_parts();
+    let found = crashed(alloc, &mem.into_words(), disk, DiskChoice::AsSynced)?;
+    Ok((end, steps, [found[BLOCK_WORDS * 5], found[BLOCK_WORDS * 6]]))
+}
+
+/// How the update ends that stops after so many steps, and what stands then.
+fn stopped_update(alloc: Global, steps: u64) -> Result<(Result<(), VolFail>, Stands), Fail> {
+    let (end, _, words) = updated(alloc, Some(steps))?;
+    if words == [0, 0] || words == [7, 7] {
+        return Ok((end, Stands::Whole));
+    }
+    Ok((end, Stands::Torn(words)))
 }
 
 #[test]
 fn an_update_over_a_cache_stands_whole(rt: HostRuntime) -> Result<(), Fail> {
-    let all = update_steps(rt.alloc())?;
+    let (_, all, _) = updated(rt.alloc(), None)?;
+    let due = (Err(VolFail::Stopped), Stands::Whole);
     for steps in 0..all {
-        let (end, words) = stopped_update(rt.alloc(), steps)?;
-        assert_eq!(rt; end, Err(VolFail::Stopped), "after {steps} steps");
-        assert!(rt;
-            words == [0, 0] || words == [7, 7],
-            "after {steps} steps: {words:?}"
-        );
+        let came = stopped_update(rt.alloc(), steps)?;
+        same(&rt, "steps", steps as usize, &came, &due);
     }
-    assert_eq!(rt; stopped_update(rt.alloc(), all)?, (Ok(()), [7, 7]));
+    let came = updated(rt.alloc(), Some(all))?;
+    same(&rt, "all steps", 0, &came, &(Ok(()), all, [7, 7]));
     Ok(())
 }

@@ -8,19 +8,21 @@ ghost use Rattle.rio_base.specs.Image.{AreImageSizes, entry_at};
 ghost use Rattle.machine_tests.specs.Blanks.{IsBlank};
 ghost use Rattle.machine_tests.specs.Walks.{Walks};
 
-use crate::block_lists::BLOCKS;
 use crate::crashes::{is_unwritten, judge_crash};
 use crate::draws::Draws;
-use crate::machines::{MemBoard, board_on};
+use crate::machines::{MemBoard, Mishap, board_on, disk_of};
 use crate::plain_blocks::PlainBlocks;
-use crate::walk::{WalkEnd, read_all, walk};
+use crate::same::same;
+use crate::walk::{WalkEnd, walk_through};
 use block_disk::{DiskChoice, MemDisk};
 use board::Board;
 use image_codec::fresh_image;
+use machine_readers::BLOCKS;
 use page_cache::{CacheTables, PageCache};
 use phys_memory::ListMem;
 use rio_base::{Block, Blocks, Machine, Volume};
 use std::alloc::{AllocError, Global};
+use std::process::Abort;
 use std::test::Fail;
 
 /// The words of a fresh image with so many frames and one scratch page. The header is looked at, so that its sizes and its
@@ -84,147 +86,129 @@ pub(crate) fn cache_of(
     Ok(PageCache::start(machine, tables))
 }
 
-/// What a walk over a cache left.
-pub(crate) struct Walked {
-    /// How the walk ended.
-    pub(crate) end: Result<(), WalkEnd>,
-    /// What reading all blocks found after it.
-    pub(crate) read: Result<(), WalkEnd>,
-    pub(crate) mem: ListMem,
-    pub(crate) disk: MemDisk,
-}
-
-/// Makes so many drawn actions on a cache with 32 frames, and reads all blocks.
-fn walk_cache(
-    alloc: Global,
-    disk: MemDisk,
-    plain: &mut PlainBlocks,
+/// A walk over a cache.
+#[derive(Clone, Copy)]
+struct Course {
     seed: u64,
     actions: u32,
-) -> Result<Walked, AllocError>
-    requires disk { length (state_of disk).blocks ≡ 64 }
-{
-    let mut v = cache_of(alloc, 32, disk, None)?;
-    let end = walk(&mut v, plain, &mut Draws::new(seed, true), actions);
-    let read = read_all(&mut v, plain);
-    let (mem, disk) = v.into_machine().into_parts();
-    Ok(Walked {
-        end,
-        read,
-        mem,
-        disk,
-    })
+    /// The cache has a frame for each block, and nothing is flushed. Else it has 32 frames.
+    roomy: bool,
+    mishap: Mishap,
 }
+
+/// Makes the actions of a walk on a cache with no block in it, reads all blocks, and takes the cache apart where the walk
+/// ends. Answers how it ended.
+fn walked(
+    alloc: Global,
+    plain: &mut PlainBlocks,
+    course: Course,
+) -> Result<(Result<(), WalkEnd>, ListMem, MemDisk), AllocError> {
+    let disk = disk_of(alloc, BLOCKS, course.mishap)?;
+    let frames = if course.roomy { 64 } else { 32 };
+    let mut v = cache_of(alloc, frames, disk, course.mishap.stop_after())?;
+    let mut draws = Draws::new(course.seed, !course.roomy);
+    let end = walk_through(&mut v, plain, &mut draws, course.actions);
+    let (mem, disk) = v.into_machine().into_parts();
+    Ok((end, mem, disk))
+}
+
+/// How a walk ended, and the first block that stands otherwise than the plain lists say where the disk then crashes.
+#[derive(Clone, Copy, Debug, PartialEq, Eq)]
+struct Outcome {
+    end: Result<(), WalkEnd>,
+    wrong: Option<Block>,
+}
+
+/// What comes of a walk, where the disk crashes so.
+fn outcome_of(alloc: Global, course: Course, choice: DiskChoice) -> Result<Outcome, Fail> {
+    let mut plain = PlainBlocks::new(alloc)?;
+    let (end, mem, disk) = walked(alloc, &mut plain, course)?;
+    let wrong = judge_crash(alloc, mem, disk, choice, &mut plain)?;
+    Ok(Outcome { end, wrong })
+}
+
+/// What must come of a walk that is not stopped.
+const WHOLE: Outcome = Outcome {
+    end: Ok(()),
+    wrong: None,
+};
 
 #[test]
 fn a_cache_is_walked(rt: HostRuntime) -> Result<(), Fail> {
     for seed in 1..4 {
-        let mut plain = PlainBlocks::new(rt.alloc())?;
-        let disk = MemDisk::new(rt.alloc(), BLOCKS)?;
-        let left = walk_cache(rt.alloc(), disk, &mut plain, seed, 4_000)?;
-        let Walked {
-            end,
-            read,
-            mem,
-            disk,
-        } = left;
-        assert_eq!(rt; end, Ok(()), "seed {seed}");
-        assert_eq!(rt; read, Ok(()), "seed {seed}");
-        let wrong = judge_crash(rt.alloc(), mem, disk, DiskChoice::AsSynced, &mut plain)?;
-        assert_eq!(rt; wrong, None, "seed {seed}");
+        let course = Course {
+            seed,
+            actions: 4_000,
+            roomy: false,
+            mishap: Mishap::Nothing,
+        };
+        let came = outcome_of(rt.alloc(), course, DiskChoice::AsSynced)?;
+        same(&rt, "seeds", seed as usize, &came, &WHOLE);
     }
     Ok(())
-}
-
-/// A disk of 64 blocks whose `n`th call fails.
-fn failing_disk(alloc: Global, n: u64) -> Result<MemDisk, AllocError>
-    requires { 0 < n }
-    ensures { IfOk result (λ disk. length (state_of disk).blocks ≡ 64) }
-{
-    let mut disk = MemDisk::new(alloc, BLOCKS)?;
-    disk.fail_call(n)?;
-    Ok(disk)
 }
 
 #[test]
 fn a_cache_whose_disk_fails_is_walked(rt: HostRuntime) -> Result<(), Fail> {
     for n in 1..100 {
-        let mut plain = PlainBlocks::new(rt.alloc())?;
-        let disk = failing_disk(rt.alloc(), n)?;
-        let left = walk_cache(rt.alloc(), disk, &mut plain, 4, 200)?;
-        let Walked {
-            end,
-            read,
-            mem,
-            disk,
-        } = left;
-        assert_eq!(rt; end, Ok(()), "call {n}");
-        assert_eq!(rt; read, Ok(()), "call {n}");
-        let wrong = judge_crash(rt.alloc(), mem, disk, DiskChoice::AsSynced, &mut plain)?;
-        assert_eq!(rt; wrong, None, "call {n}");
+        let course = Course {
+            seed: 4,
+            actions: 200,
+            roomy: false,
+            mishap: Mishap::Fault(n),
+        };
+        let came = outcome_of(rt.alloc(), course, DiskChoice::AsSynced)?;
+        same(&rt, "calls of the disk", n as usize, &came, &WHOLE);
     }
     Ok(())
 }
 
-/// Walks a cache that stops after so many steps, and takes it apart where the walk ends. Answers how it ended.
-fn cut_walk(
-    alloc: Global,
-    plain: &mut PlainBlocks,
-    steps: u64,
-) -> Result<(Result<(), WalkEnd>, ListMem, MemDisk), AllocError> {
-    let disk = MemDisk::new(alloc, BLOCKS)?;
-    let mut v = cache_of(alloc, 32, disk, Some(steps))?;
-    let end = walk(&mut v, plain, &mut Draws::new(5, true), 4_000);
-    let (mem, disk) = v.into_machine().into_parts();
-    Ok((end, mem, disk))
-}
-
-/// How a walk ended that was stopped after so many steps, and the first block that stands otherwise than the plain lists
-/// say where the disk then crashes so.
-fn judged(
-    alloc: Global,
-    steps: u64,
-    choice: DiskChoice,
-) -> Result<(Result<(), WalkEnd>, Option<Block>), Fail> {
-    let mut plain = PlainBlocks::new(alloc)?;
-    let (end, mem, disk) = cut_walk(alloc, &mut plain, steps)?;
-    let wrong = judge_crash(alloc, mem, disk, choice, &mut plain)?;
-    Ok((end, wrong))
+/// Compares what comes of a walk that is stopped after so many steps, for each choice of how the disk crashes.
+fn check_stop(rt: &impl Abort, alloc: Global, steps: u64) -> Result<(), Fail> {
+    let course = Course {
+        seed: 5,
+        actions: 4_000,
+        roomy: false,
+        mishap: Mishap::Stop(steps),
+    };
+    let due = Outcome {
+        end: Err(WalkEnd::Stopped),
+        wrong: None,
+    };
+    for (name, choice) in [
+        ("steps, as read", DiskChoice::AsRead),
+        ("steps, as synced", DiskChoice::AsSynced),
+        ("steps, filled", DiskChoice::Filled(0xab)),
+    ] {
+        let came = outcome_of(alloc, course, choice)?;
+        same(rt, name, steps as usize, &came, &due);
+    }
+    Ok(())
 }
 
 #[test]
 fn a_walk_over_a_cache_is_stopped_at_each_step(rt: HostRuntime) -> Result<(), Fail> {
-    let stopped = (Err(WalkEnd::Stopped), None);
     for steps in 0..3_000 {
-        for choice in [
-            DiskChoice::AsRead,
-            DiskChoice::AsSynced,
-            DiskChoice::Filled(0xab),
-        ] {
-            let found = judged(rt.alloc(), steps, choice)?;
-            assert_eq!(rt; found, stopped, "after {steps} steps, {choice:?}");
-        }
+        check_stop(&rt, rt.alloc(), steps)?;
     }
     Ok(())
 }
 
-/// How a walk without flushes over a cache with a frame for each block ended, and its disk.
-fn walk_roomy(
-    alloc: Global,
-    plain: &mut PlainBlocks,
-) -> Result<(Result<(), WalkEnd>, MemDisk), AllocError> {
-    let disk = MemDisk::new(alloc, BLOCKS)?;
-    let mut v = cache_of(alloc, 64, disk, None)?;
-    let end = walk(&mut v, plain, &mut Draws::new(6, false), 2_000);
-    let (_, disk) = v.into_machine().into_parts();
-    Ok((end, disk))
+/// How a walk without flushes over a cache with a frame for each block ends, and whether it wrote no block.
+fn roomy_walk(alloc: Global) -> Result<(Result<(), WalkEnd>, bool), Fail> {
+    let mut plain = PlainBlocks::new(alloc)?;
+    let course = Course {
+        seed: 6,
+        actions: 2_000,
+        roomy: true,
+        mishap: Mishap::Nothing,
+    };
+    let (end, _, disk) = walked(alloc, &mut plain, course)?;
+    Ok((end, is_unwritten(alloc, disk)?))
 }
 
 #[test]
 fn a_roomy_cache_writes_only_at_flushes(rt: HostRuntime) -> Result<(), Fail> {
-    let mut plain = PlainBlocks::new(rt.alloc())?;
-    let (end, disk) = walk_roomy(rt.alloc(), &mut plain)?;
-    assert_eq!(rt; end, Ok(()));
-    assert!(rt; is_unwritten(rt.alloc(), disk)?);
+    same(&rt, "walks", 0, &roomy_walk(rt.alloc())?, &(Ok(()), true));
     Ok(())
 }

@@ -1,10 +1,8 @@
 //! Machines with dirty pages, for the tests of what writes back: 64 frames, one page of scratch, and a disk of 8 blocks.
 //! The first entries are dirty: entry k is of block k, and the first word of its page is 10 + k. The disk's blocks are 0.
 
-ghost use Rattle.std.specs.Prelude.{◌≡◌, ◌<◌, ◌≤◌, ◌+◌, ◌*◌, ◌^◌, ◌%◌, ℕ, true, false, None, IsTrue, IfOk, length};
+ghost use Rattle.std.specs.Prelude.{◌≡◌, ◌<◌, ◌≤◌, ◌+◌, ◌*◌, ℕ, true, false, None, IsTrue, IfOk, length};
 ghost use Rattle.block_disk.specs.MemDisks.{state_of};
-ghost use Rattle.phys_memory.specs.ListMem.{words_of};
-ghost use Rattle.rio_base.specs.Disks.{block_at};
 ghost use Rattle.rio_model.specs.Registry.{HasLayout, frames_of, tag_at};
 ghost use Rattle.machine_tests.specs.Ready.{IsTestHeader, NoneOrDirty, Ready};
 

@@ -5,6 +5,7 @@ ghost use Rattle.std.specs.Prelude.{◌≡◌, None, IfOk, length};
 use crate::crashes::{is_unwritten, judge_crash};
 use crate::machines::MemBoard;
 use crate::plain_blocks::{PlainBlocks, Stands};
+use crate::same::same;
 use block_disk::{DiskChoice, MemDisk};
 use board::Board;
 use phys_memory::ListMem;
@@ -33,8 +34,9 @@ fn written_disk(alloc: Global) -> Result<MemDisk, Fail> {
 #[test]
 fn a_written_block_is_told(rt: HostRuntime) -> Result<(), Fail> {
     let (_, disk) = zero_board(rt.alloc())?.into_parts();
-    assert!(rt; is_unwritten(rt.alloc(), disk)?);
-    assert!(rt; !is_unwritten(rt.alloc(), written_disk(rt.alloc())?)?);
+    let fresh = is_unwritten(rt.alloc(), disk)?;
+    let written = is_unwritten(rt.alloc(), written_disk(rt.alloc())?)?;
+    same(&rt, "unwritten", 0, &[fresh, written], &[true, false]);
     Ok(())
 }
 
@@ -50,12 +52,20 @@ fn judged(alloc: Global, choice: DiskChoice, stands: Stands) -> Result<Option<Bl
 
 #[test]
 fn a_crash_is_judged(rt: HostRuntime) -> Result<(), Fail> {
-    for (choice, wrong) in [
+    let rows = [
         (DiskChoice::AsRead, None),
         (DiskChoice::AsSynced, None),
         (DiskChoice::Filled(7), Some(Block(3))),
-    ] {
-        assert_eq!(rt; judged(rt.alloc(), choice, Stands::Front)?, wrong);
+    ];
+    for k in 0..rows.len() {
+        let (choice, due) = rows[k];
+        same(
+            &rt,
+            "crashes",
+            k,
+            &judged(rt.alloc(), choice, Stands::Front)?,
+            &due,
+        );
     }
     Ok(())
 }

@@ -2,10 +2,9 @@
 
 ghost use Rattle.std.specs.Prelude.{◌≡◌, IfOk, length};
 
-use crate::block_lists::{ALL_WORDS, BLOCKS, zeros};
 use crate::plain_blocks::PlainBlocks;
-use crate::standing::standing_words;
 use block_disk::{DiskChoice, MemDisk};
+use machine_readers::{ALL_WORDS, BLOCKS, standing_words, zeros};
 use phys_memory::ListMem;
 use rio_base::{Block, DiskBlocks};
 use std::alloc::Global;

@@ -5,13 +5,14 @@ ghost use Rattle.rio_model.specs.Registry.{frames_of, is_valid, tag_at};
 ghost use Rattle.registry.specs.Changes.{CanChange};
 ghost use Rattle.registry.specs.Entries.{IsFree};
 
-use crate::machines::{MemBoard, board_over};
+use crate::machines::{MemBoard, board_with};
+use crate::same::same;
 use block_disk::MemDisk;
 use board::Board;
 use image_codec::fresh_image;
 use phys_memory::ListMem;
 use registry::{
-    BadImage, Entry, Tag, check_image, clear, install, load_tag, read_entry, set_clean, set_dirty,
+    BadImage, Entry, check_image, clear, install, load_tag, read_entry, set_clean, set_dirty,
     set_shadow, set_size,
 };
 use rio_base::{Block, Ino, Machine, PageName, Stopped};
@@ -32,11 +33,11 @@ fn image_machine(alloc: Global, stop_after: Option<u64>) -> Result<MemBoard, All
     if words[3] != 1 {
         return Err(AllocError);
     }
-    board_over(alloc, ListMem::from_words(words), stop_after)
+    board_with(alloc, ListMem::from_words(words), 4, stop_after)
 }
 
 /// Makes entry 3 the entry of page 1 of file 2, in block 9: dirty and of 5 bytes, and then clean and of 7.
-#[tactic(auto, using(crate::proofs::TestImages::valid_tag, crate::proofs::TestImages::still_valid))]
+#[tactic(auto, using(machine_readers::proofs::WorkedPair::valid_tag, crate::proofs::TestImages::still_valid))]
 fn make<M: Machine>(m: &mut M) -> Result<(), Stopped>
     requires can { CanChange 3 (M.contents m.old) (M.run m.old) }
     requires invalid { is_valid (tag_at (M.contents m.old).words 3) ≡ false }
@@ -66,39 +67,123 @@ fn shadow<M: Machine>(m: &mut M) -> Result<(), Stopped>
     Ok(())
 }
 
-#[test]
+/// How far an entry is brought.
+#[derive(Clone, Copy, PartialEq, Eq)]
+enum Stage {
+    /// Nothing is done.
+    Fresh,
+    /// It is made.
+    Made,
+    /// It has a shadow, and is dirty.
+    Shadowed,
+    /// It is cleared.
+    Cleared,
+}
+
+/// Brings entry 3 so far.
 #[tactic(auto, using(crate::proofs::TestImages::none_taken, crate::proofs::TestImages::untagged))]
-fn an_entry_is_made_changed_and_cleared(rt: HostRuntime) -> Result<(), Fail> {
-    let mut m = image_machine(rt.alloc(), None)?;
-    assert_eq!(rt; check_image(&m), Ok(()));
-    make(&mut m)?;
-    let mut wanted = Entry {
-        tag: 0x0000_0009_0000_0005,
-        file: 2,
-        index: 1,
-        size: 7,
-        shadow: 0,
-    };
-    assert_eq!(rt; read_entry(&m, 3), wanted);
-    assert_eq!(rt; check_image(&m), Ok(()));
-    shadow(&mut m)?;
-    wanted.tag = 0x0000_0009_0000_0007;
-    wanted.shadow = 16;
-    assert_eq!(rt; read_entry(&m, 3), wanted);
-    assert_eq!(rt; check_image(&m), Err(BadImage(11)));
-    clear(&mut m, 3)?;
-    assert_eq!(rt; load_tag(&m, 3), Tag(0));
-    assert_eq!(rt; check_image(&m), Ok(()));
+fn bring<M: Machine>(m: &mut M, stage: Stage) -> Result<(), Stopped>
+    requires can { CanChange 3 (M.contents m.old) (M.run m.old) }
+    requires invalid { is_valid (tag_at (M.contents m.old).words 3) ≡ false }
+    requires free { IsFree (M.contents m.old).words 9 }
+    ensures can { CanChange 3 (M.contents m.new) (M.run m.new) }
+{
+    if stage == Stage::Fresh {
+        return Ok(());
+    }
+    make(m)?;
+    if stage == Stage::Made {
+        return Ok(());
+    }
+    shadow(m)?;
+    if stage == Stage::Shadowed {
+        return Ok(());
+    }
+    clear(m, 3)?;
     Ok(())
 }
 
-#[test]
+/// What is found of entry 3 and of the image.
+#[derive(Clone, Copy, Debug, PartialEq, Eq)]
+struct Came {
+    end: Result<(), Stopped>,
+    tag: u64,
+    /// Its words, where it is valid.
+    entry: Option<Entry>,
+    image: Result<(), BadImage>,
+}
+
+/// Brings entry 3 so far on a machine that stops after so many steps, if it does.
 #[tactic(auto, using(crate::proofs::TestImages::none_taken, crate::proofs::TestImages::untagged))]
-fn a_stop_leaves_an_entry_without_a_tag(rt: HostRuntime) -> Result<(), Fail> {
-    for steps in 0..5 {
-        let mut m = image_machine(rt.alloc(), Some(steps))?;
-        assert_eq!(rt; make(&mut m), Err(Stopped), "after {steps} steps");
-        assert_eq!(rt; load_tag(&m, 3), Tag(0), "after {steps} steps");
+fn came_of(alloc: Global, stage: Stage, stop_after: Option<u64>) -> Result<Came, Fail> {
+    let mut m = image_machine(alloc, stop_after)?;
+    let end = bring(&mut m, stage);
+    let tag = load_tag(&m, 3);
+    let entry = if tag.is_valid() {
+        Some(read_entry(&m, 3))
+    } else {
+        None
+    };
+    Ok(Came {
+        end,
+        tag: tag.0,
+        entry,
+        image: check_image(&m),
+    })
+}
+
+/// Entry 3 with this tag and shadow.
+fn entry(tag: u64, shadow: u64) -> Option<Entry> {
+    Some(Entry {
+        tag,
+        file: 2,
+        index: 1,
+        size: 7,
+        shadow,
+    })
+}
+
+#[test]
+fn an_entry_is_made_changed_and_cleared(rt: HostRuntime) -> Result<(), Fail> {
+    let made = entry(0x0000_0009_0000_0005, 0);
+    let shadowed = entry(0x0000_0009_0000_0007, 16);
+    let done = Ok(());
+    let cut = Err(Stopped);
+    let sound = Ok(());
+    let bad = Err(BadImage(11));
+    let rows = [
+        (Stage::Fresh, None, done, 0, None, sound),
+        (Stage::Made, None, done, 0x0000_0009_0000_0005, made, sound),
+        (
+            Stage::Shadowed,
+            None,
+            done,
+            0x0000_0009_0000_0007,
+            shadowed,
+            bad,
+        ),
+        (Stage::Cleared, None, done, 0, None, sound),
+        (Stage::Made, Some(0), cut, 0, None, sound),
+        (Stage::Made, Some(1), cut, 0, None, sound),
+        (Stage::Made, Some(2), cut, 0, None, sound),
+        (Stage::Made, Some(3), cut, 0, None, sound),
+        (Stage::Made, Some(4), cut, 0, None, sound),
+    ];
+    for k in 0..rows.len() {
+        let (stage, stop_after, end, tag, entry, image) = rows[k];
+        let due = Came {
+            end,
+            tag,
+            entry,
+            image,
+        };
+        same(
+            &rt,
+            "stages",
+            k,
+            &came_of(rt.alloc(), stage, stop_after)?,
+            &due,
+        );
     }
     Ok(())
 }

@@ -2,15 +2,18 @@
 //! memory: of what needs a whole machine in memory. So it stands above all crates that it tests.
 #![tactic(auto)]
 
-mod block_lists;
 #[cfg(test)]
-mod boards;
+mod board_rows;
+#[cfg(test)]
+mod board_tests;
 #[cfg(test)]
 mod cache_tests;
 #[cfg(test)]
 mod cache_walks;
 #[cfg(test)]
 mod cached;
+#[cfg(test)]
+mod copy_tests;
 #[cfg(test)]
 mod crash_tests;
 #[cfg(test)]
@@ -24,11 +27,11 @@ mod machines;
 #[cfg(test)]
 mod plain_blocks;
 #[cfg(test)]
-mod runs;
-mod saving;
+mod rig;
+#[cfg(test)]
+mod same;
 #[cfg(test)]
 mod shadow_tests;
-mod standing;
 #[cfg(test)]
 mod standing_tests;
 #[cfg(test)]
@@ -38,9 +41,6 @@ mod walks;
 #[cfg(test)]
 mod wild_tests;
 #[cfg(test)]
-mod windows;
+mod window_tests;
 #[cfg(test)]
 mod write_back_tests;
-
-pub use saving::save;
-pub use standing::{Unread, reading_words, standing_words};

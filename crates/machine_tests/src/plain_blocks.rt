@@ -2,7 +2,7 @@
 
 ghost use Rattle.std.specs.Prelude.{◌≡◌, ◌+◌, ◌<◌, ◌≤◌, IfOk, length};
 
-use crate::block_lists::{ALL_WORDS, BLOCK_WORDS, BLOCKS, zeros};
+use machine_readers::{ALL_WORDS, BLOCK_WORDS, BLOCKS, zeros};
 use rio_base::Block;
 use std::alloc::{AllocError, AllocFailed, Global};
 

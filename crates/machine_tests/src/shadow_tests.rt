@@ -8,6 +8,7 @@ ghost use Rattle.machine_tests.specs.TwoEntries.{HasTwo};
 ghost use Rattle.shadow_pages.specs.Updates.{AreBare};
 
 use crate::machines::{MemBoard, board_with};
+use crate::same::same;
 use block_disk::MemDisk;
 use board::Board;
 use image_codec::fresh_image;
@@ -17,6 +18,7 @@ use registry::{check_image, load_tag, read_entry};
 use rio_base::{Machine, Page, Stopped, WordAt};
 use shadow_pages::{begin, commit, shadow, undo};
 use std::alloc::{AllocError, Global};
+use std::process::Abort;
 use std::test::Fail;
 
 /// The tags of two dirty entries of metadata, with the blocks 5 and 6.
@@ -265,66 +267,132 @@ fn both_standing<M: Machine>(m: &M) -> (u64, u64)
     (standing(m, 3), standing(m, 4))
 }
 
-/// Steps of an update after which it is stopped: each of the gate, of the shadows and of the edits, and the ends and a
-/// middle of each copy.
-const UPDATE_STOPS: [u64; 15] = [
-    0, 1, 2, 300, 512, 513, 514, 515, 800, 1_026, 1_027, 1_028, 1_029, 1_030, 1_031,
-];
+/// Which updates are made of two blocks of zeros.
+#[derive(Clone, Copy)]
+enum Updates {
+    /// One of 7, which is committed.
+    One,
+    /// One of 7, which is taken back.
+    Undone,
+    /// One of 7, and a second of 8.
+    Two,
+    /// One of 7, and one of 8 that is taken back.
+    SecondUndone,
+}
 
-/// Those of an update that is taken back, from the first copy back on.
-const UNDO_STOPS: [u64; 9] = [
-    1_029, 1_030, 1_300, 1_541, 1_542, 1_800, 2_053, 2_054, 2_055,
-];
+/// Makes the updates.
+fn make<M: Machine>(m: &mut M, updates: Updates) -> Result<(), Stopped>
+    requires two { HasTwo (M.contents m.old) (M.run m.old) }
+    requires shut { gate_of (M.contents m.old).words ≡ 0 }
+    ensures two { HasTwo (M.contents m.new) (M.run m.new) }
+{
+    match updates {
+        Updates::One => update(m, 7),
+        Updates::Undone => update_and_undo(m, 7),
+        Updates::Two => {
+            update(m, 7)?;
+            update(m, 8)
+        }
+        Updates::SecondUndone => {
+            update(m, 7)?;
+            update_and_undo(m, 8)
+        }
+    }
+}
 
-/// Those of a second update, which first takes two shadows away.
-const SECOND_STOPS: [u64; 16] = [
-    1_030, 1_031, 1_032, 1_033, 1_034, 1_300, 1_545, 1_546, 1_547, 1_800, 2_058, 2_059, 2_060,
-    2_061, 2_062, 2_063,
-];
+/// What is found after updates.
+#[derive(Clone, Copy, Debug, PartialEq, Eq)]
+struct Came {
+    done: bool,
+    /// The words 0 of both blocks as they stand.
+    standing: (u64, u64),
+}
+
+/// Makes updates on a machine that stops after so many steps, if it does, and looks what stands. Where all were made, both
+/// blocks read as they stand.
+fn came_of(alloc: Global, updates: Updates, stop_after: Option<u64>) -> Result<Came, Fail> {
+    let mut m = two_entries(alloc, stop_after)?;
+    let done = make(&mut m, updates).is_ok();
+    let standing = both_standing(&m);
+    if done && (reading(&m, 3), reading(&m, 4)) != standing {
+        Err("a block reads otherwise than it stands")?;
+    }
+    Ok(Came { done, standing })
+}
+
+/// Updates, the steps after which they are stopped, and what must come of it.
+#[derive(Clone, Copy)]
+struct Row {
+    updates: Updates,
+    stops: &'static [u64],
+    /// After how many steps all are made.
+    made_after: u64,
+    /// What stands of both blocks where they are not all made, and where they are.
+    stands: [u64; 2],
+}
+
+/// Makes the updates once for each stop, on a machine of its own. The index in a failure is the number of steps.
+fn check(rt: &impl Abort, alloc: Global, table: &str, row: &Row) -> Result<(), Fail> {
+    for k in 0..row.stops.len() {
+        let steps = row.stops[k];
+        let done = row.made_after <= steps;
+        let v = if done { row.stands[1] } else { row.stands[0] };
+        let due = Came {
+            done,
+            standing: (v, v),
+        };
+        let came = came_of(alloc, row.updates, Some(steps))?;
+        same(rt, table, steps as usize, &came, &due);
+    }
+    Ok(())
+}
 
 #[test]
 fn an_update_stands_whole_or_not_at_all(rt: HostRuntime) -> Result<(), Fail> {
-    for steps in UPDATE_STOPS {
-        let mut m = two_entries(rt.alloc(), Some(steps))?;
-        let done = update(&mut m, 7).is_ok();
-        assert_eq!(rt; done, 1_030 <= steps, "after {steps} steps");
-        let stands = if done { (7, 7) } else { (0, 0) };
-        assert_eq!(rt; both_standing(&m), stands, "after {steps} steps");
-    }
-    Ok(())
+    // each step of the gate, of the shadows and of the edits, and the ends and a middle of each copy
+    let row = Row {
+        updates: Updates::One,
+        stops: &[
+            0, 1, 2, 300, 512, 513, 514, 515, 800, 1_026, 1_027, 1_028, 1_029, 1_030, 1_031,
+        ],
+        made_after: 1_030,
+        stands: [0, 7],
+    };
+    check(&rt, rt.alloc(), "steps of an update", &row)
 }
 
 #[test]
 fn an_update_is_taken_back(rt: HostRuntime) -> Result<(), Fail> {
-    for steps in UNDO_STOPS {
-        let mut m = two_entries(rt.alloc(), Some(steps))?;
-        let done = update_and_undo(&mut m, 7).is_ok();
-        assert_eq!(rt; done, 2_054 <= steps, "after {steps} steps");
-        assert_eq!(rt; both_standing(&m), (0, 0), "after {steps} steps");
-    }
-    Ok(())
-}
-
-#[test]
-fn what_was_taken_back_reads_as_before(rt: HostRuntime) -> Result<(), Fail> {
-    let mut m = two_entries(rt.alloc(), None)?;
-    update(&mut m, 7)?;
-    update_and_undo(&mut m, 8)?;
-    assert_eq!(rt; reading(&m, 3), 7);
-    assert_eq!(rt; reading(&m, 4), 7);
-    assert_eq!(rt; both_standing(&m), (7, 7));
+    // from the first copy back on
+    let row = Row {
+        updates: Updates::Undone,
+        stops: &[
+            1_029, 1_030, 1_300, 1_541, 1_542, 1_800, 2_053, 2_054, 2_055,
+        ],
+        made_after: 2_054,
+        stands: [0, 0],
+    };
+    check(&rt, rt.alloc(), "steps of an update taken back", &row)?;
+    let due = Came {
+        done: true,
+        standing: (7, 7),
+    };
+    let came = came_of(rt.alloc(), Updates::SecondUndone, None)?;
+    same(&rt, "a second update taken back", 0, &came, &due);
     Ok(())
 }
 
 #[test]
 fn a_second_update_stands_whole_or_not_at_all(rt: HostRuntime) -> Result<(), Fail> {
-    for steps in SECOND_STOPS {
-        let mut m = two_entries(rt.alloc(), Some(steps))?;
-        update(&mut m, 7)?;
-        let done = update(&mut m, 8).is_ok();
-        assert_eq!(rt; done, 2_062 <= steps, "after {steps} steps");
-        let stands = if done { (8, 8) } else { (7, 7) };
-        assert_eq!(rt; both_standing(&m), stands, "after {steps} steps");
-    }
-    Ok(())
+    // it first takes two shadows away
+    let row = Row {
+        updates: Updates::Two,
+        stops: &[
+            1_030, 1_031, 1_032, 1_033, 1_034, 1_300, 1_545, 1_546, 1_547, 1_800, 2_058, 2_059,
+            2_060, 2_061, 2_062, 2_063,
+        ],
+        made_after: 2_062,
+        stands: [7, 8],
+    };
+    check(&rt, rt.alloc(), "steps of a second update", &row)
 }

@@ -3,12 +3,12 @@
 ghost use Rattle.std.specs.Prelude.{◌≡◌, ◌≤◌, IfOk, length};
 ghost use Rattle.block_disk.specs.MemDisks.{state_of};
 
-use crate::block_lists::{ALL_WORDS, zeros};
 use crate::crashes::crashed;
 use crate::plain_blocks::{PlainBlocks, Stands};
-use crate::standing::{Unread, reading_words, standing_words};
+use crate::same::same;
 use block_disk::{DiskChoice, MemDisk};
 use image_codec::fresh_image;
+use machine_readers::{ALL_WORDS, Unread, reading_words, standing_words, zeros};
 use rio_base::{Block, DiskBlocks};
 use std::alloc::{AllocError, Global};
 use std::test::Fail;
@@ -62,19 +62,18 @@ fn three_of(found: &[u64]) -> [u64; 3]
 }
 
 #[test]
-fn pages_and_blocks_stand(rt: HostRuntime) -> Result<(), Fail> {
+fn pages_and_blocks_stand_and_read(rt: HostRuntime) -> Result<(), Fail> {
     for (gate, first) in [(0, 7), (1, 8)] {
-        let found = standing(rt.alloc(), gate)?;
-        assert_eq!(rt; three_of(&found), [first, 6, 5], "gate {gate}");
-    }
-    Ok(())
-}
-
-#[test]
-fn frames_and_blocks_read_whatever_the_gate(rt: HostRuntime) -> Result<(), Fail> {
-    for gate in 0..2 {
-        let found = reading(rt.alloc(), gate)?;
-        assert_eq!(rt; three_of(&found), [7, 6, 5], "gate {gate}");
+        let stands = three_of(&standing(rt.alloc(), gate)?);
+        same(
+            &rt,
+            "gate, what stands",
+            gate as usize,
+            &stands,
+            &[first, 6, 5],
+        );
+        let reads = three_of(&reading(rt.alloc(), gate)?);
+        same(&rt, "gate, what reads", gate as usize, &reads, &[7, 6, 5]);
     }
     Ok(())
 }
@@ -94,13 +93,15 @@ fn pending_standing(alloc: Global, choice: DiskChoice) -> Result<Vec<u64>, Fail>
 
 #[test]
 fn a_pending_block_without_entry_stands_as_the_stop_leaves_it(rt: HostRuntime) -> Result<(), Fail> {
-    for (choice, first) in [
+    let rows = [
         (DiskChoice::AsRead, 6),
         (DiskChoice::AsSynced, 5),
         (DiskChoice::Filled(0xab), 0xabab_abab_abab_abab),
-    ] {
-        let found = pending_standing(rt.alloc(), choice)?;
-        assert_eq!(rt; three_of(&found), [8, 6, first], "{choice:?}");
+    ];
+    for k in 0..rows.len() {
+        let (choice, first) = rows[k];
+        let came = three_of(&pending_standing(rt.alloc(), choice)?);
+        same(&rt, "crashes", k, &came, &[8, 6, first]);
     }
     Ok(())
 }
@@ -118,10 +119,16 @@ fn is_beyond(alloc: Global, at: usize, v: u64) -> Result<bool, Fail> {
 
 #[test]
 fn a_memory_beyond_its_limits_is_refused(rt: HostRuntime) -> Result<(), Fail> {
-    assert!(rt; !is_beyond(rt.alloc(), 531, 16)?); // the last shadow page
-    assert!(rt; is_beyond(rt.alloc(), 531, 17)?);
-    assert!(rt; is_beyond(rt.alloc(), 2, 8_193)?);
-    assert!(rt; is_beyond(rt.alloc(), 2, 8_192)?); // frames would lie behind the last word
+    let rows = [
+        (531, 16, false), // the last shadow page
+        (531, 17, true),
+        (2, 8_193, true),
+        (2, 8_192, true), // frames would lie behind the last word
+    ];
+    for k in 0..rows.len() {
+        let (at, v, due) = rows[k];
+        same(&rt, "memories", k, &is_beyond(rt.alloc(), at, v)?, &due);
+    }
     Ok(())
 }
 
@@ -156,18 +163,23 @@ fn judged(alloc: Global, stands: Stands, words: &[u64]) -> Result<Option<Block>,
 #[test]
 fn fronts_and_whole_updates_are_told_from_others(rt: HostRuntime) -> Result<(), Fail> {
     let wrong = Some(Block(3));
-    for (stored, nothing, whole, front) in [
-        ([0, 0, 0], None, None, None),
-        ([7, 0, 0], wrong, wrong, None),
-        ([7, 8, 0], wrong, wrong, None),
-        ([7, 8, 9], wrong, None, None),
-        ([0, 8, 9], wrong, wrong, wrong),
-        ([7, 0, 9], wrong, wrong, wrong),
-        ([7, 8, 8], wrong, wrong, wrong),
-    ] {
-        assert_eq!(rt; judged(rt.alloc(), Stands::Nothing, &stored)?, nothing);
-        assert_eq!(rt; judged(rt.alloc(), Stands::Whole, &stored)?, whole);
-        assert_eq!(rt; judged(rt.alloc(), Stands::Front, &stored)?, front);
+    let rows = [
+        ([0, 0, 0], [None, None, None]),
+        ([7, 0, 0], [wrong, wrong, None]),
+        ([7, 8, 0], [wrong, wrong, None]),
+        ([7, 8, 9], [wrong, None, None]),
+        ([0, 8, 9], [wrong, wrong, wrong]),
+        ([7, 0, 9], [wrong, wrong, wrong]),
+        ([7, 8, 8], [wrong, wrong, wrong]),
+    ];
+    for k in 0..rows.len() {
+        let (stored, due) = rows[k];
+        let came = [
+            judged(rt.alloc(), Stands::Nothing, &stored)?,
+            judged(rt.alloc(), Stands::Whole, &stored)?,
+            judged(rt.alloc(), Stands::Front, &stored)?,
+        ];
+        same(&rt, "fronts", k, &came, &due);
     }
     Ok(())
 }

@@ -442,3 +442,18 @@ pub(crate) fn read_all<V: Volume>(v: &mut V, plain: &PlainBlocks) -> Result<(), 
     }
     Ok(())
 }
+
+/// Makes so many drawn actions, and then reads all blocks. The error says why that ended before.
+pub(crate) fn walk_through<V: Volume>(
+    v: &mut V,
+    plain: &mut PlainBlocks,
+    draws: &mut Draws,
+    actions: u32,
+) -> Result<(), WalkEnd>
+    requires sound { V.sound v.old }
+    requires walks { Walks (V.seen v.old) }
+    requires idle { (V.kept v.old).updating ≡ false }
+{
+    walk(v, plain, draws, actions)?;
+    read_all(v, plain)
+}

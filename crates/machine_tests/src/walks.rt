@@ -1,12 +1,13 @@
 //! Walks over the volumes in memory: without a stop, with calls of the disk that fail, and stopped at each call.
 
-ghost use Rattle.std.specs.Prelude.{◌≡◌, ◌<◌, false, IfOk, length};
+ghost use Rattle.std.specs.Prelude.{◌≡◌, IfOk, length};
 ghost use Rattle.rio_fakes.specs.ListVolumes.{ListSound, list_seen};
 
-use crate::block_lists::{ALL_WORDS, BLOCKS, put_block, zeros};
 use crate::draws::Draws;
 use crate::plain_blocks::PlainBlocks;
-use crate::walk::{WalkEnd, read_all, walk};
+use crate::same::same;
+use crate::walk::{WalkEnd, read_all, walk, walk_through};
+use machine_readers::{ALL_WORDS, BLOCKS, put_block, zeros};
 use rio_base::{Block, Blocks, Volume};
 use rio_fakes::{FaultyVolume, ListVolume};
 use std::alloc::{AllocError, Global};
@@ -30,58 +31,65 @@ fn restarted(alloc: Global, v: &mut ListVolume) -> Result<Vec<u64>, AllocError>
     Ok(words)
 }
 
-#[test]
-fn a_list_is_walked(rt: HostRuntime) -> Result<(), Fail> {
-    for seed in 1..4 {
-        let mut v = ListVolume::new(rt.alloc(), 64, None)?;
-        let mut plain = PlainBlocks::new(rt.alloc())?;
-        let mut draws = Draws::new(seed, true);
-        assert_eq!(rt;
-            walk(&mut v, &mut plain, &mut draws, 4_000),
-            Ok(()),
-            "seed {seed}"
-        );
-        assert_eq!(rt;
-            plain.judge(&restarted(rt.alloc(), &mut v)?),
-            None,
-            "seed {seed}"
-        );
-        assert_eq!(rt; read_all(&mut v, &plain), Ok(()), "seed {seed}");
-    }
-    Ok(())
+/// How a walk over a list ended, the first block that stands otherwise than the plain lists say when it goes on, and what
+/// reading all blocks then finds.
+#[derive(Clone, Copy, Debug, PartialEq, Eq)]
+struct Outcome {
+    end: Result<(), WalkEnd>,
+    wrong: Option<Block>,
+    read: Result<(), WalkEnd>,
+}
+
+/// Makes 4,000 drawn actions on a list that stops after so many calls, if it does.
+fn outcome_of(alloc: Global, seed: u64, stop_after: Option<u64>) -> Result<Outcome, Fail> {
+    let mut v = ListVolume::new(alloc, 64, stop_after)?;
+    let mut plain = PlainBlocks::new(alloc)?;
+    let end = walk(&mut v, &mut plain, &mut Draws::new(seed, true), 4_000);
+    let wrong = plain.judge(&restarted(alloc, &mut v)?);
+    let read = read_all(&mut v, &plain);
+    Ok(Outcome { end, wrong, read })
 }
 
 #[test]
-fn a_list_whose_disk_fails_is_walked(rt: HostRuntime) -> Result<(), Fail> {
-    for n in 1..100 {
-        let inner = ListVolume::new(rt.alloc(), 64, None)?;
-        let mut v = FaultyVolume::new(inner, n);
-        let mut plain = PlainBlocks::new(rt.alloc())?;
-        let mut draws = Draws::new(4, true);
-        assert_eq!(rt;
-            walk(&mut v, &mut plain, &mut draws, 60),
-            Ok(()),
-            "fault {n}"
-        );
-        assert_eq!(rt; read_all(&mut v, &plain), Ok(()), "fault {n}");
+fn a_list_is_walked(rt: HostRuntime) -> Result<(), Fail> {
+    let due = Outcome {
+        end: Ok(()),
+        wrong: None,
+        read: Ok(()),
+    };
+    for seed in 1..4 {
+        let came = outcome_of(rt.alloc(), seed, None)?;
+        same(&rt, "seeds", seed as usize, &came, &due);
     }
     Ok(())
 }
 
 #[test]
 fn a_walk_is_stopped_at_each_call(rt: HostRuntime) -> Result<(), Fail> {
+    let due = Outcome {
+        end: Err(WalkEnd::Stopped),
+        wrong: None,
+        read: Ok(()),
+    };
     for steps in 0..300 {
-        let mut v = ListVolume::new(rt.alloc(), 64, Some(steps))?;
-        let mut plain = PlainBlocks::new(rt.alloc())?;
-        let mut draws = Draws::new(5, true);
-        let end = walk(&mut v, &mut plain, &mut draws, 4_000);
-        assert_eq!(rt; end, Err(WalkEnd::Stopped), "after {steps} steps");
-        assert_eq!(rt;
-            plain.judge(&restarted(rt.alloc(), &mut v)?),
-            None,
-            "after {steps} steps"
-        );
-        assert_eq!(rt; read_all(&mut v, &plain), Ok(()), "after {steps} steps");
+        let came = outcome_of(rt.alloc(), 5, Some(steps))?;
+        same(&rt, "steps", steps as usize, &came, &due);
+    }
+    Ok(())
+}
+
+/// How a walk over a list ends whose `n`th call of the disk fails.
+fn faulty_walk(alloc: Global, n: u64) -> Result<Result<(), WalkEnd>, AllocError> {
+    let mut v = FaultyVolume::new(ListVolume::new(alloc, 64, None)?, n);
+    let mut plain = PlainBlocks::new(alloc)?;
+    Ok(walk_through(&mut v, &mut plain, &mut Draws::new(4, true), 60))
+}
+
+#[test]
+fn a_list_whose_disk_fails_is_walked(rt: HostRuntime) -> Result<(), Fail> {
+    for n in 1..100 {
+        let came = faulty_walk(rt.alloc(), n)?;
+        same(&rt, "faults", n as usize, &came, &Ok(()));
     }
     Ok(())
 }

@@ -4,14 +4,15 @@
 ghost use Rattle.std.specs.Prelude.{◌≡◌, ◌<◌, false, IfOk};
 ghost use Rattle.machine_tests.specs.Walks.{Walks};
 
-use crate::block_lists::{BLOCK_WORDS, BLOCKS};
 use crate::cache_tests::read_first;
 use crate::cache_walks::cache_of;
 use crate::cached::word_in;
 use crate::crashes::crashed;
 use crate::machines::MemBoard;
+use crate::same::same;
 use block_disk::{DiskChoice, MemDisk};
 use board::Board;
+use machine_readers::{BLOCK_WORDS, BLOCKS};
 use page_cache::PageCache;
 use phys_memory::ListMem;
 use rio_base::{Block, Blocks, Machine, VolFail, Volume, Wild, WordAt};
@@ -37,9 +38,9 @@ fn cache(alloc: Global) -> Result<PageCache<MemBoard>, Fail>
 #[test]
 fn a_cache_tells_its_blocks_and_pages(rt: HostRuntime) -> Result<(), Fail> {
     let v = cache(rt.alloc())?;
-    assert_eq!(rt; v.volume_blocks(), 64);
-    assert_eq!(rt; v.machine().pages(), 51);
+    let came = [v.volume_blocks(), v.machine().pages()];
     let (_, _) = v.into_machine().into_parts();
+    same(&rt, "blocks and pages", 0, &came, &[64, 51]);
     Ok(())
 }
 
@@ -69,9 +70,10 @@ fn arm<M: Machine>(v: &mut PageCache<M>, at: WordAt)
 }
 
 /// What a wild store of 9 to a place meets, what block 5 then reads as, and the word at the place.
-fn after_wild(alloc: Global, at: WordAt) -> Result<(Wild, Result<u64, VolFail>, u64), Fail>
-    requires { at.0 < 26112 }
-{
+fn after_wild(alloc: Global, at: WordAt) -> Result<(Wild, Result<u64, VolFail>, u64), Fail> {
+    if 26_112 <= at.0 {
+        Err("no such word")?;
+    }
     let mut v = cache(alloc)?;
     let met = strike(&mut v, at);
     let read = read_first(&mut v, 5);
@@ -80,16 +82,15 @@ fn after_wild(alloc: Global, at: WordAt) -> Result<(Wild, Result<u64, VolFail>, 
 }
 
 #[test]
-fn a_wild_store_on_a_frame_stops_the_cache(rt: HostRuntime) -> Result<(), Fail> {
-    let found = after_wild(rt.alloc(), IN_FRAME)?;
-    assert_eq!(rt; found, (Wild::Trapped, Err(VolFail::Stopped), 0));
-    Ok(())
-}
-
-#[test]
-fn a_wild_store_on_scratch_leaves_the_cache(rt: HostRuntime) -> Result<(), Fail> {
-    let found = after_wild(rt.alloc(), IN_SCRATCH)?;
-    assert_eq!(rt; found, (Wild::Changed, Ok(0), 9));
+fn a_wild_store_stops_the_cache_or_falls_on_scratch(rt: HostRuntime) -> Result<(), Fail> {
+    let rows = [
+        (IN_FRAME, (Wild::Trapped, Err(VolFail::Stopped), 0)),
+        (IN_SCRATCH, (Wild::Changed, Ok(0), 9)),
+    ];
+    for k in 0..rows.len() {
+        let (at, due) = rows[k];
+        same(&rt, "wild stores", k, &after_wild(rt.alloc(), at)?, &due);
+    }
     Ok(())
 }
 
@@ -117,9 +118,10 @@ struct Armed {
 }
 
 /// Makes the two stores, the wild one to this place.
-fn after_armed(alloc: Global, at: WordAt) -> Result<Armed, Fail>
-    requires { at.0 < 26112 }
-{
+fn after_armed(alloc: Global, at: WordAt) -> Result<Armed, Fail> {
+    if 26_112 <= at.0 {
+        Err("no such word")?;
+    }
     let mut v = cache(alloc)?;
     arm(&mut v, at);
     let end = store_first(&mut v);
@@ -137,25 +139,23 @@ fn after_armed(alloc: Global, at: WordAt) -> Result<Armed, Fail>
 }
 
 #[test]
-fn an_armed_store_on_a_frame_stops_the_call(rt: HostRuntime) -> Result<(), Fail> {
+fn an_armed_store_stops_the_call_or_falls_on_scratch(rt: HostRuntime) -> Result<(), Fail> {
     let stopped = Armed {
         end: Err(VolFail::Stopped),
         trapped: Some(IN_FRAME),
         word: 0,
         stands: 0,
     };
-    assert_eq!(rt; after_armed(rt.alloc(), IN_FRAME)?, stopped);
-    Ok(())
-}
-
-#[test]
-fn an_armed_store_on_scratch_leaves_the_call(rt: HostRuntime) -> Result<(), Fail> {
     let done = Armed {
         end: Ok(()),
         trapped: None,
         word: 9,
         stands: 7,
     };
-    assert_eq!(rt; after_armed(rt.alloc(), IN_SCRATCH)?, done);
+    let rows = [(IN_FRAME, stopped), (IN_SCRATCH, done)];
+    for k in 0..rows.len() {
+        let (at, due) = rows[k];
+        same(&rt, "armed stores", k, &after_armed(rt.alloc(), at)?, &due);
+    }
     Ok(())
 }

@@ -1,205 +1,173 @@
-//! Tests of what writes back, on machines whose first five entries are dirty. After each run its disk crashes, so that
+//! Tests of what writes back, on machines whose first five entries are dirty. After each call the disk crashes, so that
 //! pending blocks are lost, and each of the five blocks still reads as it did.
 
 ghost use Rattle.std.specs.Prelude.{IfOk};
 ghost use Rattle.machine_tests.specs.Ready.{Ready};
 
 use crate::cached::{Found, found_in, machine_with};
-use crate::machines::MemBoard;
+use crate::machines::{MemBoard, Mishap, disk_of};
+use crate::same::same;
 use block_disk::MemDisk;
 use board::Board;
 use phys_memory::ListMem;
 use registry::load_tag;
 use rio_base::{Machine, VolFail};
 use std::alloc::{AllocError, Global};
+use std::process::Abort;
 use std::test::Fail;
 use write_back::{clean, evict, flush};
 
-/// A machine over a disk of 8 blocks whose call `fails` fails, if that is not 0.
-fn machine(alloc: Global, fails: u64, stop_after: Option<u64>) -> Result<MemBoard, AllocError>
+/// A machine over a disk of 8 blocks, which this befalls.
+fn machine(alloc: Global, mishap: Mishap) -> Result<MemBoard, AllocError>
     ensures ready { IfOk result (λ m. Ready (⟦<Board<ListMem, MemDisk> as Machine>⟧.contents m) (⟦<Board<ListMem, MemDisk> as Machine>⟧.run m)) }
 {
-    let mut disk = MemDisk::new(alloc, 8)?;
-    if fails != 0 {
-        disk.fail_call(fails)?;
-    }
-    machine_with(alloc, disk, 5, stop_after)
+    let disk = disk_of(alloc, 8, mishap)?;
+    machine_with(alloc, disk, 5, mishap.stop_after())
 }
 
-/// Cleans entry 2, if it is valid.
-fn clean_third<M: Machine>(m: &mut M) -> Option<Result<(), VolFail>>
+/// A call that writes back.
+#[derive(Clone, Copy)]
+enum Call {
+    /// Entry 2 is cleaned.
+    Clean,
+    /// Entry 2 is evicted.
+    Evict,
+    /// So many entries are flushed.
+    Flush(u64),
+}
+
+/// How a call ended.
+#[derive(Clone, Copy, Debug, PartialEq, Eq)]
+enum End {
+    Done,
+    /// So many entries were cleaned.
+    Flushed(u32),
+    Fault,
+    Stopped,
+    /// Entry 2 is not valid.
+    NoEntry,
+}
+
+impl From<VolFail> for End {
+    fn from(fail: VolFail) -> End {
+        match fail {
+            VolFail::Fault => End::Fault,
+            VolFail::Stopped => End::Stopped,
+        }
+    }
+}
+
+/// What came of a call.
+#[derive(Clone, Copy, Debug, PartialEq, Eq)]
+struct Came {
+    end: End,
+    /// How many steps were made.
+    steps: u64,
+    found: Found,
+}
+
+/// What befalls a call, and what must come of it: how it ends, how many steps were made, and which entries are then dirty,
+/// which are clean and which blocks are on the disk. All five blocks read as they did.
+type Row = (Mishap, End, u64, [u32; 3]);
+
+/// Makes a call.
+fn make<M: Machine>(m: &mut M, call: Call) -> End
     requires ready { Ready (M.contents m.old) (M.run m.old) }
 {
+    if let Call::Flush(n) = call {
+        return match flush(m, n) {
+            Ok(count) => End::Flushed(count),
+            Err(fail) => End::from(fail),
+        };
+    }
     if !load_tag(m, 2).is_valid() {
-        return None;
+        return End::NoEntry;
     }
-    Some(clean(m, 2))
+    let end = match call {
+        Call::Clean => clean(m, 2),
+        _ => evict(m, 2),
+    };
+    match end {
+        Ok(()) => End::Done,
+        Err(fail) => End::from(fail),
+    }
 }
 
-/// Evicts entry 2, if it is valid.
-fn evict_third<M: Machine>(m: &mut M) -> Option<Result<(), VolFail>>
-    requires ready { Ready (M.contents m.old) (M.run m.old) }
-{
-    if !load_tag(m, 2).is_valid() {
-        return None;
-    }
-    Some(evict(m, 2))
+/// Makes a call on a machine which this befalls.
+fn came_of(alloc: Global, call: Call, mishap: Mishap) -> Result<Came, AllocError> {
+    let mut m = machine(alloc, mishap)?;
+    let end = make(&mut m, call);
+    let steps = m.steps();
+    Ok(Came {
+        end,
+        steps,
+        found: found_in(alloc, m)?,
+    })
 }
 
-/// Flushes `n` entries.
-fn flush_some<M: Machine>(m: &mut M, n: u64) -> Result<u32, VolFail>
-    requires ready { Ready (M.contents m.old) (M.run m.old) }
-{
-    flush(m, n)
+/// Makes a call once for each row, on a machine of its own.
+fn check(
+    rt: &impl Abort,
+    alloc: Global,
+    table: &str,
+    call: Call,
+    rows: &[Row],
+) -> Result<(), Fail> {
+    for k in 0..rows.len() {
+        let (mishap, end, steps, [dirty, clean, on_disk]) = rows[k];
+        let found = Found {
+            dirty,
+            clean,
+            on_disk,
+            reads: 0b11111,
+        };
+        let due = Came { end, steps, found };
+        same(rt, table, k, &came_of(alloc, call, mishap)?, &due);
+    }
+    Ok(())
 }
 
 /// Nothing was written back.
-const UNTOUCHED: Found = Found {
-    dirty: 0b11111,
-    clean: 0,
-    on_disk: 0,
-    reads: 0b11111,
-};
+const UNTOUCHED: [u32; 3] = [0b11111, 0, 0];
 
 #[test]
-fn a_cleaned_page_is_on_the_disk(rt: HostRuntime) -> Result<(), Fail> {
-    let mut m = machine(rt.alloc(), 0, None)?;
-    assert_eq!(rt; clean_third(&mut m), Some(Ok(())));
-    assert_eq!(rt; m.steps(), 3);
-    let wanted = Found {
-        dirty: 0b11011,
-        clean: 0b00100,
-        on_disk: 0b00100,
-        reads: 0b11111,
-    };
-    assert_eq!(rt; found_in(rt.alloc(), m)?, wanted);
-    Ok(())
-}
-
-#[test]
-fn a_failing_write_or_sync_leaves_the_page_dirty(rt: HostRuntime) -> Result<(), Fail> {
-    for call in 1..3 {
-        let mut m = machine(rt.alloc(), call, None)?;
-        assert_eq!(rt;
-            clean_third(&mut m),
-            Some(Err(VolFail::Fault)),
-            "call {call}"
-        );
-        assert_eq!(rt; found_in(rt.alloc(), m)?, UNTOUCHED, "call {call}");
-    }
-    Ok(())
+fn a_page_is_cleaned_or_stays_dirty(rt: HostRuntime) -> Result<(), Fail> {
+    let rows = [
+        (Mishap::Nothing, End::Done, 3, [0b11011, 0b100, 0b100]),
+        (Mishap::Fault(1), End::Fault, 1, UNTOUCHED),
+        (Mishap::Fault(2), End::Fault, 2, UNTOUCHED),
+    ];
+    check(&rt, rt.alloc(), "cleaned", Call::Clean, &rows)
 }
 
 #[test]
 fn an_evicted_page_is_on_the_disk(rt: HostRuntime) -> Result<(), Fail> {
-    let mut m = machine(rt.alloc(), 0, None)?;
-    assert_eq!(rt; evict_third(&mut m), Some(Ok(())));
-    let wanted = Found {
-        dirty: 0b11011,
-        clean: 0,
-        on_disk: 0b00100,
-        reads: 0b11111,
-    };
-    assert_eq!(rt; found_in(rt.alloc(), m)?, wanted);
-    Ok(())
-}
-
-#[test]
-fn each_step_of_an_eviction_may_be_stopped(rt: HostRuntime) -> Result<(), Fail> {
-    for steps in 0..4 {
-        let mut m = machine(rt.alloc(), 0, Some(steps))?;
-        assert_eq!(rt;
-            evict_third(&mut m),
-            Some(Err(VolFail::Stopped)),
-            "after {steps} steps"
-        );
-        let found = found_in(rt.alloc(), m)?;
-        assert_eq!(rt; found.reads, 0b11111, "after {steps} steps");
-        assert_eq!(rt;
-            found.clean,
-            if steps == 3 { 0b00100 } else { 0 },
-            "after {steps} steps"
-        );
-        assert_eq!(rt;
-            found.on_disk,
-            if steps < 2 { 0 } else { 0b00100 },
-            "after {steps} steps"
-        );
-    }
-    Ok(())
-}
-
-#[test]
-fn a_flush_of_none_is_a_sync(rt: HostRuntime) -> Result<(), Fail> {
-    let mut m = machine(rt.alloc(), 0, None)?;
-    assert_eq!(rt; flush_some(&mut m, 0), Ok(0));
-    assert_eq!(rt; m.steps(), 1);
-    assert_eq!(rt; found_in(rt.alloc(), m)?, UNTOUCHED);
-    Ok(())
+    let rows = [
+        (Mishap::Nothing, End::Done, 4, [0b11011, 0, 0b100]),
+        (Mishap::Stop(0), End::Stopped, 0, UNTOUCHED),
+        (Mishap::Stop(1), End::Stopped, 1, UNTOUCHED),
+        (Mishap::Stop(2), End::Stopped, 2, [0b11111, 0, 0b100]),
+        (Mishap::Stop(3), End::Stopped, 3, [0b11011, 0b100, 0b100]),
+    ];
+    check(&rt, rt.alloc(), "evicted", Call::Evict, &rows)
 }
 
 #[test]
 fn a_flush_cleans_the_first_dirty_entries(rt: HostRuntime) -> Result<(), Fail> {
-    let mut m = machine(rt.alloc(), 0, None)?;
-    assert_eq!(rt; flush_some(&mut m, 2), Ok(2));
-    assert_eq!(rt; m.steps(), 5);
-    let wanted = Found {
-        dirty: 0b11100,
-        clean: 0b00011,
-        on_disk: 0b00011,
-        reads: 0b11111,
-    };
-    assert_eq!(rt; found_in(rt.alloc(), m)?, wanted);
-    Ok(())
-}
-
-#[test]
-fn a_flush_of_more_cleans_all(rt: HostRuntime) -> Result<(), Fail> {
-    let mut m = machine(rt.alloc(), 0, None)?;
-    assert_eq!(rt; flush_some(&mut m, 9), Ok(5));
-    assert_eq!(rt; m.steps(), 11);
-    let wanted = Found {
-        dirty: 0,
-        clean: 0b11111,
-        on_disk: 0b11111,
-        reads: 0b11111,
-    };
-    assert_eq!(rt; found_in(rt.alloc(), m)?, wanted);
-    Ok(())
-}
-
-#[test]
-fn a_flush_that_fails_cleans_none(rt: HostRuntime) -> Result<(), Fail> {
-    for call in 1..4 {
-        let mut m = machine(rt.alloc(), call, None)?;
-        assert_eq!(rt; flush_some(&mut m, 2), Err(VolFail::Fault), "call {call}");
-        assert_eq!(rt; m.steps(), call, "call {call}");
-        assert_eq!(rt; found_in(rt.alloc(), m)?, UNTOUCHED, "call {call}");
-    }
-    Ok(())
-}
-
-#[test]
-fn each_step_of_a_flush_may_be_stopped(rt: HostRuntime) -> Result<(), Fail> {
-    for steps in 0..5 {
-        let mut m = machine(rt.alloc(), 0, Some(steps))?;
-        assert_eq!(rt;
-            flush_some(&mut m, 2),
-            Err(VolFail::Stopped),
-            "after {steps} steps"
-        );
-        let found = found_in(rt.alloc(), m)?;
-        assert_eq!(rt; found.reads, 0b11111, "after {steps} steps");
-        assert_eq!(rt;
-            found.clean,
-            if steps == 4 { 0b00001 } else { 0 },
-            "after {steps} steps"
-        );
-        assert_eq!(rt;
-            found.on_disk,
-            if steps < 3 { 0 } else { 0b00011 },
-            "after {steps} steps"
-        );
-    }
-    Ok(())
+    let none = [(Mishap::Nothing, End::Flushed(0), 1, UNTOUCHED)];
+    check(&rt, rt.alloc(), "flush of none", Call::Flush(0), &none)?;
+    let all = [(Mishap::Nothing, End::Flushed(5), 11, [0, 0b11111, 0b11111])];
+    check(&rt, rt.alloc(), "flush of more", Call::Flush(9), &all)?;
+    let two = [
+        (Mishap::Nothing, End::Flushed(2), 5, [0b11100, 0b11, 0b11]),
+        (Mishap::Fault(1), End::Fault, 1, UNTOUCHED),
+        (Mishap::Fault(2), End::Fault, 2, UNTOUCHED),
+        (Mishap::Fault(3), End::Fault, 3, UNTOUCHED),
+        (Mishap::Stop(0), End::Stopped, 0, UNTOUCHED),
+        (Mishap::Stop(1), End::Stopped, 1, UNTOUCHED),
+        (Mishap::Stop(2), End::Stopped, 2, UNTOUCHED),
+        (Mishap::Stop(3), End::Stopped, 3, [0b11111, 0, 0b11]),
+        (Mishap::Stop(4), End::Stopped, 4, [0b11110, 0b1, 0b11]),
+    ];
+    check(&rt, rt.alloc(), "flush of two", Call::Flush(2), &two)
 }

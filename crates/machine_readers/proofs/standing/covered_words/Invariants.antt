@@ -1,7 +1,7 @@
 use Rattle.std.proofs.Common.{◌≡◌, length}
 use Rattle.block_disk.specs.MemDisks.{state_of}
-use Rattle.machine_tests.specs.Covers.{AreBlocks, blocks_by}
-use Rattle.machine_tests.proofs.standing.covered_words.Given as goal
+use Rattle.machine_readers.specs.Covers.{AreBlocks, blocks_by}
+use Rattle.machine_readers.proofs.standing.covered_words.Given as goal
 
 abbrev pub invariant-loop-b : goal.invariant-loop-b
 invariant-loop-b l = record {

@@ -13,7 +13,7 @@ use Rattle.rio_model.specs.CoverChanges.{place_bare}
 use Rattle.rio_model.proofs.CoverChanges.{place_cases, place_shadow}
 use Rattle.rio_model.specs.CoverLookups.{cover_at, cover_home, found_is}
 use Rattle.rio_model.specs.Registry.{frames_of, gate_of, page_of_entry, shadow_at}
-use Rattle.machine_tests.specs.Covers.{AreBlocks, InLimits, PutsBlock, blocks_by, page_by}
+use Rattle.machine_readers.specs.Covers.{AreBlocks, InLimits, PutsBlock, blocks_by, page_by}
 
 -- ---- places
 

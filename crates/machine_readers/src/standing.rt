@@ -8,7 +8,7 @@ ghost use Rattle.rio_base.specs.Image.{entry_at, registry_pages};
 ghost use Rattle.rio_base.specs.Memory.{FrontStored, page_at};
 ghost use Rattle.rio_model.specs.Cover.{cover_by, entry_of_block, frame_page, holds};
 ghost use Rattle.rio_model.specs.Registry.{frames_of, is_valid, page_of_entry, shadow_at, tag_block};
-ghost use Rattle.machine_tests.specs.Covers.{AreBlocks, InLimits, PutsBlock, blocks_by, page_by};
+ghost use Rattle.machine_readers.specs.Covers.{AreBlocks, InLimits, PutsBlock, blocks_by, page_by};
 
 use crate::block_lists::{ALL_WORDS, BLOCK_WORDS, BLOCKS, put_block, zeros};
 use block_disk::MemDisk;
@@ -31,7 +31,7 @@ pub enum Unread {
 }
 
 impl From<Failed> for Unread {
-    ghost use Rattle.machine_tests.specs.declared.standing.Unread.TheVariants.{Disk};
+    ghost use Rattle.machine_readers.specs.declared.standing.Unread.TheVariants.{Disk};
 
     ghost from_gives = { λ _ made. made ≡ Disk };
 
@@ -41,7 +41,7 @@ impl From<Failed> for Unread {
 }
 
 impl From<AllocError> for Unread {
-    ghost use Rattle.machine_tests.specs.declared.standing.Unread.TheVariants.{Memory};
+    ghost use Rattle.machine_readers.specs.declared.standing.Unread.TheVariants.{Memory};
 
     ghost from_gives = { λ _ made. made ≡ Memory };
 

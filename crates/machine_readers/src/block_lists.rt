@@ -7,16 +7,16 @@ use rio_base::Block;
 use std::alloc::{AllocError, Global};
 
 /// How many blocks a walked volume has.
-pub(crate) const BLOCKS: u32 = 64;
+pub const BLOCKS: u32 = 64;
 
 /// Words in a block.
-pub(crate) const BLOCK_WORDS: usize = 512;
+pub const BLOCK_WORDS: usize = 512;
 
 /// Words in all blocks.
-pub(crate) const ALL_WORDS: usize = 32_768;
+pub const ALL_WORDS: usize = 32_768;
 
 /// So many zeros.
-pub(crate) fn zeros(alloc: Global, count: usize) -> Result<Vec<u64>, AllocError>
+pub fn zeros(alloc: Global, count: usize) -> Result<Vec<u64>, AllocError>
     ensures { IfOk result (λ words. length words.items ≡ count) }
 {
     vec![in alloc; 0; count]
@@ -24,7 +24,7 @@ pub(crate) fn zeros(alloc: Global, count: usize) -> Result<Vec<u64>, AllocError>
 
 /// Puts the words of a block in their place.
 #[tactic(auto, using(crate::proofs::Reading::block_stored))]
-pub(crate) fn put_block(to: &mut [u64], b: Block, from: &[u64])
+pub fn put_block(to: &mut [u64], b: Block, from: &[u64])
     requires room { 512 * b.0 + 512 ≤ length to.old }
     requires words { length from.now ≡ 512 }
     ensures stored { FrontStored (512 * b.0) 512 from.now to.old to.new }

@@ -1,6 +1,6 @@
 -- The definitions of what memory and disk read as and stand for, tried by name on the worked pair.
 use Rattle.std.specs.Prelude.{◌≡◌, ◌≢◌, ℕ, ◌+◌, ◌*◌, ◌^◌, ◌<◌, ◌⊎◌, Bool, true, false, if◌then◌else◌, List, [], length, slice_index, slice_set, Option, Some, None, refl}
-use Rattle.std.proofs.Common.{◌∙◌, ap, sym, subst, inl, inr, arith, get_or-set_same, get_or-set_other}
+use Rattle.std.proofs.Common.{◌∙◌, ap, sym, subst, inl, inr, arith, eq-eqb, get_or-set_same, get_or-set_other}
 use Rattle.std.proofs.lemmas.Bool.{cases_eq}
 use Rattle.std.proofs.lemmas.List.{length-set}
 use Rattle.std.specs.Int.{bit_at}
@@ -19,8 +19,14 @@ use Rattle.rio_model.proofs.CoverChanges.{place_shadow}
 use Rattle.rio_model.specs.CoverLookups.{cover_at, cover_home, found_is}
 use Rattle.rio_model.proofs.CoverLookups.{found_at, found_free}
 use Rattle.rio_model.specs.Registry.{BlockRule, IsValid, file_at, frames_of, gate_of, index_at, is_data, is_dirty, is_valid, page_of_entry, shadow_at, size_at, tag_at, tag_block, tag_of}
-use Rattle.machine_tests.proofs.WorkedPairLaws.{IsPair}
-use Rattle.machine_tests.proofs.TestImages.{valid_tag}
+use Rattle.machine_readers.proofs.WorkedPairLaws.{IsPair}
+
+-- the tag of a block is valid
+pub valid_tag : (block : ℕ) (dirty named : Bool) → is_valid (tag_of block dirty named) ≡ true
+valid_tag block true true = eq-eqb _ 1 (omega arith)
+valid_tag block true false = eq-eqb _ 1 (omega arith)
+valid_tag block false true = eq-eqb _ 1 (omega arith)
+valid_tag block false false = eq-eqb _ 1 (omega arith)
 
 -- ---- the entries
 

@@ -1,6 +1,6 @@
 use Rattle.std.proofs.Common.{arith, refl, sym}
-use Rattle.machine_tests.proofs.Reading.{entry_within, no_other_shadow, no_page_behind, puts_home, puts_page}
-use Rattle.machine_tests.proofs.standing.copy_block.Goals as goal
+use Rattle.machine_readers.proofs.Reading.{entry_within, no_other_shadow, no_page_behind, puts_home, puts_page}
+use Rattle.machine_readers.proofs.standing.copy_block.Goals as goal
 
 pub returns-in_default-entry_of-clause-put : goal.returns-in_default-entry_of-clause-put
 returns-in_default-entry_of-clause-put c = puts_home c.args.shadows c.args.words.now _ c.args.b.0 c.args.to.now c.copy_home.new.to c.in_ok-copy_home.ensures.words (sym c.in_default-entry_of.ensures)

@@ -3,7 +3,7 @@ use Rattle.std.specs.Prelude.{ℕ}
 use Rattle.std.proofs.Common.{arith}
 use Rattle.rio_base.specs.Machine.{Contents}
 use Rattle.rio_model.specs.Cover.{Coherent}
-use Rattle.machine_tests.specs.Covers.{InLimits}
+use Rattle.machine_readers.specs.Covers.{InLimits}
 
 -- a machine's memory is within them
 pub coherent_in_limits : (c : Contents) (n : ℕ) → Coherent c n → InLimits c.words

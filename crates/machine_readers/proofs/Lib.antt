@@ -1,0 +1,4 @@
+pub mod Covers
+pub mod Reading
+pub mod WorkedPair
+pub mod WorkedPairLaws
