@@ -4,8 +4,8 @@ use Rattle.std.specs.Prelude.{slice_index_or}
 use Rattle.rio_base.specs.Regions.{RegionContent}
 use Rattle.rio_model.specs.Undo.{Dropped, IsRegion, Undoes, Undone, before, before_by, live}
 use Rattle.rio_model.specs.Heap.{OfBlocks}
-use Rattle.undo_list.specs.declared.faulty_region.FaultyRegion.{FaultyRegion}
-use Rattle.undo_list.specs.FaultyRegions.{IsFreshRegion, OnlyCounts, faulty_content}
+use Rattle.region_fakes.specs.declared.faulty_region.FaultyRegion.{FaultyRegion}
+use Rattle.region_fakes.specs.FaultyRegions.{IsFreshRegion, OnlyCounts, faulty_content}
 use Rattle.recov_alloc.specs.TestHeaps.{IsHeap}
 
 pub still : (n k m : ℕ) (f g : RegionContent) → IsHeap n f → Undoes k f g → IsRegion m g → OfBlocks (live g) (g 2) → IsHeap m g

@@ -2,13 +2,14 @@
 
 ghost use Rattle.std.specs.Prelude.{◌≤◌, IfOk, OnOk};
 ghost use Rattle.rio_base.specs.Regions.{Stays};
-ghost use Rattle.undo_list.specs.FaultyRegions.{FaultyReady, faulty_content};
+ghost use Rattle.region_fakes.specs.FaultyRegions.{FaultyReady, faulty_content};
 ghost use Rattle.recov_alloc.specs.TestHeaps.{IsHeap};
 
 use crate::{HeapFail, allocate, release};
+use region_fakes::FaultyRegion;
 use rio_base::{RegionWords, VolFail};
 use std::alloc::{AllocError, Global};
-use undo_list::{FaultyRegion, drop_all, rewind};
+use undo_list::{drop_all, rewind};
 
 /// What a call on the heap answers where no call below it fails.
 #[derive(Clone, Copy, Debug, PartialEq, Eq)]

@@ -2,16 +2,17 @@
 
 ghost use Rattle.std.specs.Prelude.{IfOk};
 ghost use Rattle.rio_model.specs.Undo.{IsRegion};
-ghost use Rattle.undo_list.specs.FaultyRegions.{FaultyReady, faulty_content};
+ghost use Rattle.region_fakes.specs.FaultyRegions.{FaultyReady, faulty_content};
 ghost use Rattle.recov_alloc.specs.TestHeaps.{IsHeap};
 
 use crate::heap_calls::{commit, fresh_heap, take};
 use crate::{HeapFail, allocate, release};
+use region_fakes::FaultyRegion;
 use rio_base::{RegionWords, VolFail};
 use std::alloc::{AllocError, Global};
 use std::process::Abort;
 use std::test::Fail;
-use undo_list::{FaultyRegion, drop_all, rewind, word_at};
+use undo_list::{drop_all, rewind, word_at};
 
 /// The map of two data pages: the used units of the first page, its starts, and the same of the second.
 type Map = (u64, u64, u64, u64);

@@ -5,11 +5,12 @@ ghost use Rattle.rio_model.specs.Undo.{IsRegion, live};
 ghost use Rattle.rio_model.specs.Heap.{OfBlocks};
 
 use crate::{HeapFail, allocate, blocks, release};
+use region_fakes::FaultyRegion;
 use rio_base::RegionWords;
 use std::alloc::Global;
 use std::process::Abort;
 use std::test::Fail;
-use undo_list::{FaultyRegion, rewind, room, word_at};
+use undo_list::{rewind, room, word_at};
 
 #[test]
 fn freed_gaps_are_found_again(rt: HostRuntime) -> Result<(), Fail> {

@@ -3,9 +3,7 @@ pub mod Chains
 pub mod ChainsLaws
 pub mod Copies
 pub mod Covers
-pub mod FaultyGoes
 pub mod Frames
-pub mod FreshRegions
 pub mod MarkRuns
 pub mod MarkedRecords
 pub mod Outcomes

@@ -2,7 +2,6 @@ pub mod Bits
 pub mod Chains
 pub mod Copies
 pub mod Failures
-pub mod FaultyRegions
 pub mod Headers
 pub mod Marks
 pub mod Stages

@@ -4,23 +4,17 @@
 
 mod bits;
 mod covering;
-#[cfg(test)]
-mod covering_tests;
 mod failures;
-mod faulty_region;
 mod marks;
 mod places;
 mod ranges;
 mod records;
 mod rewinding;
 mod runs;
-#[cfg(test)]
-mod undo_tests;
 
 pub use bits::{ones_from, with_bits, zeros_from};
 pub use covering::{covered, covered_with};
 pub use failures::{UndoFail, uncounted};
-pub use faulty_region::FaultyRegion;
 pub use places::{
     data_pages, put_covered, put_covered_run, put_covered_run_with, read_places, word_at,
 };

@@ -4,8 +4,8 @@ use Rattle.std.specs.Prelude.{slice_index_or}
 use Rattle.rio_model.specs.Undo.{Dropped, Undoes, before_by}
 use Rattle.rio_requests.specs.RegionAnswers.{commit_on}
 use Rattle.rio_model.proofs.UndoRules.{dropped_before}
-use Rattle.undo_list.specs.declared.faulty_region.FaultyRegion.{FaultyRegion}
-use Rattle.undo_list.specs.FaultyRegions.{IsFreshRegion, OnlyCounts, faulty_content}
+use Rattle.region_fakes.specs.declared.faulty_region.FaultyRegion.{FaultyRegion}
+use Rattle.region_fakes.specs.FaultyRegions.{IsFreshRegion, OnlyCounts, faulty_content}
 use Rattle.vista_region.specs.Ends.{Fits, OnFault, TxnEnds, says_done}
 use Rattle.vista_region.specs.Marks.{Marks, mark_of, set_mark, txn_in}
 use Rattle.vista_region.specs.Regions.{region_now}

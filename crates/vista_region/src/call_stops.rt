@@ -2,18 +2,18 @@
 
 ghost use Rattle.std.specs.Prelude.{IfOk, OnOk};
 ghost use Rattle.rio_model.specs.Undo.{IsRegion};
-ghost use Rattle.undo_list.specs.FaultyRegions.{FaultyReady, faulty_content};
+ghost use Rattle.region_fakes.specs.FaultyRegions.{FaultyReady, faulty_content};
 ghost use Rattle.vista_region.specs.Ends.{Fits};
 ghost use Rattle.vista_region.specs.TestTables.{Sound};
 
 use crate::failures::{GetFail, TxnFail};
 use crate::open_table::OpenTable;
 use crate::test_calls::{Call, Said, fresh, make, make_all, recovered, word_of};
+use region_fakes::FaultyRegion;
 use rio_base::RegionWords;
 use std::alloc::{AllocError, Global};
 use std::process::Abort;
 use std::test::Fail;
-use undo_list::FaultyRegion;
 
 /// A transaction that changes two words and blocks.
 const CHANGES: [Call; 6] = [

@@ -4,17 +4,17 @@ ghost use Rattle.std.specs.Prelude.{◌≡◌, ℕ, ◌≤◌, IfOk, IsErrOf, On
 ghost use Rattle.rio_base.specs.Regions.{RegionContent, Stays};
 ghost use Rattle.rio_model.specs.Undo.{IsRegion};
 ghost use Rattle.vista_region.specs.Ends.{Fits};
-ghost use Rattle.undo_list.specs.FaultyRegions.{FaultyReady, faulty_content};
+ghost use Rattle.region_fakes.specs.FaultyRegions.{FaultyReady, faulty_content};
 ghost use Rattle.vista_region.specs.TestTables.{Sound};
 
 use crate::failures::{BeginFail, GetFail, TxnFail};
 use crate::open_table::OpenTable;
 use crate::recover;
+use region_fakes::FaultyRegion;
 use rio_base::{Ino, RegionWords};
 use std::alloc::{AllocError, Global};
 use std::process::Abort;
 use std::test::Fail;
-use undo_list::FaultyRegion;
 
 /// The region of most tests.
 pub(crate) const INO: Ino = Ino(7);

@@ -1,9 +1,9 @@
 use Rattle.std.proofs.Common.{arith, ap, ◌∙◌, ◌≡◌, ◌+◌, ◌*◌}
 use Rattle.rio_base.specs.Regions.{put_word}
 use Rattle.rio_model.specs.Undo.{map_pages, region_magic}
-use Rattle.undo_list.specs.FaultyRegions.{faulty_content}
-use Rattle.undo_list.proofs.FreshRegions.{is_fresh}
-use Rattle.undo_list.proofs.faulty_region.FaultyRegion.fresh.Goals as goal
+use Rattle.region_fakes.specs.FaultyRegions.{faulty_content}
+use Rattle.region_fakes.proofs.FreshRegions.{is_fresh}
+use Rattle.region_fakes.proofs.faulty_region.FaultyRegion.fresh.Goals as goal
 
 pub returns-clause-fresh : goal.returns-clause-fresh
 returns-clause-fresh c =

@@ -3,7 +3,7 @@ use Rattle.std.proofs.Common.{◌≡◌, ◌≤◌, Bool, true, false, refl, inl
 use Rattle.rio_base.specs.Blocks.{Health}
 use Rattle.rio_base.specs.Rules.{limit_refl}
 use Rattle.rio_base.specs.Volume.{Goes, StopCause}
-use Rattle.undo_list.specs.FaultyRegions.{faulty_below}
+use Rattle.region_fakes.specs.FaultyRegions.{faulty_below}
 
 cause : (a b : Bool) → StopCause faulty_below.causes faulty_below.causes a b
 cause true true = refl

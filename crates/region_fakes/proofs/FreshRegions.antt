@@ -6,8 +6,8 @@ use Rattle.std.proofs.lemmas.Nat.Bits.{bit_at-zero}
 use Rattle.rio_base.specs.Regions.{RegionContent, put_word}
 use Rattle.rio_model.specs.Undo.{Links, UndoRecord, Within, taken, live, map_pages, records_from, region_magic, region_words, undo_records}
 use Rattle.rio_model.specs.Heap.{OfBlocks, used, starts}
-use Rattle.undo_list.specs.declared.faulty_region.FaultyRegion.{FaultyRegion}
-use Rattle.undo_list.specs.FaultyRegions.{IsFreshRegion, faulty_content}
+use Rattle.region_fakes.specs.declared.faulty_region.FaultyRegion.{FaultyRegion}
+use Rattle.region_fakes.specs.FaultyRegions.{IsFreshRegion, faulty_content}
 
 no_unit : (l : ℕ → ℕ) (t : ℕ) → ((q : ℕ) → l q ≡ 0) → (used l t ≡ 0) × (starts l t ≡ 0)
 unfolding used starts

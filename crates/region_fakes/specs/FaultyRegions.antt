@@ -6,7 +6,7 @@ use Rattle.rio_base.specs.Rules.{none_some}
 use Rattle.rio_base.specs.Volume.{Below}
 use Rattle.rio_model.specs.Undo.{IsRegion, live, undo_records}
 use Rattle.rio_model.specs.Heap.{OfBlocks}
-use Rattle.undo_list.specs.declared.faulty_region.FaultyRegion.{FaultyRegion}
+use Rattle.region_fakes.specs.declared.faulty_region.FaultyRegion.{FaultyRegion}
 
 abbrev pub faulty_content : FaultyRegion → RegionContent
 faulty_content r at = slice_index_or r.words.items at 0

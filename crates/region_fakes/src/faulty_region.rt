@@ -5,7 +5,7 @@ ghost use Rattle.rio_base.specs.Blocks.{Ends};
 ghost use Rattle.rio_base.specs.Regions.{put_word};
 ghost use Rattle.rio_model.specs.Heap.{OfBlocks};
 ghost use Rattle.rio_model.specs.Undo.{IsRegion, live};
-ghost use Rattle.undo_list.specs.FaultyRegions.{FaultyReady, IsFreshRegion, OnlyCounts, faulty_content, faulty_health};
+ghost use Rattle.region_fakes.specs.FaultyRegions.{FaultyReady, IsFreshRegion, OnlyCounts, faulty_content, faulty_health};
 
 use rio_base::{RegionWords, VolFail};
 use std::alloc::{AllocError, Global};
@@ -88,6 +88,17 @@ impl FaultyRegion {
         };
     }
 
+    /// Starts it again where it was stopped. No later call stops or fails.
+    pub fn start_again(&mut self)
+        requires ready { FaultyReady self.old }
+        requires region { IsRegion self.old.count (faulty_content self.old) }
+        ensures ready { FaultyReady self.new }
+        ensures region { IsRegion self.new.count (faulty_content self.new) }
+    {
+        self.failing.clear();
+        self.stop_after(0);
+    }
+
     /// The `n`th call from now fails, `n` from 1.
     pub fn fail_call(&mut self, n: u64) -> Result<(), AllocError>
         ensures same { OnlyCounts self.old self.new }
@@ -129,7 +140,7 @@ impl FaultyRegion {
 
 #[tactic(auto, using(crate::proofs::FaultyGoes::goes_by))]
 impl RegionWords for FaultyRegion {
-    ghost use Rattle.undo_list.specs.FaultyRegions.{FaultyReady, faulty_below, faulty_content, faulty_health, faulty_limit};
+    ghost use Rattle.region_fakes.specs.FaultyRegions.{FaultyReady, faulty_below, faulty_content, faulty_health, faulty_limit};
 
     ghost count = { λ r. r.count };
 

@@ -1,12 +1,12 @@
 //! Tests of which places records cover together, and of how many records are read for it: each at most once.
 
-ghost use Rattle.std.specs.Prelude.{◌≡◌, ◌≤◌, ◌+◌, IfOk};
-ghost use Rattle.rio_base.specs.Regions.{Stays};
+ghost use Rattle.std.specs.Prelude.{IfOk};
 ghost use Rattle.rio_model.specs.Undo.{IsRegion};
-ghost use Rattle.undo_list.specs.FaultyRegions.{FaultyReady, faulty_content};
+ghost use Rattle.region_fakes.specs.FaultyRegions.{FaultyReady, faulty_content};
 
-use crate::{FaultyRegion, covered, set_range};
-use rio_base::RegionWords;
+use crate::calls::{is_covered, save};
+use crate::rows::{At, same};
+use region_fakes::FaultyRegion;
 use std::alloc::Global;
 use std::test::Fail;
 
@@ -14,21 +14,12 @@ use std::test::Fail;
 #[derive(Clone, Copy)]
 struct Places(u32, u32);
 
-/// The calls on the region that read so many records: one for the head and three for each.
+/// The calls on the region that read so many records: one for the head and three for each; none where no place is asked for.
 fn calls_for(records: u32) -> u64 {
+    if records == 0 {
+        return 0;
+    }
     1 + 3 * u64::from(records)
-}
-
-/// Saves some places of a region that has 1,024 or more.
-fn save<R: RegionWords>(r: &mut R, saved: Places) -> Result<(), Fail>
-    requires ready { R.ready r.old }
-    requires region { IsRegion (R.count r.old) (R.words r.old) }
-    ensures region { IsRegion (R.count r.new) (R.words r.new) }
-    ensures stays { Stays R.keeps_rest R.ready R.count R.health R.below r.old r.new }
-{
-    let first = saved.0.min(1024);
-    set_range(r, first, saved.1.min(1024 - first))?;
-    Ok(())
 }
 
 /// A region in which four ranges were saved, one after the other.
@@ -36,12 +27,10 @@ fn with_saved(alloc: Global, saved: [Places; 4]) -> Result<FaultyRegion, Fail>
     ensures ready { IfOk result FaultyReady }
     ensures region { IfOk result (λ r. IsRegion r.count (faulty_content r)) }
 {
-    let [a, b, c, d] = saved;
     let mut r = FaultyRegion::fresh(alloc, 4, 1)?;
-    save(&mut r, a)?;
-    save(&mut r, b)?;
-    save(&mut r, c)?;
-    save(&mut r, d)?;
+    for Places(first, count) in saved {
+        save(&mut r, first, count)?;
+    }
     Ok(r)
 }
 
@@ -50,16 +39,15 @@ fn ask(r: &mut FaultyRegion, asked: Places) -> Result<(bool, u64), Fail>
     requires ready { FaultyReady r.old }
     requires region { IsRegion r.old.count (faulty_content r.old) }
 {
-    let first = asked.0.min(1024);
     let before = r.calls();
-    let all = covered(r, first, asked.1.min(1024 - first))?;
+    let all = is_covered(r, asked.0, asked.1)?;
     Ok((all, r.calls().saturating_sub(before)))
 }
 
 /// What is saved, what is asked, whether it is covered, and the records that are read.
 type Case = (&'static str, [Places; 4], Places, bool, u32);
 
-const CASES: [Case; 21] = [
+const CASES: [Case; 22] = [
     (
         "rising",
         [Places(0, 4), Places(4, 4), Places(8, 4), Places(12, 4)],
@@ -232,20 +220,25 @@ const CASES: [Case; 21] = [
         false,
         4,
     ),
+    (
+        "no places",
+        [Places(0, 0), Places(0, 0), Places(0, 0), Places(0, 0)],
+        Places(7, 0),
+        true,
+        0,
+    ),
 ];
 
 #[test]
 fn ranges_are_taken_together_in_one_pass(rt: HostRuntime) -> Result<(), Fail> {
-    for (name, saved, asked, all, records) in CASES {
+    for (table, saved, asked, all, records) in CASES {
         let mut r = with_saved(rt.alloc(), saved)?;
-        assert_eq!(rt; ask(&mut r, asked)?, (all, calls_for(records)), "{name}");
+        let at = At {
+            table,
+            cut: 0,
+            row: 0,
+        };
+        same(&rt, at, &ask(&mut r, asked)?, &(all, calls_for(records)));
     }
-    Ok(())
-}
-
-#[test]
-fn no_places_are_covered_without_a_call(rt: HostRuntime) -> Result<(), Fail> {
-    let mut r = FaultyRegion::fresh(rt.alloc(), 1, 1)?;
-    assert_eq!(rt; ask(&mut r, Places(7, 0))?, (true, 0));
     Ok(())
 }

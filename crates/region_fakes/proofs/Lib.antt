@@ -1,0 +1,2 @@
+pub mod FaultyGoes
+pub mod FreshRegions
