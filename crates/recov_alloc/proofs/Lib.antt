@@ -4,4 +4,3 @@ pub mod Marks
 pub mod MarksLaws
 pub mod Outcomes
 pub mod Reaches
-pub mod TestHeaps

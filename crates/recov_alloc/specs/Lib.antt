@@ -3,4 +3,3 @@ pub mod Extents
 pub mod Failures
 pub mod Marks
 pub mod Scans
-pub mod TestHeaps

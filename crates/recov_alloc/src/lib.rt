@@ -6,20 +6,8 @@ mod bits;
 mod extents;
 mod failures;
 mod fitting;
-#[cfg(test)]
-mod heap_calls;
-#[cfg(test)]
-mod heap_rows;
-#[cfg(test)]
-mod heap_stops;
-#[cfg(test)]
-mod heap_tests;
-#[cfg(test)]
-mod heap_walks;
 mod listing;
 mod marking;
-#[cfg(test)]
-mod plain_heap;
 
 pub use allocating::{allocate, release};
 pub use failures::HeapFail;

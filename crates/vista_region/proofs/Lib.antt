@@ -1,7 +1,7 @@
 mod Blocks
 mod Bytes
 mod Covered
-mod Ended
+pub mod Ended
 mod Gets
 mod Heaps
 mod MarkRows
@@ -10,6 +10,5 @@ mod Outcomes
 mod Puts
 mod Ranges
 mod Spans
-mod TestTables
 mod Words
 pub mod Common

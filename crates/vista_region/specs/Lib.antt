@@ -3,4 +3,3 @@ pub mod Failures
 pub mod Marks
 pub mod Regions
 pub mod Steps
-pub mod TestTables

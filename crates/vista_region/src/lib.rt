@@ -1,18 +1,12 @@
 //! Transactions on regions of recoverable memory: which are open, and what each call on one reads, changes, keeps and undoes.
 #![tactic(auto)]
 
-#[cfg(test)]
-mod call_rows;
-#[cfg(test)]
-mod call_stops;
 mod data;
 mod ending;
 mod failures;
 mod heap;
 mod open_table;
 mod runs;
-#[cfg(test)]
-mod test_calls;
 
 pub use ending::recover;
 pub use failures::{BeginFail, GetFail, TxnFail};

@@ -1,0 +1,176 @@
+//! Calls on transactions that are not cut, with each answer as it must be.
+
+ghost use Rattle.std.specs.Prelude.{◌≤◌};
+ghost use Rattle.vista_region_tests.specs.TestTables.{Sound};
+
+use crate::calls::Call::{Abort, Alloc, Begin, Commit, Free, Get, List, Put, Range};
+use crate::calls::Said::{Busy, Bytes, Done, Failed, Number, Open};
+use crate::calls::{INO, fresh, make};
+use crate::rows::{At, Left, Row, make_all, recover_all, same};
+use rio_base::RegionWords;
+use std::alloc::Global;
+use std::test::Fail;
+use vista_region::OpenTable;
+use vista_region::TxnFail::{
+    HeapFull, NoTransaction, NotAligned, NotBlock, NotCovered, OutOfRange, UndoFull,
+};
+
+/// Calls on a fresh region of one undo page and so many data pages.
+#[derive(Clone, Copy)]
+struct Table {
+    name: &'static str,
+    pages: u32,
+    rows: &'static [Row],
+}
+
+const TABLES: [Table; 4] = [
+    Table {
+        name: "ranges and words are refused in order",
+        pages: 2,
+        rows: &[
+            (Put(0, 1), Failed(NoTransaction)),
+            (Commit, Failed(NoTransaction)),
+            (Abort, Failed(NoTransaction)),
+            (Begin, Done),
+            (Begin, Busy),
+            (Put(0, 1), Failed(NotCovered)),
+            (Put(4, 1), Failed(NotAligned)),
+            (Range(8192, 8), Failed(OutOfRange)),
+            (Range(u64::MAX - 7, 8), Failed(OutOfRange)),
+            (Range(0, 7), Failed(NotAligned)),
+            (Range(0, 4080), Failed(UndoFull)),
+            (Range(0, 4072), Done),
+            (Range(0, 0), Failed(UndoFull)),
+            (Put(4064, 9), Number(8)),
+            (Put(4072, 9), Failed(NotCovered)),
+            (Put(8192, 9), Failed(OutOfRange)),
+        ],
+    },
+    Table {
+        name: "gaps are found again until all is put back",
+        pages: 2,
+        rows: &[
+            (Begin, Done),
+            (Alloc(3), Number(0)),
+            (Alloc(64), Number(192)),
+            (Free(0), Done),
+            (Alloc(4), Number(4288)),
+            (Alloc(3), Number(0)),
+            (Alloc(58), Failed(HeapFull)),
+            (Alloc(1 << 40), Failed(HeapFull)),
+            (Alloc(57), Number(4544)),
+            (Free(64), Failed(NotBlock)),
+            (Free(u64::MAX - 63), Failed(NotBlock)),
+            (Abort, Done),
+            (Begin, Done),
+            (Alloc(128), Number(0)),
+        ],
+    },
+    Table {
+        name: "a heap of one page is full and free again",
+        pages: 1,
+        rows: &[
+            (Begin, Done),
+            (Alloc(64), Number(0)),
+            (Alloc(1), Failed(HeapFull)),
+            (Free(64), Failed(NotBlock)),
+            (Free(1), Failed(NotBlock)),
+            (Free(0), Done),
+            (Commit, Done),
+            (Begin, Done),
+            (Alloc(1), Number(0)),
+        ],
+    },
+    Table {
+        name: "bytes are read at any offset",
+        pages: 1,
+        rows: &[
+            (Begin, Done),
+            (Range(0, 8), Done),
+            (Put(0, 0x2222222222222222), Number(8)),
+            (Get(3, 7), Bytes(7, 0x2222222222)),
+            (Get(4096, 0), Bytes(0, 0)),
+            (Get(4095, 2), Failed(OutOfRange)),
+        ],
+    },
+];
+
+#[test]
+fn calls_answer_as_their_rows_say(rt: HostRuntime) -> Result<(), Fail> {
+    for Table { name, pages, rows } in TABLES {
+        let mut table = OpenTable::new(rt.alloc())?;
+        let mut r = fresh(rt.alloc(), &table, 1, pages)?;
+        let at = At {
+            name,
+            cut: 0,
+            row: 0,
+        };
+        make_all(&rt, at, rt.alloc(), &mut table, &mut r, rows)?;
+    }
+    Ok(())
+}
+
+/// A word that is changed twice, under a range for each time.
+const TWICE: [Row; 7] = [
+    (Begin, Done),
+    (Range(0, 8), Done),
+    (Put(0, 0x1111111111111111), Number(8)),
+    (Range(0, 8), Done),
+    (Put(0, 0x2222222222222222), Number(8)),
+    (List, Open(1, 7)),
+    (Get(0, 8), Bytes(8, 0x2222222222222222)),
+];
+
+/// What is left of it: the word of before, which is put back once.
+const NEITHER: [Left; 2] = [Left(Some(true), 0, 0), Left(Some(false), 0, 0)];
+
+#[test]
+fn recovered_region_has_the_words_of_before(rt: HostRuntime) -> Result<(), Fail> {
+    let mut table = OpenTable::new(rt.alloc())?;
+    let mut r = fresh(rt.alloc(), &table, 1, 1)?;
+    let at = At {
+        name: "a word changed twice",
+        cut: 0,
+        row: 0,
+    };
+    make_all(&rt, at, rt.alloc(), &mut table, &mut r, &TWICE)?;
+    recover_all(&rt, at, rt.alloc(), &mut r, &NEITHER)
+}
+
+/// Puts bytes from offset 0 on, in one transaction, and reads them. Answers whether they are the same.
+fn put_and_read<R: RegionWords>(
+    alloc: Global,
+    table: &mut OpenTable,
+    r: &mut R,
+    bytes: &[u8],
+) -> Result<bool, Fail>
+    requires ready { R.ready r.old }
+    requires sound { Sound table.old 7 (R.count r.old) (R.words r.old) }
+{
+    make(alloc, table, r, Begin)?;
+    make(alloc, table, r, Range(0, bytes.len() as u64))?;
+    if table.put(r, INO, 0, bytes)? != bytes.len() as u64 {
+        return Ok(false);
+    }
+    table.commit(r, INO)?;
+    let read = table.get(alloc, r, INO, 0, bytes.len() as u64)?;
+    Ok(read.as_slice() == bytes)
+}
+
+#[test]
+fn long_runs_are_put_and_read(rt: HostRuntime) -> Result<(), Fail> {
+    let mut bytes = Vec::with_capacity(rt.alloc(), 1_048_576)?;
+    for n in 0..1_048_576u32 {
+        bytes.push((n % 251) as u8)?;
+    }
+    let mut table = OpenTable::new(rt.alloc())?;
+    let mut r = fresh(rt.alloc(), &table, 257, 256)?;
+    let at = At {
+        name: "a long run",
+        cut: 0,
+        row: 0,
+    };
+    let is_same = put_and_read(rt.alloc(), &mut table, &mut r, bytes.as_slice())?;
+    same(&rt, at, &is_same, &true);
+    Ok(())
+}
