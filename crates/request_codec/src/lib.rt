@@ -11,10 +11,6 @@ mod parse;
 mod parts;
 mod path;
 mod piece;
-#[cfg(test)]
-mod region_rows;
-#[cfg(test)]
-mod reply_tests;
 mod reply_text;
 mod text_room;
 mod words;

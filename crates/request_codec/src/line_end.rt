@@ -23,6 +23,3 @@ pub fn line_end(bytes: &[u8]) -> Option<usize>
     }
     memchr(b'\n', bytes)
 }
-
-#[cfg(test)]
-mod tests;

@@ -169,6 +169,3 @@ pub fn one_meaning()
 pub fn long_lines_mean_nothing()
     ensures { (line : List ℕ) → 4194304 < length line → Means line None }
 {}
-
-#[cfg(test)]
-mod tests;

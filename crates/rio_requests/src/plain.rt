@@ -16,8 +16,6 @@ mod regions;
 mod removing;
 mod renaming;
 mod room;
-#[cfg(test)]
-mod tests;
 mod transactions;
 
 use crate::reply::Reply;

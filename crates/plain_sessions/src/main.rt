@@ -1,0 +1,36 @@
+//! Sessions of request lines, answered by the plain definition of the server, and rows of how lines are read and replies are
+//! written. The script is the program's input. Its output has each line of the script and below it, four spaces further
+//! in, what that line comes to:
+//!
+//! - `volume N`: a new session, over the root directory alone, on N blocks.
+//! - `> LINE`: the reply to a request line in that session. `max> LINE`: the same with 2^64 - 1 as the line's offset or
+//!   size, which no line can have.
+//! - `doomed N`: nothing. Inode N, a region of a page, has the only transaction, which may only be aborted.
+//! - `parse LINE`: the request that a line is: its word, its path, its data or second path, and its numbers.
+//! - `each N LINE`: the same for every byte that makes a request of the line at place N, and how many make none.
+//! - `lines N TEXT`: the lines of an input that comes in pieces of N bytes.
+//! - `reply KIND PARTS`: a reply as it is written. `texts A B ..`: texts written one behind the other.
+//! - `sink takes three`, `sink takes nothing`, `sink fails N`: how the reply told last is written to a sink that takes three
+//!   bytes a call or none, or whose call N fails.
+//!
+//! An empty line, and one that begins with `#` or `==`, comes to nothing.
+#![tactic(auto)]
+
+mod meanings;
+mod replies;
+mod rows;
+mod session;
+mod sinks;
+mod states;
+
+use crate::session::Session;
+use std::io;
+
+fn main(rt: HostRuntime) -> io::Result<()> {
+    let mut session = Session::new(rt.alloc())?;
+    for line in rt.lines(rt.alloc()) {
+        let told = session.told(line?.as_str())?;
+        print!(rt; "{told}")?;
+    }
+    Ok(())
+}
