@@ -1,9 +1,26 @@
 -- The rules of a machine's calls compose: what holds of each call holds of any number of them.
-use Rattle.std.specs.Prelude.{◌≡◌, ◌≢◌, ℕ, ◌+◌, ◌/◌, ◌<◌, ◌≤◌, Bool, true, false, ◌⊎◌, Option, Some, None, refl}
+use Rattle.std.specs.Prelude.{◌≡◌, ◌≢◌, ℕ, ◌+◌, ◌-◌, ◌/◌, ◌<◌, ◌≤◌, Bool, true, false, ◌⊎◌, length, slice_index, Option, Some, None, refl}
 use Rattle.rio_base.specs.Disks.{FaultCount, FaultsLast}
-use Rattle.std.proofs.Common.{le_trans, le_refl, ◌∙◌, ap, sym, subst, inl, inr}
-use Rattle.rio_base.specs.Machine.{Contents, Falls, Lasts, Running, StepEnds, Steps, StopReason}
+use Rattle.rio_base.specs.declared.wild.Wild.{Wild}
+use Rattle.rio_base.specs.declared.wild.Wild.TheVariants.{Changed, Trapped, Spared}
+use Rattle.std.proofs.Common.{le_trans, le_refl, ◌∙◌, ap, sym, subst, inl, inr, get_or-set_other, arith}
+use Rattle.std.proofs.lemmas.List.{length-set}
+use Rattle.rio_base.specs.Machine.{Contents, Falls, Lasts, Meets, Running, StepEnds, Steps, StopReason, after_wild}
 use Rattle.rio_base.specs.Rules.{true_false, none_some}
+
+-- what any number of calls leave so. `wilds` are the places that are given to `wild` in them, and `arms` those given to
+-- `arm`
+pub record RunsOn (wilds arms : ℕ → Type 0) (old new : Running) : Type 0 where
+  pub protected : new.protected ≡ old.protected
+  pub stop_set : new.stop_set ≡ old.stop_set
+  pub later : old.steps ≤ new.steps
+  pub armed : (new.armed ≡ old.armed) ⊎ (new.armed ≡ None) ⊎ ((at : ℕ) × arms at × (new.armed ≡ Some at))
+  pub stays : old.stopped ≡ true → (new.stopped ≡ true) × (new.trapped ≡ old.trapped) × (new.scratch ≡ old.scratch) × (new.steps ≡ old.steps)
+  pub running : new.stopped ≡ false → new.trapped ≡ old.trapped
+  pub reason : old.stopped ≡ false → new.stopped ≡ true
+      → ((at : ℕ) × ((old.armed ≡ Some at) ⊎ arms at ⊎ wilds at) × (at < old.protected) × (new.trapped ≡ Some at)) ⊎ ((new.trapped ≡ old.trapped) × (old.stop_set ≡ true))
+  pub scratch_count : length new.scratch ≡ length old.scratch
+  pub unnamed : (i : ℕ) → old.armed ≢ Some (old.protected + i) → (arms (old.protected + i) → ⊥) → (wilds (old.protected + i) → ⊥) → slice_index new.scratch i ≡ slice_index old.scratch i
 
 -- ---- contents
 
@@ -100,6 +117,11 @@ steps_trans a b c h k = record {
   unfallen = λ e. let both = not_fallen a.armed b.armed c.armed h.armed k.armed e in k.unfallen both.1 ∙ h.unfallen both.0;
 }
 
+-- one call and then another: a chain of calls is written `h and_then k and_then l`
+infixr 10 ◌and_then◌
+pub ◌and_then◌ : {a b c : Running} → Steps a b → Steps b c → Steps a c
+◌and_then◌ h k = steps_trans _ _ _ h k
+
 -- calls that left the machine running or stopped as it was, and then one that ends so
 pub ends_after : (a b c : Running) (stop : Type 0) → Steps a b → b.stopped ≡ a.stopped → StepEnds b c stop → StepEnds a c stop
 ends_after a b c stop h same k = record {
@@ -135,3 +157,125 @@ falls_trans o a b c s t h k = record {
     closed : (at : ℕ) → a.stopped ≡ false → a.trapped ≢ Some at → c.trapped ≡ Some at → (b.stopped ≡ false) ⊎ (b.stopped ≡ true) → o ≢ Some (at / 512)
     closed at e n d (inl runs) = k.closed at runs (λ b_at. n (sym (s.running runs) ∙ b_at)) d
     closed at e n d (inr stopped) = h.closed at e n (ap (λ (r : Running). r.trapped) (sym (t.frozen stopped)) ∙ d)
+
+-- ---- calls of which some are `wild` or `arm`
+
+pub runs_on_steps : (wilds arms : ℕ → Type 0) (a b : Running) → Steps a b → RunsOn wilds arms a b
+runs_on_steps wilds arms a b h = record {
+  protected = h.protected;
+  stop_set = h.stop_set;
+  later = h.later;
+  armed = armed_or_named h.armed;
+  stays = λ e. let same = h.frozen e in (subst (λ (r : Running). r.stopped ≡ true) (sym same) e, ap (λ (r : Running). r.trapped) same, ap (λ (r : Running). r.scratch) same, ap (λ (r : Running). r.steps) same);
+  running = h.running;
+  reason = λ e d. reason_named (h.reason e d);
+  scratch_count = h.scratch_count;
+  unnamed = λ i n m w. h.unarmed i n;
+}
+  where
+    armed_or_named : (b.armed ≡ a.armed) ⊎ (b.armed ≡ None) → (b.armed ≡ a.armed) ⊎ (b.armed ≡ None) ⊎ ((at : ℕ) × arms at × (b.armed ≡ Some at))
+    armed_or_named (inl e) = inl e
+    armed_or_named (inr e) = inr (inl e)
+
+    reason_named : StopReason a b → ((at : ℕ) × ((a.armed ≡ Some at) ⊎ arms at ⊎ wilds at) × (at < a.protected) × (b.trapped ≡ Some at)) ⊎ ((b.trapped ≡ a.trapped) × (a.stop_set ≡ true))
+    reason_named (inl t) = inl (t.0, inl t.1, t.2, t.3)
+    reason_named (inr s) = inr s
+
+-- `arm` names its own place
+pub runs_on_arm : (wilds arms : ℕ → Type 0) (r : Running) (at : ℕ) → arms at → RunsOn wilds arms r (record r { armed = Some at })
+runs_on_arm wilds arms r at n = record {
+  protected = refl;
+  stop_set = refl;
+  later = le_refl r.steps;
+  armed = inr (inr (at, n, refl));
+  stays = λ e. (e, refl, refl, refl);
+  running = λ e. refl;
+  reason = λ e d. absurd (true_false (sym d ∙ e));
+  scratch_count = refl;
+  unnamed = λ i n m w. refl;
+}
+
+-- so does `wild`, on a machine that runs
+pub runs_on_wild : (wilds arms : ℕ → Type 0) (c : Contents) (w : Wild) (at v : ℕ) (r : Running) → r.stopped ≡ false → length c.words ≡ r.protected → Meets c at w → wilds at → RunsOn wilds arms r (after_wild w at v r)
+runs_on_wild wilds arms c Changed at v r runs size meets told = record {
+  protected = refl;
+  stop_set = refl;
+  later = le_refl r.steps;
+  armed = inl refl;
+  stays = λ e. absurd (true_false (sym e ∙ runs));
+  running = λ e. refl;
+  reason = λ e d. absurd (true_false (sym d ∙ e));
+  scratch_count = length-set r.scratch (at - r.protected) v;
+  unnamed = λ i n m w. get_or-set_other r.scratch (at - r.protected) i v 0 (λ e. w (subst wilds (place i e) told));
+}
+  where
+    place : (i : ℕ) → i ≡ at - r.protected → at ≡ r.protected + i
+    place i e = omega (arith, e, subst (λ (s : ℕ). s ≤ at) size meets)
+runs_on_wild wilds arms c Spared at v r runs size meets n = runs_on_steps wilds arms r r (steps_refl r)
+runs_on_wild wilds arms c Trapped at v r runs size meets told = record {
+  protected = refl;
+  stop_set = refl;
+  later = le_refl r.steps;
+  armed = inl refl;
+  stays = λ e. absurd (true_false (sym e ∙ runs));
+  running = λ e. absurd (true_false e);
+  reason = λ e d. inl (at, inr (inr told), subst (λ (s : ℕ). at < s) size meets.0, refl);
+  scratch_count = refl;
+  unnamed = λ i n m w. refl;
+}
+
+armed_through : (arms : ℕ → Type 0) (a b c : Option ℕ) → (b ≡ a) ⊎ (b ≡ None) ⊎ ((at : ℕ) × arms at × (b ≡ Some at)) → (c ≡ b) ⊎ (c ≡ None) ⊎ ((at : ℕ) × arms at × (c ≡ Some at)) → (c ≡ a) ⊎ (c ≡ None) ⊎ ((at : ℕ) × arms at × (c ≡ Some at))
+armed_through arms a b c h (inr k) = inr k
+armed_through arms a b c (inl h) (inl k) = inl (k ∙ h)
+armed_through arms a b c (inr (inl h)) (inl k) = inr (inl (k ∙ h))
+armed_through arms a b c (inr (inr h)) (inl k) = inr (inr (h.0, h.1, k ∙ h.2))
+
+some_inj : (x y : ℕ) → Some x ≡ Some y → x ≡ y
+some_inj x y e = cc
+
+-- what is armed in the end of calls was armed before or is named in them
+armed_from : (arms : ℕ → Type 0) (a b : Option ℕ) (at : ℕ) → (b ≡ a) ⊎ (b ≡ None) ⊎ ((x : ℕ) × arms x × (b ≡ Some x)) → b ≡ Some at → (a ≡ Some at) ⊎ arms at
+armed_from arms a b at (inl h) e = inl (sym h ∙ e)
+armed_from arms a b at (inr (inl h)) e = absurd (none_some at b h e)
+armed_from arms a b at (inr (inr h)) e = inr (subst arms (some_inj h.0 at (sym h.2 ∙ e)) h.1)
+
+pub runs_on_trans : (wilds arms : ℕ → Type 0) (a b c : Running) → RunsOn wilds arms a b → RunsOn wilds arms b c → RunsOn wilds arms a c
+runs_on_trans wilds arms a b c h k = record {
+  protected = k.protected ∙ h.protected;
+  stop_set = k.stop_set ∙ h.stop_set;
+  later = le_trans h.later k.later;
+  armed = armed_through arms a.armed b.armed c.armed h.armed k.armed;
+  stays = λ e. let one = h.stays e in let two = k.stays one.0 in (two.0, two.1 ∙ one.1, two.2 ∙ one.2, two.3 ∙ one.3);
+  running = λ e. k.running e ∙ h.running (ran e (flag b.stopped));
+  reason = λ e d. through e d (flag b.stopped);
+  scratch_count = k.scratch_count ∙ h.scratch_count;
+  unnamed = λ i n m w. k.unnamed i (λ e. elsewhere i n m (armed_from arms a.armed b.armed (a.protected + i) h.armed (subst (λ p. b.armed ≡ Some (p + i)) h.protected e))) (λ e. m (subst (λ p. arms (p + i)) h.protected e)) (λ e. w (subst (λ p. wilds (p + i)) h.protected e)) ∙ h.unnamed i n m w;
+}
+  where
+    elsewhere : (i : ℕ) → a.armed ≢ Some (a.protected + i) → (arms (a.protected + i) → ⊥) → (a.armed ≡ Some (a.protected + i)) ⊎ arms (a.protected + i) → ⊥
+    elsewhere i n m (inl e) = n e
+    elsewhere i n m (inr e) = m e
+
+    ran : c.stopped ≡ false → (b.stopped ≡ false) ⊎ (b.stopped ≡ true) → b.stopped ≡ false
+    ran e (inl f) = f
+    ran e (inr s) = absurd (true_false (sym (k.stays s).0 ∙ e))
+
+    earlier : b.trapped ≡ a.trapped → ((at : ℕ) × ((b.armed ≡ Some at) ⊎ arms at ⊎ wilds at) × (at < b.protected) × (c.trapped ≡ Some at)) ⊎ ((c.trapped ≡ b.trapped) × (b.stop_set ≡ true)) → ((at : ℕ) × ((a.armed ≡ Some at) ⊎ arms at ⊎ wilds at) × (at < a.protected) × (c.trapped ≡ Some at)) ⊎ ((c.trapped ≡ a.trapped) × (a.stop_set ≡ true))
+    earlier same (inl t) = inl (t.0, from_either t.1, subst (λ p. t.0 < p) h.protected t.2, t.3)
+      where
+        widen : (a.armed ≡ Some t.0) ⊎ arms t.0 → (a.armed ≡ Some t.0) ⊎ arms t.0 ⊎ wilds t.0
+        widen (inl e) = inl e
+        widen (inr n) = inr (inl n)
+
+        from_either : (b.armed ≡ Some t.0) ⊎ arms t.0 ⊎ wilds t.0 → (a.armed ≡ Some t.0) ⊎ arms t.0 ⊎ wilds t.0
+        from_either (inl e) = widen (armed_from arms a.armed b.armed t.0 h.armed e)
+        from_either (inr n) = inr n
+    earlier same (inr s) = inr (s.0 ∙ same, sym h.stop_set ∙ s.1)
+
+    later : ((at : ℕ) × ((a.armed ≡ Some at) ⊎ arms at ⊎ wilds at) × (at < a.protected) × (b.trapped ≡ Some at)) ⊎ ((b.trapped ≡ a.trapped) × (a.stop_set ≡ true)) → c.trapped ≡ b.trapped → ((at : ℕ) × ((a.armed ≡ Some at) ⊎ arms at ⊎ wilds at) × (at < a.protected) × (c.trapped ≡ Some at)) ⊎ ((c.trapped ≡ a.trapped) × (a.stop_set ≡ true))
+    later (inl t) same = inl (t.0, t.1, t.2, same ∙ t.3)
+    later (inr s) same = inr (same ∙ s.0, s.1)
+
+    through : a.stopped ≡ false → c.stopped ≡ true → (b.stopped ≡ false) ⊎ (b.stopped ≡ true) → ((at : ℕ) × ((a.armed ≡ Some at) ⊎ arms at ⊎ wilds at) × (at < a.protected) × (c.trapped ≡ Some at)) ⊎ ((c.trapped ≡ a.trapped) × (a.stop_set ≡ true))
+    through e d (inl f) = earlier (h.running f) (k.reason f d)
+    through e d (inr s) = later (h.reason e s) (k.stays s).1

@@ -1,11 +1,13 @@
 -- A node that grows by blocks that it takes, or shrinks, is one that the rules allow.
-use Rattle.rio_model.proofs.Common.{◌≡◌, ℕ, ◌+◌, ◌-◌, ◌<◌, ◌≤◌, ◌⊎◌, Bool, true, false, cond, List, refl, sym, ap, subst, ◌∙◌, arith, inl, inr, nat_lt, slice_index, nat_tests, VolumeShape, reserved}
+use Rattle.rio_model.proofs.Common.{◌≡◌, ℕ, ◌+◌, ◌-◌, ◌*◌, ◌/◌, ◌%◌, ◌<◌, ◌≤◌, ◌⊎◌, Bool, true, false, cond, List, refl, sym, ap, subst, ◌∙◌, arith, inl, inr, nat_lt, slice_index, nat_tests, VolumeShape, BlockWords, IsIno, reserved}
 use Rattle.std.proofs.Common.{length}
-use Rattle.rio_model.specs.NodeChanges.{grown, Takes, shrunk}
-use Rattle.rio_model.specs.Placed.{Slot, AtPage, AtTable, Placed, Within, HasSlot, Layout, Owned}
-use Rattle.rio_model.proofs.PlacedRules.{page_page, table_table, table_page, cases_lt}
+use Rattle.rio_model.specs.Held.{word_in}
+use Rattle.rio_model.proofs.HeldRules.{counts_of}
+use Rattle.rio_model.specs.NodeChanges.{Available, grown_block, grown, Takes, shrunk}
+use Rattle.rio_model.specs.Placed.{Slot, AtPage, AtTable, Placed, Within, HasSlot, Layout, IsFree, Owned}
+use Rattle.rio_model.proofs.PlacedRules.{page_page, table_table, table_page, cases_lt, node_fits}
 use Rattle.rio_model.specs.Sizes.{pages, tables}
-use Rattle.rio_model.specs.VolumeRules.{SizeFits, NodeFits}
+use Rattle.rio_model.specs.VolumeRules.{SizeFits, IsLaid, NodeFits}
 
 -- a node has one table at most, and only where it has more than 24 pages
 less_true : (a b : ℕ) → a < b → nat_lt a b ≡ true
@@ -98,6 +100,13 @@ pub record BlocksFit (shape : VolumeShape) (n : Placed) : Type 0 where
   pub to : (s : Slot) → HasSlot n s → n.block s < shape.blocks
   pub apart : (s t : Slot) → HasSlot n s → HasSlot n t → n.block s ≡ n.block t → s ≡ t
 
+-- each block of the grown node is one that it may have
+pub grown_available : (l : Layout) (i size : ℕ) (taken : List ℕ) → Takes l (l.node i) size taken → (s : Slot) → HasSlot (grown (l.node i) size taken) s → Available l i (grown_block (l.node i) size taken s)
+grown_available l i size taken t s h = elim (sourced l (l.node i) size taken s t h) [
+  | inl old ↦ inl (s, old, sym (same_old (l.node i) size taken s old))
+  | inr new ↦ inr (subst (IsFree l) (sym new.1.is) (t.free new.0 new.1.within))
+]
+
 -- a node that grows from blocks that are its inode's own, by free ones
 pub node_grown_fits : (l : Layout) (n : Placed) (len : ℕ) (taken : List ℕ) → n.kind ≤ 3 → BlocksFit l.shape n → ((s : Slot) → HasSlot n s → Owned l (n.block s)) → Takes l n len taken → SizeFits n.kind len → NodeFits l.shape (grown n len taken)
 node_grown_fits l n len taken kind own mine t fits = record {
@@ -120,6 +129,18 @@ node_grown_fits l n len taken kind own mine t fits = record {
     taken_out : (b k : ℕ) → k < length taken → Owned l b → b ≡ slice_index taken k → ⊥
     taken_out b k within owned e = (t.free k within).free (subst (Owned l) e owned)
 
+pub grown_fits : (l : Layout) (i size : ℕ) (taken : List ℕ) → IsLaid l → IsIno l.shape i → Takes l (l.node i) size taken → SizeFits (l.node i).kind size → NodeFits l.shape (grown (l.node i) size taken)
+grown_fits l i size taken h ino t fits =
+    let own = node_fits l i h ino in
+    node_grown_fits l (l.node i) size taken own.kind (record { from = own.from; to = own.to; apart = own.apart }) (λ s has. record { node = i; slot = s; owns = record { ino = ino; slot = has }; is = refl }) t fits
+
+-- words below the old size are what they were, where the node's old pages are
+pub grown_word : (f g : BlockWords) (n : Placed) (size : ℕ) (taken : List ℕ) (y : ℕ) → 0 < n.kind → n.size ≤ size → 8 * y < n.size → ((p : ℕ) → HasSlot n (AtPage p) → (w : ℕ) → g (n.block (AtPage p)) w ≡ f (n.block (AtPage p)) w) → word_in g (grown n size taken) y ≡ word_in f n y
+grown_word f g n size taken y used grows within same =
+    let old : y / 512 < pages n.size = omega (arith, within) in
+    let has : HasSlot n (AtPage (y / 512)) = record { used = used; within = old } in
+    ap (λ t. cond t (g (grown_block n size taken (AtPage (y / 512))) (y % 512)) 0) (counts_of n.kind size y used (omega (arith, within, grows))) ∙ ap (λ t. g (cond t (n.block (AtPage (y / 512))) (slice_index taken (y / 512 - pages n.size))) (y % 512)) (less_true _ _ old) ∙ same (y / 512) has (y % 512) ∙ sym (ap (λ t. cond t (f (n.block (AtPage (y / 512))) (y % 512)) 0) (counts_of n.kind n.size y used within))
+
 -- ---- shrinking
 
 within_more : (a b : ℕ) (s : Slot) → a ≤ b → Within a s → Within b s
@@ -137,3 +158,15 @@ shrunk_has n size s le h = record { used = h.used; within = within_more size n.s
 
 pub grown_has : (n : Placed) (size : ℕ) (taken : List ℕ) (s : Slot) → n.size ≤ size → HasSlot n s → HasSlot (grown n size taken) s
 grown_has n size taken s le h = record { used = h.used; within = within_more n.size size s le h.within }
+
+pub shrunk_available : (l : Layout) (i size : ℕ) (s : Slot) → size ≤ (l.node i).size → HasSlot (shrunk (l.node i) size) s → Available l i ((l.node i).block s)
+shrunk_available l i size s le h = inl (s, shrunk_has (l.node i) size s le h, refl)
+
+pub shrunk_fits : (shape : VolumeShape) (n : Placed) (size : ℕ) → NodeFits shape n → size ≤ n.size → SizeFits n.kind size → NodeFits shape (shrunk n size)
+shrunk_fits shape n size h le fits = record {
+  kind = h.kind;
+  size = λ used. fits;
+  from = λ s has. h.from s (shrunk_has n size s le has);
+  to = λ s has. h.to s (shrunk_has n size s le has);
+  apart = λ s t hs ht e. h.apart s t (shrunk_has n size s le hs) (shrunk_has n size t le ht) e;
+}

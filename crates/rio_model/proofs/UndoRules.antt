@@ -127,11 +127,20 @@ sizes_refl f = record { magic = refl; undo = refl; data_pages = refl }
 pub sizes_trans : (f g h : RegionContent) → SameSizes f g → SameSizes g h → SameSizes f h
 sizes_trans f g h a b = record { magic = b.magic ∙ a.magic; undo = b.undo ∙ a.undo; data_pages = b.data_pages ∙ a.data_pages }
 
+pub rests_refl : (n : ℕ) (f : RegionContent) → IsRegion n f → Rests n f f
+rests_refl n f h = record { region = h; sizes = sizes_refl f; present = refl; records = refl }
+
+pub rests_trans : (n : ℕ) (f g h : RegionContent) → Rests n f g → Rests n g h → Rests n f h
+rests_trans n f g h a b = record { region = b.region; sizes = sizes_trans f g h a.sizes b.sizes; present = b.present ∙ a.present; records = b.records ∙ a.records }
+
 pub undoes_refl : (n : ℕ) (f : RegionContent) → IsRegion n f → Undoes n f f
 undoes_refl n f h = record { region = h; sizes = sizes_refl f; before = refl }
 
 pub undoes_trans : (n : ℕ) (f g h : RegionContent) → Undoes n f g → Undoes n g h → Undoes n f h
 undoes_trans n f g h a b = record { region = b.region; sizes = sizes_trans f g h a.sizes b.sizes; before = b.before ∙ a.before }
+
+pub keeps_refl : (n : ℕ) (f : RegionContent) → IsRegion n f → Keeps n f f
+keeps_refl n f h = record { undoes = undoes_refl n f h; records = refl }
 
 pub keeps_trans : (n : ℕ) (f g h : RegionContent) → Keeps n f g → Keeps n g h → Keeps n f h
 keeps_trans n f g h a b = record { undoes = undoes_trans n f g h a.undoes b.undoes; records = b.records ∙ a.records }
@@ -192,6 +201,17 @@ gains_by n f g place k h sizes present head words older lies within fits =
     let now = region_published n f g (saving (live f) place k) h sizes head words older lies (omega arith) (omega arith) in
     record { region = now.0; sizes = sizes; present = present; records = now.1 }
 
+-- ---- words at covered places are stored
+
+uncovered : (r : UndoRecord) (rs : List UndoRecord) (q : ℕ) → is_covered (r ∷ rs) q ≡ false → (covers r q ≡ false) × (is_covered rs q ≡ false)
+unfolding own_word
+uncovered r rs q e = by (saved_word rs q) (covers r q) e
+  where
+    by : (o : Option ℕ) (b : Bool) → is_some (first_some o (cond b (Some (slice_index r.old (q - r.first))) None)) ≡ false → (b ≡ false) × (is_some o ≡ false)
+    by (Some v) b e = absurd (true_false e)
+    by None true e = absurd (true_false e)
+    by None false e = (refl, refl)
+
 -- below the places nothing changes, and at the places only what records cover
 pub covered_keeps : (n : ℕ) (f g : RegionContent) → IsRegion n f → ((x : ℕ) → x < map_from f → g x ≡ f x) → ((q : ℕ) → is_covered (undo_records f) q ≡ false → live g q ≡ live f q) → Keeps n f g
 covered_keeps n f g h low same =
@@ -248,6 +268,11 @@ sets_covered n f g place v h covered put =
     let puts = puts_covered n f g place 1 (v ∷ []) h (λ q low high. ap (is_covered (undo_records f)) (omega arith) ∙ covered) (put ∙ one_word f (map_from f + place) v) in
     record { keeps = puts.keeps; present = puts.present ∙ sym (one_word (live f) place v) }
 
+-- ---- records are dropped
+
+put_low : (f : RegionContent) (at v x : ℕ) → x < at → put_word f at v x ≡ f x
+put_low f at v x h = grind (arith, nat_tests)
+
 put_off : (f : RegionContent) (at v x : ℕ) → at < x → put_word f at v x ≡ f x
 put_off f at v x h = grind (arith, nat_tests)
 
@@ -282,6 +307,13 @@ pub undone_by : (n : ℕ) (f g : RegionContent) → Undoes n f g → g 3 ≡ 0 �
 undone_by n f g u none =
     let recs : undo_records g ≡ [] = no_records n g u.region none in
     record { region = u.region; sizes = u.sizes; present = ap (λ (xs : List UndoRecord). before_by xs (live g)) (sym recs) ∙ u.before; records = recs }
+
+-- however often putting back was tried and stopped in between
+pub undone_after : (n : ℕ) (f g h : RegionContent) → Undoes n f g → Undone n g h → Undone n f h
+undone_after n f g h u d = record { region = d.region; sizes = sizes_trans f g h u.sizes d.sizes; present = d.present ∙ u.before; records = d.records }
+
+pub undone_undoes : (n : ℕ) (f g : RegionContent) → Undone n f g → Undoes n f g
+undone_undoes n f g u = record { region = u.region; sizes = u.sizes; before = ap (λ (xs : List UndoRecord). before_by xs (live g)) u.records ∙ u.present }
 
 -- the head alone is stored: the words of before become the present ones
 pub dropped_by : (n : ℕ) (f g : RegionContent) → IsRegion n f → g ≡ put_word f 3 0 → Dropped n f g

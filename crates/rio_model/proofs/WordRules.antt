@@ -2,12 +2,12 @@
 -- free block nothing. So it is of any change that differs in pages of one node, or in free blocks, alone.
 use Rattle.rio_model.proofs.Common.{◌≡◌, ◌≢◌, ℕ, zero, suc, ◌+◌, ◌*◌, ◌/◌, ◌%◌, ◌<◌, ◌≤◌, ◌==◌, ◌&&◌, ◌⊎◌, Bool, true, false, cond, List, ◌∷◌, map, refl, sym, ap, subst, ◌∙◌, arith, inl, inr, nat_lt, bit_at, range_with_len, cases_eq, nat_tests, VolumeShape, used_bit, BlockWords, IsIno, put}
 use Rattle.rio_base.specs.Volume.{put_run, SameBut}
-use Rattle.rio_model.specs.Held.{Held, held, held_of, word_in, held_bytes}
-use Rattle.rio_model.proofs.HeldRules.{with_word, same_held, counts_of, page_counts, held_agree, held_at, held_by}
+use Rattle.rio_model.specs.Held.{Held, held, held_of, word_in, byte_of, byte_in, held_bytes}
+use Rattle.rio_model.proofs.HeldRules.{with_word, same_held, counts_of, counts_below, page_counts, held_agree, held_at, held_by}
 use Rattle.rio_model.specs.HeldRules.{held_ino}
 use Rattle.rio_model.proofs.NodeChanges.{IsAt}
 use Rattle.rio_model.specs.NodeChanges.{SetsFile}
-use Rattle.rio_model.specs.Placed.{Slot, AtPage, AtTable, Placed, HasSlot, placed_at, Layout, volume_layout, Owns, Agrees, AgreesBeside}
+use Rattle.rio_model.specs.Placed.{Slot, AtPage, AtTable, Placed, HasSlot, placed_at, Layout, volume_layout, Owns, IsFree, Agrees, AgreesBeside}
 use Rattle.rio_model.proofs.PlacedRules.{Lays, page_page, table_page, lies_agree, lays_self, layout_refl, bits_low, reserved_same, marks_same, inode_low, mapped_by}
 use Rattle.rio_model.specs.VolumeRules.{SuperblockRule, bitmap_bits, IsLaid, IsMapped}
 
@@ -41,6 +41,17 @@ run_same_but f b w n words = record { others = λ c x away. by c x (differs c b 
     by : (c x : ℕ) → (c == b) ≡ false → put_run f b w n words c x ≡ f c x
     by c x e = grind (arith, nat_tests)
 
+-- ---- a block of which nothing counts, or which is a page of one node
+
+pub free_agrees : (l : Layout) (f g : BlockWords) (b : ℕ) → IsFree l b → SameBut b f g → Agrees l f g
+free_agrees l f g b free same = record {
+  low = λ c x low. same.others c x (λ e. let from = free.from in omega (arith, low, from, e));
+  owned = λ i s own x. same.others _ x (λ e. free.free (record { node = i; slot = s; owns = own; is = e }));
+}
+
+pub put_free : (l : Layout) (f : BlockWords) (b w v : ℕ) → IsFree l b → Agrees l f (put f b w v)
+put_free l f b w v free = free_agrees l f _ b free (put_same_but f b w v)
+
 pub beside_refl : (l : Layout) (i : ℕ) (f : BlockWords) → AgreesBeside l i f f
 beside_refl l i f = record { low = λ b w few. refl; tables = λ t has w. refl; others = λ j s away own w. refl }
 
@@ -57,6 +68,9 @@ beside_agrees l i f g ino a = record {
   tables = λ t has w. a.owned i (AtTable t) (record { ino = ino; slot = has }) w;
   others = λ j s away own w. a.owned j s own w;
 }
+
+pub beside_free : (l : Layout) (i : ℕ) (f g : BlockWords) (b : ℕ) → IsIno l.shape i → IsFree l b → SameBut b f g → AgreesBeside l i f g
+beside_free l i f g b ino free same = beside_agrees l i f g ino (free_agrees l f g b free same)
 
 pub beside_page : (l : Layout) (i p : ℕ) (f g : BlockWords) → IsLaid l → Owns l i (AtPage p) → SameBut ((l.node i).block (AtPage p)) f g → AgreesBeside l i f g
 beside_page l i p f g h own same = record {
@@ -142,15 +156,39 @@ held_put l f i y b w v h at within = same_held _ _ refl refl (λ z. elim (cases_
     other z false e away = refl
     other z true e away = put_word_there l f i y b w v i z h at (record { ino = at.page.ino; slot = page_counts _ z e }) (inr away)
 
+-- past the size nothing differs
+pub held_past : (l : Layout) (f : BlockWords) (i y b w v : ℕ) → IsLaid l → IsAt l i y b w → (l.node i).size ≤ 8 * y → held (put f b w v) (l.node i) ≡ held f (l.node i)
+held_past l f i y b w v h at past = same_held _ _ refl refl (λ z. by_case z _ refl)
+  where
+    by_case : (z : ℕ) (t : Bool) → (nat_lt 0 (l.node i).kind && nat_lt (8 * z) (l.node i).size) ≡ t → cond t (put f b w v ((l.node i).block (AtPage (z / 512))) (z % 512)) 0 ≡ cond t (f ((l.node i).block (AtPage (z / 512))) (z % 512)) 0
+    by_case z false e = refl
+    by_case z true e = put_word_there l f i y b w v i z h at (record { ino = at.page.ino; slot = page_counts _ z e }) (inr (λ same. let less : 8 * z < (l.node i).size = counts_below (l.node i).kind (l.node i).size z e in omega (arith, less, past, same)))
+
+-- no other node differs
+pub held_others : (l : Layout) (f : BlockWords) (i y b w v j : ℕ) → IsLaid l → IsAt l i y b w → IsIno l.shape j → j ≢ i → held (put f b w v) (l.node j) ≡ held f (l.node j)
+held_others l f i y b w v j h at ino away = held_agree f (put f b w v) (l.node j) (λ p has x. put_other f b w v _ x (λ same. away (one_node l i y b w j (AtPage p) h at (record { ino = ino; slot = has }) same).0))
+
 -- the rules 1 to 7 stay
 pub put_beside_node : (l : Layout) (f : BlockWords) (i y b w v : ℕ) → IsLaid l → IsAt l i y b w → AgreesBeside l i f (put f b w v)
 put_beside_node l f i y b w v h at = beside_page l i (y / 512) f _ h at.page (subst (λ c. SameBut c f (put f b w v)) (sym at.block) (put_same_but f b w v))
+
+pub mapped_put : (shape : VolumeShape) (f : BlockWords) (i y b w v : ℕ) → IsMapped shape f → IsAt (volume_layout shape f) i y b w → IsMapped shape (put f b w v)
+mapped_put shape f i y b w v h at = mapped_beside shape i f _ h (put_beside_node _ f i y b w v h.laid at)
 
 -- ---- bytes
 
 pub same_map : (f g : ℕ → ℕ) (n a : ℕ) → ((x : ℕ) → a ≤ x → x < a + n → f x ≡ g x) → map f (range_with_len a n) ≡ map g (range_with_len a n)
 same_map f g zero a e = refl
 same_map f g (suc n) a e = ap (λ y. y ∷ map f (range_with_len (a + 1) n)) (e a (omega arith) (omega arith)) ∙ ap (λ ys. g a ∷ ys) (same_map f g n (a + 1) (λ x low high. e x (omega (arith, low)) (omega (arith, high))))
+
+-- a word may hold bytes below the size and bytes past it: where the former stay, the node's bytes do
+pub bytes_tail : (h : Held) (y v : ℕ) → ((t : ℕ) → t < 8 → 8 * y + t < h.size → byte_of v t ≡ byte_of (h.word y) t) → held_bytes (with_word h y v) ≡ held_bytes h
+bytes_tail h y v same = same_map (byte_in (with_word h y v).word) (byte_in h.word) h.size 0 (λ x low high. elim (cases_eq (x / 8) y) [
+  | inl here ↦
+      let place : 8 * y + x % 8 ≡ x = omega (arith, here) in
+      ap (λ t. byte_of (cond t v (h.word (x / 8))) (x % 8)) (ap (λ z. z == y) here ∙ itself y) ∙ same (x % 8) (omega arith) (omega (arith, place, high)) ∙ ap (λ z. byte_of (h.word z) (x % 8)) (sym here)
+  | inr away ↦ ap (λ t. byte_of (cond t v (h.word (x / 8))) (x % 8)) (differs (x / 8) y away)
+])
 
 -- ---- a file of which pages, and free blocks, alone differ
 

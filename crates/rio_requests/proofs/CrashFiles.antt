@@ -11,10 +11,10 @@ use Rattle.rio_requests.specs.declared.reply.Reply.TheVariants.{Ok as Done, Numb
 use Rattle.rio_requests.specs.declared.request.Request.{Request}
 use Rattle.rio_requests.specs.declared.request.Request.TheVariants.{Mkdir, Create, Region as MakeRegion, Write, Read, Truncate, Unlink, Rmdir, Rename, Stat as StatOf, List as ListOf, Sync, Put, Alloc, Free, Abort, Txns, Wild, Arm}
 use Rattle.rio_requests.specs.Answer.{answered, at_inode, on_file, refused}
-use Rattle.rio_requests.specs.Answers.{answer_of, served_of, at_row, found, is_below, is_empty, is_open, list, make, make_new, make_row, moved, new_blocks, new_region, read, read_in, region_at, region_row, rename, rename_at, rename_row, rename_to, replace_row, replaced, rmdir_at, rmdir_node, row_wanted, stat, stat_node, truncate, truncate_in, unlink, unlink_at, unlink_node, wanted, with_room, with_size, without, write, write_file, write_in}
+use Rattle.rio_requests.specs.Answers.{answer_of, served_of, at_row, create, found, is_below, is_empty, is_open, list, make, make_new, make_region, make_row, mkdir, moved, new_blocks, new_region, read, read_in, region_at, region_row, rename, rename_at, rename_row, rename_to, replace_row, replaced, rmdir, rmdir_at, rmdir_node, row_wanted, stat, stat_node, truncate, truncate_in, unlink, unlink_at, unlink_node, wanted, with_room, with_size, without, write, write_file, write_in}
 use Rattle.rio_requests.specs.Crash.{NotOpen, OpenRegions, crashed}
 use Rattle.rio_requests.specs.Parts.{FaultStep, IsPart, LeadStep, NoneDone, PartOf, WriteDone}
-use Rattle.rio_requests.proofs.CrashRules.{Alike, LeavesOpen, crash_alike, dir_not_open, file_crashed, file_not_open, free_count_crashed, idle_not_open, is_dir_crashed, is_open_crashed, least_free_crashed, leaves_itself, leaves_new, leaves_node, leaves_replaced, leaves_without, none_not_open, replaced_crashed, walk_crashed, walk_to_dir_crashed, with_new_crashed, with_node_crashed, without_crashed}
+use Rattle.rio_requests.proofs.CrashRules.{Alike, LeavesOpen, crash_alike, dir_not_open, file_crashed, file_not_open, free_count_crashed, idle_not_open, is_dir_crashed, is_open_crashed, least_free_crashed, leaves_itself, leaves_new, leaves_node, leaves_replaced, leaves_without, none_not_open, replaced_crashed, still_regions, walk_crashed, walk_to_dir_crashed, with_new_crashed, with_node_crashed, without_crashed}
 use Rattle.rio_requests.specs.CrashFiles.{OnFiles}
 
 -- an answer, with the open transactions of the state after it undone
@@ -138,6 +138,9 @@ lead_crashed s h i off bytes k u l =
     let new : Node = File l.new in
     (with_node s i new, record { old = l.old; new = l.new; file = file; lead = l.lead; is = refl }, l.is ∙ sym (with_node_crashed s h i new none), leaves_node s i new none)
 
+pub lead_leaves : (s : State) → OpenRegions s → (i off : ℕ) (bytes : List ℕ) (k : ℕ) (t : State) → LeadsTo s i off bytes k t → LeavesOpen s t
+lead_leaves s h i off bytes k t l = subst (LeavesOpen s) (sym l.is) (leaves_node s i (File l.new) (file_not_open s h i l.old l.file))
+
 -- ---- unlink, rmdir
 
 stops_without : (s : State) → OpenRegions s → (dir : ℕ) (name : List ℕ) (i : ℕ) → NotOpen s.txns i → StopsAlike s (answered (without s dir name i) Done) (answered (without (crashed s) dir name i) Done)
@@ -243,8 +246,43 @@ files_crashed s r h on = (stops_alike s r h on).after
 pub files_leave : (s : State) (r : Request) → OpenRegions s → OnFiles r → LeavesOpen s (answer_of s r).next
 files_leave s r h on = (stops_alike s r h on).leaves
 
+pub files_keep : (s : State) (r : Request) → OpenRegions s → OnFiles r → OpenRegions (answer_of s r).next
+files_keep s r h on = still_regions s (answer_of s r).next h (files_leave s r h on)
+
+-- ---- the same, request by request
+
+pub mkdir_crashed : (s : State) → OpenRegions s → (path : List ℕ) → mkdir (crashed s) path ≡ after_crash (mkdir s path)
+mkdir_crashed s h path = files_crashed s (Mkdir path) h tt
+
+pub create_crashed : (s : State) → OpenRegions s → (path : List ℕ) → create (crashed s) path ≡ after_crash (create s path)
+create_crashed s h path = files_crashed s (Create path) h tt
+
+pub make_region_crashed : (s : State) → OpenRegions s → (path : List ℕ) (pages undo : ℕ) → make_region (crashed s) path pages undo ≡ after_crash (make_region s path pages undo)
+make_region_crashed s h path pages undo = files_crashed s (MakeRegion path pages undo) h tt
+
 pub write_crashed : (s : State) → OpenRegions s → (path : List ℕ) (off : ℕ) (bytes : List ℕ) → write (crashed s) path off bytes ≡ after_crash (write s path off bytes)
 write_crashed s h path off bytes = files_crashed s (Write path off bytes) h tt
+
+pub read_crashed : (s : State) → OpenRegions s → (path : List ℕ) (off len : ℕ) → read (crashed s) path off len ≡ after_crash (read s path off len)
+read_crashed s h path off len = files_crashed s (Read path off len) h tt
+
+pub truncate_crashed : (s : State) → OpenRegions s → (path : List ℕ) (len : ℕ) → truncate (crashed s) path len ≡ after_crash (truncate s path len)
+truncate_crashed s h path len = files_crashed s (Truncate path len) h tt
+
+pub unlink_crashed : (s : State) → OpenRegions s → (path : List ℕ) → unlink (crashed s) path (open_inodes s) ≡ after_crash (unlink s path (open_inodes s))
+unlink_crashed s h path = files_crashed s (Unlink path) h tt
+
+pub rmdir_crashed : (s : State) → OpenRegions s → (path : List ℕ) → rmdir (crashed s) path ≡ after_crash (rmdir s path)
+rmdir_crashed s h path = files_crashed s (Rmdir path) h tt
+
+pub rename_crashed : (s : State) → OpenRegions s → (path to : List ℕ) → rename (crashed s) path to (open_inodes s) ≡ after_crash (rename s path to (open_inodes s))
+rename_crashed s h path to = files_crashed s (Rename path to) h tt
+
+pub stat_crashed : (s : State) → OpenRegions s → (path : List ℕ) → stat (crashed s) path ≡ after_crash (stat s path)
+stat_crashed s h path = files_crashed s (StatOf path) h tt
+
+pub list_crashed : (s : State) → OpenRegions s → (path : List ℕ) → list (crashed s) path ≡ after_crash (list s path)
+list_crashed s h path = files_crashed s (ListOf path) h tt
 
 -- ---- what a stop or a fault leaves of a request on files
 

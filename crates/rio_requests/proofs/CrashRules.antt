@@ -1,6 +1,6 @@
 -- Laws of a stop: which node an inode has after it, what of a state it leaves as it is, and that a change of nodes on which
 -- no transaction is open may as well come after it.
-use Rattle.rio_requests.proofs.Common.{◌≡◌, ◌≢◌, ℕ, ◌-◌, ◌*◌, ◌/◌, ◌==◌, Bool, true, false, cond, List, [], ◌∷◌, length, map, refl, sym, ap, subst, ◌∙◌, inl, inr, is_none, find, sum, Result, Ok, Err, range_with_len, get, reserved, Node, Dir, File, Region, RegionNode, State, Txn, is_dir, walk, walk_to_dir, blocks_for, free_count, node_blocks, least_free, with_new, with_node, open_inodes, region_words}
+use Rattle.rio_requests.proofs.Common.{◌≡◌, ◌≢◌, ℕ, ◌-◌, ◌*◌, ◌/◌, ◌==◌, Bool, true, false, cond, List, [], ◌∷◌, length, map, refl, sym, ap, subst, ◌∙◌, inl, inr, is_none, find, sum, Result, Ok, Err, range_with_len, get, reserved, Node, Dir, File, Region, RegionNode, State, Txn, is_dir, walk, walk_to_dir, blocks_for, free_count, node_blocks, least_free, names_in, with_new, with_node, open_inodes, region_words}
 use Rattle.std.proofs.Common.{◌||◌, Option, Some, None}
 use Rattle.std.specs.Cmp.{nat_cmp_total}
 use Rattle.std.specs.FinMap.{insert, remove, get-remove}
@@ -62,6 +62,14 @@ get_undone (t ∷ ts) m i h = first_undone t ts m i (get (undo_all ts (undo_at m
 -- a stop undoes at each inode the transaction that is open there, if one is
 pub get_crashed : (s : State) → OpenRegions s → (i : ℕ) → get (crashed s).nodes i ≡ undone_node (txn_at s.txns i) (get s.nodes i)
 get_crashed s h i = get_undone s.txns s.nodes i h.once
+
+-- a node on which no transaction is open is as it was
+pub get_closed : (s : State) → OpenRegions s → (i : ℕ) → NotOpen s.txns i → get (crashed s).nodes i ≡ get s.nodes i
+get_closed s h i none = get_crashed s h i ∙ ap (λ o. undone_node o (get s.nodes i)) none
+
+-- an open region is as it was before its transaction
+pub get_open : (s : State) → OpenRegions s → (i : ℕ) (t : Txn) (r : RegionNode) → txn_at s.txns i ≡ Some t → get s.nodes i ≡ Some (Region r) → get (crashed s).nodes i ≡ Some (Region (undone r t))
+get_open s h i t r is node = get_crashed s h i ∙ ap (λ o. undone_node o (get s.nodes i)) is ∙ ap (undone_node (Some t)) node
 
 -- ---- nodes that are alike
 
@@ -142,6 +150,9 @@ is_open_crashed s h busy i = open_alike busy i _ _ (crash_alike s h i)
 -- a file has the bytes that it had
 pub file_crashed : (s : State) → OpenRegions s → (i : ℕ) (bytes : List ℕ) → get (crashed s).nodes i ≡ Some (File bytes) → get s.nodes i ≡ Some (File bytes)
 file_crashed s h i bytes e = file_alike _ _ bytes (crash_alike s h i) e
+
+pub names_in_crashed : (s : State) (dir : ℕ) → names_in (crashed s) dir ≡ names_in s dir
+names_in_crashed s dir = refl
 
 step_crashed : (s : State) (n : List ℕ) (ns : List (List ℕ)) (x : ℕ) (o : Option ℕ) → is_dir (get (crashed s).nodes x) ≡ is_dir (get s.nodes x) → get s.names (x, n) ≡ o → ((y : ℕ) → walk (crashed s) y ns ≡ walk s y ns) → walk (crashed s) x (n ∷ ns) ≡ walk s x (n ∷ ns)
 step_crashed s n ns x o dir e rec =
