@@ -1,5 +1,5 @@
 pub mod Entries
-pub mod FormatWords
+pub mod FormatForms
 pub mod Formatting
 pub mod FreshCores
 pub mod FreshMachineCaches

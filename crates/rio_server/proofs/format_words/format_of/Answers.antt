@@ -1,5 +1,5 @@
 use Rattle.std.proofs.Common.{sym, ◌∙◌}
-use Rattle.rio_server.proofs.FormatWords.{eleven, format_words, options_of, ranged, unranged}
+use Rattle.rio_server.proofs.FormatForms.{eleven, format_words, options_of, ranged, unranged}
 use Rattle.rio_server.proofs.ServeWords.{is_text}
 use Rattle.rio_server.proofs.format_words.format_of.Goals as goal
 

@@ -4,7 +4,7 @@ use Rattle.std.specs.String.{string_bytes}
 use Rattle.std.specs.Global.{Global}
 use Rattle.rio_server.specs.Format.{IsFormat}
 use Rattle.rio_server.specs.Registry.{IsRegistry}
-use Rattle.rio_server.proofs.FormatWords.{one_format}
+use Rattle.rio_server.proofs.FormatForms.{one_format}
 use Rattle.rio_server.proofs.Formatting.{no_command}
 use Rattle.rio_server.proofs.Listings.{no_status}
 use Rattle.rio_server.proofs.program.run.Goals as goal
