@@ -1,9 +1,10 @@
 -- How requests of the tests end: another may follow, or the volume is started again.
-use Rattle.std.proofs.Common.{◌≡◌, ℕ, Bool, subst, sym, arith}
+use Rattle.std.proofs.Common.{◌≡◌, ℕ, Bool, refl, subst, sym, arith}
 use Rattle.std.specs.Prelude.{◌↔◌, Result, Ok, Err, IsErr, IsErrOf, None}
 use Rattle.rio_base.specs.declared.failures.Stopped.{Stopped as MachineStopped}
 use Rattle.rio_base.specs.declared.places.VolumeShape.{VolumeShape}
 use Rattle.rio_base.specs.Blocks.{BlockWords, Caches, Health, Looks, Seen}
+use Rattle.rio_base.specs.Rules.{true_false}
 use Rattle.rio_base.specs.Volume.{Below, Kept, Passes}
 use Rattle.rio_requests.specs.declared.plain.Answered.{Answered}
 use Rattle.rio_requests.specs.declared.reply.Reply.{Reply}
@@ -30,8 +31,8 @@ start_as T says shape x k y j s a leads (Err Memory) h stopped = absurd cc
 
 -- a request that is answered, or stopped
 pub follows_end : {T : Type 0} (says : T → Reply → Type 0) (shape : VolumeShape) (x : Seen) (k : Kept) (y : Seen) (j : Kept) (a : State → Answered) (leads : State → ℕ → State → Type 0) (r : Result T FileFail) (q : Result Bool MachineStopped) → CanServe shape x k → ((s : State) → ReadsAs shape x.words s → FileEnds says shape x k y j s (a s) (leads s) r) → (IsErr q ↔ IsErrOf r Stopped) → Follows shape y j q
-follows_end says shape x k y j a leads r (Ok due) can h tells = record { ok = can_after says shape x k y j a leads r can h (λ stopped. tells.1 stopped); err = tt }
-follows_end {T = T} says shape x k y j a leads r (Err stop) can h tells = record { ok = tt; err = start_as T says shape x k y j can.state (a can.state) (leads can.state) r (h can.state can.reads) (tells.0 tt) }
+follows_end says shape x k y j a leads r (Ok due) can h tells = record { ok = can_after says shape x k y j a leads r can h (λ stopped. true_false (sym (tells.1 stopped))); err = tt }
+follows_end {T = T} says shape x k y j a leads r (Err stop) can h tells = record { ok = tt; err = start_as T says shape x k y j can.state (a can.state) (leads can.state) r (h can.state can.reads) (tells.0 refl) }
 
 pub follows_ok : {T : Type 0} (shape : VolumeShape) (x : Seen) (k : Kept) (v : T) → CanServe shape x k → Follows {T = T} shape x k (Ok v)
 follows_ok shape x k v can = record { ok = can; err = tt }
