@@ -165,8 +165,8 @@ fn volumes_at_the_ends_of_the_ranges_mark_what_is_reserved(rt: HostRuntime) -> R
         };
         let words = fresh_volume(rt.alloc(), &shape)?;
         let marked = has_bitmap(&words, full, last);
-        let kinds = [words.get(1024), words.get(1025)];
-        let due = (512 * blocks as usize, true, [Some(&1), Some(&0)]);
+        let kinds = [words.get(1024).copied(), words.get(1025).copied()];
+        let due = (512 * blocks as usize, true, [Some(1), Some(0)]);
         same(
             &rt,
             "a volume of blocks",

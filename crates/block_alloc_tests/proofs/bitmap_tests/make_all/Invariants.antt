@@ -4,5 +4,5 @@ use Rattle.block_alloc_tests.proofs.bitmap_tests.make_all.Given as goal
 abbrev pub invariant-loop-row : goal.invariant-loop-row
 invariant-loop-row g l = record {
   sound : g.V.Blocks.sound l.v;
-  shape : HasShape g.shape (g.V.Blocks.seen l.v);
+  shape : HasShape l.shape (g.V.Blocks.seen l.v);
 }
