@@ -7,6 +7,15 @@ use Rattle.page_cache.proofs.Stills.{few_then}
 use Rattle.page_cache.proofs.cache.PageCache.fetch.Goals as goal
 use Rattle.page_cache.proofs.Goes.{ends_ok}
 use Rattle.page_cache.proofs.Uses.{leaves_then, used_bound, used_hit}
+use Rattle.page_cache.proofs.Common.{subst, ◌<◌}
+use Rattle.rio_model.proofs.CoverStands.{narrows_refl}
+use Rattle.rio_model.proofs.CoverSteps.{keeps_refl}
+use Rattle.rio_base.proofs.MachineRules.{lasts_refl}
+use Rattle.page_cache.proofs.Rooms.{adds_narrows, adds_after, keeps_then, lasts_then}
+use Rattle.page_cache.proofs.Stills.{still_refl, few_still}
+use Rattle.page_cache.proofs.Touched.{touches_refl, touches_trans}
+use Rattle.page_cache.proofs.Kept.{tables_trans}
+use Rattle.page_cache.proofs.Uses.{leaves_refl}
 
 pub make_room-requires-clause-uncached : goal.make_room-requires-clause-uncached
 make_room-requires-clause-uncached g c = none_bound _ _ _ _ c.requires.sound (c.in_default.ensures.none refl)
@@ -62,3 +71,129 @@ returns-in_err-bring-clause-leaves g c = leaves_then _ _ _ _ c.make_room.ensures
 
 pub returns-clause-leaves : goal.returns-clause-leaves
 returns-clause-leaves g c = leaves_then _ _ _ _ c.make_room.ensures.leaves c.bring.ensures.stay
+
+pub returns-in-Some-clause-keeps : goal.returns-in-Some-clause-keeps
+returns-in-Some-clause-keeps g c = keeps_refl _
+
+pub returns-in-Some-clause-adds : goal.returns-in-Some-clause-adds
+returns-in-Some-clause-adds g c = adds_narrows _ _ _ _ (narrows_refl _)
+
+pub returns-in-Some-clause-touches : goal.returns-in-Some-clause-touches
+returns-in-Some-clause-touches g c = touches_refl _
+
+pub returns-in-Some-clause-leaves : goal.returns-in-Some-clause-leaves
+returns-in-Some-clause-leaves g c = leaves_refl _ _
+
+pub returns-in-Some-clause-writes : goal.returns-in-Some-clause-writes
+returns-in-Some-clause-writes g c = few_still _ _ _ (still_refl _)
+
+pub returns-in-Some-clause-hit : goal.returns-in-Some-clause-hit
+returns-in-Some-clause-hit g c cached = refl
+
+pub returns-in-Some-clause-unfetched : goal.returns-in-Some-clause-unfetched
+returns-in-Some-clause-unfetched g c q = absurd cc
+
+pub returns-clause-unfetched : goal.returns-clause-unfetched
+returns-clause-unfetched g c q = absurd cc
+
+pub returns-in-Some-clause-sure : goal.returns-in-Some-clause-sure
+returns-in-Some-clause-sure g c q = absurd cc
+
+pub returns-clause-sure : goal.returns-clause-sure
+returns-clause-sure g c q = absurd cc
+
+pub returns-in-Some-clause-fault : goal.returns-in-Some-clause-fault
+returns-in-Some-clause-fault g c q = absurd cc
+
+pub returns-clause-fault : goal.returns-clause-fault
+returns-clause-fault g c q = absurd cc
+
+pub returns-in-Some-clause-lasts : goal.returns-in-Some-clause-lasts
+returns-in-Some-clause-lasts g c = lasts_refl _
+
+pub make_room-requires-clause-sound : goal.make_room-requires-clause-sound
+make_room-requires-clause-sound g c = c.requires.sound
+
+pub make_room-requires-clause-block : goal.make_room-requires-clause-block
+make_room-requires-clause-block g c = c.requires.block
+
+pub returns-in_err-k-clause-sound : goal.returns-in_err-k-clause-sound
+returns-in_err-k-clause-sound g c = c.make_room.ensures.sound
+
+pub returns-in_err-k-clause-keeps : goal.returns-in_err-k-clause-keeps
+returns-in_err-k-clause-keeps g c = c.make_room.ensures.keeps
+
+pub returns-in_err-k-clause-touches : goal.returns-in_err-k-clause-touches
+returns-in_err-k-clause-touches g c = c.make_room.ensures.touches
+
+pub returns-in_err-k-clause-tables : goal.returns-in_err-k-clause-tables
+returns-in_err-k-clause-tables g c = c.make_room.ensures.tables
+
+pub returns-in_err-k-clause-leaves : goal.returns-in_err-k-clause-leaves
+returns-in_err-k-clause-leaves g c = c.make_room.ensures.leaves
+
+pub returns-in_err-k-clause-writes : goal.returns-in_err-k-clause-writes
+returns-in_err-k-clause-writes g c = c.make_room.ensures.writes
+
+pub returns-in_err-k-clause-lasts : goal.returns-in_err-k-clause-lasts
+returns-in_err-k-clause-lasts g c = c.make_room.ensures.lasts
+
+pub returns-in_err-k-clause-adds : goal.returns-in_err-k-clause-adds
+returns-in_err-k-clause-adds g c = adds_narrows _ _ _ _ c.make_room.ensures.narrows
+
+pub returns-in_err-k-clause-unfetched : goal.returns-in_err-k-clause-unfetched
+returns-in_err-k-clause-unfetched g c fault = c.make_room.ensures.narrows
+
+pub bring-requires-clause-sound : goal.bring-requires-clause-sound
+bring-requires-clause-sound g c = c.make_room.ensures.sound
+
+pub bring-requires-clause-entry : goal.bring-requires-clause-entry
+bring-requires-clause-entry g c = c.in_ok-k.ensures.room.0
+
+pub bring-requires-clause-invalid : goal.bring-requires-clause-invalid
+bring-requires-clause-invalid g c = c.in_ok-k.ensures.room.1
+
+pub bring-requires-clause-block : goal.bring-requires-clause-block
+bring-requires-clause-block g c = subst (λ n. c.args.b.0 < n) (sym c.make_room.ensures.lasts.blocks) c.requires.block
+
+pub bring-requires-clause-name : goal.bring-requires-clause-name
+bring-requires-clause-name g c = c.requires.name
+
+pub returns-in_err-bring-clause-sound : goal.returns-in_err-bring-clause-sound
+returns-in_err-bring-clause-sound g c = c.bring.ensures.sound
+
+pub returns-in_err-bring-clause-keeps : goal.returns-in_err-bring-clause-keeps
+returns-in_err-bring-clause-keeps g c = keeps_then _ _ _ c.make_room.ensures.keeps c.bring.ensures.keeps
+
+pub returns-in_err-bring-clause-adds : goal.returns-in_err-bring-clause-adds
+returns-in_err-bring-clause-adds g c = adds_after _ _ _ _ _ c.make_room.ensures.narrows c.bring.ensures.adds
+
+pub returns-in_err-bring-clause-touches : goal.returns-in_err-bring-clause-touches
+returns-in_err-bring-clause-touches g c = touches_trans _ _ _ c.make_room.ensures.touches c.bring.ensures.touches
+
+pub returns-in_err-bring-clause-tables : goal.returns-in_err-bring-clause-tables
+returns-in_err-bring-clause-tables g c = tables_trans _ _ _ c.make_room.ensures.tables c.bring.ensures.tables
+
+pub returns-in_err-bring-clause-lasts : goal.returns-in_err-bring-clause-lasts
+returns-in_err-bring-clause-lasts g c = lasts_then _ _ _ c.make_room.ensures.lasts c.bring.ensures.lasts
+
+pub returns-clause-sound : goal.returns-clause-sound
+returns-clause-sound g c = c.bring.ensures.sound
+
+pub returns-clause-keeps : goal.returns-clause-keeps
+returns-clause-keeps g c = keeps_then _ _ _ c.make_room.ensures.keeps c.bring.ensures.keeps
+
+pub returns-clause-adds : goal.returns-clause-adds
+returns-clause-adds g c = adds_after _ _ _ _ _ c.make_room.ensures.narrows c.bring.ensures.adds
+
+pub returns-clause-touches : goal.returns-clause-touches
+returns-clause-touches g c = touches_trans _ _ _ c.make_room.ensures.touches c.bring.ensures.touches
+
+pub returns-clause-tables : goal.returns-clause-tables
+returns-clause-tables g c = tables_trans _ _ _ c.make_room.ensures.tables c.bring.ensures.tables
+
+pub returns-clause-lasts : goal.returns-clause-lasts
+returns-clause-lasts g c = lasts_then _ _ _ c.make_room.ensures.lasts c.bring.ensures.lasts
+
+pub returns-clause-found : goal.returns-clause-found
+returns-clause-found g c = c.in_ok-bring.ensures.found

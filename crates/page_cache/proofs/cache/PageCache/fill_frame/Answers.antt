@@ -3,6 +3,13 @@ use Rattle.std.proofs.Common.{refl}
 use Rattle.page_cache.proofs.Rooms.{filled_home, filled_narrows, filled_sound, filled_tag, read_sound, touches_filled}
 use Rattle.page_cache.proofs.cache.PageCache.fill_frame.Goals as goal
 use Rattle.page_cache.proofs.Uses.{stay_filled}
+use Rattle.page_cache.proofs.Common.{subst, is_valid, tag_at, frames_of, Narrows, ◌<◌}
+use Rattle.rio_model.proofs.CoverStands.{narrows_refl}
+use Rattle.page_cache.proofs.Rooms.{keeps_then, lasts_then}
+use Rattle.page_cache.proofs.Stills.{still_trans, still_rest}
+use Rattle.page_cache.proofs.Touched.{touches_words}
+use Rattle.page_cache.proofs.Uses.{stay_words}
+use Rattle.page_cache.proofs.Goes.{ends_ok}
 
 pub returns-in_err-read_home-clause-sound : goal.returns-in_err-read_home-clause-sound
 returns-in_err-read_home-clause-sound g c = read_sound _ _ _ _ _ _ c.requires.sound c.read_home.ensures.keeps c.read_home.ensures.lasts c.read_home.ensures.ends.steps.scratch_count c.read_home.ensures.closed c.read_home.ensures.memory (record { same = record { forgotten = refl; shadowed = refl; shadows = refl }; pool = record { frames = refl; blocks = refl; pins = λ k. refl; count = refl }; first = refl; buffer = c.read_home.ensures.room ∙ sym c.requires.sound.buffer }) (λ j. refl)
@@ -39,3 +46,87 @@ returns-in_err-fill-clause-stay g c = stay_filled (g.M.Machine.contents c.args.s
 
 pub returns-clause-stay : goal.returns-clause-stay
 returns-clause-stay g c = stay_filled (g.M.Machine.contents c.args.self.now.machine) (g.M.Machine.contents c.read_home.new.m) c.args.k _ c.read_home.ensures.memory c.fill.ensures.one_page
+
+pub read_home-requires-clause-closed : goal.read_home-requires-clause-closed
+read_home-requires-clause-closed g c = c.requires.sound.closed
+
+pub read_home-requires-clause-block : goal.read_home-requires-clause-block
+read_home-requires-clause-block g c = c.requires.block
+
+pub read_home-requires-clause-room : goal.read_home-requires-clause-room
+read_home-requires-clause-room g c = c.requires.sound.buffer
+
+pub returns-in_err-read_home-clause-keeps : goal.returns-in_err-read_home-clause-keeps
+returns-in_err-read_home-clause-keeps g c = c.read_home.ensures.keeps
+
+pub returns-in_err-read_home-clause-still : goal.returns-in_err-read_home-clause-still
+returns-in_err-read_home-clause-still g c = c.read_home.ensures.still
+
+pub returns-in_err-read_home-clause-lasts : goal.returns-in_err-read_home-clause-lasts
+returns-in_err-read_home-clause-lasts g c = c.read_home.ensures.lasts
+
+pub returns-in_err-read_home-clause-narrows : goal.returns-in_err-read_home-clause-narrows
+returns-in_err-read_home-clause-narrows g c = subst (λ ws. Narrows (g.M.Machine.contents c.args.self.now.machine).words ws) (sym c.read_home.ensures.memory) (narrows_refl _)
+
+pub returns-in_err-read_home-clause-tag : goal.returns-in_err-read_home-clause-tag
+returns-in_err-read_home-clause-tag g c = ap (λ ws. tag_at ws c.args.k) c.read_home.ensures.memory
+
+pub returns-in_err-read_home-clause-touches : goal.returns-in_err-read_home-clause-touches
+returns-in_err-read_home-clause-touches g c = touches_words _ _ c.read_home.ensures.memory
+
+pub returns-in_err-read_home-clause-stay : goal.returns-in_err-read_home-clause-stay
+returns-in_err-read_home-clause-stay g c = stay_words _ _ c.read_home.ensures.memory
+
+pub returns-in_err-read_home-clause-tables : goal.returns-in_err-read_home-clause-tables
+returns-in_err-read_home-clause-tables g c = record { forgotten = refl; shadowed = refl; shadows = refl }
+
+pub returns-in_err-read_home-clause-pool : goal.returns-in_err-read_home-clause-pool
+returns-in_err-read_home-clause-pool g c = refl
+
+pub page_of_frame-page-requires-clause-entry : goal.page_of_frame-page-requires-clause-entry
+page_of_frame-page-requires-clause-entry g c = subst (λ ws. c.args.k < frames_of ws) (sym c.read_home.ensures.memory) c.requires.entry
+
+pub fill-requires-clause-entry : goal.fill-requires-clause-entry
+fill-requires-clause-entry g c = subst (λ ws. c.args.k < frames_of ws) (sym c.read_home.ensures.memory) c.requires.entry
+
+pub fill-requires-clause-closed : goal.fill-requires-clause-closed
+fill-requires-clause-closed g c = c.read_home.ensures.closed
+
+pub fill-requires-clause-invalid : goal.fill-requires-clause-invalid
+fill-requires-clause-invalid g c = ap (λ ws. is_valid (tag_at ws c.args.k)) c.read_home.ensures.memory ∙ c.requires.invalid
+
+pub returns-in_err-fill-clause-keeps : goal.returns-in_err-fill-clause-keeps
+returns-in_err-fill-clause-keeps g c = keeps_then _ _ _ c.read_home.ensures.keeps c.fill.ensures.keeps
+
+pub returns-in_err-fill-clause-still : goal.returns-in_err-fill-clause-still
+returns-in_err-fill-clause-still g c = still_trans _ _ _ c.read_home.ensures.still (still_rest _ _ c.fill.ensures.rest)
+
+pub returns-in_err-fill-clause-tables : goal.returns-in_err-fill-clause-tables
+returns-in_err-fill-clause-tables g c = record { forgotten = refl; shadowed = refl; shadows = refl }
+
+pub returns-in_err-fill-clause-pool : goal.returns-in_err-fill-clause-pool
+returns-in_err-fill-clause-pool g c = refl
+
+pub returns-in_err-fill-clause-lasts : goal.returns-in_err-fill-clause-lasts
+returns-in_err-fill-clause-lasts g c = lasts_then _ _ _ c.read_home.ensures.lasts c.fill.ensures.lasts
+
+pub returns-clause-keeps : goal.returns-clause-keeps
+returns-clause-keeps g c = keeps_then _ _ _ c.read_home.ensures.keeps c.fill.ensures.keeps
+
+pub returns-clause-still : goal.returns-clause-still
+returns-clause-still g c = still_trans _ _ _ c.read_home.ensures.still (still_rest _ _ c.fill.ensures.rest)
+
+pub returns-clause-tables : goal.returns-clause-tables
+returns-clause-tables g c = record { forgotten = refl; shadowed = refl; shadows = refl }
+
+pub returns-clause-pool : goal.returns-clause-pool
+returns-clause-pool g c = refl
+
+pub returns-clause-lasts : goal.returns-clause-lasts
+returns-clause-lasts g c = lasts_then _ _ _ c.read_home.ensures.lasts c.fill.ensures.lasts
+
+pub returns-clause-fault : goal.returns-clause-fault
+returns-clause-fault g c q = absurd cc
+
+pub returns-clause-ends : goal.returns-clause-ends
+returns-clause-ends g c = ends_ok _ _ _ _ _ _ (λ q. cc) (λ q. cc) (λ q. cc) c.in_ok-read_home.ensures.ends c.in_ok-fill.ensures.ends

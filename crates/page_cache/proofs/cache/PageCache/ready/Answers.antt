@@ -5,6 +5,9 @@ use Rattle.page_cache.proofs.cache.PageCache.ready.Goals as goal
 use Rattle.page_cache.proofs.Goes.{ends_ok, ends_stop}
 use Rattle.page_cache.proofs.Stills.{few_then}
 use Rattle.page_cache.proofs.Uses.{leaves_then, order_same, stay_found, used_then}
+use Rattle.page_cache.proofs.Common.{subst, sym, lasts_trans}
+use Rattle.rio_model.proofs.CoverSteps.{keeps_trans}
+use Rattle.page_cache.specs.Caches.{SameTables}
 
 pub make_ready-requires-clause-valid : goal.make_ready-requires-clause-valid
 make_ready-requires-clause-valid g c = (found_is _ _ _ c.in_ok-k.ensures.found).0
@@ -46,3 +49,60 @@ returns-in_err-make_ready-clause-leaves g c = leaves_then _ _ _ _ c.fetch.ensure
 
 pub returns-clause-leaves : goal.returns-clause-leaves
 returns-clause-leaves g c = leaves_then _ _ _ _ c.fetch.ensures.leaves (stay_found _ _ c.make_ready.ensures.widens.found)
+
+pub returns-in_err-k-clause-sound : goal.returns-in_err-k-clause-sound
+returns-in_err-k-clause-sound g c = c.fetch.ensures.sound
+
+pub returns-in_err-k-clause-keeps : goal.returns-in_err-k-clause-keeps
+returns-in_err-k-clause-keeps g c = c.fetch.ensures.keeps
+
+pub returns-in_err-k-clause-tables : goal.returns-in_err-k-clause-tables
+returns-in_err-k-clause-tables g c = c.fetch.ensures.tables
+
+pub returns-in_err-k-clause-leaves : goal.returns-in_err-k-clause-leaves
+returns-in_err-k-clause-leaves g c = c.fetch.ensures.leaves
+
+pub returns-in_err-k-clause-writes : goal.returns-in_err-k-clause-writes
+returns-in_err-k-clause-writes g c = c.fetch.ensures.writes
+
+pub returns-in_err-k-clause-lasts : goal.returns-in_err-k-clause-lasts
+returns-in_err-k-clause-lasts g c = c.fetch.ensures.lasts
+
+pub make_ready-requires-clause-sound : goal.make_ready-requires-clause-sound
+make_ready-requires-clause-sound g c = c.fetch.ensures.sound
+
+pub make_ready-requires-clause-name : goal.make_ready-requires-clause-name
+make_ready-requires-clause-name g c = c.requires.name
+
+pub returns-in_err-make_ready-clause-sound : goal.returns-in_err-make_ready-clause-sound
+returns-in_err-make_ready-clause-sound g c = c.make_ready.ensures.sound
+
+pub returns-in_err-make_ready-clause-keeps : goal.returns-in_err-make_ready-clause-keeps
+returns-in_err-make_ready-clause-keeps g c = keeps_trans _ _ _ c.fetch.ensures.keeps c.make_ready.ensures.keeps
+
+pub returns-in_err-make_ready-clause-tables : goal.returns-in_err-make_ready-clause-tables
+returns-in_err-make_ready-clause-tables g c = subst (λ t. SameTables c.args.self.now.tables t) (sym c.make_ready.ensures.tables) c.fetch.ensures.tables
+
+pub returns-in_err-make_ready-clause-lasts : goal.returns-in_err-make_ready-clause-lasts
+returns-in_err-make_ready-clause-lasts g c = lasts_trans _ _ _ c.fetch.ensures.lasts c.make_ready.ensures.lasts
+
+pub returns-clause-sound : goal.returns-clause-sound
+returns-clause-sound g c = c.make_ready.ensures.sound
+
+pub returns-clause-keeps : goal.returns-clause-keeps
+returns-clause-keeps g c = keeps_trans _ _ _ c.fetch.ensures.keeps c.make_ready.ensures.keeps
+
+pub returns-clause-tables : goal.returns-clause-tables
+returns-clause-tables g c = subst (λ t. SameTables c.args.self.now.tables t) (sym c.make_ready.ensures.tables) c.fetch.ensures.tables
+
+pub returns-clause-lasts : goal.returns-clause-lasts
+returns-clause-lasts g c = lasts_trans _ _ _ c.fetch.ensures.lasts c.make_ready.ensures.lasts
+
+pub returns-clause-dirty : goal.returns-clause-dirty
+returns-clause-dirty g c = c.in_ok-make_ready.ensures.dirty
+
+pub returns-clause-drops : goal.returns-clause-drops
+returns-clause-drops g c q = absurd cc
+
+pub returns-clause-fault : goal.returns-clause-fault
+returns-clause-fault g c q = absurd cc

@@ -5,6 +5,8 @@ use Rattle.page_cache.proofs.Touches.{gives_next, pages_held, pages_named, pages
 use Rattle.page_cache.proofs.cache.PageCache.shadow_frame.Goals as goal
 use Rattle.page_cache.proofs.Goes.{ends_ok}
 use Rattle.page_cache.proofs.Uses.{order_same}
+use Rattle.page_cache.proofs.Rooms.{keeps_then, lasts_then}
+use Rattle.page_cache.proofs.Stills.{still_trans}
 
 pub returns-in_err-mark_dirty-clause-pages : goal.returns-in_err-mark_dirty-clause-pages
 returns-in_err-mark_dirty-clause-pages g c = pages_held c.args.k _ _ c.mark_dirty.ensures.one_entry c.mark_dirty.ensures.held
@@ -31,3 +33,63 @@ returns-in_err-give_shadow-clause-order g c = c.give_shadow.ensures.order ∙ or
 
 pub returns-clause-order : goal.returns-clause-order
 returns-clause-order g c = c.give_shadow.ensures.order ∙ order_same _ _ c.mark_dirty.ensures.tables
+
+pub mark_dirty-requires-clause-sound : goal.mark_dirty-requires-clause-sound
+mark_dirty-requires-clause-sound g c = c.requires.sound
+
+pub mark_dirty-requires-clause-valid : goal.mark_dirty-requires-clause-valid
+mark_dirty-requires-clause-valid g c = c.requires.valid
+
+pub returns-in_err-mark_dirty-clause-sound : goal.returns-in_err-mark_dirty-clause-sound
+returns-in_err-mark_dirty-clause-sound g c = c.mark_dirty.ensures.sound
+
+pub returns-in_err-mark_dirty-clause-keeps : goal.returns-in_err-mark_dirty-clause-keeps
+returns-in_err-mark_dirty-clause-keeps g c = c.mark_dirty.ensures.keeps
+
+pub returns-in_err-mark_dirty-clause-still : goal.returns-in_err-mark_dirty-clause-still
+returns-in_err-mark_dirty-clause-still g c = c.mark_dirty.ensures.still
+
+pub returns-in_err-mark_dirty-clause-lasts : goal.returns-in_err-mark_dirty-clause-lasts
+returns-in_err-mark_dirty-clause-lasts g c = c.mark_dirty.ensures.lasts
+
+pub returns-in_err-mark_dirty-clause-forgotten : goal.returns-in_err-mark_dirty-clause-forgotten
+returns-in_err-mark_dirty-clause-forgotten g c = ap (λ (t : CacheTables). t.forgotten) c.mark_dirty.ensures.tables
+
+pub returns-in_err-mark_dirty-clause-order : goal.returns-in_err-mark_dirty-clause-order
+returns-in_err-mark_dirty-clause-order g c = order_same _ _ c.mark_dirty.ensures.tables
+
+pub give_shadow-requires-clause-sound : goal.give_shadow-requires-clause-sound
+give_shadow-requires-clause-sound g c = c.mark_dirty.ensures.sound
+
+pub give_shadow-requires-clause-dirty : goal.give_shadow-requires-clause-dirty
+give_shadow-requires-clause-dirty g c = c.in_ok-mark_dirty.ensures.dirty
+
+pub returns-in_err-give_shadow-clause-sound : goal.returns-in_err-give_shadow-clause-sound
+returns-in_err-give_shadow-clause-sound g c = c.give_shadow.ensures.sound
+
+pub returns-in_err-give_shadow-clause-keeps : goal.returns-in_err-give_shadow-clause-keeps
+returns-in_err-give_shadow-clause-keeps g c = keeps_then _ _ _ c.mark_dirty.ensures.keeps c.give_shadow.ensures.keeps
+
+pub returns-in_err-give_shadow-clause-forgotten : goal.returns-in_err-give_shadow-clause-forgotten
+returns-in_err-give_shadow-clause-forgotten g c = c.give_shadow.ensures.forgotten ∙ ap (λ (t : CacheTables). t.forgotten) c.mark_dirty.ensures.tables
+
+pub returns-in_err-give_shadow-clause-still : goal.returns-in_err-give_shadow-clause-still
+returns-in_err-give_shadow-clause-still g c = still_trans _ _ _ c.mark_dirty.ensures.still c.give_shadow.ensures.still
+
+pub returns-in_err-give_shadow-clause-lasts : goal.returns-in_err-give_shadow-clause-lasts
+returns-in_err-give_shadow-clause-lasts g c = lasts_then _ _ _ c.mark_dirty.ensures.lasts c.give_shadow.ensures.lasts
+
+pub returns-clause-sound : goal.returns-clause-sound
+returns-clause-sound g c = c.give_shadow.ensures.sound
+
+pub returns-clause-keeps : goal.returns-clause-keeps
+returns-clause-keeps g c = keeps_then _ _ _ c.mark_dirty.ensures.keeps c.give_shadow.ensures.keeps
+
+pub returns-clause-forgotten : goal.returns-clause-forgotten
+returns-clause-forgotten g c = c.give_shadow.ensures.forgotten ∙ ap (λ (t : CacheTables). t.forgotten) c.mark_dirty.ensures.tables
+
+pub returns-clause-still : goal.returns-clause-still
+returns-clause-still g c = still_trans _ _ _ c.mark_dirty.ensures.still c.give_shadow.ensures.still
+
+pub returns-clause-lasts : goal.returns-clause-lasts
+returns-clause-lasts g c = lasts_then _ _ _ c.mark_dirty.ensures.lasts c.give_shadow.ensures.lasts

@@ -3,6 +3,7 @@ use Rattle.std.proofs.Common.{length, ℕ, List}
 use Rattle.page_cache.proofs.Frames.{copied_run, page_count}
 use Rattle.page_cache.proofs.Rooms.{passes_of}
 use Rattle.page_cache.proofs.reading.PageCacheBlocks.read_run.Goals as goal
+use Rattle.page_cache.proofs.Rooms.{looks_keeps, caches_adds}
 
 pub page_of-page-requires-clause-entry : goal.page_of-page-requires-clause-entry
 page_of-page-requires-clause-entry g c = (found_is _ _ _ c.in_ok-k.ensures.found).0.within
@@ -20,3 +21,42 @@ returns-in_err-k-clause-passes g c = passes_of c.args.b.0 (g.M.Machine.contents 
 
 pub returns-clause-passes : goal.returns-clause-passes
 returns-clause-passes g c = passes_of c.args.b.0 (g.M.Machine.contents c.args.self.now.machine) (g.M.Machine.contents c.fetch.new.self.machine) (g.M.Machine.run c.args.self.now.machine) (g.M.Machine.run c.fetch.new.self.machine) c.args.self.now.tables c.fetch.new.self.tables c.fetch.ensures.keeps c.fetch.ensures.lasts c.fetch.ensures.ends.steps c.fetch.ensures.writes c.fetch.ensures.touches c.fetch.ensures.tables
+
+pub fetch-requires-clause-sound : goal.fetch-requires-clause-sound
+fetch-requires-clause-sound g c = c.requires.sound
+
+pub returns-in_err-k-clause-sound : goal.returns-in_err-k-clause-sound
+returns-in_err-k-clause-sound g c = c.fetch.ensures.sound
+
+pub returns-in_err-k-clause-writes : goal.returns-in_err-k-clause-writes
+returns-in_err-k-clause-writes g c = c.fetch.ensures.writes
+
+pub returns-in_err-k-clause-leaves : goal.returns-in_err-k-clause-leaves
+returns-in_err-k-clause-leaves g c = c.fetch.ensures.leaves
+
+pub returns-in_err-k-clause-looks : goal.returns-in_err-k-clause-looks
+returns-in_err-k-clause-looks g c = looks_keeps _ _ c.fetch.ensures.keeps c.fetch.ensures.lasts
+
+pub returns-in_err-k-clause-caches : goal.returns-in_err-k-clause-caches
+returns-in_err-k-clause-caches g c = caches_adds c.args.b.0 _ (g.M.Machine.contents c.args.self.now.machine) (g.M.Machine.contents c.fetch.new.self.machine) c.fetch.ensures.adds
+
+pub returns-clause-sound : goal.returns-clause-sound
+returns-clause-sound g c = c.fetch.ensures.sound
+
+pub returns-clause-writes : goal.returns-clause-writes
+returns-clause-writes g c = c.fetch.ensures.writes
+
+pub returns-clause-leaves : goal.returns-clause-leaves
+returns-clause-leaves g c = c.fetch.ensures.leaves
+
+pub returns-clause-looks : goal.returns-clause-looks
+returns-clause-looks g c = looks_keeps _ _ c.fetch.ensures.keeps c.fetch.ensures.lasts
+
+pub returns-clause-caches : goal.returns-clause-caches
+returns-clause-caches g c = caches_adds c.args.b.0 _ (g.M.Machine.contents c.args.self.now.machine) (g.M.Machine.contents c.fetch.new.self.machine) c.fetch.ensures.adds
+
+pub returns-clause-used : goal.returns-clause-used
+returns-clause-used g c = c.in_ok-k.ensures.used
+
+pub returns-clause-sure : goal.returns-clause-sure
+returns-clause-sure g c fault touched = absurd cc

@@ -6,6 +6,7 @@ use Rattle.page_cache.proofs.Stills.{few_then}
 use Rattle.page_cache.proofs.Touches.{adds_pages, firm_forgotten, room_of, touch_goes, touches_after}
 use Rattle.page_cache.proofs.volume.PageCacheVolume.touch.Goals as goal
 use Rattle.page_cache.proofs.Uses.{leaves_then, stay_found, used_then}
+use Rattle.page_cache.proofs.Rooms.{looks_keeps}
 
 pub returns-in_err-k-clause-caches : goal.returns-in_err-k-clause-caches
 returns-in_err-k-clause-caches g c = caches_adds c.args.b.0 _ (g.M.Machine.contents c.args.self.now.machine) (g.M.Machine.contents c.fetch.new.self.machine) c.fetch.ensures.adds
@@ -51,3 +52,42 @@ returns-in_err-shadow_frame-clause-leaves g c = leaves_then _ _ _ _ c.fetch.ensu
 
 pub returns-clause-leaves : goal.returns-clause-leaves
 returns-clause-leaves g c = leaves_then _ _ _ _ c.fetch.ensures.leaves (stay_found _ _ c.shadow_frame.ensures.pages.found)
+
+pub returns-in_err-k-clause-sound : goal.returns-in_err-k-clause-sound
+returns-in_err-k-clause-sound g c = c.fetch.ensures.sound
+
+pub returns-in_err-k-clause-writes : goal.returns-in_err-k-clause-writes
+returns-in_err-k-clause-writes g c = c.fetch.ensures.writes
+
+pub returns-in_err-k-clause-leaves : goal.returns-in_err-k-clause-leaves
+returns-in_err-k-clause-leaves g c = c.fetch.ensures.leaves
+
+pub returns-in_err-k-clause-looks : goal.returns-in_err-k-clause-looks
+returns-in_err-k-clause-looks g c = looks_keeps _ _ c.fetch.ensures.keeps c.fetch.ensures.lasts
+
+pub returns-in_err-k-clause-standing : goal.returns-in_err-k-clause-standing
+returns-in_err-k-clause-standing g c = c.fetch.ensures.keeps.stands
+
+pub shadow_frame-requires-clause-sound : goal.shadow_frame-requires-clause-sound
+shadow_frame-requires-clause-sound g c = c.fetch.ensures.sound
+
+pub returns-in_err-shadow_frame-clause-sound : goal.returns-in_err-shadow_frame-clause-sound
+returns-in_err-shadow_frame-clause-sound g c = c.shadow_frame.ensures.sound
+
+pub returns-in_err-shadow_frame-clause-looks : goal.returns-in_err-shadow_frame-clause-looks
+returns-in_err-shadow_frame-clause-looks g c = looks_keeps _ _ (keeps_trans _ _ _ c.fetch.ensures.keeps c.shadow_frame.ensures.keeps) (lasts_trans _ _ _ c.fetch.ensures.lasts c.shadow_frame.ensures.lasts)
+
+pub returns-in_err-shadow_frame-clause-standing : goal.returns-in_err-shadow_frame-clause-standing
+returns-in_err-shadow_frame-clause-standing g c = c.shadow_frame.ensures.keeps.stands ∙ c.fetch.ensures.keeps.stands
+
+pub returns-clause-sound : goal.returns-clause-sound
+returns-clause-sound g c = c.shadow_frame.ensures.sound
+
+pub returns-clause-looks : goal.returns-clause-looks
+returns-clause-looks g c = looks_keeps _ _ (keeps_trans _ _ _ c.fetch.ensures.keeps c.shadow_frame.ensures.keeps) (lasts_trans _ _ _ c.fetch.ensures.lasts c.shadow_frame.ensures.lasts)
+
+pub returns-clause-standing : goal.returns-clause-standing
+returns-clause-standing g c = c.shadow_frame.ensures.keeps.stands ∙ c.fetch.ensures.keeps.stands
+
+pub returns-clause-fault : goal.returns-clause-fault
+returns-clause-fault g c q = absurd cc
