@@ -3,7 +3,7 @@ use Rattle.file_pages.specs.Changes.{Grows, given_node}
 use Rattle.file_pages.specs.LookingUp.{page_blocks}
 use Rattle.file_pages.proofs.LookingUpRules.{can_look_up}
 use Rattle.file_pages.proofs.OrderRules.{leaves_looked, leaves_trans, ready_left}
-use Rattle.file_pages.proofs.Ends.{ends_size, size_then}
+use Rattle.file_pages.proofs.Ends.{ends_size, ends_size_ok, err_handed, size_err, size_then, unrefused_read}
 use Rattle.file_pages.proofs.Extension.{extends_looked}
 use Rattle.file_pages.proofs.extending.plan_extension.Goals as goal
 
@@ -91,3 +91,89 @@ returns-clause-leaves g c =
 
 pub returns-clause-goes : goal.returns-clause-goes
 returns-clause-goes g c = (g.met.V.Volume.passes_keeps _ _ c.take_lowest.ensures.passes).goes then c.plan_growth.ensures.goes then (g.met.V.Volume.passes_keeps _ _ c.span_blocks.ensures.passes).goes
+
+pub take_lowest-requires-clause-sound : goal.take_lowest-requires-clause-sound
+take_lowest-requires-clause-sound g c = c.requires.sound
+
+pub take_lowest-requires-clause-ready : goal.take_lowest-requires-clause-ready
+take_lowest-requires-clause-ready g c = c.requires.ready
+
+pub returns-in_err-taken-clause-goes : goal.returns-in_err-taken-clause-goes
+returns-in_err-taken-clause-goes g c = (g.met.V.Volume.passes_keeps _ _ c.take_lowest.ensures.passes).goes
+
+pub returns-in_err-taken-clause-sound : goal.returns-in_err-taken-clause-sound
+returns-in_err-taken-clause-sound g c = c.take_lowest.ensures.sound
+
+pub returns-in_err-taken-clause-ends : goal.returns-in_err-taken-clause-ends
+returns-in_err-taken-clause-ends g c =
+    let p = err_from_is_err_and c.from_residual.result c.from_residual.ensures.1 in
+    size_err _ _ _ c.from_residual.result _ _ c.in_err-taken.was p.1 p.2 c.take_lowest.ensures.ends
+
+pub returns-in_err-taken-clause-small : goal.returns-in_err-taken-clause-small
+returns-in_err-taken-clause-small g c =
+    let p = err_from_is_err_and c.from_residual.result c.from_residual.ensures.1 in
+    λ is. c.take_lowest.ensures.small (err_handed _ _ _ _ _ c.in_err-taken.was p.1 p.2 is)
+
+pub plan_growth-requires-clause-sound : goal.plan_growth-requires-clause-sound
+plan_growth-requires-clause-sound g c = c.take_lowest.ensures.sound
+
+pub plan_growth-requires-clause-ino : goal.plan_growth-requires-clause-ino
+plan_growth-requires-clause-ino g c = c.requires.ino
+
+pub plan_growth-requires-clause-grows : goal.plan_growth-requires-clause-grows
+plan_growth-requires-clause-grows g c = c.requires.grows
+
+pub plan_growth-requires-clause-apart : goal.plan_growth-requires-clause-apart
+plan_growth-requires-clause-apart g c = c.in_ok-taken.ensures.apart
+
+pub returns-in_err-change-clause-sound : goal.returns-in_err-change-clause-sound
+returns-in_err-change-clause-sound g c = c.plan_growth.ensures.sound
+
+pub returns-in_err-change-clause-ends : goal.returns-in_err-change-clause-ends
+returns-in_err-change-clause-ends g c =
+    let p = err_from_is_err_and c.from_residual-in_err-change.result c.from_residual-in_err-change.ensures.1 in
+    size_then _ _ _ c.take_lowest.result _ _ c.in_ok-taken.was c.take_lowest.ensures.ends (size_err _ _ _ c.from_residual-in_err-change.result _ _ c.in_err-change.was p.1 p.2 c.plan_growth.ensures.ends)
+
+pub returns-in_err-change-clause-small : goal.returns-in_err-change-clause-small
+returns-in_err-change-clause-small g c =
+    let p = err_from_is_err_and c.from_residual-in_err-change.result c.from_residual-in_err-change.ensures.1 in
+    λ is. c.plan_growth.ensures.other.1 (err_handed _ _ _ _ _ c.in_err-change.was p.1 p.2 is)
+
+pub returns-in_err-change-clause-no_space : goal.returns-in_err-change-clause-no_space
+returns-in_err-change-clause-no_space g c =
+    let p = err_from_is_err_and c.from_residual-in_err-change.result c.from_residual-in_err-change.ensures.1 in
+    λ is. absurd (c.plan_growth.ensures.other.0 (err_handed _ _ _ _ _ c.in_err-change.was p.1 p.2 is))
+
+pub returns-in_err-change-clause-leaves : goal.returns-in_err-change-clause-leaves
+returns-in_err-change-clause-leaves g c =
+    let shape = c.args.shape.now in
+    let x = g.V.Blocks.seen c.args.v.now in
+    let k = g.V.Volume.kept c.args.v.now in
+    let first = c.take_lowest.ensures in
+    let looked : LeavesInUse (volume_layout shape x.words) x k (g.V.Blocks.seen c.take_lowest.new.v) (g.V.Volume.kept c.take_lowest.new.v) = leaves_looked shape _ _ _ _ x (g.V.Blocks.seen c.take_lowest.new.v) k (g.V.Volume.kept c.take_lowest.new.v) c.requires.ready first.looks (g.met.V.Volume.passes_keeps _ _ first.passes) in
+    leaves_trans shape x k (g.V.Blocks.seen c.take_lowest.new.v) (g.V.Volume.kept c.take_lowest.new.v) (g.V.Blocks.seen c.plan_growth.new.v) (g.V.Volume.kept c.plan_growth.new.v) c.requires.ready looked c.plan_growth.ensures.leaves
+
+pub span_blocks-requires-clause-sound : goal.span_blocks-requires-clause-sound
+span_blocks-requires-clause-sound g c = c.plan_growth.ensures.sound
+
+pub span_blocks-requires-clause-ino : goal.span_blocks-requires-clause-ino
+span_blocks-requires-clause-ino g c = c.requires.ino
+
+pub returns-in_err-blocks-clause-sound : goal.returns-in_err-blocks-clause-sound
+returns-in_err-blocks-clause-sound g c = c.span_blocks.ensures.sound
+
+pub returns-in_err-blocks-clause-small : goal.returns-in_err-blocks-clause-small
+returns-in_err-blocks-clause-small g c =
+    let p = err_from_is_err_and c.from_residual-in_err-blocks.result c.from_residual-in_err-blocks.ensures.1 in
+    λ is. (unrefused_read c.from_residual-in_err-blocks.result _ p.0 p.1 p.2).1 is
+
+pub returns-in_err-blocks-clause-no_space : goal.returns-in_err-blocks-clause-no_space
+returns-in_err-blocks-clause-no_space g c =
+    let p = err_from_is_err_and c.from_residual-in_err-blocks.result c.from_residual-in_err-blocks.ensures.1 in
+    λ is. absurd ((unrefused_read c.from_residual-in_err-blocks.result _ p.0 p.1 p.2).0 is)
+
+pub returns-clause-sound : goal.returns-clause-sound
+returns-clause-sound g c = c.span_blocks.ensures.sound
+
+pub returns-clause-ends : goal.returns-clause-ends
+returns-clause-ends g c = size_then _ _ _ c.take_lowest.result _ _ c.in_ok-taken.was c.take_lowest.ensures.ends (size_then _ _ _ c.plan_growth.result _ _ c.in_ok-change.was c.plan_growth.ensures.ends (ends_size_ok _ _ c.span_blocks.result _ _ c.in_ok-blocks.was c.span_blocks.ensures.ends))

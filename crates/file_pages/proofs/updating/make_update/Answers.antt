@@ -1,4 +1,4 @@
-use Rattle.file_pages.proofs.Common.{◌<◌, ℕ, sym, subst, numbers}
+use Rattle.file_pages.proofs.Common.{◌<◌, ◌∙◌, ◌then◌, ℕ, firm_trans, sym, subst, numbers}
 use Rattle.file_pages.specs.Updating.{SetsBits}
 use Rattle.file_pages.proofs.Listed.{as_many}
 use Rattle.file_pages.proofs.Updated.{applied}
@@ -19,3 +19,117 @@ returns-clause-ok g c =
     c.in_ok-edit_inode.ensures.ok
     (subst (λ n. SetsBits shape (seen c.edit_inode.new.v).words (seen c.mark_all.new.v).words (numbers taken) n 1) (sym (as_many taken)) c.in_ok-mark_all.ensures.ok)
     (subst (λ n. SetsBits shape (seen c.mark_all.new.v).words (seen c.unmark_all.new.v).words (numbers freed) n 0) (sym (as_many freed)) c.in_ok-unmark_all.ensures.ok)
+
+pub returns-in_err-make_edits-clause-in_update : goal.returns-in_err-make_edits-clause-in_update
+returns-in_err-make_edits-clause-in_update g c = c.make_edits.ensures.in_update
+
+pub returns-in_err-make_edits-clause-sound : goal.returns-in_err-make_edits-clause-sound
+returns-in_err-make_edits-clause-sound g c = c.make_edits.ensures.sound
+
+pub returns-in_err-make_edits-clause-standing : goal.returns-in_err-make_edits-clause-standing
+returns-in_err-make_edits-clause-standing g c = c.make_edits.ensures.standing
+
+pub returns-in_err-make_edits-clause-goes : goal.returns-in_err-make_edits-clause-goes
+returns-in_err-make_edits-clause-goes g c = c.make_edits.ensures.goes
+
+pub returns-in_err-make_edits-clause-firm : goal.returns-in_err-make_edits-clause-firm
+returns-in_err-make_edits-clause-firm g c = c.make_edits.ensures.firm
+
+pub returns-in_err-edit_inode-clause-in_update : goal.returns-in_err-edit_inode-clause-in_update
+returns-in_err-edit_inode-clause-in_update g c = c.edit_inode.ensures.in_update
+
+pub returns-in_err-edit_inode-clause-sound : goal.returns-in_err-edit_inode-clause-sound
+returns-in_err-edit_inode-clause-sound g c = c.edit_inode.ensures.sound
+
+pub returns-in_err-edit_inode-clause-shape : goal.returns-in_err-edit_inode-clause-shape
+returns-in_err-edit_inode-clause-shape g c = c.edit_inode.ensures.shape
+
+pub returns-in_err-edit_inode-clause-standing : goal.returns-in_err-edit_inode-clause-standing
+returns-in_err-edit_inode-clause-standing g c = c.edit_inode.ensures.standing ∙ c.make_edits.ensures.standing
+
+pub returns-in_err-edit_inode-clause-goes : goal.returns-in_err-edit_inode-clause-goes
+returns-in_err-edit_inode-clause-goes g c = c.make_edits.ensures.goes then c.edit_inode.ensures.goes
+
+pub returns-in_err-edit_inode-clause-firm : goal.returns-in_err-edit_inode-clause-firm
+returns-in_err-edit_inode-clause-firm g c = firm_trans _ _ _ c.make_edits.ensures.firm c.edit_inode.ensures.firm
+
+pub returns-in_err-mark_all-clause-in_update : goal.returns-in_err-mark_all-clause-in_update
+returns-in_err-mark_all-clause-in_update g c = c.mark_all.ensures.in_update
+
+pub returns-in_err-mark_all-clause-sound : goal.returns-in_err-mark_all-clause-sound
+returns-in_err-mark_all-clause-sound g c = c.mark_all.ensures.sound
+
+pub returns-in_err-mark_all-clause-shape : goal.returns-in_err-mark_all-clause-shape
+returns-in_err-mark_all-clause-shape g c = c.mark_all.ensures.shape
+
+pub returns-in_err-mark_all-clause-standing : goal.returns-in_err-mark_all-clause-standing
+returns-in_err-mark_all-clause-standing g c = c.mark_all.ensures.standing ∙ c.edit_inode.ensures.standing ∙ c.make_edits.ensures.standing
+
+pub returns-in_err-mark_all-clause-goes : goal.returns-in_err-mark_all-clause-goes
+returns-in_err-mark_all-clause-goes g c = c.make_edits.ensures.goes then c.edit_inode.ensures.goes then c.mark_all.ensures.goes
+
+pub returns-in_err-mark_all-clause-firm : goal.returns-in_err-mark_all-clause-firm
+returns-in_err-mark_all-clause-firm g c = firm_trans _ _ _ (firm_trans _ _ _ c.make_edits.ensures.firm c.edit_inode.ensures.firm) c.mark_all.ensures.firm
+
+pub returns-in_err-unmark_all-clause-in_update : goal.returns-in_err-unmark_all-clause-in_update
+returns-in_err-unmark_all-clause-in_update g c = c.unmark_all.ensures.in_update
+
+pub returns-in_err-unmark_all-clause-sound : goal.returns-in_err-unmark_all-clause-sound
+returns-in_err-unmark_all-clause-sound g c = c.unmark_all.ensures.sound
+
+pub returns-in_err-unmark_all-clause-shape : goal.returns-in_err-unmark_all-clause-shape
+returns-in_err-unmark_all-clause-shape g c = c.unmark_all.ensures.shape
+
+pub returns-in_err-unmark_all-clause-standing : goal.returns-in_err-unmark_all-clause-standing
+returns-in_err-unmark_all-clause-standing g c = c.unmark_all.ensures.standing ∙ c.mark_all.ensures.standing ∙ c.edit_inode.ensures.standing ∙ c.make_edits.ensures.standing
+
+pub returns-in_err-unmark_all-clause-goes : goal.returns-in_err-unmark_all-clause-goes
+returns-in_err-unmark_all-clause-goes g c = c.make_edits.ensures.goes then c.edit_inode.ensures.goes then c.mark_all.ensures.goes then c.unmark_all.ensures.goes
+
+pub returns-in_err-unmark_all-clause-firm : goal.returns-in_err-unmark_all-clause-firm
+returns-in_err-unmark_all-clause-firm g c = firm_trans _ _ _ (firm_trans _ _ _ (firm_trans _ _ _ c.make_edits.ensures.firm c.edit_inode.ensures.firm) c.mark_all.ensures.firm) c.unmark_all.ensures.firm
+
+pub returns-clause-in_update : goal.returns-clause-in_update
+returns-clause-in_update g c = c.unmark_all.ensures.in_update
+
+pub returns-clause-sound : goal.returns-clause-sound
+returns-clause-sound g c = c.unmark_all.ensures.sound
+
+pub returns-clause-shape : goal.returns-clause-shape
+returns-clause-shape g c = c.unmark_all.ensures.shape
+
+pub returns-clause-standing : goal.returns-clause-standing
+returns-clause-standing g c = c.unmark_all.ensures.standing ∙ c.mark_all.ensures.standing ∙ c.edit_inode.ensures.standing ∙ c.make_edits.ensures.standing
+
+pub returns-clause-goes : goal.returns-clause-goes
+returns-clause-goes g c = c.make_edits.ensures.goes then c.edit_inode.ensures.goes then c.mark_all.ensures.goes then c.unmark_all.ensures.goes
+
+pub returns-clause-firm : goal.returns-clause-firm
+returns-clause-firm g c = firm_trans _ _ _ (firm_trans _ _ _ (firm_trans _ _ _ c.make_edits.ensures.firm c.edit_inode.ensures.firm) c.mark_all.ensures.firm) c.unmark_all.ensures.firm
+
+pub make_edits-requires-clause-sound : goal.make_edits-requires-clause-sound
+make_edits-requires-clause-sound g c = c.requires.sound
+
+pub make_edits-requires-clause-in_update : goal.make_edits-requires-clause-in_update
+make_edits-requires-clause-in_update g c = c.requires.in_update
+
+pub edit_inode-requires-clause-sound : goal.edit_inode-requires-clause-sound
+edit_inode-requires-clause-sound g c = c.make_edits.ensures.sound
+
+pub mark_all-requires-clause-sound : goal.mark_all-requires-clause-sound
+mark_all-requires-clause-sound g c = c.edit_inode.ensures.sound
+
+pub mark_all-requires-clause-in_update : goal.mark_all-requires-clause-in_update
+mark_all-requires-clause-in_update g c = c.edit_inode.ensures.in_update
+
+pub mark_all-requires-clause-shape : goal.mark_all-requires-clause-shape
+mark_all-requires-clause-shape g c = c.edit_inode.ensures.shape
+
+pub unmark_all-requires-clause-sound : goal.unmark_all-requires-clause-sound
+unmark_all-requires-clause-sound g c = c.mark_all.ensures.sound
+
+pub unmark_all-requires-clause-in_update : goal.unmark_all-requires-clause-in_update
+unmark_all-requires-clause-in_update g c = c.mark_all.ensures.in_update
+
+pub unmark_all-requires-clause-shape : goal.unmark_all-requires-clause-shape
+unmark_all-requires-clause-shape g c = c.mark_all.ensures.shape
