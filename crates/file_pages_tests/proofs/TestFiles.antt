@@ -1,5 +1,5 @@
 -- The calls of tests keep two files.
-use Rattle.std.proofs.Common.{◌≡◌, ◌≢◌, ℕ, ◌⊎◌, List, sym, ap, subst, ◌∙◌, arith, inl, inr, refl, Result, Ok, Err, ◌≤◌}
+use Rattle.std.proofs.Common.{◌≡◌, ◌≢◌, ℕ, ◌⊎◌, List, sym, ap, subst, ◌∙◌, arith, inl, inr, refl, Result, Ok, Err, ◌≤◌, ◌<◌}
 use Rattle.std.proofs.lemmas.Bool.{cases_eq}
 use Rattle.rio_base.specs.declared.places.VolumeShape.{VolumeShape}
 use Rattle.rio_base.specs.Blocks.{BlockWords, Health, Looks, Seen}
@@ -16,6 +16,7 @@ use Rattle.rio_base.specs.Bitmap.{free_blocks}
 use Rattle.std.specs.Prelude.{length, take, IfOk, IsErrOf, OnOk}
 use Rattle.file_pages.specs.Changes.{Apart}
 use Rattle.file_pages.proofs.FreeLists.{first_apart, first_free, lists_apart}
+use Rattle.file_pages.proofs.Listed.{as_many}
 use Rattle.test_volumes.specs.TestVolumes.{HasNodes}
 use Rattle.file_pages_tests.specs.TestFiles.{CanSkip, FilesReady, FilesStand, HasFiles, IsTestFile}
 use Rattle.rio_base.specs.Shapes.{HasShape}
@@ -137,8 +138,8 @@ inode_is_file shape x k i (Ok inode) h at is = is.kind ∙ test_placed shape x k
 inode_is_file shape x k i (Err e) h at is = tt
 
 -- the lowest free blocks may be skipped
-pub lowest_skipped : (shape : VolumeShape) (x y : Seen) (n : ℕ) (bs : List Block) → IsMapped shape x.words → numbers bs ≡ take n (free_blocks shape x.words) → n ≤ length (free_blocks shape x.words) → y.words ≡ x.words → CanSkip shape y (numbers bs)
-lowest_skipped shape x y n bs mapped value room same = subst (λ (f : BlockWords). CanSkip shape (record y { words = f }) (numbers bs)) (sym same) (record {
-  free = first_free shape _ _ bs mapped value room;
-  apart = subst Apart (sym value) (first_apart _ (free_blocks shape x.words) room (lists_apart shape x.words));
+pub lowest_skipped : (shape : VolumeShape) (f : BlockWords) (y : Seen) (n : ℕ) (bs : List Block) → IsMapped shape f → numbers bs ≡ take n (free_blocks shape f) → n ≤ length (free_blocks shape f) → y.words ≡ f → CanSkip shape y (numbers bs)
+lowest_skipped shape f y n bs mapped value room same = subst (λ (g : BlockWords). CanSkip shape (record y { words = g }) (numbers bs)) (sym same) (record {
+  free = λ t few. first_free shape _ _ bs mapped value room t (subst (λ (k : ℕ). t < k) (as_many bs) few);
+  apart = subst Apart (sym value) (first_apart _ (free_blocks shape f) room (lists_apart shape f));
 })
