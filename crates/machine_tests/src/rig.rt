@@ -15,6 +15,9 @@ use std::alloc::{AllocError, Global};
 /// Words in a page.
 const PAGE_WORDS: usize = 512;
 
+/// The most words that a board's memory has.
+const MOST_WORDS: usize = 42_496;
+
 /// A call on a board.
 #[derive(Clone, Copy)]
 pub(crate) enum Call {
@@ -182,7 +185,11 @@ pub(crate) struct Rig {
 impl Rig {
     /// A board over such a memory, which this befalls, with no page open.
     pub(crate) fn new(alloc: Global, memory: Memory, mishap: Mishap) -> Result<Rig, AllocError> {
-        let mem = ListMem::from_words(memory.words(alloc)?);
+        let words = memory.words(alloc)?;
+        if MOST_WORDS < words.len() {
+            return Err(AllocError);
+        }
+        let mem = ListMem::from_words(words);
         let disk = disk_of(alloc, 4, mishap)?;
         Ok(Rig {
             board: board_on(mem, disk, mishap.stop_after()),

@@ -453,6 +453,7 @@ pub(crate) fn walk_through<V: Volume>(
     requires sound { V.sound v.old }
     requires walks { Walks (V.seen v.old) }
     requires idle { (V.kept v.old).updating ≡ false }
+    ensures sound { V.sound v.new }
 {
     walk(v, plain, draws, actions)?;
     read_all(v, plain)
