@@ -3,7 +3,7 @@ use Rattle.directories_tests.specs.TestDirs.{DirsReady}
 use Rattle.directories_tests.proofs.rows.check_rows.Given as goal
 
 abbrev pub invariant-loop-k : goal.invariant-loop-k
-invariant-loop-k l = record {
+invariant-loop-k g l = record {
   sound : ListSound l.v;
   dirs : DirsReady l.shape (list_seen l.v) (list_kept l.v);
 }
