@@ -17,19 +17,41 @@ pub(crate) enum Row {
     Tell(Look, Came),
 }
 
+/// The board after a row, whose call is answered as it says.
+fn after_row(
+    rt: &impl Abort,
+    alloc: Global,
+    rig: Rig,
+    shows: &str,
+    k: usize,
+    row: &Row,
+) -> Result<Rig, AllocError> {
+    let mut rig = rig;
+    match *row {
+        Row::Board(_, memory, mishap) => return Rig::new(alloc, memory, mishap),
+        Row::Make(call, due) => same(rt, shows, k, &rig.make(call), &due),
+        Row::Tell(look, due) => same(rt, shows, k, &rig.tell(look), &due),
+    }
+    Ok(rig)
+}
+
+/// What the board is to show that begins with this row.
+fn name_at(rows: &[Row], first: usize) -> &'static str {
+    match rows.get(first) {
+        Some(Row::Board(name, _, _)) => name,
+        _ => "a board",
+    }
+}
+
 /// Goes through the rows of a table. The last board is as they leave it.
 pub(crate) fn check(rt: &impl Abort, alloc: Global, rows: &[Row]) -> Result<Rig, AllocError> {
     let mut rig = Rig::new(alloc, Memory::Small, Mishap::Nothing)?;
-    let mut shows = "a board";
+    let mut first = 0;
     for k in 0..rows.len() {
-        match rows[k] {
-            Row::Board(name, memory, mishap) => {
-                rig = Rig::new(alloc, memory, mishap)?;
-                shows = name;
-            }
-            Row::Make(call, due) => same(rt, shows, k, &rig.make(call), &due),
-            Row::Tell(look, due) => same(rt, shows, k, &rig.tell(look), &due),
+        if let Row::Board(_, _, _) = rows[k] {
+            first = k;
         }
+        rig = after_row(rt, alloc, rig, name_at(rows, first), k, &rows[k])?;
     }
     Ok(rig)
 }
