@@ -41,6 +41,11 @@ pub struct Session {
     faults: u32,
 }
 
+/// The number, or the greatest of 32 bits where it is greater.
+fn narrow(n: u64) -> u32 {
+    u32::try_from(n).unwrap_or(u32::MAX)
+}
+
 impl Session {
     /// No line and no file: pieces of 4,096 bytes, the sizes that the program serves, and nothing that fails.
     pub fn new(alloc: Global) -> Session {
@@ -96,14 +101,14 @@ impl Session {
             "==" => *self = Session::new(self.alloc),
             "on" => {
                 self.sizes = Sizes {
-                    frames: first as u32,
-                    blocks: second as u32,
-                    inodes: third as u32,
+                    frames: narrow(first),
+                    blocks: narrow(second),
+                    inodes: narrow(third),
                 }
             }
             "bad-block" => {
                 self.bad = BadBlock {
-                    block: Block(first as u32),
+                    block: Block(narrow(first)),
                     reads: second,
                 }
             }
