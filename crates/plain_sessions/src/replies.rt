@@ -7,6 +7,9 @@ use rio_requests::Reply;
 use std::alloc::{AllocError, Global};
 use test_scripts::{expanded, first_word, number};
 
+/// What is told of a text that is not written whole.
+const NOT_SENT: &[u8] = b"not sent\n";
+
 /// The reply that a kind and its parts tell. A kind that there is none of is a refusal.
 pub(crate) fn reply_of(alloc: Global, told: &str) -> Result<Reply, AllocError> {
     let (kind, parts) = first_word(told);
@@ -50,10 +53,12 @@ fn inos_of(alloc: Global, parts: &str) -> Result<Reply, AllocError> {
     Ok(Reply::Inos(InoList::from(inos)))
 }
 
-/// What is written of a reply.
+/// What is written of a reply. Where it is told that not all is, that is said in its place.
 pub(crate) fn text_of(alloc: Global, reply: &Reply) -> Result<Vec<u8>, AllocError> {
     let mut sink = MemSink::new(alloc);
-    let _sent = write_reply(reply, &mut sink);
+    if write_reply(reply, &mut sink).is_err() {
+        return Vec::from_slice(alloc, NOT_SENT);
+    }
     Vec::from_slice(alloc, sink.bytes().as_slice())
 }
 
@@ -68,7 +73,9 @@ pub(crate) fn put_texts(alloc: Global, texts: &str, out: &mut String) -> Result<
     let mut sink = MemSink::new(alloc);
     for text in texts.split_whitespace() {
         let text = expanded(alloc, text)?;
-        let _sent = write_text(text.as_slice(), &mut sink);
+        if write_text(text.as_slice(), &mut sink).is_err() {
+            return put_written(NOT_SENT, out);
+        }
     }
     put_written(sink.bytes().as_slice(), out)
 }

@@ -43,6 +43,7 @@ const TABLES: [(&str, &[Row]); 4] = [
     (
         "places are covered by records together",
         &[
+            (Covered(7, 0), Is(true)),
             (Save(DATA + 8, 8), Done),
             (Save(DATA, 8), Done),
             (Save(DATA + 20, 4), Done),

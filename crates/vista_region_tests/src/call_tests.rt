@@ -87,6 +87,8 @@ const TABLES: [Table; 4] = [
         rows: &[
             (Begin, Done),
             (Range(0, 8), Done),
+            (Put(0, 0x1111111111111111), Number(8)),
+            (Range(0, 8), Done),
             (Put(0, 0x2222222222222222), Number(8)),
             (Get(3, 7), Bytes(7, 0x2222222222)),
             (Get(4096, 0), Bytes(0, 0)),
