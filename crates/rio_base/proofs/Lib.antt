@@ -2,10 +2,14 @@ pub mod Bitmap
 pub mod BlockRules
 pub mod BlockRuns
 pub mod BlockSets
+pub mod Bytes
+pub mod DecimalDigits
+pub mod HostPieces
 pub mod MachineRules
 pub mod PageCopies
 pub mod RegionRules
 pub mod RegionRuns
 pub mod Rules
 pub mod VolumeRuns
+pub mod WordBlocks
 pub mod WordRuns

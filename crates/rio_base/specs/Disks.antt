@@ -1,5 +1,6 @@
 -- What a disk holds. Blocks have 512 words. A written block is pending until a sync has confirmed it.
-use Rattle.std.specs.Prelude.{◌≡◌, ℕ, ◌+◌, ◌-◌, ◌^◌, min, max, Bool, true, false, List, [], length, slice_index_or, slice_set, replicate, Option, Some, Result, MatchResult, ◌≤◌}
+use Rattle.std.specs.Prelude.{◌≡◌, ℕ, ◌+◌, ◌-◌, ◌*◌, ◌/◌, ◌^◌, min, max, Bool, true, false, List, [], length, map, take, drop, slice_index_or, slice_set, replicate, Option, Some, Result, MatchResult, ◌≤◌}
+use Rattle.std.specs.List.{range_with_len}
 use Rattle.rio_base.specs.Blocks.{Around}
 use Rattle.rio_base.specs.Counts.{Rose}
 
@@ -21,6 +22,10 @@ pub record DiskContents : Type 0 where
 
 abbrev pub block_at : List (List ℕ) → ℕ → List ℕ
 block_at blocks b = slice_index_or blocks b []
+
+-- the blocks that words make, 512 each. Words of a last part of a block are left out
+abbrev pub blocks_of : List ℕ → List (List ℕ)
+blocks_of words = map (λ b. take 512 (drop (512 * b) words)) (range_with_len 0 (length words / 512))
 
 abbrev pub is_pending : List Bool → ℕ → Bool
 is_pending marks b = slice_index_or marks b false

@@ -19,6 +19,16 @@ abbrev pub HasSize : Option Files → List ℕ → Option ℕ → Type 0
 HasSize None name size = Unit {0}
 HasSize (Some files) name size = size ≡ option_map length (get files name)
 
+-- the file is there and has these bytes, where the host tells its files
+abbrev pub IsFile : Option Files → List ℕ → List ℕ → Type 0
+IsFile None name bytes = Unit {0}
+IsFile (Some files) name bytes = get files name ≡ Some bytes
+
+-- there is no such file, where the host tells its files
+abbrev pub IsAbsent : Option Files → List ℕ → Type 0
+IsAbsent None name = Unit {0}
+IsAbsent (Some files) name = get files name ≡ None
+
 -- the file is there, and has these bytes from off on
 abbrev pub HasBytes : Option Files → List ℕ → ℕ → List ℕ → Type 0
 HasBytes None name off bytes = Unit {0}

@@ -1,6 +1,7 @@
 pub mod Bitmap
 pub mod BlockSets
 pub mod Blocks
+pub mod Bytes
 pub mod Counts
 pub mod Disks
 pub mod FailingCalls
@@ -10,6 +11,7 @@ pub mod Image
 pub mod Layout
 pub mod Machine
 pub mod Memory
+pub mod Numbers
 pub mod Pieces
 pub mod Regions
 pub mod Rules

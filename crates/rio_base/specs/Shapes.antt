@@ -3,7 +3,7 @@ use Rattle.std.specs.Prelude.{◌≡◌, ℕ, ◌+◌, ◌/◌, ◌%◌, ◌<◌
 use Rattle.rio_base.specs.declared.places.VolumeShape.{VolumeShape}
 use Rattle.rio_base.specs.Blocks.{Seen}
 
--- sizes that a volume may have, of those with at most 32,768 blocks and inodes, which are served
+-- sizes that a volume may have, of those with at most 32,768 blocks and inodes
 pub record IsShape (shape : VolumeShape) : Type 0 where
   pub version : (shape.version ≡ 1) ⊎ (shape.version ≡ 2)
   pub inodes_from : 32 ≤ shape.inodes
@@ -12,6 +12,11 @@ pub record IsShape (shape : VolumeShape) : Type 0 where
   pub blocks_from : 3 + shape.inodes / 32 ≤ shape.blocks
   pub blocks_second : shape.version ≡ 2 → 9 + shape.inodes / 32 ≤ shape.blocks
   pub blocks_to : shape.blocks ≤ 32768
+
+-- the shapes that are served: version 1 alone
+pub record IsServed (shape : VolumeShape) : Type 0 where
+  pub version : shape.version ≡ 1
+  pub sizes : IsShape shape
 
 -- how many blocks of the bitmap there are beside block 1: none in version 1, seven in version 2
 unfoldable pub more_bitmap : VolumeShape → ℕ

@@ -6,7 +6,6 @@ use Rattle.rio_base.specs.Rules.{true_false}
 use Rattle.rio_base.proofs.PageCopies.{copied_next, page_within, raised_next}
 use Rattle.rio_base.proofs.machine.Machine.copy_page.Goals as goal
 
--- src/machine.rt:91:9
 pub loop-i-preserved : goal.loop-i-preserved
 loop-i-preserved g c =
     let i = c.loop-i.invariant in

@@ -1,0 +1,41 @@
+-- Bytes of a host's file that come one piece after the other.
+use Rattle.std.proofs.Common.{◌≡◌, ℕ, zero, suc, ◌+◌, ◌<◌, ◌≤◌, List, ◌++◌, length, take, drop, Option, Some, None, sym, ap, subst, ◌∙◌, arith, length-drop}
+use Rattle.std.proofs.Math.Seq.{take-add}
+use Rattle.std.proofs.lemmas.List.{drop-drop, length-take}
+use Rattle.rio_base.specs.Hosts.{Files, HasBytes}
+
+-- the bytes that came, where some came, are the file's from off on
+abbrev pub HaveCome : Option Files → List ℕ → ℕ → ℕ → List ℕ → Type 0
+HaveCome files name off done room = 0 < done → HasBytes files name off (take done room)
+
+some_list : (x y : List ℕ) → Some x ≡ Some y → x ≡ y
+some_list x y e = cc
+
+-- so many bytes are taken
+taken : (n : ℕ) (xs : List ℕ) → n ≤ length xs → length (take n xs) ≡ n
+taken n xs within = omega (arith, length-take n xs, within)
+
+-- a front of the file's bytes from off on, and the bytes behind it
+joined : (off done n : ℕ) (whole new : List ℕ) → done + n ≤ length new → take done new ≡ take done (drop off whole) → take n (drop done new) ≡ take n (drop (off + done) whole) → take (done + n) new ≡ take (length (take (done + n) new)) (drop off whole)
+joined off done n whole new fits front piece =
+    take-add done n new
+    ∙ ap (λ (xs : List ℕ). xs ++ take n (drop done new)) front
+    ∙ ap (λ (xs : List ℕ). take done (drop off whole) ++ xs) (piece ∙ ap (take n) (sym (drop-drop done off whole)))
+    ∙ sym (take-add done n (drop off whole))
+    ∙ ap (λ k. take k (drop off whole)) (sym (taken (done + n) new fits))
+
+pub come_more : (files : Option Files) (name : List ℕ) (off done n : ℕ) (room new : List ℕ) → HaveCome files name off done room → HasBytes files name (off + done) (take n (drop done new)) → take done new ≡ take done room → done + n ≤ length new → HasBytes files name off (take (done + n) new)
+come_more None name off done n room new before bytes same fits = tt
+come_more (Some files) name off zero n room new before bytes same fits =
+    let here : off + 0 ≡ off = omega arith in
+    let all : n ≡ 0 + n = omega arith in
+    subst (λ k. HasBytes (Some files) name off (take k new)) all (subst (λ k. HasBytes (Some files) name k (take n new)) here bytes)
+come_more (Some files) name off (suc d) n room new before (whole', at', piece) same fits =
+    let done : ℕ = suc d in
+    let have = before (omega arith) in
+    let whole : List ℕ = have.0 in
+    let one : whole' ≡ whole = some_list whole' whole (sym at' ∙ have.1) in
+    let front : take done new ≡ take done (drop off whole) = same ∙ have.2 ∙ ap (λ k. take k (drop off whole)) (ap length (sym same) ∙ taken done new (omega (arith, fits))) in
+    let next : take n (drop done new) ≡ take n (drop (off + done) whole) =
+    piece ∙ ap (λ k. take k (drop (off + done) whole')) (taken n (drop done new) (omega (arith, length-drop done new, fits))) ∙ ap (λ (w : List ℕ). take n (drop (off + done) w)) one in
+    (whole, have.1, joined off done n whole new fits front next)
