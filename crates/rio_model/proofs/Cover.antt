@@ -1,21 +1,13 @@
--- Laws of what specs/Cover.antt defines.
-use Rattle.rio_model.proofs.Common.{slice_index, Some, used_bit, VolumeShape, is_pending, Contents}
-use Rattle.std.specs.Prelude.{◌≡◌, ◌≢◌, ℕ, ◌+◌, ◌*◌, ◌<◌, ◌≤◌, true, false, List, Option}
+-- Names of cached blocks, and the gate as it is stored.
+use Rattle.rio_model.proofs.Common.{slice_index, Some, Contents}
+use Rattle.std.specs.Prelude.{◌≡◌, ◌≢◌, ℕ, ◌<◌, ◌≤◌, true, List, Option}
 use Rattle.rio_base.specs.declared.places.PageName.{PageName}
-use Rattle.rio_model.specs.Registry.{IsValid, gate_of, is_dirty, page_of_entry, tag_at, tag_block}
-use Rattle.rio_model.specs.Cover.{entry_of_block, home_word, reads, MayLeave, stands_on, has_dirty, is_loose, Coherent, name_in}
+use Rattle.rio_model.specs.Registry.{gate_of}
+use Rattle.rio_model.specs.Cover.{entry_of_block, reads, is_loose, Coherent, name_in}
 
 -- each block that has an entry is one of so many, and may bear the entry's name. `bears` says which names
 pub record Named (words : List ℕ) (count : ℕ) (bears : ℕ → Option PageName → Type 0) : Type 0 where
   pub each : (b k : ℕ) → entry_of_block words b ≡ Some k → (b < count) × bears b (name_in words (Some k))
-
--- ---- what stands after a stop
-
--- a page that counts for each pending block in use will be written, whatever the pending blocks hold; and each clean page
--- is the disk's block
-pub record Sound (c : Contents) (shape : VolumeShape) : Type 0 where
-  pub written : (disk : List (List ℕ)) → MayLeave c disk → (b : ℕ) → is_pending c.pending b ≡ true → used_bit shape (stands_on c disk) b ≡ 1 → has_dirty c.words b ≡ true
-  pub clean : (k : ℕ) → IsValid c.words k → is_dirty (tag_at c.words k) ≡ false → (w : ℕ) → w < 512 → slice_index c.words (512 * page_of_entry c.words k + w) ≡ home_word c.disk (tag_block (tag_at c.words k)) w
 
 -- ---- the gate
 

@@ -1,4 +1,4 @@
--- Laws of what specs/CoverChanges.antt defines.
+-- What one change of words, or one write of a block, does to what reads and stands.
 use Rattle.rio_model.proofs.Common.{length, slice_index, slice_set, Some, None, ◌∙◌, ap, sym, subst, inl, inr, arith, cases_eq, cases_Bool, eq-eqb, nat_tests, BlockWords, true_false, put}
 use Rattle.std.specs.Prelude.{◌≡◌, ◌≢◌, ℕ, ◌+◌, ◌*◌, ◌<◌, ◌≤◌, ◌==◌, ◌&&◌, true, false, ◌⊎◌, List, Option, refl}
 use Rattle.std.proofs.Common.{get_or-set_same, get_or-set_other}

@@ -1,4 +1,4 @@
--- Laws of what specs/CoverFills.antt defines.
+-- A frame is filled, an entry is made, a word of a frame is stored.
 use Rattle.rio_model.proofs.Common.{length, slice_index, slice_set, Some, None, ◌∙◌, ap, sym, subst, inl, inr, arith, cases_eq, Contents, true_false, put}
 use Rattle.std.specs.Prelude.{◌≡◌, ◌≢◌, ℕ, ◌+◌, ◌*◌, ◌<◌, ◌≤◌, Bool, true, false, ◌⊎◌, List, refl}
 use Rattle.rio_base.specs.Image.{registry_pages}

@@ -1,4 +1,4 @@
--- Laws of what specs/CoverLookups.antt defines.
+-- Which entry is found for a block, before and after entries change.
 use Rattle.rio_model.proofs.Common.{if◌then◌else◌, slice_index, Some, None, ◌∙◌, ap, sym, subst, inl, inr, arith, cases_eq, cases_Bool, eq-eqb, true_false}
 use Rattle.std.specs.Prelude.{◌≡◌, ◌≢◌, ℕ, zero, suc, ◌+◌, ◌*◌, ◌/◌, ◌%◌, ◌<◌, ◌≤◌, Bool, true, false, ◌⊎◌, List, Option, refl}
 use Rattle.std.proofs.lemmas.Bool.{and_from}

@@ -1,4 +1,4 @@
--- Laws of what specs/CoverStands.antt defines.
+-- What stands after a stop, by blocks that aren't loose; and what stands when the gate is stored.
 use Rattle.rio_model.proofs.Common.{if◌then◌else◌, length, slice_index, slice_set, Some, None, ◌∙◌, ap, sym, subst, inl, inr, arith, cases_Bool, bit_at, used_bit, is_pending, Contents, true_false, VolumeShape}
 use Rattle.std.specs.Prelude.{◌≡◌, ℕ, ◌+◌, ◌*◌, ◌%◌, ◌/◌, ◌<◌, ◌≤◌, ◌==◌, ◌&&◌, Bool, true, false, ◌⊎◌, List, Option, refl}
 use Rattle.std.proofs.Common.{get_or-set_same, get_or-set_other}
@@ -7,7 +7,7 @@ use Rattle.rio_base.specs.Image.{entry_at}
 use Rattle.rio_base.specs.declared.places.PageName.{PageName}
 use Rattle.rio_model.specs.Registry.{IsValid, frames_of, gate_of, file_at, index_at, is_data, is_valid, page_of_entry, shadow_at, size_at, tag_at, tag_block}
 use Rattle.rio_model.specs.Cover.{Coherent, MayLeave, Narrows, SameNames, entry_of_block, frame_page, has_dirty, is_loose, name_in, reads, stands, stands_on}
-use Rattle.rio_model.proofs.Cover.{Sound}
+use Rattle.rio_model.specs.Standing.{Sound}
 use Rattle.rio_model.specs.CoverChanges.{covers_by, place_bare}
 use Rattle.rio_model.proofs.CoverChanges.{frame_behind, frame_same}
 use Rattle.rio_model.specs.CoverLookups.{cover_same, found_is}

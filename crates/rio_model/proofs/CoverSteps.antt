@@ -191,6 +191,19 @@ registry_retagged k t old new h v r hold = registry_one k old new h r.one mine (
       shadow = rw (r.tag, r.shadow) (shadow_held (tag_at old k) t _ hold was.shadow);
     }
 
+-- with an entry made invalid the rules are kept
+pub registry_cleared : (k : ℕ) (old new : List ℕ) → KeepsRegistry old → Retagged k 0 old new → KeepsRegistry new
+registry_cleared k old new h r = registry_one k old new h r.one (record {
+  tag = record { invalid = λ e. r.tag; bits = λ e. absurd (true_false (sym e ∙ gone)) };
+  metadata = record { of_file = λ e. absurd (true_false (sym e ∙ gone)); at_index = λ e. absurd (true_false (sym e ∙ gone)); of_size = λ e. absurd (true_false (sym e ∙ gone)) };
+  name = record { file_from = λ e. absurd (true_false (sym e ∙ gone)); file_to = λ e. absurd (true_false (sym e ∙ gone)); index_to = λ e. absurd (true_false (sym e ∙ gone)) };
+  size = λ e. absurd (true_false (sym e ∙ gone));
+  shadow = record { most = λ e. absurd (true_false (sym e ∙ gone)); of_data = λ e. absurd (true_false (sym e ∙ gone)) };
+}) (record { blocks = λ j ne w x. absurd (true_false (sym x.valid ∙ gone)); shadows = λ j ne w x. absurd (true_false (sym x.valid ∙ gone)) })
+  where
+    gone : is_valid (tag_at new k) ≡ false
+    gone = ap is_valid r.tag
+
 -- the dirty entry of a block
 pub dirty_some : (words : List ℕ) (b : ℕ) → has_dirty words b ≡ true → (j : ℕ) × (entry_of_block words b ≡ Some j) × (is_dirty (tag_at words j) ≡ true)
 dirty_some words b e = from (entry_of_block words b) refl e
@@ -267,13 +280,7 @@ keeps_clear n k old new s0 rest v clean r = record {
   stands = subst (λ d. cover_by (page_of_entry new.words) new.words d ≡ stands old) (sym disk) (covers_by (page_of_entry old.words) old.words old.disk (page_of_entry new.words) new.words old.disk (λ c w less. at_page c w less (cases_eq c (tag_block (tag_at old.words k)))));
   header = λ i less. header_one k old.words new.words i r.one less;
   firm = firm_by old new (pending_same old new rest) (λ c j f d. let ne : j ≢ k = λ e. true_false (sym d ∙ ap (λ x. is_dirty (tag_at old.words x)) e ∙ clean) in let h = found_is old.words c j f in (elsewhere c (λ e. ne (s0.rules.blocks j k h.0 v (h.1 ∙ e))) ∙ f, ap is_dirty (tag_one k j old.words new.words r.one ne) ∙ d));
-  coherent = λ m s. coherent_one m k old new rest r.one v.within s (registry_one k old.words new.words s.rules r.one (record {
-    tag = record { invalid = λ e. r.tag; bits = λ e. absurd (true_false (sym e ∙ gone)) };
-    metadata = record { of_file = λ e. absurd (true_false (sym e ∙ gone)); at_index = λ e. absurd (true_false (sym e ∙ gone)); of_size = λ e. absurd (true_false (sym e ∙ gone)) };
-    name = record { file_from = λ e. absurd (true_false (sym e ∙ gone)); file_to = λ e. absurd (true_false (sym e ∙ gone)); index_to = λ e. absurd (true_false (sym e ∙ gone)) };
-    size = λ e. absurd (true_false (sym e ∙ gone));
-    shadow = record { most = λ e. absurd (true_false (sym e ∙ gone)); of_data = λ e. absurd (true_false (sym e ∙ gone)) };
-  }) (record { blocks = λ j ne w x. absurd (true_false (sym x.valid ∙ gone)); shadows = λ j ne w x. absurd (true_false (sym x.valid ∙ gone)) })) (record {
+  coherent = λ m s. coherent_one m k old new rest r.one v.within s (registry_cleared k old.words new.words s.rules r) (record {
     on_disk = λ w. absurd (true_false (sym w.valid ∙ gone));
     clean = λ w. absurd (true_false (sym w.valid ∙ gone));
     unedited = λ w. absurd (true_false (sym w.valid ∙ gone));

@@ -1,4 +1,4 @@
--- Laws of what specs/HeldRules.antt defines.
+-- Laws of what inodes hold: it depends on the layout and on the blocks in use alone.
 use Rattle.rio_model.proofs.Common.{nat_lt, if◌then◌else◌, VolumeShape, BlockWords, ◌≡◌, ℕ, ◌+◌, ◌*◌, ◌/◌, ◌%◌, ◌<◌, ◌≤◌, ◌&&◌, Bool, true, false, cond, refl, sym, ap, ◌∙◌, arith, nat_tests, IsIno}
 use Rattle.std.specs.Prelude.{◌≡◌, ℕ, ◌+◌, ◌*◌, ◌/◌, ◌%◌, ◌<◌, ◌&&◌, ◌==◌, nat_le}
 use Rattle.rio_model.specs.Placed.{AtPage, Placed, Layout, HasSlot, Agrees}

@@ -1,4 +1,4 @@
--- Laws of what specs/NodeChanges.antt defines.
+-- Where a word of a node lies.
 use Rattle.std.specs.Prelude.{◌≡◌, ℕ, ◌/◌, ◌%◌}
 use Rattle.rio_model.specs.Placed.{AtPage, Layout, Owns}
 

@@ -1,4 +1,4 @@
--- Laws of what specs/PlacedRules.antt defines.
+-- Laws of layouts: the inode and the tables alone say which block is which, so blocks that agree on them say one layout.
 use Rattle.rio_model.proofs.Common.{nat_lt, if◌then◌else◌, sum, range_with_len, VolumeShape, BlockWords, IsIno, inode_block, inode_word, reserved, ◌≡◌, ℕ, ◌+◌, ◌-◌, ◌/◌, ◌%◌, ◌<◌, ◌≤◌, ◌==◌, ◌⊎◌, true, false, cond, refl, sym, ap, subst, ◌∙◌, arith, inl, inr, bit_at, nat_tests, used_bit}
 use Rattle.std.specs.Prelude.{◌≡◌, ℕ, ◌-◌, ◌/◌, ◌<◌, ◌≤◌, ◌==◌, map}
 use Rattle.rio_base.specs.Layout.{inode_kind, inode_size, direct_number, indirect_number, half}

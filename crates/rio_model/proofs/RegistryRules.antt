@@ -1,4 +1,4 @@
--- Laws of what specs/RegistryRules.antt defines.
+-- The rules of the registry after one entry changes.
 use Rattle.rio_model.proofs.Common.{length, slice_index, ◌∙◌, ap, sym, arith, subst, inl, inr, cases_eq, eq-eqb}
 use Rattle.std.specs.Prelude.{◌≡◌, ◌≢◌, ℕ, ◌+◌, ◌-◌, ◌*◌, ◌%◌, ◌^◌, ◌<◌, ◌≤◌, ◌==◌, ◌⊎◌, true, List, take, drop}
 use Rattle.std.proofs.Common.{length-take-le, get_or-take}

@@ -1,10 +1,10 @@
 -- What memory and disk together read as and stand for: for each block the page of its valid entry, else the disk's block.
 use Rattle.std.specs.Prelude.{◌≡◌, ◌≢◌, ◌⊎◌, ℕ, zero, suc, ◌+◌, ◌*◌, ◌<◌, ◌==◌, ◌&&◌, not, nat_lt, Bool, true, false, if◌then◌else◌, List, length, slice_index, Option, Some, None}
-use Rattle.rio_base.specs.Blocks.{BlockWords}
+use Rattle.rio_base.specs.Blocks.{BlockWords, Causes, Home}
 use Rattle.rio_base.specs.declared.places.PageName.{PageName}
 use Rattle.rio_base.specs.Disks.{block_at, is_pending}
 use Rattle.rio_base.specs.Image.{AreImageSizes, HasHeader, registry_pages}
-use Rattle.rio_base.specs.Machine.{Contents}
+use Rattle.rio_base.specs.Machine.{Contents, Running}
 use Rattle.rio_model.specs.Registry.{IsValid, KeepsRegistry, frames_of, gate_of, scratch_of, shadow_at, file_at, index_at, size_at, is_data, is_dirty, is_valid, page_of_entry, tag_at, tag_block}
 
 -- the last number below n that passes a test
@@ -43,6 +43,14 @@ reads c = cover_by (frame_page c.words) c.words c.disk
 -- what stands: of an entry with a shadow, while the gate is 1, the shadow page counts
 abbrev pub stands : Contents → BlockWords
 stands c = cover_by (page_of_entry c.words) c.words c.disk
+
+-- ---- the disk below, and why the machine may stop
+
+abbrev pub home_of : Contents → Home
+home_of c = record { disk = home_word c.disk; pending = is_pending c.pending }
+
+abbrev pub causes_of : Running → Causes
+causes_of r = record { stop_set = r.stop_set; armed = r.armed; trapped = r.trapped; protected = λ p. nat_lt (512 * p) r.protected }
 
 -- ---- what pending blocks may hold
 

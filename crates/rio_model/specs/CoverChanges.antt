@@ -1,4 +1,4 @@
--- What one change of words, or one write of a block, does to what reads and stands.
+-- Covers word by word, the page that counts for an entry, and words of which one page, or the gate alone, changes.
 use Rattle.std.specs.Prelude.{◌≡◌, ◌≢◌, ℕ, ◌+◌, ◌*◌, ◌<◌, ◌≤◌, ◌==◌, ◌&&◌, not, Bool, true, false, if◌then◌else◌, ◌⊎◌, List, length, slice_index, refl}
 use Rattle.std.proofs.Common.{◌∙◌, sym, inl, inr, arith}
 use Rattle.std.proofs.lemmas.Bool.{eq-eqb, ne_eqb}
@@ -46,3 +46,9 @@ pub record OnePage (p : ℕ) (old new : List ℕ) : Type 0 where
 pub record SameEntries (old new : List ℕ) : Type 0 where
   pub count : length new ≡ length old
   pub each : (i : ℕ) → i < 512 * (1 + registry_pages (frames_of old)) → slice_index new i ≡ slice_index old i
+
+-- the gate is g now, and all other words are as before
+pub record Gated (g : ℕ) (old new : List ℕ) : Type 0 where
+  pub count : length new ≡ length old
+  pub gate : gate_of new ≡ g
+  pub others : (i : ℕ) → i ≢ 4 → slice_index new i ≡ slice_index old i

@@ -1,4 +1,4 @@
--- A frame is filled, an entry is made, a word of a frame is stored.
+-- An entry that is made, and a word of a frame that is stored.
 use Rattle.std.specs.Prelude.{◌≡◌, ◌≢◌, ℕ, ◌<◌, Bool, true, false, List}
 use Rattle.rio_base.specs.Machine.{Contents}
 use Rattle.rio_base.specs.Volume.{put}

@@ -1,4 +1,4 @@
--- Which entry is found for a block, before and after entries change.
+-- Which entry is found for a block, and the words of a cover with it and without one.
 use Rattle.std.specs.Prelude.{◌≡◌, ℕ, zero, suc, ◌+◌, ◌*◌, ◌<◌, ◌≤◌, Bool, true, false, if◌then◌else◌, ◌⊎◌, List, slice_index, Option, Some, None, refl}
 use Rattle.std.proofs.Common.{◌∙◌, sym, subst, inl, inr, arith}
 use Rattle.std.proofs.lemmas.Bool.{and_parts, eqb-true, lt-ltb, le-ltb}

@@ -1,4 +1,4 @@
--- What stands after a stop, by blocks that aren't loose; and what stands when the gate is stored.
+-- What stands while no update is open.
 use Rattle.std.specs.Prelude.{◌≡◌, ◌≢◌, ◌+◌, ◌*◌, slice_index, refl}
 use Rattle.std.proofs.Common.{ap, inl}
 use Rattle.rio_base.specs.Machine.{Contents}

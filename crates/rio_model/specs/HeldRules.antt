@@ -1,4 +1,4 @@
--- Laws of what inodes hold: it depends on the layout and on the blocks in use alone.
+-- What an inode of a volume holds, by its node.
 use Rattle.std.proofs.Common.{◌≡◌, ℕ, ◌&&◌, true, cond, ap, arith}
 use Rattle.std.specs.Prelude.{nat_le}
 use Rattle.std.proofs.lemmas.Bool.Decides.{nat_tests}

@@ -1,3 +1,4 @@
+pub mod Censuses
 pub mod Cover
 pub mod CoverChanges
 pub mod CoverFills
@@ -15,13 +16,17 @@ pub mod Nodes
 pub mod Paths
 pub mod Placed
 pub mod PlacedRules
+pub mod ReadState
+pub mod RegionMoves
 pub mod Registry
 pub mod RegistryRules
 pub mod Sizes
+pub mod Standing
 pub mod States
 pub mod Transactions
 pub mod Undo
 pub mod Updates
+pub mod VolumeFails
 pub mod VolumeReads
 pub mod VolumeReady
 pub mod VolumeRules

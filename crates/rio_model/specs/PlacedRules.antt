@@ -1,4 +1,4 @@
--- Laws of layouts: the inode and the tables alone say which block is which, so blocks that agree on them say one layout.
+-- Two descriptions of one node that say the same.
 use Rattle.std.proofs.Common.{◌≡◌, ◌<◌}
 use Rattle.rio_model.specs.Placed.{Slot, Placed, HasSlot}
 

@@ -1,4 +1,4 @@
--- The rules of the registry after one entry changes.
+-- What an entry of the registry has to keep by itself.
 use Rattle.std.specs.Prelude.{ℕ, List}
 use Rattle.rio_model.specs.Registry.{KeepsMetadata, KeepsName, KeepsShadow, KeepsSize, KeepsTag, file_at, index_at, shadow_at, size_at, tag_at}
 
