@@ -1,53 +1,44 @@
 -- Pending blocks that are replaced one after the other.
-use Rattle.std.proofs.Common.{◌≡◌, ◌≢◌, ◌<◌, ◌≤◌, ◌+◌, ℕ, Bool, true, false, List, [], length, set, if◌then◌else◌, ap, sym, ◌∙◌, subst, refl, arith, ⊎_elim, get_or-set_same, get_or-set_other}
-use Rattle.std.proofs.lemmas.Bool.{cases_eq}
+use Rattle.std.proofs.Common.{◌≡◌, ◌≢◌, ◌<◌, ◌+◌, ℕ, Bool, true, false, List, [], length, set, slice_index, if◌then◌else◌, ◌⊎◌, ap, sym, ◌∙◌, subst, refl, arith, inl, inr, ⊎_elim, get_or-set_same, get_or-set_other}
+use Rattle.std.proofs.lemmas.Bool.{cases_Bool, cases_eq}
 use Rattle.std.proofs.lemmas.List.{length-set, ext_get_or}
 use Rattle.rio_base.specs.Disks.{block_at, is_pending}
 use Rattle.rio_base.specs.Rules.{true_false}
-use Rattle.block_disk.specs.BlockLists.{AreWhole, AreSettled, Replaced}
+use Rattle.block_disk.proofs.Marks.{found, listed}
+use Rattle.block_disk.specs.BlockLists.{AreWhole, AreSettled, Lists, Replaced}
 
--- what block b is to be
-abbrev pub replaced_block : List Bool → (ℕ → List ℕ) → List (List ℕ) → ℕ → List ℕ
-replaced_block pending words old b = if is_pending pending b then words b else block_at old b
-
--- the blocks below n are done
-pub record ReplacedBelow (n : ℕ) (pending : List Bool) (words : ℕ → List ℕ) (old new : List (List ℕ)) : Type 0 where
+-- the first n of the listed blocks are done
+pub record ReplacedFirst (n : ℕ) (numbers : List ℕ) (words : ℕ → List ℕ) (old new : List (List ℕ)) : Type 0 where
   pub count : length new ≡ length old
-  pub done : (b : ℕ) → b < n → block_at new b ≡ replaced_block pending words old b
-  pub rest : (b : ℕ) → n ≤ b → block_at new b ≡ block_at old b
+  pub done : (i : ℕ) → i < n → block_at new (slice_index numbers i) ≡ words (slice_index numbers i)
+  pub rest : (b : ℕ) → ((i : ℕ) → i < n → slice_index numbers i ≢ b) → block_at new b ≡ block_at old b
 
-marked : (mark : Bool) (words old : List ℕ) → mark ≡ true → (if mark then words else old) ≡ words
-marked true words old e = refl
-marked false words old e = cc
+marked_words : (mark : Bool) (words old : List ℕ) → mark ≡ true → (if mark then words else old) ≡ words
+marked_words true words old e = refl
+marked_words false words old e = cc
 
-unmarked : (mark : Bool) (words old : List ℕ) → mark ≡ false → (if mark then words else old) ≡ old
-unmarked true words old e = cc
-unmarked false words old e = refl
+unmarked_words : (mark : Bool) (words old : List ℕ) → mark ≡ false → (if mark then words else old) ≡ old
+unmarked_words true words old e = cc
+unmarked_words false words old e = refl
 
-pub below_put : (n : ℕ) (pending : List Bool) (words : ℕ → List ℕ) (old now new : List (List ℕ)) → ReplacedBelow n pending words old now → n < length old → is_pending pending n ≡ true → new ≡ set now n (words n) → ReplacedBelow (n + 1) pending words old new
-below_put n pending words old now new s h mark e = record {
-  count = ap length e ∙ length-set now n (words n) ∙ s.count;
-  done = λ b below. ap (λ (bs : List (List ℕ)). block_at bs b) e ∙
-      ⊎_elim (λ (is : b ≡ n). subst (λ (k : ℕ). block_at (set now n (words n)) k ≡ replaced_block pending words old k) (sym is) (get_or-set_same now n (words n) [] (omega (arith, h, s.count)) ∙ sym (marked (is_pending pending n) (words n) (block_at old n) mark)))
-      (λ (differs : b ≢ n). get_or-set_other now n b (words n) [] differs ∙ s.done b (omega (arith, below, differs)))
-      (cases_eq b n);
-  rest = λ b above. ap (λ (bs : List (List ℕ)). block_at bs b) e ∙ (get_or-set_other now n b (words n) [] (omega (arith, above)) ∙ s.rest b (omega (arith, above)));
+pub first_put : (n k : ℕ) (numbers : List ℕ) (words : ℕ → List ℕ) (old now new : List (List ℕ)) → ReplacedFirst n numbers words old now → k ≡ slice_index numbers n → k < length old → new ≡ set now k (words k) → ReplacedFirst (n + 1) numbers words old new
+first_put n k numbers words old now new s is h e = record {
+  count = ap length e ∙ length-set now k (words k) ∙ s.count;
+  done = λ i less. ap (λ (bs : List (List ℕ)). block_at bs (slice_index numbers i)) e ∙ done i less (cases_eq (slice_index numbers i) k);
+  rest = λ b none. ap (λ (bs : List (List ℕ)). block_at bs b) e ∙ (get_or-set_other now k b (words k) [] (λ q. none n (omega arith) (sym is ∙ sym q)) ∙ s.rest b (λ i less. none i (omega (arith, less))));
 }
+  where
+    done : (i : ℕ) → i < n + 1 → (slice_index numbers i ≡ k) ⊎ (slice_index numbers i ≢ k) → block_at (set now k (words k)) (slice_index numbers i) ≡ words (slice_index numbers i)
+    done i less (inl same) = subst (λ (b : ℕ). block_at (set now k (words k)) b ≡ words b) (sym same) (get_or-set_same now k (words k) [] (omega (arith, h, s.count)))
+    done i less (inr differs) = let ne : i ≢ n = λ q. differs (ap (slice_index numbers) q ∙ sym is) in get_or-set_other now k (slice_index numbers i) (words k) [] differs ∙ s.done i (omega (arith, less, ne))
 
-pub below_skip : (n : ℕ) (pending : List Bool) (words : ℕ → List ℕ) (old now new : List (List ℕ)) → ReplacedBelow n pending words old now → is_pending pending n ≡ false → new ≡ now → ReplacedBelow (n + 1) pending words old new
-below_skip n pending words old now new s mark e = record {
-  count = ap length e ∙ s.count;
-  done = λ b below. ap (λ (bs : List (List ℕ)). block_at bs b) e ∙
-      ⊎_elim (λ (is : b ≡ n). subst (λ (k : ℕ). block_at now k ≡ replaced_block pending words old k) (sym is) (s.rest n (omega arith) ∙ sym (unmarked (is_pending pending n) (words n) (block_at old n) mark)))
-      (λ (differs : b ≢ n). s.done b (omega (arith, below, differs)))
-      (cases_eq b n);
-  rest = λ b above. ap (λ (bs : List (List ℕ)). block_at bs b) e ∙ s.rest b (omega (arith, above));
-}
-
--- a choice of two lists of one length
-either : (mark : Bool) (words old : List ℕ) (n : ℕ) → length words ≡ n → length old ≡ n → length (if mark then words else old) ≡ n
-either true words old n h k = h
-either false words old n h k = k
+-- once all listed blocks are, each pending block is
+pub first_all : (numbers : List ℕ) (pending : List Bool) (words : ℕ → List ℕ) (old new : List (List ℕ)) → Lists numbers pending → ReplacedFirst (length numbers) numbers words old new → Replaced pending words old new
+first_all numbers pending words old new l s = record { count = s.count; blocks = λ b h. at b (cases_Bool (is_pending pending b)) }
+  where
+    at : (b : ℕ) → (is_pending pending b ≡ true) ⊎ (is_pending pending b ≡ false) → block_at new b ≡ (if is_pending pending b then words b else block_at old b)
+    at b (inl e) = let f = found numbers pending l b e in subst (λ (k : ℕ). block_at new k ≡ words k) f.2 (s.done f.0 f.1) ∙ sym (marked_words (is_pending pending b) (words b) (block_at old b) e)
+    at b (inr e) = s.rest b (λ i less q. true_false (sym (listed numbers pending l i less) ∙ ap (is_pending pending) q ∙ e)) ∙ sym (unmarked_words (is_pending pending b) (words b) (block_at old b) e)
 
 settled_block : (mark : Bool) (read synced : List ℕ) → (mark ≡ false → synced ≡ read) → (if mark then read else synced) ≡ read
 settled_block true read synced h = refl

@@ -1,16 +1,12 @@
 -- Lists of blocks, and which of them are pending.
-use Rattle.std.specs.Prelude.{◌≡◌, ◌<◌, ◌*◌, ◌/◌, ◌++◌, ℕ, Bool, false, List, map, length, take, drop, Vec, if◌then◌else◌}
-use Rattle.std.specs.List.{range_with_len}
+use Rattle.std.specs.Prelude.{◌≡◌, ◌<◌, ◌+◌, ◌==◌, ◌++◌, ℕ, Bool, false, List, [], ◌∷◌, map, length, take, drop, Vec, if◌then◌else◌}
+use Rattle.std.specs.List.{list_any}
 use Rattle.std.specs.declared.alloc.Global.{Global}
 use Rattle.rio_base.specs.Disks.{block_at, is_pending}
 
 -- the words of each block
 abbrev pub rows : List (Vec ℕ Global) → List (List ℕ)
 rows all = map (λ v. v.items) all
-
--- the blocks that words make, 512 each
-abbrev pub blocks_of : List ℕ → List (List ℕ)
-blocks_of words = map (λ b. take 512 (drop (512 * b) words)) (range_with_len 0 (length words / 512))
 
 -- each block has 512 words
 abbrev pub AreWhole : List (List ℕ) → Type 0
@@ -23,6 +19,16 @@ torn_words new old = take 256 new ++ drop 256 old
 -- each block that isn't pending reads as it was synced last
 abbrev pub AreSettled : List Bool → List (List ℕ) → List (List ℕ) → Type 0
 AreSettled pending blocks synced = (b : ℕ) → b < length blocks → is_pending pending b ≡ false → block_at synced b ≡ block_at blocks b
+
+-- how many marks are set
+unfoldable pub marked : List Bool → ℕ
+marked [] = 0
+marked (mark ∷ marks) = (if mark then 1 else 0) + marked marks
+
+-- these are the numbers of the pending blocks, each once
+pub record Lists (numbers : List ℕ) (pending : List Bool) : Type 0 where
+  pub each : (b : ℕ) → is_pending pending b ≡ list_any (λ n. n == b) numbers
+  pub once : length numbers ≡ marked pending
 
 -- each pending block has the words that are given for it, and each other block is as before
 pub record Replaced (pending : List Bool) (words : ℕ → List ℕ) (old new : List (List ℕ)) : Type 0 where

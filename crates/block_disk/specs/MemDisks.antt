@@ -1,8 +1,8 @@
 -- The disk in memory: its blocks, which of its calls are to fail, and what a crash makes of it.
 use Rattle.std.specs.Prelude.{◌≡◌, ◌<◌, ℕ, ◌+◌, ◌*◌, ◌-◌, ◌/◌, ◌==◌, ◌&&◌, nat_lt, if◌then◌else◌, Bool, true, false, List, [], ◌∷◌, length, replicate, slice_set, Some, None, ◌≤◌, Result, Ok, Err}
-use Rattle.rio_base.specs.Disks.{DiskContents, block_at, is_pending, raised}
+use Rattle.rio_base.specs.Disks.{DiskContents, block_at, blocks_of, is_pending, raised}
 use Rattle.std.proofs.Common.{arith, subst}
-use Rattle.block_disk.specs.BlockLists.{blocks_of, rows, torn_words}
+use Rattle.block_disk.specs.BlockLists.{rows, torn_words}
 use Rattle.block_disk.specs.declared.mem_disk.MemDisk.{MemDisk}
 use Rattle.block_disk.specs.declared.disk_choice.DiskChoice.{DiskChoice}
 use Rattle.block_disk.specs.declared.disk_choice.DiskChoice.TheVariants.{AsRead, AsSynced, Filled}
@@ -27,7 +27,7 @@ abbrev pub state_of : MemDisk → MemDiskState
 state_of d = record {
   blocks = rows d.blocks.items;
   synced = rows d.synced.items;
-  pending = d.pending.items;
+  pending = d.pending.marks.items;
   calls = d.calls;
   faults = d.faults;
   writes = d.writes;

@@ -1,9 +1,10 @@
 //! Lists of blocks, each of 512 words.
 
-ghost use Rattle.std.specs.Prelude.{◌≡◌, ◌<◌, ℕ, false, IfOk, length, replicate, slice_set};
-ghost use Rattle.rio_base.specs.Disks.{block_at};
-ghost use Rattle.block_disk.specs.BlockLists.{AreWhole, Replaced, blocks_of, rows, torn_words};
+ghost use Rattle.std.specs.Prelude.{◌≡◌, ◌<◌, ℕ, IfOk, length, replicate, slice_set};
+ghost use Rattle.rio_base.specs.Disks.{block_at, blocks_of};
+ghost use Rattle.block_disk.specs.BlockLists.{AreWhole, Replaced, rows, torn_words};
 
+use crate::pending::PendingBlocks;
 use std::alloc::{AllocError, Global};
 
 /// Words in a block.
@@ -90,39 +91,32 @@ fn fill_block(blocks: &mut Vec<Vec<u64>>, b: usize, word: u64)
     fill_words(&mut blocks[b], word);
 }
 
-/// Takes each mark away.
-pub fn clear_marks(marks: &mut Vec<bool>)
-    ensures { marks.new.items ≡ replicate (length marks.old.items) false }
-{
-    marks.as_mut_slice().fill(false);
-}
-
 /// Copies the pending blocks over those of another list.
-pub fn copy_pending(pending: &[bool], from: &[Vec<u64>], to: &mut Vec<Vec<u64>>)
-    requires marks { length pending.now ≡ length (rows to.old.items) }
+pub fn copy_pending(pending: &PendingBlocks, from: &[Vec<u64>], to: &mut Vec<Vec<u64>>)
+    requires marks { length pending.now.marks.items ≡ length (rows to.old.items) }
     requires count { length (rows from.now) ≡ length (rows to.old.items) }
     requires from { AreWhole (rows from.now) }
     requires to { AreWhole (rows to.old.items) }
-    ensures replaced { Replaced pending.now (block_at (rows from.now)) (rows to.old.items) (rows to.new.items) }
+    ensures replaced { Replaced pending.now.marks.items (block_at (rows from.now)) (rows to.old.items) (rows to.new.items) }
     ensures whole { AreWhole (rows to.new.items) }
 {
-    for b in 0..pending.len() {
-        if pending[b] {
-            put_block(to, b, &from[b]);
-        }
+    let numbers = pending.numbers();
+    for i in 0..numbers.len() {
+        let b = numbers[i] as usize;
+        put_block(to, b, &from[b]);
     }
 }
 
 /// Makes each word of each pending block this one.
-pub fn fill_pending(pending: &[bool], word: u64, blocks: &mut Vec<Vec<u64>>)
-    requires marks { length pending.now ≡ length (rows blocks.old.items) }
+pub fn fill_pending(pending: &PendingBlocks, word: u64, blocks: &mut Vec<Vec<u64>>)
+    requires marks { length pending.now.marks.items ≡ length (rows blocks.old.items) }
     requires whole { AreWhole (rows blocks.old.items) }
-    ensures replaced { Replaced pending.now (λ b. replicate 512 word) (rows blocks.old.items) (rows blocks.new.items) }
+    ensures replaced { Replaced pending.now.marks.items (λ b. replicate 512 word) (rows blocks.old.items) (rows blocks.new.items) }
     ensures whole { AreWhole (rows blocks.new.items) }
 {
-    for b in 0..pending.len() {
-        if pending[b] {
-            fill_block(blocks, b, word);
-        }
+    let numbers = pending.numbers();
+    for i in 0..numbers.len() {
+        let b = numbers[i] as usize;
+        fill_block(blocks, b, word);
     }
 }

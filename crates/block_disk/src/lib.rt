@@ -4,10 +4,7 @@
 mod block_lists;
 mod disk_choice;
 mod mem_disk;
-#[cfg(test)]
-mod mem_disk_tests;
-#[cfg(test)]
-mod same;
+mod pending;
 
 pub use disk_choice::DiskChoice;
 pub use mem_disk::MemDisk;

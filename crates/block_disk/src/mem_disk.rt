@@ -7,10 +7,11 @@ ghost use Rattle.rio_base.specs.FailingCalls.{FailsIf, is_due};
 ghost use Rattle.block_disk.specs.BlockLists.{AreSettled, AreWhole, rows, torn_words};
 
 use crate::block_lists::{
-    BLOCK_WORDS, clear_marks, copy_block, copy_pending, fill_pending, put_block, tear_block,
-    word_blocks, zero_blocks,
+    BLOCK_WORDS, copy_block, copy_pending, fill_pending, put_block, tear_block, word_blocks,
+    zero_blocks,
 };
 use crate::disk_choice::DiskChoice;
+use crate::pending::PendingBlocks;
 use rio_base::{Block, DiskBlocks, Failed};
 use std::alloc::{AllocError, Global};
 
@@ -20,7 +21,7 @@ use std::alloc::{AllocError, Global};
 pub struct MemDisk {
     blocks: Vec<Vec<u64>>,
     synced: Vec<Vec<u64>>,
-    pending: Vec<bool>,
+    pending: PendingBlocks,
     calls: u64,
     faults: u64,
     writes: u64,
@@ -28,11 +29,11 @@ pub struct MemDisk {
     failing_block: Block,
     failing_reads: u64,
     ghost few: { length (rows blocks.items) < 2 ^ 32 },
-    ghost marks: { length pending.items ≡ length (rows blocks.items) },
+    ghost marks: { length pending.marks.items ≡ length (rows blocks.items) },
     ghost synced_count: { length (rows synced.items) ≡ length (rows blocks.items) },
     ghost whole: { AreWhole (rows blocks.items) },
     ghost synced_whole: { AreWhole (rows synced.items) },
-    ghost settled: { AreSettled pending.items (rows blocks.items) (rows synced.items) },
+    ghost settled: { AreSettled pending.marks.items (rows blocks.items) (rows synced.items) },
 }
 
 impl MemDisk {
@@ -43,7 +44,7 @@ impl MemDisk {
         ensures { IfOk result (λ d. state_of d ≡ new_state blocks) }
     {
         let count = blocks as usize;
-        let pending = vec![in alloc; false; count]?;
+        let pending = PendingBlocks::new(alloc, count)?;
         let synced = zero_blocks(alloc, count)?;
         let blocks = zero_blocks(alloc, count)?;
         Ok(MemDisk {
@@ -61,12 +62,12 @@ impl MemDisk {
 
     /// A disk of these words, 512 in each block. Words of a last part of a block are left out. Nothing is pending, and no
     /// call is to fail. The error means that there was no room for the blocks.
-    #[tactic(auto, using(crate::proofs::WordBlocks::blocks_many, crate::proofs::WordBlocks::blocks_whole))]
+    #[tactic(auto, using(rio_base::proofs::WordBlocks::blocks_many, crate::proofs::WordBlocks::blocks_whole))]
     pub fn from_words(alloc: Global, words: &[u64]) -> Result<MemDisk, AllocError>
         requires few { length words.now / 512 < 2 ^ 32 }
         ensures { IfOk result (λ d. state_of d ≡ words_state words.now) }
     {
-        let pending = vec![in alloc; false; words.len() / BLOCK_WORDS]?;
+        let pending = PendingBlocks::new(alloc, words.len() / BLOCK_WORDS)?;
         let synced = word_blocks(alloc, words)?;
         let blocks = word_blocks(alloc, words)?;
         Ok(MemDisk {
@@ -139,7 +140,7 @@ impl MemDisk {
         ensures { state_of self.new ≡ record (state_of self.old) { synced = (state_of self.old).blocks; pending = replicate (length (state_of self.old).blocks) false } }
     {
         copy_pending(&self.pending, &self.blocks, &mut self.synced);
-        clear_marks(&mut self.pending);
+        self.pending.clear();
     }
 
     /// Whether the next call is one of those that [`MemDisk::fail_call`] named.
@@ -173,7 +174,7 @@ impl MemDisk {
         requires words { length from.now ≡ 512 }
         ensures { state_of self.new ≡ with_block b.0 from.now (state_of self.old) }
     {
-        self.pending[b.0 as usize] = true;
+        self.pending.mark(b);
         put_block(&mut self.blocks, b.0 as usize, from);
         self.writes = self.writes.saturating_add(1);
     }
@@ -185,7 +186,7 @@ impl MemDisk {
         ensures { state_of self.new ≡ with_block b.0 (torn_words from.now (block_at (state_of self.old).blocks b.0)) (state_of self.old) }
     {
         let at = b.0 as usize;
-        self.pending[at] = true;
+        self.pending.mark(b);
         tear_block(&mut self.blocks, at, from);
         self.writes = self.writes.saturating_add(1);
     }
@@ -252,8 +253,8 @@ impl DiskBlocks for MemDisk {
         requires block { b.0 < length (state_of self.old).blocks }
         ensures { state_of self.new ≡ record (state_of self.old) { pending = slice_set (state_of self.old).pending b.0 true } }
     {
-        let torn = b.0 as usize;
-        self.pending[torn] = true;
+        let torn = b;
+        self.pending.mark(torn);
     }
 
     fn sync(&mut self) -> Result<(), Failed>

@@ -16,7 +16,7 @@ use Rattle.rio_base.proofs.Bitmap.{first_bitmap}
 use Rattle.rio_base.specs.Layout.{HasSuperblock, volume_magic}
 use Rattle.rio_base.specs.Shapes.{more_bitmap, reserved}
 use Rattle.byteorder.specs.Endian.{little_bytes}
-use Rattle.image_codec.specs.Bytes.{bytes_of}
+use Rattle.rio_base.specs.Bytes.{bytes_of}
 use Rattle.image_codec.specs.Volume.{bitmap_word, block_words, fresh_shape, fresh_volume_word, fresh_volume_words}
 
 -- a list of words with a part marked, from first on

@@ -3,9 +3,9 @@ use Rattle.std.proofs.Common.{◌≡◌, ◌≢◌, ◌<◌, ◌≤◌, ℕ, ◌
 use Rattle.byteorder.specs.Endian.{little_number}
 use Rattle.std.proofs.lemmas.List.{take_rest}
 use Rattle.std.proofs.lemmas.List.Elements.{recursion_from_All}
-use Rattle.image_codec.proofs.Words.{length-bytes_of, word_at-bytes_of}
+use Rattle.rio_base.proofs.Bytes.{length-bytes_of, word_at-bytes_of}
 use Rattle.rio_base.specs.Image.{image_magic}
-use Rattle.image_codec.specs.Bytes.{bytes_of, word_at}
+use Rattle.rio_base.specs.Bytes.{bytes_of, word_at}
 use Rattle.image_codec.specs.Image.{FailsFirst, HasGeometry, IsImage, IsImageLength, KeepsRules}
 use Rattle.image_codec.specs.declared.fault.ImageFault.{ImageFault}
 use Rattle.image_codec.specs.declared.fault.ImageFault.TheVariants.{BadLength, BadMagic, BadVersion, BadGeometry, Memory}

@@ -2,7 +2,7 @@
 use Rattle.std.specs.Prelude.{◌≡◌, ◌==◌, ◌≤◌, ℕ, ◌*◌, ◌%◌, List, length, map, slice_index, if◌then◌else◌}
 use Rattle.std.specs.List.{range_with_len}
 use Rattle.rio_base.specs.Image.{AreImageSizes, HasHeader, image_magic, image_pages}
-use Rattle.image_codec.specs.Bytes.{word_at}
+use Rattle.rio_base.specs.Bytes.{word_at}
 use Rattle.image_codec.specs.declared.fault.ImageFault.{ImageFault}
 use Rattle.image_codec.specs.declared.fault.ImageFault.TheVariants.{BadLength, BadMagic, BadVersion, BadGeometry, Memory}
 

@@ -1,15 +1,10 @@
 -- The fresh volume: its superblock, its bitmap and its root directory.
-use Rattle.std.specs.Prelude.{◌≡◌, ◌==◌, ℕ, ◌+◌, ◌-◌, ◌*◌, ◌/◌, ◌%◌, ◌^◌, min, List, map, slice_index, if◌then◌else◌}
+use Rattle.std.specs.Prelude.{◌==◌, ℕ, ◌+◌, ◌-◌, ◌*◌, ◌/◌, ◌%◌, ◌^◌, min, List, map, slice_index, if◌then◌else◌}
 use Rattle.std.specs.List.{range_with_len}
 use Rattle.rio_base.specs.declared.places.VolumeShape.{VolumeShape}
 use Rattle.rio_base.specs.Blocks.{BlockWords}
 use Rattle.rio_base.specs.Layout.{volume_magic}
-use Rattle.rio_base.specs.Shapes.{IsShape, reserved}
-
--- the sizes that a volume of version 1 can have
-pub record IsVolumeShape (shape : VolumeShape) : Type 0 where
-  pub version : shape.version ≡ 1
-  pub sizes : IsShape shape
+use Rattle.rio_base.specs.Shapes.{reserved}
 
 -- word w of block b, where the blocks lie one after the other
 abbrev pub block_words : List ℕ → BlockWords

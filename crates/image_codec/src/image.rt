@@ -1,7 +1,7 @@
 //! The image: its words as bytes, and the rules of its header.
 
 ghost use Rattle.std.specs.Prelude.{◌≡◌, ◌≢◌, ◌<◌, ◌≤◌, ◌↔◌, ℕ, ◌+◌, ◌*◌, ◌%◌, ◌^◌, length, slice_index, take, codes, IfOk, IsTrue, List, Err, MatchResult, All};
-ghost use Rattle.image_codec.specs.Bytes.{bytes_of, word_at};
+ghost use Rattle.rio_base.specs.Bytes.{bytes_of, word_at};
 ghost use Rattle.image_codec.specs.Image.{FailsFirst, HasGeometry, IsImage, IsImageLength, KeepsRules, fresh_image_words};
 ghost use Rattle.rio_base.specs.Image.{AreImageSizes, entry_at, image_pages};
 ghost use Rattle.image_codec.specs.declared.fault.ImageFault.{ImageFault as Fault};

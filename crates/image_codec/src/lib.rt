@@ -5,10 +5,6 @@
 mod fault;
 mod image;
 mod laws;
-#[cfg(test)]
-mod same;
-#[cfg(test)]
-mod tests;
 mod volume;
 
 pub use fault::ImageFault;

@@ -3,9 +3,9 @@
 ghost use Rattle.std.specs.Prelude.{◌≡◌, ◌<◌, ◌≤◌, ℕ, ◌+◌, ◌-◌, ◌*◌, length, replicate, slice_index, take, codes, nat_lt, nat_le, ◌&&◌, if◌then◌else◌, IfOk};
 ghost use Rattle.rio_base.specs.Bitmap.{used_bit};
 ghost use Rattle.rio_base.specs.Layout.{HasSuperblock};
-ghost use Rattle.rio_base.specs.Shapes.{reserved};
-ghost use Rattle.image_codec.specs.Bytes.{bytes_of};
-ghost use Rattle.image_codec.specs.Volume.{IsVolumeShape, bitmap_word, block_words, fresh_volume_words};
+ghost use Rattle.rio_base.specs.Shapes.{IsServed, reserved};
+ghost use Rattle.rio_base.specs.Bytes.{bytes_of};
+ghost use Rattle.image_codec.specs.Volume.{bitmap_word, block_words, fresh_volume_words};
 
 use rio_base::VolumeShape;
 use std::alloc::{AllocError, Global};
@@ -43,7 +43,7 @@ fn mark_front(words: &mut [u64], count: u32)
 
 /// Writes a fresh volume over zeros.
 fn write_volume(words: &mut [u64], shape: &VolumeShape)
-    requires shape { IsVolumeShape shape.now }
+    requires shape { IsServed shape.now }
     requires zeros { words.old ≡ replicate (512 * shape.now.blocks) 0 }
     ensures { words.new ≡ fresh_volume_words shape.now.blocks shape.now.inodes }
 {
@@ -59,7 +59,7 @@ fn write_volume(words: &mut [u64], shape: &VolumeShape)
 /// marked used, inode 1, and zeros. The inodes are from 32 to 32,768, a multiple of 32, and the blocks from one more than
 /// the reserved ones to 32,768.
 pub fn fresh_volume(alloc: Global, shape: &VolumeShape) -> Result<Vec<u64>, AllocError>
-    requires { IsVolumeShape shape.now }
+    requires { IsServed shape.now }
     ensures value { IfOk result (λ words. words.items ≡ fresh_volume_words shape.now.blocks shape.now.inodes) }
     ensures superblock { IfOk result (λ words. HasSuperblock (block_words words.items) shape.now) }
     ensures text { IfOk result (λ words. take 8 (bytes_of words.items) ≡ codes "RIOVOLUM") }

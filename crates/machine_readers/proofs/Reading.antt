@@ -1,5 +1,5 @@
 -- A plain reader of memory and disk: where entries and pages lie, and the blocks as one list.
-use Rattle.std.specs.Prelude.{◌≡◌, ◌≢◌, ℕ, suc, ◌+◌, ◌-◌, ◌*◌, ◌/◌, ◌%◌, ◌<◌, ◌≤◌, ◌⊎◌, Bool, true, false, if◌then◌else◌, List, ◌++◌, length, slice_index, slice_index_or, take, drop, Some, None, refl}
+use Rattle.std.specs.Prelude.{◌≡◌, ◌≢◌, ℕ, suc, ◌+◌, ◌-◌, ◌*◌, ◌/◌, ◌%◌, ◌<◌, ◌≤◌, ◌⊎◌, Bool, true, false, if◌then◌else◌, List, [], ◌∷◌, ◌++◌, length, slice_index, slice_index_or, take, drop, Some, None, refl}
 use Rattle.std.proofs.Common.{◌∙◌, ap, sym, subst, inl, inr, arith, length-append, length-drop, length-take-le, get_or-take}
 use Rattle.std.proofs.lemmas.Bool.{cases_eq}
 use Rattle.std.proofs.lemmas.List.{get_or_append_left, get_or-append_right, get_or-drop}
@@ -95,6 +95,14 @@ puts_page shadows words disk b k page from old new h taken found is =
 pub puts_home : (shadows : Bool) (words : List ℕ) (disk : List (List ℕ)) (b : ℕ) (old new : List ℕ) → FrontStored (512 * b) 512 (block_at disk b) old new → entry_of_block words b ≡ None → PutsBlock (blocks_by shadows words disk) b old new
 puts_home shadows words disk b old new h none =
     puts (blocks_by shadows words disk) b (block_at disk b) old new h (λ w less. sym (cover_home (page_by shadows words) words disk b w none less))
+
+-- a list before another one, taken out
+pub front_of : (xs rest : List ℕ) (n : ℕ) → n ≡ length xs → take n (xs ++ rest) ≡ xs
+front_of xs rest n is = ap (λ m. take m (xs ++ rest)) is ∙ whole xs
+  where
+    whole : (ys : List ℕ) → take (length ys) (ys ++ rest) ≡ ys
+    whole [] = refl
+    whole (y ∷ ys) = ap (λ zs. y ∷ zs) (whole ys)
 
 pub blocks_none : (blocks : BlockWords) (words : List ℕ) → AreBlocks blocks 0 words
 blocks_none blocks words = record { each = λ b w less small. absurd (omega (arith, less)) }

@@ -13,7 +13,8 @@ use Rattle.rio_base.specs.Image.{registry_pages}
 use Rattle.rio_base.specs.Machine.{Contents}
 use Rattle.rio_base.specs.Rules.{true_false}
 use Rattle.rio_model.specs.Cover.{Coherent, MayLeave, dirty_entry, entry_of_block, frame_page, has_dirty, home_word, is_loose, name_at, name_in, reads, stands, stands_on}
-use Rattle.rio_model.proofs.Cover.{Named, Sound}
+use Rattle.rio_model.proofs.Cover.{Named}
+use Rattle.rio_model.specs.Standing.{Sound}
 use Rattle.rio_model.specs.CoverChanges.{place_bare}
 use Rattle.rio_model.proofs.CoverChanges.{place_shadow}
 use Rattle.rio_model.specs.CoverLookups.{cover_at, cover_home, found_is}

@@ -2,9 +2,7 @@
 #![tactic(auto)]
 
 mod list_mem;
-#[cfg(test)]
-mod list_mem_tests;
-#[cfg(test)]
-mod same;
+mod memory;
 
 pub use list_mem::ListMem;
+pub use memory::{Memory, memory_of};

@@ -4,18 +4,12 @@
 
 mod failing_calls;
 mod faulty_volume;
-#[cfg(test)]
-mod host_tests;
 mod list_region;
 mod list_volume;
 mod mem_host;
 mod mem_sink;
 mod mem_source;
-#[cfg(test)]
-mod same;
 mod step_limit;
-#[cfg(test)]
-mod volume_tests;
 mod word_lists;
 
 pub use faulty_volume::FaultyVolume;

@@ -2,6 +2,7 @@
 #![tactic(auto)]
 
 use std::alloc::{AllocError, Global};
+use std::fmt::Debug;
 
 /// How many times two characters stand one behind the other before a text tells them by their number.
 const MANY: usize = 32;
@@ -14,12 +15,31 @@ pub fn first_word(line: &str) -> (&str, &str) {
     }
 }
 
-/// The number that a word is, or 0.
-pub fn number(word: &str) -> u64 {
+/// The number that a word is. A word that is none is an error in the script, and ends the program as want of memory does.
+pub fn number(word: &str) -> Result<u64, AllocError> {
     match word.parse::<u64>() {
-        Ok(number) => number,
-        Err(_) => 0,
+        Ok(number) => Ok(number),
+        Err(_) => Err(AllocError),
     }
+}
+
+/// The first three numbers of a line. Those that are not there are 0.
+pub fn numbers(line: &str) -> Result<[u64; 3], AllocError> {
+    let (first, rest) = first_word(line);
+    let (second, rest) = first_word(rest);
+    let (third, _) = first_word(rest);
+    let first = number_if_any(first)?;
+    let second = number_if_any(second)?;
+    let third = number_if_any(third)?;
+    Ok([first, second, third])
+}
+
+/// The number that a word is, or 0 where there is no word.
+fn number_if_any(word: &str) -> Result<u64, AllocError> {
+    if word.is_empty() {
+        return Ok(0);
+    }
+    number(word)
 }
 
 /// The bytes that a line stands for: `{aa*5000}` for 5,000 times `aa`, `\x0d` for that byte, and all else for itself.
@@ -50,7 +70,7 @@ fn push_many(bytes: &mut Vec<u8>, part: &str) -> Result<(), AllocError> {
     let Some((text, count)) = part.rsplit_once('*') else {
         return push_text(bytes, part);
     };
-    for _ in 0..number(count) {
+    for _ in 0..number(count)? {
         push_text(bytes, text)?;
     }
     Ok(())
@@ -115,6 +135,18 @@ pub fn tell_line(out: &mut Vec<u8>, text: &[u8]) -> Result<(), AllocError> {
     }
     out.push(b'\n')?;
     Ok(())
+}
+
+/// Puts a text and the number behind it behind others, as one line.
+pub fn tell_number(out: &mut Vec<u8>, text: &str, number: u64) -> Result<(), AllocError> {
+    let alloc = *out.allocator();
+    tell_line(out, format!(in alloc; "{text}{number}")?.as_bytes())
+}
+
+/// Puts a value behind others as it is shown, as one line.
+pub fn tell_shown<T: Debug>(out: &mut Vec<u8>, value: &T) -> Result<(), AllocError> {
+    let alloc = *out.allocator();
+    tell_line(out, format!(in alloc; "{value:?}")?.as_bytes())
 }
 
 /// Puts the first two characters of a text behind others, and how many times they stand there.

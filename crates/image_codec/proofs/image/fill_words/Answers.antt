@@ -1,5 +1,5 @@
 use Rattle.std.proofs.Common.{arith}
-use Rattle.image_codec.proofs.Words.{bytes_read}
+use Rattle.rio_base.proofs.Bytes.{bytes_read}
 use Rattle.image_codec.proofs.image.fill_words.Goals as goal
 
 pub returns-clause-bytes : goal.returns-clause-bytes

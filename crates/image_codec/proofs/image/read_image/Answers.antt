@@ -2,7 +2,7 @@ use Rattle.std.proofs.Common.{arith, length, ap, ◌∙◌}
 use Rattle.std.proofs.lemmas.Result.{err_from_is_err_and}
 use Rattle.std.proofs.lemmas.List.Elements.{recursion_from_All}
 use Rattle.image_codec.proofs.Rules.{image_from, only_err}
-use Rattle.image_codec.proofs.Words.{length-bytes_of, same_words}
+use Rattle.rio_base.proofs.Bytes.{length-bytes_of, same_words}
 use Rattle.image_codec.proofs.image.read_image.Goals as goal
 
 pub returns-in_err-check_header-clause-only : goal.returns-in_err-check_header-clause-only

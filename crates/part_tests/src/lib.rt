@@ -1,0 +1,16 @@
+//! Tests of what a machine and its cache are made of, each by itself: memory, the disk in memory, the pool of frames, and
+//! the bytes of an image and of a volume. They stand above these crates, so that each of them is proved once.
+#![tactic(auto)]
+
+#[cfg(test)]
+mod drawn_tests;
+#[cfg(test)]
+mod frame_pool_tests;
+#[cfg(test)]
+mod image_tests;
+#[cfg(test)]
+mod list_mem_tests;
+#[cfg(test)]
+mod mem_disk_tests;
+#[cfg(test)]
+mod same;
