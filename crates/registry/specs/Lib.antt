@@ -1,3 +1,5 @@
 pub mod Changes
 pub mod Entries
 pub mod EntryRules
+pub mod ViewLaws
+pub mod Views

@@ -24,7 +24,7 @@ pub struct Entry {
 }
 
 /// The entries of a registry page.
-const PAGE_ENTRIES: u32 = 102;
+pub(crate) const PAGE_ENTRIES: u32 = 102;
 
 /// The place of the first word of entry `k`, the entry being below 8,192.
 #[tactic(auto, using(crate::proofs::Places::place_is, crate::proofs::Places::place_small))]

@@ -1,13 +1,14 @@
-//! The rules of an image from rule 5 on. Looking at them takes no memory.
+//! The rules of an image from rule 5 on. Looking at them takes no memory but 32 KiB of the stack, for rule 7.
 
-ghost use Rattle.std.specs.Prelude.{◌≡◌, ◌<◌, ◌≤◌, ◌↔◌, ℕ, IsTrue, MatchResult, true, false};
-ghost use Rattle.rio_model.specs.Registry.{BlockRule, FailsRegistry, HasLayout, KeepsMetadata, KeepsName, KeepsRegistry, KeepsShadow, KeepsSize, KeepsTag, ShadowsApart, frames_of, tag_at};
+ghost use Rattle.std.specs.Prelude.{◌≡◌, ◌<◌, ◌≤◌, ◌+◌, ◌*◌, ◌==◌, ◌↔◌, ℕ, IsTrue, MatchResult, if◌then◌else◌, length, true, false};
+ghost use Rattle.rio_model.specs.Registry.{BlockRule, FailsRegistry, HasLayout, IsValid, KeepsMetadata, KeepsName, KeepsRegistry, KeepsShadow, KeepsSize, KeepsTag, ShadowsApart, frames_of, tag_at, tag_block};
 ghost use Rattle.registry.specs.Entries.{entry_of};
-ghost use Rattle.registry.specs.EntryRules.{EntryKeeps, IsFreeBefore, IsUnusedBefore};
+ghost use Rattle.registry.specs.EntryRules.{EntryKeeps, IsFreeBefore, IsUnusedBefore, MarksBefore, block_mark};
 
 use crate::entry::{Entry, load_tag, read_entry};
+use crate::pages::{GATE, frame_count};
 use crate::tag::Tag;
-use rio_base::{Block, Machine, WordAt};
+use rio_base::{Block, Machine};
 use thiserror::Error;
 
 /// The first rule that an image breaks, by its number from 5 to 12.
@@ -30,14 +31,14 @@ enum EntryRule {
     Shadow,
 }
 
-/// The header's word of the number of frames.
-const FRAMES: WordAt = WordAt(2);
-
-/// The header's word of the gate.
-const GATE: WordAt = WordAt(4);
-
 /// All three flags of a tag.
 const FLAGS: u64 = 7;
+
+/// The most blocks that a volume of version 2 has. Of these each has a mark while rule 7 is looked at.
+const MOST_BLOCKS: u32 = 262_144;
+
+/// The words of their marks, a bit for each block.
+const MARK_WORDS: usize = MOST_BLOCKS as usize / 64;
 
 /// The bytes of a page.
 const PAGE_BYTES: u64 = 4096;
@@ -72,14 +73,6 @@ fn demand(rule: u8, holds: bool) -> Result<(), BadImage>
     ensures { MatchResult result (λ _. holds ≡ true) (λ bad. (holds ≡ false) × (bad.0 ≡ rule)) }
 {
     if holds { Ok(()) } else { Err(BadImage(rule)) }
-}
-
-/// How many frames, and so entries, there are.
-fn frame_count<M: Machine>(m: &M) -> u32
-    requires layout { HasLayout (M.contents m.now).words (M.run m.now).scratch }
-    ensures { result ≡ frames_of (M.contents m.now).words }
-{
-    m.load(FRAMES) as u32
 }
 
 // ---- what an entry keeps by itself
@@ -172,18 +165,69 @@ fn keeps_shadow(entry: &Entry) -> bool
 // ---- what no two entries share
 
 /// Whether no two valid entries have the same block.
-#[tactic(auto, using(crate::proofs::ImageRules::free_before, crate::proofs::ImageRules::all_blocks))]
 fn are_blocks_apart<M: Machine>(m: &M) -> bool
     requires layout { HasLayout (M.contents m.now).words (M.run m.now).scratch }
     ensures { IsTrue result ↔ BlockRule (M.contents m.now).words }
 {
+    let mut marks = [0; MARK_WORDS];
+    all_take_blocks(m, &mut marks)
+}
+
+/// Whether each valid entry has a block that none before it has. No block is marked yet.
+#[tactic(auto, using(crate::proofs::ImageRules::free_before, crate::proofs::ImageRules::all_blocks))]
+fn all_take_blocks<M: Machine>(m: &M, marks: &mut [u64]) -> bool
+    requires layout { HasLayout (M.contents m.now).words (M.run m.now).scratch }
+    requires marks { MarksBefore (M.contents m.now).words 0 MOST_BLOCKS marks.old }
+    ensures { IsTrue result ↔ BlockRule (M.contents m.now).words }
+{
     for k in 0..frame_count(m) {
-        let tag = load_tag(m, k);
-        if tag.is_valid() && !is_free_before(m, k, tag.block()) {
+        if !takes_block(m, k, marks) {
             return false;
         }
     }
     true
+}
+
+/// Whether entry `k` isn't valid, or has a block that no valid entry before it has. The blocks of those are marked, and its
+/// own then too. A block that has no mark is looked for.
+fn takes_block<M: Machine>(m: &M, k: u32, marks: &mut [u64]) -> bool
+    requires layout { HasLayout (M.contents m.now).words (M.run m.now).scratch }
+    requires entry { k < frames_of (M.contents m.now).words }
+    requires marks { MarksBefore (M.contents m.now).words k MOST_BLOCKS marks.old }
+    ensures takes { IsTrue result ↔ (IsValid (M.contents m.now).words k → IsFreeBefore (M.contents m.now).words k (tag_block (tag_at (M.contents m.now).words k))) }
+    ensures marks { result ≡ true → MarksBefore (M.contents m.now).words (k + 1) MOST_BLOCKS marks.new }
+{
+    let tag = load_tag(m, k);
+    if !tag.is_valid() {
+        return true;
+    }
+    let block = tag.block();
+    if block.0 >= MOST_BLOCKS {
+        return is_free_before(m, k, block);
+    }
+    if is_marked(marks, block) {
+        return false;
+    }
+    mark(marks, block);
+    true
+}
+
+/// Whether the block is marked.
+fn is_marked(marks: &[u64], block: Block) -> bool
+    requires within { block.0 < 64 * length marks.now }
+    ensures { result ≡ (block_mark marks.now block.0 == 1) }
+{
+    (marks[(block.0 / 64) as usize] >> (block.0 % 64)) & 1 == 1
+}
+
+/// Marks the block.
+fn mark(marks: &mut [u64], block: Block)
+    requires within { block.0 < 64 * length marks.old }
+    ensures marked { (b : ℕ) → block_mark marks.new b ≡ (if b == block.0 then 1 else block_mark marks.old b) }
+    ensures len { length marks.new ≡ length marks.old }
+{
+    let place = (block.0 / 64) as usize;
+    marks[place] = marks[place] | (1 << (block.0 % 64));
 }
 
 /// Whether no valid entry before the `n`th has the block.

@@ -1,7 +1,7 @@
 //! Tests of tags: valid is bit 0, dirty bit 1 and data bit 2, and the block is in the high half.
 
-use crate::Tag;
 use crate::same::same;
+use registry::Tag;
 use rio_base::Block;
 
 #[test]
