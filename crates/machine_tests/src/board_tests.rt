@@ -157,6 +157,7 @@ fn first_words(alloc: Global, disk: &mut MemDisk) -> Result<[u64; 2], Fail>
     let mut into = vec![in alloc; 7; 512]?;
     disk.read(Block(2), &mut into)?;
     let two = into[0];
+    into.as_mut_slice().fill(7);
     disk.read(Block(3), &mut into)?;
     Ok([two, into[0]])
 }

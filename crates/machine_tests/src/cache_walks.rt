@@ -13,7 +13,7 @@ use crate::draws::Draws;
 use crate::machines::{MemBoard, Mishap, board_on, disk_of};
 use crate::plain_blocks::PlainBlocks;
 use crate::same::same;
-use crate::walk::{WalkEnd, walk_through};
+use crate::walk::{WalkEnd, walk, walk_through};
 use block_disk::{DiskChoice, MemDisk};
 use board::Board;
 use image_codec::fresh_image;
@@ -96,8 +96,26 @@ struct Course {
     mishap: Mishap,
 }
 
-/// Makes the actions of a walk on a cache with no block in it, reads all blocks, and takes the cache apart where the walk
-/// ends. Answers how it ended.
+/// Makes the actions of a walk and, where it is not to be stopped, reads all blocks. A stop must come before the last
+/// action, and in none of these reads.
+fn go<V: Volume>(
+    v: &mut V,
+    plain: &mut PlainBlocks,
+    draws: &mut Draws,
+    course: Course,
+) -> Result<(), WalkEnd>
+    requires sound { V.sound v.old }
+    requires walks { Walks (V.seen v.old) }
+    requires idle { (V.kept v.old).updating ≡ false }
+    ensures sound { V.sound v.new }
+{
+    if course.mishap.stop_after().is_some() {
+        return walk(v, plain, draws, course.actions);
+    }
+    walk_through(v, plain, draws, course.actions)
+}
+
+/// Goes through a walk on a cache with no block in it, and takes the cache apart where the walk ends. Answers how it ended.
 fn walked(
     alloc: Global,
     plain: &mut PlainBlocks,
@@ -107,7 +125,7 @@ fn walked(
     let frames = if course.roomy { 64 } else { 32 };
     let mut v = cache_of(alloc, frames, disk, course.mishap.stop_after())?;
     let mut draws = Draws::new(course.seed, !course.roomy);
-    let end = walk_through(&mut v, plain, &mut draws, course.actions);
+    let end = go(&mut v, plain, &mut draws, course);
     let (mem, disk) = v.into_machine().into_parts();
     Ok((end, mem, disk))
 }

@@ -139,6 +139,16 @@ fn a_run_at_the_end_of_a_page_is_whole_or_stopped(rt: HostRuntime) -> Result<(),
         Row::Tell(Look::Word(1535), Came::Number(9)),
         Row::Tell(Look::Word(1536), Came::Number(1536)),
         Row::Tell(Look::Steps, Came::Number(3)),
+    ];
+    check(&rt, rt.alloc(), &rows)?;
+    Ok(())
+}
+
+#[test]
+fn a_run_goes_on_behind_an_armed_store_and_an_empty_one_is_no_step(
+    rt: HostRuntime,
+) -> Result<(), Fail> {
+    let rows = [
         Row::Board(
             "it goes on behind an armed store",
             Memory::Counted,

@@ -7,9 +7,10 @@ use Rattle.rio_base.specs.declared.failures.VolFail.TheVariants.{Fault}
 use Rattle.rio_base.specs.Blocks.{Ends}
 use Rattle.rio_base.specs.Machine.{FaultCause, StopReason}
 use Rattle.rio_base.specs.Volume.{Quiet, Runs, StopCause}
-use Rattle.page_cache.specs.Caches.{FewWrites, cache_below, cache_causes, cache_health}
+use Rattle.rio_model.specs.Cover.{causes_of}
+use Rattle.page_cache.specs.Caches.{FewWrites, cache_below, cache_health}
 
-cause_by : (r s : Running) (a b : Bool) → r.stopped ≡ a → s.stopped ≡ b → Steps r s → StopCause (cache_causes r) (cache_causes s) a b
+cause_by : (r s : Running) (a b : Bool) → r.stopped ≡ a → s.stopped ≡ b → Steps r s → StopCause (causes_of r) (causes_of s) a b
 cause_by r s true b e d h = ap (λ (u : Running). u.trapped) (h.frozen e)
 cause_by r s false false e d h = h.running d
 cause_by r s false true e d h = from (h.reason e d)

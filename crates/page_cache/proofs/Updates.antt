@@ -105,8 +105,6 @@ sound_same n m old new t s same coherent rest closed names shadows gate = sound_
 pub sound_begun : (n m : ℕ) (old new : Contents) (t u : CacheTables) → CacheSound old n t → m ≡ n → (Coherent old n → Coherent new n) → new ≡ record old { words = new.words } → new.open_page ≡ None → SameNames old.words new.words → AreBare new.words → SameButPins t u → u.shadows ≡ 0 → ((k : ℕ) → is_pinned u.pool k ≡ false) → CacheSound new m u
 sound_begun n m old new t u s same coherent rest closed names bare pins count none = sound_with n m old new t u s (coherent_on new n m same (coherent s.coherent)) closed (disk_of old new rest) names.frames (blocks_named old.words new.words names) pins (fit_begun new.words u bare count none)
 
--- ---- the list of shadows
-
 -- ---- what a reader sees, and what stands
 
 cached_some : (o : Option ℕ) → is_some o ≡ true → (k : ℕ) × (o ≡ Some k)

@@ -1,12 +1,12 @@
 -- The order of use, and blocks that leave.
-use Rattle.page_cache.proofs.Common.{◌≡◌, ◌≢◌, ℕ, ◌<◌, ◌==◌, not, ◌⊎◌, Bool, true, false, if◌then◌else◌, List, Option, Some, None, refl, ◌∙◌, ap, sym, subst, inl, inr, cases_Bool, cases_eq, eq-eqb, Contents, none_some, true_false, used_last, block_of, frames_in, order_of, BlockRule, OneEntry, is_valid, tag_at, tag_block, Coherent, Keeps, entry_of_block, OnePage, found_entries, found_kept, found_other, same_entries, Made, frame_past, found_at, frames_one, tag_one, found_is}
+use Rattle.page_cache.proofs.Common.{◌≡◌, ◌≢◌, ℕ, ◌<◌, ◌==◌, not, ◌⊎◌, Bool, true, false, if◌then◌else◌, List, Option, Some, None, refl, ◌∙◌, ap, sym, subst, inl, inr, cases_Bool, cases_eq, eq-eqb, Contents, none_some, true_false, used_last, block_of, frames_in, order_of, BlockRule, OneEntry, is_dirty, is_valid, tag_at, tag_block, Coherent, Keeps, entry_of_block, OnePage, found_entries, found_kept, found_other, same_entries, Made, frame_past, found_at, frames_one, tag_one, found_is}
 use Rattle.std.specs.Prelude.{◌++◌, [], ◌∷◌, filter}
 use Rattle.frame_pool.specs.Orders.{freed_first, without}
 use Rattle.frame_pool.specs.Pools.{least_recent}
 use Rattle.rio_model.specs.Cover.{frame_page}
 use Rattle.page_cache.specs.declared.tables.CacheTables.{CacheTables}
 use Rattle.page_cache.specs.Caches.{CacheSound}
-use Rattle.page_cache.specs.Uses.{AllStay, LeavesFrame, LeavesOldest, SameOrderBut, UsedLast}
+use Rattle.page_cache.specs.Uses.{AllStay, FetchedClean, LeavesFrame, LeavesOldest, SameOrderBut, UsedLast, freed_order}
 use Rattle.page_cache.proofs.Rooms.{some_bound}
 
 -- ---- blocks that leave
@@ -107,3 +107,27 @@ order_same t u e = ap (λ (x : CacheTables). order_of x.pool) e
 -- the frame of a cached block was used
 pub used_hit : (b k n : ℕ) (c : Contents) (t v : CacheTables) → CacheSound c n t → (k < frames_in t.pool) × (block_of t.pool k ≡ Some b) → order_of v.pool ≡ used_last k (order_of t.pool) → UsedLast b c.words t v
 used_hit b k n c t v s bound e = record { frame = k; found = some_bound b k n c t s bound.0 bound.1; order = e }
+
+-- ---- a frame becomes free
+
+pub marked_order : (t u : CacheTables) → u ≡ record t { forgotten = u.forgotten } → order_of u.pool ≡ order_of t.pool
+marked_order t u rest = ap (λ (x : CacheTables). order_of x.pool) rest
+
+-- the block was not cached
+pub freed_none : (b : ℕ) (words : List ℕ) (t u : CacheTables) → entry_of_block words b ≡ None → order_of u.pool ≡ order_of t.pool → order_of u.pool ≡ freed_order (entry_of_block words b) (order_of t.pool)
+freed_none b words t u none e = e ∙ sym (ap (λ (o : Option ℕ). freed_order o (order_of t.pool)) none)
+
+-- it was in frame k
+pub freed_some : (b k : ℕ) (words : List ℕ) (t u v : CacheTables) → entry_of_block words b ≡ Some k → order_of u.pool ≡ order_of t.pool → order_of v.pool ≡ freed_first k (order_of u.pool) → order_of v.pool ≡ freed_order (entry_of_block words b) (order_of t.pool)
+freed_some b k words t u v found same e = e ∙ ap (freed_first k) same ∙ sym (ap (λ (o : Option ℕ). freed_order o (order_of t.pool)) found)
+
+-- ---- entries that are made for a fetched block
+
+pub clean_hit : (b : ℕ) (old new : List ℕ) → new ≡ old → FetchedClean b old new
+clean_hit b old new same = record { clean = λ k none e. absurd (none_some k (entry_of_block old b) none (sym (ap (λ ws. entry_of_block ws b) same) ∙ e)) }
+
+pub clean_made : (b k : ℕ) (old new : List ℕ) → entry_of_block new b ≡ Some k → is_dirty (tag_at new k) ≡ false → FetchedClean b old new
+clean_made b k old new found clean = record { clean = λ j none e. subst (λ n. is_dirty (tag_at new n) ≡ false) (some_same k j (sym found ∙ e)) clean }
+  where
+    some_same : (x y : ℕ) → Some x ≡ Some y → x ≡ y
+    some_same x y e = cc

@@ -5,7 +5,8 @@ use Rattle.rio_base.specs.declared.wild.Wild.{Wild}
 use Rattle.rio_base.specs.declared.wild.Wild.TheVariants.{Changed, Trapped, Spared}
 use Rattle.rio_base.specs.Volume.{Below}
 use Rattle.page_cache.specs.declared.tables.CacheTables.{CacheTables}
-use Rattle.page_cache.specs.Caches.{CacheSound, cache_below, cache_causes, cache_health, cache_home, cache_kept, is_roomy}
+use Rattle.page_cache.specs.Caches.{CacheSound, cache_below, cache_health, cache_kept, is_roomy}
+use Rattle.rio_model.specs.Cover.{causes_of, home_of}
 use Rattle.page_cache.specs.Wilds.{Arms, Strikes}
 
 wild_scratch : (w : Wild) (at v : ℕ) (r : Running) → length (after_wild w at v r).scratch ≡ length r.scratch
@@ -36,7 +37,7 @@ below_on c d s e = ap (λ x. cache_below x s) e
 
 -- as many words of scratch, and else the same
 below_scratch : (c : Contents) (r : Running) → ℕ → Below
-below_scratch c r n = record { roomy = is_roomy c; home = Some (cache_home c); writes = c.writes; around = c.around; causes = cache_causes r; memory = record { protected = r.protected; scratch = n }; limit = c.faults.limit }
+below_scratch c r n = record { roomy = is_roomy c; home = Some (home_of c); writes = c.writes; around = c.around; causes = causes_of r; memory = record { protected = r.protected; scratch = n }; limit = c.faults.limit }
 
 below_changed : (at v : ℕ) (c : Contents) (r : Running) → cache_below c (after_wild Changed at v r) ≡ cache_below c r
 unfolding below_scratch

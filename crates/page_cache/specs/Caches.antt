@@ -1,7 +1,7 @@
 -- What a cache makes of its machine and its tables: blocks, names, what stands, the open update, and the machine below.
-use Rattle.std.specs.Prelude.{◌≡◌, ◌≢◌, ℕ, ◌+◌, ◌-◌, ◌*◌, ◌<◌, ◌≤◌, ◌==◌, ◌&&◌, ◌||◌, not, nat_lt, Bool, true, false, if◌then◌else◌, ◌⊎◌, List, length, slice_index, slice_index_or, Option, Some, None, is_some}
+use Rattle.std.specs.Prelude.{◌≡◌, ◌≢◌, ℕ, ◌+◌, ◌-◌, ◌<◌, ◌≤◌, ◌==◌, ◌&&◌, ◌||◌, not, nat_lt, Bool, true, false, if◌then◌else◌, ◌⊎◌, List, length, slice_index, slice_index_or, Option, Some, None, is_some}
 use Rattle.rio_base.specs.declared.places.PageName.{PageName}
-use Rattle.rio_base.specs.Blocks.{Causes, Health, Home, Seen}
+use Rattle.rio_base.specs.Blocks.{Health, Seen}
 use Rattle.rio_base.specs.Disks.{is_pending, raised}
 use Rattle.rio_base.specs.Image.{registry_pages}
 use Rattle.rio_base.specs.Machine.{Contents, Running}
@@ -9,7 +9,7 @@ use Rattle.rio_base.specs.Volume.{Below, Kept}
 use Rattle.frame_pool.specs.Pools.{block_of, blocks_in, frames_in, is_pinned, pins_in}
 use Rattle.rio_model.specs.Registry.{IsValid, frames_of, gate_of, is_dirty, is_valid, shadow_at, tag_at}
 use Rattle.write_back.specs.Writing.{SameDisk}
-use Rattle.rio_model.specs.Cover.{Coherent, StandsAs, entry_block, entry_of_block, home_word, is_loose, name_in, reads, stands}
+use Rattle.rio_model.specs.Cover.{Coherent, StandsAs, causes_of, entry_block, entry_of_block, home_of, home_word, is_loose, name_in, reads, stands}
 use Rattle.page_cache.specs.declared.tables.CacheTables.{CacheTables}
 
 -- ---- what a reader sees
@@ -22,18 +22,12 @@ cache_health c r = record { faults = c.faults.count; stopped = r.stopped }
 
 -- ---- the machine below
 
-abbrev pub cache_home : Contents → Home
-cache_home c = record { disk = home_word c.disk; pending = is_pending c.pending }
-
-abbrev pub cache_causes : Running → Causes
-cache_causes r = record { stop_set = r.stop_set; armed = r.armed; trapped = r.trapped; protected = λ p. nat_lt (512 * p) r.protected }
-
 -- there is a frame for each block
 abbrev pub is_roomy : Contents → Bool
 is_roomy c = not (nat_lt (frames_of c.words) (length c.disk))
 
 abbrev pub cache_below : Contents → Running → Below
-cache_below c r = record { roomy = is_roomy c; home = Some (cache_home c); writes = c.writes; around = c.around; causes = cache_causes r; memory = record { protected = r.protected; scratch = length r.scratch }; limit = c.faults.limit }
+cache_below c r = record { roomy = is_roomy c; home = Some (home_of c); writes = c.writes; around = c.around; causes = causes_of r; memory = record { protected = r.protected; scratch = length r.scratch }; limit = c.faults.limit }
 
 -- ---- what stands, and the open update
 

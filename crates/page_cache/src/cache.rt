@@ -34,9 +34,10 @@ impl<M: Machine> PageCache<M> {
         PageCache { machine, tables }
     }
 
-    /// The machine below. Memory and disk stand for what the volume says, also after a stop.
+    /// The machine below, as it is. Memory and disk stand for what the volume says, also after a stop.
     pub fn machine(&self) -> &M
         requires sound { CacheSound (M.contents self.now.machine) (length (M.run self.now.machine).scratch) self.now.tables }
+        ensures machine { result.now ≡ self.now.machine }
         ensures tells { Tells (M.contents result.now) (M.run result.now) (cache_seen (M.contents self.now.machine)) (cache_health (M.contents self.now.machine) (M.run self.now.machine)) (cache_below (M.contents self.now.machine) (M.run self.now.machine)) (cache_kept (M.contents self.now.machine) self.now.tables) }
     {
         &self.machine
@@ -75,9 +76,10 @@ impl<M: Machine> PageCache<M> {
         self.machine.arm(step, at, v);
     }
 
-    /// The machine, taken back. Memory and disk stand for what the volume says, also after a stop.
+    /// The machine, taken back as it is. Memory and disk stand for what the volume says, also after a stop.
     pub fn into_machine(self) -> M
         requires sound { CacheSound (M.contents self.machine) (length (M.run self.machine).scratch) self.tables }
+        ensures machine { result ≡ self.machine }
         ensures tells { Tells (M.contents result) (M.run result) (cache_seen (M.contents self.machine)) (cache_health (M.contents self.machine) (M.run self.machine)) (cache_below (M.contents self.machine) (M.run self.machine)) (cache_kept (M.contents self.machine) self.tables) }
     {
         let PageCache { machine, tables: _ } = self;

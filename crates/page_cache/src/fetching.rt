@@ -1,12 +1,12 @@
 //! Blocks come into frames, and leave them.
 
 ghost use Rattle.frame_pool.specs.Orders.{used_last};
-ghost use Rattle.page_cache.specs.Uses.{AllStay, LeavesFrame, LeavesOldest, SameOrderBut, UsedLast};
+ghost use Rattle.page_cache.specs.Uses.{AllStay, FetchedClean, LeavesFrame, LeavesOldest, SameOrderBut, UsedLast};
 ghost use Rattle.std.specs.Prelude.{◌≡◌, ◌<◌, ◌≤◌, ◌+◌, ◌*◌, ℕ, true, false, Some, None, IfOk, OnOk, IsErr, IsErrOf, is_some, length, slice_index};
 ghost use Rattle.rio_base.specs.Blocks.{InRange};
 ghost use Rattle.rio_base.specs.Disks.{raised};
 ghost use Rattle.rio_base.specs.Machine.{FaultCause, Lasts, StepEnds};
-ghost use Rattle.rio_model.specs.Registry.{IsValid, frames_of, is_valid, tag_at};
+ghost use Rattle.rio_model.specs.Registry.{IsValid, frames_of, is_dirty, is_valid, tag_at};
 ghost use Rattle.rio_model.specs.Cover.{Coherent, Keeps, Narrows, entry_of_block, frame_page, home_word};
 ghost use Rattle.frame_pool.specs.Pools.{is_pinned, least_recent, order_of};
 ghost use Rattle.write_back.specs.Writing.{SameDisk};
@@ -14,9 +14,9 @@ ghost use Rattle.page_cache.specs.Caches.{Adds, CacheSound, FewWrites, SameTable
 
 use crate::cache::PageCache;
 use crate::filling::{fill, install_clean, read_home};
-use registry::{Tag, load_tag};
+use registry::{Tag, frame_page_of, load_tag};
 use rio_base::{Block, Machine, PageName, Stopped, VolFail};
-use write_back::{evict, page_of_frame};
+use write_back::evict;
 
 impl<M: Machine> PageCache<M> {
     /// Evicts the block of frame `k`, which isn't pinned: with one block write, if its page is dirty.
@@ -103,7 +103,7 @@ impl<M: Machine> PageCache<M> {
         ensures ends { StepEnds (M.run self.old.machine) (M.run self.new.machine) (IsErrOf result VolFail.Stopped) }
     {
         read_home(&mut self.machine, b, &mut self.tables.buffer)?;
-        let page = page_of_frame(&self.machine, k);
+        let page = frame_page_of(&self.machine, k);
         fill(&mut self.machine, k, page, self.tables.buffer.as_slice())?;
         Ok(())
     }
@@ -121,6 +121,7 @@ impl<M: Machine> PageCache<M> {
         ensures keeps { Keeps (M.contents self.old.machine) (M.contents self.new.machine) }
         ensures adds { Adds b.0 name (M.contents self.old.machine).words (M.contents self.new.machine).words }
         ensures found { OnOk result (entry_of_block (M.contents self.new.machine).words b.0 ≡ Some k) }
+        ensures clean { OnOk result (is_dirty (tag_at (M.contents self.new.machine).words k) ≡ false) }
         ensures still { SameDisk (M.contents self.old.machine) (M.contents self.new.machine) }
         ensures touches { SameTouches (M.contents self.old.machine).words (M.contents self.new.machine).words }
         ensures tables { SameTables self.old.tables self.new.tables }
@@ -147,6 +148,7 @@ impl<M: Machine> PageCache<M> {
         ensures keeps { Keeps (M.contents self.old.machine) (M.contents self.new.machine) }
         ensures adds { Adds b.0 name (M.contents self.old.machine).words (M.contents self.new.machine).words }
         ensures found { OnOk result (entry_of_block (M.contents self.new.machine).words b.0 ≡ Some k) }
+        ensures clean { OnOk result (is_dirty (tag_at (M.contents self.new.machine).words k) ≡ false) }
         ensures unfetched { IsErrOf result VolFail.Fault → Narrows (M.contents self.old.machine).words (M.contents self.new.machine).words }
         ensures still { SameDisk (M.contents self.old.machine) (M.contents self.new.machine) }
         ensures touches { SameTouches (M.contents self.old.machine).words (M.contents self.new.machine).words }
@@ -178,6 +180,7 @@ impl<M: Machine> PageCache<M> {
         ensures leaves { LeavesOldest self.old.tables (M.contents self.old.machine).words (M.contents self.new.machine).words }
         ensures writes { FewWrites b.0 (M.contents self.old.machine) (M.contents self.new.machine) }
         ensures hit { is_some (entry_of_block (M.contents self.old.machine).words b.0) ≡ true → M.contents self.new.machine ≡ M.contents self.old.machine }
+        ensures clean { OnOk result (FetchedClean b.0 (M.contents self.old.machine).words (M.contents self.new.machine).words) }
         ensures unfetched { IsErrOf result VolFail.Fault → Narrows (M.contents self.old.machine).words (M.contents self.new.machine).words }
         ensures sure { IsErrOf result VolFail.Fault → entry_of_block (M.contents self.old.machine).words b.0 ≡ None }
         ensures lasts { Lasts (M.contents self.old.machine) (M.contents self.new.machine) }

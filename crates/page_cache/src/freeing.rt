@@ -1,9 +1,9 @@
 //! Blocks leave the cache without a write, and come into it as zeros, while no update is open.
 
-ghost use Rattle.frame_pool.specs.Orders.{used_last};
+ghost use Rattle.frame_pool.specs.Orders.{freed_first, used_last};
 ghost use Rattle.frame_pool.specs.Pools.{order_of};
 ghost use Rattle.page_cache.specs.Uses.{AllStay};
-ghost use Rattle.std.specs.Prelude.{◌≡◌, ◌<◌, ◌+◌, ◌*◌, ℕ, true, false, None, Some, OnOk, IsErr, length, slice_index};
+ghost use Rattle.std.specs.Prelude.{◌≡◌, ◌<◌, ◌+◌, ◌*◌, ℕ, true, false, None, Some, OnErr, OnOk, IsErr, length, slice_index};
 ghost use Rattle.rio_base.specs.Blocks.{InRange};
 ghost use Rattle.rio_base.specs.Machine.{Lasts, StepEnds};
 ghost use Rattle.rio_base.specs.Volume.{cleared};
@@ -45,6 +45,8 @@ impl<M: Machine> PageCache<M> {
         ensures gone { OnOk result (entry_of_block (M.contents self.new.machine).words b.0 ≡ None) }
         ensures narrows { Narrows (M.contents self.old.machine).words (M.contents self.new.machine).words }
         ensures tables { SameTables self.old.tables self.new.tables }
+        ensures order { OnErr result (order_of self.new.tables.pool ≡ order_of self.old.tables.pool) }
+        ensures freed { OnOk result (order_of self.new.tables.pool ≡ freed_first k (order_of self.old.tables.pool)) }
         ensures still { SameDisk (M.contents self.old.machine) (M.contents self.new.machine) }
         ensures lasts { Lasts (M.contents self.old.machine) (M.contents self.new.machine) }
         ensures ends { StepEnds (M.run self.old.machine) (M.run self.new.machine) (IsErr result) }

@@ -46,6 +46,7 @@ pub(crate) fn unpin_all(t: &mut CacheTables)
     ensures unpinned { (k : ℕ) → is_pinned t.new.pool k ≡ false }
     ensures rest { SameButPins t.old t.new }
     ensures list { SameTables t.old t.new }
+    ensures order { order_of t.new.pool ≡ order_of t.old.pool }
 {
     for i in 0..t.shadows as usize {
         let k = t.shadowed[i];

@@ -1,12 +1,14 @@
 //! The cache as a volume: stores, updates, blocks made anew and forgotten, and flushes.
 
-ghost use Rattle.page_cache.specs.Uses.{LeavesOldest, UsedLast};
+ghost use Rattle.frame_pool.specs.Pools.{order_of};
+ghost use Rattle.page_cache.specs.Uses.{LeavesOldest, UsedLast, freed_order};
 ghost use Rattle.write_back.specs.Writing.{SameDisk};
 ghost use Rattle.page_cache.specs.Caches.{CacheSound, FewWrites, cache_below, cache_health, cache_kept, cache_seen};
 ghost use Rattle.page_cache.specs.Settled.{cache_settled};
 ghost use Rattle.rio_base.specs.Blocks.{Caches, CanName, Drops, Ends, FaultAt, Halts, IsPlace, IsSpan, Looks, as_word};
+ghost use Rattle.rio_model.specs.Cover.{SameNames, entry_of_block};
 ghost use Rattle.rio_base.specs.Volume.{Begun, CachesStored, Firm, FirmBut, Goes, HasRoom, OldOrNew, OldOrPut, OldOrRun, RunName, Runs, SameBut, SameUpdate, Touches, cleared, put, put_run, stored_name};
-ghost use Rattle.std.specs.Prelude.{IfOk, IsErrOf, None, OnOk, Some, false, length, true, ℕ, ◌+◌, ◌<◌, ◌≡◌, ◌≤◌};
+ghost use Rattle.std.specs.Prelude.{IfOk, IsErr, IsErrOf, None, OnOk, Some, false, length, true, ℕ, ◌+◌, ◌<◌, ◌≡◌, ◌≤◌};
 ghost use Rattle.write_back.specs.Flushing.{Flushed};
 
 use crate::cache::PageCache;
@@ -142,6 +144,8 @@ impl<M: Machine> Volume for PageCache<M> {
         ensures ends { Halts (cache_health (M.contents self.old.machine) (M.run self.old.machine)) (cache_health (M.contents self.new.machine) (M.run self.new.machine)) result }
         ensures sound { CacheSound (M.contents self.new.machine) (length (M.run self.new.machine).scratch) self.new.tables }
         ensures still { SameDisk (M.contents self.old.machine) (M.contents self.new.machine) }
+        ensures entries { SameNames (M.contents self.old.machine).words (M.contents self.new.machine).words }
+        ensures order { order_of self.new.tables.pool ≡ order_of self.old.tables.pool }
     {
         begin(&mut self.machine, listed(&self.tables))?;
         clear_list(&mut self.tables);
@@ -192,6 +196,8 @@ impl<M: Machine> Volume for PageCache<M> {
         ensures ends { Halts (cache_health (M.contents self.old.machine) (M.run self.old.machine)) (cache_health (M.contents self.new.machine) (M.run self.new.machine)) result }
         ensures sound { CacheSound (M.contents self.new.machine) (length (M.run self.new.machine).scratch) self.new.tables }
         ensures still { SameDisk (M.contents self.old.machine) (M.contents self.new.machine) }
+        ensures entries { SameNames (M.contents self.old.machine).words (M.contents self.new.machine).words }
+        ensures order { order_of self.new.tables.pool ≡ order_of self.old.tables.pool }
     {
         let Some(k) = self.tables.pool.find(b) else {
             unreachable!()
@@ -214,6 +220,8 @@ impl<M: Machine> Volume for PageCache<M> {
         ensures ends { Halts (cache_health (M.contents self.old.machine) (M.run self.old.machine)) (cache_health (M.contents self.new.machine) (M.run self.new.machine)) result }
         ensures sound { CacheSound (M.contents self.new.machine) (length (M.run self.new.machine).scratch) self.new.tables }
         ensures still { SameDisk (M.contents self.old.machine) (M.contents self.new.machine) }
+        ensures entries { SameNames (M.contents self.old.machine).words (M.contents self.new.machine).words }
+        ensures order { order_of self.new.tables.pool ≡ order_of self.old.tables.pool }
     {
         commit(&mut self.machine)?;
         unpin_all(&mut self.tables);
@@ -234,6 +242,8 @@ impl<M: Machine> Volume for PageCache<M> {
         ensures ends { Halts (cache_health (M.contents self.old.machine) (M.run self.old.machine)) (cache_health (M.contents self.new.machine) (M.run self.new.machine)) result }
         ensures sound { CacheSound (M.contents self.new.machine) (length (M.run self.new.machine).scratch) self.new.tables }
         ensures still { SameDisk (M.contents self.old.machine) (M.contents self.new.machine) }
+        ensures entries { SameNames (M.contents self.old.machine).words (M.contents self.new.machine).words }
+        ensures order { order_of self.new.tables.pool ≡ order_of self.old.tables.pool }
     {
         undo(&mut self.machine, listed(&self.tables))?;
         unpin_all(&mut self.tables);
@@ -259,6 +269,8 @@ impl<M: Machine> Volume for PageCache<M> {
         ensures ends { Halts (cache_health (M.contents self.old.machine) (M.run self.old.machine)) (cache_health (M.contents self.new.machine) (M.run self.new.machine)) result }
         ensures sound { CacheSound (M.contents self.new.machine) (length (M.run self.new.machine).scratch) self.new.tables }
         ensures still { SameDisk (M.contents self.old.machine) (M.contents self.new.machine) }
+        ensures order { IsErr result → order_of self.new.tables.pool ≡ order_of self.old.tables.pool }
+        ensures freed { OnOk result (order_of self.new.tables.pool ≡ freed_order (entry_of_block (M.contents self.old.machine).words b.0) (order_of self.old.tables.pool)) }
     {
         self.tables.mark(b, true);
         let Some(k) = self.tables.pool.find(b) else {
@@ -282,6 +294,7 @@ impl<M: Machine> Volume for PageCache<M> {
         ensures ends { Ends (cache_health (M.contents self.old.machine) (M.run self.old.machine)) (cache_health (M.contents self.new.machine) (M.run self.new.machine)) result }
         ensures sound { CacheSound (M.contents self.new.machine) (length (M.run self.new.machine).scratch) self.new.tables }
         ensures flushed { IfOk result (λ j. Flushed k j (M.contents self.old.machine) (M.contents self.new.machine)) }
+        ensures order { order_of self.new.tables.pool ≡ order_of self.old.tables.pool }
     {
         let j = write_back::flush(&mut self.machine, k)?;
         Ok(j)

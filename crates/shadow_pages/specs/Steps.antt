@@ -1,5 +1,5 @@
 -- The steps that an update is made of.
-use Rattle.std.specs.Prelude.{◌≡◌, ◌≢◌, ℕ, ◌+◌, ◌*◌, ◌<◌, ◌≤◌, ◌⊎◌, false, List, length, slice_index, None}
+use Rattle.std.specs.Prelude.{◌≡◌, ◌≢◌, ℕ, ◌+◌, ◌*◌, ◌<◌, ◌≤◌, ◌⊎◌, false, List, slice_index, None}
 use Rattle.rio_base.specs.Image.{registry_pages}
 use Rattle.rio_base.specs.Machine.{Contents, Lasts}
 use Rattle.rio_model.specs.Cover.{Keeps, SameNames, frame_page}
@@ -13,14 +13,6 @@ pub record StoresWords (old new : Contents) : Type 0 where
   pub was_closed : old.open_page ≡ None
   pub closed : new.open_page ≡ None
   pub lasts : Lasts old new
-
--- ---- the gate is stored
-
--- the gate is g now, and all other words are as before
-pub record Gated (g : ℕ) (old new : List ℕ) : Type 0 where
-  pub count : length new ≡ length old
-  pub gate : gate_of new ≡ g
-  pub others : (i : ℕ) → i ≢ 4 → slice_index new i ≡ slice_index old i
 
 -- ---- shadows are given
 

@@ -11,7 +11,7 @@ use rio_base::{Machine, Stopped};
 
 /// Ends an update: all its edits count from now on. It is one step, and `Stopped` changes nothing: the update is open
 /// still.
-#[tactic(auto, using(crate::proofs::Gates::gate_firm, crate::proofs::Gates::gate_entries))]
+#[tactic(auto, using(crate::proofs::Gates::gate_firm, rio_model::proofs::Gates::gate_entries))]
 pub fn commit<M: Machine>(m: &mut M) -> Result<(), Stopped>
     requires coherent { Coherent (M.contents m.old) (length (M.run m.old).scratch) }
     requires closed { (M.contents m.old).open_page ≡ None }

@@ -3,7 +3,8 @@
 ghost use Rattle.std.specs.Prelude.{◌≡◌, None, OnOk, OnErr, IsErr, length, slice_set};
 ghost use Rattle.rio_base.specs.Machine.{StepEnds};
 ghost use Rattle.rio_model.specs.Cover.{Coherent};
-ghost use Rattle.shadow_pages.specs.Steps.{Gated, StoresWords};
+ghost use Rattle.shadow_pages.specs.Steps.{StoresWords};
+ghost use Rattle.rio_model.specs.CoverChanges.{Gated};
 
 use page_protect::put_word;
 use rio_base::{Machine, Page, Stopped};

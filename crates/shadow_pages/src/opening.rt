@@ -65,7 +65,7 @@ fn clear_shadows<M: Machine>(m: &mut M, shadowed: &[u32]) -> Result<(), Stopped>
 }
 
 /// Stores 1 in the gate, where no entry has a shadow.
-#[tactic(auto, using(crate::proofs::Gates::gate_firm, crate::proofs::Gates::gate_names, crate::proofs::Gates::gate_shadow))]
+#[tactic(auto, using(crate::proofs::Gates::gate_firm, rio_model::proofs::Gates::gate_names, rio_model::proofs::Gates::gate_shadow))]
 fn open_gate<M: Machine>(m: &mut M) -> Result<(), Stopped>
     requires coherent { Coherent (M.contents m.old) (length (M.run m.old).scratch) }
     requires closed { (M.contents m.old).open_page ≡ None }

@@ -7,11 +7,12 @@ ghost use Rattle.rio_model.specs.Registry.{IsValid, frames_of, is_data, shadow_a
 ghost use Rattle.shadow_pages.specs.Steps.{CanShadow, IsCopied, StoresWords};
 ghost use Rattle.shadow_pages.specs.Updates.{SameShadows};
 
-use crate::pages::{copy_closed_page, frame_page_of, shadow_page_of};
-use registry::set_shadow;
+use crate::pages::copy_closed_page;
+use registry::{frame_page_of, set_shadow, shadow_page_of};
 use rio_base::{Machine, Stopped};
 
 /// Copies frame `k` to shadow page `s`, which stands for no entry yet.
+#[tactic(auto, using(crate::proofs::Steps::layout_now))]
 fn fill_shadow<M: Machine>(m: &mut M, k: u32, s: u32) -> Result<(), Stopped>
     requires coherent { Coherent (M.contents m.old) (length (M.run m.old).scratch) }
     requires closed { (M.contents m.old).open_page ≡ None }

@@ -8,12 +8,12 @@ ghost use Rattle.shadow_pages.specs.Steps.{HasShadow, IsRestored, Restores, Stor
 ghost use Rattle.shadow_pages.specs.Updates.{AreEntries, IsUnshadowed, ListsShadows, SameShadows, Undone};
 
 use crate::committing::commit;
-use crate::pages::{copy_closed_page, frame_page_of, shadow_page_of};
-use registry::{Tag, read_entry};
+use crate::pages::copy_closed_page;
+use registry::{Tag, frame_page_of, read_entry, shadow_page_of};
 use rio_base::{Machine, Stopped};
 
 /// Copies shadow page `s`, which counts for entry `k`, to the frame of the entry.
-#[tactic(auto, using(crate::proofs::Steps::shadow_few))]
+#[tactic(auto, using(crate::proofs::Steps::layout_now, crate::proofs::Steps::shadow_few))]
 fn copy_back<M: Machine>(m: &mut M, k: u32, s: u32) -> Result<(), Stopped>
     requires coherent { Coherent (M.contents m.old) (length (M.run m.old).scratch) }
     requires closed { (M.contents m.old).open_page ≡ None }

@@ -13,7 +13,7 @@ use Rattle.rio_model.specs.Registry.{OneEntry, file_at, frames_of, index_at, is_
 use Rattle.registry.specs.Entries.{entry_of}
 use Rattle.registry.specs.declared.entry.Entry.{Entry}
 use Rattle.write_back.specs.Flushing.{CleanedFirst, dirty_entries, needs_write, once}
-use Rattle.write_back.proofs.Steps.{held_each, held_same, held_then}
+use Rattle.rio_model.proofs.HeldEntries.{held_each, held_same, held_then}
 use Rattle.write_back.proofs.Walks.{Counts, counted, counts_next, counts_none, counts_this, once_is}
 
 -- ---- an entry that another one's change leaves

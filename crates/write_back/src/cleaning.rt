@@ -7,37 +7,8 @@ ghost use Rattle.rio_model.specs.Cover.{Coherent, HeldEntry, IsBare, IsCleaned, 
 ghost use Rattle.rio_model.specs.Registry.{IsValid, OneEntry, frames_of, is_dirty, tag_at};
 ghost use Rattle.write_back.specs.Writing.{SameDisk};
 
-use registry::{clear, load_tag, set_clean};
-use rio_base::{Machine, Page, Stopped, VolFail, WordAt};
-
-/// The header's word of the number of frames.
-const FRAMES: WordAt = WordAt(2);
-
-/// The entries of a registry page.
-const PAGE_ENTRIES: u32 = 102;
-
-/// The pages of header and shadow frames.
-const FIXED_PAGES: u32 = 17;
-
-/// How many frames, and so entries, there are.
-pub(crate) fn frame_count<M: Machine>(m: &M) -> u32
-    requires coherent { Coherent (M.contents m.now) (length (M.run m.now).scratch) }
-    ensures { result ≡ frames_of (M.contents m.now).words }
-{
-    m.load(FRAMES) as u32
-}
-
-/// The page of frame `k`, `k` below the number of frames.
-#[tactic(auto, using(crate::proofs::Steps::frame_is, crate::proofs::Steps::frame_within))]
-pub fn page_of_frame<M: Machine>(m: &M, k: u32) -> Page
-    requires coherent { Coherent (M.contents m.now) (length (M.run m.now).scratch) }
-    requires entry { k < frames_of (M.contents m.now).words }
-    ensures page { result.0 ≡ frame_page (M.contents m.now).words k }
-    ensures within { 512 * result.0 + 512 ≤ length (M.contents m.now).words }
-{
-    let frames = frame_count(m);
-    Page((frames + PAGE_ENTRIES - 1) / PAGE_ENTRIES + FIXED_PAGES + k)
-}
+use registry::{clear, frame_page_of, load_tag, set_clean};
+use rio_base::{Machine, Page, Stopped, VolFail};
 
 /// Writes the page of entry `k`, which is dirty, as its block. `Fault` leaves the block reading as anything: the entry
 /// stays dirty, and so its page counts.
@@ -83,7 +54,7 @@ pub(crate) fn sync_disk<M: Machine>(m: &mut M) -> Result<(), VolFail>
 }
 
 /// Marks entry `k` clean, whose page is on the disk, where nothing is pending. `Stopped` changes nothing.
-#[tactic(auto, using(crate::proofs::Steps::layout_now, crate::proofs::Steps::held_same, crate::proofs::Steps::held_clean))]
+#[tactic(auto, using(crate::proofs::Steps::layout_now, rio_model::proofs::HeldEntries::held_same, crate::proofs::Steps::held_clean))]
 pub(crate) fn mark_clean<M: Machine>(m: &mut M, k: u32) -> Result<(), Stopped>
     requires coherent { Coherent (M.contents m.old) (length (M.run m.old).scratch) }
     requires closed { (M.contents m.old).open_page ≡ None }
@@ -108,7 +79,7 @@ pub(crate) fn mark_clean<M: Machine>(m: &mut M, k: u32) -> Result<(), Stopped>
 /// Brings the page of entry `k` to the disk, if it is dirty, and marks it clean once the disk has it. A clean entry's
 /// page is neither written nor synced. `Fault`: the disk refused the write or the sync. `Fault` and `Stopped` leave all
 /// words as they were.
-#[tactic(auto, using(crate::proofs::Steps::keeps_then, crate::proofs::Steps::ends_then, crate::proofs::Steps::still_valid, crate::proofs::Steps::coherent_then, crate::proofs::Steps::held_same, crate::proofs::Steps::held_then))]
+#[tactic(auto, using(crate::proofs::Steps::keeps_then, crate::proofs::Steps::ends_then, crate::proofs::Steps::still_valid, crate::proofs::Steps::coherent_then, rio_model::proofs::HeldEntries::held_same, rio_model::proofs::HeldEntries::held_then))]
 pub fn clean<M: Machine>(m: &mut M, k: u32) -> Result<(), VolFail>
     requires coherent { Coherent (M.contents m.old) (length (M.run m.old).scratch) }
     requires closed { (M.contents m.old).open_page ≡ None }
@@ -130,7 +101,7 @@ pub fn clean<M: Machine>(m: &mut M, k: u32) -> Result<(), VolFail>
     if !load_tag(m, k).is_dirty() {
         return Ok(());
     }
-    let page = page_of_frame(m, k);
+    let page = frame_page_of(m, k);
     write_entry(m, k, page)?;
     sync_disk(m)?;
     mark_clean(m, k)?;
@@ -138,7 +109,7 @@ pub fn clean<M: Machine>(m: &mut M, k: u32) -> Result<(), VolFail>
 }
 
 /// Makes entry `k`, which is clean, invalid. `Stopped` changes nothing.
-#[tactic(auto, using(crate::proofs::Steps::layout_now, crate::proofs::Steps::held_same))]
+#[tactic(auto, using(crate::proofs::Steps::layout_now, rio_model::proofs::HeldEntries::held_same))]
 fn drop_entry<M: Machine>(m: &mut M, k: u32) -> Result<(), Stopped>
     requires coherent { Coherent (M.contents m.old) (length (M.run m.old).scratch) }
     requires closed { (M.contents m.old).open_page ≡ None }
@@ -159,7 +130,7 @@ fn drop_entry<M: Machine>(m: &mut M, k: u32) -> Result<(), Stopped>
 
 /// Makes entry `k` invalid, after its page is on the disk. A clean entry's page is neither written nor synced. `Fault`
 /// and `Stopped`: the entry has its block still.
-#[tactic(auto, using(crate::proofs::Steps::keeps_then, crate::proofs::Steps::ends_then, crate::proofs::Steps::one_entry_then, crate::proofs::Steps::coherent_then, crate::proofs::Steps::held_then))]
+#[tactic(auto, using(crate::proofs::Steps::keeps_then, crate::proofs::Steps::ends_then, rio_model::proofs::HeldEntries::one_entry_then, crate::proofs::Steps::coherent_then, rio_model::proofs::HeldEntries::held_then))]
 pub fn evict<M: Machine>(m: &mut M, k: u32) -> Result<(), VolFail>
     requires coherent { Coherent (M.contents m.old) (length (M.run m.old).scratch) }
     requires closed { (M.contents m.old).open_page ≡ None }

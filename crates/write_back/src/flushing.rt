@@ -7,8 +7,8 @@ ghost use Rattle.rio_model.specs.Cover.{Coherent, HeldEntry, IsCleaned, Keeps, N
 ghost use Rattle.rio_model.specs.Registry.{IsValid, OneEntry, frames_of, gate_of};
 ghost use Rattle.write_back.specs.Flushing.{CleanedFirst, Flushed, WroteFirst, dirty_entries, needs_write, once};
 
-use crate::cleaning::{frame_count, mark_clean, page_of_frame, sync_disk, write_entry};
-use registry::load_tag;
+use crate::cleaning::{mark_clean, sync_disk, write_entry};
+use registry::{frame_count, frame_page_of, load_tag};
 use rio_base::{Machine, Page, VolFail};
 
 /// Writes the page of entry `k` as its block, if the entry is valid and dirty, and says whether it is.
@@ -54,7 +54,7 @@ fn write_first<M: Machine>(m: &mut M, n: u64) -> Result<u32, VolFail>
     ensures ends { StepEnds (M.run m.old) (M.run m.new) (IsErrOf result VolFail.Stopped) }
 {
     let frames = frame_count(m);
-    let first = page_of_frame(m, 0);
+    let first = frame_page_of(m, 0);
     let mut written = 0;
     for k in 0..frames {
         if u64::from(written) == n {

@@ -4,5 +4,5 @@
 mod cleaning;
 mod flushing;
 
-pub use cleaning::{clean, evict, page_of_frame};
+pub use cleaning::{clean, evict};
 pub use flushing::flush;

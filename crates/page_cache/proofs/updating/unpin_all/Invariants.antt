@@ -1,5 +1,5 @@
 use Rattle.std.proofs.Common.{◌≡◌, ℕ, true}
-use Rattle.page_cache.proofs.Common.{is_pinned}
+use Rattle.page_cache.proofs.Common.{is_pinned, order_of}
 use Rattle.page_cache.specs.Caches.{SameTables}
 use Rattle.page_cache.specs.Updating.{SameButPins}
 use Rattle.page_cache.proofs.Pins.{ListedFrom}
@@ -10,5 +10,6 @@ abbrev pub invariant-loop-i : goal.invariant-loop-i
 invariant-loop-i l = record {
   rest : SameButPins l.initial.t l.t;
   list : SameTables l.initial.t l.t;
+  order : order_of l.t.pool ≡ order_of l.initial.t.pool;
   left : (k : ℕ) → is_pinned l.t.pool k ≡ true → ListedFrom l.initial.t l.i k;
 }

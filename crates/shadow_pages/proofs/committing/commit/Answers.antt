@@ -1,4 +1,5 @@
-use Rattle.shadow_pages.proofs.Gates.{coherent_shut, committed_by, gate_names}
+use Rattle.shadow_pages.proofs.Gates.{coherent_shut, committed_by}
+use Rattle.rio_model.proofs.Gates.{gate_names}
 use Rattle.shadow_pages.proofs.committing.commit.Goals as goal
 
 pub returns-clause-committed : goal.returns-clause-committed

@@ -2,7 +2,8 @@ use Rattle.std.proofs.Common.{◌∙◌, Err, ap, refl, sym}
 use Rattle.std.proofs.lemmas.Result.{err_from_is_err_and}
 use Rattle.rio_base.specs.declared.failures.VolFail.TheVariants.{Stopped}
 use Rattle.rio_base.specs.Rules.{true_false}
-use Rattle.write_back.proofs.Steps.{coherent_then, ends_as, ends_stopped, ends_then, well, narrows_after}
+use Rattle.write_back.proofs.Steps.{coherent_then, ends_as, ends_stopped, ends_then, well}
+use Rattle.rio_model.proofs.HeldEntries.{narrows_after}
 use Rattle.write_back.proofs.cleaning.clean.Goals as goal
 
 pub mark_clean-requires-clause-coherent : goal.mark_clean-requires-clause-coherent

@@ -1,5 +1,5 @@
 use Rattle.rio_model.proofs.CoverSteps.{keeps_clear}
-use Rattle.write_back.proofs.Steps.{retagged}
+use Rattle.registry.proofs.Retags.{retagged}
 use Rattle.write_back.proofs.cleaning.drop_entry.Goals as goal
 
 pub returns-clause-keeps : goal.returns-clause-keeps

@@ -1,7 +1,8 @@
 use Rattle.std.proofs.Common.{◌∙◌, Err, ap, refl}
 use Rattle.std.proofs.lemmas.Result.{err_from_is_err_and}
 use Rattle.rio_base.specs.declared.failures.VolFail.TheVariants.{Stopped}
-use Rattle.write_back.proofs.Steps.{coherent_then, ends_stopped, well, held_then, narrows_gone, narrows_held, one_entry_then}
+use Rattle.write_back.proofs.Steps.{coherent_then, ends_stopped, well}
+use Rattle.rio_model.proofs.HeldEntries.{held_then, narrows_gone, narrows_held, one_entry_then}
 use Rattle.write_back.proofs.cleaning.evict.Goals as goal
 
 pub drop_entry-requires-clause-coherent : goal.drop_entry-requires-clause-coherent

@@ -1,5 +1,5 @@
 use Rattle.rio_model.proofs.CoverSteps.{keeps_clean}
-use Rattle.write_back.proofs.Steps.{retagged}
+use Rattle.registry.proofs.Retags.{retagged}
 use Rattle.write_back.proofs.cleaning.mark_clean.Goals as goal
 
 pub returns-clause-keeps : goal.returns-clause-keeps

@@ -1,6 +1,7 @@
 use Rattle.std.proofs.Common.{◌∙◌, arith}
 use Rattle.rio_model.proofs.CoverSteps.{keeps_trans}
-use Rattle.write_back.proofs.Steps.{coherent_then, narrows_all}
+use Rattle.write_back.proofs.Steps.{coherent_then}
+use Rattle.rio_model.proofs.HeldEntries.{narrows_all}
 use Rattle.write_back.proofs.flushing.flush.Goals as goal
 
 pub returns-in_err-sync_disk-clause-keeps : goal.returns-in_err-sync_disk-clause-keeps

@@ -2,7 +2,8 @@ use Rattle.std.proofs.Common.{◌∙◌, Err, ◌<◌, ap, subst}
 use Rattle.std.proofs.lemmas.Result.{err_from_is_err_and}
 use Rattle.rio_base.proofs.MachineRules.{ends_after}
 use Rattle.rio_model.proofs.CoverSteps.{keeps_trans}
-use Rattle.write_back.proofs.Steps.{coherent_then, ends_told, held_each, held_then}
+use Rattle.write_back.proofs.Steps.{coherent_then, ends_told}
+use Rattle.rio_model.proofs.HeldEntries.{held_each, held_then}
 use Rattle.write_back.proofs.Marks.{Marks, marked_next, marked_none, marked_on_disk}
 use Rattle.write_back.proofs.flushing.mark_first.Goals as goal
 

@@ -15,7 +15,7 @@ pub write_if_dirty-requires-clause-coherent : goal.write_if_dirty-requires-claus
 write_if_dirty-requires-clause-coherent g c = coherent_then _ _ _ _ c.requires.coherent c.loop-k.invariant.keeps c.loop-k.invariant.steps.scratch_count
 
 pub write_if_dirty-requires-clause-page : goal.write_if_dirty-requires-clause-page
-write_if_dirty-requires-clause-page g c = frame_next _ _ _ c.loop-k.k c.page_of_frame-first.ensures.page c.loop-k.invariant.words
+write_if_dirty-requires-clause-page g c = frame_next _ _ _ c.loop-k.k c.frame_page_of-first.ensures.page c.loop-k.invariant.words
 
 pub returns-in_err-dirty-clause-keeps : goal.returns-in_err-dirty-clause-keeps
 returns-in_err-dirty-clause-keeps g c = keeps_trans _ _ _ c.loop-k.invariant.keeps c.write_if_dirty.ensures.keeps

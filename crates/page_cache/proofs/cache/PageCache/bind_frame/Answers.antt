@@ -38,3 +38,6 @@ returns-in_err-install_clean-clause-stay g c = stay_begun c.args.k _ _ c.install
 
 pub returns-clause-stay : goal.returns-clause-stay
 returns-clause-stay g c = stay_made c.args.k c.args.b.0 false _ _ c.in_ok-install_clean.ensures.made
+
+pub returns-clause-clean : goal.returns-clause-clean
+returns-clause-clean g c = c.in_ok-install_clean.ensures.made.is

@@ -124,3 +124,6 @@ returns-clause-unfetched g c q = absurd cc
 
 pub returns-clause-fault : goal.returns-clause-fault
 returns-clause-fault g c q = absurd cc
+
+pub returns-clause-clean : goal.returns-clause-clean
+returns-clause-clean g c = c.in_ok-bind_frame.ensures.clean

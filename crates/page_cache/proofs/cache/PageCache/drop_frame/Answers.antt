@@ -36,3 +36,6 @@ returns-clause-sound g c =
     let old = g.M.Machine.contents c.args.self.now.machine in
     let new = g.M.Machine.contents c.clear.new.m in
     cleared_sound _ _ c.args.k c.args.b.0 old new _ _ c.requires.sound (cleared_frees _ c.args.k c.args.b.0 old new c.requires.sound.coherent e.rest e.one_entry tag c.requires.found) e.ends.steps.scratch_count e.closed (ap (λ (m : Contents). m.disk) e.rest) e.one_entry tag (record { same = record { forgotten = refl; shadowed = refl; shadows = refl }; pool = record { frames = c.unbind.ensures.frames; blocks = c.unbind.ensures.blocks; pins = c.unbind.ensures.pins; count = c.unbind.ensures.pins_in }; first = refl; buffer = refl }) c.unbind.ensures.unbound c.unbind.ensures.others
+
+pub returns-clause-freed : goal.returns-clause-freed
+returns-clause-freed g c = c.unbind.ensures.order

@@ -6,7 +6,7 @@ use Rattle.page_cache.proofs.Rooms.{none_bound, none_still, some_bound}
 use Rattle.page_cache.proofs.Stills.{few_then}
 use Rattle.page_cache.proofs.cache.PageCache.fetch.Goals as goal
 use Rattle.page_cache.proofs.Goes.{ends_ok}
-use Rattle.page_cache.proofs.Uses.{leaves_then, used_bound, used_hit}
+use Rattle.page_cache.proofs.Uses.{clean_hit, clean_made, leaves_then, used_bound, used_hit}
 use Rattle.page_cache.proofs.Common.{subst, ◌<◌}
 use Rattle.rio_model.proofs.CoverStands.{narrows_refl}
 use Rattle.rio_model.proofs.CoverSteps.{keeps_refl}
@@ -197,3 +197,9 @@ returns-clause-lasts g c = lasts_then _ _ _ c.make_room.ensures.lasts c.bring.en
 
 pub returns-clause-found : goal.returns-clause-found
 returns-clause-found g c = c.in_ok-bring.ensures.found
+
+pub returns-in-Some-clause-clean : goal.returns-in-Some-clause-clean
+returns-in-Some-clause-clean g c = clean_hit _ _ _ refl
+
+pub returns-clause-clean : goal.returns-clause-clean
+returns-clause-clean g c = clean_made _ c.in_ok-k.k _ _ c.in_ok-bring.ensures.found c.in_ok-bring.ensures.clean

@@ -1,4 +1,5 @@
-use Rattle.page_cache.proofs.Common.{◌∙◌, ap, sym, Contents}
+use Rattle.page_cache.proofs.Common.{◌∙◌, ap, sym, coherent_on, Contents}
+use Rattle.page_cache.proofs.Fills.{layout_now}
 use Rattle.std.proofs.Common.{refl}
 use Rattle.page_cache.proofs.Rooms.{filled_home, filled_narrows, filled_sound, filled_tag, read_sound, touches_filled}
 use Rattle.page_cache.proofs.cache.PageCache.fill_frame.Goals as goal
@@ -83,8 +84,11 @@ returns-in_err-read_home-clause-tables g c = record { forgotten = refl; shadowed
 pub returns-in_err-read_home-clause-pool : goal.returns-in_err-read_home-clause-pool
 returns-in_err-read_home-clause-pool g c = refl
 
-pub page_of_frame-page-requires-clause-entry : goal.page_of_frame-page-requires-clause-entry
-page_of_frame-page-requires-clause-entry g c = subst (λ ws. c.args.k < frames_of ws) (sym c.read_home.ensures.memory) c.requires.entry
+pub frame_page_of-page-requires-clause-layout : goal.frame_page_of-page-requires-clause-layout
+frame_page_of-page-requires-clause-layout g c = layout_now _ _ (coherent_on _ _ _ c.read_home.ensures.ends.steps.scratch_count (c.read_home.ensures.keeps.coherent _ c.requires.sound.coherent))
+
+pub frame_page_of-page-requires-clause-entry : goal.frame_page_of-page-requires-clause-entry
+frame_page_of-page-requires-clause-entry g c = subst (λ ws. c.args.k < frames_of ws) (sym c.read_home.ensures.memory) c.requires.entry
 
 pub fill-requires-clause-entry : goal.fill-requires-clause-entry
 fill-requires-clause-entry g c = subst (λ ws. c.args.k < frames_of ws) (sym c.read_home.ensures.memory) c.requires.entry

@@ -1,5 +1,5 @@
 use Rattle.page_cache.proofs.Starts.{tells_of}
 use Rattle.page_cache.proofs.cache.PageCache.machine.Goals as goal
 
-pub returns : goal.returns
-returns g c = record { tells = tells_of _ _ _ c.requires.sound }
+pub returns-clause-tells : goal.returns-clause-tells
+returns-clause-tells g c = tells_of _ _ _ c.requires.sound

@@ -59,3 +59,12 @@ returns-clause-used g c = c.in_ok-k.ensures.used
 
 pub returns-clause-sure : goal.returns-clause-sure
 returns-clause-sure g c fault touched = absurd cc
+
+pub returns-in_err-k-clause-hit : goal.returns-in_err-k-clause-hit
+returns-in_err-k-clause-hit g c = c.fetch.ensures.hit
+
+pub returns-clause-hit : goal.returns-clause-hit
+returns-clause-hit g c = c.fetch.ensures.hit
+
+pub returns-clause-clean : goal.returns-clause-clean
+returns-clause-clean g c = c.in_ok-k.ensures.clean

@@ -1,4 +1,4 @@
-use Rattle.page_cache.proofs.Common.{◌∙◌, ap, arith, sym, stands_idle, FramePool, is_pinned}
+use Rattle.page_cache.proofs.Common.{◌∙◌, ap, arith, sym, stands_idle, FramePool, is_pinned, order_of}
 use Rattle.std.proofs.Common.{refl}
 use Rattle.page_cache.specs.Settled.{gate_shut}
 use Rattle.page_cache.proofs.Pins.{pins_refl, shut_unpinned}
@@ -22,3 +22,15 @@ returns-clause-drops g c = drops_named (g.M.Machine.contents c.args.self.now.mac
 
 pub returns-clause-sound : goal.returns-clause-sound
 returns-clause-sound g c = sound_begun _ _ _ _ _ _ c.requires.sound c.begin.ensures.ends.steps.scratch_count (c.begin.ensures.coherent _) c.begin.ensures.rest c.begin.ensures.closed c.begin.ensures.names c.in_ok-begin.ensures.opened.bare c.clear_list.ensures.rest c.clear_list.ensures.none (λ k. ap (λ (p : FramePool). is_pinned p k) c.clear_list.ensures.pool ∙ shut_unpinned _ k _ _ c.requires.sound (gate_shut (g.M.Machine.contents c.args.self.now.machine).words c.requires.idle))
+
+pub returns-in_err-begin-clause-order : goal.returns-in_err-begin-clause-order
+returns-in_err-begin-clause-order g c = refl
+
+pub returns-clause-order : goal.returns-clause-order
+returns-clause-order g c = ap order_of c.clear_list.ensures.pool
+
+pub returns-in_err-begin-clause-entries : goal.returns-in_err-begin-clause-entries
+returns-in_err-begin-clause-entries g c = c.begin.ensures.names
+
+pub returns-clause-entries : goal.returns-clause-entries
+returns-clause-entries g c = c.begin.ensures.names

@@ -1,3 +1,4 @@
+use Rattle.std.proofs.Common.{refl}
 use Rattle.page_cache.proofs.Edits.{edited_dirty, edited_stands, gate_entries, names_entries, page_of_frame, same_update, shadows_entries, touched_found}
 use Rattle.page_cache.proofs.Updates.{drops_named, sound_same}
 use Rattle.page_cache.proofs.volume.PageCacheVolume.edit.Goals as goal
@@ -22,3 +23,15 @@ returns-clause-drops g c = drops_named (g.M.Machine.contents c.args.self.now.mac
 
 pub returns-clause-sound : goal.returns-clause-sound
 returns-clause-sound g c = sound_same _ _ _ _ _ c.requires.sound c.put_edit.ensures.ends.steps.scratch_count (c.in_ok-put_edit.ensures.puts.coherent _) c.put_edit.ensures.rest c.put_edit.ensures.closed (names_entries _ _ c.put_edit.ensures.entries) (shadows_entries _ _ c.put_edit.ensures.entries) (gate_entries _ _ c.put_edit.ensures.entries)
+
+pub returns-in_err-put_edit-clause-entries : goal.returns-in_err-put_edit-clause-entries
+returns-in_err-put_edit-clause-entries g c = names_entries _ _ c.put_edit.ensures.entries
+
+pub returns-clause-entries : goal.returns-clause-entries
+returns-clause-entries g c = names_entries _ _ c.put_edit.ensures.entries
+
+pub returns-in_err-put_edit-clause-order : goal.returns-in_err-put_edit-clause-order
+returns-in_err-put_edit-clause-order g c = refl
+
+pub returns-clause-order : goal.returns-clause-order
+returns-clause-order g c = refl

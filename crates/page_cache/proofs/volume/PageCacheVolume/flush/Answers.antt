@@ -1,3 +1,4 @@
+use Rattle.std.proofs.Common.{refl}
 use Rattle.page_cache.proofs.Flushes.{flushed_sound, shut_by}
 use Rattle.page_cache.proofs.volume.PageCacheVolume.flush.Goals as goal
 
@@ -15,3 +16,9 @@ returns-in_err-j-clause-sound g c = flushed_sound _ _ (g.M.Machine.contents c.ar
 
 pub returns-clause-sound : goal.returns-clause-sound
 returns-clause-sound g c = flushed_sound _ _ (g.M.Machine.contents c.args.self.now.machine) (g.M.Machine.contents c.flush.new.m) _ c.requires.sound (shut_by _ c.requires.idle) c.flush.ensures.keeps c.flush.ensures.lasts c.flush.ensures.ends.steps.scratch_count c.flush.ensures.closed c.flush.ensures.held
+
+pub returns-in_err-j-clause-order : goal.returns-in_err-j-clause-order
+returns-in_err-j-clause-order g c = refl
+
+pub returns-clause-order : goal.returns-clause-order
+returns-clause-order g c = refl

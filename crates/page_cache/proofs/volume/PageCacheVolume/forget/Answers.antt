@@ -1,4 +1,4 @@
-use Rattle.page_cache.proofs.Common.{ap, subst, sym}
+use Rattle.page_cache.proofs.Common.{ap, subst, sym, ◌∙◌}
 use Rattle.std.proofs.Common.{◌<◌, is_some, refl}
 use Rattle.rio_base.proofs.MachineRules.{lasts_refl, steps_refl}
 use Rattle.page_cache.proofs.Kept.{tables_refl}
@@ -6,6 +6,7 @@ use Rattle.page_cache.proofs.Rooms.{none_bound, some_bound}
 use Rattle.page_cache.proofs.StoreCalls.{drops_narrows}
 use Rattle.page_cache.proofs.Freed.{frees_same, halts_of, loose_marked, marked_still, marks_then, narrows_same, never_firm, settled, sound_marked}
 use Rattle.page_cache.proofs.Stills.{few_still, still_same}
+use Rattle.page_cache.proofs.Uses.{freed_none, freed_some, marked_order}
 use Rattle.page_cache.proofs.volume.PageCacheVolume.forget.Goals as goal
 
 pub mark-requires : goal.mark-requires
@@ -100,3 +101,18 @@ returns-clause-count g c = c.drop_frame.ensures.lasts.blocks
 
 pub returns-clause-drops : goal.returns-clause-drops
 returns-clause-drops g c = drops_narrows (g.M.Machine.contents c.args.self.now.machine) (g.M.Machine.contents c.drop_frame.new.self.machine) c.drop_frame.ensures.narrows
+
+pub returns-in_default-clause-freed : goal.returns-in_default-clause-freed
+returns-in_default-clause-freed g c = freed_none c.args.b.0 (g.M.Machine.contents c.args.self.now.machine).words c.args.self.now.tables c.mark.new.self (none_bound c.args.b.0 _ (g.M.Machine.contents c.args.self.now.machine) c.mark.new.self (sound_marked c.args.b.0 _ _ (g.M.Machine.contents c.args.self.now.machine) c.args.self.now.tables c.mark.new.self c.requires.sound c.mark.ensures.marks) (c.in_default.ensures.none refl)) (marked_order c.args.self.now.tables c.mark.new.self c.mark.ensures.marks.rest)
+
+pub returns-in_err-drop_frame-clause-order : goal.returns-in_err-drop_frame-clause-order
+returns-in_err-drop_frame-clause-order g c = λ _. c.in_err-drop_frame.ensures.order ∙ marked_order c.args.self.now.tables c.mark.new.self c.mark.ensures.marks.rest
+
+pub returns-clause-freed : goal.returns-clause-freed
+returns-clause-freed g c = freed_some c.args.b.0 c.in-Some.k (g.M.Machine.contents c.args.self.now.machine).words c.args.self.now.tables c.mark.new.self c.drop_frame.new.self.tables (some_bound c.args.b.0 c.in-Some.k _ (g.M.Machine.contents c.args.self.now.machine) c.mark.new.self (sound_marked c.args.b.0 _ _ (g.M.Machine.contents c.args.self.now.machine) c.args.self.now.tables c.mark.new.self c.requires.sound c.mark.ensures.marks) c.in-Some.ensures.some.0 c.in-Some.ensures.some.1) (marked_order c.args.self.now.tables c.mark.new.self c.mark.ensures.marks.rest) c.in_ok-drop_frame.ensures.freed
+
+pub returns-in_default-clause-order : goal.returns-in_default-clause-order
+returns-in_default-clause-order g c q = absurd cc
+
+pub returns-clause-order : goal.returns-clause-order
+returns-clause-order g c q = absurd cc

@@ -1,3 +1,4 @@
+use Rattle.std.proofs.Common.{refl}
 use Rattle.page_cache.proofs.Common.{◌∙◌, sym}
 use Rattle.page_cache.specs.Settled.{gate_open, untouched_bare, untouched_stands}
 use Rattle.page_cache.proofs.Updates.{drops_named, same_loses, shut_zero, sound_same, sound_shut}
@@ -20,3 +21,15 @@ returns-clause-drops g c = drops_named (g.M.Machine.contents c.args.self.now.mac
 
 pub returns-clause-sound : goal.returns-clause-sound
 returns-clause-sound g c = sound_shut _ _ _ _ _ _ c.requires.sound c.undo.ensures.ends.steps.scratch_count (c.undo.ensures.coherent _) c.undo.ensures.rest c.undo.ensures.closed c.undo.ensures.names (same_loses _ _ c.undo.ensures.shadows) (shut_zero (g.M.Machine.contents c.undo.new.m).words c.in_ok-undo.ensures.undone.gate) c.unpin_all.ensures.rest c.unpin_all.ensures.list.shadows c.unpin_all.ensures.list.shadowed c.unpin_all.ensures.unpinned
+
+pub returns-in_err-undo-clause-order : goal.returns-in_err-undo-clause-order
+returns-in_err-undo-clause-order g c = refl
+
+pub returns-clause-order : goal.returns-clause-order
+returns-clause-order g c = c.unpin_all.ensures.order
+
+pub returns-in_err-undo-clause-entries : goal.returns-in_err-undo-clause-entries
+returns-in_err-undo-clause-entries g c = c.undo.ensures.names
+
+pub returns-clause-entries : goal.returns-clause-entries
+returns-clause-entries g c = c.undo.ensures.names
