@@ -221,7 +221,8 @@ const STOPPED: [(Call, Said); 2] = [
     (Call::Take(3), Said::NotTaken(TakeFail::Stopped)),
 ];
 
-/// Calls on a volume whose first word of the second run fails once. Two blocks are free below it.
+/// Calls on a volume whose 65th call fails. Two blocks are free in the first run of 64 words: they are taken without a look
+/// at the second, and the call that fails is the first of the next take.
 const SECOND_RUN_FAILS: [(Call, Said); 3] = [
     (Call::Take(2), Said::Taken(2, [5, 4095, 0])),
     (Call::Take(3), Said::NotTaken(TakeFail::Fault)),

@@ -5,7 +5,8 @@ use Rattle.rio_model.proofs.NodeChangeRules.{laid_replaced, lays_replaced, node_
 use Rattle.rio_model.proofs.PlacedRules.{with_placed, inode_low, lays_same}
 use Rattle.rio_model.specs.Updates.{EditsNode}
 use Rattle.rio_model.specs.VolumeRules.{IsLaid}
-use Rattle.file_pages.proofs.OrderRules.{firm_layout, named_layout}
+use Rattle.file_pages.proofs.OrderRules.{firm_layout}
+use Rattle.rio_model.proofs.NamedRules.{named_layout}
 use Rattle.file_pages.specs.Orders.{InOrder}
 use Rattle.directories.specs.Plans.{CanApply, PlansDir}
 use Rattle.directories.specs.declared.changes.DirChange.{DirChange}

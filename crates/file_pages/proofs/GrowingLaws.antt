@@ -1,4 +1,4 @@
--- Laws of what specs/Growing.antt defines.
+-- The words of a node's table that get a new number.
 use Rattle.file_pages.proofs.Common.{max}
 use Rattle.std.specs.Prelude.{ℕ, ◌-◌, ◌/◌}
 

@@ -1,6 +1,7 @@
--- Laws of what specs/OrderRules.antt defines.
-use Rattle.file_pages.proofs.Common.{◌≡◌, ℕ, ◌<◌, ◌⊎◌, Bool, true, false, List, refl, sym, ap, subst, ◌∙◌, arith, inl, inr, Option, None, Some, cases_eq, PageName, VolumeShape, CachesBy, BlockWords, Health, Seen, IsIno, inode_block, HasShape, reserved, Below, Firm, Kept, Passes, Settled, lays_replaced, node_here, node_there, Change, Slot, AtPage, AtTable, Placed, HasSlot, Layout, volume_layout, Owns, IsFree, Agrees, with_placed, SameLayout, has_same, inode_low, lays_same, lays_self, stands_agree, AllNamed, Bears, LeavesInUse, NamedNode, NamesPage, Ready, IsLaid}
+-- What a call that prepares a change leaves in order, and what an update of one node leaves so.
+use Rattle.file_pages.proofs.Common.{◌≡◌, ℕ, ◌<◌, ◌⊎◌, Bool, true, false, List, refl, sym, ap, subst, ◌∙◌, arith, inl, inr, Option, None, cases_eq, PageName, VolumeShape, CachesBy, BlockWords, Health, Seen, IsIno, inode_block, HasShape, reserved, Below, Firm, Kept, Passes, Settled, lays_replaced, node_here, node_there, Change, Slot, AtTable, Placed, HasSlot, Layout, volume_layout, Owns, IsFree, Agrees, with_placed, SameLayout, has_same, inode_low, lays_same, lays_self, stands_agree, AllNamed, Bears, LeavesInUse, NamedNode, Ready, IsLaid}
 use Rattle.rio_model.proofs.NodeChangeRules.{laid_replaced, mapped_replaced}
+use Rattle.rio_model.proofs.NamedRules.{bears_same, named_layout}
 use Rattle.rio_model.proofs.PlacedRules.{has_back, lays_agree, mapped_agree}
 use Rattle.rio_model.specs.PlacedRules.{SamePlaced}
 use Rattle.rio_model.specs.VolumeReady.{Firmly, StandsReady}
@@ -24,20 +25,6 @@ pub stands_order : (shape : VolumeShape) (x : Seen) (k : Kept) → InOrder shape
 stands_order shape x k h = record { has_shape = h.has_shape; mapped = h.mapped; named = h.named; firm = h.firm }
 
 -- ---- the same layout
-
-bears_same : (i : ℕ) (n m : Placed) (s : Slot) (name : Option PageName) → SamePlaced n m → 0 < n.kind → Bears i n s name → Bears i m s name
-bears_same i n m (AtTable k) name e used h = h
-bears_same i n m (AtPage p) None e used h = e.kind ∙ h
-bears_same i n m (AtPage p) (Some name) e used h = ((λ dir. h.0 (sym e.kind ∙ dir)), subst (λ z. NamesPage i z p name) (sym (e.size used)) h.1)
-
-pub named_layout : (l : Layout) (g : BlockWords) (x : Seen) → SameLayout l (volume_layout l.shape g) → AllNamed l x → AllNamed (volume_layout l.shape g) x
-named_layout l g x e h = record {
-  each = λ i ino s has on.
-      let same = e.each i ino in
-      let was = has_back (l.node i) _ s same has in
-      let at = same.blocks s was in
-      bears_same i (l.node i) _ s _ same was.used (subst (λ b. Bears i (l.node i) s (x.names b)) (sym at) (h.each i ino s was (subst (λ b. x.cached b ≡ true) at on)));
-}
 
 pub firm_layout : (l : Layout) (g : BlockWords) (k : Kept) → SameLayout l (volume_layout l.shape g) → Firmly l k → Firmly (volume_layout l.shape g) k
 firm_layout l g k e h = record {

@@ -6,7 +6,8 @@ use Rattle.file_pages.specs.Changes.{Apart}
 use Rattle.file_pages.specs.Failures.{write_of_bytes}
 use Rattle.file_pages.specs.Files.{FaultsAfter, HasSpaceFor, SetsBoth, StopsAs, file_bytes}
 use Rattle.file_pages.specs.LookingUp.{LooksUp, page_blocks}
-use Rattle.file_pages.proofs.OrderRules.{firm_layout, firm_on, leaves_looked, named_layout, ready_left, ready_order}
+use Rattle.file_pages.proofs.OrderRules.{firm_layout, firm_on, leaves_looked, ready_left, ready_order}
+use Rattle.rio_model.proofs.NamedRules.{named_layout}
 use Rattle.file_pages.specs.PageBytes.{block_byte, over}
 use Rattle.file_pages.specs.Spans.{PutsSpan, SpanNamed, span_byte}
 use Rattle.file_pages.specs.Staging.{Beside}

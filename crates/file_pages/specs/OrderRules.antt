@@ -1,4 +1,4 @@
--- What a call that prepares a change leaves in order, and what an update of one node leaves so.
+-- Which blocks the edits of one node's update are in.
 use Rattle.std.proofs.Common.{◌≡◌, ℕ, ◌⊎◌, List}
 use Rattle.rio_model.specs.Placed.{AtTable, Layout, Owns, IsFree}
 use Rattle.file_pages.specs.Updating.{IsEdited}

@@ -28,7 +28,7 @@ pub use changes::{Edit, EditList, SizeChange};
 pub use failures::{SizeFail, WriteFail};
 pub use lookup::block_of;
 pub use numbers::blocks_of;
-pub use pieces::stored_bytes;
+pub use pieces::{fill_words, stored_bytes};
 pub use preparing::plan_size;
 pub use reading::read;
 pub use resizing::resize;

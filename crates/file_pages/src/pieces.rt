@@ -39,8 +39,8 @@ fn fill_rest(last: u64, bytes: &[u8], words: &mut [u64])
 }
 
 /// The words that `bytes` make from byte `at` of a page on. Where they leave some of the first or the last word it has the
-/// page's own bytes there: it is given as it was.
-fn fill_words(first: u64, last: u64, at: usize, bytes: &[u8], words: &mut [u64])
+/// page's own bytes there: it is given as it was. `words` has as many as the bytes lie in.
+pub fn fill_words(first: u64, last: u64, at: usize, bytes: &[u8], words: &mut [u64])
     requires some { 0 < length bytes.now }
     requires within { at + length bytes.now ≤ 4096 }
     requires room { length words.old ≡ (at + length bytes.now + 7) / 8 - at / 8 }

@@ -1,7 +1,7 @@
 //! Writes at each alignment of offset and length, beside a plain list of bytes.
 
 use crate::calls::{Answer, all_of, put};
-use crate::compare::{same, same_items};
+use crate::compare::{At, same, same_items};
 use crate::plain_file::plain_write;
 use crate::volumes::{FILE, SMALL, with_files};
 use std::alloc::{AllocError, Global};
@@ -21,6 +21,7 @@ fn rising(alloc: Global, first: u8, count: usize) -> Result<Vec<u8>, AllocError>
 fn compare(
     rt: &impl Abort,
     alloc: Global,
+    table: &'static str,
     len: usize,
     off: usize,
     count: usize,
@@ -30,10 +31,11 @@ fn compare(
     let mut v = with_files(alloc, &SMALL)?;
     put(alloc, &mut v, &SMALL, FILE, 0, &old)?;
     let answer = put(alloc, &mut v, &SMALL, FILE, off as u64, &bytes)?;
-    same(rt, off as u64, &answer, &Answer::Done(count as u64));
+    let row = off as u64;
+    same(rt, At { table, row }, &answer, &Answer::Done(count as u64));
     let new = all_of(alloc, &mut v, &SMALL, FILE)?;
     let plain = plain_write(alloc, &old, off, &bytes)?;
-    same_items(rt, off as u64, new.as_slice(), &plain);
+    same_items(rt, At { table, row }, new.as_slice(), &plain);
     Ok(())
 }
 
@@ -41,7 +43,7 @@ fn compare(
 fn writes_to_a_short_file_are_plain(rt: HostRuntime) -> Result<(), Fail> {
     for off in 0..25 {
         for count in 0..25 {
-            compare(&rt, rt.alloc(), 13, off, count)?;
+            compare(&rt, rt.alloc(), "a short file", 13, off, count)?;
         }
     }
     Ok(())
@@ -51,7 +53,14 @@ fn writes_to_a_short_file_are_plain(rt: HostRuntime) -> Result<(), Fail> {
 fn writes_over_the_end_of_a_page_are_plain(rt: HostRuntime) -> Result<(), Fail> {
     for off in 0..25 {
         for count in 0..25 {
-            compare(&rt, rt.alloc(), 4101, 4080 + off, count)?;
+            compare(
+                &rt,
+                rt.alloc(),
+                "the end of a page",
+                4101,
+                4080 + off,
+                count,
+            )?;
         }
     }
     Ok(())

@@ -6,7 +6,7 @@ ghost use Rattle.test_volumes.specs.TestVolumes.{IsTestShape};
 ghost use Rattle.file_pages_tests.specs.TestFiles.{FilesReady, FilesStand};
 
 use crate::calls::{Answer, Call, all_of, block_count, make};
-use crate::compare::{holds, same, same_items};
+use crate::compare::{At, holds, same, same_items};
 use crate::plain_file::{is_led, plain_call, same_up_to};
 use crate::volumes::{FILE, start_again, used_count, with_files};
 use file_pages::WriteFail;
@@ -22,9 +22,18 @@ pub(crate) const MANY: u64 = 2000;
 /// A call that does not end, and the one that made the file what it is before.
 #[derive(Clone, Copy)]
 pub(crate) struct Case {
+    pub(crate) name: &'static str,
     pub(crate) shape: VolumeShape,
     pub(crate) first: Call,
     pub(crate) call: Call,
+}
+
+impl Case {
+    /// The step, or the call below, at which it ends.
+    pub(crate) fn at(&self, row: u64) -> At {
+        let table = self.name;
+        At { table, row }
+    }
 }
 
 /// A volume on whose file a call was made.
@@ -39,14 +48,14 @@ pub(crate) fn after(alloc: Global, shape: &VolumeShape, first: Call) -> Result<L
     Ok(v)
 }
 
-/// Makes a call again that did not end at step or call `at`. It is done now, and all blocks that are used are the file's
+/// Makes a call again that did not end there. It is done now, and all blocks that are used are the file's
 /// or reserved.
 fn make_again<V: Volume>(
     rt: &impl Abort,
     alloc: Global,
     v: &mut V,
     case: &Case,
-    at: u64,
+    at: At,
     new: &[u8],
 ) -> Result<(), Fail>
     requires sound { V.sound v.old }
@@ -79,8 +88,11 @@ fn make_stopped(
     let ended = make(alloc, v, &case.shape, FILE, case.call);
     start_again(v, &case.shape, None);
     match ended {
-        Ok(answer) => holds(rt, "done", steps, matches!(answer, Answer::Done(_))),
-        Err(fail) => same(rt, steps, &fail, &WriteFail::Stopped),
+        Ok(answer) => {
+            let done = matches!(answer, Answer::Done(_));
+            holds(rt, "done", case.at(steps), done);
+        }
+        Err(fail) => same(rt, case.at(steps), &fail, &WriteFail::Stopped),
     }
     Ok(ended.is_ok())
 }
@@ -98,7 +110,7 @@ pub(crate) fn stop_at(
     let mut v = after(alloc, &case.shape, case.first)?;
     let done = make_stopped(rt, alloc, &mut v, case, steps)?;
     let bytes = all_of(alloc, &mut v, &case.shape, FILE)?;
-    make_again(rt, alloc, &mut v, case, steps, new)?;
+    make_again(rt, alloc, &mut v, case, case.at(steps), new)?;
     Ok((done, bytes))
 }
 
@@ -116,11 +128,11 @@ pub(crate) fn fail_at(
     let mut v = FaultyVolume::new(after(alloc, &case.shape, case.first)?, n);
     let answer = make(alloc, &mut v, &case.shape, FILE, case.call)?;
     let Answer::Fault(done) = answer else {
-        holds(rt, "done", n, matches!(answer, Answer::Done(_)));
+        holds(rt, "done", case.at(n), matches!(answer, Answer::Done(_)));
         return Ok(None);
     };
     let bytes = all_of(alloc, &mut v, &case.shape, FILE)?;
-    make_again(rt, alloc, &mut v, case, n, new)?;
+    make_again(rt, alloc, &mut v, case, case.at(n), new)?;
     Ok(Some((done, bytes)))
 }
 
@@ -138,11 +150,11 @@ pub(crate) fn stop_each(rt: &impl Abort, alloc: Global, case: &Case) -> Result<(
     for steps in 0..MANY {
         let (done, bytes) = stop_at(rt, alloc, case, steps, &new)?;
         if done {
-            same_items(rt, steps, bytes.as_slice(), &new);
+            same_items(rt, case.at(steps), bytes.as_slice(), &new);
             return Ok(());
         }
         let may = may_stand(bytes.as_slice(), &old, &new);
-        holds(rt, "what stands may stand", steps, may);
+        holds(rt, "what stands may stand", case.at(steps), may);
     }
     Err("never done")?
 }
@@ -166,9 +178,10 @@ pub(crate) fn fail_each(rt: &impl Abort, alloc: Global, case: &Case) -> Result<u
             return Ok(n - 1);
         };
         let end = end_of(case.call, done);
-        holds(rt, "done over old bytes", n, done == 0 || end <= old.len());
+        let old_alone = done == 0 || end <= old.len();
+        holds(rt, "done over old bytes", case.at(n), old_alone);
         let led = is_led(bytes.as_slice(), &old, &new, end);
-        holds(rt, "as many bytes are new", n, led);
+        holds(rt, "as many bytes are new", case.at(n), led);
     }
     Err("never done")?
 }

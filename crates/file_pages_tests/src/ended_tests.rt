@@ -3,7 +3,7 @@
 ghost use Rattle.std.specs.Prelude.{◌≡◌};
 
 use crate::calls::{Call, all_of};
-use crate::compare::{holds, same};
+use crate::compare::{At, holds, same};
 use crate::ended_calls::{Case, MANY, after, fail_at, fail_each, stop_at, stop_each};
 use crate::plain_file::plain_call;
 use crate::volumes::{FILE, SMALL};
@@ -16,6 +16,7 @@ use test_volumes::SHAPE;
 
 /// A write of 16 bytes at 4 to a file of 8.
 const OVER_THE_END: Case = Case {
+    name: "a write over the end",
     shape: SHAPE,
     first: Call::Write(0, 8, 0xaa),
     call: Call::Write(4, 16, 0xbb),
@@ -46,10 +47,11 @@ fn a_stopped_write_over_the_end_is_absent_led_or_whole(rt: HostRuntime) -> Resul
     for steps in 0..MANY {
         let (done, bytes) = stop_at(&rt, rt.alloc(), &OVER_THE_END, steps, WHOLE)?;
         let now = shown(bytes.as_slice());
-        holds(&rt, "no less than before", steps, last <= now);
-        same(&rt, steps, &(now == Some(16)), &done);
+        let at = OVER_THE_END.at(steps);
+        holds(&rt, "no less than before", at, last <= now);
+        same(&rt, at, &(now == Some(16)), &done);
         if done {
-            holds(&rt, "led once", steps, led);
+            holds(&rt, "led once", at, led);
             return Ok(());
         }
         led = led || now == Some(4);
@@ -62,20 +64,28 @@ fn a_stopped_write_over_the_end_is_absent_led_or_whole(rt: HostRuntime) -> Resul
 fn a_fault_of_a_write_over_the_end_says_how_much_is_done(rt: HostRuntime) -> Result<(), Fail> {
     let mut last = 0;
     for n in 1..MANY {
+        let at = OVER_THE_END.at(n);
         let Some((done, bytes)) = fail_at(&rt, rt.alloc(), &OVER_THE_END, n, WHOLE)? else {
-            same(&rt, n, &last, &4);
+            same(&rt, at, &last, &4);
             return Ok(());
         };
-        same(&rt, n, &shown(bytes.as_slice()), &Some(done));
-        holds(&rt, "from the last up to 4", n, last <= done && done <= 4);
+        same(&rt, at, &shown(bytes.as_slice()), &Some(done));
+        holds(&rt, "from the last up to 4", at, last <= done && done <= 4);
         last = done;
     }
     Err("never done")?
 }
 
 /// Stops a call at each step, and lets each call below fail.
-fn end_each(rt: &impl Abort, alloc: Global, first: Call, call: Call) -> Result<(), Fail> {
+fn end_each(
+    rt: &impl Abort,
+    alloc: Global,
+    name: &'static str,
+    first: Call,
+    call: Call,
+) -> Result<(), Fail> {
     let case = Case {
+        name,
         shape: SMALL,
         first,
         call,
@@ -88,51 +98,109 @@ fn end_each(rt: &impl Abort, alloc: Global, first: Call, call: Call) -> Result<(
 #[test]
 fn a_write_far_past_the_end_is_absent_or_whole(rt: HostRuntime) -> Result<(), Fail> {
     let first = Call::Write(0, 5, 0x61);
-    end_each(&rt, rt.alloc(), first, Call::Write(10_000, 1, 0x61))
+    end_each(
+        &rt,
+        rt.alloc(),
+        "a write far past the end",
+        first,
+        Call::Write(10_000, 1, 0x61),
+    )
 }
 
 #[test]
 fn a_growth_to_all_direct_pages_is_absent_or_whole(rt: HostRuntime) -> Result<(), Fail> {
-    end_each(&rt, rt.alloc(), Call::Resize(0), Call::Resize(98_304))
+    let first = Call::Resize(0);
+    end_each(
+        &rt,
+        rt.alloc(),
+        "a growth to all direct pages",
+        first,
+        Call::Resize(98_304),
+    )
 }
 
 #[test]
 fn a_growth_by_the_indirect_block_is_absent_or_whole(rt: HostRuntime) -> Result<(), Fail> {
-    end_each(&rt, rt.alloc(), Call::Resize(98_304), Call::Resize(98_305))
+    let first = Call::Resize(98_304);
+    end_each(
+        &rt,
+        rt.alloc(),
+        "a growth by the indirect block",
+        first,
+        Call::Resize(98_305),
+    )
 }
 
 #[test]
 fn a_shrink_by_the_indirect_block_is_absent_or_whole(rt: HostRuntime) -> Result<(), Fail> {
-    end_each(&rt, rt.alloc(), Call::Resize(98_305), Call::Resize(98_304))
+    let first = Call::Resize(98_305);
+    end_each(
+        &rt,
+        rt.alloc(),
+        "a shrink by the indirect block",
+        first,
+        Call::Resize(98_304),
+    )
 }
 
 #[test]
 fn a_first_write_of_two_pages_is_absent_or_whole(rt: HostRuntime) -> Result<(), Fail> {
-    end_each(&rt, rt.alloc(), Call::Resize(0), Call::Write(0, 5000, 0xaa))
+    let first = Call::Resize(0);
+    end_each(
+        &rt,
+        rt.alloc(),
+        "a first write of two pages",
+        first,
+        Call::Write(0, 5000, 0xaa),
+    )
 }
 
 #[test]
 fn a_cut_to_100_bytes_is_absent_or_whole(rt: HostRuntime) -> Result<(), Fail> {
     let first = Call::Write(0, 5000, 0xaa);
-    end_each(&rt, rt.alloc(), first, Call::Resize(100))
+    end_each(
+        &rt,
+        rt.alloc(),
+        "a cut to 100 bytes",
+        first,
+        Call::Resize(100),
+    )
 }
 
 #[test]
 fn a_write_past_the_end_of_a_cut_file_is_absent_or_whole(rt: HostRuntime) -> Result<(), Fail> {
     let first = Call::Write(0, 100, 0xaa);
-    end_each(&rt, rt.alloc(), first, Call::Write(4000, 1, 0xbb))
+    end_each(
+        &rt,
+        rt.alloc(),
+        "a write past the end of a cut file",
+        first,
+        Call::Write(4000, 1, 0xbb),
+    )
 }
 
 #[test]
 fn a_write_over_two_pages_leads(rt: HostRuntime) -> Result<(), Fail> {
     let first = Call::Write(0, 8192, 0xaa);
-    end_each(&rt, rt.alloc(), first, Call::Write(4088, 16, 0xbb))
+    end_each(
+        &rt,
+        rt.alloc(),
+        "a write over two pages",
+        first,
+        Call::Write(4088, 16, 0xbb),
+    )
 }
 
 #[test]
 fn a_long_write_over_the_end_leads(rt: HostRuntime) -> Result<(), Fail> {
     let first = Call::Write(0, 4093, 0xaa);
-    end_each(&rt, rt.alloc(), first, Call::Write(4001, 200, 0xbb))
+    end_each(
+        &rt,
+        rt.alloc(),
+        "a long write over the end",
+        first,
+        Call::Write(4001, 200, 0xbb),
+    )
 }
 
 /// A write of bytes from 4088 on to a file of two pages.
@@ -140,6 +208,7 @@ fn over_two_pages(count: usize) -> Case
     ensures { result.shape ≡ SMALL }
 {
     Case {
+        name: "a write from 4088 on",
         shape: SMALL,
         first: Call::Write(0, 8192, 0xaa),
         call: Call::Write(4088, count, 0xbb),
@@ -167,13 +236,14 @@ fn fail_by_pages(rt: &impl Abort, alloc: Global, count: usize, rest: u64) -> Res
     let old = plain_call(alloc, &[], case.first)?;
     let new = plain_call(alloc, &old, case.call)?;
     for n in 1..MANY {
+        let at = case.at(n);
         let Some((done, bytes)) = fail_at(rt, alloc, &case, n, &new)? else {
-            same(rt, n, &(n - 1), &alone.saturating_add(rest));
+            same(rt, at, &(n - 1), &alone.saturating_add(rest));
             return Ok(());
         };
         let first = n > alone;
-        same(rt, n, &done, if first { &8 } else { &0 });
-        same(rt, n, &(middle(bytes.as_slice()) == LED), &first);
+        same(rt, at, &done, if first { &8 } else { &0 });
+        same(rt, at, &(middle(bytes.as_slice()) == LED), &first);
     }
     Err("never done")?
 }
@@ -188,14 +258,16 @@ fn no_page_is_looked_at_before_those_before_it_are_stored(rt: HostRuntime) -> Re
 fn a_read_that_failed_can_be_made_again(rt: HostRuntime) -> Result<(), Fail> {
     let alloc = rt.alloc();
     for n in 1..MANY {
+        let table = "a read that failed";
+        let at = At { table, row: n };
         let mut v = FaultyVolume::new(after(alloc, &SMALL, Call::Write(0, 8, 0xaa))?, n);
         if let Err(fail) = all_of(alloc, &mut v, &SMALL, FILE) {
-            same(&rt, n, &fail, &ReadFail::Fault);
+            same(&rt, at, &fail, &ReadFail::Fault);
         } else {
             return Ok(());
         }
         let bytes = all_of(alloc, &mut v, &SMALL, FILE)?;
-        same(&rt, n, &shown(bytes.as_slice()), &Some(0));
+        same(&rt, at, &shown(bytes.as_slice()), &Some(0));
     }
     Err("never done")?
 }

@@ -4,7 +4,7 @@ ghost use Rattle.std.specs.Prelude.{◌≤◌};
 ghost use Rattle.test_volumes.specs.TestVolumes.{IsTestShape};
 
 use crate::calls::{Call, make, put};
-use crate::compare::{holds, same, same_items};
+use crate::compare::{At, holds, same, same_items};
 use crate::plans::{NEW_SIZE, lowest, page_block, plan_file, plan_node};
 use crate::volumes::{FILE, SMALL, with_files};
 use file_pages::{Edit, SizeChange, SizeFail};
@@ -183,43 +183,50 @@ fn prepared(
     }
 }
 
-/// Compares what is prepared for row `k`.
-fn check_plan(rt: &impl Abort, k: u64, row: Row, change: &SizeChange, plan: Plan) {
+/// Compares what is prepared for a row.
+fn check_plan(rt: &impl Abort, at: At, row: Row, change: &SizeChange, plan: Plan) {
     let (first, count) = plan.taken;
     let taken = change.taken.as_slice();
-    same(rt, k, &taken.len(), &count);
-    holds(rt, "the taken blocks", k, lie_from(taken, first));
-    same_items(rt, k, change.freed.as_slice(), plan.freed);
-    same_items(rt, k, change.edits.as_slice(), plan.edits);
-    same(rt, k, &change.inode.kind, &kind_of(row.node));
-    same(rt, k, &change.inode.size, &row.len);
+    same(rt, at, &taken.len(), &count);
+    holds(rt, "the taken blocks", at, lie_from(taken, first));
+    same_items(rt, at, change.freed.as_slice(), plan.freed);
+    same_items(rt, at, change.edits.as_slice(), plan.edits);
+    same(rt, at, &change.inode.kind, &kind_of(row.node));
+    same(rt, at, &change.inode.size, &row.len);
     for (number, block) in plan.numbers {
-        same(rt, k, &number_in(&change.inode, *number), &Some(*block));
+        same(rt, at, &number_in(&change.inode, *number), &Some(*block));
     }
 }
 
-/// Compares what came of row `k`.
-fn check_row(rt: &impl Abort, k: u64, row: Row, came: Result<SizeChange, SizeFail>) {
+/// Compares what came of a row.
+fn check_row(rt: &impl Abort, at: At, row: Row, came: Result<SizeChange, SizeFail>) {
     match (came, row.due) {
-        (Ok(change), Due::Plan(plan)) => check_plan(rt, k, row, &change, plan),
-        (Ok(_), due) => holds(rt, "it was prepared", k, matches!(due, Due::Fits)),
+        (Ok(change), Due::Plan(plan)) => check_plan(rt, at, row, &change, plan),
+        (Ok(_), due) => holds(rt, "it was prepared", at, matches!(due, Due::Fits)),
         (Err(SizeFail::NoSpace), due) => {
-            holds(rt, "no space", k, matches!(due, Due::NoSpace));
+            holds(rt, "no space", at, matches!(due, Due::NoSpace));
         }
         (Err(fail), due) => {
-            same(rt, k, &fail, &SizeFail::TooLarge);
-            holds(rt, "too large", k, matches!(due, Due::TooLarge));
+            same(rt, at, &fail, &SizeFail::TooLarge);
+            holds(rt, "too large", at, matches!(due, Due::TooLarge));
         }
     }
 }
 
 /// Prepares the changes of a table, each on a volume of its own.
-fn check_rows(rt: &impl Abort, alloc: Global, shape: &VolumeShape, rows: &[Row]) -> Result<(), Fail>
+fn check_rows(
+    rt: &impl Abort,
+    alloc: Global,
+    shape: &VolumeShape,
+    table: &'static str,
+    rows: &[Row],
+) -> Result<(), Fail>
     requires { IsTestShape shape.now }
 {
     for k in 0..rows.len() {
         let came = prepared(alloc, shape, rows[k])?;
-        check_row(rt, k as u64, rows[k], came);
+        let row = k as u64;
+        check_row(rt, At { table, row }, rows[k], came);
     }
     Ok(())
 }
@@ -244,13 +251,9 @@ fn changes_of_size_are_prepared_in_the_lowest_blocks(rt: HostRuntime) -> Result<
         file(3, 4096 * 32, Due::Fits),
         file(3, 4096 * 33, Due::NoSpace),
     ];
-    check_rows(&rt, rt.alloc(), &SMALL, &rows)?;
-    check_rows(
-        &rt,
-        rt.alloc(),
-        &SHAPE,
-        &[file(0, 4_292_609, Due::TooLarge)],
-    )
+    check_rows(&rt, rt.alloc(), &SMALL, "the lowest blocks", &rows)?;
+    let large = [file(0, 4_292_609, Due::TooLarge)];
+    check_rows(&rt, rt.alloc(), &SHAPE, "a larger size", &large)
 }
 
 #[test]
@@ -266,7 +269,11 @@ fn pages_lie_in_the_blocks_that_they_took(rt: HostRuntime) -> Result<(), Fail> {
         (25, None),
     ] {
         let came = page_block(&mut v, &SMALL, FILE, page)?;
-        same(&rt, page as u64, &came, &due);
+        let at = At {
+            table: "pages",
+            row: page as u64,
+        };
+        same(&rt, at, &came, &due);
     }
     Ok(())
 }

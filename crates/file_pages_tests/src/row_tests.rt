@@ -17,7 +17,7 @@ fn a_written_file_grows_over_a_gap_of_zeros(rt: HostRuntime) -> Result<(), Fail>
         Row::Read(File::First, 4, 3, b"o\0\0"),
         Row::Read(File::First, 9999, 5, b"\0a"),
     ];
-    check_fresh(&rt, rt.alloc(), &SHAPE, &rows)
+    check_fresh(&rt, rt.alloc(), &SHAPE, "a gap of zeros", &rows)
 }
 
 #[test]
@@ -45,7 +45,7 @@ fn the_25th_page_takes_two_blocks(rt: HostRuntime) -> Result<(), Fail> {
         Row::Used(4),
         Row::Blocks(File::First, 0),
     ];
-    check_fresh(&rt, rt.alloc(), &SHAPE, &rows)
+    check_fresh(&rt, rt.alloc(), &SHAPE, "the 25th page", &rows)
 }
 
 #[test]
@@ -61,7 +61,7 @@ fn no_file_is_larger_than_the_largest(rt: HostRuntime) -> Result<(), Fail> {
         Row::Write(File::First, 4_292_607, b"a", Answer::Done(1)),
         Row::Read(File::First, 4_292_605, 9, b"\0\0a"),
     ];
-    check_fresh(&rt, rt.alloc(), &LARGE, &rows)
+    check_fresh(&rt, rt.alloc(), &LARGE, "the largest file", &rows)
 }
 
 #[test]
@@ -73,7 +73,7 @@ fn a_file_that_was_cut_grows_by_zeros(rt: HostRuntime) -> Result<(), Fail> {
         Row::Read(File::First, 98, 4, b"\xaa\xaa\0\0"),
         Row::Read(File::First, 3998, 10, b"\0\0\xbb"),
     ];
-    check_fresh(&rt, rt.alloc(), &SHAPE, &rows)
+    check_fresh(&rt, rt.alloc(), &SHAPE, "a file that was cut", &rows)
 }
 
 #[test]
@@ -89,5 +89,5 @@ fn a_full_volume_takes_no_byte_more(rt: HostRuntime) -> Result<(), Fail> {
         Row::Write(File::Second, 4095, b"b", Answer::Done(1)),
         Row::Blocks(File::Second, 1),
     ];
-    check_fresh(&rt, rt.alloc(), &SHAPE, &rows)
+    check_fresh(&rt, rt.alloc(), &SHAPE, "a full volume", &rows)
 }

@@ -5,7 +5,7 @@ ghost use Rattle.test_volumes.specs.TestVolumes.{IsTestShape};
 ghost use Rattle.file_pages_tests.specs.TestFiles.{FilesReady, IsTestFile};
 
 use crate::calls::{Answer, Call, block_count, len_of, make, put, some_of};
-use crate::compare::{same, same_items};
+use crate::compare::{At, same, same_items};
 use crate::volumes::{FILE, OTHER, used_count, with_files};
 use rio_base::{Ino, Volume, VolumeShape};
 use std::alloc::Global;
@@ -46,13 +46,13 @@ fn ino_of(file: File) -> Ino
     }
 }
 
-/// Makes the call of a row, the `k`th of its table.
+/// Makes the call of a row.
 fn check_row<V: Volume>(
     rt: &impl Abort,
     alloc: Global,
     v: &mut V,
     shape: &VolumeShape,
-    k: u64,
+    at: At,
     row: Row,
 ) -> Result<(), Fail>
     requires sound { V.sound v.old }
@@ -63,32 +63,32 @@ fn check_row<V: Volume>(
     match row {
         Row::Write(file, off, bytes, due) => {
             let came = put(alloc, v, shape, ino_of(file), off, bytes)?;
-            same(rt, k, &came, &due);
+            same(rt, at, &came, &due);
             Ok(())
         }
         Row::Make(file, call, due) => {
             let came = make(alloc, v, shape, ino_of(file), call)?;
-            same(rt, k, &came, &due);
+            same(rt, at, &came, &due);
             Ok(())
         }
         Row::Read(file, off, len, due) => {
             let came = some_of(alloc, v, shape, ino_of(file), off, len)?;
-            same_items(rt, k, came.as_slice(), due);
+            same_items(rt, at, came.as_slice(), due);
             Ok(())
         }
         Row::Len(file, due) => {
             let came = len_of(alloc, v, shape, ino_of(file))?;
-            same(rt, k, &came, &due);
+            same(rt, at, &came, &due);
             Ok(())
         }
         Row::Blocks(file, due) => {
             let came = block_count(alloc, v, shape, ino_of(file))?;
-            same(rt, k, &came, &due);
+            same(rt, at, &came, &due);
             Ok(())
         }
         Row::Used(due) => {
             let came = used_count(v, shape)?;
-            same(rt, k, &came, &due);
+            same(rt, at, &came, &due);
             Ok(())
         }
     }
@@ -100,6 +100,7 @@ pub(crate) fn check_rows<V: Volume>(
     alloc: Global,
     v: &mut V,
     shape: &VolumeShape,
+    table: &'static str,
     rows: &[Row],
 ) -> Result<(), Fail>
     requires sound { V.sound v.old }
@@ -108,7 +109,8 @@ pub(crate) fn check_rows<V: Volume>(
     ensures sound { V.sound v.new }
 {
     for k in 0..rows.len() {
-        check_row(rt, alloc, v, shape, k as u64, rows[k])?;
+        let row = k as u64;
+        check_row(rt, alloc, v, shape, At { table, row }, rows[k])?;
     }
     Ok(())
 }
@@ -118,10 +120,11 @@ pub(crate) fn check_fresh(
     rt: &impl Abort,
     alloc: Global,
     shape: &VolumeShape,
+    table: &'static str,
     rows: &[Row],
 ) -> Result<(), Fail>
     requires { IsTestShape shape.now }
 {
     let mut v = with_files(alloc, shape)?;
-    check_rows(rt, alloc, &mut v, shape, rows)
+    check_rows(rt, alloc, &mut v, shape, table, rows)
 }

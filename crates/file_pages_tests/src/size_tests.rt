@@ -17,7 +17,7 @@ fn bytes_on_both_sides_of_page_24_stay(rt: HostRuntime) -> Result<(), Fail> {
         Row::Make(File::First, Call::Resize(98_306), Answer::Done(0)),
         Row::Read(File::First, 98_300, 99, b"abC\0\0\0"),
     ];
-    check_fresh(&rt, rt.alloc(), &SHAPE, &rows)
+    check_fresh(&rt, rt.alloc(), &SHAPE, "both sides of page 24", &rows)
 }
 
 #[test]
@@ -34,5 +34,5 @@ fn the_largest_file_is_made_and_cut(rt: HostRuntime) -> Result<(), Fail> {
         Row::Read(File::First, 98_300, 9, b"abcde\0\0\0\0"),
         Row::Read(File::First, 4_292_605, 99, b"\0\0\0"),
     ];
-    check_fresh(&rt, rt.alloc(), &LARGE, &rows)
+    check_fresh(&rt, rt.alloc(), &LARGE, "the largest file", &rows)
 }

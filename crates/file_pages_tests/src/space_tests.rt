@@ -68,7 +68,14 @@ fn rows_at(free: u64) -> [Row; 7]
 fn all_free_blocks_are_taken_and_none_more(rt: HostRuntime) -> Result<(), Fail> {
     for free in 0..19 {
         let mut v = with_gaps(rt.alloc(), free)?;
-        check_rows(&rt, rt.alloc(), &mut v, &SMALL, &rows_at(free))?;
+        check_rows(
+            &rt,
+            rt.alloc(),
+            &mut v,
+            &SMALL,
+            "few blocks are free",
+            &rows_at(free),
+        )?;
     }
     Ok(())
 }
@@ -88,5 +95,12 @@ fn blocks_that_a_file_loses_are_free_for_the_next_call(rt: HostRuntime) -> Resul
         Row::Make(File::Second, Call::Resize(12 * PAGE + 1), Answer::NoSpace),
     ];
     let mut v = filled_up(rt.alloc())?;
-    check_rows(&rt, rt.alloc(), &mut v, &SMALL, &rows)
+    check_rows(
+        &rt,
+        rt.alloc(),
+        &mut v,
+        &SMALL,
+        "blocks that a file loses",
+        &rows,
+    )
 }

@@ -50,7 +50,8 @@ fn first_of_words<V: Blocks>(
     Ok(None)
 }
 
-/// Which of the 32 inodes from `first` on is the first free one. They are those of one block.
+/// Which of the 32 inodes from `first` on is the first free one. They are those of one block, which is asked for first, so that
+/// it is fetched where it is not cached, and counts as used.
 fn first_of_block<V: Blocks>(
     v: &mut V,
     shape: &VolumeShape,
@@ -68,7 +69,9 @@ fn first_of_block<V: Blocks>(
     ensures ends { Ends (V.health v.old) (V.health v.new) result }
     ensures sound { V.sound v.new }
 {
-    if let Some(words) = v.page(inode_block(shape, first)) {
+    let block = inode_block(shape, first);
+    v.word(block, None, 0)?;
+    if let Some(words) = v.page(block) {
         return Ok(first_of_page(words));
     }
     first_of_words(v, shape, first)

@@ -217,10 +217,11 @@ fn each_word_that_is_read_may_fail(rt: HostRuntime) -> Result<(), Fail> {
         let failed = read_inode(&mut v, &SHAPE, Ino(1)) == Err(VolFail::Fault);
         same(&rt, "fault at word", n as usize, &failed, &(n <= 16));
     }
-    for n in 1..5 {
+    // the block is asked for by one word, and then looked at word by word
+    for n in 1..6 {
         let mut v = FaultyVolume::new(with_used(rt.alloc(), 2)?, n);
         let failed = least_free(&mut v, &SHAPE) == Err(VolFail::Fault);
-        same(&rt, "fault at inode", n as usize, &failed, &(n <= 3));
+        same(&rt, "fault at inode", n as usize, &failed, &(n <= 4));
     }
     Ok(())
 }
