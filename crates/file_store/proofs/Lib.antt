@@ -15,7 +15,6 @@ pub mod Forgotten
 pub mod FreeFound
 pub mod FreeRows
 pub mod LookedAt
-pub mod NameRules
 pub mod NameSteps
 pub mod NamesListed
 pub mod NewRegionWords

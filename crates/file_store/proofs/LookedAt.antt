@@ -8,7 +8,7 @@ use Rattle.file_store.specs.declared.failures.FileFail.TheVariants.{Refused, Fau
 use Rattle.file_store.specs.Failures.{Refuses, Unrefused}
 use Rattle.file_store.proofs.Reached.{kind_held}
 use Rattle.file_store.proofs.RowReads.{dir_kind}
-use Rattle.file_store.proofs.WalkRules.{walk_on, walk_over}
+use Rattle.rio_model.proofs.Walks.{walk_on, walk_over}
 use Rattle.file_store.specs.Walks.{Comes, FileComes, RowComes, ino_in}
 use Rattle.file_store.specs.declared.walking.Row.{Row}
 

@@ -4,7 +4,7 @@ use Rattle.std.proofs.Common.{Some, None}
 use Rattle.std.specs.Prelude.{if◌then◌else◌}
 use Rattle.rio_model.specs.declared.node.Node.TheVariants.{Dir}
 use Rattle.rio_model.proofs.FreeByState.{names_counted}
-use Rattle.file_store.proofs.NameRules.{same_some}
+use Rattle.rio_model.proofs.NameRules.{same_some}
 use Rattle.file_store.proofs.RowCounts.{InShape, rows_fewer}
 use Rattle.file_store.proofs.TreeRules.{RowsFit, dir_used}
 

@@ -10,8 +10,10 @@ use Rattle.rio_model.proofs.NodeChanges.{IsAt}
 use Rattle.rio_model.specs.Placed.{AgreesBeside}
 use Rattle.rio_model.proofs.PlacedRules.{direct_of, page_page}
 use Rattle.rio_model.proofs.WordRules.{beside_page, held_at_old, held_beside, held_put, lays_beside, mapped_beside, put_beside_node, put_same_but}
-use Rattle.file_pages.proofs.OrderRules.{firm_layout, named_layout}
-use Rattle.file_store.specs.Views.{IsWordName, IsWordPage, RestHeld}
+use Rattle.file_pages.proofs.OrderRules.{firm_layout}
+use Rattle.rio_model.proofs.NamedRules.{named_layout}
+use Rattle.file_store.specs.Views.{IsWordName, IsWordPage}
+use Rattle.rio_model.specs.RegionMoves.{RestHeld}
 use Rattle.file_store.proofs.RegionParts.{put_none}
 use Rattle.file_store.proofs.RegionHeader.{HasHeader, has_header, used_size}
 

@@ -1,8 +1,8 @@
 -- The names of a state stay a tree: where a node is made, goes, is moved, or is moved over another.
 use Rattle.file_store.proofs.Common.{◌≡◌, ◌≢◌, ℕ, false, true, List, [], ◌∷◌, ◌++◌, Option, refl, sym, ap, subst, ◌∙◌, inl, inr, get, insert, remove, cases_eq, true_false, Node, State, with_new, NameKey, is_dir, walk, TreeRule, name_get_other, name_get_same, get_there, moved, replaced, without}
 use Rattle.std.proofs.Common.{Some, None, Ok}
-use Rattle.file_store.proofs.NameRules.{cases_key, some_none, same_some, row_kept, row_left, row_moved, row_put, row_stays, OneRow, one_left, one_moved, one_put, node_kept, node_left}
-use Rattle.file_store.proofs.WalkRules.{Hangs, Up, stepped, turned, up_walk, walk_append, walk_step, walk_up}
+use Rattle.rio_model.proofs.NameRules.{cases_key, some_none, same_some, row_kept, row_left, row_moved, row_put, row_stays, OneRow, one_left, one_moved, one_put, node_kept, node_left}
+use Rattle.rio_model.proofs.Walks.{Hangs, Up, stepped, turned, up_walk, walk_append, walk_step, walk_up}
 use Rattle.file_store.specs.WalkRules.{OutOfReach}
 
 -- rows name nodes, and stand in directories

@@ -1,11 +1,8 @@
--- Laws of what specs/Views.antt defines.
-use Rattle.file_store.proofs.Common.{◌≡◌, ℕ, ◌+◌, ◌/◌, sym, ap, subst, ◌∙◌, arith, VolumeShape, BlockWords, Seen, Kept, Ready, Inode, IsInode}
+-- A view of a region after calls on its words.
+use Rattle.file_store.proofs.Common.{ℕ, ◌+◌, ◌/◌, sym, ap, ◌∙◌, arith, VolumeShape, BlockWords, Seen, Kept, Ready, Inode, IsInode}
 use Rattle.rio_base.specs.Layout.{half}
-use Rattle.file_store.specs.Views.{OnRegion, RestHeld, rest_refl}
-
--- nothing reads otherwise
-pub rest_same : (shape : VolumeShape) (i : ℕ) (f g : BlockWords) → g ≡ f → RestHeld shape i f g
-rest_same shape i f g same = subst (RestHeld shape i f) (sym same) (rest_refl shape i f)
+use Rattle.file_store.specs.Views.{OnRegion}
+use Rattle.rio_model.specs.RegionMoves.{RestHeld}
 
 -- a view that stood on a region stands on it still, where only words of it differ
 pub on_still : (shape : VolumeShape) (x : Seen) (k : Kept) (y : Seen) (j : Kept) (i words : ℕ) → OnRegion shape x k i words → Ready shape y j → RestHeld shape i x.words y.words → OnRegion shape y j i words

@@ -1,16 +1,17 @@
 -- A view of the words of one region's file: where it stands, and what calls on it leave of all that is no word of the region.
-use Rattle.std.proofs.Common.{◌≡◌, ◌≢◌, ℕ, ◌*◌, ◌/◌, ◌^◌, ◌<◌, ◌≤◌, true, cond, refl, sym, ap, subst, ◌∙◌, arith}
+use Rattle.std.proofs.Common.{◌≡◌, ℕ, ◌*◌, ◌/◌, ◌^◌, ◌<◌, ◌≤◌, true, cond, refl, sym, ap, subst, ◌∙◌, arith}
 use Rattle.std.specs.Prelude.{nat_lt}
 use Rattle.std.proofs.lemmas.Bool.Decides.{nat_tests}
 use Rattle.rio_base.specs.declared.places.Ino.{Ino}
 use Rattle.rio_base.specs.declared.places.PageName.{PageName}
 use Rattle.rio_base.specs.declared.places.VolumeShape.{VolumeShape}
 use Rattle.rio_base.specs.Blocks.{BlockWords, Seen}
-use Rattle.rio_base.specs.Layout.{IsIno, inode_word}
+use Rattle.rio_base.specs.Layout.{IsIno}
 use Rattle.rio_base.specs.Volume.{Kept}
 use Rattle.rio_model.specs.Held.{Held, held, held_of}
 use Rattle.rio_model.specs.HeldRules.{held_ino}
 use Rattle.rio_model.specs.Placed.{AtPage, Owns, placed_at, volume_layout}
+use Rattle.rio_model.specs.RegionMoves.{RestHeld, rest_refl, rest_trans}
 use Rattle.rio_model.specs.VolumeReady.{Ready}
 use Rattle.inode_table.specs.declared.inode.Inode.{Inode}
 use Rattle.inode_table.specs.Inodes.{IsInode}
@@ -39,13 +40,6 @@ pub record IsWordName (i at : ℕ) (name : PageName) : Type 0 where
   pub index : name.index ≡ at / 512
   pub size : name.size ≡ 4096
 
--- every other node holds what it held, and node i has its kind, its size and all words of its inode
-pub record RestHeld (shape : VolumeShape) (i : ℕ) (f g : BlockWords) : Type 0 where
-  pub others : (j : ℕ) → j ≢ i → held_of shape g j ≡ held_of shape f j
-  pub kind : (held_of shape g i).kind ≡ (held_of shape f i).kind
-  pub size : (held_of shape g i).size ≡ (held_of shape f i).size
-  pub inode : (w : ℕ) → w < 16 → inode_word g i w ≡ inode_word f i w
-
 -- one view and a later one: they stand on one region of one volume, and all else of it is held as before
 pub record SameBeside (s : VolumeShape) (i : Ino) (m : ℕ) (f : BlockWords) (t : VolumeShape) (j : Ino) (n : ℕ) (g : BlockWords) : Type 0 where
   pub shape : t ≡ s
@@ -54,17 +48,6 @@ pub record SameBeside (s : VolumeShape) (i : Ino) (m : ℕ) (f : BlockWords) (t 
   pub rest : RestHeld s i.0 f g
 
 -- ---- laws
-
-pub rest_refl : (shape : VolumeShape) (i : ℕ) (f : BlockWords) → RestHeld shape i f f
-rest_refl shape i f = record { others = λ j away. refl; kind = refl; size = refl; inode = λ w few. refl }
-
-pub rest_trans : (shape : VolumeShape) (i : ℕ) (f g h : BlockWords) → RestHeld shape i f g → RestHeld shape i g h → RestHeld shape i f h
-rest_trans shape i f g h a b = record {
-  others = λ j away. b.others j away ∙ a.others j away;
-  kind = b.kind ∙ a.kind;
-  size = b.size ∙ a.size;
-  inode = λ w few. b.inode w few ∙ a.inode w few;
-}
 
 pub beside_refl : (s : VolumeShape) (i : Ino) (m : ℕ) (f : BlockWords) → SameBeside s i m f s i m f
 beside_refl s i m f = record { shape = refl; ino = refl; count = refl; rest = rest_refl s i.0 f }

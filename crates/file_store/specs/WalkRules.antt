@@ -1,4 +1,4 @@
--- Walks along names: one over names and more, one up to the last name, and the one path to each node of a tree.
+-- Directories that are out of a node's reach.
 use Rattle.std.proofs.Common.{◌≡◌, ℕ, List, Ok}
 use Rattle.rio_model.specs.declared.state.State.{State}
 use Rattle.rio_model.specs.Paths.{walk}

@@ -10,7 +10,8 @@ ghost use Rattle.rio_model.specs.Held.{held_of};
 ghost use Rattle.rio_model.specs.Placed.{volume_layout};
 ghost use Rattle.rio_model.specs.VolumeReady.{LeavesInUse, Ready};
 ghost use Rattle.inode_table.specs.Inodes.{IsInode};
-ghost use Rattle.file_store.specs.Views.{IsWordName, IsWordPage, RestHeld};
+ghost use Rattle.file_store.specs.Views.{IsWordName, IsWordPage};
+ghost use Rattle.rio_model.specs.RegionMoves.{RestHeld};
 
 use file_pages::block_of;
 use inode_table::{Inode, read_inode};

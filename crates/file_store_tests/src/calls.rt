@@ -280,7 +280,7 @@ fn block_as(v: &mut ListVolume, shape: &VolumeShape, b: u32, want: Want) -> bool
     if b >= shape.blocks {
         return false;
     }
-    let mut words = [0; 512];
+    let mut words = [9; 512];
     match v.read_run(Block(b), None, 0, &mut words) {
         Ok(()) => words.is_due(want),
         Err(_) => false,

@@ -79,9 +79,8 @@ fn a_run_over_three_pages_is_read_whole(rt: HostRuntime) -> Result<(), Fail> {
     let mut view = region(&rt, rt.alloc())?;
     let rows = [
         (Call::SetRun(AT + 1, &[7; 514]), Due::Done),
-        (Call::Read(AT, 2), Due::Words(&[0, 7])),
+        (Call::Read(AT, 516), Due::Between(7)),
         (Call::Read(AT + 1, 514), Due::Words(&[7; 514])),
-        (Call::Read(AT + 514, 2), Due::Words(&[7, 0])),
     ];
     on_words(&rt, 0, &mut view, &rows)
 }

@@ -39,6 +39,8 @@ pub(crate) enum Due {
     Done,
     Word(u64),
     Words(&'static [u64]),
+    /// A zero at each end, and this word at all places between.
+    Between(u64),
     Fault,
     /// A fault after so many words.
     FaultAfter(u32),
@@ -151,10 +153,19 @@ fn has_words<R: RegionWords>(r: &R, at: u32, count: usize) -> bool
     count <= len - at as usize
 }
 
+/// Whether the first and the last of some words are zeros, and all between them are this word.
+fn is_between(words: &[u64], word: u64) -> bool {
+    let [first, middle @ .., last] = words else {
+        return false;
+    };
+    *first == 0 && *last == 0 && middle.iter().all(|each| *each == word)
+}
+
 /// Whether words are read as they must.
 fn is_read(answer: Result<(), VolFail>, words: &[u64], due: Due) -> bool {
     match (answer, due) {
         (Ok(()), Due::Words(wanted)) => words == wanted,
+        (Ok(()), Due::Between(word)) => is_between(words, word),
         (Err(fail), _) => is_failure(fail, due),
         _ => false,
     }

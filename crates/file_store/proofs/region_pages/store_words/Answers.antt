@@ -1,6 +1,6 @@
 use Rattle.file_store.proofs.Common.{◌≡◌, ℕ, ◌+◌, ◌<◌, ◌∙◌, length, le_trans, arith, subst, sym, put_words, ◌then◌, held_of}
 use Rattle.file_store.proofs.Views.{inode_still}
-use Rattle.file_store.specs.Views.{rest_trans}
+use Rattle.rio_model.specs.RegionMoves.{rest_trans}
 use Rattle.file_store.proofs.RegionParts.{front_rest, put_all, put_rest, rest_length, rest_told}
 use Rattle.file_store.proofs.RunEnds.{ends_fault, ends_stop, fault_told}
 use Rattle.file_store.proofs.region_pages.store_words.Goals as goal

@@ -1,5 +1,5 @@
 use Rattle.file_store.proofs.Common.{length, ◌-◌, ◌≡◌, ◌≤◌, put_words, Goes, held_of, Ready}
-use Rattle.file_store.specs.Views.{RestHeld}
+use Rattle.rio_model.specs.RegionMoves.{RestHeld}
 use Rattle.file_store.proofs.region_pages.store_words.Given as goal
 
 -- the first words are stored

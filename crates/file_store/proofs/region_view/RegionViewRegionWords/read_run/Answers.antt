@@ -1,5 +1,6 @@
 use Rattle.file_store.proofs.Common.{refl}
-use Rattle.file_store.proofs.Views.{inode_still, on_still, rest_same}
+use Rattle.file_store.proofs.Views.{inode_still, on_still}
+use Rattle.rio_model.proofs.RegionMoves.{rest_same}
 use Rattle.file_store.proofs.region_view.RegionViewRegionWords.read_run.Goals as goal
 
 pub returns-clause-stays : goal.returns-clause-stays
