@@ -1,4 +1,4 @@
--- Laws of what specs/Marks.antt defines.
+-- The units of a block that are marked in a region's map, or freed.
 use Rattle.std.specs.Prelude.{◌≡◌, ℕ, ◌+◌, ◌-◌, ◌*◌, ◌/◌, ◌<◌, ◌⊎◌, ◌&&◌, ◌==◌, nat_le, nat_lt, if◌then◌else◌}
 use Rattle.rio_model.specs.Heap.{starts, used}
 

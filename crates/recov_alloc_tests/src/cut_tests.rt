@@ -56,8 +56,9 @@ struct Sweep {
     between: &'static [Map],
     /// The map behind the calls.
     behind: Map,
-    /// How many calls on the words they make at least.
+    /// How many calls on the words they make, at least and at most.
     least: u64,
+    most: u64,
 }
 
 const SWEEPS: [Sweep; 3] = [
@@ -69,6 +70,7 @@ const SWEEPS: [Sweep; 3] = [
         between: &[(u64::MAX, 1, 0, 0), (u64::MAX, 0x401, 0, 0)],
         behind: TWO,
         least: 20,
+        most: 198,
     },
     Sweep {
         name: "giving",
@@ -83,6 +85,7 @@ const SWEEPS: [Sweep; 3] = [
         between: &[(0x3ff, 0x401, 0xffff, 0), (0x3ff, 1, 0xffff, 0)],
         behind: ONE,
         least: 20,
+        most: 198,
     },
     Sweep {
         name: "taking and giving",
@@ -98,6 +101,7 @@ const SWEEPS: [Sweep; 3] = [
         ],
         behind: NONE,
         least: 60,
+        most: 300,
     },
 ];
 
@@ -213,7 +217,8 @@ fn cut_each(
             row,
         };
         if look_after(rt, at, alloc, sweep, cut, settle)? {
-            same(rt, at, &(sweep.least < n), &true);
+            let made = n - 1;
+            same(rt, at, &(sweep.least <= made && made <= sweep.most), &true);
             return Ok(());
         }
     }

@@ -1,4 +1,4 @@
--- Laws of what specs/Chains.antt defines.
+-- The newest record of a chain, and where it lies.
 use Rattle.std.specs.Prelude.{◌≡◌, ℕ, suc, ◌+◌, ◌≤◌, List, ◌∷◌, length}
 use Rattle.rio_base.specs.Regions.{RegionContent}
 use Rattle.rio_model.specs.Undo.{UndoRecord, IsRecord, places, taken, undo_word, undo_words}

@@ -1,17 +1,11 @@
 -- The region and its transaction, where words at the places and records are as they were.
-use Rattle.vista_region.proofs.Common.{◌≡◌, ℕ, ◌+◌, ◌*◌, Bool, Option, Some, None, List, map, refl, ap, ◌∙◌, range_with_len, RegionContent, RegionNode, Txn, heap_blocks, before, data_from, live, map_pages, taken, undo_records, Rests, Undone}
+use Rattle.vista_region.proofs.Common.{◌≡◌, ℕ, ◌*◌, Bool, Option, Some, None, List, refl, ap, ◌∙◌, RegionContent, RegionNode, Txn, before, data_from, live, map_pages, taken, undo_records, Rests, Undone}
 use Rattle.rio_model.specs.Undo.{SameSizes}
+use Rattle.rio_model.proofs.RegionMoves.{node_same}
 use Rattle.rio_model.proofs.UndoRules.{rests_undoes}
 use Rattle.rio_model.specs.VolumeReads.{region_in}
 use Rattle.vista_region.specs.Marks.{Marks, mark_of, marked_txn, txn_in}
 use Rattle.vista_region.specs.Regions.{ranges_of, region_now, txn_now}
-
--- a region of these sizes, by the words at its places
-abbrev node : ℕ → ℕ → (ℕ → ℕ) → RegionNode
-node undo pages words = record { words = map (λ q. words (512 * map_pages pages + q)) (range_with_len 0 (512 * pages)); undo = undo; blocks = heap_blocks words (64 * pages) }
-
-node_same : (f g : RegionContent) (l m : ℕ → ℕ) → SameSizes f g → m ≡ l → node (g 1) (g 2) m ≡ node (f 1) (f 2) l
-node_same f g l m s e = ap (λ u. node u (g 2) m) s.undo ∙ ap (λ d. node (f 1) d m) s.data_pages ∙ ap (node (f 1) (f 2)) e
 
 -- the region as it is, and as it was
 pub now_same : (f g : RegionContent) → SameSizes f g → live g ≡ live f → region_now g ≡ region_now f

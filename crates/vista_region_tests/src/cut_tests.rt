@@ -85,8 +85,9 @@ struct Faults {
     calls: &'static [Row],
     /// For each of the calls, what comes after it where it failed.
     after: &'static [&'static [Row]],
-    /// How many calls on the words they make at least.
+    /// How many calls on the words they make, at least and at most.
     least: u64,
+    most: u64,
 }
 
 const FAULTS: [Faults; 3] = [
@@ -96,6 +97,7 @@ const FAULTS: [Faults; 3] = [
         calls: CHANGES,
         after: &[OPEN, OPEN, DOOMED, DOOMED, DOOMED, OPEN],
         least: 80,
+        most: 300,
     },
     Faults {
         name: "every fault of an abort is made good",
@@ -110,6 +112,7 @@ const FAULTS: [Faults; 3] = [
             (Get(16, 8), Bytes(8, 0)),
         ]],
         least: 20,
+        most: 98,
     },
     Faults {
         name: "a fault of a commit leaves the transaction open",
@@ -122,6 +125,7 @@ const FAULTS: [Faults; 3] = [
             (Get(16, 8), Bytes(8, 22)),
         ]],
         least: 1,
+        most: 1,
     },
 ];
 
@@ -241,7 +245,13 @@ fn fail_each(rt: &impl process::Abort, alloc: Global, faults: &Faults) -> Result
     for cut in 1..300 {
         let at = At { name, cut, row: 0 };
         if fail_at(rt, at, alloc, faults)? {
-            same(rt, at, &(faults.least < cut), &true);
+            let made = cut - 1;
+            same(
+                rt,
+                at,
+                &(faults.least <= made && made <= faults.most),
+                &true,
+            );
             return Ok(());
         }
     }
