@@ -2,15 +2,17 @@
 use Rattle.std.proofs.Common.{◌≡◌, ◌≢◌, ◌<◌, ◌^◌, ℕ, suc, ◌+◌, ◌-◌, true, false, ◌==◌, List, [], ◌∷◌, ◌++◌, length, take, drop, slice_index, flat_map, All, refl, arith, ap, sym, subst, ◌∙◌, add-one, inl, inr}
 use Rattle.std.proofs.Math.Seq.{drop-cons}
 use Rattle.std.proofs.lemmas.Bool.Decides.{nat_tests}
-use Rattle.std.proofs.lemmas.Fmt.{decimal_is_IsNumeral, decimal_injective}
+use Rattle.std.proofs.lemmas.Fmt.{decimal_is_IsNumeral}
 use Rattle.std.proofs.lemmas.List.{take-append-drop, take_all, length-drop, length-take-le, get_or-take}
 use Rattle.std.specs.Char.{digit_value}
 use Rattle.std.specs.Fmt.{decimal}
 use Rattle.std.specs.Str.Parse.{AllDigits}
 use Rattle.memchr.specs.Find.{Nowhere, NoneBefore, Passes, is_byte}
+use Rattle.rio_base.proofs.DecimalDigits.{one_number}
 use Rattle.rio_base.specs.Pieces.{Lacks}
 use Rattle.rio_model.specs.Paths.{IsName, IsNameByte, IsPath}
-use Rattle.request_codec.specs.Form.{IsNumber, Path, Number, Then}
+use Rattle.request_codec.specs.Form.{Path, Number, Then}
+use Rattle.rio_base.specs.Numbers.{IsNumber}
 use Rattle.request_codec.specs.Fronts.{IsCut, HasPath, HasNumber, HasPathNumber}
 
 not_equal : (b c : ℕ) → b ≢ c → (b == c) ≡ false
@@ -89,9 +91,6 @@ number_lacks ds n h =
     let small : n < 2 ^ 64 = omega (arith, h.1) in
     let digits : Lacks 32 (decimal n) = digits_lack (decimal n) (decimal_is_IsNumeral n small).0.1 in
     subst (λ xs. Lacks 32 xs) (sym h.0) digits
-
-pub one_number : (ds : List ℕ) (m n : ℕ) → IsNumber ds m → IsNumber ds n → m ≡ n
-one_number ds m n h k = decimal_injective m n (omega (arith, h.1)) (omega (arith, k.1)) (sym h.0 ∙ k.0)
 
 -- ---- what a text begins with
 

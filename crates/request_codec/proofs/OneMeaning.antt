@@ -7,9 +7,9 @@ use Rattle.rio_requests.specs.declared.request.Request.{Request}
 use Rattle.rio_requests.specs.declared.request.Request.TheVariants.{Mkdir, Create, Region, Write, Read, Truncate, Unlink, Rmdir, Rename, Stat, List as ListOf, Sync, Begin, Range, Put, Get, Alloc, Free, Commit, Abort, Txns, Flush, Wild, Arm}
 use Rattle.rio_model.specs.Paths.{IsName, IsPath}
 use Rattle.request_codec.specs.Form.{AreDigitsOf, IsHexOf, Path, Number, Data, Value, Then, PathNumber, PathNumbers, PathData, Paths, NumberValue, NumbersValue, Says, Form}
-use Rattle.request_codec.proofs.Cuts.{one_number, path_of, number_of, behind_path, behind_number}
+use Rattle.request_codec.proofs.Cuts.{path_of, number_of, behind_path, behind_number}
+use Rattle.rio_base.proofs.DecimalDigits.{number_length, one_number}
 use Rattle.request_codec.proofs.Meanings.{word_of, front, differ, apart}
-use Rattle.request_codec.proofs.Numbers.{number_length}
 
 -- ---- the parts are told by the text
 

@@ -1,17 +1,13 @@
 -- The grammar of request lines. A line has one of these forms or is no request.
 use Rattle.std.specs.Prelude.{◌≡◌, ◌<◌, ◌≤◌, ◌+◌, ◌*◌, ◌^◌, ℕ, List, ◌∷◌, ◌++◌, length, slice_index, codes, Option, Some, None}
-use Rattle.std.specs.Fmt.{decimal}
 use Rattle.std.specs.Int.{w64, to_be_bytes}
 use Rattle.hex.specs.Hex.{hex_digit_value}
+use Rattle.rio_base.specs.Numbers.{IsNumber}
 use Rattle.rio_requests.specs.declared.request.Request.{Request}
 use Rattle.rio_requests.specs.declared.request.Request.TheVariants.{Mkdir, Create, Region, Write, Read, Truncate, Unlink, Rmdir, Rename, Stat, List as ListOf, Sync, Begin, Range, Put, Get, Alloc, Free, Commit, Abort, Txns, Flush, Wild, Arm}
 use Rattle.rio_model.specs.Paths.{IsPath}
 
 -- ---- parts of a line
-
--- decimal digits, at most 18, and none but 0 itself begins with 0
-abbrev pub IsNumber : List ℕ → ℕ → Type 0
-IsNumber digits n = (digits ≡ decimal n) × (n < 10 ^ 18)
 
 -- two digits stand for this byte, the high four bits first
 pub record AreDigitsOf (high low byte : ℕ) : Type 0 where

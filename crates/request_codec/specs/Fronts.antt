@@ -2,7 +2,7 @@
 use Rattle.std.specs.Prelude.{◌≡◌, ◌<◌, ◌≤◌, ◌++◌, ◌∷◌, ℕ, List, length, slice_index}
 use Rattle.rio_base.specs.Pieces.{Lacks}
 use Rattle.rio_model.specs.Paths.{AreNames, IsName, IsNameByte, IsPath}
-use Rattle.request_codec.specs.Form.{IsNumber}
+use Rattle.rio_base.specs.Numbers.{IsNumber}
 
 -- a first part, the first space and the rest
 abbrev pub IsCut : List ℕ → List ℕ → List ℕ → Type 0

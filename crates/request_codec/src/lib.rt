@@ -16,7 +16,6 @@ mod text_room;
 mod words;
 
 pub use lines::{INPUT_LIMIT, LineFail, LineReader, NextLine};
-pub use number::number_of;
 pub use parse::{long_lines_mean_nothing, one_meaning, parse_line};
 pub use path::is_path;
 pub use reply_text::{ROOM_BYTES, put_name, write_reply, write_reply_in, write_text};

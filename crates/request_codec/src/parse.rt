@@ -5,13 +5,12 @@ ghost use Rattle.rio_requests.specs.declared.request.Request.{Request as Request
 ghost use Rattle.request_codec.specs.Form.{Form, Means};
 ghost use Rattle.request_codec.specs.Words.{path_word, number_word, numbers_word, data_word, other_word};
 
-use crate::number::number_of;
 use crate::parts::{
     at_space, number_value, numbers_value, path_data, path_number, path_numbers, paths,
 };
 use crate::path::is_path;
 use crate::words::{DataWord, NumberWord, NumbersWord, OtherWord, PathWord};
-use rio_base::Octets;
+use rio_base::{Octets, number_of};
 use rio_requests::Request;
 use std::alloc::{AllocError, Global};
 

@@ -3,14 +3,15 @@
 ghost use Rattle.std.specs.Prelude.{◌≡◌, ◌≤◌, ◌++◌, ◌∷◌, ℕ, List, length, IfOk, MatchOption};
 ghost use Rattle.rio_base.specs.Pieces.{Lacks};
 ghost use Rattle.rio_model.specs.Paths.{IsPath};
-ghost use Rattle.request_codec.specs.Form.{IsHexOf, IsNumber, Data, PathNumber, PathNumbers, PathData, Paths, NumberValue, NumbersValue};
+ghost use Rattle.request_codec.specs.Form.{IsHexOf, Data, PathNumber, PathNumbers, PathData, Paths, NumberValue, NumbersValue};
+ghost use Rattle.rio_base.specs.Numbers.{IsNumber};
 ghost use Rattle.request_codec.specs.Fronts.{IsCut, HasPath, HasNumber, HasPathNumber};
 
 use crate::hex_digits::decode;
-use crate::number::{number_of, value_of};
+use crate::number::value_of;
 use crate::path::is_path;
 use memchr::memchr;
-use rio_base::Octets;
+use rio_base::{Octets, number_of};
 use std::alloc::{AllocError, Global};
 
 /// The most bytes that a request carries.

@@ -1,11 +1,10 @@
 //! Paths in lines.
 
-ghost use Rattle.std.specs.Prelude.{◌≡◌, ◌≢◌, ◌↔◌, ◌∷◌, ℕ, List, All, IsTrue, MatchOption};
-ghost use Rattle.rio_model.specs.Paths.{AreNames, IsName, IsNameByte, IsPath};
+ghost use Rattle.std.specs.Prelude.{◌≡◌, ◌≢◌, ◌↔◌, ◌∷◌, ℕ, List, IsTrue, MatchOption};
+ghost use Rattle.rio_model.specs.Paths.{AreNames, IsPath};
 ghost use Rattle.request_codec.specs.Fronts.{IsRun, HasName, IsNameCount};
 
-/// The longest name.
-const NAME_BYTES: usize = 56;
+use rio_model::{is_name_byte, may_be_name};
 
 /// The most names of a path.
 const PATH_NAMES: usize = 32;
@@ -61,22 +60,4 @@ fn name_length(text: &[u8]) -> usize
         Some(at) => at,
         None => text.len(),
     }
-}
-
-/// Whether bytes of names are a name.
-fn may_be_name(name: &[u8]) -> bool
-    requires { All IsNameByte name.now }
-    ensures { IsTrue result ↔ IsName name.now }
-{
-    if name.is_empty() || name.len() > NAME_BYTES {
-        return false;
-    }
-    name != b".".as_slice() && name != b"..".as_slice()
-}
-
-/// Whether a byte may stand in a name.
-fn is_name_byte(b: u8) -> bool
-    ensures { IsTrue result ↔ IsNameByte b }
-{
-    b'!' <= b && b <= b'~' && b != b'/'
 }

@@ -7,7 +7,7 @@ use Rattle.rio_requests.specs.declared.reply.Reply.TheVariants.{Ok as Done}
 use Rattle.rio_requests.specs.declared.request.Request.{Request}
 use Rattle.rio_requests.specs.declared.request.Request.TheVariants.{Mkdir, Create, Region as MakeRegion, Write, Read, Truncate, Unlink, Rmdir, Rename, Stat as StatOf, List as ListOf, Sync, Begin, Range, Put, Get, Alloc, Free, Commit, Abort, Txns, Flush, Wild, Arm}
 use Rattle.rio_requests.specs.Answer.{answered, at_inode, on_file, refused}
-use Rattle.rio_requests.specs.Answers.{answer_of, served_of, found, is_below, is_empty, is_open, make, make_new, make_row, new_blocks, new_region, read, read_in, rename_at, rename_row, rename_to, region_at, region_row, replace_row, rmdir_at, rmdir_node, row_wanted, stat_node, truncate, truncate_in, unlink_at, unlink_node, wanted, with_room, with_size, write, write_file, write_in}
+use Rattle.rio_requests.specs.Answers.{answer_of, found, is_below, is_empty, is_open, make, make_new, make_row, new_blocks, new_region, read, read_in, rename_at, rename_row, rename_to, region_at, region_row, replace_row, rmdir_at, rmdir_node, row_wanted, stat_node, truncate, truncate_in, unlink_at, unlink_node, wanted, with_room, with_size, write, write_file, write_in}
 use Rattle.rio_requests.specs.Parts.{FaultStep}
 use Rattle.rio_model.specs.Paths.{names_of}
 use Rattle.rio_requests.specs.Run.{Step}
@@ -176,32 +176,6 @@ keeps_sizes s (Flush count) = keeps_refl s
 keeps_sizes s (Wild at value) = keeps_wild s at
 keeps_sizes s (Arm step at value) = keeps_arm s at
 
-keeps_served : (s : State) (r : Request) → KeepsSizes s (served_of s r).next
-keeps_served s (Mkdir path) = keeps_sizes s (Mkdir path)
-keeps_served s (Create path) = keeps_sizes s (Create path)
-keeps_served s (MakeRegion path pages undo) = keeps_sizes s (MakeRegion path pages undo)
-keeps_served s (Write path off bytes) = keeps_sizes s (Write path off bytes)
-keeps_served s (Read path off len) = keeps_sizes s (Read path off len)
-keeps_served s (Truncate path len) = keeps_sizes s (Truncate path len)
-keeps_served s (Unlink path) = keeps_sizes s (Unlink path)
-keeps_served s (Rmdir path) = keeps_sizes s (Rmdir path)
-keeps_served s (Rename path to) = keeps_sizes s (Rename path to)
-keeps_served s (StatOf path) = keeps_sizes s (StatOf path)
-keeps_served s (ListOf path) = keeps_sizes s (ListOf path)
-keeps_served s Sync = keeps_sizes s Sync
-keeps_served s (Begin path) = keeps_sizes s (Begin path)
-keeps_served s (Range path off len) = keeps_sizes s (Range path off len)
-keeps_served s (Put path off bytes) = keeps_sizes s (Put path off bytes)
-keeps_served s (Get path off len) = keeps_sizes s (Get path off len)
-keeps_served s (Alloc path units) = keeps_sizes s (Alloc path units)
-keeps_served s (Free path at) = keeps_sizes s (Free path at)
-keeps_served s (Commit path) = keeps_sizes s (Commit path)
-keeps_served s (Abort path) = keeps_sizes s (Abort path)
-keeps_served s Txns = keeps_sizes s Txns
-keeps_served s (Flush count) = keeps_sizes s (Flush count)
-keeps_served s (Wild at value) = keeps_refl s
-keeps_served s (Arm step at value) = keeps_refl s
-
 -- ---- any step of a run
 
 fault_keeps : (s : State) (r : Request) (k : ℕ) (t : State) → FaultStep s r k t → KeepsSizes s t
@@ -236,6 +210,6 @@ fault_keeps s (Wild at value) k t none = absurd none
 fault_keeps s (Arm step at value) k t none = absurd none
 
 pub step_keeps : (s : State) (r : Request) (reply : Reply) (t : State) → Step s (Some r) reply t → KeepsSizes s t
-step_keeps s r reply t (inl is) = subst (KeepsSizes s) (ap (λ (a : Answered). a.next) is) (keeps_served s r)
+step_keeps s r reply t (inl is) = subst (KeepsSizes s) (ap (λ (a : Answered). a.next) is) (keeps_sizes s r)
 step_keeps s r reply t (inr (inl (may, told, same))) = subst (KeepsSizes s) (sym same) (keeps_refl s)
 step_keeps s r reply t (inr (inr (k, told, left))) = fault_keeps s r k t left

@@ -1,4 +1,5 @@
--- Laws of what specs/CrashFiles.antt defines.
+-- A stop before a request on files is a stop after it: the answer of a state whose open transactions are undone is the answer
+-- of the state, with its open transactions undone.
 use Rattle.rio_requests.proofs.Common.{◌≡◌, ◌+◌, ◌*◌, ◌/◌, ◌==◌, ℕ, Bool, true, false, cond, List, [], ◌∷◌, length, refl, sym, ap, subst, ◌∙◌, inl, inr, is_none, find, nat_lt, Result, Ok, Err, range_with_len, get, Node, Dir, File, Region, State, resized, is_dir, walk, walk_to_dir, free_count, largest_size, front_of, last_of, least_free, names_in, with_new, with_node, open_inodes, region_words}
 use Rattle.std.proofs.Common.{◌||◌, not, Option, Some, None}
 use Rattle.rio_base.specs.Rules.{true_false}
@@ -11,7 +12,7 @@ use Rattle.rio_requests.specs.declared.reply.Reply.TheVariants.{Ok as Done, Numb
 use Rattle.rio_requests.specs.declared.request.Request.{Request}
 use Rattle.rio_requests.specs.declared.request.Request.TheVariants.{Mkdir, Create, Region as MakeRegion, Write, Read, Truncate, Unlink, Rmdir, Rename, Stat as StatOf, List as ListOf, Sync, Put, Alloc, Free, Abort, Txns, Wild, Arm}
 use Rattle.rio_requests.specs.Answer.{answered, at_inode, on_file, refused}
-use Rattle.rio_requests.specs.Answers.{answer_of, served_of, at_row, create, found, is_below, is_empty, is_open, list, make, make_new, make_region, make_row, mkdir, moved, new_blocks, new_region, read, read_in, region_at, region_row, rename, rename_at, rename_row, rename_to, replace_row, replaced, rmdir, rmdir_at, rmdir_node, row_wanted, stat, stat_node, truncate, truncate_in, unlink, unlink_at, unlink_node, wanted, with_room, with_size, without, write, write_file, write_in}
+use Rattle.rio_requests.specs.Answers.{answer_of, at_row, create, found, is_below, is_empty, is_open, list, make, make_new, make_region, make_row, mkdir, moved, new_blocks, new_region, read, read_in, region_at, region_row, rename, rename_at, rename_row, rename_to, replace_row, replaced, rmdir, rmdir_at, rmdir_node, row_wanted, stat, stat_node, truncate, truncate_in, unlink, unlink_at, unlink_node, wanted, with_room, with_size, without, write, write_file, write_in}
 use Rattle.rio_requests.specs.Crash.{NotOpen, OpenRegions, crashed}
 use Rattle.rio_requests.specs.Parts.{FaultStep, IsPart, LeadStep, NoneDone, PartOf, WriteDone}
 use Rattle.rio_requests.proofs.CrashRules.{Alike, LeavesOpen, crash_alike, dir_not_open, file_crashed, file_not_open, free_count_crashed, idle_not_open, is_dir_crashed, is_open_crashed, least_free_crashed, leaves_itself, leaves_new, leaves_node, leaves_replaced, leaves_without, none_not_open, replaced_crashed, still_regions, walk_crashed, walk_to_dir_crashed, with_new_crashed, with_node_crashed, without_crashed}
@@ -286,12 +287,6 @@ list_crashed s h path = files_crashed s (ListOf path) h tt
 
 -- ---- what a stop or a fault leaves of a request on files
 
--- what is served of one is its answer
-pub served_files : (s : State) (r : Request) → OnFiles r → served_of s r ≡ answer_of s r
-served_files s (Wild at value) on = absurd on
-served_files s (Arm step at value) on = absurd on
-served_files s _ on = refl
-
 -- u is what a stop leaves of such a state, which has the open transactions of s
 abbrev pub StopOf : State → (State → Type 0) → State → Type 0
 StopOf s Such u = (t : State) × Such t × (u ≡ crashed t) × LeavesOpen s t
@@ -329,4 +324,4 @@ part_by s a b r u h alike (inr (inr (k, lead))) = let part = leads_crashed s r h
 
 -- a part of the request over what a stop leaves of s is what a stop leaves of a part of it over s
 pub part_crashed : (s : State) (r : Request) → OpenRegions s → OnFiles r → (u : State) → PartOf (crashed s) (answer_beside (crashed s) (open_inodes s) r) (LeadStep (crashed s) r) u → StopOf s (IsPart s r) u
-part_crashed s r h on u part = part_by s (served_of s r) (answer_beside (crashed s) (open_inodes s) r) r u h (subst (λ a. StopsAlike s a (answer_beside (crashed s) (open_inodes s) r)) (sym (served_files s r on)) (stops_alike s r h on)) part
+part_crashed s r h on u part = part_by s (answer_of s r) (answer_beside (crashed s) (open_inodes s) r) r u h (stops_alike s r h on) part

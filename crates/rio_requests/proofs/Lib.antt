@@ -8,3 +8,4 @@ pub mod FreeInodes
 pub mod Listing
 pub mod RegionSteps
 pub mod Room
+pub mod WentRules

@@ -257,9 +257,3 @@ answer_of s Txns = txns s
 answer_of s (Flush count) = answered s Done
 answer_of s (Wild at value) = wild s at
 answer_of s (Arm step at value) = arm s at
-
--- what is served so far: wild stores are refused as bad requests
-abbrev pub served_of : State → Request → Answered
-served_of s (Wild at value) = refused s 1
-served_of s (Arm step at value) = refused s 1
-served_of s r = answer_of s r

@@ -1,5 +1,4 @@
--- A stop before a request on files is a stop after it: the answer of a state whose open transactions are undone is the answer
--- of the state, with its open transactions undone.
+-- Requests on files: those that ask for no words of a region.
 use Rattle.rio_requests.specs.declared.request.Request.{Request}
 use Rattle.rio_requests.specs.declared.request.Request.TheVariants.{Mkdir, Create, Region as MakeRegion, Write, Read, Truncate, Unlink, Rmdir, Rename, Stat as StatOf, List as ListOf}
 

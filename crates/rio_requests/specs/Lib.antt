@@ -8,3 +8,4 @@ pub mod RegionAnswers
 pub mod Requests
 pub mod Run
 pub mod Transactions
+pub mod Went

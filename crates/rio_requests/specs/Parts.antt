@@ -11,7 +11,7 @@ use Rattle.rio_requests.specs.declared.plain.Answered.{Answered}
 use Rattle.rio_requests.specs.declared.reply.Reply.TheVariants.{Number}
 use Rattle.rio_requests.specs.declared.request.Request.{Request}
 use Rattle.rio_requests.specs.declared.request.Request.TheVariants.{Write, Put, Alloc, Free, Abort, Sync, Txns, Wild, Arm}
-use Rattle.rio_requests.specs.Answers.{served_of, write}
+use Rattle.rio_requests.specs.Answers.{answer_of, write}
 use Rattle.rio_requests.specs.RegionAnswers.{RegionAnswer, put_on, with_words}
 use Rattle.rio_requests.specs.Transactions.{txn_at, with_region}
 
@@ -81,4 +81,4 @@ abbrev pub PartOf : State → Answered → (ℕ → State → Type 0) → State 
 PartOf s a leads t = (t ≡ s) ⊎ (t ≡ a.next) ⊎ ((k : ℕ) × leads k t)
 
 abbrev pub IsPart : State → Request → State → Type 0
-IsPart s r t = PartOf s (served_of s r) (LeadStep s r) t
+IsPart s r t = PartOf s (answer_of s r) (LeadStep s r) t

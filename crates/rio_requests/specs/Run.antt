@@ -5,7 +5,7 @@ use Rattle.rio_requests.specs.declared.request.Request.{Request}
 use Rattle.rio_requests.specs.declared.request.Request.TheVariants.{Sync, Range, Put, Alloc, Free, Commit, Abort, Flush, Wild, Arm}
 use Rattle.rio_requests.specs.declared.reply.Reply.{Reply}
 use Rattle.rio_requests.specs.declared.reply.Reply.TheVariants.{Err as Refused, Fault}
-use Rattle.rio_requests.specs.Answers.{served_of}
+use Rattle.rio_requests.specs.Answers.{answer_of}
 use Rattle.rio_requests.specs.Parts.{FaultStep}
 
 -- the requests that may find no memory
@@ -24,7 +24,7 @@ MayLackMemory _ = Unit {0}
 
 -- the reply is the answer
 abbrev pub Answers : State → Request → Reply → State → Type 0
-Answers s request reply t = served_of s request ≡ record { next = t; reply = Some reply }
+Answers s request reply t = answer_of s request ≡ record { next = t; reply = Some reply }
 
 -- there was no memory for it, and nothing changed
 abbrev pub LacksMemory : State → Request → Reply → State → Type 0
