@@ -1,0 +1,4 @@
+pub mod Protocol
+pub mod Answering
+pub mod ServeRun
+pub mod Asking

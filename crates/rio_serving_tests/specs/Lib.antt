@@ -1,0 +1,2 @@
+pub mod LampLaws
+pub mod Lamps

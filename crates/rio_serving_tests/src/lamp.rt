@@ -1,0 +1,114 @@
+//! A small server of lines: a lamp that lines turn on and off.
+
+ghost use Rattle.std.specs.Prelude.{◌≡◌, Bool, false};
+ghost use Rattle.rio_serving_tests.specs.Lamps.{lamp_below, lamp_protocol};
+ghost use Rattle.rio_serving_tests.specs.LampLaws.{lamp_limited, lamp_long, lamp_more, lamp_none};
+
+use request_codec::write_text;
+use rio_base::{Failed, Sink, Stopped};
+use rio_serving::Server;
+use std::alloc::{AllocError, Global};
+
+/// What a line may ask for.
+#[derive(Debug, Drop, PartialEq, Eq)]
+pub enum Switch {
+    /// Turns the lamp on, or off where it is on.
+    Turn,
+    /// Stops the lamp's machine.
+    Halt,
+}
+
+/// What it is answered.
+#[derive(Debug, Drop, PartialEq, Eq)]
+pub enum Light {
+    /// The lamp is on now.
+    On,
+    /// It is off now.
+    Off,
+    /// The line was no request.
+    Unknown,
+}
+
+/// A lamp, whose machine may be stopped.
+#[derive(Drop)]
+pub struct Lamp {
+    on: bool,
+    stopped: bool,
+}
+
+impl Lamp {
+    /// A lamp that is off.
+    pub fn new() -> Lamp
+        ensures on { result.on ≡ false }
+        ensures stopped { result.stopped ≡ false }
+    {
+        Lamp {
+            on: false,
+            stopped: false,
+        }
+    }
+}
+
+impl Server for Lamp {
+    type Request = Switch;
+
+    type Reply = Light;
+
+    ghost State = { Bool };
+
+    ghost protocol = { lamp_protocol };
+
+    ghost sound = { λ _. Unit {0} };
+
+    ghost holds = { λ x s. (x.stopped ≡ false) × (s ≡ x.on) };
+
+    ghost stands = { λ x s. s ≡ x.on };
+
+    ghost health = { λ x. record { faults = 0; stopped = x.stopped } };
+
+    ghost below = { λ _. lamp_below };
+
+    ghost long = { lamp_long };
+
+    ghost goes_none = { lamp_none };
+
+    ghost goes_more = { lamp_more };
+
+    ghost limited = { λ x most is. lamp_limited most is };
+
+    fn parse(_alloc: Global, line: &[u8]) -> Result<Option<Switch>, AllocError> {
+        match line {
+            b"turn" => Ok(Some(Switch::Turn)),
+            b"halt" => Ok(Some(Switch::Halt)),
+            _ => Ok(None),
+        }
+    }
+
+    fn answer(&mut self, _alloc: Global, request: &Switch) -> Result<Light, Stopped> {
+        match request {
+            Switch::Turn => {
+                self.on = !self.on;
+                if self.on {
+                    return Ok(Light::On);
+                }
+                Ok(Light::Off)
+            }
+            Switch::Halt => {
+                self.stopped = true;
+                Err(Stopped)
+            }
+        }
+    }
+
+    fn refusal() -> Light {
+        Light::Unknown
+    }
+
+    fn write_reply<K: Sink>(reply: &Light, _room: &mut [u8], sink: &mut K) -> Result<(), Failed> {
+        match reply {
+            Light::On => write_text(b"on\n", sink),
+            Light::Off => write_text(b"off\n", sink),
+            Light::Unknown => write_text(b"?\n", sink),
+        }
+    }
+}
