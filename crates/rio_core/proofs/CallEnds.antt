@@ -1,4 +1,4 @@
--- Laws of what specs/CallEnds.antt defines.
+-- How a call ends: with a reply, or with a part of its request done.
 use Rattle.std.specs.Prelude.{Option, Some, None}
 use Rattle.rio_core.proofs.Common.{VolumeShape, BlockWords, State, ReadsAs, Reply, Request, crashed, Marks}
 use Rattle.rio_requests.specs.Parts.{IsPart}

@@ -1,5 +1,5 @@
 -- What every call on a region's words leaves of the state, by how it ended.
-use Rattle.rio_core.proofs.Common.{◌≡◌, ℕ, ◌*◌, ◌/◌, inl, inr, Bool, Option, Some, None, Result, Ok, Err, List, refl, sym, ap, subst, ◌∙◌, arith, get, VolumeShape, BlockWords, RegionContent, RegionNode, State, Txn, IsSoundRegion, held_of, Undoes, ReadsAs, Answered, Reply, Request, served_of, crashed, FaultStep, changed, txn_at, with_region, Fits, TxnEnds, Marks, mark_of, set_mark, txn_in, region_now, TxnFail, Stopped}
+use Rattle.rio_core.proofs.Common.{◌≡◌, ℕ, ◌*◌, ◌/◌, inl, inr, Bool, Option, Some, None, Result, Ok, Err, List, refl, sym, ap, subst, ◌∙◌, arith, get, VolumeShape, BlockWords, RegionContent, RegionNode, State, Txn, IsSoundRegion, held_of, Undoes, ReadsAs, Answered, Reply, Request, answer_of, crashed, FaultStep, changed, txn_at, with_region, Fits, TxnEnds, Marks, mark_of, set_mark, txn_in, region_now, TxnFail, Stopped}
 use Rattle.rio_model.proofs.UndoRules.{undoes_refl}
 use Rattle.rio_requests.specs.declared.reply.Reply.TheVariants.{Err as RefusedBy, Fault as Faulted}
 use Rattle.rio_requests.specs.Answer.{at_inode}
@@ -70,7 +70,7 @@ mark_gone shape f g marks s path i n r c = ap (λ (ms : Marks). mark_of (set_mar
 
 -- it was done
 pub call_done : (shape : VolumeShape) (f g : BlockWords) (marks : Marks) (s : State) (path : List ℕ) (i n : ℕ) (r : RegionNode) → CalledOn shape f g marks s path i n r → (new : Marks) (m : ℕ) (request : Request) (defined : RegionNode → Option Txn → Outcome) (reply : Reply)
-    → served_of s request ≡ changed s i (defined r (txn_at s.txns i))
+    → answer_of s request ≡ changed s i (defined r (txn_at s.txns i))
     → defined r (txn_at s.txns i) ≡ defined (region_now (words_at shape f i)) (txn_in marks i (words_at shape f i))
     → DoneAs (defined (region_now (words_at shape f i)) (txn_in marks i (words_at shape f i))) new i (words_at shape g i) reply
     → Fits new i m (words_at shape g i) → IsSoundRegion n (words_at shape g i) → set_mark marks i (mark_of new i) ≡ new → CallEnds shape g new s request (Some reply)
@@ -89,7 +89,7 @@ same_held shape f g marks s path i n r c same =
     (subst (λ w. RegionHeld i w (mark_of marks i) r (txn_at s.txns i)) (sym same) (own shape f g marks s path i n r c))
 
 pub call_refused : (shape : VolumeShape) (f g : BlockWords) (marks : Marks) (s : State) (path : List ℕ) (i n : ℕ) (r : RegionNode) → CalledOn shape f g marks s path i n r → (new : Marks) (request : Request) (defined : RegionNode → Option Txn → Outcome) (number : ℕ)
-    → served_of s request ≡ changed s i (defined r (txn_at s.txns i))
+    → answer_of s request ≡ changed s i (defined r (txn_at s.txns i))
     → defined r (txn_at s.txns i) ≡ defined (region_now (words_at shape f i)) (txn_in marks i (words_at shape f i))
     → defined (region_now (words_at shape f i)) (txn_in marks i (words_at shape f i)) ≡ Err number
     → words_at shape g i ≡ words_at shape f i → new ≡ marks → CallEnds shape g new s request (Some (RefusedBy number))

@@ -5,7 +5,8 @@ pub use Rattle.std.specs.FinMap.{get}
 pub use Rattle.std.specs.Prelude.{IfOk, IsErr, IsErrOf}
 pub use Rattle.file_store.specs.Ends.{Stands}
 pub use Rattle.file_store.specs.NewRegions.{FindsRegion}
-pub use Rattle.file_store.specs.Views.{OnRegion, RestHeld}
+pub use Rattle.file_store.specs.Views.{OnRegion}
+pub use Rattle.rio_model.specs.RegionMoves.{RestHeld}
 pub use Rattle.file_store.specs.declared.failures.FileFail.{FileFail}
 pub use Rattle.file_store.specs.declared.failures.FileFail.TheVariants.{Fault, Memory, Refused}
 pub use Rattle.rio_base.specs.Blocks.{BlockWords, Seen}
@@ -29,7 +30,7 @@ pub use Rattle.rio_model.specs.declared.node.RegionNode.{RegionNode}
 pub use Rattle.rio_model.specs.declared.state.State.{State}
 pub use Rattle.rio_model.specs.declared.txn.Txn.{Txn}
 pub use Rattle.rio_requests.proofs.CrashRules.{get_undone, undone_node}
-pub use Rattle.rio_requests.specs.Answers.{served_of}
+pub use Rattle.rio_requests.specs.Answers.{answer_of}
 pub use Rattle.rio_requests.specs.Crash.{OneEach, crashed}
 pub use Rattle.rio_requests.specs.Parts.{FaultStep}
 pub use Rattle.rio_requests.specs.RegionAnswers.{abort_on, alloc_on, begin_on, commit_on, free_on, get_on, put_on, range_on}

@@ -1,14 +1,13 @@
 -- How a request on files ends, by how the call on files does over what a stop leaves of the state.
-use Rattle.rio_core.proofs.Common.{◌≡◌, ℕ, List, refl, sym, ap, subst, ◌∙◌, inl, inr, VolumeShape, Seen, Kept, State, volume_layout, LeavesInUse, Answered, Reply, Request, served_of, crashed, FaultStep, Stands, FileFail, Refused, Fault, Memory, Marks}
+use Rattle.rio_core.proofs.Common.{◌≡◌, ℕ, List, refl, sym, ap, subst, ◌∙◌, inl, inr, VolumeShape, Seen, Kept, State, volume_layout, LeavesInUse, Answered, Reply, Request, answer_of, crashed, FaultStep, Stands, FileFail, Refused, Fault, Memory, Marks}
 use Rattle.std.specs.Prelude.{Result, Ok, Err, Option, Some}
 use Rattle.rio_base.specs.declared.failures.Stopped.{Stopped as MachineStopped}
 use Rattle.rio_model.specs.Transactions.{open_inodes}
 use Rattle.rio_requests.specs.declared.reply.Reply.TheVariants.{Err as RefusedBy}
 use Rattle.rio_requests.specs.declared.request.Request.TheVariants.{Mkdir, Create, Region as MakeRegion, Write, Read, Truncate, Unlink, Rmdir, Rename, Stat as StatOf, List as ListOf}
-use Rattle.rio_requests.specs.Answers.{answer_of}
 use Rattle.rio_requests.specs.Crash.{OpenRegions}
 use Rattle.rio_requests.specs.CrashFiles.{OnFiles}
-use Rattle.rio_requests.proofs.CrashFiles.{answer_beside, fault_crashed, files_crashed, files_leave, part_crashed, served_files}
+use Rattle.rio_requests.proofs.CrashFiles.{answer_beside, fault_crashed, files_crashed, files_leave, part_crashed}
 use Rattle.rio_requests.proofs.CrashRules.{LeavesOpen, leaves_itself}
 use Rattle.rio_requests.specs.Parts.{LeadStep, PartOf}
 use Rattle.rio_requests.specs.Run.{MayLackMemory}
@@ -43,15 +42,15 @@ same_serves shape x k y j marks s serves leaves = left_serves shape x k y j mark
 answered_by : (a : Answered) (reply : Reply) → a.reply ≡ Some reply → a ≡ record { next = a.next; reply = Some reply }
 answered_by a reply is = ap (λ (r : Option Reply). record { next = a.next; reply = r }) is
 
--- what a call answers over what a stop leaves of s is what is served over s
+-- what a call answers over what a stop leaves of s is the answer over s
 same_reply : (s : State) (r : Request) (o : Option Reply) → OpenRegions s → OnFiles r → (answer_beside (crashed s) (open_inodes s) r).reply ≡ o → (answer_of s r).reply ≡ o
 same_reply s r o opened on is = sym (ap (λ (a : Answered). a.reply) (files_crashed s r opened on)) ∙ is
 
 same_next : (s : State) (r : Request) → OpenRegions s → OnFiles r → (answer_beside (crashed s) (open_inodes s) r).next ≡ crashed (answer_of s r).next
 same_next s r opened on = ap (λ (a : Answered). a.next) (files_crashed s r opened on)
 
-served_reply : (s : State) (r : Request) (reply : Reply) → OpenRegions s → OnFiles r → (answer_beside (crashed s) (open_inodes s) r).reply ≡ Some reply → served_of s r ≡ record { next = (answer_of s r).next; reply = Some reply }
-served_reply s r reply opened on is = served_files s r on ∙ answered_by (answer_of s r) reply (same_reply s r (Some reply) opened on is)
+served_reply : (s : State) (r : Request) (reply : Reply) → OpenRegions s → OnFiles r → (answer_beside (crashed s) (open_inodes s) r).reply ≡ Some reply → answer_of s r ≡ record { next = (answer_of s r).next; reply = Some reply }
+served_reply s r reply opened on is = answered_by (answer_of s r) reply (same_reply s r (Some reply) opened on is)
 
 -- a fault leaves of a request on files what a stop may leave of it
 fault_leads : (s : State) (r : Request) (k : ℕ) (u : State) → OnFiles r → FaultStep s r k u → LeadStep s r k u

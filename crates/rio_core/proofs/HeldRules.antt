@@ -1,11 +1,11 @@
 -- What a region's words say of it and of its transaction: how requests are answered over it, and what calls leave.
-use Rattle.rio_core.proofs.Common.{◌≡◌, ℕ, ◌*◌, Bool, true, false, Option, Some, None, Ok, Err, List, [], map, refl, sym, ap, subst, ◌∙◌, RegionContent, Region, RegionNode, Txn, IsSoundRegion, Dropped, Undoes, region_in, undone_node, alloc_on, begin_on, commit_on, free_on, get_on, put_on, range_on, Fits, Marks, mark_of, txn_in, region_now}
+use Rattle.rio_core.proofs.Common.{◌≡◌, ℕ, ◌*◌, Bool, true, false, Option, Some, None, Ok, Err, List, [], refl, sym, ap, subst, ◌∙◌, RegionContent, Region, RegionNode, Txn, IsSoundRegion, Dropped, Undoes, region_in, undone_node, alloc_on, begin_on, commit_on, free_on, get_on, put_on, range_on, Fits, Marks, mark_of, txn_in, region_now}
 use Rattle.std.proofs.Common.{◌+◌, length, take}
-use Rattle.std.specs.List.{range_with_len}
 use Rattle.std.proofs.lemmas.List.FromFn.{length-map-range_with_len}
-use Rattle.rio_model.specs.Heap.{OfBlocks, heap_blocks}
-use Rattle.rio_model.specs.Undo.{SameSizes, UndoRecord, before, before_by, data_from, live, map_pages, taken, undo_records}
+use Rattle.rio_model.specs.Heap.{OfBlocks}
+use Rattle.rio_model.specs.Undo.{UndoRecord, before, before_by, data_from, live, taken, undo_records}
 use Rattle.rio_model.proofs.UndoRules.{dropped_before}
+use Rattle.rio_model.proofs.RegionMoves.{in_same, node, node_same}
 use Rattle.rio_requests.specs.declared.region_answer.RegionAnswer.{RegionAnswer}
 use Rattle.rio_requests.specs.declared.reply.Reply.TheVariants.{Ok as Done}
 use Rattle.rio_requests.specs.RegionAnswers.{Outcome, undone, with_words}
@@ -16,23 +16,12 @@ use Rattle.rio_core.proofs.RegionsLaws.{IsOn, SameAnswers, mark_in}
 
 -- ---- the node that words say
 
--- a region of these sizes, by the words at its places
-abbrev node : ℕ → ℕ → (ℕ → ℕ) → RegionNode
-node undo pages words = record { words = map (λ q. words (512 * map_pages pages + q)) (range_with_len 0 (512 * pages)); undo = undo; blocks = heap_blocks words (64 * pages) }
-
-node_same : (f g : RegionContent) (l m : ℕ → ℕ) → SameSizes f g → m ≡ l → node (g 1) (g 2) m ≡ node (f 1) (f 2) l
-node_same f g l m s e = ap (λ u. node u (g 2) m) s.undo ∙ ap (λ d. node (f 1) d m) s.data_pages ∙ ap (node (f 1) (f 2)) e
-
 before_none : (w : RegionContent) → undo_records w ≡ [] → before w ≡ live w
 before_none w none = ap (λ (rs : List UndoRecord). before_by rs (live w)) none
 
 -- without an undo record it is as it was
 pub now_in : (w : RegionContent) → undo_records w ≡ [] → region_in w ≡ region_now w
 now_in w none = ap (node (w 1) (w 2)) (before_none w none)
-
--- where the words of before are as they were, so is the region
-pub in_same : (n : ℕ) (f g : RegionContent) → Undoes n f g → region_in g ≡ region_in f
-in_same n f g u = node_same f g (before f) (before g) u.sizes u.before
 
 now_long : (w : RegionContent) → length (region_now w).words ≡ 512 * w 2
 now_long w = length-map-range_with_len (λ q. live w (data_from w + q)) 0 (512 * w 2)
@@ -208,10 +197,6 @@ dooms_held i n f g true r o h u =
     )
 
 -- ---- calls that were stopped
-
--- a region is sound still where its words of before are as they were
-pub undoes_sound : (n : ℕ) (f g : RegionContent) → IsSoundRegion n f → Undoes n f g → IsSoundRegion n g
-undoes_sound n f g sound u = record { region = u.region; heap = subst (λ l. OfBlocks l (g 2)) (sym u.before) (subst (OfBlocks (before f)) (sym u.sizes.data_pages) sound.heap) }
 
 -- a commit that stopped when it was done: the region is what it was, and has no transaction
 pub dropped_held : (i n : ℕ) (f g : RegionContent) (r : RegionNode) (o : Option Txn) → RegionHeld i f (Some false) r o → Dropped n f g → (commit_on r o ≡ Ok (record { region = r; txn = None; reply = Done })) × RegionHeld i g None r None

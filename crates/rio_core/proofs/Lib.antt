@@ -1,3 +1,4 @@
+pub mod AsksRules
 pub mod CallEnds
 pub mod CallRules
 pub mod Common
@@ -15,4 +16,7 @@ pub mod RegionsLaws
 pub mod ReplyEnds
 pub mod RowRules
 pub mod Served
+pub mod ServerRules
 pub mod Standing
+pub mod WentBy
+pub mod WildStores

@@ -1,5 +1,5 @@
 -- The region at a path, looked up in what a stop leaves: it is found, or refused, as in the state itself.
-use Rattle.rio_core.proofs.Common.{◌≡◌, ◌≢◌, ℕ, ◌⊎◌, inl, inr, Bool, true, false, Option, Some, None, Ok, Err, List, [], ◌∷◌, map, refl, sym, ap, subst, ◌∙◌, arith, get, Ino, VolumeShape, BlockWords, Node, Region, RegionNode, State, Txn, Held, held_of, names_of, volume_layout, ReadsAs, region_in, Answered, Request, Begin, Range, Put, Get, Alloc, Free, Commit, Abort, served_of, OneEach, crashed, get_undone, undone_node, FaultStep, abort_on, alloc_on, begin_on, commit_on, free_on, get_on, put_on, range_on, changed, txn_at, Marks}
+use Rattle.rio_core.proofs.Common.{◌≡◌, ◌≢◌, ℕ, ◌⊎◌, inl, inr, Bool, true, false, Option, Some, None, Ok, Err, List, [], ◌∷◌, map, refl, sym, ap, subst, ◌∙◌, arith, get, Ino, VolumeShape, BlockWords, Node, Region, RegionNode, State, Txn, Held, held_of, names_of, volume_layout, ReadsAs, region_in, Answered, Request, Begin, Range, Put, Get, Alloc, Free, Commit, Abort, answer_of, OneEach, crashed, get_undone, undone_node, FaultStep, abort_on, alloc_on, begin_on, commit_on, free_on, get_on, put_on, range_on, changed, txn_at, Marks}
 use Rattle.std.proofs.Common.{zero, suc, ◌<◌, ◌≤◌, ◌==◌, cond}
 use Rattle.std.specs.Prelude.{◌&&◌, nat_le}
 use Rattle.std.proofs.lemmas.Bool.Decides.{nat_tests}
@@ -143,7 +143,7 @@ region_missed shape f marks s path c held same (inr x) go =
 at_path : (s : State) (path p : List ℕ) (c : ℕ) (go : ℕ → RegionNode → Option Txn → Answered) → p ≡ path → ((go : ℕ → RegionNode → Option Txn → Answered) → at_region s path go ≡ refused s c) → at_region s p go ≡ refused s c
 at_path s path p c go at h = ap (λ x. at_region s x go) at ∙ h go
 
-served_refused : (s : State) (path : List ℕ) (c : ℕ) (request : Request) → IsAt path request → ((go : ℕ → RegionNode → Option Txn → Answered) → at_region s path go ≡ refused s c) → served_of s request ≡ refused s c
+served_refused : (s : State) (path : List ℕ) (c : ℕ) (request : Request) → IsAt path request → ((go : ℕ → RegionNode → Option Txn → Answered) → at_region s path go ≡ refused s c) → answer_of s request ≡ refused s c
 served_refused s path c (Begin p) at h = at_path s path p c (λ i r o. changed s i (begin_on i r o)) at h
 served_refused s path c (Range p off len) at h = at_path s path p c (λ i r o. changed s i (range_on r o off len)) at h
 served_refused s path c (Put p off bytes) at h = at_path s path p c (λ i r o. changed s i (put_on r o off bytes)) at h

@@ -5,7 +5,7 @@ use Rattle.rio_model.specs.Paths.{walk}
 use Rattle.rio_model.proofs.VolumeReadRules.{reads_agree}
 use Rattle.rio_requests.specs.declared.reply.Reply.TheVariants.{Err as RefusedBy, Fault as Faulted}
 use Rattle.file_pages.proofs.OrderRules.{stands_left, stands_ready_left}
-use Rattle.file_store.specs.Views.{rest_refl}
+use Rattle.rio_model.specs.RegionMoves.{rest_refl}
 use Rattle.file_store.specs.declared.failures.FileFail.TheVariants.{Stopped}
 use Rattle.rio_core.proofs.CallEnds.{CallEnds}
 use Rattle.rio_core.specs.CallEnds.{CalledOn, IsAt, ReadsHeld, TellsAs, words_at}
@@ -30,7 +30,7 @@ stands_same shape x k y j s ready settled leaves reads = record {
 }
 
 -- nothing differs
-leaves_all : (shape : VolumeShape) (x : Seen) (k : Kept) → Ready shape x k → LeavesInUse (volume_layout shape x.words) x k x k
+pub leaves_all : (shape : VolumeShape) (x : Seen) (k : Kept) → Ready shape x k → LeavesInUse (volume_layout shape x.words) x k x k
 leaves_all shape x k h = record {
   words = record { low = λ b low w. refl; owned = λ i s own w. refl };
   standing = record { low = λ b low w. refl; owned = λ i s own w. refl };

@@ -1,5 +1,5 @@
 -- Each request on a region ends as its definition says, from what the call on the region's words tells.
-use Rattle.rio_core.proofs.Common.{◌≡◌, ℕ, ◌⊎◌, inl, inr, Bool, true, false, Option, Some, None, Result, Ok, Err, List, refl, sym, ap, subst, ◌∙◌, IfOk, IsErr, IsErrOf, VolumeShape, BlockWords, RegionNode, State, Txn, IsSoundRegion, Dropped, Undoes, Answered, Bytes, Request, Begin, Range, Put, Get, Alloc, Free, Commit, Abort, served_of, FaultStep, abort_on, alloc_on, begin_on, commit_on, free_on, get_on, put_on, range_on, changed, txn_at, with_region, Fits, IsFault, TxnEnds, says_done, says_number, Marks, mark_of, set_mark, txn_in, region_now, TxnFail, Stopped}
+use Rattle.rio_core.proofs.Common.{◌≡◌, ℕ, ◌⊎◌, inl, inr, Bool, true, false, Option, Some, None, Result, Ok, Err, List, refl, sym, ap, subst, ◌∙◌, IfOk, IsErr, IsErrOf, VolumeShape, BlockWords, RegionNode, State, Txn, IsSoundRegion, Dropped, Undoes, Answered, Bytes, Request, Begin, Range, Put, Get, Alloc, Free, Commit, Abort, answer_of, FaultStep, abort_on, alloc_on, begin_on, commit_on, free_on, get_on, put_on, range_on, changed, txn_at, with_region, Fits, IsFault, TxnEnds, says_done, says_number, Marks, mark_of, set_mark, txn_in, region_now, TxnFail, Stopped}
 use Rattle.std.proofs.Common.{take}
 use Rattle.std.specs.Prelude.{IfErr, OnOk, is_err}
 use Rattle.rio_model.proofs.UndoRules.{undoes_refl}
@@ -18,7 +18,8 @@ use Rattle.rio_core.proofs.CallEnds.{CallEnds}
 use Rattle.rio_core.specs.CallEnds.{CalledOn, ReadsHeld, begin_told, get_told, told, words_at}
 use Rattle.rio_core.specs.Regions.{RegionHeld}
 use Rattle.rio_core.proofs.CallRules.{answers, by_answer, call_done, call_failed, call_moves, call_refused, call_stopped, mark_gone, own, reached, same_held, sound_before}
-use Rattle.rio_core.proofs.HeldRules.{begin_held, begin_refused, dooms_held, dropped_held, dropped_sound, part_held, rests_held, undoes_sound}
+use Rattle.rio_core.proofs.HeldRules.{begin_held, begin_refused, dooms_held, dropped_held, dropped_sound, part_held, rests_held}
+use Rattle.rio_model.proofs.RegionMoves.{undoes_sound}
 use Rattle.rio_core.proofs.RowRules.{mark_same}
 
 -- ---- the rows of the table
@@ -49,7 +50,7 @@ range_ends shape f g marks s path i n r c new m off len answer ends fault table 
     (λ k is. failed k is (at_fault answer k _ is fault))
     (λ is. call_stopped shape f g marks s path i n r c new (Range path off len) undoes)
   where
-    served : served_of s (Range path off len) ≡ changed s i (range_on r (txn_at s.txns i) off len)
+    served : answer_of s (Range path off len) ≡ changed s i (range_on r (txn_at s.txns i) off len)
     served = reached shape f g marks s path i n r c (λ j q o. changed s j (range_on q o off len))
 
     same : range_on r (txn_at s.txns i) off len ≡ range_on (region_now (words_at shape f i)) (txn_in marks i (words_at shape f i)) off len
@@ -74,7 +75,7 @@ put_ends shape f g marks s path i n r c new m off bytes answer ends fault table 
     (λ k is. failed k (subst (λ (ms : Marks). Fits ms i m (words_at shape g i)) table (fits (λ stop. cc (is, stop)))) (at_fault answer k _ is fault))
     (λ is. call_stopped shape f g marks s path i n r c new (Put path off bytes) undoes)
   where
-    served : served_of s (Put path off bytes) ≡ changed s i (put_on r (txn_at s.txns i) off bytes)
+    served : answer_of s (Put path off bytes) ≡ changed s i (put_on r (txn_at s.txns i) off bytes)
     served = reached shape f g marks s path i n r c (λ j q o. changed s j (put_on q o off bytes))
 
     same : put_on r (txn_at s.txns i) off bytes ≡ put_on (region_now (words_at shape f i)) (txn_in marks i (words_at shape f i)) off bytes
@@ -120,7 +121,7 @@ alloc_ends shape f g marks s path i n r c new m units answer ends table doomed u
     (λ k is. call_dooms shape f g marks s path i n r c new (Alloc path units) k (λ t d. inr d) undoes (at_fault answer k _ is doomed))
     (λ is. call_stopped shape f g marks s path i n r c new (Alloc path units) undoes)
   where
-    served : served_of s (Alloc path units) ≡ changed s i (alloc_on r (txn_at s.txns i) units)
+    served : answer_of s (Alloc path units) ≡ changed s i (alloc_on r (txn_at s.txns i) units)
     served = reached shape f g marks s path i n r c (λ j q o. changed s j (alloc_on q o units))
 
     same : alloc_on r (txn_at s.txns i) units ≡ alloc_on (region_now (words_at shape f i)) (txn_in marks i (words_at shape f i)) units
@@ -139,7 +140,7 @@ free_ends shape f g marks s path i n r c new m at answer ends table doomed undoe
     (λ k is. call_dooms shape f g marks s path i n r c new (Free path at) k (λ t d. inr d) undoes (at_fault answer k _ is doomed))
     (λ is. call_stopped shape f g marks s path i n r c new (Free path at) undoes)
   where
-    served : served_of s (Free path at) ≡ changed s i (free_on r (txn_at s.txns i) at)
+    served : answer_of s (Free path at) ≡ changed s i (free_on r (txn_at s.txns i) at)
     served = reached shape f g marks s path i n r c (λ j q o. changed s j (free_on q o at))
 
     same : free_on r (txn_at s.txns i) at ≡ free_on (region_now (words_at shape f i)) (txn_in marks i (words_at shape f i)) at
@@ -158,7 +159,7 @@ abort_ends shape f g marks s path i n r c new m answer ends closed doomed undoes
     (λ k is. call_dooms shape f g marks s path i n r c new (Abort path) k (λ t d. inr d) undoes (at_fault answer k _ is doomed))
     (λ is. call_stopped shape f g marks s path i n r c new (Abort path) undoes)
   where
-    served : served_of s (Abort path) ≡ changed s i (abort_on r (txn_at s.txns i))
+    served : answer_of s (Abort path) ≡ changed s i (abort_on r (txn_at s.txns i))
     served = reached shape f g marks s path i n r c (λ j q o. changed s j (abort_on q o))
 
     same : abort_on r (txn_at s.txns i) ≡ abort_on (region_now (words_at shape f i)) (txn_in marks i (words_at shape f i))
@@ -179,7 +180,7 @@ commit_ends shape f g marks s path i n r c new m answer ends fault either closed
     (λ k is. let x = at_fault answer k _ is fault in call_failed shape f g marks s path i n r c new (Commit path) k (x.0, refl) (unchanged x.1) (subst (λ w. RegionHeld i w (mark_of marks i) r (txn_at s.txns i)) (sym x.1) (own shape f g marks s path i n r c)) (table (ap is_err is)))
     (λ is. stopped either)
   where
-    served : served_of s (Commit path) ≡ changed s i (commit_on r (txn_at s.txns i))
+    served : answer_of s (Commit path) ≡ changed s i (commit_on r (txn_at s.txns i))
     served = reached shape f g marks s path i n r c (λ j q o. changed s j (commit_on q o))
 
     same : commit_on r (txn_at s.txns i) ≡ commit_on (region_now (words_at shape f i)) (txn_in marks i (words_at shape f i))
@@ -216,7 +217,7 @@ pub get_ends : (shape : VolumeShape) (f g : BlockWords) (marks : Marks) (s : Sta
     → CallEnds shape g marks s (Get path off len) (get_told says_bytes answer)
 get_ends shape f g marks s path i n r c off len answer ok refused words = by answer ok refused
   where
-    served : served_of s (Get path off len) ≡ looked s (get_on r (txn_at s.txns i) off len)
+    served : answer_of s (Get path off len) ≡ looked s (get_on r (txn_at s.txns i) off len)
     served = reached shape f g marks s path i n r c (λ j q o. looked s (get_on q o off len))
 
     same : get_on r (txn_at s.txns i) off len ≡ get_on (region_now (words_at shape f i)) (txn_in marks i (words_at shape f i)) off len
@@ -248,7 +249,7 @@ pub begin_ends : (shape : VolumeShape) (f : BlockWords) (marks : Marks) (s : Sta
     → CallEnds shape f new s (Begin path) (begin_told Done answer)
 begin_ends shape f marks s path i n r c new answer ok busy table = by answer ok busy table
   where
-    served : served_of s (Begin path) ≡ changed s i (begin_on i r (txn_at s.txns i))
+    served : answer_of s (Begin path) ≡ changed s i (begin_on i r (txn_at s.txns i))
     served = reached shape f f marks s path i n r c (λ j q o. changed s j (begin_on j q o))
 
     held_by : (b : Option Bool) → mark_of marks i ≡ b → RegionHeld i (words_at shape f i) b r (txn_at s.txns i)

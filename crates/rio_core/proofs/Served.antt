@@ -1,5 +1,5 @@
 -- How a request ends over a running core.
-use Rattle.rio_core.proofs.Common.{◌≡◌, ◌⊎◌, ℕ, ◌*◌, false, refl, sym, ap, subst, ◌∙◌, inl, inr, List, map, IfOk, IsErr, Ino, VolumeShape, BlockWords, Seen, Kept, Settled, Reply, Request, State, served_of, crashed, volume_layout, LeavesInUse, Ready, Stands, Marks}
+use Rattle.rio_core.proofs.Common.{◌≡◌, ℕ, ◌*◌, false, refl, sym, ap, subst, ◌∙◌, inl, inr, List, map, IfOk, IsErr, Ino, VolumeShape, BlockWords, Seen, Kept, Settled, Reply, Request, State, crashed, volume_layout, LeavesInUse, Ready, Stands, Marks}
 use Rattle.std.proofs.Common.{◌+◌}
 use Rattle.std.specs.Prelude.{Result, Ok, Err, Some}
 use Rattle.rio_base.specs.declared.failures.Stopped.{Stopped as MachineStopped}
@@ -7,8 +7,8 @@ use Rattle.rio_base.specs.declared.failures.VolFail.{VolFail}
 use Rattle.rio_base.specs.declared.failures.VolFail.TheVariants.{Fault as DiskFault, Stopped as HaltFault}
 use Rattle.rio_base.specs.Blocks.{Drops, Ends, EndsBy, Health, Looks}
 use Rattle.rio_base.specs.Volume.{Below, Firm, Goes, Runs}
-use Rattle.rio_requests.specs.declared.reply.Reply.TheVariants.{Ok as Done, Inos, Err as RefusedBy, Fault as Faulted}
-use Rattle.rio_requests.specs.declared.request.Request.TheVariants.{Flush, Sync, Txns, Wild, Arm}
+use Rattle.rio_requests.specs.declared.reply.Reply.TheVariants.{Ok as Done, Inos, Fault as Faulted}
+use Rattle.rio_requests.specs.declared.request.Request.TheVariants.{Flush, Sync, Txns}
 use Rattle.rio_requests.specs.Answer.{answered}
 use Rattle.rio_requests.proofs.AnswerRules.{step_keeps}
 use Rattle.rio_requests.specs.Parts.{IsPart}
@@ -40,7 +40,7 @@ answering shape x k h b marks t y j g c new s r (Ok reply) same holds (u, step, 
     (u, step, holds_next shape x k h b marks t y j g c new s u r reply holds step (subst (λ (q : VolumeShape). Serves q y j new u) (sym same) serves) goes.runs (ends.runs (λ e. cc) ∙ holds.running))
 answering shape x k h b marks t y j g c new s r (Err e) same holds (u, part, stands) goes ends = (u, part, subst (λ (q : VolumeShape). Stands q y j (crashed u)) (sym same) stands)
 
--- ---- sync, txns, and what is not served
+-- ---- sync and txns
 
 pub synced : (shape : VolumeShape) (x : Seen) (k : Kept) (h : Health) (b : Below) (marks : Marks) (s : State) → Holds shape x k h b marks s → Answering (Holds shape x k h b marks) (λ u. Stands shape x k (crashed u)) s Sync (Ok Done)
 synced shape x k h b marks s holds = (s, inl refl, holds)
@@ -48,14 +48,6 @@ synced shape x k h b marks s holds = (s, inl refl, holds)
 pub txns_told : {E : Type 0} (shape : VolumeShape) (x : Seen) (k : Kept) (h : Health) (b : Below) (marks : Marks) (s : State) (list : Result (List Ino) E) (reply : Reply) → Holds shape x k h b marks s → IfOk list (λ l. map (λ (i : Ino). i.0) l ≡ map (λ m. m.0) marks) → TellsTxns list reply → Answering (Holds shape x k h b marks) (λ u. Stands shape x k (crashed u)) s Txns (Ok reply)
 txns_told shape x k h b marks s (Ok inos) reply holds is tells = (s, inl (ap (λ l. answered s (Inos l)) (sym (inos_open inos marks s holds.serves.regions.marked is)) ∙ ap (answered s) (sym tells)), holds)
 txns_told shape x k h b marks s (Err e) reply holds is tells = (s, inr (inl (tt, tells, refl)), holds)
-
--- a wild store, now or armed
-abbrev pub IsWild : Request → Type 0
-IsWild r = ((at : ℕ) × (value : ℕ) × (r ≡ Wild at value)) ⊎ ((step : ℕ) × (at : ℕ) × (value : ℕ) × (r ≡ Arm step at value))
-
-pub wild_refused : (shape : VolumeShape) (x : Seen) (k : Kept) (h : Health) (b : Below) (marks : Marks) (s : State) (r : Request) → IsWild r → Holds shape x k h b marks s → Answering (Holds shape x k h b marks) (λ u. Stands shape x k (crashed u)) s r (Ok (RefusedBy 1))
-wild_refused shape x k h b marks s r (inl (at, value, is)) holds = (s, inl (ap (served_of s) is), holds)
-wild_refused shape x k h b marks s r (inr (step, at, value, is)) holds = (s, inl (ap (served_of s) is), holds)
 
 -- ---- flush
 

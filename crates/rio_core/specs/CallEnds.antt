@@ -24,7 +24,7 @@ use Rattle.vista_region.specs.declared.failures.GetFail.TheVariants.{Doomed as G
 use Rattle.vista_region.specs.declared.failures.BeginFail.{BeginFail}
 use Rattle.vista_region.specs.declared.failures.BeginFail.TheVariants.{Busy, Memory as BeginMemory}
 use Rattle.rio_core.specs.Regions.{RegionsHeld}
-use Rattle.file_store.specs.Views.{RestHeld}
+use Rattle.rio_model.specs.RegionMoves.{RestHeld}
 
 -- the words that inode i holds
 abbrev pub words_at : VolumeShape → BlockWords → ℕ → ℕ → ℕ

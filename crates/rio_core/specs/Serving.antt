@@ -14,9 +14,10 @@ use Rattle.rio_requests.specs.Run.{Step}
 use Rattle.rio_requests.specs.declared.reply.Reply.{Reply}
 use Rattle.rio_requests.specs.declared.reply.Reply.TheVariants.{Fault}
 use Rattle.rio_requests.specs.declared.request.Request.{Request}
-use Rattle.rio_requests.specs.declared.request.Request.TheVariants.{Flush}
 use Rattle.file_store.specs.Ends.{Stands}
 use Rattle.vista_region.specs.Marks.{Marks}
+use Rattle.rio_serving.specs.Answering.{Answering as Answers}
+use Rattle.rio_core.specs.Lines.{core_protocol}
 use Rattle.rio_core.specs.Regions.{RegionsHeld}
 
 -- ---- a running core
@@ -46,13 +47,7 @@ abbrev pub TellsFault : Result Reply MachineStopped → Type 0
 TellsFault (Ok (Fault done)) = Unit {0}
 TellsFault _ = ⊥
 
--- any request but a flush
-abbrev pub NoFlush : Request → Type 0
-NoFlush (Flush count) = ⊥
-NoFlush _ = Unit {0}
-
 -- how a request ends that a server of state s answers. `holds` and `stands` tell of the server afterwards which state it
 -- holds, and where it is stopped which state stands
 abbrev pub Answering : (State → Type 0) → (State → Type 0) → State → Request → Result Reply MachineStopped → Type 0
-Answering holds stands s r (Ok reply) = (t : State) × Step s (Some r) reply t × holds t
-Answering holds stands s r (Err stopped) = (t : State) × IsPart s r t × stands t
+Answering holds stands s r answer = Answers core_protocol holds stands s r answer

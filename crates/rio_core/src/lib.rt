@@ -2,10 +2,10 @@
 #![tactic(auto)]
 
 mod answering;
+mod lines;
 mod regions;
 mod replies;
 mod running_core;
 mod server;
 
 pub use running_core::{Core, answer_one};
-pub use server::Server;

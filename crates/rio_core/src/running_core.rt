@@ -1,28 +1,33 @@
 //! The running core: a cache on a machine, and what is kept of the state that its blocks read as.
 
-ghost use Rattle.std.specs.Prelude.{◌≡◌, [], ℕ, Ok, IsErr, IfErr, IfOk};
+ghost use Rattle.std.specs.Prelude.{◌≡◌, ◌+◌, ◌<◌, ◌≤◌, ◌^◌, [], ◌∷◌, ℕ, Some, Ok, IsErr, IfErr, IfOk, MatchOption, OnErr};
+ghost use Rattle.rio_base.specs.Machine.{after_wild};
+ghost use Rattle.rio_base.specs.declared.wild.Wild.TheVariants.{Changed};
 ghost use Rattle.rio_base.specs.Blocks.{EndsBy};
 ghost use Rattle.rio_base.specs.Volume.{Quiet, Runs};
 ghost use Rattle.rio_requests.specs.Requests.{IsRequest};
-ghost use Rattle.rio_requests.specs.declared.request.Request.TheVariants.{Flush, Sync};
+ghost use Rattle.rio_requests.specs.declared.request.Request.TheVariants.{Arm, Flush, Sync, Txns, Wild};
+ghost use Rattle.rio_requests.specs.Went.{NoFlush, StoppedOn, Went};
 ghost use Rattle.rio_requests.specs.declared.reply.Reply.TheVariants.{Ok as Done};
 ghost use Rattle.rio_model.specs.declared.state.State.{State};
 ghost use Rattle.rio_requests.specs.Crash.{crashed};
 ghost use Rattle.file_store.specs.Ends.{Stands};
 ghost use Rattle.page_cache.specs.Caches.{Tells};
 ghost use Rattle.write_back.specs.Flushing.{Flushed};
-ghost use Rattle.rio_core.specs.Serving.{Answering, Holds, NoFlush, TellsFault};
+ghost use Rattle.rio_core.specs.Serving.{Answering, Holds, TellsFault};
 
 use crate::answering::answer_on;
 use crate::regions::answer_region;
-use crate::replies::{BAD_REQUEST, txns_reply};
-use crate::server::Server;
+use crate::replies::txns_reply;
 use file_store::RegionView;
 use page_cache::PageCache;
-use rio_base::{Blocks, Machine, Stopped, VolFail, Volume, VolumeShape};
+use rio_base::{Blocks, Machine, Stopped, VolFail, Volume, VolumeShape, Wild as StoreEnd, WordAt};
 use rio_requests::{Reply, Request};
 use std::alloc::{AllocError, Global};
 use vista_region::OpenTable;
+
+/// The number of the reply to a place that memory does not have.
+const OUT_OF_RANGE: u8 = 19;
 
 /// A cache that holds a state, seen through a view of one region's words at a time, and the table of the open transactions.
 pub struct Core<M> {
@@ -52,9 +57,10 @@ impl<M: Machine> Core<M> {
         }
     }
 
-    /// The machine, taken back. Memory and disk stand for what the core's blocks stand for, also after a stop.
+    /// The machine, taken back as it is. Memory and disk stand for what the core's blocks stand for, also after a stop.
     pub fn into_machine(self) -> M
         requires sound { ⟦<PageCache<M> as Blocks>⟧.sound self.view.v }
+        ensures machine { result ≡ self.view.v.machine }
         ensures tells { Tells (M.contents result) (M.run result) (⟦<PageCache<M> as Blocks>⟧.seen self.view.v) (⟦<PageCache<M> as Blocks>⟧.health self.view.v) (⟦<PageCache<M> as Volume>⟧.below self.view.v) (⟦<PageCache<M> as Volume>⟧.kept self.view.v) }
     {
         let Core { view, table: _ } = self;
@@ -62,9 +68,9 @@ impl<M: Machine> Core<M> {
     }
 }
 
-/// Answers a request; wild stores are refused as bad ones. A reply `err 30` comes only where the disk failed in this call,
-/// and `Stopped` only where the machine is stopped afterwards. With a frame for each block no request but a flush writes to
-/// the disk.
+/// Answers a request. A reply `err 30` comes only where the disk failed in this call, and `Stopped` only where the machine is
+/// stopped afterwards: by a stop that it was given, by the armed store, or by the request itself, if that is a wild store on
+/// a protected word. With a frame for each block no request but a flush writes to the disk.
 pub fn answer_one<M: Machine>(
     alloc: Global,
     core: &mut Core<M>,
@@ -74,10 +80,14 @@ pub fn answer_one<M: Machine>(
     requires holds { (s : State) × Holds core.old.view.shape (⟦<PageCache<M> as Blocks>⟧.seen core.old.view.v) (⟦<PageCache<M> as Volume>⟧.kept core.old.view.v) (⟦<PageCache<M> as Blocks>⟧.health core.old.view.v) (⟦<PageCache<M> as Volume>⟧.below core.old.view.v) core.old.table s }
     requires request { IsRequest request.now }
     ensures answered { (s : State) → Holds core.old.view.shape (⟦<PageCache<M> as Blocks>⟧.seen core.old.view.v) (⟦<PageCache<M> as Volume>⟧.kept core.old.view.v) (⟦<PageCache<M> as Blocks>⟧.health core.old.view.v) (⟦<PageCache<M> as Volume>⟧.below core.old.view.v) core.old.table s → Answering (Holds core.new.view.shape (⟦<PageCache<M> as Blocks>⟧.seen core.new.view.v) (⟦<PageCache<M> as Volume>⟧.kept core.new.view.v) (⟦<PageCache<M> as Blocks>⟧.health core.new.view.v) (⟦<PageCache<M> as Volume>⟧.below core.new.view.v) core.new.table) (λ t. Stands core.new.view.shape (⟦<PageCache<M> as Blocks>⟧.seen core.new.view.v) (⟦<PageCache<M> as Volume>⟧.kept core.new.view.v) (crashed t)) s request.now result }
+    ensures went { IfOk result (λ reply. Went (Some request.now ∷ []) (reply ∷ []) (⟦<PageCache<M> as Blocks>⟧.health core.old.view.v) (⟦<PageCache<M> as Volume>⟧.below core.old.view.v) (⟦<PageCache<M> as Blocks>⟧.health core.new.view.v) (⟦<PageCache<M> as Volume>⟧.below core.new.view.v)) }
+    ensures stopped_on { OnErr result (StoppedOn request.now (⟦<PageCache<M> as Blocks>⟧.health core.old.view.v) (⟦<PageCache<M> as Volume>⟧.below core.old.view.v) (⟦<PageCache<M> as Blocks>⟧.health core.new.view.v) (⟦<PageCache<M> as Volume>⟧.below core.new.view.v)) }
     ensures sync { request.now ≡ Sync → (result ≡ Ok Done) × (core.new ≡ core.old) }
+    ensures txns { request.now ≡ Txns → (reply : Reply) × (result ≡ Ok reply) × (core.new ≡ core.old) }
     ensures flushed { (count : ℕ) → request.now ≡ Flush count → result ≡ Ok Done → (j : ℕ) × Flushed count j (M.contents core.old.view.v.machine) (M.contents core.new.view.v.machine) }
+    ensures struck { (at value : ℕ) → request.now ≡ Wild at value → result ≡ Ok Done → (M.contents core.new.view.v.machine ≡ M.contents core.old.view.v.machine) × (M.run core.new.view.v.machine ≡ after_wild Changed at value (M.run core.old.view.v.machine)) }
+    ensures armed { (step at value : ℕ) → request.now ≡ Arm step at value → result ≡ Ok Done → (M.contents core.new.view.v.machine ≡ M.contents core.old.view.v.machine) × (M.run core.new.view.v.machine ≡ record (M.run core.old.view.v.machine) { armed = Some at }) }
     ensures quiet { NoFlush request.now → Quiet (⟦<PageCache<M> as Volume>⟧.below core.old.view.v) (⟦<PageCache<M> as Volume>⟧.below core.new.view.v) }
-    ensures runs { Runs (⟦<PageCache<M> as Blocks>⟧.health core.old.view.v) (⟦<PageCache<M> as Volume>⟧.below core.old.view.v) (⟦<PageCache<M> as Blocks>⟧.health core.new.view.v) (⟦<PageCache<M> as Volume>⟧.below core.new.view.v) }
     ensures ends { EndsBy (⟦<PageCache<M> as Blocks>⟧.health core.old.view.v) (⟦<PageCache<M> as Blocks>⟧.health core.new.view.v) (TellsFault result) (IsErr result) }
     ensures sound { ⟦<PageCache<M> as Blocks>⟧.sound core.new.view.v }
 {
@@ -85,7 +95,8 @@ pub fn answer_one<M: Machine>(
         Request::Sync => Ok(Reply::Ok),
         Request::Txns => Ok(txns_reply(core.table.open_list(alloc))),
         Request::Flush { count } => flush_core(core, *count),
-        Request::Wild { .. } | Request::Arm { .. } => Ok(Reply::Err(BAD_REQUEST)),
+        Request::Wild { at, value } => strike(core, *at, *value),
+        Request::Arm { step, at, value } => Ok(arm_store(core, *step, *at, *value)),
         Request::Begin { path }
         | Request::Range { path, .. }
         | Request::Put { path, .. }
@@ -141,20 +152,64 @@ fn flush_core<M: Machine>(core: &mut Core<M>, count: u64) -> Result<Reply, Stopp
     }
 }
 
-impl<M: Machine> Server for Core<M> {
-    ghost sound = { λ x. ⟦<PageCache<M> as Blocks>⟧.sound x.view.v };
-
-    ghost holds = { λ x. Holds x.view.shape (⟦<PageCache<M> as Blocks>⟧.seen x.view.v) (⟦<PageCache<M> as Volume>⟧.kept x.view.v) (⟦<PageCache<M> as Blocks>⟧.health x.view.v) (⟦<PageCache<M> as Volume>⟧.below x.view.v) x.table };
-
-    ghost stands = { λ x t. Stands x.view.shape (⟦<PageCache<M> as Blocks>⟧.seen x.view.v) (⟦<PageCache<M> as Volume>⟧.kept x.view.v) (crashed t) };
-
-    ghost health = { λ x. ⟦<PageCache<M> as Blocks>⟧.health x.view.v };
-
-    ghost below = { λ x. ⟦<PageCache<M> as Volume>⟧.below x.view.v };
-
-    ghost limited = { λ x most e. M.limited x.view.v.machine most e };
-
-    fn answer(&mut self, alloc: Global, request: &Request) -> Result<Reply, Stopped> {
-        answer_one(alloc, self, request)
+/// Makes a wild store now. On a protected word it traps, which stops the machine, and there is no reply.
+fn strike<M: Machine>(core: &mut Core<M>, at: u64, value: u64) -> Result<Reply, Stopped>
+    requires sound { ⟦<PageCache<M> as Blocks>⟧.sound core.old.view.v }
+    requires holds { (s : State) × Holds core.old.view.shape (⟦<PageCache<M> as Blocks>⟧.seen core.old.view.v) (⟦<PageCache<M> as Volume>⟧.kept core.old.view.v) (⟦<PageCache<M> as Blocks>⟧.health core.old.view.v) (⟦<PageCache<M> as Volume>⟧.below core.old.view.v) core.old.table s }
+    ensures answered { (s : State) → Holds core.old.view.shape (⟦<PageCache<M> as Blocks>⟧.seen core.old.view.v) (⟦<PageCache<M> as Volume>⟧.kept core.old.view.v) (⟦<PageCache<M> as Blocks>⟧.health core.old.view.v) (⟦<PageCache<M> as Volume>⟧.below core.old.view.v) core.old.table s → Answering (Holds core.new.view.shape (⟦<PageCache<M> as Blocks>⟧.seen core.new.view.v) (⟦<PageCache<M> as Volume>⟧.kept core.new.view.v) (⟦<PageCache<M> as Blocks>⟧.health core.new.view.v) (⟦<PageCache<M> as Volume>⟧.below core.new.view.v) core.new.table) (λ t. Stands core.new.view.shape (⟦<PageCache<M> as Blocks>⟧.seen core.new.view.v) (⟦<PageCache<M> as Volume>⟧.kept core.new.view.v) (crashed t)) s (Wild at value) result }
+    ensures went { IfOk result (λ reply. Went (Some (Wild at value) ∷ []) (reply ∷ []) (⟦<PageCache<M> as Blocks>⟧.health core.old.view.v) (⟦<PageCache<M> as Volume>⟧.below core.old.view.v) (⟦<PageCache<M> as Blocks>⟧.health core.new.view.v) (⟦<PageCache<M> as Volume>⟧.below core.new.view.v)) }
+    ensures stopped_on { OnErr result (StoppedOn (Wild at value) (⟦<PageCache<M> as Blocks>⟧.health core.old.view.v) (⟦<PageCache<M> as Volume>⟧.below core.old.view.v) (⟦<PageCache<M> as Blocks>⟧.health core.new.view.v) (⟦<PageCache<M> as Volume>⟧.below core.new.view.v)) }
+    ensures struck { result ≡ Ok Done → (M.contents core.new.view.v.machine ≡ M.contents core.old.view.v.machine) × (M.run core.new.view.v.machine ≡ after_wild Changed at value (M.run core.old.view.v.machine)) }
+    ensures quiet { Quiet (⟦<PageCache<M> as Volume>⟧.below core.old.view.v) (⟦<PageCache<M> as Volume>⟧.below core.new.view.v) }
+    ensures ends { EndsBy (⟦<PageCache<M> as Blocks>⟧.health core.old.view.v) (⟦<PageCache<M> as Blocks>⟧.health core.new.view.v) (TellsFault result) (IsErr result) }
+    ensures sound { ⟦<PageCache<M> as Blocks>⟧.sound core.new.view.v }
+{
+    let Some(place) = place_in(&core.view.v, at) else {
+        return Ok(Reply::Err(OUT_OF_RANGE));
+    };
+    match core.view.v.wild(place, value) {
+        StoreEnd::Trapped => Err(Stopped),
+        StoreEnd::Changed => Ok(Reply::Ok),
+        // No page is open between two calls.
+        StoreEnd::Spared => unreachable!(),
     }
+}
+
+/// Arms a wild store, to fall after so many further steps, in place of one that is armed already.
+fn arm_store<M: Machine>(core: &mut Core<M>, step: u64, at: u64, value: u64) -> Reply
+    requires sound { ⟦<PageCache<M> as Blocks>⟧.sound core.old.view.v }
+    requires holds { (s : State) × Holds core.old.view.shape (⟦<PageCache<M> as Blocks>⟧.seen core.old.view.v) (⟦<PageCache<M> as Volume>⟧.kept core.old.view.v) (⟦<PageCache<M> as Blocks>⟧.health core.old.view.v) (⟦<PageCache<M> as Volume>⟧.below core.old.view.v) core.old.table s }
+    ensures answered { (s : State) → Holds core.old.view.shape (⟦<PageCache<M> as Blocks>⟧.seen core.old.view.v) (⟦<PageCache<M> as Volume>⟧.kept core.old.view.v) (⟦<PageCache<M> as Blocks>⟧.health core.old.view.v) (⟦<PageCache<M> as Volume>⟧.below core.old.view.v) core.old.table s → Answering (Holds core.new.view.shape (⟦<PageCache<M> as Blocks>⟧.seen core.new.view.v) (⟦<PageCache<M> as Volume>⟧.kept core.new.view.v) (⟦<PageCache<M> as Blocks>⟧.health core.new.view.v) (⟦<PageCache<M> as Volume>⟧.below core.new.view.v) core.new.table) (λ t. Stands core.new.view.shape (⟦<PageCache<M> as Blocks>⟧.seen core.new.view.v) (⟦<PageCache<M> as Volume>⟧.kept core.new.view.v) (crashed t)) s (Arm step at value) (Ok result) }
+    ensures went { Went (Some (Arm step at value) ∷ []) (result ∷ []) (⟦<PageCache<M> as Blocks>⟧.health core.old.view.v) (⟦<PageCache<M> as Volume>⟧.below core.old.view.v) (⟦<PageCache<M> as Blocks>⟧.health core.new.view.v) (⟦<PageCache<M> as Volume>⟧.below core.new.view.v) }
+    ensures armed { result ≡ Done → (M.contents core.new.view.v.machine ≡ M.contents core.old.view.v.machine) × (M.run core.new.view.v.machine ≡ record (M.run core.old.view.v.machine) { armed = Some at }) }
+    ensures quiet { Quiet (⟦<PageCache<M> as Volume>⟧.below core.old.view.v) (⟦<PageCache<M> as Volume>⟧.below core.new.view.v) }
+    ensures health { ⟦<PageCache<M> as Blocks>⟧.health core.new.view.v ≡ ⟦<PageCache<M> as Blocks>⟧.health core.old.view.v }
+    ensures sound { ⟦<PageCache<M> as Blocks>⟧.sound core.new.view.v }
+{
+    let Some(place) = place_in(&core.view.v, at) else {
+        return Reply::Err(OUT_OF_RANGE);
+    };
+    core.view.v.arm(step, place, value);
+    Reply::Ok
+}
+
+/// The word of memory at a place, or `None` where memory has no such word.
+fn place_in<M: Machine>(cache: &PageCache<M>, at: u64) -> Option<WordAt>
+    requires { ⟦<PageCache<M> as Blocks>⟧.sound cache.now }
+    ensures { MatchOption result ((⟦<PageCache<M> as Volume>⟧.below cache.now).memory.protected + (⟦<PageCache<M> as Volume>⟧.below cache.now).memory.scratch ≤ at) (λ place. (place.0 ≡ at) × (at < (⟦<PageCache<M> as Volume>⟧.below cache.now).memory.protected + (⟦<PageCache<M> as Volume>⟧.below cache.now).memory.scratch)) }
+{
+    if at < words_in(cache) {
+        Some(WordAt(at as u32))
+    } else {
+        None
+    }
+}
+
+/// How many words memory has.
+fn words_in<M: Machine>(cache: &PageCache<M>) -> u64
+    requires { ⟦<PageCache<M> as Blocks>⟧.sound cache.now }
+    ensures words { result ≡ (⟦<PageCache<M> as Volume>⟧.below cache.now).memory.protected + (⟦<PageCache<M> as Volume>⟧.below cache.now).memory.scratch }
+    ensures small { result < 2 ^ 32 }
+{
+    512 * cache.machine().pages() as u64
 }

@@ -1,44 +1,63 @@
-//! What a served run asks of the core that answers its requests.
+//! The running core as a server of lines.
 
-ghost use Rattle.std.specs.Prelude.{◌≡◌, ◌≤◌, ℕ, Some, IsErr};
-ghost use Rattle.rio_base.specs.Blocks.{EndsBy, Health};
-ghost use Rattle.rio_base.specs.Volume.{Below, Runs};
-ghost use Rattle.rio_requests.specs.Requests.{IsRequest};
-ghost use Rattle.rio_model.specs.declared.state.State.{State};
-ghost use Rattle.rio_core.specs.Serving.{Answering, TellsFault};
+ghost use Rattle.rio_model.specs.declared.state.State.{State as StateOf};
+ghost use Rattle.rio_requests.specs.Crash.{crashed};
+ghost use Rattle.rio_requests.proofs.WentRules.{went_more, went_none};
+ghost use Rattle.file_store.specs.Ends.{Stands};
+ghost use Rattle.rio_core.specs.LineLaws.{asks_none};
+ghost use Rattle.rio_core.specs.Lines.{core_protocol};
+ghost use Rattle.rio_core.specs.Serving.{Holds};
 
-use rio_base::Stopped;
+use crate::lines::request_of;
+use crate::replies::BAD_REQUEST;
+use crate::running_core::{Core, answer_one};
+use page_cache::PageCache;
+use request_codec::write_reply_in;
+use rio_base::{Blocks, Failed, Machine, Sink, Stopped, Volume};
 use rio_requests::{Reply, Request};
-use std::alloc::Global;
+use rio_serving::Server;
+use std::alloc::{AllocError, Global};
 
-/// What answers requests one after another, from a state that it holds.
-pub trait Server {
-    /// It keeps its own rules.
-    ghost sound: { Self → Type 0 };
+impl<M: Machine> Server for Core<M> {
+    type Request = Request;
 
-    /// It runs, and this is the state that it serves.
-    ghost holds: { Self → State → Type 0 };
+    type Reply = Reply;
 
-    /// This is the state that stands: what a warm reboot finds.
-    ghost stands: { Self → State → Type 0 };
+    ghost State = { StateOf };
 
-    /// The faults of its disk so far, and whether its machine is stopped.
-    ghost health: { Self → Health };
+    ghost protocol = { core_protocol };
 
-    /// Its machine: its disk, its count of writes, and why it may stop.
-    ghost below: { Self → Below };
+    ghost sound = { λ x. ⟦<PageCache<M> as Blocks>⟧.sound x.view.v };
 
-    /// Answers a request. A reply `err 30` comes only where the disk failed in this call, and `Stopped` only where the
-    /// machine is stopped afterwards.
-    fn answer(&mut self, alloc: Global, request: &Request) -> Result<Reply, Stopped>
-        requires sound { sound self.old }
-        requires holds { (s : State) × holds self.old s }
-        requires request { IsRequest request.now }
-        ensures answered { (s : State) → holds self.old s → Answering (holds self.new) (stands self.new) s request.now result }
-        ensures runs { Runs (health self.old) (below self.old) (health self.new) (below self.new) }
-        ensures ends { EndsBy (health self.old) (health self.new) (TellsFault result) (IsErr result) }
-        ensures sound { sound self.new };
+    ghost holds = { λ x. Holds x.view.shape (⟦<PageCache<M> as Blocks>⟧.seen x.view.v) (⟦<PageCache<M> as Volume>⟧.kept x.view.v) (⟦<PageCache<M> as Blocks>⟧.health x.view.v) (⟦<PageCache<M> as Volume>⟧.below x.view.v) x.table };
 
-    /// No more calls of the disk failed than can, where it is told how many can.
-    ghost limited: { (x : Self) (most : ℕ) → (below x).limit ≡ Some most → (health x).faults ≤ most };
+    ghost stands = { λ x t. Stands x.view.shape (⟦<PageCache<M> as Blocks>⟧.seen x.view.v) (⟦<PageCache<M> as Volume>⟧.kept x.view.v) (crashed t) };
+
+    ghost health = { λ x. ⟦<PageCache<M> as Blocks>⟧.health x.view.v };
+
+    ghost below = { λ x. ⟦<PageCache<M> as Volume>⟧.below x.view.v };
+
+    ghost long = { asks_none };
+
+    ghost goes_none = { went_none };
+
+    ghost goes_more = { went_more };
+
+    ghost limited = { λ x most e. M.limited x.view.v.machine most e };
+
+    fn parse(alloc: Global, line: &[u8]) -> Result<Option<Request>, AllocError> {
+        request_of(alloc, line)
+    }
+
+    fn answer(&mut self, alloc: Global, request: &Request) -> Result<Reply, Stopped> {
+        answer_one(alloc, self, request)
+    }
+
+    fn refusal() -> Reply {
+        Reply::Err(BAD_REQUEST)
+    }
+
+    fn write_reply<K: Sink>(reply: &Reply, room: &mut [u8], sink: &mut K) -> Result<(), Failed> {
+        write_reply_in(reply, room, sink)
+    }
 }

@@ -2,7 +2,9 @@ use Rattle.rio_core.proofs.Common.{Ok, sym, subst, refl, crashed, Stands}
 use Rattle.rio_requests.specs.declared.reply.Reply.TheVariants.{Ok as Done}
 use Rattle.page_cache.specs.Caches.{cache_below, cache_health, cache_kept, cache_seen}
 use Rattle.rio_core.specs.Serving.{Answering, Holds}
-use Rattle.rio_core.proofs.Served.{answering, synced, txns_told, wild_refused}
+use Rattle.rio_core.proofs.Served.{answering, synced, txns_told}
+use Rattle.rio_core.proofs.WentBy.{file_forms, region_forms, stopped_on, went_on, went_sync, went_txns}
+use Rattle.rio_requests.specs.Went.{MakesSteps, NoFlush}
 use Rattle.rio_core.proofs.running_core.answer_one.Goals as goal
 
 pub returns-in-Sync-clause-answered : goal.returns-in-Sync-clause-answered
@@ -70,12 +72,100 @@ returns-in-Flush-clause-answered g c =
     let d = cache_below (g.M.Machine.contents n.view.v.machine) (g.M.Machine.run n.view.v.machine) in
     λ s holds. subst (λ r. Answering (Holds n.view.shape y j e d n.table) (λ u. Stands n.view.shape y j (crashed u)) s r c.flush_core.result) (sym c.in-Flush.is) (c.flush_core.ensures.answered s holds)
 
-pub returns-in-Wild-clause-answered : goal.returns-in-Wild-clause-answered
-returns-in-Wild-clause-answered g c =
-    let shape = c.args.core.now.view.shape in
+pub returns-in-Sync-clause-went : goal.returns-in-Sync-clause-went
+returns-in-Sync-clause-went g c =
     let m = c.args.core.now.view.v.machine in
-    let x = cache_seen (g.M.Machine.contents m) in
-    let k = cache_kept (g.M.Machine.contents m) c.args.core.now.view.v.tables in
     let h = cache_health (g.M.Machine.contents m) (g.M.Machine.run m) in
     let b = cache_below (g.M.Machine.contents m) (g.M.Machine.run m) in
-    λ s holds. wild_refused shape x k h b c.args.core.now.table s c.args.request.now c.in-Wild.is holds
+    went_sync c.args.request.now h b c.in-Sync.is
+
+pub returns-in-Txns-clause-went : goal.returns-in-Txns-clause-went
+returns-in-Txns-clause-went g c =
+    let m = c.args.core.now.view.v.machine in
+    let h = cache_health (g.M.Machine.contents m) (g.M.Machine.run m) in
+    let b = cache_below (g.M.Machine.contents m) (g.M.Machine.run m) in
+    went_txns c.args.request.now h b c.open_list.result c.txns_reply.result c.in-Txns.is c.txns_reply.ensures
+
+pub returns-in-Begin-clause-went : goal.returns-in-Begin-clause-went
+returns-in-Begin-clause-went g c =
+    let m = c.args.core.now.view.v.machine in
+    let h = cache_health (g.M.Machine.contents m) (g.M.Machine.run m) in
+    let b = cache_below (g.M.Machine.contents m) (g.M.Machine.run m) in
+    let n = c.answer_region.new.view.v.machine in
+    let e = cache_health (g.M.Machine.contents n) (g.M.Machine.run n) in
+    let d = cache_below (g.M.Machine.contents n) (g.M.Machine.run n) in
+    let call = c.answer_region.ensures in
+    went_on c.args.request.now c.answer_region.result h b e d (region_forms c.in-Begin.path c.args.request.now c.in-Begin.is) call.goes.runs (λ none. call.goes.quiet) call.ends
+
+pub returns-in-Begin-clause-stopped_on : goal.returns-in-Begin-clause-stopped_on
+returns-in-Begin-clause-stopped_on g c =
+    let m = c.args.core.now.view.v.machine in
+    let h = cache_health (g.M.Machine.contents m) (g.M.Machine.run m) in
+    let b = cache_below (g.M.Machine.contents m) (g.M.Machine.run m) in
+    let n = c.answer_region.new.view.v.machine in
+    let e = cache_health (g.M.Machine.contents n) (g.M.Machine.run n) in
+    let d = cache_below (g.M.Machine.contents n) (g.M.Machine.run n) in
+    let call = c.answer_region.ensures in
+    stopped_on c.args.request.now c.answer_region.result h b e d (region_forms c.in-Begin.path c.args.request.now c.in-Begin.is) c.requires.holds.1.running call.goes.runs (λ none. call.goes.quiet) call.ends
+
+pub returns-in-Mkdir-clause-went : goal.returns-in-Mkdir-clause-went
+returns-in-Mkdir-clause-went g c =
+    let m = c.args.core.now.view.v.machine in
+    let h = cache_health (g.M.Machine.contents m) (g.M.Machine.run m) in
+    let b = cache_below (g.M.Machine.contents m) (g.M.Machine.run m) in
+    let n = c.answer_on.new.v.machine in
+    let e = cache_health (g.M.Machine.contents n) (g.M.Machine.run n) in
+    let d = cache_below (g.M.Machine.contents n) (g.M.Machine.run n) in
+    let call = c.answer_on.ensures in
+    went_on c.args.request.now c.answer_on.result h b e d (file_forms c.args.request.now c.in-Mkdir.is) call.goes.runs (λ none. call.goes.quiet) call.ends
+
+pub returns-in-Mkdir-clause-stopped_on : goal.returns-in-Mkdir-clause-stopped_on
+returns-in-Mkdir-clause-stopped_on g c =
+    let m = c.args.core.now.view.v.machine in
+    let h = cache_health (g.M.Machine.contents m) (g.M.Machine.run m) in
+    let b = cache_below (g.M.Machine.contents m) (g.M.Machine.run m) in
+    let n = c.answer_on.new.v.machine in
+    let e = cache_health (g.M.Machine.contents n) (g.M.Machine.run n) in
+    let d = cache_below (g.M.Machine.contents n) (g.M.Machine.run n) in
+    let call = c.answer_on.ensures in
+    stopped_on c.args.request.now c.answer_on.result h b e d (file_forms c.args.request.now c.in-Mkdir.is) c.requires.holds.1.running call.goes.runs (λ none. call.goes.quiet) call.ends
+
+pub returns-in-Flush-clause-went : goal.returns-in-Flush-clause-went
+returns-in-Flush-clause-went g c =
+    let m = c.args.core.now.view.v.machine in
+    let h = cache_health (g.M.Machine.contents m) (g.M.Machine.run m) in
+    let b = cache_below (g.M.Machine.contents m) (g.M.Machine.run m) in
+    let n = c.flush_core.new.core.view.v.machine in
+    let e = cache_health (g.M.Machine.contents n) (g.M.Machine.run n) in
+    let d = cache_below (g.M.Machine.contents n) (g.M.Machine.run n) in
+    let call = c.flush_core.ensures in
+    went_on c.args.request.now c.flush_core.result h b e d (subst MakesSteps (sym c.in-Flush.is) tt) call.runs (λ none. absurd (subst NoFlush c.in-Flush.is none)) call.ends
+
+pub returns-in-Flush-clause-stopped_on : goal.returns-in-Flush-clause-stopped_on
+returns-in-Flush-clause-stopped_on g c =
+    let m = c.args.core.now.view.v.machine in
+    let h = cache_health (g.M.Machine.contents m) (g.M.Machine.run m) in
+    let b = cache_below (g.M.Machine.contents m) (g.M.Machine.run m) in
+    let n = c.flush_core.new.core.view.v.machine in
+    let e = cache_health (g.M.Machine.contents n) (g.M.Machine.run n) in
+    let d = cache_below (g.M.Machine.contents n) (g.M.Machine.run n) in
+    let call = c.flush_core.ensures in
+    stopped_on c.args.request.now c.flush_core.result h b e d (subst MakesSteps (sym c.in-Flush.is) tt) c.requires.holds.1.running call.runs (λ none. absurd (subst NoFlush c.in-Flush.is none)) call.ends
+
+pub returns-in-Wild-clause-answered : goal.returns-in-Wild-clause-answered
+returns-in-Wild-clause-answered g c =
+    let n = c.strike.new.core in
+    let y = cache_seen (g.M.Machine.contents n.view.v.machine) in
+    let j = cache_kept (g.M.Machine.contents n.view.v.machine) n.view.v.tables in
+    let e = cache_health (g.M.Machine.contents n.view.v.machine) (g.M.Machine.run n.view.v.machine) in
+    let d = cache_below (g.M.Machine.contents n.view.v.machine) (g.M.Machine.run n.view.v.machine) in
+    λ s holds. subst (λ r. Answering (Holds n.view.shape y j e d n.table) (λ u. Stands n.view.shape y j (crashed u)) s r (c.strike.result)) (sym c.in-Wild.is) (c.strike.ensures.answered s holds)
+
+pub returns-in-Arm-clause-answered : goal.returns-in-Arm-clause-answered
+returns-in-Arm-clause-answered g c =
+    let n = c.arm_store.new.core in
+    let y = cache_seen (g.M.Machine.contents n.view.v.machine) in
+    let j = cache_kept (g.M.Machine.contents n.view.v.machine) n.view.v.tables in
+    let e = cache_health (g.M.Machine.contents n.view.v.machine) (g.M.Machine.run n.view.v.machine) in
+    let d = cache_below (g.M.Machine.contents n.view.v.machine) (g.M.Machine.run n.view.v.machine) in
+    λ s holds. subst (λ r. Answering (Holds n.view.shape y j e d n.table) (λ u. Stands n.view.shape y j (crashed u)) s r (Ok c.arm_store.result)) (sym c.in-Arm.is) (c.arm_store.ensures.answered s holds)
