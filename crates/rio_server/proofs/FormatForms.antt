@@ -1,10 +1,10 @@
 -- The words of `format`.
 use Rattle.std.proofs.Common.{◌≡◌, ◌≢◌, ℕ, ◌<◌, ◌≤◌, List, [], ◌∷◌, length, map, slice_index_or, sym, ap, subst, ◌∙◌, arith}
-use Rattle.std.proofs.lemmas.Fmt.{decimal_injective}
 use Rattle.std.specs.Prelude.{codes, String}
 use Rattle.std.specs.String.{string_bytes}
 use Rattle.std.specs.Global.{Global}
-use Rattle.request_codec.specs.Form.{IsNumber}
+use Rattle.rio_base.proofs.DecimalDigits.{one_number}
+use Rattle.rio_base.specs.Numbers.{IsNumber}
 use Rattle.rio_server.specs.declared.format_words.FormatSizes.{FormatSizes}
 use Rattle.rio_server.specs.Command.{IsFileName}
 use Rattle.rio_server.specs.Format.{AreRanged, AreSizes, IsFormat}
@@ -91,9 +91,6 @@ ranged frames blocks inodes scratch f b i c sizes pf pb pi pc are = record {
   of_image = are.of_image;
   of_volume = are.of_volume;
 }
-
-one_number : (digits : List ℕ) (m n : ℕ) → IsNumber digits m → IsNumber digits n → m ≡ n
-one_number digits m n h k = decimal_injective m n (omega (arith, h.1)) (omega (arith, k.1)) (sym h.0 ∙ k.0)
 
 -- sizes of these numbers are sizes of what the digits were read as
 pub unranged : (frames blocks inodes scratch : List ℕ) (f b i c : ℕ) (sizes : FormatSizes)

@@ -1,5 +1,5 @@
 -- A core over a fresh cache holds the fresh state.
-use Rattle.std.proofs.Common.{◌≡◌, ◌≢◌, ℕ, ◌+◌, ◌-◌, ◌*◌, false, refl, ap, inl, arith, ◌∙◌}
+use Rattle.std.proofs.Common.{◌≡◌, ◌≢◌, ℕ, false, refl, ap, inl, arith, ◌∙◌}
 use Rattle.std.specs.Prelude.{[], Some}
 use Rattle.rio_base.specs.declared.places.VolumeShape.{VolumeShape}
 use Rattle.rio_base.specs.Blocks.{Health, Seen}
@@ -10,7 +10,7 @@ use Rattle.rio_model.specs.Fresh.{fresh_state}
 use Rattle.rio_model.specs.Held.{held_of}
 use Rattle.rio_model.specs.VolumeReads.{ReadsAs}
 use Rattle.rio_model.specs.VolumeReady.{Ready}
-use Rattle.image_codec.specs.Volume.{IsVolumeShape}
+use Rattle.rio_base.specs.Shapes.{IsServed}
 use Rattle.rio_core.specs.Serving.{Holds}
 use Rattle.rio_core.proofs.Recoveries.{recovered_held}
 use Rattle.rio_core.proofs.RegionEnds.{held_serves}
@@ -36,7 +36,7 @@ unfailing_health f h unfailing is = is ∙ ap (λ (f : FaultCount). health_of f.
 
 -- ---- the sizes that are served
 
-pub served_sizes : IsVolumeShape served_shape
+pub served_sizes : IsServed served_shape
 served_sizes = record {
   version = refl;
   sizes = record {

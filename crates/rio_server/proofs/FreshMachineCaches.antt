@@ -19,7 +19,7 @@ use Rattle.rio_model.specs.Registry.{frames_of}
 use Rattle.rio_model.specs.VolumeReads.{ReadsAs}
 use Rattle.rio_model.specs.VolumeReady.{Ready}
 use Rattle.rio_model.proofs.FreshReads.{fresh_reads}
-use Rattle.image_codec.specs.Volume.{IsVolumeShape}
+use Rattle.rio_base.specs.Shapes.{IsServed}
 use Rattle.page_cache.specs.declared.tables.CacheTables.{CacheTables}
 use Rattle.page_cache.specs.Caches.{IsFresh, Started, cache_below, cache_health}
 use Rattle.rio_server.specs.FreshMachines.{IsFreshDisk, IsFreshMemory}
@@ -32,13 +32,13 @@ fresh_tables frames blocks c r t memory many fresh = subst (λ n. IsFresh (frame
 
 -- ---- what is served
 
-volume_read : (shape : VolumeShape) (c : Contents) (s : Seen) (k : Kept) → IsVolumeShape shape → IsFreshDisk shape c.disk c.pending → Started c s k → IsFreshVolume shape s.words
+volume_read : (shape : VolumeShape) (c : Contents) (s : Seen) (k : Kept) → IsServed shape → IsFreshDisk shape c.disk c.pending → Started c s k → IsFreshVolume shape s.words
 volume_read shape c s k sizes disk started = reads_fresh shape c.disk c.pending s.words sizes disk started.reading
 
-pub cache_reads : (frames : ℕ) (shape : VolumeShape) (c : Contents) (s : Seen) (k : Kept) → IsVolumeShape shape → IsFreshDisk shape c.disk c.pending → Started c s k → ReadsAs shape s.words (fresh_state shape (image_pages frames 1) 1)
+pub cache_reads : (frames : ℕ) (shape : VolumeShape) (c : Contents) (s : Seen) (k : Kept) → IsServed shape → IsFreshDisk shape c.disk c.pending → Started c s k → ReadsAs shape s.words (fresh_state shape (image_pages frames 1) 1)
 cache_reads frames shape c s k sizes disk started = fresh_reads shape s.words (image_pages frames 1) 1 (volume_read shape c s k sizes disk started)
 
-pub cache_ready : (shape : VolumeShape) (c : Contents) (s : Seen) (k : Kept) → IsVolumeShape shape → IsFreshDisk shape c.disk c.pending → Started c s k → s.count ≡ length c.disk → Ready shape s k
+pub cache_ready : (shape : VolumeShape) (c : Contents) (s : Seen) (k : Kept) → IsServed shape → IsFreshDisk shape c.disk c.pending → Started c s k → s.count ≡ length c.disk → Ready shape s k
 cache_ready shape c s k sizes disk started count = record {
   has_shape = record { sizes = sizes.sizes; count = count ∙ disk.count; unnamed = λ b low on. absurd (uncached b on) };
   mapped = (fresh_reads shape s.words 0 0 (volume_read shape c s k sizes disk started)).mapped;
@@ -65,7 +65,7 @@ kind_of shape f i true h e three =
       | inr other ↦ (let none = h.others i (omega (arith, from, other)) to in omega (arith, is, none, three))
     ]
 
-pub cache_no_regions : (shape : VolumeShape) (c : Contents) (s : Seen) (k : Kept) → IsVolumeShape shape → IsFreshDisk shape c.disk c.pending → Started c s k → (i : ℕ) → (held_of shape s.words i).kind ≢ 3
+pub cache_no_regions : (shape : VolumeShape) (c : Contents) (s : Seen) (k : Kept) → IsServed shape → IsFreshDisk shape c.disk c.pending → Started c s k → (i : ℕ) → (held_of shape s.words i).kind ≢ 3
 cache_no_regions shape c s k sizes disk started i = kind_of shape s.words i _ (volume_read shape c s k sizes disk started) refl
 
 -- ---- the machine below

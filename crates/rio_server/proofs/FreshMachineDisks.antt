@@ -12,16 +12,16 @@ use Rattle.rio_base.specs.Blocks.{BlockWords}
 use Rattle.rio_base.specs.Disks.{is_pending}
 use Rattle.rio_base.specs.Layout.{HasSuperblock, inode_block, inode_place}
 use Rattle.rio_base.specs.Rules.{true_false}
-use Rattle.rio_base.specs.Shapes.{more_bitmap, reserved}
+use Rattle.rio_base.specs.Shapes.{IsServed, more_bitmap, reserved}
 use Rattle.rio_model.specs.Cover.{home_word}
 use Rattle.rio_model.proofs.CoverSteps.{none_pending}
 use Rattle.rio_model.specs.FreshVolume.{IsFreshVolume}
 use Rattle.rio_model.specs.VolumeRules.{bitmap_bits}
 use Rattle.rio_model.proofs.WordRules.{differs}
-use Rattle.image_codec.specs.Volume.{IsVolumeShape, block_words, fresh_volume_word, fresh_volume_words}
+use Rattle.image_codec.specs.Volume.{block_words, fresh_volume_word, fresh_volume_words}
 use Rattle.block_disk.specs.declared.mem_disk.MemDisk.{MemDisk}
 use Rattle.block_disk.specs.MemDisks.{MemDiskState, contents_of, state_of, upcoming, words_state}
-use Rattle.block_disk.proofs.WordBlocks.{blocks_many, blocks_word}
+use Rattle.rio_base.proofs.WordBlocks.{blocks_many, blocks_word}
 use Rattle.rio_server.specs.FreshMachines.{IsFreshDisk}
 
 -- ---- the words of a fresh volume
@@ -67,31 +67,31 @@ first_only i past = elim (cases_eq ((i - 1) / 32) 0) [
 
 -- ---- sizes
 
-first_reserved : (shape : VolumeShape) → IsVolumeShape shape → reserved shape ≡ 2 + shape.inodes / 32
+first_reserved : (shape : VolumeShape) → IsServed shape → reserved shape ≡ 2 + shape.inodes / 32
 unfolding more_bitmap
 first_reserved shape h = ap (λ v. 2 + shape.inodes / 32 + cond (v == 2) 7 0) h.version ∙ none
   where
     none : 2 + shape.inodes / 32 + 0 ≡ 2 + shape.inodes / 32
     none = omega arith
 
-first_bits : (shape : VolumeShape) → IsVolumeShape shape → bitmap_bits shape ≡ 32768
+first_bits : (shape : VolumeShape) → IsServed shape → bitmap_bits shape ≡ 32768
 unfolding more_bitmap
 first_bits shape h = ap (λ v. 32768 * (1 + cond (v == 2) 7 0)) h.version
 
-reserved_low : (shape : VolumeShape) (b : ℕ) → IsVolumeShape shape → b < reserved shape → b < 32768
+reserved_low : (shape : VolumeShape) (b : ℕ) → IsServed shape → b < reserved shape → b < 32768
 reserved_low shape b h low = let few = first_reserved shape h in let from = h.sizes.blocks_from in let to = h.sizes.blocks_to in omega (arith, low, few, from, to)
 
-bits_low : (shape : VolumeShape) (b : ℕ) → IsVolumeShape shape → b < bitmap_bits shape → b < 32768
+bits_low : (shape : VolumeShape) (b : ℕ) → IsServed shape → b < bitmap_bits shape → b < 32768
 bits_low shape b h within = subst (λ n. b < n) (first_bits shape h) within
 
 -- the block of an inode is one of the volume's
-inode_within : (shape : VolumeShape) (i : ℕ) → IsVolumeShape shape → i ≤ shape.inodes → inode_block i < shape.blocks
+inode_within : (shape : VolumeShape) (i : ℕ) → IsServed shape → i ≤ shape.inodes → inode_block i < shape.blocks
 inode_within shape i h within = let from = h.sizes.blocks_from in let whole = h.sizes.inode_blocks in let least = h.sizes.inodes_from in omega (arith, within, from, whole, least)
 
 inode_small : (i : ℕ) → inode_place i + 0 < 512
 inode_small i = omega arith
 
-low_within : (shape : VolumeShape) (b : ℕ) → IsVolumeShape shape → b ≤ 2 → b < shape.blocks
+low_within : (shape : VolumeShape) (b : ℕ) → IsServed shape → b ≤ 2 → b < shape.blocks
 low_within shape b h low = let from = h.sizes.blocks_from in omega (arith, low, from)
 
 -- ---- what these words are
@@ -109,7 +109,7 @@ bit_high b n more = grind (arith, nat_tests, more)
 abbrev pub AreMarked : VolumeShape → BlockWords → Type 0
 AreMarked shape f = (b : ℕ) → b < 32768 → used_bit shape f b ≡ bit_of b (reserved shape)
 
-volume_is : (shape : VolumeShape) (words : List ℕ) → IsVolumeShape shape → words ≡ fresh_volume_words shape.blocks shape.inodes → HasSuperblock (block_words words) shape → AreMarked shape (block_words words) → IsFreshVolume shape (block_words words)
+volume_is : (shape : VolumeShape) (words : List ℕ) → IsServed shape → words ≡ fresh_volume_words shape.blocks shape.inodes → HasSuperblock (block_words words) shape → AreMarked shape (block_words words) → IsFreshVolume shape (block_words words)
 volume_is shape words h is superblock marked = record {
   superblock = record { sizes = h.sizes; words = superblock };
   low = λ b low. marked b (reserved_low shape b h low) ∙ bit_low b (reserved shape) low;
@@ -120,7 +120,7 @@ volume_is shape words h is superblock marked = record {
 }
 
 -- a fresh volume is known by the words of its blocks
-volume_same : (shape : VolumeShape) (f g : BlockWords) → IsVolumeShape shape → ((b w : ℕ) → b < shape.blocks → w < 512 → g b w ≡ f b w) → IsFreshVolume shape f → IsFreshVolume shape g
+volume_same : (shape : VolumeShape) (f g : BlockWords) → IsServed shape → ((b w : ℕ) → b < shape.blocks → w < 512 → g b w ≡ f b w) → IsFreshVolume shape f → IsFreshVolume shape g
 volume_same shape f g h same v = record {
   superblock = record {
     sizes = h.sizes;
@@ -152,7 +152,7 @@ unfailing : (words : List ℕ) → (contents_of (words_state words)).faults ≡ 
 unfolding upcoming
 unfailing words = refl
 
-disk_is : (shape : VolumeShape) (words : List ℕ) (s : MemDiskState) → IsVolumeShape shape → words ≡ fresh_volume_words shape.blocks shape.inodes → HasSuperblock (block_words words) shape → AreMarked shape (block_words words) → s ≡ words_state words → IsFreshDisk shape s.blocks s.pending
+disk_is : (shape : VolumeShape) (words : List ℕ) (s : MemDiskState) → IsServed shape → words ≡ fresh_volume_words shape.blocks shape.inodes → HasSuperblock (block_words words) shape → AreMarked shape (block_words words) → s ≡ words_state words → IsFreshDisk shape s.blocks s.pending
 disk_is shape words s h is superblock marked e = record {
   count = ap (λ (t : MemDiskState). length t.blocks) e ∙ blocks_many words ∙ many;
   volume = volume_same shape (block_words words) (home_word s.blocks) h (λ b w within small. ap (λ (t : MemDiskState). home_word t.blocks b w) e ∙ blocks_word words b w (subst (λ n. b < n) (sym many) within) small) (volume_is shape words h is superblock marked);
@@ -163,7 +163,7 @@ disk_is shape words s h is superblock marked e = record {
     many = let long = volume_long words shape.blocks shape.inodes is in omega (arith, long)
 
 -- one that is made of these words
-pub disk_made : {E : Type 0} (shape : VolumeShape) (words given : List ℕ) (r : Result MemDisk E) → IsVolumeShape shape → words ≡ fresh_volume_words shape.blocks shape.inodes → HasSuperblock (block_words words) shape → AreMarked shape (block_words words) → given ≡ words
+pub disk_made : {E : Type 0} (shape : VolumeShape) (words given : List ℕ) (r : Result MemDisk E) → IsServed shape → words ≡ fresh_volume_words shape.blocks shape.inodes → HasSuperblock (block_words words) shape → AreMarked shape (block_words words) → given ≡ words
     → IfOk r (λ d. state_of d ≡ words_state given) → IfOk r (λ d. IsFreshDisk shape (state_of d).blocks (state_of d).pending)
 disk_made shape words given (Ok d) h is superblock marked same e = disk_is shape words (state_of d) h is superblock marked (e ∙ ap words_state same)
 disk_made shape words given (Err e) h is superblock marked same made = tt
@@ -177,5 +177,5 @@ pub disk_same : (shape : VolumeShape) (blocks now : List (List ℕ)) (pending ma
 disk_same shape blocks now pending marks h same settled = rw (same, settled) h
 
 -- what reads as the disk
-pub reads_fresh : (shape : VolumeShape) (blocks : List (List ℕ)) (pending : List Bool) (f : BlockWords) → IsVolumeShape shape → IsFreshDisk shape blocks pending → ((b w : ℕ) → w < 512 → f b w ≡ home_word blocks b w) → IsFreshVolume shape f
+pub reads_fresh : (shape : VolumeShape) (blocks : List (List ℕ)) (pending : List Bool) (f : BlockWords) → IsServed shape → IsFreshDisk shape blocks pending → ((b w : ℕ) → w < 512 → f b w ≡ home_word blocks b w) → IsFreshVolume shape f
 reads_fresh shape blocks pending f h disk reading = volume_same shape (home_word blocks) f h (λ b w within small. reading b w small) disk.volume

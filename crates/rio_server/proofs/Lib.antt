@@ -7,10 +7,8 @@ pub mod FreshMachineDisks
 pub mod FreshMachineMemory
 pub mod ImageFile
 pub mod Listings
+pub mod MachineRuns
 pub mod RegistryWords
-pub mod Running
-pub mod ServeRun
 pub mod ServeWords
 pub mod ServedRuns
 pub mod Telling
-pub mod Turns

@@ -1,10 +1,10 @@
 -- How a look at a registry ends.
 use Rattle.std.proofs.Common.{◌≡◌, ◌≢◌, ℕ, List, Option, inl, inr, arith}
 use Rattle.std.specs.Prelude.{◌⊎◌}
-use Rattle.rio_base.specs.Hosts.{Files}
+use Rattle.rio_base.specs.Hosts.{Files, IsAbsent}
 use Rattle.rio_server.specs.declared.ends.RegistryEnd.{RegistryEnd}
 use Rattle.rio_server.specs.declared.ends.RegistryEnd.TheVariants.{Listed, Refused, Absent, HostFault, SinkFault, Memory}
-use Rattle.rio_server.specs.Registry.{EndsAs, IsAbsent, Lists, registry_status}
+use Rattle.rio_server.specs.Registry.{EndsAs, Lists, registry_status}
 
 -- ---- what a run says of its status
 

@@ -1,17 +1,18 @@
 -- What a whole served run comes to, and what its status says.
-use Rattle.std.proofs.Common.{◌≡◌, ◌≢◌, ℕ, ◌+◌, ◌^◌, ◌<◌, ◌≤◌, Bool, true, false, List, [], ◌++◌, length, refl, sym, ap, ◌∙◌, inl, inr, arith, length-append}
+use Rattle.std.proofs.Common.{◌≡◌, ◌≢◌, ℕ, ◌+◌, ◌^◌, ◌<◌, ◌≤◌, Bool, true, false, List, ◌++◌, length, refl, sym, ap, ◌∙◌, inl, inr, arith, length-append}
 use Rattle.std.specs.Prelude.{Option, Some, None, ◌⊎◌}
-use Rattle.std.proofs.lemmas.List.{append-nil}
-use Rattle.rio_base.specs.Blocks.{Causes}
+use Rattle.rio_base.specs.Blocks.{Causes, Health}
 use Rattle.rio_base.specs.Counts.{Rose, RoseBy}
-use Rattle.rio_base.specs.Streams.{appended, prepended, IsSpent}
-use Rattle.rio_base.specs.Volume.{StopCause}
+use Rattle.rio_base.specs.Streams.{prepended, IsSpent}
+use Rattle.rio_base.specs.Volume.{Below, Runs, StopCause}
 use Rattle.rio_model.specs.declared.state.State.{State}
-use Rattle.rio_server.specs.declared.ends.ServeEnd.{ServeEnd}
-use Rattle.rio_server.specs.declared.ends.ServeEnd.TheVariants.{End, SourceFault, SinkFault, InputLimit, Memory, Stopped}
-use Rattle.rio_server.specs.ServeRun.{Finishes, RunEnds}
+use Rattle.rio_serving.specs.declared.ends.ServeEnd.{ServeEnd}
+use Rattle.rio_serving.specs.declared.ends.ServeEnd.TheVariants.{End, SourceFault, SinkFault, InputLimit, Memory, Stopped}
+use Rattle.request_codec.specs.Text.{text_of}
+use Rattle.rio_core.specs.Lines.{core_protocol}
+use Rattle.rio_serving.specs.ServeRun.{Finishes, RunEnds}
 use Rattle.rio_server.specs.Command.{RunServes, WritesLine, last_line, status_of}
-use Rattle.rio_server.proofs.Running.{no_start}
+use Rattle.rio_serving.proofs.Running.{nothing_served}
 
 -- ---- a whole run
 
@@ -20,32 +21,35 @@ counts_none : (n before after : ℕ) → before ≡ 0 → after ≤ 0 → RoseBy
 counts_none n before after none few (inl h) = omega (arith, none, few, h)
 counts_none n before after none few (inr h) = absurd (omega (arith, few, h))
 
-pub run_served : (holds stands : State → Type 0) (s : State) (end : ServeEnd) (status : ℕ) (rose : Type 0) (left left_after written replied written_after : Option (List ℕ)) (before after : ℕ)
-    → RunEnds holds stands s end left left_after written replied before after → end ≢ Stopped → before ≡ 0 → after ≤ 0 → status ≡ status_of end → WritesLine rose replied (last_line end) written_after
+pub run_served : (holds stands : State → Type 0) (s : State) (end : ServeEnd) (status : ℕ) (rose : Type 0) (left left_after written replied written_after : Option (List ℕ)) (h : Health) (b : Below) (i : Health) (c : Below)
+    → RunEnds core_protocol holds stands s end left left_after written replied h b i c → end ≢ Stopped → h.faults ≡ 0 → i.faults ≤ 0 → status ≡ status_of end → WritesLine rose replied (last_line end) written_after
     → RunServes s status rose left left_after written written_after
-run_served holds stands s End status rose left left_after written replied written_after before after run runs none few is last =
-    record { end = End; status_is = is; replied = replied; after = run.0; serves = run.2.serves; faultless = counts_none _ before after none few run.2.counted; last = last }
-run_served holds stands s SourceFault status rose left left_after written replied written_after before after run runs none few is last =
-    record { end = SourceFault; status_is = is; replied = replied; after = run.0; serves = run.2.serves; faultless = counts_none _ before after none few run.2.counted; last = last }
-run_served holds stands s SinkFault status rose left left_after written replied written_after before after run runs none few is last =
-    record { end = SinkFault; status_is = is; replied = replied; after = run.0; serves = run.2.serves; faultless = counts_none _ before after none few run.2.counted; last = last }
-run_served holds stands s InputLimit status rose left left_after written replied written_after before after run runs none few is last =
-    record { end = InputLimit; status_is = is; replied = replied; after = run.0; serves = run.2.serves; faultless = counts_none _ before after none few run.2.counted; last = last }
-run_served holds stands s Memory status rose left left_after written replied written_after before after run runs none few is last =
-    record { end = Memory; status_is = is; replied = replied; after = run.0; serves = run.2.serves; faultless = counts_none _ before after none few run.2.counted; last = last }
-run_served holds stands s Stopped status rose left left_after written replied written_after before after run runs none few is last = absurd (runs refl)
+run_served holds stands s End status rose left left_after written replied written_after h b i c run runs none few is last =
+    record { end = End; status_is = is; replied = replied; after = run.0; serves = run.2; faultless = counts_none _ h.faults i.faults none few run.3.counted; last = last }
+run_served holds stands s SourceFault status rose left left_after written replied written_after h b i c run runs none few is last =
+    record { end = SourceFault; status_is = is; replied = replied; after = run.0; serves = run.2; faultless = counts_none _ h.faults i.faults none few run.3.counted; last = last }
+run_served holds stands s SinkFault status rose left left_after written replied written_after h b i c run runs none few is last =
+    record { end = SinkFault; status_is = is; replied = replied; after = run.0; serves = run.2; faultless = counts_none _ h.faults i.faults none few run.3.counted; last = last }
+run_served holds stands s InputLimit status rose left left_after written replied written_after h b i c run runs none few is last =
+    record { end = InputLimit; status_is = is; replied = replied; after = run.0; serves = run.2; faultless = counts_none _ h.faults i.faults none few run.3.counted; last = last }
+run_served holds stands s Memory status rose left left_after written replied written_after h b i c run runs none few is last =
+    record { end = Memory; status_is = is; replied = replied; after = run.0; serves = run.2; faultless = counts_none _ h.faults i.faults none few run.3.counted; last = last }
+run_served holds stands s Stopped status rose left left_after written replied written_after h b i c run runs none few is last = absurd (runs refl)
 
 -- there was no memory to start from
 pub none_served : (s : State) (status : ℕ) (rose : Type 0) (left written written_after : Option (List ℕ)) → status ≡ 6 → WritesLine rose written (last_line Memory) written_after → RunServes s status rose left left written written_after
-unfolding no_start
-none_served s status rose left written written_after is last = record { end = Memory; status_is = is; replied = written; after = s; serves = no_start s left written; faultless = refl; last = last }
+unfolding nothing_served
+none_served s status rose left written written_after is last = record { end = Memory; status_is = is; replied = written; after = s; serves = nothing_served core_protocol s left written; faultless = refl; last = last }
 
 -- a machine that has no cause to doesn't stop
-pub never_stops : (old new : Causes) (was is : Bool) → StopCause old new was is → was ≡ false → is ≡ true → old.stop_set ≡ false → old.armed ≡ None → ⊥
+never_stops : (old new : Causes) (was is : Bool) → StopCause old new was is → was ≡ false → is ≡ true → old.stop_set ≡ false → old.armed ≡ None → ⊥
 never_stops old new true is h running stopped unset unarmed = cc
 never_stops old new false false h running stopped unset unarmed = cc
 never_stops old new false true (inl (a, armed, page, fell)) running stopped unset unarmed = cc (armed, unarmed)
 never_stops old new false true (inr h) running stopped unset unarmed = let set = h.1 in cc (set, unset)
+
+pub stops_without : (h : Health) (b : Below) (i : Health) (c : Below) → Runs h b i c → h.stopped ≡ false → i.stopped ≡ true → b.causes.stop_set ≡ false → b.causes.armed ≡ None → ⊥
+stops_without h b i c runs running stopped unset unarmed = never_stops b.causes c.causes h.stopped i.stopped runs.cause running stopped unset unarmed
 
 -- ---- a line after a line
 
@@ -86,7 +90,7 @@ limit_of s status rose left left_after written written_after r input is told = a
     gave : Some input ≡ prepended r.serves.taken left_after
     gave = sym is ∙ r.serves.gave
 
-    at : (e : ServeEnd) → status ≡ status_of e → Finishes e r.serves.taken left_after r.serves.run.answered r.serves.run.replies r.serves.out → 2 ^ 40 < length input
+    at : (e : ServeEnd) → status ≡ status_of e → Finishes text_of e r.serves.taken left_after r.serves.run.answered r.serves.run.replies r.serves.out → 2 ^ 40 < length input
     at InputLimit n finish = at_limit r.serves.taken left_after input gave finish.0
     at End n finish = absurd (omega (arith, n, told))
     at SourceFault n finish = absurd (omega (arith, n, told))
@@ -101,7 +105,7 @@ over_of s status rose left left_after written written_after r input is more told
     gave : Some input ≡ prepended r.serves.taken left_after
     gave = sym is ∙ r.serves.gave
 
-    at : (e : ServeEnd) → status ≡ status_of e → Finishes e r.serves.taken left_after r.serves.run.answered r.serves.run.replies r.serves.out → ⊥
+    at : (e : ServeEnd) → status ≡ status_of e → Finishes text_of e r.serves.taken left_after r.serves.run.answered r.serves.run.replies r.serves.out → ⊥
     at End n finish = let few = at_end r.serves.taken left_after input gave finish.0 finish.2 in omega (arith, few, more)
     at InputLimit n finish = omega (arith, n, told)
     at SourceFault n finish = omega (arith, n, told)
@@ -116,7 +120,7 @@ complete_of s status rose left left_after written written_after r input is few n
     gave : Some input ≡ prepended r.serves.taken left_after
     gave = sym is ∙ r.serves.gave
 
-    at : (e : ServeEnd) → status ≡ status_of e → Finishes e r.serves.taken left_after r.serves.run.answered r.serves.run.replies r.serves.out → (status ≡ 0) ⊎ (status ≡ 6)
+    at : (e : ServeEnd) → status ≡ status_of e → Finishes text_of e r.serves.taken left_after r.serves.run.answered r.serves.run.replies r.serves.out → (status ≡ 0) ⊎ (status ≡ 6)
     at End n finish = inl n
     at Memory n finish = inr n
     at SourceFault n finish = absurd (no_source n)

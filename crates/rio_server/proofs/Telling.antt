@@ -1,8 +1,6 @@
 -- What was sent of a line.
-use Rattle.std.proofs.Common.{◌≡◌, ◌≤◌, ℕ, List, [], length, take, Option, None, Result, Ok, Err, refl, sym, subst, inl, inr}
-use Rattle.std.specs.Prelude.{OnOk, OnErr}
+use Rattle.std.proofs.Common.{ℕ, List, [], Option, Result, Ok, Err, inl, inr}
 use Rattle.rio_base.specs.Counts.{Rose}
-use Rattle.rio_base.specs.Streams.{appended}
 use Rattle.request_codec.specs.Sending.{Sends}
 use Rattle.request_codec.proofs.Sendings.{sends_cut, sends_ok}
 use Rattle.rio_server.specs.Command.{WritesLine}

@@ -4,9 +4,11 @@ use Rattle.std.specs.String.{string_bytes}
 use Rattle.std.specs.Global.{Global}
 use Rattle.rio_base.specs.Streams.{appended}
 use Rattle.rio_model.specs.declared.state.State.{State}
-use Rattle.rio_server.specs.declared.ends.ServeEnd.{ServeEnd}
-use Rattle.rio_server.specs.declared.ends.ServeEnd.TheVariants.{End, SourceFault, SinkFault, InputLimit, Memory, Stopped}
-use Rattle.rio_server.specs.ServeRun.{Serves, faults_in}
+use Rattle.rio_serving.specs.declared.ends.ServeEnd.{ServeEnd}
+use Rattle.rio_serving.specs.declared.ends.ServeEnd.TheVariants.{End, SourceFault, SinkFault, InputLimit, Memory, Stopped}
+use Rattle.rio_requests.specs.Went.{faults_in}
+use Rattle.rio_core.specs.Lines.{core_protocol}
+use Rattle.rio_serving.specs.ServeRun.{Serves}
 
 -- a file's name: a word that isn't empty and doesn't begin with `-`
 pub record IsFileName (name : List ℕ) : Type 0 where
@@ -52,6 +54,6 @@ pub record RunServes (s : State) (status : ℕ) (rose : Type 0) (left left_after
   pub status_is : status ≡ status_of end
   pub replied : Option (List ℕ)
   pub after : State
-  pub serves : Serves s after end left left_after written replied
+  pub serves : Serves core_protocol s after end left left_after written replied
   pub faultless : faults_in serves.run.replies ≡ 0
   pub last : WritesLine rose replied (last_line end) written_after

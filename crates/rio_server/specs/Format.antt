@@ -4,11 +4,12 @@ use Rattle.std.specs.Fmt.{decimal}
 use Rattle.std.specs.String.{string_bytes}
 use Rattle.std.specs.Global.{Global}
 use Rattle.rio_base.specs.Hosts.{Files, with_file}
-use Rattle.request_codec.specs.Form.{IsNumber}
-use Rattle.image_codec.specs.Bytes.{bytes_of}
+use Rattle.rio_base.specs.Numbers.{IsNumber}
+use Rattle.rio_base.specs.Bytes.{bytes_of}
 use Rattle.image_codec.specs.Image.{fresh_image_words}
 use Rattle.rio_base.specs.Image.{AreImageSizes, image_pages}
-use Rattle.image_codec.specs.Volume.{IsVolumeShape, fresh_volume_words}
+use Rattle.image_codec.specs.Volume.{fresh_volume_words}
+use Rattle.rio_base.specs.Shapes.{IsServed}
 use Rattle.rio_server.specs.declared.ends.FormatEnd.{FormatEnd}
 use Rattle.rio_server.specs.declared.ends.FormatEnd.TheVariants.{Formatted, DiskFault, ImageFault, Memory}
 use Rattle.rio_server.specs.declared.format.FreshPair.{FreshPair}
@@ -22,7 +23,7 @@ pub record AreRanged (frames blocks inodes scratch : ℕ) (sizes : FormatSizes) 
   pub inodes_are : sizes.shape.inodes ≡ inodes
   pub scratch_is : sizes.scratch ≡ scratch
   pub of_image : AreImageSizes sizes.frames sizes.scratch
-  pub of_volume : IsVolumeShape sizes.shape
+  pub of_volume : IsServed sizes.shape
 
 -- four numbers are sizes that a fresh pair can have
 pub record AreSizes (frames blocks inodes scratch : List ℕ) (sizes : FormatSizes) : Type 0 where
@@ -31,7 +32,7 @@ pub record AreSizes (frames blocks inodes scratch : List ℕ) (sizes : FormatSiz
   pub inodes_number : IsNumber inodes sizes.shape.inodes
   pub scratch_number : IsNumber scratch sizes.scratch
   pub of_image : AreImageSizes sizes.frames sizes.scratch
-  pub of_volume : IsVolumeShape sizes.shape
+  pub of_volume : IsServed sizes.shape
 
 -- `format IMAGE DISK --frames F --blocks B --inodes I --scratch C`
 pub record IsFormat (words : List (String Global)) (image disk : List ℕ) (sizes : FormatSizes) : Type 0 where

@@ -1,7 +1,5 @@
 pub mod Served
 pub mod FreshMachines
-pub mod ServeRun
-pub mod Asking
 pub mod Command
 pub mod Format
 pub mod Registry

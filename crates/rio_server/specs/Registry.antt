@@ -1,14 +1,13 @@
 -- The words of `registry`, the lines that it lists, and what a run of it leaves.
-use Rattle.std.specs.Prelude.{◌≡◌, ◌≤◌, ◌<◌, ◌^◌, ℕ, List, [], ◌∷◌, ◌++◌, length, take, map, flat_map, codes, slice_index, if◌then◌else◌, Option, Some, None, ◌⊎◌, String}
+use Rattle.std.specs.Prelude.{◌≡◌, ◌≤◌, ◌<◌, ◌^◌, ℕ, List, [], ◌∷◌, ◌++◌, length, take, map, flat_map, codes, slice_index, if◌then◌else◌, Option, ◌⊎◌, String}
 use Rattle.std.specs.Fmt.{decimal}
 use Rattle.std.specs.List.{range_with_len}
 use Rattle.std.specs.String.{string_bytes}
 use Rattle.std.specs.Global.{Global}
-use Rattle.std.specs.FinMap.{get}
-use Rattle.rio_base.specs.Hosts.{Files}
+use Rattle.rio_base.specs.Hosts.{Files, IsAbsent, IsFile}
 use Rattle.rio_base.specs.Streams.{appended}
 use Rattle.rio_model.specs.Registry.{FailsRegistry, HasLayout, KeepsRegistry, file_at, frames_of, gate_of, index_at, is_data, is_dirty, is_valid, scratch_of, shadow_at, size_at, tag_at, tag_block}
-use Rattle.image_codec.specs.Bytes.{bytes_of}
+use Rattle.rio_base.specs.Bytes.{bytes_of}
 use Rattle.image_codec.specs.Image.{FailsFirst, IsImage}
 use Rattle.image_codec.specs.declared.fault.ImageFault.TheVariants.{BadLength, BadMagic, BadVersion, BadGeometry}
 use Rattle.rio_server.specs.declared.ends.RegistryEnd.{RegistryEnd}
@@ -65,16 +64,6 @@ abbrev pub registry_text : List ℕ → List ℕ
 registry_text words = header_line words ++ flat_map (entry_line words) (range_with_len 0 (frames_of words))
 
 -- ---- the image
-
--- the file is there and has these bytes, where the host tells its files
-abbrev pub IsFile : Option Files → List ℕ → List ℕ → Type 0
-IsFile None name bytes = Unit {0}
-IsFile (Some files) name bytes = get files name ≡ Some bytes
-
--- there is no such file, where the host tells its files
-abbrev pub IsAbsent : Option Files → List ℕ → Type 0
-IsAbsent None name = Unit {0}
-IsAbsent (Some files) name = get files name ≡ None
 
 -- words of 64 bits that stand in these bytes and keep rules 1 to 4
 pub record IsImageOf (bytes words : List ℕ) : Type 0 where

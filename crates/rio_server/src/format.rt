@@ -3,7 +3,7 @@
 ghost use Rattle.std.specs.Prelude.{◌≡◌, ◌≤◌, ℕ, IfOk, String as StringOf, List};
 ghost use Rattle.std.specs.String.{string_bytes};
 ghost use Rattle.rio_base.specs.Image.{AreImageSizes, image_pages};
-ghost use Rattle.image_codec.specs.Volume.{IsVolumeShape};
+ghost use Rattle.rio_base.specs.Shapes.{IsServed};
 ghost use Rattle.rio_base.specs.Counts.{Rose};
 ghost use Rattle.rio_server.specs.Format.{Formats, IsPrepared, files_after, format_status, format_line, image_bytes, disk_bytes, host_fault_line};
 
@@ -41,7 +41,7 @@ pub fn format<K: Sink, H: Host>(
     host: &mut H,
 ) -> u8
     requires image { AreImageSizes words.now.sizes.frames words.now.sizes.scratch }
-    requires volume { IsVolumeShape words.now.sizes.shape }
+    requires volume { IsServed words.now.sizes.shape }
     ensures run { Formats (string_bytes words.now.image.now) (string_bytes words.now.disk.now) words.now.sizes result (Rose (K.faults sink.old) (K.faults sink.new)) (H.files host.old) (H.files host.new) (K.written sink.old) (K.written sink.new) }
     ensures cause { result ≡ 7 → Rose (H.faults host.old) (H.faults host.new) }
     ensures later { H.faults host.old ≤ H.faults host.new }
@@ -61,7 +61,7 @@ pub fn format<K: Sink, H: Host>(
 /// The fresh pair of these sizes.
 fn prepare(alloc: Global, words: &FormatWords<'_>) -> Result<FreshPair, AllocError>
     requires image { AreImageSizes words.now.sizes.frames words.now.sizes.scratch }
-    requires volume { IsVolumeShape words.now.sizes.shape }
+    requires volume { IsServed words.now.sizes.shape }
     ensures { IfOk result (λ pair. IsPrepared pair (string_bytes words.now.image.now) (string_bytes words.now.disk.now) words.now.sizes) }
 {
     let disk = disk_of(alloc, &words.sizes)?;
@@ -78,7 +78,7 @@ fn prepare(alloc: Global, words: &FormatWords<'_>) -> Result<FreshPair, AllocErr
 
 /// The bytes of a fresh volume.
 fn disk_of(alloc: Global, sizes: &FormatSizes) -> Result<Vec<u8>, AllocError>
-    requires { IsVolumeShape sizes.now.shape }
+    requires { IsServed sizes.now.shape }
     ensures { IfOk result (λ bytes. bytes.items ≡ disk_bytes sizes.now) }
 {
     let words = fresh_volume(alloc, &sizes.shape)?;

@@ -3,15 +3,14 @@
 ghost use Rattle.std.specs.Prelude.{◌≡◌, ◌≤◌, ◌↔◌, ◌+◌, ◌/◌, ◌%◌, ℕ, IsTrue, List, MatchOption};
 ghost use Rattle.std.specs.String.{string_bytes};
 ghost use Rattle.rio_base.specs.Image.{AreImageSizes};
-ghost use Rattle.image_codec.specs.Volume.{IsVolumeShape};
-ghost use Rattle.request_codec.specs.Form.{IsNumber};
+ghost use Rattle.rio_base.specs.Shapes.{IsServed};
+ghost use Rattle.rio_base.specs.Numbers.{IsNumber};
 ghost use Rattle.rio_base.specs.declared.places.VolumeShape.{VolumeShape as Shape};
 ghost use Rattle.rio_server.specs.declared.format_words.FormatSizes.{FormatSizes as Sizes};
 ghost use Rattle.rio_server.specs.Format.{AreRanged, IsFormat};
 
 use crate::file_name::are_file_names;
-use request_codec::number_of;
-use rio_base::VolumeShape;
+use rio_base::{VolumeShape, number_of};
 
 /// The sizes of a fresh memory image and a fresh volume.
 #[derive(Clone, Copy, Debug, PartialEq, Eq)]

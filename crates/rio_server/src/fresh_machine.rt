@@ -2,7 +2,7 @@
 
 ghost use Rattle.std.specs.Prelude.{◌≡◌, ◌≢◌, ℕ, false, None, Some, IfOk};
 ghost use Rattle.block_disk.specs.MemDisks.{contents_of, state_of};
-ghost use Rattle.image_codec.specs.Volume.{IsVolumeShape};
+ghost use Rattle.rio_base.specs.Shapes.{IsServed};
 ghost use Rattle.rio_base.specs.Image.{AreImageSizes, image_pages};
 ghost use Rattle.rio_model.specs.Fresh.{fresh_state};
 ghost use Rattle.rio_model.specs.Held.{held_of};
@@ -17,7 +17,8 @@ use image_codec::{fresh_image, fresh_volume};
 use page_cache::{CacheTables, PageCache};
 use phys_memory::ListMem;
 use rio_base::{Blocks, Machine, Volume, VolumeShape};
-use rio_core::{Core, Server};
+use rio_core::Core;
+use rio_serving::Server;
 use std::alloc::{AllocError, Global};
 
 /// A machine in memory.
@@ -36,7 +37,7 @@ const FRAMES: u32 = 64;
 /// A disk with a fresh volume of this shape, of which no call is to fail. The error means that there was no room for it.
 #[tactic(auto, using(crate::proofs::FreshMachineDisks::volume_long))]
 pub fn fresh_disk(alloc: Global, shape: &VolumeShape) -> Result<MemDisk, AllocError>
-    requires { IsVolumeShape shape.now }
+    requires { IsServed shape.now }
     ensures fresh { IfOk result (λ d. IsFreshDisk shape.now (state_of d).blocks (state_of d).pending) }
     ensures unfailing { IfOk result (λ d. (contents_of (state_of d)).faults ≡ record { count = 0; limit = Some 0 }) }
 {
@@ -66,7 +67,7 @@ fn fresh_cache(
     disk: MemDisk,
 ) -> Result<PageCache<MemBoard>, AllocError>
     requires frames { AreImageSizes frames 1 }
-    requires shape { IsVolumeShape shape.now }
+    requires shape { IsServed shape.now }
     requires disk { IsFreshDisk shape.now (state_of disk).blocks (state_of disk).pending }
     ensures sound { IfOk result (λ c. ⟦<PageCache<Board<ListMem, MemDisk>> as Blocks>⟧.sound c) }
     ensures reads { IfOk result (λ c. ReadsAs shape.now (⟦<PageCache<Board<ListMem, MemDisk>> as Blocks>⟧.seen c).words (fresh_state shape.now (image_pages frames 1) 1)) }
@@ -88,7 +89,7 @@ pub fn fresh_core(
     disk: MemDisk,
 ) -> Result<Core<MemBoard>, AllocError>
     requires frames { AreImageSizes frames 1 }
-    requires shape { IsVolumeShape shape }
+    requires shape { IsServed shape }
     requires disk { IsFreshDisk shape (state_of disk).blocks (state_of disk).pending }
     ensures sound { IfOk result (λ core. ⟦<Core<Board<ListMem, MemDisk>> as Server>⟧.sound core) }
     ensures holds { IfOk result (λ core. ⟦<Core<Board<ListMem, MemDisk>> as Server>⟧.holds core (fresh_state shape (image_pages frames 1) 1)) }
@@ -112,7 +113,7 @@ fn faultless_core(
     shape: VolumeShape,
 ) -> Result<Core<MemBoard>, AllocError>
     requires frames { AreImageSizes frames 1 }
-    requires shape { IsVolumeShape shape }
+    requires shape { IsServed shape }
     ensures sound { IfOk result (λ core. ⟦<Core<Board<ListMem, MemDisk>> as Server>⟧.sound core) }
     ensures holds { IfOk result (λ core. ⟦<Core<Board<ListMem, MemDisk>> as Server>⟧.holds core (fresh_state shape (image_pages frames 1) 1)) }
     ensures health { IfOk result (λ core. ⟦<Core<Board<ListMem, MemDisk>> as Server>⟧.health core ≡ record { faults = 0; stopped = false }) }

@@ -3,12 +3,12 @@
 ghost use Rattle.std.specs.Prelude.{◌≡◌, ◌<◌, ◌≤◌, ◌+◌, ◌^◌, ◌↔◌, ℕ, List, Ok, Some, IfOk, IfErr, IsTrue, length, take, drop, slice_index};
 ghost use Rattle.std.specs.String.{string_bytes};
 ghost use Rattle.rio_base.specs.Counts.{HasCause, Rose};
-ghost use Rattle.rio_base.specs.Hosts.{EndsBy, HasBytes, HasSize};
-ghost use Rattle.rio_server.specs.Registry.{FailsAs, HoldsWords, IsFile, IsImageOf, Misses};
+ghost use Rattle.rio_base.specs.Hosts.{EndsBy, HasBytes, HasSize, IsFile};
+ghost use Rattle.rio_server.specs.Registry.{FailsAs, HoldsWords, IsImageOf, Misses};
 
 use crate::ends::RegistryEnd;
 use image_codec::{ImageFault, read_image};
-use rio_base::{Failed, Host};
+use rio_base::{Failed, Host, read_from};
 use std::alloc::{AllocError, Global};
 
 /// The bytes of the longest image: 8,354 pages.
@@ -81,7 +81,8 @@ fn zeros(alloc: Global, size: usize) -> Result<Vec<u8>, AllocError>
 }
 
 /// Reads a file into a room that is as long, and answers how many bytes came. Fewer come where the file was made shorter
-/// meanwhile.
+/// meanwhile. An empty file isn't asked for bytes.
+#[tactic(auto, using(crate::proofs::ImageFile::all_read, crate::proofs::ImageFile::none_read))]
 fn read_into<H: Host>(name: &String, into: &mut [u8], host: &mut H) -> Result<usize, Failed>
     requires { HasSize (H.files host.old) (string_bytes name.now) (Some (length into.old)) }
     ensures files { H.files host.new ≡ H.files host.old }
@@ -90,47 +91,10 @@ fn read_into<H: Host>(name: &String, into: &mut [u8], host: &mut H) -> Result<us
     ensures room { length into.new ≡ length into.old }
     ensures cause { HasCause result (H.faults host.old) (H.faults host.new) }
 {
-    let mut done = 0;
-    'pieces: while done < into.len() {
-        let count = read_piece(name, done, into, host)?;
-        if count == 0 {
-            return Ok(done);
-        }
-        done += count;
+    if into.is_empty() {
+        return Ok(0);
     }
-    Ok(done)
-}
-
-/// Reads a piece of a file from byte `done` on to the same place of a room that goes on behind it, and answers how many
-/// bytes came. None come only where the file ends there.
-fn read_piece<H: Host>(
-    name: &String,
-    done: usize,
-    into: &mut [u8],
-    host: &mut H,
-) -> Result<usize, Failed>
-    requires { done < length into.old }
-    ensures files { H.files host.new ≡ H.files host.old }
-    ensures front { take done into.new ≡ take done into.old }
-    ensures room { length into.new ≡ length into.old }
-    ensures bound { IfOk result (λ n. done + n ≤ length into.new) }
-    ensures bytes { IfOk result (λ n. HasBytes (H.files host.old) (string_bytes name.now) done (take n (drop done into.new))) }
-    ensures end { result ≡ Ok 0 → EndsBy (H.files host.old) (string_bytes name.now) done }
-    ensures cause { HasCause result (H.faults host.old) (H.faults host.new) }
-{
-    let before = host.faults();
-    let count = host.read_at(name, done as u64, &mut into[done..])?;
-    if count == 0 && rose(before, host.faults()) {
-        return Err(Failed);
-    }
-    Ok(count)
-}
-
-/// Whether a count of faults rose. One that has reached the largest `u64` counts as risen.
-fn rose(before: u64, after: u64) -> bool
-    ensures { IsTrue result ↔ Rose before after }
-{
-    before < after || after == u64::MAX
+    read_from(name, 0, into, host)
 }
 
 /// The words of a file that has these bytes, or how the look at it ends.

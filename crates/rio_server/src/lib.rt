@@ -17,8 +17,8 @@ mod registry_words;
 mod serve_words;
 mod serving;
 
-pub use ends::ServeEnd;
 pub use format_words::{FormatSizes, FormatWords, format_of, sizes_of};
 pub use fresh_machine::{fresh_core, fresh_disk};
 pub use program::{end_without_memory, run};
+pub use rio_serving::ServeEnd;
 pub use serving::serve;

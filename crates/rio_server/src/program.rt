@@ -7,10 +7,10 @@ ghost use Rattle.rio_server.specs.Command.{IsServe, RunServes, WritesLine, last_
 ghost use Rattle.rio_server.specs.declared.format_words.FormatSizes.{FormatSizes};
 ghost use Rattle.rio_server.specs.Commands.{IsCommand};
 ghost use Rattle.rio_server.specs.Format.{Formats, IsFormat};
-ghost use Rattle.rio_server.specs.Registry.{IsAbsent, IsRegistry, Lists};
+ghost use Rattle.rio_server.specs.Registry.{IsRegistry, Lists};
+ghost use Rattle.rio_base.specs.Hosts.{IsAbsent};
 ghost use Rattle.rio_server.specs.Served.{served_fresh};
 
-use crate::ends::ServeEnd;
 use crate::format::format;
 use crate::format_words::format_of;
 use crate::fresh_machine::served_core;
@@ -18,9 +18,10 @@ use crate::last_line::say;
 use crate::registry_command::show_registry;
 use crate::registry_words::registry_of;
 use crate::serve_words::serve_of;
-use crate::serving::serve_with;
-use rio_base::{Host, Sink, Source};
-use rio_core::Server;
+use crate::serving::serve;
+use rio_base::{Host, Machine, Sink, Source};
+use rio_core::Core;
+use rio_serving::{ServeEnd, Server};
 use std::alloc::Global;
 
 /// What is printed where the words are no command.
@@ -127,18 +128,18 @@ fn serve_from_root<S: Source, K: Sink>(alloc: Global, source: &mut S, sink: &mut
 
 /// Serves from a core that holds the root directory alone, on a machine that has no cause to stop and whose disk never
 /// fails, and writes the last line.
-fn serve_from_core<C: Server, S: Source, K: Sink>(
+fn serve_from_core<M: Machine, S: Source, K: Sink>(
     alloc: Global,
-    core: &mut C,
+    core: &mut Core<M>,
     source: &mut S,
     sink: &mut K,
 ) -> u8
-    requires sound { C.sound core.old }
-    requires holds { C.holds core.old served_fresh }
-    requires health { C.health core.old ≡ record { faults = 0; stopped = false } }
-    requires unset { (C.below core.old).causes.stop_set ≡ false }
-    requires unarmed { (C.below core.old).causes.armed ≡ None }
-    requires limit { (C.below core.old).limit ≡ Some 0 }
+    requires sound { ⟦<Core<M> as Server>⟧.sound core.old }
+    requires holds { ⟦<Core<M> as Server>⟧.holds core.old served_fresh }
+    requires health { ⟦<Core<M> as Server>⟧.health core.old ≡ record { faults = 0; stopped = false } }
+    requires unset { (⟦<Core<M> as Server>⟧.below core.old).causes.stop_set ≡ false }
+    requires unarmed { (⟦<Core<M> as Server>⟧.below core.old).causes.armed ≡ None }
+    requires limit { (⟦<Core<M> as Server>⟧.below core.old).limit ≡ Some 0 }
     ensures served { RunServes served_fresh result (Rose (K.faults sink.old) (K.faults sink.new)) (S.left source.old) (S.left source.new) (K.written sink.old) (K.written sink.new) }
     ensures source_fault { result ≡ 8 → Rose (S.faults source.old) (S.faults source.new) }
     ensures sink_fault { result ≡ 9 → Rose (K.faults sink.old) (K.faults sink.new) }
@@ -147,9 +148,9 @@ fn serve_from_core<C: Server, S: Source, K: Sink>(
     ensures over { (input : List ℕ) → S.left source.old ≡ Some input → 2 ^ 40 < length input → result ≢ 0 }
     ensures complete { (input : List ℕ) → S.left source.old ≡ Some input → length input ≤ 2 ^ 40
         → (Rose (S.faults source.old) (S.faults source.new) → ⊥) → (Rose (K.faults sink.old) (K.faults sink.new) → ⊥) → (result ≡ 0) ⊎ (result ≡ 6) }
-    ensures sound { C.sound core.new }
+    ensures sound { ⟦<Core<M> as Server>⟧.sound core.new }
 {
-    let end = serve_with(alloc, core, source, sink);
+    let end = serve(alloc, core, source, sink);
     conclude(end, sink)
 }
 

@@ -1,27 +1,16 @@
 //! Serving request lines until the input ends.
 
-ghost use Rattle.std.specs.Prelude.{◌≡◌, ◌≢◌, ◌≤◌, ◌^◌, ℕ, true, false, [], Some, IfOk, IfErr, IfSome, IsErrOf, OnOk, OnErr, length, take};
-ghost use Rattle.rio_base.specs.Counts.{HasCause, Rose, RoseBy};
-ghost use Rattle.rio_base.specs.Streams.{appended, IsSpent};
+ghost use Rattle.std.specs.Prelude.{◌≡◌, ◌≢◌, ◌≤◌, ℕ, true, Some};
+ghost use Rattle.rio_base.specs.Counts.{Rose};
 ghost use Rattle.rio_base.specs.Volume.{Runs};
-ghost use Rattle.rio_requests.specs.Requests.{IsRequest};
 ghost use Rattle.rio_model.specs.declared.state.State.{State};
-ghost use Rattle.request_codec.specs.Form.{Means};
-ghost use Rattle.request_codec.specs.Text.{text_of};
-ghost use Rattle.rio_server.specs.Asking.{AsksFor, Stops};
-ghost use Rattle.rio_server.specs.ServeRun.{AnswersLine, RunEnds, fault_of};
+ghost use Rattle.rio_core.specs.Lines.{core_protocol};
+ghost use Rattle.rio_serving.specs.ServeRun.{RunEnds};
 
-use crate::ends::ServeEnd;
-use request_codec::{
-    LineFail, LineReader, NextLine, ROOM_BYTES, long_lines_mean_nothing, parse_line, write_reply_in,
-};
-use rio_base::{Failed, Machine, Sink, Source, Stopped};
-use rio_core::{Core, Server};
-use rio_requests::{Reply, Request};
-use std::alloc::{AllocError, Global};
-
-/// The number of the reply to a line that is no request.
-const BAD_REQUEST: u8 = 1;
+use rio_base::{Machine, Sink, Source};
+use rio_core::Core;
+use rio_serving::{ServeEnd, Server, serve_with};
+use std::alloc::Global;
 
 /// Serves lines until the input ends, each reply written before the next line is asked for.
 pub fn serve<M: Machine, S: Source, K: Sink>(
@@ -32,7 +21,7 @@ pub fn serve<M: Machine, S: Source, K: Sink>(
 ) -> ServeEnd
     requires sound { ⟦<Core<M> as Server>⟧.sound core.old }
     requires holds { (s : State) × ⟦<Core<M> as Server>⟧.holds core.old s }
-    ensures run { (s : State) → ⟦<Core<M> as Server>⟧.holds core.old s → RunEnds (⟦<Core<M> as Server>⟧.holds core.new) (⟦<Core<M> as Server>⟧.stands core.new) s result (S.left source.old) (S.left source.new) (K.written sink.old) (K.written sink.new) (⟦<Core<M> as Server>⟧.health core.old).faults (⟦<Core<M> as Server>⟧.health core.new).faults }
+    ensures run { (s : State) → ⟦<Core<M> as Server>⟧.holds core.old s → RunEnds core_protocol (⟦<Core<M> as Server>⟧.holds core.new) (⟦<Core<M> as Server>⟧.stands core.new) s result (S.left source.old) (S.left source.new) (K.written sink.old) (K.written sink.new) (⟦<Core<M> as Server>⟧.health core.old) (⟦<Core<M> as Server>⟧.below core.old) (⟦<Core<M> as Server>⟧.health core.new) (⟦<Core<M> as Server>⟧.below core.new) }
     ensures runs { Runs (⟦<Core<M> as Server>⟧.health core.old) (⟦<Core<M> as Server>⟧.below core.old) (⟦<Core<M> as Server>⟧.health core.new) (⟦<Core<M> as Server>⟧.below core.new) }
     ensures limited { (most : ℕ) → (⟦<Core<M> as Server>⟧.below core.old).limit ≡ Some most → (⟦<Core<M> as Server>⟧.health core.new).faults ≤ most }
     ensures sound { ⟦<Core<M> as Server>⟧.sound core.new }
@@ -44,159 +33,4 @@ pub fn serve<M: Machine, S: Source, K: Sink>(
     ensures sink_later { K.faults sink.old ≤ K.faults sink.new }
 {
     serve_with(alloc, core, source, sink)
-}
-
-/// The same of any server.
-pub fn serve_with<C: Server, S: Source, K: Sink>(
-    alloc: Global,
-    core: &mut C,
-    source: &mut S,
-    sink: &mut K,
-) -> ServeEnd
-    requires sound { C.sound core.old }
-    requires holds { (s : State) × C.holds core.old s }
-    ensures run { (s : State) → C.holds core.old s → RunEnds (C.holds core.new) (C.stands core.new) s result (S.left source.old) (S.left source.new) (K.written sink.old) (K.written sink.new) (C.health core.old).faults (C.health core.new).faults }
-    ensures runs { Runs (C.health core.old) (C.below core.old) (C.health core.new) (C.below core.new) }
-    ensures limited { (most : ℕ) → (C.below core.old).limit ≡ Some most → (C.health core.new).faults ≤ most }
-    ensures sound { C.sound core.new }
-    ensures source_fault { result ≡ ServeEnd.SourceFault → Rose (S.faults source.old) (S.faults source.new) }
-    ensures sink_fault { result ≡ ServeEnd.SinkFault → Rose (K.faults sink.old) (K.faults sink.new) }
-    ensures stopped { result ≡ ServeEnd.Stopped → (C.health core.new).stopped ≡ true }
-    ensures steady { result ≢ ServeEnd.SinkFault → K.faults sink.new ≡ K.faults sink.old }
-    ensures later { S.faults source.old ≤ S.faults source.new }
-    ensures sink_later { K.faults sink.old ≤ K.faults sink.new }
-{
-    let Ok(mut reader) = LineReader::new(alloc) else {
-        return ServeEnd::Memory;
-    };
-    let Ok(mut room) = make_room(alloc) else {
-        return ServeEnd::Memory;
-    };
-    match serve_lines(alloc, core, &mut reader, room.as_mut_slice(), source, sink) {
-        Ok(end) => end,
-        Err(_) => ServeEnd::Stopped,
-    }
-}
-
-/// Where replies are gathered, so that each reaches the sink in one call.
-fn make_room(alloc: Global) -> Result<Vec<u8>, AllocError>
-    ensures { IfOk result (λ room. length room.items ≡ 4096) }
-{
-    vec![in alloc; 0u8; ROOM_BYTES]
-}
-
-/// Serves lines, by way of a reader that has taken nothing yet.
-fn serve_lines<C: Server, S: Source, K: Sink>(
-    alloc: Global,
-    core: &mut C,
-    reader: &mut LineReader,
-    room: &mut [u8],
-    source: &mut S,
-    sink: &mut K,
-) -> Result<ServeEnd, Stopped>
-    requires sound { C.sound core.old }
-    requires holds { (s : State) × C.holds core.old s }
-    requires fresh { reader.old ≡ record { held = []; taken = 0; ended = false } }
-    requires wide { 2 ≤ length room.old }
-    ensures run { IfOk result (λ end. (s : State) → C.holds core.old s → RunEnds (C.holds core.new) (C.stands core.new) s end (S.left source.old) (S.left source.new) (K.written sink.old) (K.written sink.new) (C.health core.old).faults (C.health core.new).faults) }
-    ensures stopped { OnErr result ((s : State) → C.holds core.old s → RunEnds (C.holds core.new) (C.stands core.new) s ServeEnd.Stopped (S.left source.old) (S.left source.new) (K.written sink.old) (K.written sink.new) (C.health core.old).faults (C.health core.new).faults) }
-    ensures halted { OnErr result ((C.health core.new).stopped ≡ true) }
-    ensures other { IfOk result (λ end. end ≢ ServeEnd.Stopped) }
-    ensures runs { Runs (C.health core.old) (C.below core.old) (C.health core.new) (C.below core.new) }
-    ensures source_fault { IfOk result (λ end. end ≡ ServeEnd.SourceFault → Rose (S.faults source.old) (S.faults source.new)) }
-    ensures sink_fault { IfOk result (λ end. end ≡ ServeEnd.SinkFault → Rose (K.faults sink.old) (K.faults sink.new)) }
-    ensures steady { IfOk result (λ end. end ≢ ServeEnd.SinkFault → K.faults sink.new ≡ K.faults sink.old) }
-    ensures steady_stop { OnErr result (K.faults sink.new ≡ K.faults sink.old) }
-    ensures later { S.faults source.old ≤ S.faults source.new }
-    ensures sink_later { K.faults sink.old ≤ K.faults sink.new }
-    ensures sound { C.sound core.new }
-{
-    loop {
-        let request = match ask(alloc, reader, source) {
-            Ok(request) => request,
-            Err(end) => return Ok(end),
-        };
-        let reply = reply_to(alloc, core, request)?;
-        match send(reply, room, sink) {
-            Ok(()) => {}
-            Err(_) => return Ok(ServeEnd::SinkFault),
-        }
-    }
-}
-
-/// What the next line asks for, or `None` where it is no request; or why no line comes. A line that is held whole, as most
-/// are, is read where it stands.
-fn ask<S: Source>(
-    alloc: Global,
-    reader: &mut LineReader,
-    source: &mut S,
-) -> Result<Option<Request>, ServeEnd>
-    requires within { reader.old.taken ≤ 2 ^ 40 }
-    requires spent { reader.old.ended ≡ true → IsSpent (S.left source.old) }
-    ensures line { IfOk result (λ request. AsksFor reader.old (S.left source.old) request reader.new (S.left source.new)) }
-    ensures end { IfErr result (λ end. Stops reader.old (S.left source.old) end reader.new (S.left source.new)) }
-    ensures later { S.faults source.old ≤ S.faults source.new }
-    ensures cause { IsErrOf result ServeEnd.SourceFault → Rose (S.faults source.old) (S.faults source.new) }
-{
-    if let Some(line) = reader.held_line() {
-        let len = line.len();
-        let request = meaning_of(alloc, line)?;
-        reader.pass_line(len);
-        return Ok(request);
-    }
-    match reader.next_line(source) {
-        Ok(NextLine::Line(line)) => meaning_of(alloc, line.as_slice()),
-        Ok(NextLine::TooLong) => {
-            long_lines_mean_nothing();
-            Ok(None)
-        }
-        Ok(NextLine::End) => Err(ServeEnd::End),
-        Err(LineFail::Fault) => Err(ServeEnd::SourceFault),
-        Err(LineFail::Limit) => Err(ServeEnd::InputLimit),
-        Err(LineFail::Memory) => Err(ServeEnd::Memory),
-    }
-}
-
-/// What a line asks for, or that it is no request.
-fn meaning_of(alloc: Global, line: &[u8]) -> Result<Option<Request>, ServeEnd>
-    ensures meaning { IfOk result (Means line.now) }
-    ensures request { IfOk result (λ request. IfSome request IsRequest) }
-    ensures memory { IfErr result (λ end. end ≡ ServeEnd.Memory) }
-{
-    match parse_line(alloc, line) {
-        Ok(request) => Ok(request),
-        Err(_) => Err(ServeEnd::Memory),
-    }
-}
-
-/// The reply to a request, or to a line that is none.
-fn reply_to<C: Server>(
-    alloc: Global,
-    core: &mut C,
-    request: Option<Request>,
-) -> Result<Reply, Stopped>
-    requires sound { C.sound core.old }
-    requires holds { (s : State) × C.holds core.old s }
-    requires request { IfSome request IsRequest }
-    ensures answered { (s : State) → C.holds core.old s → AnswersLine (C.holds core.new) (C.stands core.new) s request result }
-    ensures counted { IfOk result (λ reply. RoseBy (fault_of reply) (C.health core.old).faults (C.health core.new).faults) }
-    ensures halted { OnErr result ((C.health core.new).stopped ≡ true) }
-    ensures runs { Runs (C.health core.old) (C.below core.old) (C.health core.new) (C.below core.new) }
-    ensures sound { C.sound core.new }
-{
-    match &request {
-        Some(request) => core.answer(alloc, request),
-        None => Ok(Reply::Err(BAD_REQUEST)),
-    }
-}
-
-/// Writes a reply.
-fn send<K: Sink>(reply: Reply, room: &mut [u8], sink: &mut K) -> Result<(), Failed>
-    requires { 2 ≤ length room.old }
-    ensures ok { OnOk result (K.written sink.new ≡ appended (K.written sink.old) (text_of reply)) }
-    ensures cut { OnErr result ((k : ℕ) × (k ≤ length (text_of reply)) × (K.written sink.new ≡ appended (K.written sink.old) (take k (text_of reply)))) }
-    ensures steady { OnOk result (K.faults sink.new ≡ K.faults sink.old) }
-    ensures cause { HasCause result (K.faults sink.old) (K.faults sink.new) }
-{
-    write_reply_in(&reply, room, sink)
 }
