@@ -15,26 +15,26 @@ pub(crate) fn reply_of(alloc: Global, told: &str) -> Result<Reply, AllocError> {
     let (kind, parts) = first_word(told);
     match kind {
         "ok" => Ok(Reply::Ok),
-        "number" => Ok(Reply::Number(number(parts))),
+        "number" => Ok(Reply::Number(number(parts)?)),
         "bytes" => Ok(Reply::Bytes(Octets::from(expanded(alloc, parts)?))),
-        "stat" => Ok(stat_of(parts)),
+        "stat" => stat_of(parts),
         "names" => names_of(alloc, parts),
         "inos" => inos_of(alloc, parts),
         "err" => Ok(Reply::Err(parts.parse::<u8>().unwrap_or(255))),
-        "fault" => Ok(Reply::Fault(number(parts))),
+        "fault" => Ok(Reply::Fault(number(parts)?)),
         _ => Ok(Reply::Err(255)),
     }
 }
 
 /// An inode, a kind and a size.
-fn stat_of(parts: &str) -> Reply {
+fn stat_of(parts: &str) -> Result<Reply, AllocError> {
     let (ino, rest) = first_word(parts);
     let (kind, size) = first_word(rest);
-    Reply::Stat {
+    Ok(Reply::Stat {
         ino: Ino(ino.parse::<u32>().unwrap_or(0)),
         kind: kind.parse::<u8>().unwrap_or(0),
-        size: number(size),
-    }
+        size: number(size)?,
+    })
 }
 
 fn names_of(alloc: Global, parts: &str) -> Result<Reply, AllocError> {

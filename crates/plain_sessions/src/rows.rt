@@ -22,12 +22,12 @@ pub(crate) fn put_row(
         "each" => {
             let (place, line) = first_word(rest);
             let mut line = expanded(alloc, line)?;
-            put_each(alloc, &mut line, number(place) as usize, out)
+            put_each(alloc, &mut line, number(place)? as usize, out)
         }
         "lines" => {
             let (most, input) = first_word(rest);
             let input = expanded(alloc, input)?;
-            put_lines(alloc, input.as_slice(), number(most) as usize, out)
+            put_lines(alloc, input.as_slice(), number(most)? as usize, out)
         }
         "texts" => put_texts(alloc, rest, out),
         _ => out.push_str("    no such command\n"),

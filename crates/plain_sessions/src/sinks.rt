@@ -66,7 +66,7 @@ pub(crate) fn put_writing(
         "takes nothing" => put_full(reply, out),
         _ => {
             let (_, call) = first_word(kind);
-            put_failing(alloc, reply, number(call).max(1), text.as_slice(), out)
+            put_failing(alloc, reply, number(call)?.max(1), text.as_slice(), out)
         }
     }
 }

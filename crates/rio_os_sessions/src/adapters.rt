@@ -21,7 +21,7 @@ fn steps_of(alloc: Global, text: &str) -> Result<Vec<Trouble>, AllocError> {
         return Ok(steps);
     }
     for word in text.split(' ') {
-        steps.push(Trouble::said(word))?;
+        steps.push(Trouble::said(word)?)?;
     }
     Ok(steps)
 }
@@ -35,7 +35,7 @@ pub fn read_as_said(alloc: Global, rest: &str, out: &mut Vec<u8>) -> Result<(), 
     let mut reader = ScriptedReader::new(bytes.as_slice(), steps.as_slice());
     let mut source = InputSource::new(&mut reader);
     for size in sizes.split(' ') {
-        let mut into = vec![in alloc; b'-'; number(size) as usize]?;
+        let mut into = vec![in alloc; b'-'; number(size)? as usize]?;
         let answer = source.read(into.as_mut_slice());
         let mut line = Vec::from_slice(alloc, into.as_slice())?;
         let faults = source.faults();

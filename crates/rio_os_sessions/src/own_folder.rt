@@ -38,6 +38,11 @@ impl<R: Files + AllocGlobal + Clone + Drop> OwnFolder<R> {
         format!(in self.alloc; "{}/{name}", self.path)
     }
 
+    /// The same path from the root on.
+    pub fn path_from_root(&self, name: &str) -> Result<String, AllocError> {
+        format!(in self.alloc; "/proc/self/cwd/{}/{name}", self.path)
+    }
+
     /// The names of all that is in the folder, in their order, with a space before each.
     pub fn names(&self) -> io::Result<String> {
         let mut names = Vec::new(self.alloc);

@@ -98,8 +98,12 @@ impl<'a, R: Files + AllocGlobal + Clone + Drop, W: Files + Drop> Session<'a, R, 
         }
     }
 
-    /// The path of a name: in the folder, but for one that begins with a slash.
+    /// The path of a name: in the folder, and of one that begins with two slashes from the root on. One that begins with
+    /// one slash is a path itself.
     fn path(&self, name: &str) -> io::Result<String> {
+        if let Some(name) = name.strip_prefix("//") {
+            return Ok(self.folder.path_from_root(name)?);
+        }
         if name.starts_with('/') {
             return Ok(String::from_str(self.alloc, name)?);
         }
@@ -133,7 +137,7 @@ impl<'a, R: Files + AllocGlobal + Clone + Drop, W: Files + Drop> Session<'a, R, 
     /// The next call of this kind meets a trouble, once those before it were met.
     fn add_trouble(&mut self, call: &str, trouble: &str) -> io::Result<()> {
         match Call::named(call) {
-            Some(call) => self.watch.add_trouble(call, Trouble::said(trouble)),
+            Some(call) => self.watch.add_trouble(call, Trouble::said(trouble)?),
             None => Err(io::Error::from(io::ErrorKind::InvalidInput)),
         }
     }

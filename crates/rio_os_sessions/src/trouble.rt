@@ -1,5 +1,6 @@
 //! What goes wrong at a call of the system, of a reader or of a writer.
 
+use std::alloc::AllocError;
 use std::io::ErrorKind;
 use test_scripts::number;
 
@@ -14,7 +15,7 @@ pub enum Trouble {
 
 impl Trouble {
     /// The trouble that a word says: the number of bytes that are moved at most, or a kind of failure.
-    pub fn said(word: &str) -> Trouble {
+    pub fn said(word: &str) -> Result<Trouble, AllocError> {
         let kind = match word {
             "other" => ErrorKind::Other,
             "broken-pipe" => ErrorKind::BrokenPipe,
@@ -24,8 +25,8 @@ impl Trouble {
             "interrupted" => ErrorKind::Interrupted,
             "storage-full" => ErrorKind::StorageFull,
             "permission-denied" => ErrorKind::PermissionDenied,
-            _ => return Trouble::Moves(number(word) as usize),
+            _ => return Ok(Trouble::Moves(number(word)? as usize)),
         };
-        Trouble::Fails(kind)
+        Ok(Trouble::Fails(kind))
     }
 }

@@ -5,7 +5,7 @@ use rio_fakes::{MemHost, MemSink, MemSource};
 use rio_server::run;
 use std::alloc::{AllocError, Global};
 use std::mem;
-use test_scripts::{first_word, number, tell_line};
+use test_scripts::{first_word, number, tell_line, tell_number};
 
 /// A fresh pair of an image with 64 frames and a volume of 256 blocks.
 const FRESH: &str = "format m d --frames 64 --blocks 256 --inodes 64 --scratch 1";
@@ -49,7 +49,7 @@ impl Shelf {
             "cut" => self.cut(&name, value)?,
             "lengthen" => self.lengthen(&name, value)?,
             "keep" => self.kept = self.bytes_of(&name)?,
-            "host-fails" => self.host.fail_call(number(rest).max(1))?,
+            "host-fails" => self.host.fail_call(number(rest)?.max(1))?,
             _ => return self.tell_of(word, &name, value, out),
         }
         Ok(true)
@@ -68,10 +68,7 @@ impl Shelf {
             "size" => self.tell_size(name, out)?,
             "bytes" => tell_line(out, self.bytes_of(name)?.as_slice())?,
             "word" => self.tell_word(name, value, out)?,
-            "host-faults" => {
-                let faults = self.host.faults();
-                tell_line(out, format!(in self.alloc; "{faults}")?.as_bytes())?;
-            }
+            "host-faults" => tell_number(out, "", self.host.faults())?,
             _ => return Ok(false),
         }
         Ok(true)
@@ -99,25 +96,24 @@ impl Shelf {
     /// Writes a word into a file, at the place of a word.
     fn patch(&mut self, name: &String, value: &str) -> Result<(), AllocError> {
         let (place, word) = first_word(value);
-        let word = number(word).to_le_bytes();
-        let written = self
-            .host
-            .write_at(name, number(place).saturating_mul(8), word.as_slice());
+        let off = number(place)?.saturating_mul(8);
+        let word = number(word)?.to_le_bytes();
+        let written = self.host.write_at(name, off, word.as_slice());
         written.map_err(|_| AllocError)
     }
 
     /// Takes all bytes of a file away but the first.
     fn cut(&mut self, name: &String, size: &str) -> Result<(), AllocError> {
+        let size = number(size)? as usize;
         let mut bytes = self.bytes_of(name)?;
-        bytes.truncate(number(size) as usize);
+        bytes.truncate(size);
         self.host.put(name, bytes.as_slice())
     }
 
     /// Writes a zero as the last byte that a file of this size has.
     fn lengthen(&mut self, name: &String, size: &str) -> Result<(), AllocError> {
-        let written = self
-            .host
-            .write_at(name, number(size).saturating_sub(1), b"\0");
+        let last = number(size)?.saturating_sub(1);
+        let written = self.host.write_at(name, last, b"\0");
         written.map_err(|_| AllocError)
     }
 
@@ -134,18 +130,16 @@ impl Shelf {
     /// Tells how many bytes a file has.
     fn tell_size(&self, name: &String, out: &mut Vec<u8>) -> Result<(), AllocError> {
         match self.host.file(name) {
-            Some(bytes) => {
-                let size = bytes.len();
-                tell_line(out, format!(in self.alloc; "{size}")?.as_bytes())
-            }
+            Some(bytes) => tell_number(out, "", bytes.len() as u64),
             None => tell_line(out, b"no file"),
         }
     }
 
     /// Tells the eight bytes of a file's word.
     fn tell_word(&self, name: &String, place: &str, out: &mut Vec<u8>) -> Result<(), AllocError> {
+        let place = number(place)? as usize;
         let bytes = self.bytes_of(name)?;
-        let Some(word) = bytes.as_slice().chunks_exact(8).nth(number(place) as usize) else {
+        let Some(word) = bytes.as_slice().chunks_exact(8).nth(place) else {
             return tell_line(out, b"no word");
         };
         let mut text = String::new(self.alloc);

@@ -1,13 +1,8 @@
 //! Sessions of the program over files in memory: what a script says is run, and what came is printed under each line.
 #![tactic(auto)]
 
-mod drawn_lines;
-mod faults;
 mod files;
-mod plain_server;
-mod served;
 mod session;
-mod walks;
 
 use crate::session::Session;
 use std::io::{self, BufRead, BufReader, BufWriter, Write};

@@ -3,7 +3,7 @@
 ghost use Rattle.std.specs.Prelude.{IfOk, IfSome};
 ghost use Rattle.block_disk.specs.MemDisks.{state_of};
 ghost use Rattle.rio_base.specs.Image.{AreImageSizes};
-ghost use Rattle.image_codec.specs.Volume.{IsVolumeShape};
+ghost use Rattle.rio_base.specs.Shapes.{IsServed};
 ghost use Rattle.rio_server.specs.FreshMachines.{IsFreshDisk};
 
 use block_disk::MemDisk;
@@ -20,23 +20,48 @@ pub struct Sizes {
     pub inodes: u32,
 }
 
-/// Those that the program serves.
-pub const SERVED: Sizes = Sizes {
-    frames: 64,
-    blocks: 256,
-    inodes: 64,
-};
+/// The number, or the greatest of 32 bits where it is greater.
+fn narrow(n: u64) -> u32 {
+    u32::try_from(n).unwrap_or(u32::MAX)
+}
 
-/// A block that the disk fails to read so many times.
+impl Sizes {
+    /// So many frames, blocks and inodes.
+    pub fn of(frames: u64, blocks: u64, inodes: u64) -> Sizes {
+        Sizes {
+            frames: narrow(frames),
+            blocks: narrow(blocks),
+            inodes: narrow(inodes),
+        }
+    }
+}
+
+/// A block that the disk fails to read so many times, from the first read on.
 #[derive(Clone, Copy, Debug)]
 pub struct BadBlock {
-    pub block: Block,
-    pub reads: u64,
+    block: Block,
+    reads: u64,
+}
+
+/// None: no read fails.
+pub const NO_BAD_BLOCK: BadBlock = BadBlock {
+    block: Block(0),
+    reads: 0,
+};
+
+impl BadBlock {
+    /// So many reads of block `b` fail.
+    pub fn of(b: u64, reads: u64) -> BadBlock {
+        BadBlock {
+            block: Block(narrow(b)),
+            reads,
+        }
+    }
 }
 
 /// These sizes, where there can be such a machine.
 pub fn checked(sizes: Sizes) -> Option<FormatSizes>
-    ensures { IfSome result (λ found. AreImageSizes found.frames 1 × IsVolumeShape found.shape) }
+    ensures { IfSome result (λ found. AreImageSizes found.frames 1 × IsServed found.shape) }
 {
     let frames = u64::from(sizes.frames);
     let blocks = u64::from(sizes.blocks);
@@ -58,7 +83,7 @@ pub struct Served {
 
 /// A disk with a fresh volume, of which the first reads of a block fail.
 fn disk_failing_at(alloc: Global, shape: &VolumeShape, bad: BadBlock) -> Result<MemDisk, AllocError>
-    requires shape { IsVolumeShape shape.now }
+    requires shape { IsServed shape.now }
     ensures { IfOk result (λ d. IsFreshDisk shape.now (state_of d).blocks (state_of d).pending) }
 {
     let mut disk = fresh_disk(alloc, shape)?;
@@ -66,7 +91,8 @@ fn disk_failing_at(alloc: Global, shape: &VolumeShape, bad: BadBlock) -> Result<
     Ok(disk)
 }
 
-/// Serves lines from a fresh volume on such a disk. They come in pieces of `most` bytes.
+/// Serves lines from a fresh volume on such a disk. They come in pieces of up to `most` bytes. An error is want of memory, or
+/// sizes that no machine has.
 pub fn serve_lines_of(
     alloc: Global,
     sizes: Sizes,

@@ -1,9 +1,9 @@
 //! Walks of drawn requests, whose replies are those of the plain definition.
 
 use crate::drawn_lines::{Draws, drawn_flush, drawn_line};
-use crate::plain_server::{answer_line, root_alone};
-use crate::served::Sizes;
+use crate::plain_server::Plain;
 use std::alloc::{AllocError, Global};
+use test_servers::Sizes;
 
 /// What is drawn.
 #[derive(Clone, Copy, Debug)]
@@ -36,6 +36,23 @@ pub struct Walk {
     pub wanted: Vec<u8>,
 }
 
+impl Walk {
+    /// No line yet.
+    fn new(alloc: Global) -> Walk {
+        Walk {
+            input: String::new(alloc),
+            wanted: Vec::new(alloc),
+        }
+    }
+
+    /// A line more.
+    fn push(&mut self, plain: &mut Plain, line: String) -> Result<(), AllocError> {
+        plain.answer_line(line.as_str(), &mut self.wanted)?;
+        self.input.push_str(line.as_str())?;
+        self.input.push('\n')
+    }
+}
+
 /// Draws a walk of `count` lines, and as many flushes as are put between.
 pub fn walk_of(
     alloc: Global,
@@ -46,22 +63,17 @@ pub fn walk_of(
 ) -> Result<Walk, AllocError> {
     let mut draws = Draws::new(seed);
     let mut flush_draws = Draws::new(seed.wrapping_add(1));
-    let mut s = root_alone(alloc, sizes)?;
-    let mut input = String::new(alloc);
-    let mut wanted = Vec::new(alloc);
+    let mut plain = Plain::new(alloc, sizes)?;
+    let mut walk = Walk::new(alloc);
     for _ in 0..count {
         if mix.flushes && flush_draws.below(8) == 0 {
             let line = drawn_flush(alloc, &mut flush_draws)?;
-            s = answer_line(alloc, s, line.as_str(), &mut wanted)?;
-            input.push_str(line.as_str())?;
-            input.push('\n')?;
+            walk.push(&mut plain, line)?;
         }
         let line = drawn_line(alloc, &mut draws, mix.regions)?;
-        s = answer_line(alloc, s, line.as_str(), &mut wanted)?;
-        input.push_str(line.as_str())?;
-        input.push('\n')?;
+        walk.push(&mut plain, line)?;
     }
-    Ok(Walk { input, wanted })
+    Ok(walk)
 }
 
 /// The number of the first line, from 1, in which two texts differ, or `None` where they are the same.
