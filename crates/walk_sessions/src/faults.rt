@@ -194,7 +194,11 @@ fn ask<C: AnswersRequests>(alloc: Global, core: &mut C, request: &Request) -> Re
 }
 
 /// The text of the reply to a request, made again where it met a fault.
-fn insisted<C: AnswersRequests>(alloc: Global, core: &mut C, request: &Request) -> Result<Vec<u8>, WalkEnd>
+fn insisted<C: AnswersRequests>(
+    alloc: Global,
+    core: &mut C,
+    request: &Request,
+) -> Result<Vec<u8>, WalkEnd>
     requires sound { C.sound core.old }
     requires holds { (s : StateOf) × C.holds core.old s }
     requires request { IsRequest request.now }
