@@ -1,4 +1,8 @@
 pub mod Failing
+pub mod FileBlocks
+pub mod FileReads
+pub mod HostDiskRules
+pub mod HostFiles
 pub mod Marks
 pub mod Replacing
 pub mod Rows

@@ -1,2 +1,3 @@
 pub mod BlockLists
+pub mod HostDisks
 pub mod MemDisks
