@@ -15,14 +15,14 @@ use block_disk::MemDisk;
 use board::Board;
 use image_codec::{fresh_image, fresh_volume};
 use page_cache::{CacheTables, PageCache};
-use phys_memory::ListMem;
+use phys_memory::{Memory, memory_of};
 use rio_base::{Blocks, Machine, Volume, VolumeShape};
 use rio_core::Core;
 use rio_serving::Server;
 use std::alloc::{AllocError, Global};
 
 /// A machine in memory.
-pub type MemBoard = Board<ListMem, MemDisk>;
+pub type MemBoard = Board<Memory, MemDisk>;
 
 /// The shape of the volume that is served.
 const SHAPE: VolumeShape = VolumeShape {
@@ -48,14 +48,15 @@ pub fn fresh_disk(alloc: Global, shape: &VolumeShape) -> Result<MemDisk, AllocEr
 /// A machine whose memory is a fresh image of so many frames and one page of scratch, over this disk.
 fn fresh_board(alloc: Global, frames: u32, disk: MemDisk) -> Result<MemBoard, AllocError>
     requires { AreImageSizes frames 1 }
-    ensures memory { IfOk result (λ m. IsFreshMemory frames (⟦<Board<ListMem, MemDisk> as Machine>⟧.contents m) (⟦<Board<ListMem, MemDisk> as Machine>⟧.run m)) }
-    ensures disk { IfOk result (λ m. (⟦<Board<ListMem, MemDisk> as Machine>⟧.contents m).disk ≡ (state_of disk).blocks) }
-    ensures pending { IfOk result (λ m. (⟦<Board<ListMem, MemDisk> as Machine>⟧.contents m).pending ≡ (state_of disk).pending) }
-    ensures faults { IfOk result (λ m. (⟦<Board<ListMem, MemDisk> as Machine>⟧.contents m).faults ≡ (contents_of (state_of disk)).faults) }
-    ensures writes { IfOk result (λ m. (⟦<Board<ListMem, MemDisk> as Machine>⟧.contents m).writes ≡ (contents_of (state_of disk)).writes) }
+    ensures memory { IfOk result (λ m. IsFreshMemory frames (⟦<Board<Memory, MemDisk> as Machine>⟧.contents m) (⟦<Board<Memory, MemDisk> as Machine>⟧.run m)) }
+    ensures disk { IfOk result (λ m. (⟦<Board<Memory, MemDisk> as Machine>⟧.contents m).disk ≡ (state_of disk).blocks) }
+    ensures pending { IfOk result (λ m. (⟦<Board<Memory, MemDisk> as Machine>⟧.contents m).pending ≡ (state_of disk).pending) }
+    ensures faults { IfOk result (λ m. (⟦<Board<Memory, MemDisk> as Machine>⟧.contents m).faults ≡ (contents_of (state_of disk)).faults) }
+    ensures writes { IfOk result (λ m. (⟦<Board<Memory, MemDisk> as Machine>⟧.contents m).writes ≡ (contents_of (state_of disk)).writes) }
 {
     let words = fresh_image(alloc, frames, 1)?;
-    Ok(Board::new(ListMem::from_words(words), disk, 1, None))
+    let mem = memory_of(alloc, &words)?;
+    Ok(Board::new(mem, disk, 1, None))
 }
 
 /// A cache on such a machine, with no block in it. The disk has a fresh volume of this shape.
@@ -69,12 +70,12 @@ fn fresh_cache(
     requires frames { AreImageSizes frames 1 }
     requires shape { IsServed shape.now }
     requires disk { IsFreshDisk shape.now (state_of disk).blocks (state_of disk).pending }
-    ensures sound { IfOk result (λ c. ⟦<PageCache<Board<ListMem, MemDisk>> as Blocks>⟧.sound c) }
-    ensures reads { IfOk result (λ c. ReadsAs shape.now (⟦<PageCache<Board<ListMem, MemDisk>> as Blocks>⟧.seen c).words (fresh_state shape.now (image_pages frames 1) 1)) }
-    ensures ready { IfOk result (λ c. Ready shape.now (⟦<PageCache<Board<ListMem, MemDisk>> as Blocks>⟧.seen c) (⟦<PageCache<Board<ListMem, MemDisk>> as Volume>⟧.kept c)) }
-    ensures no_regions { IfOk result (λ c. (i : ℕ) → (held_of shape.now (⟦<PageCache<Board<ListMem, MemDisk>> as Blocks>⟧.seen c).words i).kind ≢ 3) }
-    ensures health { IfOk result (λ c. ⟦<PageCache<Board<ListMem, MemDisk>> as Blocks>⟧.health c ≡ record { faults = (state_of disk).faults; stopped = false }) }
-    ensures below { IfOk result (λ c. IsFreshBelow frames (contents_of (state_of disk)) (⟦<PageCache<Board<ListMem, MemDisk>> as Volume>⟧.below c)) }
+    ensures sound { IfOk result (λ c. ⟦<PageCache<Board<Memory, MemDisk>> as Blocks>⟧.sound c) }
+    ensures reads { IfOk result (λ c. ReadsAs shape.now (⟦<PageCache<Board<Memory, MemDisk>> as Blocks>⟧.seen c).words (fresh_state shape.now (image_pages frames 1) 1)) }
+    ensures ready { IfOk result (λ c. Ready shape.now (⟦<PageCache<Board<Memory, MemDisk>> as Blocks>⟧.seen c) (⟦<PageCache<Board<Memory, MemDisk>> as Volume>⟧.kept c)) }
+    ensures no_regions { IfOk result (λ c. (i : ℕ) → (held_of shape.now (⟦<PageCache<Board<Memory, MemDisk>> as Blocks>⟧.seen c).words i).kind ≢ 3) }
+    ensures health { IfOk result (λ c. ⟦<PageCache<Board<Memory, MemDisk>> as Blocks>⟧.health c ≡ record { faults = (state_of disk).faults; stopped = false }) }
+    ensures below { IfOk result (λ c. IsFreshBelow frames (contents_of (state_of disk)) (⟦<PageCache<Board<Memory, MemDisk>> as Volume>⟧.below c)) }
 {
     let tables = CacheTables::new(alloc, frames, shape.blocks)?;
     let board = fresh_board(alloc, frames, disk)?;
@@ -91,10 +92,10 @@ pub fn fresh_core(
     requires frames { AreImageSizes frames 1 }
     requires shape { IsServed shape }
     requires disk { IsFreshDisk shape (state_of disk).blocks (state_of disk).pending }
-    ensures sound { IfOk result (λ core. ⟦<Core<Board<ListMem, MemDisk>> as Server>⟧.sound core) }
-    ensures holds { IfOk result (λ core. ⟦<Core<Board<ListMem, MemDisk>> as Server>⟧.holds core (fresh_state shape (image_pages frames 1) 1)) }
-    ensures health { IfOk result (λ core. ⟦<Core<Board<ListMem, MemDisk>> as Server>⟧.health core ≡ record { faults = (state_of disk).faults; stopped = false }) }
-    ensures below { IfOk result (λ core. IsFreshBelow frames (contents_of (state_of disk)) (⟦<Core<Board<ListMem, MemDisk>> as Server>⟧.below core)) }
+    ensures sound { IfOk result (λ core. ⟦<Core<Board<Memory, MemDisk>> as Server>⟧.sound core) }
+    ensures holds { IfOk result (λ core. ⟦<Core<Board<Memory, MemDisk>> as Server>⟧.holds core (fresh_state shape (image_pages frames 1) 1)) }
+    ensures health { IfOk result (λ core. ⟦<Core<Board<Memory, MemDisk>> as Server>⟧.health core ≡ record { faults = (state_of disk).faults; stopped = false }) }
+    ensures below { IfOk result (λ core. IsFreshBelow frames (contents_of (state_of disk)) (⟦<Core<Board<Memory, MemDisk>> as Server>⟧.below core)) }
 {
     let cache = fresh_cache(alloc, frames, &shape, disk)?;
     match Core::new(alloc, cache, shape) {
@@ -114,12 +115,12 @@ fn faultless_core(
 ) -> Result<Core<MemBoard>, AllocError>
     requires frames { AreImageSizes frames 1 }
     requires shape { IsServed shape }
-    ensures sound { IfOk result (λ core. ⟦<Core<Board<ListMem, MemDisk>> as Server>⟧.sound core) }
-    ensures holds { IfOk result (λ core. ⟦<Core<Board<ListMem, MemDisk>> as Server>⟧.holds core (fresh_state shape (image_pages frames 1) 1)) }
-    ensures health { IfOk result (λ core. ⟦<Core<Board<ListMem, MemDisk>> as Server>⟧.health core ≡ record { faults = 0; stopped = false }) }
-    ensures unset { IfOk result (λ core. (⟦<Core<Board<ListMem, MemDisk>> as Server>⟧.below core).causes.stop_set ≡ false) }
-    ensures unarmed { IfOk result (λ core. (⟦<Core<Board<ListMem, MemDisk>> as Server>⟧.below core).causes.armed ≡ None) }
-    ensures limit { IfOk result (λ core. (⟦<Core<Board<ListMem, MemDisk>> as Server>⟧.below core).limit ≡ Some 0) }
+    ensures sound { IfOk result (λ core. ⟦<Core<Board<Memory, MemDisk>> as Server>⟧.sound core) }
+    ensures holds { IfOk result (λ core. ⟦<Core<Board<Memory, MemDisk>> as Server>⟧.holds core (fresh_state shape (image_pages frames 1) 1)) }
+    ensures health { IfOk result (λ core. ⟦<Core<Board<Memory, MemDisk>> as Server>⟧.health core ≡ record { faults = 0; stopped = false }) }
+    ensures unset { IfOk result (λ core. (⟦<Core<Board<Memory, MemDisk>> as Server>⟧.below core).causes.stop_set ≡ false) }
+    ensures unarmed { IfOk result (λ core. (⟦<Core<Board<Memory, MemDisk>> as Server>⟧.below core).causes.armed ≡ None) }
+    ensures limit { IfOk result (λ core. (⟦<Core<Board<Memory, MemDisk>> as Server>⟧.below core).limit ≡ Some 0) }
 {
     let disk = fresh_disk(alloc, &shape)?;
     let core = fresh_core(alloc, frames, shape, disk)?;
@@ -128,12 +129,12 @@ fn faultless_core(
 
 /// The core that `serve` starts with.
 pub fn served_core(alloc: Global) -> Result<Core<MemBoard>, AllocError>
-    ensures sound { IfOk result (λ core. ⟦<Core<Board<ListMem, MemDisk>> as Server>⟧.sound core) }
-    ensures holds { IfOk result (λ core. ⟦<Core<Board<ListMem, MemDisk>> as Server>⟧.holds core served_fresh) }
-    ensures health { IfOk result (λ core. ⟦<Core<Board<ListMem, MemDisk>> as Server>⟧.health core ≡ record { faults = 0; stopped = false }) }
-    ensures unset { IfOk result (λ core. (⟦<Core<Board<ListMem, MemDisk>> as Server>⟧.below core).causes.stop_set ≡ false) }
-    ensures unarmed { IfOk result (λ core. (⟦<Core<Board<ListMem, MemDisk>> as Server>⟧.below core).causes.armed ≡ None) }
-    ensures limit { IfOk result (λ core. (⟦<Core<Board<ListMem, MemDisk>> as Server>⟧.below core).limit ≡ Some 0) }
+    ensures sound { IfOk result (λ core. ⟦<Core<Board<Memory, MemDisk>> as Server>⟧.sound core) }
+    ensures holds { IfOk result (λ core. ⟦<Core<Board<Memory, MemDisk>> as Server>⟧.holds core served_fresh) }
+    ensures health { IfOk result (λ core. ⟦<Core<Board<Memory, MemDisk>> as Server>⟧.health core ≡ record { faults = 0; stopped = false }) }
+    ensures unset { IfOk result (λ core. (⟦<Core<Board<Memory, MemDisk>> as Server>⟧.below core).causes.stop_set ≡ false) }
+    ensures unarmed { IfOk result (λ core. (⟦<Core<Board<Memory, MemDisk>> as Server>⟧.below core).causes.armed ≡ None) }
+    ensures limit { IfOk result (λ core. (⟦<Core<Board<Memory, MemDisk>> as Server>⟧.below core).limit ≡ Some 0) }
 {
     faultless_core(alloc, FRAMES, SHAPE)
 }

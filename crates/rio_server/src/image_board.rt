@@ -11,7 +11,7 @@ use crate::ends::RegistryEnd;
 use crate::image_file::find_image;
 use block_disk::MemDisk;
 use board::Board;
-use phys_memory::ListMem;
+use phys_memory::{Memory, memory_of};
 use registry::{BadImage, check_image};
 use rio_base::{Host, Machine};
 use std::alloc::{AllocError, Global};
@@ -24,10 +24,10 @@ pub fn find_board<H: Host>(
     alloc: Global,
     name: &String,
     host: &mut H,
-) -> Result<Board<ListMem, MemDisk>, RegistryEnd>
+) -> Result<Board<Memory, MemDisk>, RegistryEnd>
     ensures files { H.files host.new ≡ H.files host.old }
-    ensures image { IfOk result (λ board. HoldsImage (H.files host.old) (string_bytes name.now) (⟦<Board<ListMem, MemDisk> as Machine>⟧.contents board).words) }
-    ensures layout { IfOk result (λ board. HasLayout (⟦<Board<ListMem, MemDisk> as Machine>⟧.contents board).words (⟦<Board<ListMem, MemDisk> as Machine>⟧.run board).scratch) }
+    ensures image { IfOk result (λ board. HoldsImage (H.files host.old) (string_bytes name.now) (⟦<Board<Memory, MemDisk> as Machine>⟧.contents board).words) }
+    ensures layout { IfOk result (λ board. HasLayout (⟦<Board<Memory, MemDisk> as Machine>⟧.contents board).words (⟦<Board<Memory, MemDisk> as Machine>⟧.run board).scratch) }
     ensures ends { IfErr result (λ end. Misses end (string_bytes name.now) (Rose (H.faults host.old) (H.faults host.new)) (H.files host.old)) }
     ensures later { H.faults host.old ≤ H.faults host.new }
 {
@@ -42,11 +42,12 @@ pub fn find_board<H: Host>(
 }
 
 /// A machine with an image's words.
-fn board_of(alloc: Global, words: Vec<u64>) -> Result<Board<ListMem, MemDisk>, AllocError>
+fn board_of(alloc: Global, words: Vec<u64>) -> Result<Board<Memory, MemDisk>, AllocError>
     requires { IsImage words.items }
-    ensures { IfOk result (λ board. Lies words.items (⟦<Board<ListMem, MemDisk> as Machine>⟧.contents board).words (⟦<Board<ListMem, MemDisk> as Machine>⟧.run board).scratch) }
+    ensures { IfOk result (λ board. Lies words.items (⟦<Board<Memory, MemDisk> as Machine>⟧.contents board).words (⟦<Board<Memory, MemDisk> as Machine>⟧.run board).scratch) }
 {
     let disk = MemDisk::new(alloc, 0)?;
     let scratch = words[SCRATCH_AT] as u32;
-    Ok(Board::new(ListMem::from_words(words), disk, scratch, None))
+    let mem = memory_of(alloc, &words)?;
+    Ok(Board::new(mem, disk, scratch, None))
 }
