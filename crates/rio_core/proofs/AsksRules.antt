@@ -1,10 +1,10 @@
 -- Laws of what lines ask of a core.
-use Rattle.std.proofs.Common.{◌≡◌, ℕ, List, inl, inr, subst, sym}
-use Rattle.std.specs.Prelude.{MatchOption, ◌⊎◌, Option, Some, None}
+use Rattle.std.proofs.Common.{◌≡◌, ℕ, List, refl, subst}
+use Rattle.std.specs.Prelude.{Option, Some, None}
 use Rattle.rio_requests.specs.declared.request.Request.{Request}
 use Rattle.rio_requests.specs.declared.request.Request.TheVariants.{Mkdir, Create, Region, Write, Read, Truncate, Unlink, Rmdir, Rename, Stat, List as ListOf, Sync, Begin, Range, Put, Get, Alloc, Free, Commit, Abort, Txns, Flush, Wild, Arm}
 use Rattle.rio_requests.specs.Requests.{IsRequest}
-use Rattle.request_codec.specs.Form.{Form}
+use Rattle.request_codec.specs.Form.{Form, Means}
 use Rattle.request_codec.proofs.OneMeaning.{meaning}
 use Rattle.rio_core.specs.Lines.{Asks, IsWild}
 
@@ -39,14 +39,10 @@ pub asks_request : (r : Request) → ((line : List ℕ) × Asks line (Some r)) �
 asks_request r (line, asks) = form_request line r asks.0
 
 -- a line of a wild store asks for nothing
-pub asks_wild : (line : List ℕ) (r : Request) → IsWild r → Form line r → Asks line None
-asks_wild line r wild form other is = subst IsWild (meaning line r other form is) wild
+pub asks_of_wild : (line : List ℕ) (asked : Option Request) → Means line asked → ((r : Request) × (asked ≡ Some r) × IsWild r) → Asks line None
+asks_of_wild line asked means (r, is, wild) other form = subst IsWild (meaning line r other (subst (Means line) is means) form) wild
 
-pub wild_of : (r : Request) → ((at : ℕ) × (value : ℕ) × (r ≡ Wild at value)) ⊎ ((step : ℕ) × (at : ℕ) × (value : ℕ) × (r ≡ Arm step at value)) → IsWild r
-wild_of r (inl (at, value, is)) = subst IsWild (sym is) tt
-wild_of r (inr (step, at, value, is)) = subst IsWild (sym is) tt
-
--- a line asks for the request that it has, if that is made yet
-pub made_asks : (line : List ℕ) (r : Request) (made : Option Request) → Form line r → MatchOption made (IsWild r) (λ q. (q ≡ r) × (IsWild r → ⊥)) → Asks line made
-made_asks line r None form wild = asks_wild line r wild form
-made_asks line r (Some q) form (same, other) = (subst (Form line) (sym same) form, λ wild. other (subst IsWild same wild))
+-- any other line for what it means
+pub asks_of_other : (line : List ℕ) (asked : Option Request) → Means line asked → ((r : Request) → asked ≡ Some r → IsWild r → ⊥) → Asks line asked
+asks_of_other line None means other = λ r form. absurd (means r form)
+asks_of_other line (Some r) means other = (means, other r refl)

@@ -1,6 +1,7 @@
 //! What a line asks of a core.
 
-ghost use Rattle.std.specs.Prelude.{◌≡◌, IfOk, MatchOption};
+ghost use Rattle.std.specs.Prelude.{◌≡◌, true, Some, IfOk};
+ghost use Rattle.rio_requests.specs.declared.request.Request.{Request as RequestOf};
 ghost use Rattle.rio_core.specs.Lines.{Asks, IsWild};
 
 use request_codec::parse_line;
@@ -9,23 +10,21 @@ use std::alloc::{AllocError, Global};
 
 /// What a line asks for. `None` is the answer to a line that is no request, and to one of a wild store, which no line makes
 /// yet.
-#[tactic(auto, using(crate::proofs::AsksRules::made_asks))]
+#[tactic(auto, using(crate::proofs::AsksRules::asks_of_wild, crate::proofs::AsksRules::asks_of_other))]
 pub fn request_of(alloc: Global, line: &[u8]) -> Result<Option<Request>, AllocError>
     ensures { IfOk result (Asks line.now) }
 {
-    match parse_line(alloc, line)? {
-        Some(request) => Ok(made(request)),
-        None => Ok(None),
+    let request = parse_line(alloc, line)?;
+    if is_wild(&request) {
+        return Ok(None);
     }
+    Ok(request)
 }
 
-/// The request, or `None` where no line makes it yet.
-#[tactic(auto, using(crate::proofs::AsksRules::wild_of))]
-fn made(request: Request) -> Option<Request>
-    ensures { MatchOption result (IsWild request) (λ made. (made ≡ request) × (IsWild request → ⊥)) }
+/// Whether a line asks for a wild store.
+fn is_wild(request: &Option<Request>) -> bool
+    ensures wild { result ≡ true → (r : RequestOf) × (request.now ≡ Some r) × IsWild r }
+    ensures other { (r : RequestOf) → request.now ≡ Some r → IsWild r → result ≡ true }
 {
-    match request {
-        Request::Wild { .. } | Request::Arm { .. } => None,
-        other => Some(other),
-    }
+    matches!(request, Some(Request::Wild { .. } | Request::Arm { .. }))
 }
