@@ -1,0 +1,10 @@
+mod ClapAnswers
+mod ClapCommands
+mod ClapLexer
+mod ClapParts
+mod ClapPlans
+mod ClapRows
+mod ClapRuns
+mod ClapSteps
+mod Ranges
+mod Readings

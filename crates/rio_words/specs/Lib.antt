@@ -1,0 +1,5 @@
+pub mod Clap
+pub mod Files
+pub mod Plans
+pub mod Tokens
+pub mod Words

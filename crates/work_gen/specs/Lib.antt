@@ -1,0 +1,3 @@
+pub mod Boots
+pub mod Draws
+pub mod Requests
