@@ -1,20 +1,19 @@
 -- A board after some steps in a row, each of which stored a word.
 use Rattle.std.proofs.Common.{◌≡◌, ℕ, ◌+◌, ◌<◌, ◌≤◌, true, List, length, le_refl, sym, ◌∙◌, ap, subst, arith}
-use Rattle.rio_base.specs.Disks.{DiskContents, FaultCount, FaultsLast, raised}
+use Rattle.rio_base.specs.Disks.{DiskContents, FaultCount, FaultsLast}
 use Rattle.rio_base.specs.Machine.{Contents, Falls, Lasts, Running, Steps}
 use Rattle.rio_base.proofs.MachineRules.{falls_trans, lasts_refl, steps_trans}
 use Rattle.rio_base.specs.Memory.{FrontStored}
 use Rattle.board.specs.declared.guard.Guard.{Guard}
 use Rattle.board.specs.Boards.{contents_of, protected_count, protected_of, running_of, scratch_of}
 use Rattle.board.specs.Guards.{HaltsSooner, MakesSteps, page_of}
-use Rattle.board.proofs.StepRuns.{makes_more, raised_more, sooner_more}
+use Rattle.board.proofs.StepRuns.{makes_more, sooner_more}
 use Rattle.board.proofs.WordRuns.{running_front}
 
 -- what k steps leave, beside the words that they stored
 pub record Ran (k : ℕ) (words : List ℕ) (pages : ℕ) (disk : DiskContents) (g : Guard) (now : List ℕ) (then : ℕ) (after : DiskContents) (new : Guard) : Type 0 where
   pub count : length now ≡ length words
   pub rest : contents_of now then after new ≡ record (contents_of words pages disk g) { words = protected_of now then }
-  pub counted : new.steps ≡ raised g.steps k
   pub steps : Steps (running_of words pages g) (running_of now then new)
   pub falls : Falls (page_of g) (running_of words pages g) (running_of now then new)
   pub frozen : g.stopped ≡ true → (k ≡ 0) × (contents_of now then after new ≡ contents_of words pages disk g)
@@ -34,7 +33,6 @@ ran_more k n words pages disk g mid pages_mid disk_mid g_mid now then after new 
     record {
       count = i.count ∙ h.count;
       rest = i.rest ∙ ap (λ (c : Contents). record c { words = protected_of now then }) h.rest;
-      counted = i.counted ∙ ap (λ steps. raised steps n) h.counted ∙ raised_more g.steps k n;
       steps = steps_trans _ _ _ h.steps i.steps;
       falls = falls_trans (page_of g) _ _ _ h.steps i.steps h.falls (subst (λ o. Falls o (running_of mid pages_mid g_mid) (running_of now then new)) page i.falls);
       frozen = λ e. let one = h.frozen e in let two = i.frozen (h.runs ∙ e) in (omega (arith, one.0, two.0), two.1 ∙ one.1);
@@ -50,7 +48,6 @@ ran_stored k at n from words pages disk g mid now then after new some f fits h =
     record {
       count = f.count ∙ h.count;
       rest = ap (λ (c : Contents). record c { words = protected_of now then }) h.rest;
-      counted = h.counted;
       steps = subst (λ (r : Running). Steps (running_of words pages g) r) same h.steps;
       falls = subst (λ (r : Running). Falls (page_of g) (running_of words pages g) r) same h.falls;
       frozen = λ e. absurd (omega (arith, some, (h.frozen e).0));

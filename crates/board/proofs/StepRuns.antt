@@ -6,7 +6,7 @@ use Rattle.rio_base.specs.Rules.{true_false}
 use Rattle.rio_base.specs.declared.wild.Wild.TheVariants.{Trapped, Spared}
 use Rattle.board.specs.declared.guard.Armed.{Armed}
 use Rattle.board.specs.declared.guard.Guard.{Guard}
-use Rattle.board.specs.Guards.{FallsBy, FallsWithin, HaltsSooner, HaltsWithin, IsClear, IsDue, IsOver, Lands, Makes, MakesSteps, Proceeds, counted, later, with_fallen}
+use Rattle.board.specs.Guards.{FallsBy, FallsWithin, Halts, HaltsSooner, HaltsWithin, IsClear, IsDue, IsOver, Lands, Makes, MakesSteps, Proceeds, counted, later, with_fallen}
 
 -- a stop that is given is a u64
 abbrev pub StopFits : Guard → Type 0
@@ -36,6 +36,12 @@ not_over g over most e = by_room (cases_lt g.steps most)
     by_room : (g.steps < most) ⊎ (most ≤ g.steps) → g.steps < most
     by_room (inl less) = less
     by_room (inr more) = absurd (over (inr (most, e, more)))
+
+-- what stops the next step stops one of the next n
+pub halts_within : (g : Guard) (n size : ℕ) → 0 < n → Halts g size → HaltsWithin g n size
+halts_within g n size some (inl (inl stopped)) = inl (stopped, some)
+halts_within g n size some (inl (inr (most, is, over))) = inr (inl (most, is, omega (arith, some, over)))
+halts_within g n size some (inr (a, (is, due), traps)) = inr (inr (a, is, traps, omega (arith, some, due)))
 
 pub never_at_once : (g : Guard) (size : ℕ) → HaltsWithin g 0 size → ⊥
 never_at_once g size (inl s) = omega (arith, s.1)
@@ -88,14 +94,14 @@ sooner_fell size old new a over fits armed lands stopped stops steps gone = λ m
         same : (b : Armed) → old.armed ≡ Some b → b ≡ a
         same b e = cc
 
-clear_one : (g : Guard) → (IsOver g → ⊥) → ((a : Armed) → IsDue g a → ⊥) → IsClear g 1
+pub clear_one : (g : Guard) → (IsOver g → ⊥) → ((a : Armed) → IsDue g a → ⊥) → IsClear g 1
 clear_one g over due = record { left = λ most e. omega (arith, not_over g over most e); armed = λ a e. by_left a e (cases_lt 0 a.left) }
   where
     by_left : (a : Armed) → g.armed ≡ Some a → (0 < a.left) ⊎ (a.left ≤ 0) → 1 ≤ a.left
     by_left a e (inl more) = more
     by_left a e (inr none) = absurd (due a (e, omega (arith, none)))
 
-runs_on : (g : Guard) → (IsOver g → ⊥) → g.stopped ≡ false
+pub runs_on : (g : Guard) → (IsOver g → ⊥) → g.stopped ≡ false
 runs_on g over = by_flag g.stopped (λ e. over (inl e))
   where
     by_flag : (b : _) → (b ≡ true → ⊥) → b ≡ false

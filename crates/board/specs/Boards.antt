@@ -4,7 +4,7 @@ use Rattle.std.specs.Option.{option_map}
 use Rattle.rio_base.specs.Disks.{DiskContents}
 use Rattle.rio_base.specs.Machine.{Contents, Running}
 use Rattle.board.specs.declared.guard.Guard.{Guard}
-use Rattle.board.specs.Guards.{armed_place, page_of}
+use Rattle.board.specs.Guards.{armed_place, left_of, page_of, value_of}
 
 -- how many words are protected: all but those of the last pages
 abbrev pub protected_count : List ℕ → ℕ → ℕ
@@ -36,5 +36,7 @@ running_of words scratch g = record {
   stopped = g.stopped;
   stop_set = is_some g.stop_after;
   armed = armed_place g;
+  armed_left = left_of g.armed;
+  armed_value = value_of g.armed;
   trapped = option_map (λ at. at.0) g.trapped;
 }

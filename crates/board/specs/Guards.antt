@@ -16,6 +16,15 @@ page_of g = option_map (λ p. p.0) g.open_page
 abbrev pub armed_place : Guard → Option ℕ
 armed_place g = option_map (λ a. a.at.0) g.armed
 
+-- how many steps are made before it falls, and what it stores
+abbrev pub left_of : Option Armed → ℕ
+left_of None = 0
+left_of (Some a) = a.left
+
+abbrev pub value_of : Option Armed → ℕ
+value_of None = 0
+value_of (Some a) = a.value
+
 -- what becomes of a wild store, where the words below size are protected
 abbrev pub Lands : Guard → ℕ → ℕ → Wild → Type 0
 Lands g size at Changed = size ≤ at

@@ -1,7 +1,7 @@
 //! A board: words of memory, a disk, and what may stop them.
 
 ghost use Rattle.std.specs.Prelude.{◌≡◌, ◌≢◌, ◌<◌, ◌≤◌, ◌+◌, ◌*◌, ◌/◌, ◌%◌, ◌^◌, ◌++◌, ℕ, true, false, Some, None, Err, OnOk, OnErr, IsErr, IsErrOf, IsOk, length, slice_index, slice_set, replicate, is_some, take, drop, IfOk, IsTrue, ◌↔◌};
-ghost use Rattle.rio_base.specs.Machine.{Contents, Copied, Falls, FaultCause, Lasts, Meets, Running, StepEnds, WritesBlock, after_wild};
+ghost use Rattle.rio_base.specs.Machine.{Advances, Contents, Copied, CopiedScratch, Falls, FaultCause, Lasts, Meets, Running, StepEnds, WritesBlock, after_wild};
 ghost use Rattle.rio_base.specs.Disks.{block_at, raised};
 ghost use Rattle.rio_base.specs.Memory.{FrontStored, page_at};
 ghost use Rattle.board.specs.Boards.{contents_of, protected_count, protected_of, running_of, scratch_of};
@@ -44,7 +44,7 @@ impl<F: MemWords, D: DiskBlocks> Board<F, D> {
         requires pages { length (F.words mem) % 512 ≡ 0 }
         requires room { 512 * scratch < length (F.words mem) }
         ensures contents { ⟦<Board<F, D> as Machine>⟧.contents result ≡ record { words = take (protected_count (F.words mem) scratch) (F.words mem); open_page = None; disk = (D.contents disk).blocks; pending = (D.contents disk).pending; faults = (D.contents disk).faults; writes = (D.contents disk).writes; around = (D.contents disk).around } }
-        ensures run { ⟦<Board<F, D> as Machine>⟧.run result ≡ record { protected = protected_count (F.words mem) scratch; scratch = drop (protected_count (F.words mem) scratch) (F.words mem); steps = 0; stopped = false; stop_set = is_some stop_after; armed = None; trapped = None } }
+        ensures run { ⟦<Board<F, D> as Machine>⟧.run result ≡ record { protected = protected_count (F.words mem) scratch; scratch = drop (protected_count (F.words mem) scratch) (F.words mem); steps = 0; stopped = false; stop_set = is_some stop_after; armed = None; armed_left = 0; armed_value = 0; trapped = None } }
         ensures guard { guard_of result ≡ record { open_page = None; stop_after = stop_after; steps = 0; spared = 0; stopped = false; armed = None; trapped = None } }
     {
         Board {
@@ -107,8 +107,6 @@ impl<F: MemWords, D: DiskBlocks> Board<F, D> {
         ensures unmoved { OnErr result (F.words self.new.mem ≡ F.words self.old.mem) }
         ensures open_page { page_of self.new.guard ≡ page_of self.old.guard }
         ensures running { OnOk result (self.old.guard.stopped ≡ false) }
-        ensures counted { OnOk result (self.new.guard.steps ≡ raised self.old.guard.steps 1) }
-        ensures uncounted { OnErr result (self.new.guard.steps ≡ self.old.guard.steps) }
         ensures falls { Falls (page_of self.old.guard) (running_of (F.words self.old.mem) self.old.scratch self.old.guard) (running_of (F.words self.new.mem) self.new.scratch self.new.guard) }
         ensures halts { IsErr result ↔ Halts self.old.guard (protected_count (F.words self.old.mem) self.old.scratch) }
         ensures made { OnOk result (Makes (protected_count (F.words self.old.mem) self.old.scratch) (scratch_of (F.words self.old.mem) self.old.scratch) self.old.guard (scratch_of (F.words self.new.mem) self.new.scratch) self.new.guard) }
@@ -134,10 +132,9 @@ impl<F: MemWords, D: DiskBlocks> Board<F, D> {
         ensures count { length (F.words self.new.mem) ≡ length (F.words self.old.mem) }
         ensures open_page { page_of self.new.guard ≡ page_of self.old.guard }
         ensures running { OnOk result ((self.old.guard.stopped ≡ false) × (self.new.guard.stopped ≡ false)) }
-        ensures counted { IfOk result (λ n. self.new.guard.steps ≡ raised self.old.guard.steps n) }
-        ensures uncounted { OnErr result (self.new.guard.steps ≡ self.old.guard.steps) }
         ensures falls { Falls (page_of self.old.guard) (running_of (F.words self.old.mem) self.old.scratch self.old.guard) (running_of (F.words self.new.mem) self.new.scratch self.new.guard) }
         ensures halts { OnErr result (HaltsWithin self.old.guard most (protected_count (F.words self.old.mem) self.old.scratch)) }
+        ensures stops { OnErr result (Halted (protected_count (F.words self.old.mem) self.old.scratch) self.old.guard self.new.guard) }
         ensures sooner { IfOk result (λ n. HaltsSooner n (protected_count (F.words self.old.mem) self.old.scratch) self.old.guard self.new.guard) }
         ensures made { IfOk result (λ n. MakesSteps n (protected_count (F.words self.old.mem) self.old.scratch) (scratch_of (F.words self.old.mem) self.old.scratch) self.old.guard (scratch_of (F.words self.new.mem) self.new.scratch) self.new.guard) }
         ensures ends { StepEnds (running_of (F.words self.old.mem) self.old.scratch self.old.guard) (running_of (F.words self.new.mem) self.new.scratch self.new.guard) (IsErr result) }
@@ -210,13 +207,13 @@ impl<F: MemWords, D: DiskBlocks> Machine for Board<F, D> {
         self.guard.open_page = None;
     }
 
-    #[tactic(auto, using(crate::proofs::Places::protected_changed, crate::proofs::Places::running_same, crate::proofs::Places::lasts_stored))]
+    #[tactic(auto, using(crate::proofs::Places::protected_changed, crate::proofs::Places::running_same, crate::proofs::Places::lasts_stored, crate::proofs::Runs::step_advances, crate::proofs::Runs::halted_advances))]
     fn store(&mut self, at: WordAt, v: u64) -> Result<(), Stopped>
         requires { (⟦<Board<F, D> as Machine>⟧.contents self.old).open_page ≡ Some (at.0 / 512) }
         ensures stored { OnOk result (⟦<Board<F, D> as Machine>⟧.contents self.new ≡ record (⟦<Board<F, D> as Machine>⟧.contents self.old) { words = slice_set (⟦<Board<F, D> as Machine>⟧.contents self.old).words at.0 v }) }
         ensures same { OnErr result (⟦<Board<F, D> as Machine>⟧.contents self.new ≡ ⟦<Board<F, D> as Machine>⟧.contents self.old) }
-        ensures counted { OnOk result ((⟦<Board<F, D> as Machine>⟧.run self.new).steps ≡ raised (⟦<Board<F, D> as Machine>⟧.run self.old).steps 1) }
-        ensures uncounted { OnErr result ((⟦<Board<F, D> as Machine>⟧.run self.new).steps ≡ (⟦<Board<F, D> as Machine>⟧.run self.old).steps) }
+        ensures counted { OnOk result (Advances 1 (⟦<Board<F, D> as Machine>⟧.run self.old) (⟦<Board<F, D> as Machine>⟧.run self.new)) }
+        ensures uncounted { OnErr result (Advances 0 (⟦<Board<F, D> as Machine>⟧.run self.old) (⟦<Board<F, D> as Machine>⟧.run self.new)) }
         ensures lasts { Lasts (⟦<Board<F, D> as Machine>⟧.contents self.old) (⟦<Board<F, D> as Machine>⟧.contents self.new) }
         ensures falls { Falls (⟦<Board<F, D> as Machine>⟧.contents self.old).open_page (⟦<Board<F, D> as Machine>⟧.run self.old) (⟦<Board<F, D> as Machine>⟧.run self.new) }
         ensures halted { (⟦<Board<F, D> as Machine>⟧.run self.old).stopped ≡ true → IsErr result }
@@ -231,14 +228,15 @@ impl<F: MemWords, D: DiskBlocks> Machine for Board<F, D> {
         Ok(())
     }
 
-    #[tactic(auto, using(crate::proofs::StepRuns::makes_none, crate::proofs::StepRuns::sooner_none, rio_base::proofs::MachineRules::steps_refl, rio_base::proofs::MachineRules::steps_trans, rio_base::proofs::MachineRules::ends_after, rio_base::proofs::MachineRules::falls_refl, rio_base::proofs::MachineRules::falls_trans))]
+    #[tactic(auto, using(crate::proofs::StepRuns::makes_none, crate::proofs::StepRuns::sooner_none, rio_base::proofs::MachineRules::steps_refl, rio_base::proofs::MachineRules::steps_trans, rio_base::proofs::MachineRules::ends_after, rio_base::proofs::MachineRules::falls_refl, rio_base::proofs::MachineRules::falls_trans, rio_base::proofs::PageCopies::scratch_none))]
     fn copy_page(&mut self, from: Page, to: Page) -> Result<(), Stopped>
         requires from { 512 * from.0 < length (⟦<Board<F, D> as Machine>⟧.contents self.old).words + length (⟦<Board<F, D> as Machine>⟧.run self.old).scratch }
         requires to { (⟦<Board<F, D> as Machine>⟧.contents self.old).open_page ≡ Some to.0 }
         requires two { from.0 ≢ to.0 }
         ensures copied { OnOk result (Copied from.0 to.0 512 (⟦<Board<F, D> as Machine>⟧.contents self.old).words (⟦<Board<F, D> as Machine>⟧.contents self.new).words) }
-        ensures counted { OnOk result ((⟦<Board<F, D> as Machine>⟧.run self.new).steps ≡ raised (⟦<Board<F, D> as Machine>⟧.run self.old).steps 512) }
-        ensures front { OnErr result ((n : ℕ) × (n < 512) × Copied from.0 to.0 n (⟦<Board<F, D> as Machine>⟧.contents self.old).words (⟦<Board<F, D> as Machine>⟧.contents self.new).words × ((⟦<Board<F, D> as Machine>⟧.run self.new).steps ≡ raised (⟦<Board<F, D> as Machine>⟧.run self.old).steps n)) }
+        ensures scratch { OnOk result (CopiedScratch from.0 to.0 512 (⟦<Board<F, D> as Machine>⟧.run self.old) (⟦<Board<F, D> as Machine>⟧.run self.new) (⟦<Board<F, D> as Machine>⟧.contents self.new).words) }
+        ensures counted { OnOk result (Advances 512 (⟦<Board<F, D> as Machine>⟧.run self.old) (⟦<Board<F, D> as Machine>⟧.run self.new)) }
+        ensures front { OnErr result ((n : ℕ) × (n < 512) × Copied from.0 to.0 n (⟦<Board<F, D> as Machine>⟧.contents self.old).words (⟦<Board<F, D> as Machine>⟧.contents self.new).words × CopiedScratch from.0 to.0 n (⟦<Board<F, D> as Machine>⟧.run self.old) (⟦<Board<F, D> as Machine>⟧.run self.new) (⟦<Board<F, D> as Machine>⟧.contents self.new).words × Advances n (⟦<Board<F, D> as Machine>⟧.run self.old) (⟦<Board<F, D> as Machine>⟧.run self.new)) }
         ensures rest { ⟦<Board<F, D> as Machine>⟧.contents self.new ≡ record (⟦<Board<F, D> as Machine>⟧.contents self.old) { words = (⟦<Board<F, D> as Machine>⟧.contents self.new).words } }
         ensures frozen { (⟦<Board<F, D> as Machine>⟧.run self.old).stopped ≡ true → ⟦<Board<F, D> as Machine>⟧.contents self.new ≡ ⟦<Board<F, D> as Machine>⟧.contents self.old }
         ensures lasts { Lasts (⟦<Board<F, D> as Machine>⟧.contents self.old) (⟦<Board<F, D> as Machine>⟧.contents self.new) }
@@ -263,8 +261,8 @@ impl<F: MemWords, D: DiskBlocks> Machine for Board<F, D> {
         requires page { (⟦<Board<F, D> as Machine>⟧.contents self.old).open_page ≡ Some (at.0 / 512) }
         requires within { at.0 % 512 + length from.now ≤ 512 }
         ensures stored { OnOk result (FrontStored at.0 (length from.now) from.now (⟦<Board<F, D> as Machine>⟧.contents self.old).words (⟦<Board<F, D> as Machine>⟧.contents self.new).words) }
-        ensures counted { OnOk result ((⟦<Board<F, D> as Machine>⟧.run self.new).steps ≡ raised (⟦<Board<F, D> as Machine>⟧.run self.old).steps (length from.now)) }
-        ensures front { OnErr result ((n : ℕ) × (n < length from.now) × FrontStored at.0 n from.now (⟦<Board<F, D> as Machine>⟧.contents self.old).words (⟦<Board<F, D> as Machine>⟧.contents self.new).words × ((⟦<Board<F, D> as Machine>⟧.run self.new).steps ≡ raised (⟦<Board<F, D> as Machine>⟧.run self.old).steps n)) }
+        ensures counted { OnOk result (Advances (length from.now) (⟦<Board<F, D> as Machine>⟧.run self.old) (⟦<Board<F, D> as Machine>⟧.run self.new)) }
+        ensures front { OnErr result ((n : ℕ) × (n < length from.now) × FrontStored at.0 n from.now (⟦<Board<F, D> as Machine>⟧.contents self.old).words (⟦<Board<F, D> as Machine>⟧.contents self.new).words × Advances n (⟦<Board<F, D> as Machine>⟧.run self.old) (⟦<Board<F, D> as Machine>⟧.run self.new)) }
         ensures rest { ⟦<Board<F, D> as Machine>⟧.contents self.new ≡ record (⟦<Board<F, D> as Machine>⟧.contents self.old) { words = (⟦<Board<F, D> as Machine>⟧.contents self.new).words } }
         ensures frozen { (⟦<Board<F, D> as Machine>⟧.run self.old).stopped ≡ true → ⟦<Board<F, D> as Machine>⟧.contents self.new ≡ ⟦<Board<F, D> as Machine>⟧.contents self.old }
         ensures lasts { Lasts (⟦<Board<F, D> as Machine>⟧.contents self.old) (⟦<Board<F, D> as Machine>⟧.contents self.new) }
@@ -308,7 +306,7 @@ impl<F: MemWords, D: DiskBlocks> Machine for Board<F, D> {
         }
     }
 
-    #[tactic(auto, using(crate::proofs::Places::page_length, crate::proofs::Places::page_protected, crate::proofs::Places::torn_writes, crate::proofs::Places::made_writes, crate::proofs::Places::one_contents))]
+    #[tactic(auto, using(crate::proofs::Places::page_length, crate::proofs::Places::page_protected, crate::proofs::Places::torn_writes, crate::proofs::Places::made_writes, crate::proofs::Places::one_contents, crate::proofs::Runs::step_advances, crate::proofs::Runs::halted_advances))]
     fn write_block(&mut self, b: Block, from: Page) -> Result<(), DiskFail>
         requires closed { (⟦<Board<F, D> as Machine>⟧.contents self.old).open_page ≡ None }
         requires block { b.0 < length (⟦<Board<F, D> as Machine>⟧.contents self.old).disk }
@@ -317,8 +315,8 @@ impl<F: MemWords, D: DiskBlocks> Machine for Board<F, D> {
         ensures protected { OnOk result (512 * from.0 < length (⟦<Board<F, D> as Machine>⟧.contents self.old).words → block_at (⟦<Board<F, D> as Machine>⟧.contents self.new).disk b.0 ≡ page_at (⟦<Board<F, D> as Machine>⟧.contents self.old).words from.0) }
         ensures writes_block { WritesBlock b.0 (⟦<Board<F, D> as Machine>⟧.contents self.old) (⟦<Board<F, D> as Machine>⟧.contents self.new) }
         ensures pending { (⟦<Board<F, D> as Machine>⟧.run self.old).stopped ≡ false → (⟦<Board<F, D> as Machine>⟧.contents self.new).pending ≡ slice_set (⟦<Board<F, D> as Machine>⟧.contents self.old).pending b.0 true }
-        ensures made { result ≢ Err DiskFail.Stopped → ((⟦<Board<F, D> as Machine>⟧.contents self.new).writes ≡ raised (⟦<Board<F, D> as Machine>⟧.contents self.old).writes 1) × ((⟦<Board<F, D> as Machine>⟧.run self.new).steps ≡ raised (⟦<Board<F, D> as Machine>⟧.run self.old).steps 1) }
-        ensures cut { IsErrOf result DiskFail.Stopped → (⟦<Board<F, D> as Machine>⟧.contents self.new ≡ record (⟦<Board<F, D> as Machine>⟧.contents self.old) { pending = (⟦<Board<F, D> as Machine>⟧.contents self.new).pending }) × ((⟦<Board<F, D> as Machine>⟧.run self.new).steps ≡ (⟦<Board<F, D> as Machine>⟧.run self.old).steps) }
+        ensures made { result ≢ Err DiskFail.Stopped → ((⟦<Board<F, D> as Machine>⟧.contents self.new).writes ≡ raised (⟦<Board<F, D> as Machine>⟧.contents self.old).writes 1) × Advances 1 (⟦<Board<F, D> as Machine>⟧.run self.old) (⟦<Board<F, D> as Machine>⟧.run self.new) }
+        ensures cut { IsErrOf result DiskFail.Stopped → (⟦<Board<F, D> as Machine>⟧.contents self.new ≡ record (⟦<Board<F, D> as Machine>⟧.contents self.old) { pending = (⟦<Board<F, D> as Machine>⟧.contents self.new).pending }) × Advances 0 (⟦<Board<F, D> as Machine>⟧.run self.old) (⟦<Board<F, D> as Machine>⟧.run self.new) }
         ensures frozen { (⟦<Board<F, D> as Machine>⟧.run self.old).stopped ≡ true → ⟦<Board<F, D> as Machine>⟧.contents self.new ≡ ⟦<Board<F, D> as Machine>⟧.contents self.old }
         ensures lasts { Lasts (⟦<Board<F, D> as Machine>⟧.contents self.old) (⟦<Board<F, D> as Machine>⟧.contents self.new) }
         ensures fault { FaultCause (⟦<Board<F, D> as Machine>⟧.contents self.old) (⟦<Board<F, D> as Machine>⟧.contents self.new) (IsErrOf result DiskFail.Fault) }
@@ -343,12 +341,13 @@ impl<F: MemWords, D: DiskBlocks> Machine for Board<F, D> {
         }
     }
 
+    #[tactic(auto, using(crate::proofs::Runs::step_advances, crate::proofs::Runs::halted_advances))]
     fn sync(&mut self) -> Result<(), DiskFail>
         requires closed { (⟦<Board<F, D> as Machine>⟧.contents self.old).open_page ≡ None }
         ensures synced { OnOk result (⟦<Board<F, D> as Machine>⟧.contents self.new ≡ record (⟦<Board<F, D> as Machine>⟧.contents self.old) { pending = replicate (length (⟦<Board<F, D> as Machine>⟧.contents self.old).disk) false; faults = (⟦<Board<F, D> as Machine>⟧.contents self.new).faults }) }
         ensures same { OnErr result (⟦<Board<F, D> as Machine>⟧.contents self.new ≡ record (⟦<Board<F, D> as Machine>⟧.contents self.old) { faults = (⟦<Board<F, D> as Machine>⟧.contents self.new).faults }) }
-        ensures made { result ≢ Err DiskFail.Stopped → (⟦<Board<F, D> as Machine>⟧.run self.new).steps ≡ raised (⟦<Board<F, D> as Machine>⟧.run self.old).steps 1 }
-        ensures cut { IsErrOf result DiskFail.Stopped → (⟦<Board<F, D> as Machine>⟧.contents self.new ≡ ⟦<Board<F, D> as Machine>⟧.contents self.old) × ((⟦<Board<F, D> as Machine>⟧.run self.new).steps ≡ (⟦<Board<F, D> as Machine>⟧.run self.old).steps) }
+        ensures made { result ≢ Err DiskFail.Stopped → Advances 1 (⟦<Board<F, D> as Machine>⟧.run self.old) (⟦<Board<F, D> as Machine>⟧.run self.new) }
+        ensures cut { IsErrOf result DiskFail.Stopped → (⟦<Board<F, D> as Machine>⟧.contents self.new ≡ ⟦<Board<F, D> as Machine>⟧.contents self.old) × Advances 0 (⟦<Board<F, D> as Machine>⟧.run self.old) (⟦<Board<F, D> as Machine>⟧.run self.new) }
         ensures lasts { Lasts (⟦<Board<F, D> as Machine>⟧.contents self.old) (⟦<Board<F, D> as Machine>⟧.contents self.new) }
         ensures fault { FaultCause (⟦<Board<F, D> as Machine>⟧.contents self.old) (⟦<Board<F, D> as Machine>⟧.contents self.new) (IsErrOf result DiskFail.Fault) }
         ensures falls { Falls None (⟦<Board<F, D> as Machine>⟧.run self.old) (⟦<Board<F, D> as Machine>⟧.run self.new) }
@@ -388,7 +387,7 @@ impl<F: MemWords, D: DiskBlocks> Machine for Board<F, D> {
     fn arm(&mut self, step: u64, at: WordAt, v: u64)
         requires { at.0 < length (⟦<Board<F, D> as Machine>⟧.contents self.old).words + length (⟦<Board<F, D> as Machine>⟧.run self.old).scratch }
         ensures contents { ⟦<Board<F, D> as Machine>⟧.contents self.new ≡ ⟦<Board<F, D> as Machine>⟧.contents self.old }
-        ensures run { ⟦<Board<F, D> as Machine>⟧.run self.new ≡ record (⟦<Board<F, D> as Machine>⟧.run self.old) { armed = Some at.0 } }
+        ensures run { ⟦<Board<F, D> as Machine>⟧.run self.new ≡ record (⟦<Board<F, D> as Machine>⟧.run self.old) { armed = Some at.0; armed_left = step; armed_value = v } }
         ensures guard { guard_of self.new ≡ record (guard_of self.old) { armed = Some (record { left = step; at = at; value = v }) } }
     {
         self.guard.armed = Some(Armed {

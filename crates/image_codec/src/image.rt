@@ -8,16 +8,11 @@ ghost use Rattle.image_codec.specs.declared.fault.ImageFault.{ImageFault as Faul
 
 use crate::fault::ImageFault;
 use byteorder::{ByteOrder, LittleEndian};
+use rio_base::{IMAGE_MAGIC, PAGE_BYTES};
 use std::alloc::{AllocError, Global};
-
-/// The magic of an image, the text `RIOCACHE` as a word.
-const IMAGE_MAGIC: u64 = 0x4548_4341_434f_4952;
 
 /// The version of the image's layout.
 const IMAGE_VERSION: u64 = 1;
-
-/// Bytes of a page.
-const PAGE_BYTES: u64 = 4096;
 
 /// Words of a page.
 const PAGE_WORDS: u64 = 512;

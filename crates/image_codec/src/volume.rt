@@ -7,11 +7,8 @@ ghost use Rattle.rio_base.specs.Shapes.{IsServed, reserved};
 ghost use Rattle.rio_base.specs.Bytes.{bytes_of};
 ghost use Rattle.image_codec.specs.Volume.{bitmap_word, block_words, fresh_volume_words};
 
-use rio_base::VolumeShape;
+use rio_base::{VOLUME_MAGIC, VolumeShape};
 use std::alloc::{AllocError, Global};
-
-/// The magic of a volume, the text `RIOVOLUM` as a word.
-const VOLUME_MAGIC: u64 = 0x4d55_4c4f_564f_4952;
 
 /// The version of the volume's layout.
 const VOLUME_VERSION: u64 = 1;

@@ -1,4 +1,5 @@
 pub mod Covers
+pub mod Ends
 pub mod Reading
 pub mod WorkedPair
 pub mod WorkedPairLaws

@@ -65,7 +65,7 @@ walks_dropped s t k h count = record { count = count ∙ h.count; named = λ c c
 
 -- a volume that is only read
 pub same_update_passed : (s t : Health) (old new : Below) (k l : Kept) → Passes s old k t new l → SameUpdate k l
-same_update_passed s t old new k l h = record { updating = h.updating; begun = h.begun; touched = h.touched; touches = h.touches }
+same_update_passed s t old new k l h = record { updating = h.updating; touched = h.touched; touches = h.touches }
 
 pub same_update_trans : (k l m : Kept) → SameUpdate k l → SameUpdate l m → SameUpdate k m
-same_update_trans k l m h i = record { updating = i.updating ∙ h.updating; begun = i.begun ∙ h.begun; touched = i.touched ∙ h.touched; touches = i.touches ∙ h.touches }
+same_update_trans k l m h i = record { updating = i.updating ∙ h.updating; touched = i.touched ∙ h.touched; touches = i.touches ∙ h.touches }

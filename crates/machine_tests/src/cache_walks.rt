@@ -27,7 +27,7 @@ use std::test::Fail;
 
 /// The words of a fresh image with so many frames and one scratch page. The header is looked at, so that its sizes and its
 /// gate are known.
-fn blank_image(alloc: Global, frames: u32) -> Result<Vec<u64>, AllocError>
+pub(crate) fn blank_image(alloc: Global, frames: u32) -> Result<Vec<u64>, AllocError>
     requires sizes { AreImageSizes frames 1 }
     ensures image { IfOk result (λ words. IsImage words.items) }
     ensures frames { IfOk result (λ words. slice_index words.items 2 ≡ frames) }
@@ -88,17 +88,17 @@ pub(crate) fn cache_of(
 
 /// A walk over a cache.
 #[derive(Clone, Copy)]
-struct Course {
-    seed: u64,
-    actions: u32,
+pub(crate) struct Course {
+    pub(crate) seed: u64,
+    pub(crate) actions: u32,
     /// The cache has a frame for each block, and nothing is flushed. Else it has 32 frames.
-    roomy: bool,
-    mishap: Mishap,
+    pub(crate) roomy: bool,
+    pub(crate) mishap: Mishap,
 }
 
 /// Makes the actions of a walk and, where it is not to be stopped, reads all blocks. A stop must come before the last
 /// action, and in none of these reads.
-fn go<V: Volume>(
+pub(crate) fn go<V: Volume>(
     v: &mut V,
     plain: &mut PlainBlocks,
     draws: &mut Draws,
@@ -116,7 +116,7 @@ fn go<V: Volume>(
 }
 
 /// Goes through a walk on a cache with no block in it, and takes the cache apart where the walk ends. Answers how it ended.
-fn walked(
+pub(crate) fn walked(
     alloc: Global,
     plain: &mut PlainBlocks,
     course: Course,

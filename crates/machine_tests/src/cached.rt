@@ -11,14 +11,11 @@ use block_disk::{DiskChoice, MemDisk};
 use board::Board;
 use phys_memory::ListMem;
 use registry::{Tag, check_image, load_tag};
-use rio_base::{Block, DiskBlocks, Machine, MemWords, WordAt};
+use rio_base::{Block, DiskBlocks, IMAGE_MAGIC, Machine, MemWords, WordAt};
 use std::alloc::{AllocError, Global};
 
 /// The words of a machine with 83 pages.
 pub(crate) const WORDS: usize = 42_496;
-
-/// The word of the text RIOCACHE.
-const MAGIC: u64 = 0x4548_4341_434f_4952;
 
 /// The words of an image whose first `dirty` entries are dirty.
 fn image_with(alloc: Global, count: usize, dirty: usize) -> Result<Vec<u64>, AllocError>
@@ -27,7 +24,7 @@ fn image_with(alloc: Global, count: usize, dirty: usize) -> Result<Vec<u64>, All
     ensures { IfOk result (λ words. length words.items ≡ count) }
 {
     let mut words = vec![in alloc; 0u64; count]?;
-    words[0] = MAGIC;
+    words[0] = IMAGE_MAGIC;
     words[1] = 1;
     words[2] = 64;
     words[3] = 1;
@@ -71,7 +68,7 @@ fn has_header<M: Machine>(m: &M) -> bool
     requires words { length (M.contents m.now).words ≡ 41984 }
     ensures { IsTrue result → IsTestHeader (M.contents m.now).words }
 {
-    if m.load(WordAt(0)) != MAGIC {
+    if m.load(WordAt(0)) != IMAGE_MAGIC {
         return false;
     }
     if m.load(WordAt(1)) != 1 {

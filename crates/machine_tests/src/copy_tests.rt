@@ -97,6 +97,34 @@ fn an_armed_store_falls_within_a_copy_or_behind_it(rt: HostRuntime) -> Result<()
 }
 
 #[test]
+fn a_page_of_scratch_is_copied_as_it_is_when_its_words_are_read(
+    rt: HostRuntime,
+) -> Result<(), Fail> {
+    let rows = [
+        Row::Board("a whole page", Memory::Counted, Mishap::Nothing),
+        Row::Make(Call::Open(2), Came::Done),
+        Row::Make(Call::Copy(82, 2), Came::Done),
+        Row::Tell(Look::Word(1024), Came::Number(41_984)),
+        Row::Tell(Look::Word(1535), Came::Number(42_495)),
+        Row::Tell(Look::Steps, Came::Number(512)),
+        Row::Board("a store before its word", Memory::Counted, Mishap::Nothing),
+        Row::Make(Call::Open(2), Came::Done),
+        Row::Make(Call::Arm(100, 42_184, 9), Came::Done),
+        Row::Make(Call::Copy(82, 2), Came::Done),
+        Row::Tell(Look::Word(1223), Came::Number(42_183)),
+        Row::Tell(Look::Word(1224), Came::Number(9)),
+        Row::Board("a store behind its word", Memory::Counted, Mishap::Nothing),
+        Row::Make(Call::Open(2), Came::Done),
+        Row::Make(Call::Arm(100, 42_034, 9), Came::Done),
+        Row::Make(Call::Copy(82, 2), Came::Done),
+        Row::Tell(Look::Word(1074), Came::Number(42_034)),
+        Row::Tell(Look::Word(42_034), Came::Number(9)),
+    ];
+    check(&rt, rt.alloc(), &rows)?;
+    Ok(())
+}
+
+#[test]
 fn a_run_at_the_end_of_a_page_is_whole_or_stopped(rt: HostRuntime) -> Result<(), Fail> {
     let rows = [
         Row::Board("after no step", Memory::Counted, Mishap::Stop(0)),

@@ -27,6 +27,8 @@ mod machines;
 #[cfg(test)]
 mod plain_blocks;
 #[cfg(test)]
+mod raw_walks;
+#[cfg(test)]
 mod rig;
 #[cfg(test)]
 mod same;

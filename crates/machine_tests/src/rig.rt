@@ -266,7 +266,7 @@ impl Rig {
         if self.page != Some(to) {
             return Came::OutOfPlace;
         }
-        if !self.is_page(from) || from == to {
+        if self.board.pages() <= from || from == to {
             return Came::OutOfPlace;
         }
         Came::from(self.board.copy_page(Page(from), Page(to)))

@@ -1,7 +1,7 @@
 //! Tests of wild stores on the memory of a page cache, now and armed to fall within a call. The cache has 32 frames, so
 //! that memory has 51 pages, of which the last is scratch.
 
-ghost use Rattle.std.specs.Prelude.{◌≡◌, ◌<◌, false, IfOk};
+ghost use Rattle.std.specs.Prelude.{◌≡◌, ◌<◌, ◌≤◌, false, length, IfOk};
 ghost use Rattle.machine_tests.specs.Walks.{Walks};
 
 use crate::cache_tests::read_first;
@@ -15,7 +15,7 @@ use board::Board;
 use machine_readers::{BLOCK_WORDS, BLOCKS};
 use page_cache::PageCache;
 use phys_memory::ListMem;
-use rio_base::{Block, Blocks, Machine, VolFail, Volume, Wild, WordAt};
+use rio_base::{Block, Blocks, Machine, RunFail, VolFail, Volume, Wild, WordAt};
 use std::alloc::Global;
 use std::test::Fail;
 
@@ -56,8 +56,8 @@ fn strike<M: Machine>(v: &mut PageCache<M>, at: WordAt) -> Wild
     v.wild(at, 9)
 }
 
-/// Arms such a store, to fall after the first step of a call.
-fn arm<M: Machine>(v: &mut PageCache<M>, at: WordAt)
+/// Arms such a store, to fall after so many further steps.
+fn arm<M: Machine>(v: &mut PageCache<M>, step: u64, at: WordAt)
     requires sound { ⟦<PageCache<M> as Blocks>⟧.sound v.old }
     requires walks { Walks (⟦<PageCache<M> as Blocks>⟧.seen v.old) }
     requires idle { (⟦<PageCache<M> as Volume>⟧.kept v.old).updating ≡ false }
@@ -66,7 +66,7 @@ fn arm<M: Machine>(v: &mut PageCache<M>, at: WordAt)
     ensures walks { Walks (⟦<PageCache<M> as Blocks>⟧.seen v.new) }
     ensures idle { (⟦<PageCache<M> as Volume>⟧.kept v.new).updating ≡ false }
 {
-    v.arm(1, at, 9);
+    v.arm(step, at, 9);
 }
 
 /// What a wild store of 9 to a place meets, what block 5 then reads as, and the word at the place.
@@ -123,7 +123,7 @@ fn after_armed(alloc: Global, at: WordAt) -> Result<Armed, Fail> {
         Err("no such word")?;
     }
     let mut v = cache(alloc)?;
-    arm(&mut v, at);
+    arm(&mut v, 1, at);
     let end = store_first(&mut v);
     let machine = v.into_machine();
     let trapped = machine.trapped();
@@ -156,6 +156,69 @@ fn an_armed_store_stops_the_call_or_falls_on_scratch(rt: HostRuntime) -> Result<
     for k in 0..rows.len() {
         let (at, due) = rows[k];
         same(&rt, "armed stores", k, &after_armed(rt.alloc(), at)?, &due);
+    }
+    Ok(())
+}
+
+/// Has block 5 cached.
+#[tactic(auto, using(crate::proofs::WalkNames::walk_place, crate::proofs::WalkNames::can_touch, crate::proofs::WalkNames::walks_touched))]
+fn fetch<V: Volume>(v: &mut V) -> Result<u64, VolFail>
+    requires sound { V.sound v.old }
+    requires walks { Walks (V.seen v.old) }
+    requires idle { (V.kept v.old).updating ≡ false }
+    ensures sound { V.sound v.new }
+    ensures walks { Walks (V.seen v.new) }
+    ensures idle { (V.kept v.new).updating ≡ false }
+{
+    v.word(Block(5), None, 0)
+}
+
+/// Stores the first words of block 5, in one run.
+#[tactic(auto, using(crate::proofs::WalkNames::walk_span, crate::proofs::WalkNames::can_touch))]
+fn store_front<V: Volume>(v: &mut V, words: &[u64]) -> Result<(), RunFail>
+    requires sound { V.sound v.old }
+    requires walks { Walks (V.seen v.old) }
+    requires idle { (V.kept v.old).updating ≡ false }
+    requires few { length words.now ≤ 512 }
+    ensures sound { V.sound v.new }
+{
+    v.store_run(Block(5), None, 0, words)
+}
+
+/// How a run of `n` stores to block 5 ends, and the word at the place of a wild store of 9 that is armed to fall after
+/// three steps. The block is cached and its page clean: so the page's mark is the first step, and each word is one more.
+fn after_three(alloc: Global, at: WordAt, n: usize) -> Result<(Result<(), RunFail>, u64), Fail> {
+    if 26_112 <= at.0 {
+        Err("no such word")?;
+    }
+    if 3 < n {
+        Err("too many words")?;
+    }
+    let mut v = cache(alloc)?;
+    let _first = fetch(&mut v);
+    arm(&mut v, 3, at);
+    let end = store_front(&mut v, &[7; 3][..n]);
+    let (mem, _) = v.into_machine().into_parts();
+    Ok((end, word_in(&mem, at.0)))
+}
+
+#[test]
+fn an_armed_store_falls_after_its_steps_and_not_before(rt: HostRuntime) -> Result<(), Fail> {
+    let rows = [
+        (IN_SCRATCH, 2, (Ok(()), 0)),
+        (IN_SCRATCH, 3, (Ok(()), 9)),
+        (IN_FRAME, 2, (Ok(()), 0)),
+        (IN_FRAME, 3, (Err(RunFail::Stopped), 0)),
+    ];
+    for k in 0..rows.len() {
+        let (at, n, due) = rows[k];
+        same(
+            &rt,
+            "steps before",
+            k,
+            &after_three(rt.alloc(), at, n)?,
+            &due,
+        );
     }
     Ok(())
 }

@@ -62,7 +62,6 @@ touched_same old new names shadows gate = λ i b. at b i
 pub same_update : (old new : Contents) (t : CacheTables) → SameEntries old.words new.words → stands new ≡ stands old → SameUpdate (cache_kept old t) (cache_kept new t)
 same_update old new t h e = record {
   updating = ap (λ g. g == 1) (gate_entries old.words new.words h);
-  begun = e;
   touched = touched_same old.words new.words (names_entries old.words new.words h) (shadows_entries old.words new.words h) (gate_entries old.words new.words h);
   touches = ap (λ g. if g == 1 then t.shadows else 0) (gate_entries old.words new.words h);
 }

@@ -124,12 +124,12 @@ pub record Settled (b : ℕ) (a d : Contents) (r s : Running) (t u : CacheTables
   pub idle : (gate_of d.words == 1) ≡ false
   pub goes : Goes (cache_health a r) (cache_below a r) (cache_health d s) (cache_below d s)
 
-pub settled : (b : ℕ) (a d : Contents) (r s : Running) (t u : CacheTables) → (gate_of a.words == 1) ≡ false → Frees b a d → ((c : ℕ) → c ≢ b → was_forgotten u c ≡ was_forgotten t c) → Lasts a d → Steps r s → FewWrites b a d → Settled b a d r s t u
+pub settled : (b : ℕ) (a d : Contents) (r s : Running) (t u : CacheTables) → (gate_of a.words == 1) ≡ false → Frees b a d → ((c : ℕ) → c ≢ b → was_forgotten u c ≡ was_forgotten t c) → Lasts a d → Steps r s → FewWrites b t a d → Settled b a d r s t u
 settled b a d r s t u shut w marks l h few = record {
   standing = record { others = λ c x ne. ap (λ (f : BlockWords). f c x) (stands_idle d now) ∙ w.others.others c x ne ∙ ap (λ (f : BlockWords). f c x) (sym (stands_idle a (not_one (gate_of a.words) shut))) };
   firm = record { loose = λ c ne e. loose_by (was_forgotten u c) (was_forgotten t c) (is_loose d c) (is_loose a c) (marks c ne) (w.firm c ne) e };
   idle = ap (λ n. n == 1) (w.header 4 (omega arith)) ∙ shut;
-  goes = goes_few b a d r s l h (w.header 2 (omega arith)) few;
+  goes = goes_few b t a d r s l h (w.header 2 (omega arith)) few;
 }
   where
     now : gate_of d.words ≢ 1

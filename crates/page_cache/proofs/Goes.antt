@@ -8,6 +8,7 @@ use Rattle.rio_base.specs.Blocks.{Ends}
 use Rattle.rio_base.specs.Machine.{FaultCause, StopReason}
 use Rattle.rio_base.specs.Volume.{Quiet, Runs, StopCause}
 use Rattle.rio_model.specs.Cover.{causes_of}
+use Rattle.page_cache.specs.declared.tables.CacheTables.{CacheTables}
 use Rattle.page_cache.specs.Caches.{FewWrites, cache_below, cache_health}
 
 cause_by : (r s : Running) (a b : Bool) → r.stopped ≡ a → s.stopped ≡ b → Steps r s → StopCause (causes_of r) (causes_of s) a b
@@ -41,14 +42,14 @@ roomy_is frames count e = from (nat_lt frames count) refl e
     from true q z = absurd (true_false (sym z))
     from false q z = ltb-false frames count q
 
-quiet_few : (b : ℕ) (c d : Contents) (r s : Running) → FewWrites b c d → Quiet (cache_below c r) (cache_below d s)
-quiet_few b c d r s h = record {
+quiet_few : (b : ℕ) (t : CacheTables) (c d : Contents) (r s : Running) → FewWrites b t c d → Quiet (cache_below c r) (cache_below d s)
+quiet_few b t c d r s h = record {
   home = λ e. let st = h.roomy (roomy_is (frames_of c.words) (length c.disk) e) in rw (st.disk, st.pending) refl;
   writes = λ e. (h.roomy (roomy_is (frames_of c.words) (length c.disk) e)).writes;
 }
 
-pub goes_few : (b : ℕ) (c d : Contents) (r s : Running) → Lasts c d → Steps r s → frames_of d.words ≡ frames_of c.words → FewWrites b c d → Goes (cache_health c r) (cache_below c r) (cache_health d s) (cache_below d s)
-goes_few b c d r s l h frames few = record { runs = runs_of c d r s l h frames; quiet = quiet_few b c d r s few }
+pub goes_few : (b : ℕ) (t : CacheTables) (c d : Contents) (r s : Running) → Lasts c d → Steps r s → frames_of d.words ≡ frames_of c.words → FewWrites b t c d → Goes (cache_health c r) (cache_below c r) (cache_health d s) (cache_below d s)
+goes_few b t c d r s l h frames few = record { runs = runs_of c d r s l h frames; quiet = quiet_few b t c d r s few }
 
 -- ---- how two calls end
 
@@ -70,3 +71,21 @@ pub ends_of : {T : Type 0} (old new : Contents) (r s : Running) (answer : Result
 ends_of old new r s (Ok x) l f e = record { later = l.faults.later; stays = λ t. ap (λ (u : Running). u.stopped) (e.steps.frozen t) ∙ t; cause = e.runs (λ q. cc) }
 ends_of old new r s (Err Fault) l f e = record { later = l.faults.later; stays = λ t. ap (λ (u : Running). u.stopped) (e.steps.frozen t) ∙ t; cause = (f refl, e.runs (λ q. cc)) }
 ends_of old new r s (Err Stopped) l f e = record { later = l.faults.later; stays = λ t. ap (λ (u : Running). u.stopped) (e.steps.frozen t) ∙ t; cause = e.told refl }
+
+unlike : {T : Type 0} (answer : Result T VolFail) → IsErrOf answer Stopped → IsErrOf answer Fault → ⊥
+unlike answer s f = cc
+
+-- two calls, of which the second was stopped
+pub ends_stopped : {T : Type 0} (old new : Contents) (r m s : Running) (none one : Type 0) (answer : Result T VolFail) → IsErrOf answer Stopped → (none → ⊥) → one → Lasts old new → StepEnds r m none → StepEnds m s one → Ends (cache_health old r) (cache_health new s) answer
+ends_stopped old new r m s none one answer stop n o l h k = ends_of old new r s answer l (λ q. absurd (unlike answer stop q)) (ends_stop r m s none one (IsErrOf answer Stopped) n o stop h k)
+
+-- two calls that answered Ok
+pub ends_both : {T : Type 0} (x : T) (old new : Contents) (r m s : Running) (one two : Type 0) → (one → ⊥) → (two → ⊥) → Lasts old new → StepEnds r m one → StepEnds m s two → Ends {T = T} (cache_health old r) (cache_health new s) (Ok x)
+ends_both x old new r m s one two n o l h k = ends_of old new r s (Ok x) l (λ q. cc) (ends_ok r m s one two _ n o (λ q. cc) h k)
+
+apart : {T : Type 0} (e : VolFail) → e ≡ Fault → IsErrOf {T = T} (Err e) Stopped → ⊥
+apart e is q = cc
+
+-- one call that failed by a fault, which is told with an answer of another type
+pub ends_fault : {T U : Type 0} (old new : Contents) (r s : Running) (e : VolFail) → e ≡ Fault → Lasts old new → FaultCause old new (IsErrOf {T = T} (Err e) Fault) → StepEnds r s (IsErrOf {T = T} (Err e) Stopped) → Ends {T = U} (cache_health old r) (cache_health new s) (Err Fault)
+ends_fault old new r s e is l f k = record { later = l.faults.later; stays = λ t. ap (λ (u : Running). u.stopped) (k.steps.frozen t) ∙ t; cause = (f (ap Err is), k.runs (apart e is)) }

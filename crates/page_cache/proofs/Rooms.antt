@@ -253,13 +253,12 @@ begun_narrows k old new one same gone = record {
 
 -- ---- the volume is only read
 
-pub passes_of : (b : ℕ) (c d : Contents) (r s : Running) (t u : CacheTables) → Keeps c d → Lasts c d → Steps r s → FewWrites b c d → SameTouches c.words d.words → SameTables t u → Passes (cache_health c r) (cache_below c r) (cache_kept c t) (cache_health d s) (cache_below d s) (cache_kept d u)
+pub passes_of : (b : ℕ) (c d : Contents) (r s : Running) (t u : CacheTables) → Keeps c d → Lasts c d → Steps r s → FewWrites b t c d → SameTouches c.words d.words → SameTables t u → Passes (cache_health c r) (cache_below c r) (cache_kept c t) (cache_health d s) (cache_below d s) (cache_kept d u)
 passes_of b c d r s t u h l st few touches same = record {
-  goes = goes_few b c d r s l st (h.header 2 (omega arith)) few;
+  goes = goes_few b t c d r s l st (h.header 2 (omega arith)) few;
   standing = h.stands;
   firm = firm_keeps c d t u h same;
   updating = ap (λ n. n == 1) (h.header 4 (omega arith));
-  begun = h.stands;
   touched = touches.touched;
   touches = rw (h.header 4 (omega arith), same.shadows) refl;
 }

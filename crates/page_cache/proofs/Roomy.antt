@@ -1,8 +1,10 @@
 -- With a frame for each block, a frame is free while a block isn't cached.
 use Rattle.page_cache.proofs.Common.{◌≡◌, ◌≢◌, ℕ, suc, ◌<◌, ◌≤◌, ◌==◌, Bool, true, false, ◌⊎◌, if◌then◌else◌, List, length, Some, None, is_some, refl, ◌∙◌, ap, sym, subst, inl, inr, arith, cases_eq, eq-eqb, ne_eqb, Contents, none_some, true_false, IsValid, frames_of, is_valid, tag_at, tag_block, block_of, entry_of_block}
 use Rattle.rio_base.specs.Disks.{raised}
-use Rattle.frame_pool.specs.Pools.{IsVictim}
+use Rattle.frame_pool.specs.Pools.{IsVictim, least_recent}
+use Rattle.rio_model.specs.Registry.{is_dirty}
 use Rattle.rio_model.proofs.CoverLookups.{found_none}
+use Rattle.write_back.specs.Writing.{SameDisk}
 use Rattle.page_cache.specs.declared.tables.CacheTables.{CacheTables}
 use Rattle.page_cache.specs.Caches.{CacheSound, FewWrites}
 use Rattle.page_cache.proofs.Pigeons.{pigeons}
@@ -48,11 +50,15 @@ pub none_free : (k n : ℕ) (c : Contents) (t : CacheTables) → CacheSound c n 
 none_free k n c t s (inl e) v j less gone = none_some (tag_block (tag_at c.words k)) (block_of t.pool k) e (s.bound k v.within ∙ rw v.valid refl)
 none_free k n c t s (inr h) v j less gone = h.0 j (subst (λ m. j < m) (sym s.frames) less) (s.bound j less ∙ rw gone refl)
 
+some_inj : (x y : ℕ) → Some x ≡ Some y → x ≡ y
+some_inj x y e = cc
+
 -- a valid victim, while b isn't cached: no frame is free, and there are fewer frames than blocks
-pub few_evicted : (b n k : ℕ) (c d : Contents) (t : CacheTables) → CacheSound c n t → entry_of_block c.words b ≡ None → b < length c.disk → IsVictim t.pool k → IsValid c.words k → d.writes ≤ raised c.writes 1 → FewWrites b c d
-few_evicted b n k c d t s none there victim v one = record {
+pub few_evicted : (b n k : ℕ) (c d : Contents) (t : CacheTables) → CacheSound c n t → entry_of_block c.words b ≡ None → b < length c.disk → IsVictim t.pool k → IsValid c.words k → least_recent t.pool ≡ Some k → d.writes ≤ raised c.writes 1 → (is_dirty (tag_at c.words k) ≡ false → SameDisk c d) → FewWrites b t c d
+few_evicted b n k c d t s none there victim v oldest one clean = record {
   one = one;
   cached = λ e. absurd (true_false (sym e ∙ ap is_some none));
   free = λ j less gone. absurd (none_free k n c t s victim v j less gone);
   roomy = λ r. absurd (none_some (tag_block (tag_at c.words k)) (block_of t.pool k) (roomy_free b n k c t s none there r victim) (s.bound k v.within ∙ rw v.valid refl));
+  clean = λ j e bright. clean (subst (λ i. is_dirty (tag_at c.words i) ≡ false) (some_inj j k (sym e ∙ oldest)) bright);
 }

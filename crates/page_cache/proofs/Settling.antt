@@ -1,5 +1,5 @@
 -- What a call outside an update leaves so, as callers see it: what stands, and which blocks are loose.
-use Rattle.page_cache.proofs.Common.{◌≡◌, ◌≢◌, ℕ, ◌==◌, ◌||◌, Bool, true, false, List, slice_index_or, refl, ◌∙◌, ap, sym, subst, arith, eq-eqb, BlockWords, Contents, Lasts, Running, Steps, true_false, Firm, Goes, put_run, gate_of, Keeps, reads, stands, stands_idle}
+use Rattle.page_cache.proofs.Common.{◌≡◌, ◌≢◌, ℕ, ◌==◌, ◌<◌, ◌||◌, Bool, true, false, List, slice_index_or, refl, ◌∙◌, ap, sym, subst, arith, eq-eqb, BlockWords, Contents, Lasts, Running, Steps, true_false, Firm, Goes, put_run, gate_of, Keeps, reads, stands, stands_idle}
 use Rattle.std.proofs.lemmas.Bool.Decides.{nat_tests}
 use Rattle.rio_base.specs.Volume.{OldOrRun, SameBut, put}
 use Rattle.rio_model.specs.Cover.{is_loose}
@@ -32,12 +32,12 @@ loose_by true false l m e h q = absurd (true_false e)
 loose_by false true l m e h q = refl
 loose_by false false l m e h q = h q
 
-pub settles : (b : ℕ) (words : BlockWords) (a d : Contents) (r s : Running) (t u : CacheTables) → (gate_of a.words == 1) ≡ false → Rewrites words a d → SameBut b (reads a) words → u.forgotten ≡ t.forgotten → Lasts a d → Steps r s → FewWrites b a d → Settles b a d r s t u
+pub settles : (b : ℕ) (words : BlockWords) (a d : Contents) (r s : Running) (t u : CacheTables) → (gate_of a.words == 1) ≡ false → Rewrites words a d → SameBut b (reads a) words → u.forgotten ≡ t.forgotten → Lasts a d → Steps r s → FewWrites b t a d → Settles b a d r s t u
 settles b words a d r s t u shut w same marks l h few = record {
   standing = record { others = λ c x ne. ap (λ (f : BlockWords). f c x) (stands_idle d now ∙ w.reading) ∙ same.others c x ne ∙ ap (λ (f : BlockWords). f c x) (sym (stands_idle a (not_one (gate_of a.words) shut))) };
   firm = record { loose = λ c e. loose_by (was_forgotten u c) (was_forgotten t c) (is_loose d c) (is_loose a c) (ap (λ (m : _). slice_index_or m.items c false) marks) (w.firm c) e };
   idle = ap (λ n. n == 1) (w.header 4 (omega arith)) ∙ shut;
-  goes = goes_few b a d r s l h (w.header 2 (omega arith)) few;
+  goes = goes_few b t a d r s l h (w.header 2 (omega arith)) few;
 }
   where
     now : gate_of d.words ≢ 1
@@ -61,7 +61,7 @@ same_run b w n from f = record { others = λ c x ne. other c x ne }
 -- ---- a word
 
 -- a store that changed nothing
-pub settles_kept : (b : ℕ) (a d : Contents) (r s : Running) (t u : CacheTables) → (gate_of a.words == 1) ≡ false → Keeps a d → u.forgotten ≡ t.forgotten → Lasts a d → Steps r s → FewWrites b a d → Settles b a d r s t u
+pub settles_kept : (b : ℕ) (a d : Contents) (r s : Running) (t u : CacheTables) → (gate_of a.words == 1) ≡ false → Keeps a d → u.forgotten ≡ t.forgotten → Lasts a d → Steps r s → FewWrites b t a d → Settles b a d r s t u
 settles_kept b a d r s t u shut k marks l h few = settles b (reads a) a d r s t u shut (rewrites_keeps a d k) (same_refl b (reads a)) marks l h few
 
 pub put_then : (b w v : ℕ) (a c d : Contents) → Keeps a c → Rewrites (put (reads c) b w v) c d → Rewrites (put (reads a) b w v) a d
@@ -84,3 +84,6 @@ run_none b w from f = λ i c x. same c x i
 -- no word was stored
 pub run_front : (b w most : ℕ) (from : List ℕ) (a d : Contents) → Keeps a d → OldOrRun (reads a) (reads d) b w from most
 run_front b w most from a d k = (0, omega arith, k.reads ∙ run_none b w from (reads a))
+
+pub some_length : (n : ℕ) → (n == 0) ≡ false → 0 < n
+some_length n h = grind (arith, nat_tests, h)

@@ -2,6 +2,7 @@
 use Rattle.page_cache.proofs.Common.{◌≡◌, ℕ, ◌≤◌, refl, ◌∙◌, ap, sym, subst, arith, Contents}
 use Rattle.rio_base.specs.Disks.{FaultCount, raised}
 use Rattle.write_back.specs.Writing.{SameDisk}
+use Rattle.page_cache.specs.declared.tables.CacheTables.{CacheTables}
 use Rattle.page_cache.specs.Caches.{FewWrites}
 
 pub still_refl : (c : Contents) → SameDisk c c
@@ -22,8 +23,8 @@ still_faults old new f e = record { disk = ap (λ (m : Contents). m.disk) e; pen
 raised_least : (n : ℕ) → n ≤ raised n 1
 raised_least n = omega arith
 
-pub few_still : (b : ℕ) (old new : Contents) → SameDisk old new → FewWrites b old new
-few_still b old new h = record { one = subst (λ n. n ≤ raised old.writes 1) (sym h.writes) (raised_least old.writes); cached = λ e. h; free = λ k less e. h; roomy = λ r. h }
+pub few_still : (b : ℕ) (t : CacheTables) (old new : Contents) → SameDisk old new → FewWrites b t old new
+few_still b t old new h = record { one = subst (λ n. n ≤ raised old.writes 1) (sym h.writes) (raised_least old.writes); cached = λ e. h; free = λ k less e. h; roomy = λ r. h; clean = λ k e c. h }
 
-pub few_then : (x : ℕ) (a b c : Contents) → FewWrites x a b → SameDisk b c → FewWrites x a c
-few_then x a b c h k = record { one = subst (λ n. n ≤ raised a.writes 1) (sym k.writes) h.one; cached = λ e. still_trans a b c (h.cached e) k; free = λ j less e. still_trans a b c (h.free j less e) k; roomy = λ r. still_trans a b c (h.roomy r) k }
+pub few_then : (x : ℕ) (t : CacheTables) (a b c : Contents) → FewWrites x t a b → SameDisk b c → FewWrites x t a c
+few_then x t a b c h k = record { one = subst (λ n. n ≤ raised a.writes 1) (sym k.writes) h.one; cached = λ e. still_trans a b c (h.cached e) k; free = λ j less e. still_trans a b c (h.free j less e) k; roomy = λ r. still_trans a b c (h.roomy r) k; clean = λ j e o. still_trans a b c (h.clean j e o) k }

@@ -1,14 +1,34 @@
 -- A block becomes part of an update.
-use Rattle.page_cache.proofs.Common.{◌≡◌, ◌≢◌, ℕ, ◌+◌, ◌-◌, ◌<◌, ◌≤◌, ◌==◌, ◌||◌, not, Bool, true, false, ◌⊎◌, if◌then◌else◌, List, length, slice_index, slice_set, Option, Some, None, refl, ◌∙◌, ap, sym, subst, inl, inr, arith, cases_eq, eq-eqb, ne_eqb, Contents, Lasts, Running, Steps, true_false, Firm, Goes, PageName, HeldEntry, Keeps, SameNames, entry_of_block, name_in, found_kept, entry_one, frames_one, found_is, coherent_on, IsValid, OneEntry, frames_of, gate_of, is_dirty, shadow_at, tag_at, tag_block, is_pinned, pins_in}
+use Rattle.page_cache.proofs.Common.{is_some, ◌≡◌, ◌≢◌, ℕ, ◌+◌, ◌-◌, ◌<◌, ◌≤◌, ◌==◌, ◌||◌, not, Bool, true, false, ◌⊎◌, if◌then◌else◌, List, length, slice_index, slice_set, Option, Some, None, refl, ◌∙◌, ap, sym, subst, inl, inr, arith, cases_eq, eq-eqb, ne_eqb, Contents, Lasts, Running, Steps, true_false, Firm, Goes, PageName, HeldEntry, Keeps, SameNames, entry_of_block, name_in, found_kept, entry_one, frames_one, found_is, coherent_on, IsValid, OneEntry, frames_of, gate_of, is_dirty, shadow_at, tag_at, tag_block, is_pinned, pins_in}
 use Rattle.std.proofs.Common.{get_or-set_same, get_or-set_other}
+use Rattle.rio_base.specs.Blocks.{CanName, SamePage}
 use Rattle.rio_base.specs.Volume.{HasRoom, Touches, with_block}
+use Rattle.rio_model.specs.Cover.{name_at}
+use Rattle.rio_model.specs.Registry.{is_data}
 use Rattle.rio_model.proofs.CoverStands.{found_named, name_same}
 use Rattle.page_cache.specs.declared.tables.CacheTables.{CacheTables}
-use Rattle.page_cache.specs.Caches.{Adds, CacheSound, FewWrites, IsListed, SameTables, SameTouches, cache_below, cache_health, cache_kept, has_shadow, is_touched, was_forgotten}
+use Rattle.page_cache.specs.Caches.{Adds, CacheSound, FewWrites, IsListed, SameTables, SameTouches, cache_below, cache_health, cache_kept, has_shadow, cache_seen, is_touched, was_forgotten}
 use Rattle.page_cache.specs.Updating.{GivesShadow, SameButPins, SamePages}
 use Rattle.page_cache.proofs.Goes.{goes_few}
 use Rattle.page_cache.proofs.Stores.{name_held, name_other}
 use Rattle.page_cache.proofs.Updates.{blocks_named, sound_with, valid_before}
+
+-- ---- a block that is asked for under no name is one of metadata
+
+unnamed : (d : Bool) (p : PageName) → (if d then Some p else None) ≡ None → d ≡ false
+unnamed true p e = absurd cc
+unnamed false p e = refl
+
+no_page : (o : Option PageName) → SamePage o None → o ≡ None
+no_page None h = refl
+no_page (Some p) h = absurd h
+
+pub metadata_of : (b k : ℕ) (a c : Contents) → CanName (cache_seen a) b None → Adds b None a.words c.words → entry_of_block c.words b ≡ Some k → is_data (tag_at c.words k) ≡ false
+metadata_of b k a c can h found = unnamed (is_data (tag_at c.words k)) (name_at c.words k) (from (h.named k found))
+  where
+    from : ((entry_of_block a.words b ≡ Some k) × (name_in c.words (Some k) ≡ name_in a.words (Some k))) ⊎ (name_in c.words (Some k) ≡ None) → name_in c.words (Some k) ≡ None
+    from (inl was) = was.1 ∙ ap (name_in a.words) (sym was.0) ∙ no_page _ (can.agrees (ap is_some was.0))
+    from (inr is) = is
 
 -- ---- an entry gets the next shadow
 
@@ -121,7 +141,6 @@ if_open g n e = rw e refl
 pub touches_after : (b k : ℕ) (old mid new : Contents) (t u v : CacheTables) → gate_of old.words ≡ 1 → Keeps old mid → Keeps mid new → SameTouches old.words mid.words → SameTables t u → SamePages mid.words new.words → GivesShadow k mid.words new.words u v → entry_of_block mid.words b ≡ Some k → Touches b (cache_kept old t) (cache_kept new v)
 touches_after b k old mid new t u v is h i touches tables pages gives found = record {
   updating = ap (λ g. g == 1) (i.header 4 (omega arith) ∙ h.header 4 (omega arith));
-  begun = i.stands ∙ h.stands;
   touched = λ x c. (touched_now b k mid.words new.words u v was now pages gives found c ∙ ap (λ (f : ℕ → Bool). with_block f b c) touches.touched) x;
   touches = if_open (gate_of new.words) v.shadows now ∙ gives.count ∙ ap (λ n. if shadow_at mid.words k == 0 then n + 1 else n) tables.shadows ∙ count_now (shadow_at mid.words k) t.shadows
       ∙ ap (λ x. if x then t.shadows else t.shadows + 1) (sym (is_touched_at mid.words b k was found) ∙ ap (λ (f : ℕ → Bool). f b) touches.touched)
@@ -153,5 +172,5 @@ firm_forgotten old new t u e h = record { loose = λ b l. loose_either (was_forg
 
 -- ---- how it ends
 
-pub touch_goes : (b : ℕ) (old new : Contents) (r s : Running) → Keeps old new → Lasts old new → Steps r s → FewWrites b old new → Goes (cache_health old r) (cache_below old r) (cache_health new s) (cache_below new s)
-touch_goes b old new r s h l st few = goes_few b old new r s l st (h.header 2 (omega arith)) few
+pub touch_goes : (b : ℕ) (t : CacheTables) (old new : Contents) (r s : Running) → Keeps old new → Lasts old new → Steps r s → FewWrites b t old new → Goes (cache_health old r) (cache_below old r) (cache_health new s) (cache_below new s)
+touch_goes b t old new r s h l st few = goes_few b t old new r s l st (h.header 2 (omega arith)) few

@@ -130,7 +130,7 @@ both_false false b e = refl
 pub begun_of : (old new : Contents) (t u : CacheTables) → Opened old new → u.shadows ≡ 0 → Begun (cache_seen old) (cache_kept old t) (cache_kept new u)
 begun_of old new t u h count = record {
   updating = eq-eqb _ _ h.gate;
-  begun = h.stands;
+  standing = h.stands;
   touched = λ b. both_false _ _ (bare_touch new.words (entry_of_block new.words b) (λ k e. h.bare k (found_is new.words b k e).0));
   touches = rw (h.gate, count) refl;
 }

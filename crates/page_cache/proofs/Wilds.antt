@@ -21,8 +21,8 @@ sound_on n m c d t s e same = subst (λ x. CacheSound x m t) (sym e) (subst (λ 
 pub wild_sound : (w : Wild) (at v : ℕ) (c d : Contents) (r s : Running) (t : CacheTables) → CacheSound c (length r.scratch) t → d ≡ c → s ≡ after_wild w at v r → CacheSound d (length s.scratch) t
 wild_sound w at v c d r s t sound e run = sound_on (length r.scratch) (length s.scratch) c d t sound e (ap (λ (u : Running). length u.scratch) run ∙ wild_scratch w at v r)
 
-pub arm_sound : (at : ℕ) (c d : Contents) (r s : Running) (t : CacheTables) → CacheSound c (length r.scratch) t → d ≡ c → s ≡ record r { armed = Some at } → CacheSound d (length s.scratch) t
-arm_sound at c d r s t sound e run = sound_on (length r.scratch) (length s.scratch) c d t sound e (ap (λ (u : Running). length u.scratch) run)
+pub arm_sound : (at step v : ℕ) (c d : Contents) (r s : Running) (t : CacheTables) → CacheSound c (length r.scratch) t → d ≡ c → s ≡ record r { armed = Some at; armed_left = step; armed_value = v } → CacheSound d (length s.scratch) t
+arm_sound at step v c d r s t sound e run = sound_on (length r.scratch) (length s.scratch) c d t sound e (ap (λ (u : Running). length u.scratch) run)
 
 -- ---- what the volume tells
 
@@ -54,8 +54,8 @@ strikes_of Trapped at v c d r s closed same e run meets = record {
   changes = λ more. absurd (omega (arith, more, same, meets.0));
 }
 
-pub arms_of : (at : ℕ) (c d : Contents) (r s : Running) → d ≡ c → s ≡ record r { armed = Some at } → Arms at (cache_health c r) (cache_below c r) (cache_health d s) (cache_below d s)
-arms_of at c d r s e run = record { health = health_on c d s e ∙ ap (cache_health c) run; below = below_on c d s e ∙ ap (cache_below c) run }
+pub arms_of : (at step v : ℕ) (c d : Contents) (r s : Running) → d ≡ c → s ≡ record r { armed = Some at; armed_left = step; armed_value = v } → Arms at (cache_health c r) (cache_below c r) (cache_health d s) (cache_below d s)
+arms_of at step v c d r s e run = record { health = health_on c d s e ∙ ap (cache_health c) run; below = below_on c d s e ∙ ap (cache_below c) run }
 
 pub kept_on : (c d : Contents) (t u : CacheTables) → d ≡ c → u ≡ t → cache_kept d u ≡ cache_kept c t
 kept_on c d t u e f = ap (λ x. cache_kept x u) e ∙ ap (cache_kept c) f

@@ -6,7 +6,7 @@ use Rattle.rio_base.specs.Disks.{is_pending, raised}
 use Rattle.rio_base.specs.Image.{registry_pages}
 use Rattle.rio_base.specs.Machine.{Contents, Running}
 use Rattle.rio_base.specs.Volume.{Below, Kept}
-use Rattle.frame_pool.specs.Pools.{block_of, blocks_in, frames_in, is_pinned, pins_in}
+use Rattle.frame_pool.specs.Pools.{block_of, blocks_in, frames_in, is_pinned, least_recent, pins_in}
 use Rattle.rio_model.specs.Registry.{IsValid, frames_of, gate_of, is_dirty, is_valid, shadow_at, tag_at}
 use Rattle.write_back.specs.Writing.{SameDisk}
 use Rattle.rio_model.specs.Cover.{Coherent, StandsAs, causes_of, entry_block, entry_of_block, home_of, home_word, is_loose, name_in, reads, stands}
@@ -48,7 +48,6 @@ cache_kept c t = record {
   standing = stands c;
   loose = λ b. was_forgotten t b || is_loose c b;
   updating = gate_of c.words == 1;
-  begun = stands c;
   touched = is_touched c.words;
   touches = if gate_of c.words == 1 then t.shadows else 0;
 }
@@ -115,12 +114,14 @@ pub record Adds (b : ℕ) (name : Option PageName) (old new : List ℕ) : Type 0
   pub named : (k : ℕ) → entry_of_block new b ≡ Some k → ((entry_of_block old b ≡ Some k) × (name_in new (Some k) ≡ name_in old (Some k))) ⊎ (name_in new (Some k) ≡ name)
 
 -- a call that names block b asks for one block write at most, and for none where the block is cached, where a frame is
--- free, or where there is a frame for each block
-pub record FewWrites (b : ℕ) (old new : Contents) : Type 0 where
+-- free, where there is a frame for each block, or where the page that was used least recently of those that aren't pinned is
+-- clean
+pub record FewWrites (b : ℕ) (t : CacheTables) (old new : Contents) : Type 0 where
   pub one : new.writes ≤ raised old.writes 1
   pub cached : is_some (entry_of_block old.words b) ≡ true → SameDisk old new
   pub free : (k : ℕ) → k < frames_of old.words → is_valid (tag_at old.words k) ≡ false → SameDisk old new
   pub roomy : length old.disk ≤ frames_of old.words → SameDisk old new
+  pub clean : (k : ℕ) → least_recent t.pool ≡ Some k → is_dirty (tag_at old.words k) ≡ false → SameDisk old new
 
 -- ---- what a cache tells of its machine
 

@@ -61,7 +61,7 @@ impl<M: Machine> PageCache<M> {
         self.machine.wild(at, v)
     }
 
-    /// Arms a wild store, as [`Machine::arm`]. It comes in a later call.
+    /// Arms a wild store, as [`Machine::arm`]. It comes in a later call, after so many further steps.
     pub fn arm(&mut self, step: u64, at: WordAt, v: u64)
         requires sound { CacheSound (M.contents self.old.machine) (length (M.run self.old.machine).scratch) self.old.tables }
         requires place { at.0 < (cache_below (M.contents self.old.machine) (M.run self.old.machine)).memory.protected + (cache_below (M.contents self.old.machine) (M.run self.old.machine)).memory.scratch }
@@ -69,7 +69,7 @@ impl<M: Machine> PageCache<M> {
         ensures seen { cache_seen (M.contents self.new.machine) ≡ cache_seen (M.contents self.old.machine) }
         ensures kept { cache_kept (M.contents self.new.machine) self.new.tables ≡ cache_kept (M.contents self.old.machine) self.old.tables }
         ensures contents { M.contents self.new.machine ≡ M.contents self.old.machine }
-        ensures run { M.run self.new.machine ≡ record (M.run self.old.machine) { armed = Some at.0 } }
+        ensures run { M.run self.new.machine ≡ record (M.run self.old.machine) { armed = Some at.0; armed_left = step; armed_value = v } }
         ensures tables { self.new.tables ≡ self.old.tables }
         ensures sound { CacheSound (M.contents self.new.machine) (length (M.run self.new.machine).scratch) self.new.tables }
     {

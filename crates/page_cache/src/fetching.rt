@@ -30,6 +30,7 @@ impl<M: Machine> PageCache<M> {
         ensures narrows { Narrows (M.contents self.old.machine).words (M.contents self.new.machine).words }
         ensures gone { OnOk result (tag_at (M.contents self.new.machine).words k ≡ 0) }
         ensures one_write { (M.contents self.new.machine).writes ≤ raised (M.contents self.old.machine).writes 1 }
+        ensures clean_entry { is_dirty (tag_at (M.contents self.old.machine).words k) ≡ false → SameDisk (M.contents self.old.machine) (M.contents self.new.machine) }
         ensures touches { SameTouches (M.contents self.old.machine).words (M.contents self.new.machine).words }
         ensures tables { SameTables self.old.tables self.new.tables }
         ensures leaves { LeavesFrame k (M.contents self.old.machine).words (M.contents self.new.machine).words }
@@ -53,7 +54,7 @@ impl<M: Machine> PageCache<M> {
         ensures keeps { Keeps (M.contents self.old.machine) (M.contents self.new.machine) }
         ensures narrows { Narrows (M.contents self.old.machine).words (M.contents self.new.machine).words }
         ensures room { IfOk result (λ k. (k < frames_of (M.contents self.new.machine).words) × (is_valid (tag_at (M.contents self.new.machine).words k) ≡ false)) }
-        ensures writes { FewWrites b.0 (M.contents self.old.machine) (M.contents self.new.machine) }
+        ensures writes { FewWrites b.0 self.old.tables (M.contents self.old.machine) (M.contents self.new.machine) }
         ensures touches { SameTouches (M.contents self.old.machine).words (M.contents self.new.machine).words }
         ensures tables { SameTables self.old.tables self.new.tables }
         ensures chosen { IfOk result (λ k. least_recent self.old.tables.pool ≡ Some k) }
@@ -178,8 +179,8 @@ impl<M: Machine> PageCache<M> {
         ensures tables { SameTables self.old.tables self.new.tables }
         ensures used { OnOk result (UsedLast b.0 (M.contents self.new.machine).words self.old.tables self.new.tables) }
         ensures leaves { LeavesOldest self.old.tables (M.contents self.old.machine).words (M.contents self.new.machine).words }
-        ensures writes { FewWrites b.0 (M.contents self.old.machine) (M.contents self.new.machine) }
-        ensures hit { is_some (entry_of_block (M.contents self.old.machine).words b.0) ≡ true → M.contents self.new.machine ≡ M.contents self.old.machine }
+        ensures writes { FewWrites b.0 self.old.tables (M.contents self.old.machine) (M.contents self.new.machine) }
+        ensures hit { is_some (entry_of_block (M.contents self.old.machine).words b.0) ≡ true → self.new.machine ≡ self.old.machine }
         ensures clean { OnOk result (FetchedClean b.0 (M.contents self.old.machine).words (M.contents self.new.machine).words) }
         ensures unfetched { IsErrOf result VolFail.Fault → Narrows (M.contents self.old.machine).words (M.contents self.new.machine).words }
         ensures sure { IsErrOf result VolFail.Fault → entry_of_block (M.contents self.old.machine).words b.0 ≡ None }

@@ -59,10 +59,10 @@ impl<M: Machine> Blocks for PageCache<M> {
         ensures looks { Looks (cache_seen (M.contents self.old.machine)) (cache_seen (M.contents self.new.machine)) }
         ensures caches { Caches (cache_seen (M.contents self.old.machine)) (cache_seen (M.contents self.new.machine)) b.0 name }
         ensures passes { Passes (cache_health (M.contents self.old.machine) (M.run self.old.machine)) (cache_below (M.contents self.old.machine) (M.run self.old.machine)) (cache_kept (M.contents self.old.machine) self.old.tables) (cache_health (M.contents self.new.machine) (M.run self.new.machine)) (cache_below (M.contents self.new.machine) (M.run self.new.machine)) (cache_kept (M.contents self.new.machine) self.new.tables) }
-        ensures writes { FewWrites b.0 (M.contents self.old.machine) (M.contents self.new.machine) }
+        ensures writes { FewWrites b.0 self.old.tables (M.contents self.old.machine) (M.contents self.new.machine) }
         ensures used { OnOk result (UsedLast b.0 (M.contents self.new.machine).words self.old.tables self.new.tables) }
         ensures leaves { LeavesOldest self.old.tables (M.contents self.old.machine).words (M.contents self.new.machine).words }
-        ensures hit { (cache_seen (M.contents self.old.machine)).cached b.0 ≡ true → M.contents self.new.machine ≡ M.contents self.old.machine }
+        ensures hit { (cache_seen (M.contents self.old.machine)).cached b.0 ≡ true → self.new.machine ≡ self.old.machine }
         ensures clean { OnOk result (FetchedClean b.0 (M.contents self.old.machine).words (M.contents self.new.machine).words) }
         ensures ends { Ends (cache_health (M.contents self.old.machine) (M.run self.old.machine)) (cache_health (M.contents self.new.machine) (M.run self.new.machine)) result }
         ensures sure { IsErrOf result VolFail.Fault → is_touched (M.contents self.old.machine).words b.0 ≡ true → ⊥ }
@@ -91,10 +91,10 @@ impl<M: Machine> Blocks for PageCache<M> {
         ensures looks { Looks (cache_seen (M.contents self.old.machine)) (cache_seen (M.contents self.new.machine)) }
         ensures caches { Caches (cache_seen (M.contents self.old.machine)) (cache_seen (M.contents self.new.machine)) b.0 name }
         ensures passes { Passes (cache_health (M.contents self.old.machine) (M.run self.old.machine)) (cache_below (M.contents self.old.machine) (M.run self.old.machine)) (cache_kept (M.contents self.old.machine) self.old.tables) (cache_health (M.contents self.new.machine) (M.run self.new.machine)) (cache_below (M.contents self.new.machine) (M.run self.new.machine)) (cache_kept (M.contents self.new.machine) self.new.tables) }
-        ensures writes { FewWrites b.0 (M.contents self.old.machine) (M.contents self.new.machine) }
+        ensures writes { FewWrites b.0 self.old.tables (M.contents self.old.machine) (M.contents self.new.machine) }
         ensures used { OnOk result (UsedLast b.0 (M.contents self.new.machine).words self.old.tables self.new.tables) }
         ensures leaves { LeavesOldest self.old.tables (M.contents self.old.machine).words (M.contents self.new.machine).words }
-        ensures hit { (cache_seen (M.contents self.old.machine)).cached b.0 ≡ true → M.contents self.new.machine ≡ M.contents self.old.machine }
+        ensures hit { (cache_seen (M.contents self.old.machine)).cached b.0 ≡ true → self.new.machine ≡ self.old.machine }
         ensures clean { OnOk result (FetchedClean b.0 (M.contents self.old.machine).words (M.contents self.new.machine).words) }
         ensures ends { Ends (cache_health (M.contents self.old.machine) (M.run self.old.machine)) (cache_health (M.contents self.new.machine) (M.run self.new.machine)) result }
         ensures sure { IsErrOf result VolFail.Fault → is_touched (M.contents self.old.machine).words b.0 ≡ true → ⊥ }

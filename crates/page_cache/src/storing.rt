@@ -106,7 +106,7 @@ impl<M: Machine> PageCache<M> {
         ensures tables { SameTables self.old.tables self.new.tables }
         ensures used { OnOk result (UsedLast b.0 (M.contents self.new.machine).words self.old.tables self.new.tables) }
         ensures leaves { LeavesOldest self.old.tables (M.contents self.old.machine).words (M.contents self.new.machine).words }
-        ensures writes { FewWrites b.0 (M.contents self.old.machine) (M.contents self.new.machine) }
+        ensures writes { FewWrites b.0 self.old.tables (M.contents self.old.machine) (M.contents self.new.machine) }
         ensures lasts { Lasts (M.contents self.old.machine) (M.contents self.new.machine) }
         ensures fault { FaultCause (M.contents self.old.machine) (M.contents self.new.machine) (IsErrOf result VolFail.Fault) }
         ensures ends { StepEnds (M.run self.old.machine) (M.run self.new.machine) (IsErrOf result VolFail.Stopped) }

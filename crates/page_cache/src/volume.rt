@@ -48,7 +48,7 @@ impl<M: Machine> Volume for PageCache<M> {
         ensures goes { Goes (cache_health (M.contents self.old.machine) (M.run self.old.machine)) (cache_below (M.contents self.old.machine) (M.run self.old.machine)) (cache_health (M.contents self.new.machine) (M.run self.new.machine)) (cache_below (M.contents self.new.machine) (M.run self.new.machine)) }
         ensures ends { Ends (cache_health (M.contents self.old.machine) (M.run self.old.machine)) (cache_health (M.contents self.new.machine) (M.run self.new.machine)) result }
         ensures sound { CacheSound (M.contents self.new.machine) (length (M.run self.new.machine).scratch) self.new.tables }
-        ensures writes { FewWrites b.0 (M.contents self.old.machine) (M.contents self.new.machine) }
+        ensures writes { FewWrites b.0 self.old.tables (M.contents self.old.machine) (M.contents self.new.machine) }
         ensures used { OnOk result (UsedLast b.0 (M.contents self.new.machine).words self.old.tables self.new.tables) }
         ensures leaves { LeavesOldest self.old.tables (M.contents self.old.machine).words (M.contents self.new.machine).words }
     {
@@ -78,7 +78,7 @@ impl<M: Machine> Volume for PageCache<M> {
         ensures goes { Goes (cache_health (M.contents self.old.machine) (M.run self.old.machine)) (cache_below (M.contents self.old.machine) (M.run self.old.machine)) (cache_health (M.contents self.new.machine) (M.run self.new.machine)) (cache_below (M.contents self.new.machine) (M.run self.new.machine)) }
         ensures ends { Ends (cache_health (M.contents self.old.machine) (M.run self.old.machine)) (cache_health (M.contents self.new.machine) (M.run self.new.machine)) result }
         ensures sound { CacheSound (M.contents self.new.machine) (length (M.run self.new.machine).scratch) self.new.tables }
-        ensures writes { FewWrites b.0 (M.contents self.old.machine) (M.contents self.new.machine) }
+        ensures writes { FewWrites b.0 self.old.tables (M.contents self.old.machine) (M.contents self.new.machine) }
         ensures used { OnOk result (UsedLast b.0 (M.contents self.new.machine).words self.old.tables self.new.tables) }
         ensures leaves { LeavesOldest self.old.tables (M.contents self.old.machine).words (M.contents self.new.machine).words }
     {
@@ -113,7 +113,7 @@ impl<M: Machine> Volume for PageCache<M> {
         ensures goes { Goes (cache_health (M.contents self.old.machine) (M.run self.old.machine)) (cache_below (M.contents self.old.machine) (M.run self.old.machine)) (cache_health (M.contents self.new.machine) (M.run self.new.machine)) (cache_below (M.contents self.new.machine) (M.run self.new.machine)) }
         ensures ends { Ends (cache_health (M.contents self.old.machine) (M.run self.old.machine)) (cache_health (M.contents self.new.machine) (M.run self.new.machine)) (as_word result) }
         ensures sound { CacheSound (M.contents self.new.machine) (length (M.run self.new.machine).scratch) self.new.tables }
-        ensures writes { FewWrites b.0 (M.contents self.old.machine) (M.contents self.new.machine) }
+        ensures writes { FewWrites b.0 self.old.tables (M.contents self.old.machine) (M.contents self.new.machine) }
         ensures used { OnOk result (0 < length from.now → UsedLast b.0 (M.contents self.new.machine).words self.old.tables self.new.tables) }
         ensures leaves { LeavesOldest self.old.tables (M.contents self.old.machine).words (M.contents self.new.machine).words }
     {
@@ -170,7 +170,7 @@ impl<M: Machine> Volume for PageCache<M> {
         ensures goes { Goes (cache_health (M.contents self.old.machine) (M.run self.old.machine)) (cache_below (M.contents self.old.machine) (M.run self.old.machine)) (cache_health (M.contents self.new.machine) (M.run self.new.machine)) (cache_below (M.contents self.new.machine) (M.run self.new.machine)) }
         ensures ends { Ends (cache_health (M.contents self.old.machine) (M.run self.old.machine)) (cache_health (M.contents self.new.machine) (M.run self.new.machine)) result }
         ensures sound { CacheSound (M.contents self.new.machine) (length (M.run self.new.machine).scratch) self.new.tables }
-        ensures writes { FewWrites b.0 (M.contents self.old.machine) (M.contents self.new.machine) }
+        ensures writes { FewWrites b.0 self.old.tables (M.contents self.old.machine) (M.contents self.new.machine) }
         ensures used { OnOk result (UsedLast b.0 (M.contents self.new.machine).words self.old.tables self.new.tables) }
         ensures leaves { LeavesOldest self.old.tables (M.contents self.old.machine).words (M.contents self.new.machine).words }
     {
@@ -232,8 +232,8 @@ impl<M: Machine> Volume for PageCache<M> {
     fn rollback(&mut self) -> Result<(), Stopped>
         requires sound { CacheSound (M.contents self.old.machine) (length (M.run self.old.machine).scratch) self.old.tables }
         requires in_update { (cache_kept (M.contents self.old.machine) self.old.tables).updating ≡ true }
-        ensures ok { OnOk result (((cache_seen (M.contents self.new.machine)).words ≡ (cache_kept (M.contents self.old.machine) self.old.tables).begun) × ((cache_kept (M.contents self.new.machine) self.new.tables).updating ≡ false)) }
-        ensures untouched { (c w : ℕ) → (cache_kept (M.contents self.old.machine) self.old.tables).touched c ≡ false → (cache_seen (M.contents self.new.machine)).words c w ≡ (cache_kept (M.contents self.old.machine) self.old.tables).begun c w }
+        ensures ok { OnOk result (((cache_seen (M.contents self.new.machine)).words ≡ (cache_kept (M.contents self.old.machine) self.old.tables).standing) × ((cache_kept (M.contents self.new.machine) self.new.tables).updating ≡ false)) }
+        ensures untouched { (c w : ℕ) → (cache_kept (M.contents self.old.machine) self.old.tables).touched c ≡ false → (cache_seen (M.contents self.new.machine)).words c w ≡ (cache_kept (M.contents self.old.machine) self.old.tables).standing c w }
         ensures standing { (cache_kept (M.contents self.new.machine) self.new.tables).standing ≡ (cache_kept (M.contents self.old.machine) self.old.tables).standing }
         ensures firm { Firm (cache_kept (M.contents self.old.machine) self.old.tables) (cache_kept (M.contents self.new.machine) self.new.tables) }
         ensures count { (cache_seen (M.contents self.new.machine)).count ≡ (cache_seen (M.contents self.old.machine)).count }

@@ -1,8 +1,7 @@
 //! One page of a machine, open to stores.
 
 ghost use Rattle.std.specs.Prelude.{◌≡◌, ◌<◌, ◌≤◌, ◌+◌, ◌*◌, ℕ, true, Some, None, OnOk, OnErr, IsErr, length, slice_set};
-ghost use Rattle.rio_base.specs.Disks.{raised};
-ghost use Rattle.rio_base.specs.Machine.{Falls, Lasts, StepEnds};
+ghost use Rattle.rio_base.specs.Machine.{Advances, Falls, Lasts, StepEnds};
 ghost use Rattle.rio_base.specs.Memory.{FrontStored};
 
 use rio_base::{Machine, Page, Stopped, WordAt};
@@ -39,8 +38,8 @@ impl<'m, M: Machine> Window<'m, M> {
         ensures page { self.new.page ≡ self.old.page }
         ensures stored { OnOk result (M.contents self.new.machine.now ≡ record (M.contents self.old.machine.now) { words = slice_set (M.contents self.old.machine.now).words (512 * self.old.page.0 + w) v }) }
         ensures same { OnErr result (M.contents self.new.machine.now ≡ M.contents self.old.machine.now) }
-        ensures counted { OnOk result ((M.run self.new.machine.now).steps ≡ raised (M.run self.old.machine.now).steps 1) }
-        ensures uncounted { OnErr result ((M.run self.new.machine.now).steps ≡ (M.run self.old.machine.now).steps) }
+        ensures counted { OnOk result (Advances 1 (M.run self.old.machine.now) (M.run self.new.machine.now)) }
+        ensures uncounted { OnErr result (Advances 0 (M.run self.old.machine.now) (M.run self.new.machine.now)) }
         ensures lasts { Lasts (M.contents self.old.machine.now) (M.contents self.new.machine.now) }
         ensures falls { Falls (Some self.old.page.0) (M.run self.old.machine.now) (M.run self.new.machine.now) }
         ensures halted { (M.run self.old.machine.now).stopped ≡ true → IsErr result }
@@ -52,15 +51,15 @@ impl<'m, M: Machine> Window<'m, M> {
 
     /// Stores a run of words of the page, from word `w` on in rising order, up to the page's end at most: one step each.
     /// `Stopped` leaves a front of them stored, and comes only where the machine is stopped afterwards.
-    #[tactic(auto, using(rio_base::proofs::MachineRules::ends_none, rio_base::proofs::MachineRules::falls_refl, rio_base::proofs::MachineRules::lasts_refl))]
+    #[tactic(auto, using(rio_base::proofs::MachineRules::ends_none, rio_base::proofs::MachineRules::advances_none, rio_base::proofs::MachineRules::falls_refl, rio_base::proofs::MachineRules::lasts_refl))]
     pub fn put_run(&mut self, w: u16, from: &[u64]) -> Result<(), Stopped>
         requires within { w + length from.now ≤ 512 }
         requires page { (M.contents self.old.machine.now).open_page ≡ Some self.old.page.0 }
         ensures same_reference { self.new.machine.ghost_name ≡ self.old.machine.ghost_name }
         ensures page { self.new.page ≡ self.old.page }
         ensures stored { OnOk result (FrontStored (512 * self.old.page.0 + w) (length from.now) from.now (M.contents self.old.machine.now).words (M.contents self.new.machine.now).words) }
-        ensures counted { OnOk result ((M.run self.new.machine.now).steps ≡ raised (M.run self.old.machine.now).steps (length from.now)) }
-        ensures front { OnErr result ((n : ℕ) × (n < length from.now) × FrontStored (512 * self.old.page.0 + w) n from.now (M.contents self.old.machine.now).words (M.contents self.new.machine.now).words × ((M.run self.new.machine.now).steps ≡ raised (M.run self.old.machine.now).steps n)) }
+        ensures counted { OnOk result (Advances (length from.now) (M.run self.old.machine.now) (M.run self.new.machine.now)) }
+        ensures front { OnErr result ((n : ℕ) × (n < length from.now) × FrontStored (512 * self.old.page.0 + w) n from.now (M.contents self.old.machine.now).words (M.contents self.new.machine.now).words × Advances n (M.run self.old.machine.now) (M.run self.new.machine.now)) }
         ensures rest { M.contents self.new.machine.now ≡ record (M.contents self.old.machine.now) { words = (M.contents self.new.machine.now).words } }
         ensures frozen { (M.run self.old.machine.now).stopped ≡ true → M.contents self.new.machine.now ≡ M.contents self.old.machine.now }
         ensures lasts { Lasts (M.contents self.old.machine.now) (M.contents self.new.machine.now) }

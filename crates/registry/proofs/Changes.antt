@@ -79,6 +79,19 @@ changes_then k a b c r s t none stop n h l = record {
   ends = ends_after r s t stop h.ends.steps (h.ends.runs n) l.ends;
 }
 
+-- a change that did not answer Ok, told by another answer
+pub changes_told : (k : ℕ) (a b : Contents) (r s : Running) (stop told : Type 0) → stop → told → ChangesEntry k a b r s stop → ChangesEntry k a b r s told
+changes_told k a b r s stop told is tells h = record {
+  rest = h.rest;
+  one_entry = h.one_entry;
+  layout = h.layout;
+  frames = h.frames;
+  closed = h.closed;
+  lasts = h.lasts;
+  halted = λ e. tells;
+  ends = record { steps = h.ends.steps; told = λ t. h.ends.told is; runs = λ n. absurd (n tells) };
+}
+
 -- ---- the entry after a store
 
 word_with : (words : List ℕ) (p w i v : ℕ) → p + 5 ≤ length words → i < 5 → (w ≡ i) ⊎ (w ≢ i) → slice_index (slice_set words (p + w) v) (p + i) ≡ (if w == i then v else slice_index words (p + i))

@@ -55,6 +55,13 @@ impl<M: Machine> CoverView<M> {
         }
     }
 
+    /// The machine, to look at its memory.
+    pub fn machine(&self) -> &M
+        ensures { result.now ≡ self.now.machine }
+    {
+        &self.machine
+    }
+
     /// The machine, taken back.
     pub fn into_machine(self) -> M
         ensures { result ≡ self.machine }

@@ -8,7 +8,7 @@ ghost use Rattle.registry.specs.EntryRules.{EntryKeeps, IsFreeBefore, IsUnusedBe
 use crate::entry::{Entry, load_tag, read_entry};
 use crate::pages::{GATE, frame_count};
 use crate::tag::Tag;
-use rio_base::{Block, Machine};
+use rio_base::{Block, Machine, PAGE_BYTES};
 use thiserror::Error;
 
 /// The first rule that an image breaks, by its number from 5 to 12.
@@ -39,9 +39,6 @@ const MOST_BLOCKS: u32 = 262_144;
 
 /// The words of their marks, a bit for each block.
 const MARK_WORDS: usize = MOST_BLOCKS as usize / 64;
-
-/// The bytes of a page.
-const PAGE_BYTES: u64 = 4096;
 
 /// The greatest inode number.
 const LAST_FILE: u64 = 262_144;

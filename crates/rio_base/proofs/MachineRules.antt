@@ -1,11 +1,11 @@
 -- The rules of a machine's calls compose: what holds of each call holds of any number of them.
 use Rattle.std.specs.Prelude.{◌≡◌, ◌≢◌, ℕ, ◌+◌, ◌-◌, ◌/◌, ◌<◌, ◌≤◌, Bool, true, false, ◌⊎◌, length, slice_index, Option, Some, None, refl}
-use Rattle.rio_base.specs.Disks.{FaultCount, FaultsLast}
+use Rattle.rio_base.specs.Disks.{FaultCount, FaultsLast, raised}
 use Rattle.rio_base.specs.declared.wild.Wild.{Wild}
 use Rattle.rio_base.specs.declared.wild.Wild.TheVariants.{Changed, Trapped, Spared}
 use Rattle.std.proofs.Common.{le_trans, le_refl, ◌∙◌, ap, sym, subst, inl, inr, get_or-set_other, arith}
 use Rattle.std.proofs.lemmas.List.{length-set}
-use Rattle.rio_base.specs.Machine.{Contents, Falls, Lasts, Meets, Running, StepEnds, Steps, StopReason, after_wild}
+use Rattle.rio_base.specs.Machine.{Advances, Contents, Falls, FellBy, Lasts, Meets, Running, StepEnds, Steps, StopReason, after_wild}
 use Rattle.rio_base.specs.Rules.{true_false, none_some}
 
 -- what any number of calls leave so. `wilds` are the places that are given to `wild` in them, and `arms` those given to
@@ -71,6 +71,16 @@ unarmed_on a b at (inr h) n e = none_some at b h e
 
 -- ---- steps
 
+pub raised_more : (count k n : ℕ) → raised (raised count k) n ≡ raised count (k + n)
+raised_more count k n = omega arith
+
+pub advances_none : (r : Running) → Advances 0 r r
+advances_none r = record {
+  steps = omega arith;
+  waits = λ at e. (omega arith, refl);
+  fell = λ at e n. absurd (none_some at r.armed n e);
+}
+
 pub steps_refl : (r : Running) → Steps r r
 steps_refl r = record {
   protected = refl;
@@ -83,6 +93,8 @@ steps_refl r = record {
   scratch_count = refl;
   unarmed = λ i n. refl;
   unfallen = λ e. refl;
+  stored = λ i less e n. absurd (none_some (r.protected + i) r.armed n e);
+  made = (0, advances_none r);
 }
 
 -- why the second of two calls stopped is why both did
@@ -103,6 +115,68 @@ running_between : (b c : Running) → Steps b c → c.stopped ≡ false → (b.s
 running_between b c k runs (inl e) = e
 running_between b c k runs (inr e) = absurd (true_false (sym (subst (λ (r : Running). r.stopped ≡ true) (sym (k.frozen e)) e) ∙ runs))
 
+-- where nothing is armed, nothing traps
+still_trapped : (b c : Running) → Steps b c → b.armed ≡ None → (b.stopped ≡ false) ⊎ (b.stopped ≡ true) → (c.stopped ≡ false) ⊎ (c.stopped ≡ true) → c.trapped ≡ b.trapped
+still_trapped b c k none (inr stopped) f = ap (λ (r : Running). r.trapped) (k.frozen stopped)
+still_trapped b c k none (inl runs) (inl goes_on) = k.running goes_on
+still_trapped b c k none (inl runs) (inr stops) = from (k.reason runs stops)
+  where
+    from : StopReason b c → c.trapped ≡ b.trapped
+    from (inl t) = absurd (none_some t.0 b.armed none t.1)
+    from (inr s) = s.0
+
+-- what is armed after a call was armed before it
+armed_before : (at : ℕ) (b c : Option ℕ) → (c ≡ b) ⊎ (c ≡ None) → c ≡ Some at → b ≡ Some at
+armed_before at b c (inl same) e = sym same ∙ e
+armed_before at b c (inr none) e = absurd (none_some at c none e)
+
+-- n steps and then m more, where the first left the machine running
+advances_on : (n m : ℕ) (a b c : Running) → b.stopped ≡ false → Steps a b → Steps b c → Advances n a b → Advances m b c → Advances (n + m) a c
+advances_on n m a b c runs s t h k = record {
+  steps = k.steps ∙ ap (λ count. raised count m) h.steps ∙ raised_more a.steps n m;
+  waits = λ at e. let one = h.waits at (armed_before at b.armed c.armed t.armed e) in let two = k.waits at e in (omega (arith, one.0, two.0), two.1 ∙ one.1);
+  fell = λ at e none. fell at e none s.armed;
+}
+  where
+    trapped : b.armed ≡ None → c.trapped ≡ b.trapped
+    trapped none = still_trapped b c t none (flag b.stopped) (flag c.stopped)
+
+    fell : (at : ℕ) → a.armed ≡ Some at → c.armed ≡ None → (b.armed ≡ a.armed) ⊎ (b.armed ≡ None) → FellBy (n + m) at a c
+    fell at e none (inl same) = later (k.fell at (same ∙ e) none)
+      where
+        left : b.armed_left + n ≡ a.armed_left
+        left = (h.waits at (same ∙ e)).0
+
+        later : FellBy m at b c → FellBy (n + m) at a c
+        later (inl w) = inl (omega (arith, left, w.0), w.1 ∙ s.running runs)
+        later (inr w) = inr (omega (arith, left, w.0), w.1, w.2)
+    fell at e none (inr gone) = earlier (h.fell at e gone)
+      where
+        earlier : FellBy n at a b → FellBy (n + m) at a c
+        earlier (inl w) = inl (omega (arith, w.0), trapped gone ∙ w.1)
+        earlier (inr w) = absurd (true_false (sym w.1 ∙ runs))
+
+pub advances_then : (n m : ℕ) (a b c : Running) → (b.stopped ≡ true → m ≡ 0) → Steps a b → Steps b c → Advances n a b → Advances m b c → Advances (n + m) a c
+advances_then n m a b c still s t h k = from (flag b.stopped)
+  where
+    from : (b.stopped ≡ false) ⊎ (b.stopped ≡ true) → Advances (n + m) a c
+    from (inl runs) = advances_on n m a b c runs s t h k
+    from (inr stopped) = subst (λ (r : Running). Advances (n + m) a r) (sym (t.frozen stopped)) (subst (λ i. Advances i a b) (omega (arith, still stopped)) h)
+
+-- the same, where the second call made no step
+pub advances_stop : (n : ℕ) (a b c : Running) → Steps a b → Steps b c → Advances n a b → Advances 0 b c → Advances n a c
+advances_stop n a b c s t h k = subst (λ i. Advances i a c) (omega arith) (advances_then n 0 a b c (λ e. refl) s t h k)
+
+made_on : (a b c : Running) → Steps a b → Steps b c → (b.stopped ≡ false) ⊎ (b.stopped ≡ true) → (n : ℕ) × Advances n a c
+made_on a b c h k (inl runs) = (h.made.0 + k.made.0, advances_on h.made.0 k.made.0 a b c runs h k h.made.1 k.made.1)
+made_on a b c h k (inr stopped) = (h.made.0, subst (λ (r : Running). Advances h.made.0 a r) (sym (k.frozen stopped)) h.made.1)
+
+stored_on : (a b c : Running) → Steps a b → Steps b c → (i : ℕ) → i < length a.scratch → a.armed ≡ Some (a.protected + i) → c.armed ≡ None → (b.armed ≡ a.armed) ⊎ (b.armed ≡ None) → slice_index c.scratch i ≡ a.armed_value
+stored_on a b c h k i less e none (inl same) =
+    k.stored i (subst (λ n. i < n) (sym h.scratch_count) less) (subst (λ p. b.armed ≡ Some (p + i)) (sym h.protected) (same ∙ e)) none
+    ∙ (h.made.1.waits (a.protected + i) (same ∙ e)).1
+stored_on a b c h k i less e none (inr gone) = k.unarmed i (λ x. none_some (b.protected + i) b.armed gone x) ∙ h.stored i less e gone
+
 pub steps_trans : (a b c : Running) → Steps a b → Steps b c → Steps a c
 steps_trans a b c h k = record {
   protected = k.protected ∙ h.protected;
@@ -115,6 +189,8 @@ steps_trans a b c h k = record {
   scratch_count = k.scratch_count ∙ h.scratch_count;
   unarmed = λ i n. k.unarmed i (subst (λ p. b.armed ≢ Some (p + i)) (sym h.protected) (unarmed_on a.armed b.armed (a.protected + i) h.armed n)) ∙ h.unarmed i n;
   unfallen = λ e. let both = not_fallen a.armed b.armed c.armed h.armed k.armed e in k.unfallen both.1 ∙ h.unfallen both.0;
+  stored = λ i less e none. stored_on a b c h k i less e none h.armed;
+  made = made_on a b c h k (flag b.stopped);
 }
 
 -- one call and then another: a chain of calls is written `h and_then k and_then l`
@@ -182,8 +258,8 @@ runs_on_steps wilds arms a b h = record {
     reason_named (inr s) = inr s
 
 -- `arm` names its own place
-pub runs_on_arm : (wilds arms : ℕ → Type 0) (r : Running) (at : ℕ) → arms at → RunsOn wilds arms r (record r { armed = Some at })
-runs_on_arm wilds arms r at n = record {
+pub runs_on_arm : (wilds arms : ℕ → Type 0) (r : Running) (step at v : ℕ) → arms at → RunsOn wilds arms r (record r { armed = Some at; armed_left = step; armed_value = v })
+runs_on_arm wilds arms r step at v n = record {
   protected = refl;
   stop_set = refl;
   later = le_refl r.steps;

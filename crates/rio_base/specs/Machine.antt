@@ -2,7 +2,7 @@
 use Rattle.std.specs.Prelude.{◌≡◌, ◌≢◌, ℕ, ◌+◌, ◌-◌, ◌*◌, ◌/◌, ◌<◌, ◌≤◌, Bool, true, false, ◌⊎◌, List, length, slice_index, slice_set, Option, Some, None}
 use Rattle.rio_base.specs.Blocks.{Around}
 use Rattle.rio_base.specs.Counts.{Rose}
-use Rattle.rio_base.specs.Disks.{FaultCount, FaultsLast, block_at, is_pending}
+use Rattle.rio_base.specs.Disks.{FaultCount, FaultsLast, block_at, is_pending, raised}
 use Rattle.rio_base.specs.declared.wild.Wild.{Wild}
 use Rattle.rio_base.specs.declared.wild.Wild.TheVariants.{Changed, Trapped, Spared}
 
@@ -35,6 +35,9 @@ pub record Running : Type 0 where
   pub stop_set : Bool
   -- the place of the armed wild store, if any
   pub armed : Option ℕ
+  -- how many steps come before it, and the word that it stores; they say nothing where none is armed
+  pub armed_left : ℕ
+  pub armed_value : ℕ
   -- the place of the wild store that trapped, if any
   pub trapped : Option ℕ
 
@@ -43,6 +46,17 @@ pub record Running : Type 0 where
 -- why a machine has stopped: a store that was armed fell on a protected word and trapped, or a stop was given
 abbrev pub StopReason : Running → Running → Type 0
 StopReason old new = ((at : ℕ) × (old.armed ≡ Some at) × (at < old.protected) × (new.trapped ≡ Some at) × (new.armed ≡ None)) ⊎ ((new.trapped ≡ old.trapped) × (old.stop_set ≡ true))
+
+-- a store that was armed at this place fell within n steps, before the one that followed as many as it had left: it trapped,
+-- and that step was not made; or it did not trap, and that step was made
+abbrev pub FellBy : ℕ → ℕ → Running → Running → Type 0
+FellBy n at old new = ((old.armed_left < n) × (new.trapped ≡ old.trapped)) ⊎ ((old.armed_left ≡ n) × (new.stopped ≡ true) × (new.trapped ≡ Some at))
+
+-- n steps were made, and a store that is armed still has n fewer before it
+pub record Advances (n : ℕ) (old new : Running) : Type 0 where
+  pub steps : new.steps ≡ raised old.steps n
+  pub waits : (at : ℕ) → new.armed ≡ Some at → (new.armed_left + n ≡ old.armed_left) × (new.armed_value ≡ old.armed_value)
+  pub fell : (at : ℕ) → old.armed ≡ Some at → new.armed ≡ None → FellBy n at old new
 
 -- what any number of calls leave so, of which none is `wild` or `arm`
 pub record Steps (old new : Running) : Type 0 where
@@ -60,6 +74,10 @@ pub record Steps (old new : Running) : Type 0 where
   pub scratch_count : length new.scratch ≡ length old.scratch
   pub unarmed : (i : ℕ) → old.armed ≢ Some (old.protected + i) → slice_index new.scratch i ≡ slice_index old.scratch i
   pub unfallen : new.armed ≡ old.armed → new.scratch ≡ old.scratch
+  -- a store that fell on a word of scratch left its value there
+  pub stored : (i : ℕ) → i < length old.scratch → old.armed ≡ Some (old.protected + i) → new.armed ≡ None → slice_index new.scratch i ≡ old.armed_value
+  -- some steps were made
+  pub made : (n : ℕ) × Advances n old new
 
 -- where the armed store fell while this page was open, or none: on a scratch page, on the open page, or it trapped, and
 -- then not on the open page
@@ -93,6 +111,14 @@ pub record Copied (from to n : ℕ) (old new : List ℕ) : Type 0 where
   pub front : 512 * from < length old → (i : ℕ) → i < n → slice_index new (512 * to + i) ≡ slice_index old (512 * from + i)
   pub below : (i : ℕ) → i < 512 * to → slice_index new i ≡ slice_index old i
   pub above : (i : ℕ) → 512 * to + n ≤ i → slice_index new i ≡ slice_index old i
+
+-- the word that a place of scratch had, or what the armed store that fell there stored
+abbrev pub FromScratch : ℕ → ℕ → Running → Running → Type 0
+FromScratch word at old new = (word ≡ slice_index old.scratch (at - old.protected)) ⊎ ((old.armed ≡ Some at) × (new.armed ≡ None) × (word ≡ old.armed_value))
+
+-- where page `from` is of scratch, the first n words of page `to` are those that it had
+pub record CopiedScratch (from to n : ℕ) (old new : Running) (words : List ℕ) : Type 0 where
+  pub front : old.protected ≤ 512 * from → (i : ℕ) → i < n → FromScratch (slice_index words (512 * to + i)) (512 * from + i) old new
 
 -- what a write of block b leaves so, however it ends
 pub record WritesBlock (b : ℕ) (old new : Contents) : Type 0 where

@@ -110,7 +110,7 @@ pub ◌then◌ : {s : Health} {old : Below} {t : Health} {mid : Below} {u : Heal
 -- ---- a volume that is only read
 
 pub passes_same : (s : Health) (old : Below) (k : Kept) → Passes s old k s old k
-passes_same s old k = record { goes = goes_refl s old; standing = refl; firm = firm_refl k; updating = refl; begun = refl; touched = refl; touches = refl }
+passes_same s old k = record { goes = goes_refl s old; standing = refl; firm = firm_refl k; updating = refl; touched = refl; touches = refl }
 
 pub passes_on : (s : Health) (old : Below) (k : Kept) (t : Health) (mid : Below) (l : Kept) (u : Health) (new : Below) (m : Kept) → Passes s old k t mid l → Passes t mid l u new m → Passes s old k u new m
 passes_on s old k t mid l u new m h i = record {
@@ -118,7 +118,6 @@ passes_on s old k t mid l u new m h i = record {
   standing = i.standing ∙ h.standing;
   firm = firm_trans k l m h.firm i.firm;
   updating = i.updating ∙ h.updating;
-  begun = i.begun ∙ h.begun;
   touched = i.touched ∙ h.touched;
   touches = i.touches ∙ h.touches;
 }

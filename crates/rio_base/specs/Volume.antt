@@ -30,9 +30,8 @@ pub record Kept : Type 0 where
   pub standing : BlockWords
   -- blocks whose standing content isn't told
   pub loose : ℕ → Bool
-  -- an update is open; what the blocks read as when it began; which blocks are touched in it, and how many
+  -- an update is open; which blocks are touched in it, and how many
   pub updating : Bool
-  pub begun : BlockWords
   pub touched : ℕ → Bool
   pub touches : ℕ
 
@@ -122,9 +121,9 @@ pub record Goes (s : Health) (old : Below) (t : Health) (new : Below) : Type 0 w
 pub record Idle (s : Seen) (k : Kept) : Type 0 where
   pub stands : (b : ℕ) → k.loose b ≡ false → (w : ℕ) → k.standing b w ≡ s.words b w
 
--- while one is open, each block that isn't touched reads as when it began
+-- while one is open, each block that isn't touched reads as it stands
 pub record Open (s : Seen) (k : Kept) : Type 0 where
-  pub untouched : (b : ℕ) → k.touched b ≡ false → (w : ℕ) → s.words b w ≡ k.begun b w
+  pub untouched : (b : ℕ) → k.touched b ≡ false → (w : ℕ) → s.words b w ≡ k.standing b w
 
 pub record Settled (s : Seen) (k : Kept) : Type 0 where
   pub idle : k.updating ≡ false → Idle s k
@@ -140,21 +139,19 @@ pub record Passes (s : Health) (old : Below) (k : Kept) (t : Health) (new : Belo
   pub standing : l.standing ≡ k.standing
   pub firm : Firm k l
   pub updating : l.updating ≡ k.updating
-  pub begun : l.begun ≡ k.begun
   pub touched : l.touched ≡ k.touched
   pub touches : l.touches ≡ k.touches
 
 -- the open update is as before
 pub record SameUpdate (k l : Kept) : Type 0 where
   pub updating : l.updating ≡ k.updating
-  pub begun : l.begun ≡ k.begun
   pub touched : l.touched ≡ k.touched
   pub touches : l.touches ≡ k.touches
 
--- an update has begun
+-- an update has begun: what reads is what stands
 pub record Begun (s : Seen) (k l : Kept) : Type 0 where
   pub updating : l.updating ≡ true
-  pub begun : l.begun ≡ s.words
+  pub standing : l.standing ≡ s.words
   pub touched : (b : ℕ) → l.touched b ≡ false
   pub touches : l.touches ≡ 0
 
@@ -165,7 +162,6 @@ HasRoom k b = (k.touched b ≡ true) ⊎ (k.touches < 16)
 -- one more block is touched
 pub record Touches (b : ℕ) (k l : Kept) : Type 0 where
   pub updating : l.updating ≡ k.updating
-  pub begun : l.begun ≡ k.begun
   pub touched : l.touched ≡ with_block k.touched b
   pub touches : l.touches ≡ (if k.touched b then k.touches else k.touches + 1)
 

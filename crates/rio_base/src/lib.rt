@@ -4,6 +4,7 @@
 mod blocks;
 mod disk_blocks;
 mod failures;
+mod formats;
 mod host;
 mod host_reading;
 mod lists;
@@ -20,6 +21,7 @@ mod wild;
 pub use blocks::Blocks;
 pub use disk_blocks::DiskBlocks;
 pub use failures::{DiskFail, Failed, ReadFail, RunFail, Stopped, VolFail};
+pub use formats::{IMAGE_MAGIC, PAGE_BYTES, REGION_MAGIC, UNDO_HEAD, VOLUME_MAGIC};
 pub use host::Host;
 pub use host_reading::{read_from, rose};
 pub use lists::{BlockList, HeapList, InoList, Items, NameList, Octets, RangeList, Words};

@@ -3,7 +3,7 @@
 ghost use Rattle.std.specs.Prelude.{◌≡◌, ◌≢◌, ◌<◌, ◌≤◌, ◌+◌, ◌*◌, ◌/◌, ◌%◌, ◌^◌, ◌++◌, ℕ, true, false, Some, None, Err, OnOk, OnErr, IsErr, IsErrOf, length, slice_index, slice_set, replicate};
 ghost use Rattle.std.specs.Option.{option_map};
 ghost use Rattle.rio_base.specs.Disks.{block_at, raised};
-ghost use Rattle.rio_base.specs.Machine.{Contents, Copied, Falls, FaultCause, Lasts, Meets, Running, StepEnds, WritesBlock, after_wild};
+ghost use Rattle.rio_base.specs.Machine.{Advances, Contents, Copied, CopiedScratch, Falls, FaultCause, Lasts, Meets, Running, StepEnds, WritesBlock, after_wild};
 ghost use Rattle.rio_base.specs.Memory.{FrontStored, page_at};
 
 use crate::failures::{DiskFail, Stopped};
@@ -70,23 +70,24 @@ pub trait Machine {
         requires { (contents self.old).open_page ≡ Some (at.0 / 512) }
         ensures stored { OnOk result (contents self.new ≡ record (contents self.old) { words = slice_set (contents self.old).words at.0 v }) }
         ensures same { OnErr result (contents self.new ≡ contents self.old) }
-        ensures counted { OnOk result ((run self.new).steps ≡ raised (run self.old).steps 1) }
-        ensures uncounted { OnErr result ((run self.new).steps ≡ (run self.old).steps) }
+        ensures counted { OnOk result (Advances 1 (run self.old) (run self.new)) }
+        ensures uncounted { OnErr result (Advances 0 (run self.old) (run self.new)) }
         ensures lasts { Lasts (contents self.old) (contents self.new) }
         ensures falls { Falls (contents self.old).open_page (run self.old) (run self.new) }
         ensures halted { (run self.old).stopped ≡ true → IsErr result }
         ensures ends { StepEnds (run self.old) (run self.new) (IsErr result) };
 
-    /// Copies a page to the open page, word by word from the front on: 512 steps. `Stopped` leaves a front copied. What
-    /// is copied from a scratch page isn't told.
-    #[tactic(auto, using(crate::proofs::MachineRules::steps_refl, crate::proofs::MachineRules::steps_trans, crate::proofs::MachineRules::ends_after, crate::proofs::MachineRules::falls_refl, crate::proofs::MachineRules::falls_trans))]
+    /// Copies a page to the open page, word by word from the front on: 512 steps. `Stopped` leaves a front copied. A word
+    /// of scratch that the armed store falls on meanwhile may be copied as it was, or as what that stores.
+    #[tactic(auto, using(crate::proofs::MachineRules::advances_none, crate::proofs::MachineRules::steps_refl, crate::proofs::MachineRules::steps_trans, crate::proofs::MachineRules::ends_after, crate::proofs::MachineRules::falls_refl, crate::proofs::MachineRules::falls_trans, crate::proofs::PageCopies::scratch_none))]
     fn copy_page(&mut self, from: Page, to: Page) -> Result<(), Stopped>
         requires from { 512 * from.0 < length (contents self.old).words + length (run self.old).scratch }
         requires to { (contents self.old).open_page ≡ Some to.0 }
         requires two { from.0 ≢ to.0 }
         ensures copied { OnOk result (Copied from.0 to.0 512 (contents self.old).words (contents self.new).words) }
-        ensures counted { OnOk result ((run self.new).steps ≡ raised (run self.old).steps 512) }
-        ensures front { OnErr result ((n : ℕ) × (n < 512) × Copied from.0 to.0 n (contents self.old).words (contents self.new).words × ((run self.new).steps ≡ raised (run self.old).steps n)) }
+        ensures scratch { OnOk result (CopiedScratch from.0 to.0 512 (run self.old) (run self.new) (contents self.new).words) }
+        ensures counted { OnOk result (Advances 512 (run self.old) (run self.new)) }
+        ensures front { OnErr result ((n : ℕ) × (n < 512) × Copied from.0 to.0 n (contents self.old).words (contents self.new).words × CopiedScratch from.0 to.0 n (run self.old) (run self.new) (contents self.new).words × Advances n (run self.old) (run self.new)) }
         ensures rest { contents self.new ≡ record (contents self.old) { words = (contents self.new).words } }
         ensures frozen { (run self.old).stopped ≡ true → contents self.new ≡ contents self.old }
         ensures lasts { Lasts (contents self.old) (contents self.new) }
@@ -103,13 +104,13 @@ pub trait Machine {
 
     /// Stores a run of words of the open page, from place `at` on in rising order: one step each. `Stopped` leaves a
     /// front of them stored.
-    #[tactic(auto, using(crate::proofs::MachineRules::steps_refl, crate::proofs::MachineRules::steps_trans, crate::proofs::MachineRules::ends_after, crate::proofs::MachineRules::falls_refl, crate::proofs::MachineRules::falls_trans))]
+    #[tactic(auto, using(crate::proofs::MachineRules::advances_none, crate::proofs::MachineRules::advances_stop, crate::proofs::MachineRules::steps_refl, crate::proofs::MachineRules::steps_trans, crate::proofs::MachineRules::ends_after, crate::proofs::MachineRules::falls_refl, crate::proofs::MachineRules::falls_trans))]
     fn store_run(&mut self, at: WordAt, from: &[u64]) -> Result<(), Stopped>
         requires page { (contents self.old).open_page ≡ Some (at.0 / 512) }
         requires within { at.0 % 512 + length from.now ≤ 512 }
         ensures stored { OnOk result (FrontStored at.0 (length from.now) from.now (contents self.old).words (contents self.new).words) }
-        ensures counted { OnOk result ((run self.new).steps ≡ raised (run self.old).steps (length from.now)) }
-        ensures front { OnErr result ((n : ℕ) × (n < length from.now) × FrontStored at.0 n from.now (contents self.old).words (contents self.new).words × ((run self.new).steps ≡ raised (run self.old).steps n)) }
+        ensures counted { OnOk result (Advances (length from.now) (run self.old) (run self.new)) }
+        ensures front { OnErr result ((n : ℕ) × (n < length from.now) × FrontStored at.0 n from.now (contents self.old).words (contents self.new).words × Advances n (run self.old) (run self.new)) }
         ensures rest { contents self.new ≡ record (contents self.old) { words = (contents self.new).words } }
         ensures frozen { (run self.old).stopped ≡ true → contents self.new ≡ contents self.old }
         ensures lasts { Lasts (contents self.old) (contents self.new) }
@@ -147,8 +148,8 @@ pub trait Machine {
         ensures protected { OnOk result (512 * from.0 < length (contents self.old).words → block_at (contents self.new).disk b.0 ≡ page_at (contents self.old).words from.0) }
         ensures writes_block { WritesBlock b.0 (contents self.old) (contents self.new) }
         ensures pending { (run self.old).stopped ≡ false → (contents self.new).pending ≡ slice_set (contents self.old).pending b.0 true }
-        ensures made { result ≢ Err DiskFail.Stopped → ((contents self.new).writes ≡ raised (contents self.old).writes 1) × ((run self.new).steps ≡ raised (run self.old).steps 1) }
-        ensures cut { IsErrOf result DiskFail.Stopped → (contents self.new ≡ record (contents self.old) { pending = (contents self.new).pending }) × ((run self.new).steps ≡ (run self.old).steps) }
+        ensures made { result ≢ Err DiskFail.Stopped → ((contents self.new).writes ≡ raised (contents self.old).writes 1) × Advances 1 (run self.old) (run self.new) }
+        ensures cut { IsErrOf result DiskFail.Stopped → (contents self.new ≡ record (contents self.old) { pending = (contents self.new).pending }) × Advances 0 (run self.old) (run self.new) }
         ensures frozen { (run self.old).stopped ≡ true → contents self.new ≡ contents self.old }
         ensures lasts { Lasts (contents self.old) (contents self.new) }
         ensures fault { FaultCause (contents self.old) (contents self.new) (IsErrOf result DiskFail.Fault) }
@@ -162,8 +163,8 @@ pub trait Machine {
         requires closed { (contents self.old).open_page ≡ None }
         ensures synced { OnOk result (contents self.new ≡ record (contents self.old) { pending = replicate (length (contents self.old).disk) false; faults = (contents self.new).faults }) }
         ensures same { OnErr result (contents self.new ≡ record (contents self.old) { faults = (contents self.new).faults }) }
-        ensures made { result ≢ Err DiskFail.Stopped → (run self.new).steps ≡ raised (run self.old).steps 1 }
-        ensures cut { IsErrOf result DiskFail.Stopped → (contents self.new ≡ contents self.old) × ((run self.new).steps ≡ (run self.old).steps) }
+        ensures made { result ≢ Err DiskFail.Stopped → Advances 1 (run self.old) (run self.new) }
+        ensures cut { IsErrOf result DiskFail.Stopped → (contents self.new ≡ contents self.old) × Advances 0 (run self.old) (run self.new) }
         ensures lasts { Lasts (contents self.old) (contents self.new) }
         ensures fault { FaultCause (contents self.old) (contents self.new) (IsErrOf result DiskFail.Fault) }
         ensures falls { Falls None (run self.old) (run self.new) }
@@ -183,7 +184,7 @@ pub trait Machine {
     fn arm(&mut self, step: u64, at: WordAt, v: u64)
         requires { at.0 < length (contents self.old).words + length (run self.old).scratch }
         ensures contents { contents self.new ≡ contents self.old }
-        ensures run { run self.new ≡ record (run self.old) { armed = Some at.0 } };
+        ensures run { run self.new ≡ record (run self.old) { armed = Some at.0; armed_left = step; armed_value = v } };
 
     ghost protected_words: { (m : Self) → (run m).protected ≡ length (contents m).words };
 

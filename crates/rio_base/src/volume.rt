@@ -161,12 +161,12 @@ pub trait Volume: Blocks {
         ensures ends { Halts (Self.health self.old) (Self.health self.new) result }
         ensures sound { Self.sound self.new };
 
-    /// Ends the open update without a trace: all blocks read as when it began.
+    /// Ends the open update without a trace: all blocks read as they stand, which is as when it began.
     fn rollback(&mut self) -> Result<(), Stopped>
         requires sound { Self.sound self.old }
         requires in_update { (kept self.old).updating ≡ true }
-        ensures ok { OnOk result (((Self.seen self.new).words ≡ (kept self.old).begun) × ((kept self.new).updating ≡ false)) }
-        ensures untouched { (c w : ℕ) → (kept self.old).touched c ≡ false → (Self.seen self.new).words c w ≡ (kept self.old).begun c w }
+        ensures ok { OnOk result (((Self.seen self.new).words ≡ (kept self.old).standing) × ((kept self.new).updating ≡ false)) }
+        ensures untouched { (c w : ℕ) → (kept self.old).touched c ≡ false → (Self.seen self.new).words c w ≡ (kept self.old).standing c w }
         ensures standing { (kept self.new).standing ≡ (kept self.old).standing }
         ensures firm { Firm (kept self.old) (kept self.new) }
         ensures count { (Self.seen self.new).count ≡ (Self.seen self.old).count }

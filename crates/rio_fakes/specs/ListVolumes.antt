@@ -32,7 +32,6 @@ list_kept v = record {
   standing = flat v.standing.items;
   loose = mark_of v.loose.items;
   updating = v.updating;
-  begun = flat v.standing.items;
   touched = λ b. v.updating && mark_of v.touched.items b;
   touches = v.touches;
 }

@@ -1,3 +1,4 @@
+pub mod Exits
 pub mod Gates
 pub mod Restores
 pub mod Shadows

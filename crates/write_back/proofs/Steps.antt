@@ -86,6 +86,10 @@ ends_as a b c none stop answer n h k f g = record {
 pub well : (e : VolFail) → IsErrOf {T = Unit {0}} (Ok tt) e → ⊥
 well e same = cc
 
+-- no answer with a value is a failure
+pub never : {T : Type 0} (x : T) (e : VolFail) → IsErrOf (Ok x) e → ⊥
+never x e same = cc
+
 -- a step that was stopped
 pub ends_stopped : (a b c : Running) (none stop : Type 0) (answer : Result (Unit {0}) VolFail) → (none → ⊥) → StepEnds a b none → StepEnds b c stop → stop → answer ≡ Err Stopped → StepEnds a c (IsErrOf answer Stopped)
 ends_stopped a b c none stop answer n h k s e = ends_as a b c none stop _ n h k (λ x. s) (λ x. e)

@@ -1,6 +1,7 @@
-use Rattle.std.proofs.Common.{◌∙◌}
+use Rattle.std.proofs.Common.{◌∙◌, arith, refl}
 use Rattle.rio_base.proofs.MachineRules.{steps_trans}
 use Rattle.shadow_pages.proofs.Steps.{clears_trans, cleared_next, coherent_then, not_stopped}
+use Rattle.shadow_pages.proofs.Exits.{ends_err}
 use Rattle.shadow_pages.proofs.opening.clear_shadows.Goals as goal
 
 pub clear_shadow-requires-clause-coherent : goal.clear_shadow-requires-clause-coherent
@@ -19,3 +20,6 @@ loop-i-preserved g c =
       steps = steps_trans _ _ _ before.steps call.ends.steps;
       runs = call.ends.runs not_stopped ∙ before.runs;
     }
+
+pub returns-in_err-clear_shadow-clause-ends : goal.returns-in_err-clear_shadow-clause-ends
+returns-in_err-clear_shadow-clause-ends g c = ends_err _ _ _ _ _ refl (grind (arith, c.from_residual.ensures)) c.loop-i.invariant.steps c.in_err-clear_shadow.ensures.ends

@@ -1,7 +1,8 @@
-use Rattle.std.proofs.Common.{◌∙◌}
+use Rattle.std.proofs.Common.{◌∙◌, arith, refl}
 use Rattle.rio_base.proofs.MachineRules.{steps_trans}
 use Rattle.shadow_pages.proofs.Restores.{restores_trans}
 use Rattle.shadow_pages.proofs.Steps.{coherent_restored, not_stopped, restored_next, stores_trans}
+use Rattle.shadow_pages.proofs.Exits.{ends_err}
 use Rattle.shadow_pages.proofs.undoing.restore_frames.Goals as goal
 
 pub restore_frame-requires-clause-coherent : goal.restore_frame-requires-clause-coherent
@@ -24,3 +25,6 @@ loop-i-preserved g c =
       steps = steps_trans _ _ _ before.steps call.ends.steps;
       runs = call.ends.runs not_stopped ∙ before.runs;
     }
+
+pub returns-in_err-restore_frame-clause-ends : goal.returns-in_err-restore_frame-clause-ends
+returns-in_err-restore_frame-clause-ends g c = ends_err _ _ _ _ _ refl (grind (arith, c.from_residual.ensures)) c.loop-i.invariant.steps c.in_err-restore_frame.ensures.ends

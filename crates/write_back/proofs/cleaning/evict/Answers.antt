@@ -1,7 +1,8 @@
-use Rattle.std.proofs.Common.{◌∙◌, Err, ap, refl}
+use Rattle.std.proofs.Common.{◌∙◌, Err, ap, refl, sym}
 use Rattle.std.proofs.lemmas.Result.{err_from_is_err_and}
+use Rattle.rio_base.specs.Rules.{true_false}
 use Rattle.rio_base.specs.declared.failures.VolFail.TheVariants.{Stopped}
-use Rattle.write_back.proofs.Steps.{coherent_then, ends_stopped, well}
+use Rattle.write_back.proofs.Steps.{coherent_then, ends_as, ends_stopped, well}
 use Rattle.rio_model.proofs.HeldEntries.{held_then, narrows_gone, narrows_held, one_entry_then}
 use Rattle.write_back.proofs.cleaning.evict.Goals as goal
 
@@ -20,3 +21,7 @@ pub returns-in_err-drop_entry-clause-ends : goal.returns-in_err-drop_entry-claus
 returns-in_err-drop_entry-clause-ends g c =
     let p = err_from_is_err_and c.from_residual-in_err-drop_entry.result c.from_residual-in_err-drop_entry.ensures.1 in
     ends_stopped _ _ _ _ _ _ (well Stopped) c.in_ok-clean.ensures.ends c.in_err-drop_entry.ensures.ends refl (p.1 ∙ ap Err p.2)
+
+pub returns-clause-ends : goal.returns-clause-ends
+returns-clause-ends g c =
+    ends_as _ _ _ _ _ _ (well Stopped) c.in_ok-clean.ensures.ends c.in_ok-drop_entry.ensures.ends (λ e. absurd (well Stopped e)) (λ e. absurd (true_false (sym e)))

@@ -1,14 +1,16 @@
-use Rattle.std.proofs.Common.{◌≡◌, ◌≤◌, ◌<◌, ◌+◌, ◌-◌, ◌*◌, ◌%◌, List, length, take, drop, slice_index, ◌∙◌, sym, ap, subst, arith}
-use Rattle.rio_base.specs.Machine.{Contents}
+use Rattle.std.proofs.Common.{ℕ, ◌≡◌, ◌≤◌, ◌<◌, ◌+◌, ◌-◌, ◌*◌, ◌%◌, List, length, refl, take, drop, slice_index, ◌∙◌, sym, ap, subst, arith}
+use Rattle.rio_base.specs.Machine.{Advances, Contents, Copied, CopiedScratch, Running}
+use Rattle.rio_base.proofs.MachineRules.{steps_trans}
 use Rattle.rio_base.specs.Memory.{FrontStored}
 use Rattle.rio_base.specs.Rules.{true_false}
 use Rattle.board.specs.BoardLaws.{count_protected, pages_protected}
-use Rattle.board.specs.Boards.{protected_count, protected_of, scratch_of}
+use Rattle.board.specs.Boards.{protected_count, protected_of, running_of, scratch_of}
 use Rattle.board.specs.Guards.{HaltsWithin, MakesSteps}
 use Rattle.board.proofs.Places.{page_in_memory}
 use Rattle.board.proofs.Ran.{Ran, lasts_rest, ran_more, ran_stored, same_rest}
+use Rattle.board.proofs.Runs.{advances_halted, steps_advance}
 use Rattle.board.proofs.StepRuns.{never_at_once}
-use Rattle.board.proofs.WordRuns.{copied_front, copied_more, protected_front, run_value}
+use Rattle.board.proofs.WordRuns.{copied_front, copied_more, protected_front, run_scratch, run_value, running_front, scratch_ended, scratch_more}
 use Rattle.board.proofs.board.BoardMachine.copy_page.Goals as goal
 
 pub returns-in_err-n-clause-lasts : goal.returns-in_err-n-clause-lasts
@@ -69,6 +71,7 @@ loop-done-preserved g c =
     let from = 512 * c.args.from.0 + k in
     let to = 512 * c.args.to.0 + k in
     let run = take n (drop from (words begun.mem)) in
+    let first = running_of (words old.mem) old.scratch old.guard in
     let total : length (words begun.mem) ≡ length (words old.mem) = b.count ∙ i.count in
     let size : protected_count (words begun.mem) begun.scratch ≡ protected_count (words old.mem) old.scratch = b.ends.steps.protected ∙ i.steps.protected in
     let source = page_in_memory (words old.mem) old.scratch c.args.from.0 old.whole c.requires.from in
@@ -80,12 +83,11 @@ loop-done-preserved g c =
     let part : FrontStored to n run (protected_of (words mid.mem) mid.scratch) (protected_of (words c.copy_words.new.self) begun.scratch) =
     subst (λ (ws : List _). FrontStored to n run ws (protected_of (words c.copy_words.new.self) begun.scratch)) b.protected (protected_front to n begun.scratch run (words begun.mem) (words c.copy_words.new.self) whole room) in
     let before : Ran k (words old.mem) old.scratch (disk old.disk) old.guard (words mid.mem) mid.scratch (disk mid.disk) mid.guard =
-    record { count = i.count; rest = i.rest; counted = i.counted; steps = i.steps; falls = i.falls; frozen = i.frozen; runs = i.runs; sooner = i.sooner; made = i.made } in
+    record { count = i.count; rest = i.rest; steps = i.steps; falls = i.falls; frozen = i.frozen; runs = i.runs; sooner = i.sooner; made = i.made } in
     let next : Ran n (words mid.mem) mid.scratch (disk mid.disk) mid.guard (words begun.mem) begun.scratch (disk begun.disk) begun.guard =
     record {
       count = b.count;
       rest = same_rest (words mid.mem) (words begun.mem) mid.scratch begun.scratch (disk mid.disk) (disk begun.disk) mid.guard begun.guard (ap disk b.disk) b.open_page;
-      counted = b.counted;
       steps = b.ends.steps;
       falls = b.falls;
       frozen = λ e. absurd (true_false (sym e ∙ b.running.0));
@@ -99,9 +101,12 @@ loop-done-preserved g c =
       within = small;
       copied = copied_more c.args.from.0 c.args.to.0 k n run (protected_of (words old.mem) old.scratch) (protected_of (words mid.mem) mid.scratch) (protected_of (words c.copy_words.new.self) begun.scratch) c.requires.two small i.copied part
           (λ known j less. run_value (words begun.mem) begun.scratch from n j less (omega (arith, size, small, known, pages_protected (words old.mem) old.scratch old.whole old.room, count_protected (words old.mem) old.scratch)) ∙ ap (λ (ws : List _). slice_index ws (from + j)) b.protected);
+      scratch = subst (λ (u : Running). CopiedScratch c.args.from.0 c.args.to.0 (k + n) first u (protected_of (words c.copy_words.new.self) begun.scratch)) (sym (running_front to n begun.scratch run (words begun.mem) (words c.copy_words.new.self) begun.guard whole room))
+          (scratch_more c.args.from.0 c.args.to.0 k n run (protected_of (words mid.mem) mid.scratch) (protected_of (words c.copy_words.new.self) begun.scratch) first (running_of (words mid.mem) mid.scratch mid.guard) (running_of (words begun.mem) begun.scratch begun.guard) part
+          (λ past j less. run_scratch (words begun.mem) (words old.mem) begun.scratch old.scratch from n j begun.guard old.guard less (steps_trans _ _ _ i.steps b.ends.steps) (omega (arith, past)) (omega (arith, source, small)))
+          b.ends.steps i.scratch);
       count = r.count;
       rest = r.rest;
-      counted = r.counted;
       steps = r.steps;
       falls = r.falls;
       frozen = r.frozen;
@@ -129,3 +134,44 @@ returns-clause-begun g c = λ e.
     let words = g.F.MemWords.words in
     let all : c.loop-done.done ≡ 512 = omega (arith, i.within, c.loop-done-test.false) in
     subst (λ n. MakesSteps n (protected_count (words old.mem) old.scratch) (scratch_of (words old.mem) old.scratch) old.guard (scratch_of (words now.mem) now.scratch) now.guard) all i.made
+
+pub returns-clause-counted : goal.returns-clause-counted
+returns-clause-counted g c =
+    let i = c.loop-done.invariant in
+    let old = c.args.self.now in
+    let now = c.loop-done.self in
+    let words = g.F.MemWords.words in
+    let all : c.loop-done.done ≡ 512 = omega (arith, i.within, c.loop-done-test.false) in
+    subst (λ n. Advances n (running_of (words old.mem) old.scratch old.guard) (running_of (words now.mem) now.scratch now.guard)) all (steps_advance c.loop-done.done (protected_count (words old.mem) old.scratch) (scratch_of (words old.mem) old.scratch) (scratch_of (words now.mem) now.scratch) old.guard now.guard (words old.mem) (words now.mem) old.scratch now.scratch i.made)
+
+pub returns-in_err-n-clause-front : goal.returns-in_err-n-clause-front
+returns-in_err-n-clause-front g c =
+    let i = c.loop-done.invariant in
+    let b = c.in_err-n.ensures in
+    let words = g.F.MemWords.words in
+    let old = c.args.self.now in
+    let mid = c.loop-done.self in
+    let end = c.begin_run.new.self in
+    let k = c.loop-done.done in
+    let first = running_of (words old.mem) old.scratch old.guard in
+    let last = running_of (words end.mem) end.scratch end.guard in
+    let before = protected_of (words old.mem) old.scratch in
+    let now = protected_of (words end.mem) end.scratch in
+    let steps : Advances k first last = advances_halted k _ _ _ _ old.guard mid.guard end.guard (words old.mem) (words mid.mem) (words end.mem) old.scratch mid.scratch end.scratch i.steps b.ends.steps i.made b.stops in
+    let front : (n : ℕ) × (n < 512) × Copied c.args.from.0 c.args.to.0 n before now × CopiedScratch c.args.from.0 c.args.to.0 n first last now × Advances n first last = (
+      k,
+      c.loop-done-test.true,
+      subst (λ (ws : List _). Copied c.args.from.0 c.args.to.0 k before ws) (sym b.protected) i.copied,
+      scratch_ended c.args.from.0 c.args.to.0 k first (running_of (words mid.mem) mid.scratch mid.guard) last (protected_of (words mid.mem) mid.scratch) now b.protected b.ends.steps i.scratch,
+      steps,
+    ) in
+    grind (arith, front)
+
+pub returns-in_err-n-clause-ends : goal.returns-in_err-n-clause-ends
+returns-in_err-n-clause-ends g c =
+    let b = c.in_err-n.ensures in
+    record {
+      steps = steps_trans _ _ _ c.loop-done.invariant.steps b.ends.steps;
+      told = λ s. b.ends.told refl;
+      runs = λ n. absurd (n (grind (arith, c.from_residual.ensures)));
+    }

@@ -1,6 +1,5 @@
 use Rattle.std.proofs.Common.{◌≡◌, ◌≤◌, ◌-◌, length, true}
-use Rattle.rio_base.specs.Disks.{raised}
-use Rattle.rio_base.specs.Machine.{Copied, Falls, Steps}
+use Rattle.rio_base.specs.Machine.{Copied, CopiedScratch, Falls, Steps}
 use Rattle.board.specs.Boards.{contents_of, protected_count, protected_of, running_of, scratch_of}
 use Rattle.board.specs.Guards.{HaltsSooner, MakesSteps, page_of}
 use Rattle.board.proofs.board.BoardMachine.copy_page.Given as goal
@@ -16,9 +15,9 @@ invariant-loop-done g l =
     record {
       within : l.done ≤ 512;
       copied : Copied l.from.0 l.to.0 l.done (protected_of (words old.mem) old.scratch) (protected_of (words now.mem) now.scratch);
+      scratch : CopiedScratch l.from.0 l.to.0 l.done (running_of (words old.mem) old.scratch old.guard) (running_of (words now.mem) now.scratch now.guard) (protected_of (words now.mem) now.scratch);
       count : length (words now.mem) ≡ length (words old.mem);
       rest : contents_of (words now.mem) now.scratch (disk now.disk) now.guard ≡ record (contents_of (words old.mem) old.scratch (disk old.disk) old.guard) { words = protected_of (words now.mem) now.scratch };
-      counted : now.guard.steps ≡ raised old.guard.steps l.done;
       steps : Steps (running_of (words old.mem) old.scratch old.guard) (running_of (words now.mem) now.scratch now.guard);
       falls : Falls (page_of old.guard) (running_of (words old.mem) old.scratch old.guard) (running_of (words now.mem) now.scratch now.guard);
       frozen : old.guard.stopped ≡ true → (l.done ≡ 0) × (contents_of (words now.mem) now.scratch (disk now.disk) now.guard ≡ contents_of (words old.mem) old.scratch (disk old.disk) old.guard);

@@ -1,10 +1,12 @@
-use Rattle.std.proofs.Common.{◌≡◌, ◌≤◌, ◌+◌, ◌-◌, ◌*◌, ◌/◌, List, length, take, drop, ◌∙◌, sym, ap, subst, arith}
-use Rattle.rio_base.specs.Machine.{Contents}
+use Rattle.std.proofs.Common.{ℕ, ◌≡◌, ◌<◌, ◌≤◌, ◌+◌, ◌-◌, ◌*◌, ◌/◌, List, length, refl, take, drop, ◌∙◌, sym, ap, subst, arith}
+use Rattle.rio_base.specs.Machine.{Advances, Contents}
+use Rattle.rio_base.proofs.MachineRules.{steps_trans}
 use Rattle.rio_base.specs.Memory.{FrontStored}
 use Rattle.rio_base.specs.Rules.{true_false}
-use Rattle.board.specs.Boards.{protected_count, protected_of, scratch_of}
+use Rattle.board.specs.Boards.{protected_count, protected_of, running_of, scratch_of}
 use Rattle.board.specs.Guards.{HaltsWithin, MakesSteps}
 use Rattle.board.proofs.Ran.{Ran, lasts_rest, ran_more, ran_stored, same_rest}
+use Rattle.board.proofs.Runs.{advances_halted, steps_advance}
 use Rattle.board.proofs.StepRuns.{never_at_once}
 use Rattle.board.proofs.WordRuns.{front_more, protected_front, run_part}
 use Rattle.board.proofs.board.BoardMachine.store_run.Goals as goal
@@ -54,12 +56,11 @@ loop-done-preserved g c =
     let part : FrontStored at n run (protected_of (words mid.mem) mid.scratch) (protected_of (words c.store_run.new.self) begun.scratch) =
     subst (λ (ws : List _). FrontStored at n run ws (protected_of (words c.store_run.new.self) begun.scratch)) b.protected (protected_front at n begun.scratch run (words begun.mem) (words c.store_run.new.self) whole room) in
     let before : Ran k (words old.mem) old.scratch (disk old.disk) old.guard (words mid.mem) mid.scratch (disk mid.disk) mid.guard =
-    record { count = i.count; rest = i.rest; counted = i.counted; steps = i.steps; falls = i.falls; frozen = i.frozen; runs = i.runs; sooner = i.sooner; made = i.made } in
+    record { count = i.count; rest = i.rest; steps = i.steps; falls = i.falls; frozen = i.frozen; runs = i.runs; sooner = i.sooner; made = i.made } in
     let next : Ran n (words mid.mem) mid.scratch (disk mid.disk) mid.guard (words begun.mem) begun.scratch (disk begun.disk) begun.guard =
     record {
       count = b.count;
       rest = same_rest (words mid.mem) (words begun.mem) mid.scratch begun.scratch (disk mid.disk) (disk begun.disk) mid.guard begun.guard (ap disk b.disk) b.open_page;
-      counted = b.counted;
       steps = b.ends.steps;
       falls = b.falls;
       frozen = λ e. absurd (true_false (sym e ∙ b.running.0));
@@ -74,7 +75,6 @@ loop-done-preserved g c =
       stored = front_more c.args.at.0 k n from (protected_of (words old.mem) old.scratch) (protected_of (words mid.mem) mid.scratch) (protected_of (words c.store_run.new.self) begun.scratch) i.stored part;
       count = r.count;
       rest = r.rest;
-      counted = r.counted;
       steps = r.steps;
       falls = r.falls;
       frozen = r.frozen;
@@ -102,3 +102,43 @@ returns-clause-begun g c = λ e.
     let words = g.F.MemWords.words in
     let all : c.loop-done.done ≡ length c.args.from.now = omega (arith, i.within, c.loop-done-test.false) in
     subst (λ n. MakesSteps n (protected_count (words old.mem) old.scratch) (scratch_of (words old.mem) old.scratch) old.guard (scratch_of (words now.mem) now.scratch) now.guard) all i.made
+
+pub returns-clause-counted : goal.returns-clause-counted
+returns-clause-counted g c =
+    let i = c.loop-done.invariant in
+    let old = c.args.self.now in
+    let now = c.loop-done.self in
+    let words = g.F.MemWords.words in
+    let all : c.loop-done.done ≡ length c.args.from.now = omega (arith, i.within, c.loop-done-test.false) in
+    subst (λ n. Advances n (running_of (words old.mem) old.scratch old.guard) (running_of (words now.mem) now.scratch now.guard)) all (steps_advance c.loop-done.done (protected_count (words old.mem) old.scratch) (scratch_of (words old.mem) old.scratch) (scratch_of (words now.mem) now.scratch) old.guard now.guard (words old.mem) (words now.mem) old.scratch now.scratch i.made)
+
+pub returns-in_err-n-clause-front : goal.returns-in_err-n-clause-front
+returns-in_err-n-clause-front g c =
+    let i = c.loop-done.invariant in
+    let b = c.in_err-n.ensures in
+    let words = g.F.MemWords.words in
+    let old = c.args.self.now in
+    let mid = c.loop-done.self in
+    let end = c.begin_run.new.self in
+    let k = c.loop-done.done in
+    let first = running_of (words old.mem) old.scratch old.guard in
+    let last = running_of (words end.mem) end.scratch end.guard in
+    let before = protected_of (words old.mem) old.scratch in
+    let now = protected_of (words end.mem) end.scratch in
+    let steps : Advances k first last = advances_halted k _ _ _ _ old.guard mid.guard end.guard (words old.mem) (words mid.mem) (words end.mem) old.scratch mid.scratch end.scratch i.steps b.ends.steps i.made b.stops in
+    let front : (n : ℕ) × (n < length c.args.from.now) × FrontStored c.args.at.0 n c.args.from.now before now × Advances n first last = (
+      k,
+      c.loop-done-test.true,
+      subst (λ (ws : List _). FrontStored c.args.at.0 k c.args.from.now before ws) (sym b.protected) i.stored,
+      steps,
+    ) in
+    grind (arith, front)
+
+pub returns-in_err-n-clause-ends : goal.returns-in_err-n-clause-ends
+returns-in_err-n-clause-ends g c =
+    let b = c.in_err-n.ensures in
+    record {
+      steps = steps_trans _ _ _ c.loop-done.invariant.steps b.ends.steps;
+      told = λ s. b.ends.told refl;
+      runs = λ n. absurd (n (grind (arith, c.from_residual.ensures)));
+    }

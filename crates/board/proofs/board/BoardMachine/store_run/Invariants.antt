@@ -1,5 +1,4 @@
 use Rattle.std.proofs.Common.{◌≡◌, ◌≤◌, ◌-◌, length, true}
-use Rattle.rio_base.specs.Disks.{raised}
 use Rattle.rio_base.specs.Machine.{Falls, Steps}
 use Rattle.rio_base.specs.Memory.{FrontStored}
 use Rattle.board.specs.Boards.{contents_of, protected_count, protected_of, running_of, scratch_of}
@@ -19,7 +18,6 @@ invariant-loop-done g l =
       stored : FrontStored l.at.0 l.done l.from (protected_of (words old.mem) old.scratch) (protected_of (words now.mem) now.scratch);
       count : length (words now.mem) ≡ length (words old.mem);
       rest : contents_of (words now.mem) now.scratch (disk now.disk) now.guard ≡ record (contents_of (words old.mem) old.scratch (disk old.disk) old.guard) { words = protected_of (words now.mem) now.scratch };
-      counted : now.guard.steps ≡ raised old.guard.steps l.done;
       steps : Steps (running_of (words old.mem) old.scratch old.guard) (running_of (words now.mem) now.scratch now.guard);
       falls : Falls (page_of old.guard) (running_of (words old.mem) old.scratch old.guard) (running_of (words now.mem) now.scratch now.guard);
       frozen : old.guard.stopped ≡ true → (l.done ≡ 0) × (contents_of (words now.mem) now.scratch (disk now.disk) now.guard ≡ contents_of (words old.mem) old.scratch (disk old.disk) old.guard);

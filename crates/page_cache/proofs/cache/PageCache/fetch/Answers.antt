@@ -33,10 +33,10 @@ pub returns-in_err-bring-clause-sure : goal.returns-in_err-bring-clause-sure
 returns-in_err-bring-clause-sure g c fault = none_bound _ _ _ _ c.requires.sound (c.in_default.ensures.none refl)
 
 pub returns-in_err-bring-clause-writes : goal.returns-in_err-bring-clause-writes
-returns-in_err-bring-clause-writes g c = few_then _ _ _ _ c.make_room.ensures.writes c.bring.ensures.still
+returns-in_err-bring-clause-writes g c = few_then _ _ _ _ _ c.make_room.ensures.writes c.bring.ensures.still
 
 pub returns-clause-writes : goal.returns-clause-writes
-returns-clause-writes g c = few_then _ _ _ _ c.make_room.ensures.writes c.bring.ensures.still
+returns-clause-writes g c = few_then _ _ _ _ _ c.make_room.ensures.writes c.bring.ensures.still
 
 pub returns-in_err-bring-clause-ends : goal.returns-in_err-bring-clause-ends
 returns-in_err-bring-clause-ends g c =
@@ -85,7 +85,7 @@ pub returns-in-Some-clause-leaves : goal.returns-in-Some-clause-leaves
 returns-in-Some-clause-leaves g c = leaves_refl _ _
 
 pub returns-in-Some-clause-writes : goal.returns-in-Some-clause-writes
-returns-in-Some-clause-writes g c = few_still _ _ _ (still_refl _)
+returns-in-Some-clause-writes g c = few_still _ _ _ _ (still_refl _)
 
 pub returns-in-Some-clause-hit : goal.returns-in-Some-clause-hit
 returns-in-Some-clause-hit g c cached = refl

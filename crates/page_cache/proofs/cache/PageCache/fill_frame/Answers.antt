@@ -10,7 +10,9 @@ use Rattle.page_cache.proofs.Rooms.{keeps_then, lasts_then}
 use Rattle.page_cache.proofs.Stills.{still_trans, still_rest}
 use Rattle.page_cache.proofs.Touched.{touches_words}
 use Rattle.page_cache.proofs.Uses.{stay_words}
-use Rattle.page_cache.proofs.Goes.{ends_ok}
+use Rattle.page_cache.proofs.Goes.{ends_ok, ends_stop}
+use Rattle.std.specs.Prelude.{IsErrOf}
+use Rattle.page_cache.proofs.Common.{Stopped, arith}
 
 pub returns-in_err-read_home-clause-sound : goal.returns-in_err-read_home-clause-sound
 returns-in_err-read_home-clause-sound g c = read_sound _ _ _ _ _ _ c.requires.sound c.read_home.ensures.keeps c.read_home.ensures.lasts c.read_home.ensures.ends.steps.scratch_count c.read_home.ensures.closed c.read_home.ensures.memory (record { same = record { forgotten = refl; shadowed = refl; shadows = refl }; pool = record { frames = refl; blocks = refl; pins = λ k. refl; count = refl }; first = refl; buffer = c.read_home.ensures.room ∙ sym c.requires.sound.buffer }) (λ j. refl)
@@ -134,3 +136,8 @@ returns-clause-fault g c q = absurd cc
 
 pub returns-clause-ends : goal.returns-clause-ends
 returns-clause-ends g c = ends_ok _ _ _ _ _ _ (λ q. cc) (λ q. cc) (λ q. cc) c.in_ok-read_home.ensures.ends c.in_ok-fill.ensures.ends
+
+pub returns-in_err-fill-clause-ends : goal.returns-in_err-fill-clause-ends
+returns-in_err-fill-clause-ends g c =
+    let stop : IsErrOf c.from_residual-in_err-fill.result Stopped = grind (arith, c.from_residual-in_err-fill.ensures) in
+    ends_stop _ _ _ _ _ _ (λ q. cc) refl stop c.in_ok-read_home.ensures.ends c.in_err-fill.ensures.ends

@@ -5,7 +5,7 @@ use Rattle.page_cache.proofs.cache.PageCache.ready.Goals as goal
 use Rattle.page_cache.proofs.Goes.{ends_ok, ends_stop}
 use Rattle.page_cache.proofs.Stills.{few_then}
 use Rattle.page_cache.proofs.Uses.{leaves_then, order_same, stay_found, used_then}
-use Rattle.page_cache.proofs.Common.{subst, sym, lasts_trans}
+use Rattle.page_cache.proofs.Common.{ap, subst, sym, lasts_trans}
 use Rattle.rio_model.proofs.CoverSteps.{keeps_trans}
 use Rattle.page_cache.specs.Caches.{SameTables}
 
@@ -19,19 +19,19 @@ pub returns-in_err-make_ready-clause-caches : goal.returns-in_err-make_ready-cla
 returns-in_err-make_ready-clause-caches g c = stored_ready c.args.b.0 c.in_ok-k.k c.args.name (g.M.Machine.contents c.args.self.now.machine) (g.M.Machine.contents c.fetch.new.self.machine) (g.M.Machine.contents c.make_ready.new.self.machine) c.fetch.ensures.adds c.in_ok-k.ensures.found c.make_ready.ensures.widens
 
 pub returns-in_err-make_ready-clause-writes : goal.returns-in_err-make_ready-clause-writes
-returns-in_err-make_ready-clause-writes g c = few_then c.args.b.0 _ _ _ c.fetch.ensures.writes c.make_ready.ensures.still
+returns-in_err-make_ready-clause-writes g c = few_then c.args.b.0 _ _ _ _ c.fetch.ensures.writes c.make_ready.ensures.still
 
 pub returns-clause-caches : goal.returns-clause-caches
 returns-clause-caches g c = stored_ready c.args.b.0 c.in_ok-k.k c.args.name (g.M.Machine.contents c.args.self.now.machine) (g.M.Machine.contents c.fetch.new.self.machine) (g.M.Machine.contents c.make_ready.new.self.machine) c.fetch.ensures.adds c.in_ok-k.ensures.found c.make_ready.ensures.widens
 
 pub returns-clause-named : goal.returns-clause-named
-returns-clause-named g c = named_ready c.args.b.0 c.in_ok-k.k c.args.name (g.M.Machine.contents c.args.self.now.machine) (g.M.Machine.contents c.fetch.new.self.machine) (g.M.Machine.contents c.make_ready.new.self.machine) c.fetch.ensures.adds c.fetch.ensures.hit c.in_ok-k.ensures.found c.make_ready.ensures.widens c.in_ok-make_ready.ensures.named
+returns-clause-named g c = named_ready c.args.b.0 c.in_ok-k.k c.args.name (g.M.Machine.contents c.args.self.now.machine) (g.M.Machine.contents c.fetch.new.self.machine) (g.M.Machine.contents c.make_ready.new.self.machine) c.fetch.ensures.adds (λ cached. ap g.M.Machine.contents (c.fetch.ensures.hit cached)) c.in_ok-k.ensures.found c.make_ready.ensures.widens c.in_ok-make_ready.ensures.named
 
 pub returns-clause-found : goal.returns-clause-found
 returns-clause-found g c = found_ready c.args.b.0 c.in_ok-k.k c.args.name _ _ c.in_ok-k.ensures.found c.make_ready.ensures.widens
 
 pub returns-clause-writes : goal.returns-clause-writes
-returns-clause-writes g c = few_then c.args.b.0 _ _ _ c.fetch.ensures.writes c.make_ready.ensures.still
+returns-clause-writes g c = few_then c.args.b.0 _ _ _ _ c.fetch.ensures.writes c.make_ready.ensures.still
 
 pub returns-clause-ends : goal.returns-clause-ends
 returns-clause-ends g c = ends_ok _ _ _ _ _ _ (λ q. cc) (λ q. cc) (λ q. cc) c.in_ok-k.ensures.ends c.in_ok-make_ready.ensures.ends

@@ -1,4 +1,7 @@
-use Rattle.std.proofs.Common.{refl}
+use Rattle.std.proofs.Common.{arith, refl}
+use Rattle.page_cache.proofs.Common.{header_same}
+use Rattle.page_cache.proofs.Goes.{goes_few}
+use Rattle.page_cache.proofs.Stills.{few_still, still_rest}
 use Rattle.page_cache.proofs.Edits.{edited_dirty, edited_stands, gate_entries, names_entries, page_of_frame, same_update, shadows_entries, touched_found}
 use Rattle.page_cache.proofs.Updates.{drops_named, sound_same}
 use Rattle.page_cache.proofs.volume.PageCacheVolume.edit.Goals as goal
@@ -17,6 +20,10 @@ returns-clause-update g c = same_update (g.M.Machine.contents c.args.self.now.ma
 
 pub returns-clause-standing : goal.returns-clause-standing
 returns-clause-standing g c = edited_stands _ c.args.b.0 c.in-Some.k _ _ _ _ _ c.requires.sound c.requires.touched c.in-Some.ensures.some.0 c.in-Some.ensures.some.1 c.in_ok-put_edit.ensures.puts
+
+pub returns-clause-goes : goal.returns-clause-goes
+returns-clause-goes g c =
+    goes_few c.args.b.0 c.args.self.now.tables _ _ _ _ c.put_edit.ensures.lasts c.put_edit.ensures.ends.steps (header_same _ _ 2 c.put_edit.ensures.entries (omega arith)) (few_still _ _ _ _ (still_rest _ _ c.put_edit.ensures.rest))
 
 pub returns-clause-drops : goal.returns-clause-drops
 returns-clause-drops g c = drops_named (g.M.Machine.contents c.args.self.now.machine) (g.M.Machine.contents c.put_edit.new.m) (names_entries _ _ c.put_edit.ensures.entries)

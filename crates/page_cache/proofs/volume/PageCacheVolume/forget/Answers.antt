@@ -28,13 +28,13 @@ pub returns-in_default-clause-firm_block : goal.returns-in_default-clause-firm_b
 returns-in_default-clause-firm_block g c = λ l. never_firm _ _ (marked_still c.args.b.0 _ c.args.self.now.tables c.mark.new.self c.mark.new.self c.mark.ensures.marks (tables_refl c.mark.new.self)) l
 
 pub returns-in_default-clause-standing : goal.returns-in_default-clause-standing
-returns-in_default-clause-standing g c = (settled c.args.b.0 (g.M.Machine.contents c.args.self.now.machine) (g.M.Machine.contents c.args.self.now.machine) (g.M.Machine.run c.args.self.now.machine) (g.M.Machine.run c.args.self.now.machine) c.args.self.now.tables c.mark.new.self c.requires.idle (frees_same c.args.b.0 (g.M.Machine.contents c.args.self.now.machine) (g.M.Machine.contents c.args.self.now.machine) refl) (marks_then c.args.b.0 _ c.args.self.now.tables c.mark.new.self c.mark.new.self c.mark.ensures.marks (tables_refl c.mark.new.self)) (lasts_refl (g.M.Machine.contents c.args.self.now.machine)) (steps_refl (g.M.Machine.run c.args.self.now.machine)) (few_still c.args.b.0 (g.M.Machine.contents c.args.self.now.machine) (g.M.Machine.contents c.args.self.now.machine) (still_same (g.M.Machine.contents c.args.self.now.machine) (g.M.Machine.contents c.args.self.now.machine) refl))).standing
+returns-in_default-clause-standing g c = (settled c.args.b.0 (g.M.Machine.contents c.args.self.now.machine) (g.M.Machine.contents c.args.self.now.machine) (g.M.Machine.run c.args.self.now.machine) (g.M.Machine.run c.args.self.now.machine) c.args.self.now.tables c.mark.new.self c.requires.idle (frees_same c.args.b.0 (g.M.Machine.contents c.args.self.now.machine) (g.M.Machine.contents c.args.self.now.machine) refl) (marks_then c.args.b.0 _ c.args.self.now.tables c.mark.new.self c.mark.new.self c.mark.ensures.marks (tables_refl c.mark.new.self)) (lasts_refl (g.M.Machine.contents c.args.self.now.machine)) (steps_refl (g.M.Machine.run c.args.self.now.machine)) (few_still c.args.b.0 _ (g.M.Machine.contents c.args.self.now.machine) (g.M.Machine.contents c.args.self.now.machine) (still_same (g.M.Machine.contents c.args.self.now.machine) (g.M.Machine.contents c.args.self.now.machine) refl))).standing
 
 pub returns-in_default-clause-firm : goal.returns-in_default-clause-firm
-returns-in_default-clause-firm g c = (settled c.args.b.0 (g.M.Machine.contents c.args.self.now.machine) (g.M.Machine.contents c.args.self.now.machine) (g.M.Machine.run c.args.self.now.machine) (g.M.Machine.run c.args.self.now.machine) c.args.self.now.tables c.mark.new.self c.requires.idle (frees_same c.args.b.0 (g.M.Machine.contents c.args.self.now.machine) (g.M.Machine.contents c.args.self.now.machine) refl) (marks_then c.args.b.0 _ c.args.self.now.tables c.mark.new.self c.mark.new.self c.mark.ensures.marks (tables_refl c.mark.new.self)) (lasts_refl (g.M.Machine.contents c.args.self.now.machine)) (steps_refl (g.M.Machine.run c.args.self.now.machine)) (few_still c.args.b.0 (g.M.Machine.contents c.args.self.now.machine) (g.M.Machine.contents c.args.self.now.machine) (still_same (g.M.Machine.contents c.args.self.now.machine) (g.M.Machine.contents c.args.self.now.machine) refl))).firm
+returns-in_default-clause-firm g c = (settled c.args.b.0 (g.M.Machine.contents c.args.self.now.machine) (g.M.Machine.contents c.args.self.now.machine) (g.M.Machine.run c.args.self.now.machine) (g.M.Machine.run c.args.self.now.machine) c.args.self.now.tables c.mark.new.self c.requires.idle (frees_same c.args.b.0 (g.M.Machine.contents c.args.self.now.machine) (g.M.Machine.contents c.args.self.now.machine) refl) (marks_then c.args.b.0 _ c.args.self.now.tables c.mark.new.self c.mark.new.self c.mark.ensures.marks (tables_refl c.mark.new.self)) (lasts_refl (g.M.Machine.contents c.args.self.now.machine)) (steps_refl (g.M.Machine.run c.args.self.now.machine)) (few_still c.args.b.0 _ (g.M.Machine.contents c.args.self.now.machine) (g.M.Machine.contents c.args.self.now.machine) (still_same (g.M.Machine.contents c.args.self.now.machine) (g.M.Machine.contents c.args.self.now.machine) refl))).firm
 
 pub returns-in_default-clause-goes : goal.returns-in_default-clause-goes
-returns-in_default-clause-goes g c = (settled c.args.b.0 (g.M.Machine.contents c.args.self.now.machine) (g.M.Machine.contents c.args.self.now.machine) (g.M.Machine.run c.args.self.now.machine) (g.M.Machine.run c.args.self.now.machine) c.args.self.now.tables c.mark.new.self c.requires.idle (frees_same c.args.b.0 (g.M.Machine.contents c.args.self.now.machine) (g.M.Machine.contents c.args.self.now.machine) refl) (marks_then c.args.b.0 _ c.args.self.now.tables c.mark.new.self c.mark.new.self c.mark.ensures.marks (tables_refl c.mark.new.self)) (lasts_refl (g.M.Machine.contents c.args.self.now.machine)) (steps_refl (g.M.Machine.run c.args.self.now.machine)) (few_still c.args.b.0 (g.M.Machine.contents c.args.self.now.machine) (g.M.Machine.contents c.args.self.now.machine) (still_same (g.M.Machine.contents c.args.self.now.machine) (g.M.Machine.contents c.args.self.now.machine) refl))).goes
+returns-in_default-clause-goes g c = (settled c.args.b.0 (g.M.Machine.contents c.args.self.now.machine) (g.M.Machine.contents c.args.self.now.machine) (g.M.Machine.run c.args.self.now.machine) (g.M.Machine.run c.args.self.now.machine) c.args.self.now.tables c.mark.new.self c.requires.idle (frees_same c.args.b.0 (g.M.Machine.contents c.args.self.now.machine) (g.M.Machine.contents c.args.self.now.machine) refl) (marks_then c.args.b.0 _ c.args.self.now.tables c.mark.new.self c.mark.new.self c.mark.ensures.marks (tables_refl c.mark.new.self)) (lasts_refl (g.M.Machine.contents c.args.self.now.machine)) (steps_refl (g.M.Machine.run c.args.self.now.machine)) (few_still c.args.b.0 _ (g.M.Machine.contents c.args.self.now.machine) (g.M.Machine.contents c.args.self.now.machine) (still_same (g.M.Machine.contents c.args.self.now.machine) (g.M.Machine.contents c.args.self.now.machine) refl))).goes
 
 pub returns-in_default-clause-sound : goal.returns-in_default-clause-sound
 returns-in_default-clause-sound g c = sound_marked c.args.b.0 _ _ (g.M.Machine.contents c.args.self.now.machine) c.args.self.now.tables c.mark.new.self c.requires.sound c.mark.ensures.marks
@@ -52,16 +52,16 @@ pub returns-in_err-drop_frame-clause-firm_block : goal.returns-in_err-drop_frame
 returns-in_err-drop_frame-clause-firm_block g c = λ l. never_firm _ _ (marked_still c.args.b.0 _ c.args.self.now.tables c.mark.new.self c.drop_frame.new.self.tables c.mark.ensures.marks c.drop_frame.ensures.tables) l
 
 pub returns-in_err-drop_frame-clause-standing : goal.returns-in_err-drop_frame-clause-standing
-returns-in_err-drop_frame-clause-standing g c = (settled c.args.b.0 (g.M.Machine.contents c.args.self.now.machine) (g.M.Machine.contents c.drop_frame.new.self.machine) (g.M.Machine.run c.args.self.now.machine) (g.M.Machine.run c.drop_frame.new.self.machine) c.args.self.now.tables c.drop_frame.new.self.tables c.requires.idle c.drop_frame.ensures.frees (marks_then c.args.b.0 _ c.args.self.now.tables c.mark.new.self c.drop_frame.new.self.tables c.mark.ensures.marks c.drop_frame.ensures.tables) c.drop_frame.ensures.lasts c.drop_frame.ensures.ends.steps (few_still c.args.b.0 (g.M.Machine.contents c.args.self.now.machine) (g.M.Machine.contents c.drop_frame.new.self.machine) c.drop_frame.ensures.still)).standing
+returns-in_err-drop_frame-clause-standing g c = (settled c.args.b.0 (g.M.Machine.contents c.args.self.now.machine) (g.M.Machine.contents c.drop_frame.new.self.machine) (g.M.Machine.run c.args.self.now.machine) (g.M.Machine.run c.drop_frame.new.self.machine) c.args.self.now.tables c.drop_frame.new.self.tables c.requires.idle c.drop_frame.ensures.frees (marks_then c.args.b.0 _ c.args.self.now.tables c.mark.new.self c.drop_frame.new.self.tables c.mark.ensures.marks c.drop_frame.ensures.tables) c.drop_frame.ensures.lasts c.drop_frame.ensures.ends.steps (few_still c.args.b.0 _ (g.M.Machine.contents c.args.self.now.machine) (g.M.Machine.contents c.drop_frame.new.self.machine) c.drop_frame.ensures.still)).standing
 
 pub returns-in_err-drop_frame-clause-firm : goal.returns-in_err-drop_frame-clause-firm
-returns-in_err-drop_frame-clause-firm g c = (settled c.args.b.0 (g.M.Machine.contents c.args.self.now.machine) (g.M.Machine.contents c.drop_frame.new.self.machine) (g.M.Machine.run c.args.self.now.machine) (g.M.Machine.run c.drop_frame.new.self.machine) c.args.self.now.tables c.drop_frame.new.self.tables c.requires.idle c.drop_frame.ensures.frees (marks_then c.args.b.0 _ c.args.self.now.tables c.mark.new.self c.drop_frame.new.self.tables c.mark.ensures.marks c.drop_frame.ensures.tables) c.drop_frame.ensures.lasts c.drop_frame.ensures.ends.steps (few_still c.args.b.0 (g.M.Machine.contents c.args.self.now.machine) (g.M.Machine.contents c.drop_frame.new.self.machine) c.drop_frame.ensures.still)).firm
+returns-in_err-drop_frame-clause-firm g c = (settled c.args.b.0 (g.M.Machine.contents c.args.self.now.machine) (g.M.Machine.contents c.drop_frame.new.self.machine) (g.M.Machine.run c.args.self.now.machine) (g.M.Machine.run c.drop_frame.new.self.machine) c.args.self.now.tables c.drop_frame.new.self.tables c.requires.idle c.drop_frame.ensures.frees (marks_then c.args.b.0 _ c.args.self.now.tables c.mark.new.self c.drop_frame.new.self.tables c.mark.ensures.marks c.drop_frame.ensures.tables) c.drop_frame.ensures.lasts c.drop_frame.ensures.ends.steps (few_still c.args.b.0 _ (g.M.Machine.contents c.args.self.now.machine) (g.M.Machine.contents c.drop_frame.new.self.machine) c.drop_frame.ensures.still)).firm
 
 pub returns-in_err-drop_frame-clause-goes : goal.returns-in_err-drop_frame-clause-goes
-returns-in_err-drop_frame-clause-goes g c = (settled c.args.b.0 (g.M.Machine.contents c.args.self.now.machine) (g.M.Machine.contents c.drop_frame.new.self.machine) (g.M.Machine.run c.args.self.now.machine) (g.M.Machine.run c.drop_frame.new.self.machine) c.args.self.now.tables c.drop_frame.new.self.tables c.requires.idle c.drop_frame.ensures.frees (marks_then c.args.b.0 _ c.args.self.now.tables c.mark.new.self c.drop_frame.new.self.tables c.mark.ensures.marks c.drop_frame.ensures.tables) c.drop_frame.ensures.lasts c.drop_frame.ensures.ends.steps (few_still c.args.b.0 (g.M.Machine.contents c.args.self.now.machine) (g.M.Machine.contents c.drop_frame.new.self.machine) c.drop_frame.ensures.still)).goes
+returns-in_err-drop_frame-clause-goes g c = (settled c.args.b.0 (g.M.Machine.contents c.args.self.now.machine) (g.M.Machine.contents c.drop_frame.new.self.machine) (g.M.Machine.run c.args.self.now.machine) (g.M.Machine.run c.drop_frame.new.self.machine) c.args.self.now.tables c.drop_frame.new.self.tables c.requires.idle c.drop_frame.ensures.frees (marks_then c.args.b.0 _ c.args.self.now.tables c.mark.new.self c.drop_frame.new.self.tables c.mark.ensures.marks c.drop_frame.ensures.tables) c.drop_frame.ensures.lasts c.drop_frame.ensures.ends.steps (few_still c.args.b.0 _ (g.M.Machine.contents c.args.self.now.machine) (g.M.Machine.contents c.drop_frame.new.self.machine) c.drop_frame.ensures.still)).goes
 
 pub returns-in_err-drop_frame-clause-idle : goal.returns-in_err-drop_frame-clause-idle
-returns-in_err-drop_frame-clause-idle g c = (settled c.args.b.0 (g.M.Machine.contents c.args.self.now.machine) (g.M.Machine.contents c.drop_frame.new.self.machine) (g.M.Machine.run c.args.self.now.machine) (g.M.Machine.run c.drop_frame.new.self.machine) c.args.self.now.tables c.drop_frame.new.self.tables c.requires.idle c.drop_frame.ensures.frees (marks_then c.args.b.0 _ c.args.self.now.tables c.mark.new.self c.drop_frame.new.self.tables c.mark.ensures.marks c.drop_frame.ensures.tables) c.drop_frame.ensures.lasts c.drop_frame.ensures.ends.steps (few_still c.args.b.0 (g.M.Machine.contents c.args.self.now.machine) (g.M.Machine.contents c.drop_frame.new.self.machine) c.drop_frame.ensures.still)).idle
+returns-in_err-drop_frame-clause-idle g c = (settled c.args.b.0 (g.M.Machine.contents c.args.self.now.machine) (g.M.Machine.contents c.drop_frame.new.self.machine) (g.M.Machine.run c.args.self.now.machine) (g.M.Machine.run c.drop_frame.new.self.machine) c.args.self.now.tables c.drop_frame.new.self.tables c.requires.idle c.drop_frame.ensures.frees (marks_then c.args.b.0 _ c.args.self.now.tables c.mark.new.self c.drop_frame.new.self.tables c.mark.ensures.marks c.drop_frame.ensures.tables) c.drop_frame.ensures.lasts c.drop_frame.ensures.ends.steps (few_still c.args.b.0 _ (g.M.Machine.contents c.args.self.now.machine) (g.M.Machine.contents c.drop_frame.new.self.machine) c.drop_frame.ensures.still)).idle
 
 pub returns-in_err-drop_frame-clause-others : goal.returns-in_err-drop_frame-clause-others
 returns-in_err-drop_frame-clause-others g c = c.drop_frame.ensures.frees.others
@@ -82,16 +82,16 @@ pub returns-clause-firm_block : goal.returns-clause-firm_block
 returns-clause-firm_block g c = λ l. never_firm _ _ (marked_still c.args.b.0 _ c.args.self.now.tables c.mark.new.self c.drop_frame.new.self.tables c.mark.ensures.marks c.drop_frame.ensures.tables) l
 
 pub returns-clause-standing : goal.returns-clause-standing
-returns-clause-standing g c = (settled c.args.b.0 (g.M.Machine.contents c.args.self.now.machine) (g.M.Machine.contents c.drop_frame.new.self.machine) (g.M.Machine.run c.args.self.now.machine) (g.M.Machine.run c.drop_frame.new.self.machine) c.args.self.now.tables c.drop_frame.new.self.tables c.requires.idle c.drop_frame.ensures.frees (marks_then c.args.b.0 _ c.args.self.now.tables c.mark.new.self c.drop_frame.new.self.tables c.mark.ensures.marks c.drop_frame.ensures.tables) c.drop_frame.ensures.lasts c.drop_frame.ensures.ends.steps (few_still c.args.b.0 (g.M.Machine.contents c.args.self.now.machine) (g.M.Machine.contents c.drop_frame.new.self.machine) c.drop_frame.ensures.still)).standing
+returns-clause-standing g c = (settled c.args.b.0 (g.M.Machine.contents c.args.self.now.machine) (g.M.Machine.contents c.drop_frame.new.self.machine) (g.M.Machine.run c.args.self.now.machine) (g.M.Machine.run c.drop_frame.new.self.machine) c.args.self.now.tables c.drop_frame.new.self.tables c.requires.idle c.drop_frame.ensures.frees (marks_then c.args.b.0 _ c.args.self.now.tables c.mark.new.self c.drop_frame.new.self.tables c.mark.ensures.marks c.drop_frame.ensures.tables) c.drop_frame.ensures.lasts c.drop_frame.ensures.ends.steps (few_still c.args.b.0 _ (g.M.Machine.contents c.args.self.now.machine) (g.M.Machine.contents c.drop_frame.new.self.machine) c.drop_frame.ensures.still)).standing
 
 pub returns-clause-firm : goal.returns-clause-firm
-returns-clause-firm g c = (settled c.args.b.0 (g.M.Machine.contents c.args.self.now.machine) (g.M.Machine.contents c.drop_frame.new.self.machine) (g.M.Machine.run c.args.self.now.machine) (g.M.Machine.run c.drop_frame.new.self.machine) c.args.self.now.tables c.drop_frame.new.self.tables c.requires.idle c.drop_frame.ensures.frees (marks_then c.args.b.0 _ c.args.self.now.tables c.mark.new.self c.drop_frame.new.self.tables c.mark.ensures.marks c.drop_frame.ensures.tables) c.drop_frame.ensures.lasts c.drop_frame.ensures.ends.steps (few_still c.args.b.0 (g.M.Machine.contents c.args.self.now.machine) (g.M.Machine.contents c.drop_frame.new.self.machine) c.drop_frame.ensures.still)).firm
+returns-clause-firm g c = (settled c.args.b.0 (g.M.Machine.contents c.args.self.now.machine) (g.M.Machine.contents c.drop_frame.new.self.machine) (g.M.Machine.run c.args.self.now.machine) (g.M.Machine.run c.drop_frame.new.self.machine) c.args.self.now.tables c.drop_frame.new.self.tables c.requires.idle c.drop_frame.ensures.frees (marks_then c.args.b.0 _ c.args.self.now.tables c.mark.new.self c.drop_frame.new.self.tables c.mark.ensures.marks c.drop_frame.ensures.tables) c.drop_frame.ensures.lasts c.drop_frame.ensures.ends.steps (few_still c.args.b.0 _ (g.M.Machine.contents c.args.self.now.machine) (g.M.Machine.contents c.drop_frame.new.self.machine) c.drop_frame.ensures.still)).firm
 
 pub returns-clause-goes : goal.returns-clause-goes
-returns-clause-goes g c = (settled c.args.b.0 (g.M.Machine.contents c.args.self.now.machine) (g.M.Machine.contents c.drop_frame.new.self.machine) (g.M.Machine.run c.args.self.now.machine) (g.M.Machine.run c.drop_frame.new.self.machine) c.args.self.now.tables c.drop_frame.new.self.tables c.requires.idle c.drop_frame.ensures.frees (marks_then c.args.b.0 _ c.args.self.now.tables c.mark.new.self c.drop_frame.new.self.tables c.mark.ensures.marks c.drop_frame.ensures.tables) c.drop_frame.ensures.lasts c.drop_frame.ensures.ends.steps (few_still c.args.b.0 (g.M.Machine.contents c.args.self.now.machine) (g.M.Machine.contents c.drop_frame.new.self.machine) c.drop_frame.ensures.still)).goes
+returns-clause-goes g c = (settled c.args.b.0 (g.M.Machine.contents c.args.self.now.machine) (g.M.Machine.contents c.drop_frame.new.self.machine) (g.M.Machine.run c.args.self.now.machine) (g.M.Machine.run c.drop_frame.new.self.machine) c.args.self.now.tables c.drop_frame.new.self.tables c.requires.idle c.drop_frame.ensures.frees (marks_then c.args.b.0 _ c.args.self.now.tables c.mark.new.self c.drop_frame.new.self.tables c.mark.ensures.marks c.drop_frame.ensures.tables) c.drop_frame.ensures.lasts c.drop_frame.ensures.ends.steps (few_still c.args.b.0 _ (g.M.Machine.contents c.args.self.now.machine) (g.M.Machine.contents c.drop_frame.new.self.machine) c.drop_frame.ensures.still)).goes
 
 pub returns-clause-idle : goal.returns-clause-idle
-returns-clause-idle g c = (settled c.args.b.0 (g.M.Machine.contents c.args.self.now.machine) (g.M.Machine.contents c.drop_frame.new.self.machine) (g.M.Machine.run c.args.self.now.machine) (g.M.Machine.run c.drop_frame.new.self.machine) c.args.self.now.tables c.drop_frame.new.self.tables c.requires.idle c.drop_frame.ensures.frees (marks_then c.args.b.0 _ c.args.self.now.tables c.mark.new.self c.drop_frame.new.self.tables c.mark.ensures.marks c.drop_frame.ensures.tables) c.drop_frame.ensures.lasts c.drop_frame.ensures.ends.steps (few_still c.args.b.0 (g.M.Machine.contents c.args.self.now.machine) (g.M.Machine.contents c.drop_frame.new.self.machine) c.drop_frame.ensures.still)).idle
+returns-clause-idle g c = (settled c.args.b.0 (g.M.Machine.contents c.args.self.now.machine) (g.M.Machine.contents c.drop_frame.new.self.machine) (g.M.Machine.run c.args.self.now.machine) (g.M.Machine.run c.drop_frame.new.self.machine) c.args.self.now.tables c.drop_frame.new.self.tables c.requires.idle c.drop_frame.ensures.frees (marks_then c.args.b.0 _ c.args.self.now.tables c.mark.new.self c.drop_frame.new.self.tables c.mark.ensures.marks c.drop_frame.ensures.tables) c.drop_frame.ensures.lasts c.drop_frame.ensures.ends.steps (few_still c.args.b.0 _ (g.M.Machine.contents c.args.self.now.machine) (g.M.Machine.contents c.drop_frame.new.self.machine) c.drop_frame.ensures.still)).idle
 
 pub returns-clause-others : goal.returns-clause-others
 returns-clause-others g c = c.drop_frame.ensures.frees.others

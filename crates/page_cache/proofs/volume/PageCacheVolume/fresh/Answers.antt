@@ -51,16 +51,16 @@ pub returns-in_err-k-clause-caches : goal.returns-in_err-k-clause-caches
 returns-in_err-k-clause-caches g c = caches_adds c.args.b.0 c.args.name (g.M.Machine.contents c.args.self.now.machine) (g.M.Machine.contents c.make_room.new.self.machine) (adds_narrows c.args.b.0 c.args.name _ _ c.make_room.ensures.narrows)
 
 pub returns-in_err-bring_zeros-clause-standing : goal.returns-in_err-bring_zeros-clause-standing
-returns-in_err-bring_zeros-clause-standing g c = (settled c.args.b.0 (g.M.Machine.contents c.args.self.now.machine) (g.M.Machine.contents c.bring_zeros.new.self.machine) (g.M.Machine.run c.args.self.now.machine) (g.M.Machine.run c.bring_zeros.new.self.machine) c.args.self.now.tables c.bring_zeros.new.self.tables c.requires.idle (frees_after c.args.b.0 (g.M.Machine.contents c.args.self.now.machine) (g.M.Machine.contents c.make_room.new.self.machine) (g.M.Machine.contents c.bring_zeros.new.self.machine) c.make_room.ensures.keeps c.bring_zeros.ensures.frees) (same_marks c.args.b.0 c.args.self.now.tables c.bring_zeros.new.self.tables (tables_trans c.args.self.now.tables c.make_room.new.self.tables c.bring_zeros.new.self.tables c.make_room.ensures.tables c.bring_zeros.ensures.tables)) (lasts_trans (g.M.Machine.contents c.args.self.now.machine) (g.M.Machine.contents c.make_room.new.self.machine) (g.M.Machine.contents c.bring_zeros.new.self.machine) c.make_room.ensures.lasts c.bring_zeros.ensures.lasts) (steps_trans _ _ _ c.make_room.ensures.ends.steps c.bring_zeros.ensures.ends.steps) (few_then c.args.b.0 (g.M.Machine.contents c.args.self.now.machine) (g.M.Machine.contents c.make_room.new.self.machine) (g.M.Machine.contents c.bring_zeros.new.self.machine) c.make_room.ensures.writes c.bring_zeros.ensures.still)).standing
+returns-in_err-bring_zeros-clause-standing g c = (settled c.args.b.0 (g.M.Machine.contents c.args.self.now.machine) (g.M.Machine.contents c.bring_zeros.new.self.machine) (g.M.Machine.run c.args.self.now.machine) (g.M.Machine.run c.bring_zeros.new.self.machine) c.args.self.now.tables c.bring_zeros.new.self.tables c.requires.idle (frees_after c.args.b.0 (g.M.Machine.contents c.args.self.now.machine) (g.M.Machine.contents c.make_room.new.self.machine) (g.M.Machine.contents c.bring_zeros.new.self.machine) c.make_room.ensures.keeps c.bring_zeros.ensures.frees) (same_marks c.args.b.0 c.args.self.now.tables c.bring_zeros.new.self.tables (tables_trans c.args.self.now.tables c.make_room.new.self.tables c.bring_zeros.new.self.tables c.make_room.ensures.tables c.bring_zeros.ensures.tables)) (lasts_trans (g.M.Machine.contents c.args.self.now.machine) (g.M.Machine.contents c.make_room.new.self.machine) (g.M.Machine.contents c.bring_zeros.new.self.machine) c.make_room.ensures.lasts c.bring_zeros.ensures.lasts) (steps_trans _ _ _ c.make_room.ensures.ends.steps c.bring_zeros.ensures.ends.steps) (few_then c.args.b.0 _ (g.M.Machine.contents c.args.self.now.machine) (g.M.Machine.contents c.make_room.new.self.machine) (g.M.Machine.contents c.bring_zeros.new.self.machine) c.make_room.ensures.writes c.bring_zeros.ensures.still)).standing
 
 pub returns-in_err-bring_zeros-clause-firm : goal.returns-in_err-bring_zeros-clause-firm
-returns-in_err-bring_zeros-clause-firm g c = (settled c.args.b.0 (g.M.Machine.contents c.args.self.now.machine) (g.M.Machine.contents c.bring_zeros.new.self.machine) (g.M.Machine.run c.args.self.now.machine) (g.M.Machine.run c.bring_zeros.new.self.machine) c.args.self.now.tables c.bring_zeros.new.self.tables c.requires.idle (frees_after c.args.b.0 (g.M.Machine.contents c.args.self.now.machine) (g.M.Machine.contents c.make_room.new.self.machine) (g.M.Machine.contents c.bring_zeros.new.self.machine) c.make_room.ensures.keeps c.bring_zeros.ensures.frees) (same_marks c.args.b.0 c.args.self.now.tables c.bring_zeros.new.self.tables (tables_trans c.args.self.now.tables c.make_room.new.self.tables c.bring_zeros.new.self.tables c.make_room.ensures.tables c.bring_zeros.ensures.tables)) (lasts_trans (g.M.Machine.contents c.args.self.now.machine) (g.M.Machine.contents c.make_room.new.self.machine) (g.M.Machine.contents c.bring_zeros.new.self.machine) c.make_room.ensures.lasts c.bring_zeros.ensures.lasts) (steps_trans _ _ _ c.make_room.ensures.ends.steps c.bring_zeros.ensures.ends.steps) (few_then c.args.b.0 (g.M.Machine.contents c.args.self.now.machine) (g.M.Machine.contents c.make_room.new.self.machine) (g.M.Machine.contents c.bring_zeros.new.self.machine) c.make_room.ensures.writes c.bring_zeros.ensures.still)).firm
+returns-in_err-bring_zeros-clause-firm g c = (settled c.args.b.0 (g.M.Machine.contents c.args.self.now.machine) (g.M.Machine.contents c.bring_zeros.new.self.machine) (g.M.Machine.run c.args.self.now.machine) (g.M.Machine.run c.bring_zeros.new.self.machine) c.args.self.now.tables c.bring_zeros.new.self.tables c.requires.idle (frees_after c.args.b.0 (g.M.Machine.contents c.args.self.now.machine) (g.M.Machine.contents c.make_room.new.self.machine) (g.M.Machine.contents c.bring_zeros.new.self.machine) c.make_room.ensures.keeps c.bring_zeros.ensures.frees) (same_marks c.args.b.0 c.args.self.now.tables c.bring_zeros.new.self.tables (tables_trans c.args.self.now.tables c.make_room.new.self.tables c.bring_zeros.new.self.tables c.make_room.ensures.tables c.bring_zeros.ensures.tables)) (lasts_trans (g.M.Machine.contents c.args.self.now.machine) (g.M.Machine.contents c.make_room.new.self.machine) (g.M.Machine.contents c.bring_zeros.new.self.machine) c.make_room.ensures.lasts c.bring_zeros.ensures.lasts) (steps_trans _ _ _ c.make_room.ensures.ends.steps c.bring_zeros.ensures.ends.steps) (few_then c.args.b.0 _ (g.M.Machine.contents c.args.self.now.machine) (g.M.Machine.contents c.make_room.new.self.machine) (g.M.Machine.contents c.bring_zeros.new.self.machine) c.make_room.ensures.writes c.bring_zeros.ensures.still)).firm
 
 pub returns-in_err-bring_zeros-clause-goes : goal.returns-in_err-bring_zeros-clause-goes
-returns-in_err-bring_zeros-clause-goes g c = (settled c.args.b.0 (g.M.Machine.contents c.args.self.now.machine) (g.M.Machine.contents c.bring_zeros.new.self.machine) (g.M.Machine.run c.args.self.now.machine) (g.M.Machine.run c.bring_zeros.new.self.machine) c.args.self.now.tables c.bring_zeros.new.self.tables c.requires.idle (frees_after c.args.b.0 (g.M.Machine.contents c.args.self.now.machine) (g.M.Machine.contents c.make_room.new.self.machine) (g.M.Machine.contents c.bring_zeros.new.self.machine) c.make_room.ensures.keeps c.bring_zeros.ensures.frees) (same_marks c.args.b.0 c.args.self.now.tables c.bring_zeros.new.self.tables (tables_trans c.args.self.now.tables c.make_room.new.self.tables c.bring_zeros.new.self.tables c.make_room.ensures.tables c.bring_zeros.ensures.tables)) (lasts_trans (g.M.Machine.contents c.args.self.now.machine) (g.M.Machine.contents c.make_room.new.self.machine) (g.M.Machine.contents c.bring_zeros.new.self.machine) c.make_room.ensures.lasts c.bring_zeros.ensures.lasts) (steps_trans _ _ _ c.make_room.ensures.ends.steps c.bring_zeros.ensures.ends.steps) (few_then c.args.b.0 (g.M.Machine.contents c.args.self.now.machine) (g.M.Machine.contents c.make_room.new.self.machine) (g.M.Machine.contents c.bring_zeros.new.self.machine) c.make_room.ensures.writes c.bring_zeros.ensures.still)).goes
+returns-in_err-bring_zeros-clause-goes g c = (settled c.args.b.0 (g.M.Machine.contents c.args.self.now.machine) (g.M.Machine.contents c.bring_zeros.new.self.machine) (g.M.Machine.run c.args.self.now.machine) (g.M.Machine.run c.bring_zeros.new.self.machine) c.args.self.now.tables c.bring_zeros.new.self.tables c.requires.idle (frees_after c.args.b.0 (g.M.Machine.contents c.args.self.now.machine) (g.M.Machine.contents c.make_room.new.self.machine) (g.M.Machine.contents c.bring_zeros.new.self.machine) c.make_room.ensures.keeps c.bring_zeros.ensures.frees) (same_marks c.args.b.0 c.args.self.now.tables c.bring_zeros.new.self.tables (tables_trans c.args.self.now.tables c.make_room.new.self.tables c.bring_zeros.new.self.tables c.make_room.ensures.tables c.bring_zeros.ensures.tables)) (lasts_trans (g.M.Machine.contents c.args.self.now.machine) (g.M.Machine.contents c.make_room.new.self.machine) (g.M.Machine.contents c.bring_zeros.new.self.machine) c.make_room.ensures.lasts c.bring_zeros.ensures.lasts) (steps_trans _ _ _ c.make_room.ensures.ends.steps c.bring_zeros.ensures.ends.steps) (few_then c.args.b.0 _ (g.M.Machine.contents c.args.self.now.machine) (g.M.Machine.contents c.make_room.new.self.machine) (g.M.Machine.contents c.bring_zeros.new.self.machine) c.make_room.ensures.writes c.bring_zeros.ensures.still)).goes
 
 pub returns-in_err-bring_zeros-clause-idle : goal.returns-in_err-bring_zeros-clause-idle
-returns-in_err-bring_zeros-clause-idle g c = (settled c.args.b.0 (g.M.Machine.contents c.args.self.now.machine) (g.M.Machine.contents c.bring_zeros.new.self.machine) (g.M.Machine.run c.args.self.now.machine) (g.M.Machine.run c.bring_zeros.new.self.machine) c.args.self.now.tables c.bring_zeros.new.self.tables c.requires.idle (frees_after c.args.b.0 (g.M.Machine.contents c.args.self.now.machine) (g.M.Machine.contents c.make_room.new.self.machine) (g.M.Machine.contents c.bring_zeros.new.self.machine) c.make_room.ensures.keeps c.bring_zeros.ensures.frees) (same_marks c.args.b.0 c.args.self.now.tables c.bring_zeros.new.self.tables (tables_trans c.args.self.now.tables c.make_room.new.self.tables c.bring_zeros.new.self.tables c.make_room.ensures.tables c.bring_zeros.ensures.tables)) (lasts_trans (g.M.Machine.contents c.args.self.now.machine) (g.M.Machine.contents c.make_room.new.self.machine) (g.M.Machine.contents c.bring_zeros.new.self.machine) c.make_room.ensures.lasts c.bring_zeros.ensures.lasts) (steps_trans _ _ _ c.make_room.ensures.ends.steps c.bring_zeros.ensures.ends.steps) (few_then c.args.b.0 (g.M.Machine.contents c.args.self.now.machine) (g.M.Machine.contents c.make_room.new.self.machine) (g.M.Machine.contents c.bring_zeros.new.self.machine) c.make_room.ensures.writes c.bring_zeros.ensures.still)).idle
+returns-in_err-bring_zeros-clause-idle g c = (settled c.args.b.0 (g.M.Machine.contents c.args.self.now.machine) (g.M.Machine.contents c.bring_zeros.new.self.machine) (g.M.Machine.run c.args.self.now.machine) (g.M.Machine.run c.bring_zeros.new.self.machine) c.args.self.now.tables c.bring_zeros.new.self.tables c.requires.idle (frees_after c.args.b.0 (g.M.Machine.contents c.args.self.now.machine) (g.M.Machine.contents c.make_room.new.self.machine) (g.M.Machine.contents c.bring_zeros.new.self.machine) c.make_room.ensures.keeps c.bring_zeros.ensures.frees) (same_marks c.args.b.0 c.args.self.now.tables c.bring_zeros.new.self.tables (tables_trans c.args.self.now.tables c.make_room.new.self.tables c.bring_zeros.new.self.tables c.make_room.ensures.tables c.bring_zeros.ensures.tables)) (lasts_trans (g.M.Machine.contents c.args.self.now.machine) (g.M.Machine.contents c.make_room.new.self.machine) (g.M.Machine.contents c.bring_zeros.new.self.machine) c.make_room.ensures.lasts c.bring_zeros.ensures.lasts) (steps_trans _ _ _ c.make_room.ensures.ends.steps c.bring_zeros.ensures.ends.steps) (few_then c.args.b.0 _ (g.M.Machine.contents c.args.self.now.machine) (g.M.Machine.contents c.make_room.new.self.machine) (g.M.Machine.contents c.bring_zeros.new.self.machine) c.make_room.ensures.writes c.bring_zeros.ensures.still)).idle
 
 pub returns-in_err-bring_zeros-clause-others : goal.returns-in_err-bring_zeros-clause-others
 returns-in_err-bring_zeros-clause-others g c = (frees_after c.args.b.0 (g.M.Machine.contents c.args.self.now.machine) (g.M.Machine.contents c.make_room.new.self.machine) (g.M.Machine.contents c.bring_zeros.new.self.machine) c.make_room.ensures.keeps c.bring_zeros.ensures.frees).others
@@ -72,19 +72,19 @@ pub returns-in_err-bring_zeros-clause-caches : goal.returns-in_err-bring_zeros-c
 returns-in_err-bring_zeros-clause-caches g c = caches_adds c.args.b.0 c.args.name (g.M.Machine.contents c.args.self.now.machine) (g.M.Machine.contents c.bring_zeros.new.self.machine) (adds_after c.args.b.0 c.args.name _ _ _ c.make_room.ensures.narrows c.bring_zeros.ensures.adds)
 
 pub returns-in_err-bring_zeros-clause-writes : goal.returns-in_err-bring_zeros-clause-writes
-returns-in_err-bring_zeros-clause-writes g c = few_then c.args.b.0 (g.M.Machine.contents c.args.self.now.machine) (g.M.Machine.contents c.make_room.new.self.machine) (g.M.Machine.contents c.bring_zeros.new.self.machine) c.make_room.ensures.writes c.bring_zeros.ensures.still
+returns-in_err-bring_zeros-clause-writes g c = few_then c.args.b.0 _ (g.M.Machine.contents c.args.self.now.machine) (g.M.Machine.contents c.make_room.new.self.machine) (g.M.Machine.contents c.bring_zeros.new.self.machine) c.make_room.ensures.writes c.bring_zeros.ensures.still
 
 pub returns-clause-standing : goal.returns-clause-standing
-returns-clause-standing g c = (settled c.args.b.0 (g.M.Machine.contents c.args.self.now.machine) (g.M.Machine.contents c.bring_zeros.new.self.machine) (g.M.Machine.run c.args.self.now.machine) (g.M.Machine.run c.bring_zeros.new.self.machine) c.args.self.now.tables c.mark.new.self c.requires.idle (frees_after c.args.b.0 (g.M.Machine.contents c.args.self.now.machine) (g.M.Machine.contents c.make_room.new.self.machine) (g.M.Machine.contents c.bring_zeros.new.self.machine) c.make_room.ensures.keeps c.bring_zeros.ensures.frees) (marks_after c.args.b.0 _ c.args.self.now.tables c.bring_zeros.new.self.tables c.mark.new.self (tables_trans c.args.self.now.tables c.make_room.new.self.tables c.bring_zeros.new.self.tables c.make_room.ensures.tables c.bring_zeros.ensures.tables) c.mark.ensures.marks) (lasts_trans (g.M.Machine.contents c.args.self.now.machine) (g.M.Machine.contents c.make_room.new.self.machine) (g.M.Machine.contents c.bring_zeros.new.self.machine) c.make_room.ensures.lasts c.bring_zeros.ensures.lasts) (steps_trans _ _ _ c.make_room.ensures.ends.steps c.bring_zeros.ensures.ends.steps) (few_then c.args.b.0 (g.M.Machine.contents c.args.self.now.machine) (g.M.Machine.contents c.make_room.new.self.machine) (g.M.Machine.contents c.bring_zeros.new.self.machine) c.make_room.ensures.writes c.bring_zeros.ensures.still)).standing
+returns-clause-standing g c = (settled c.args.b.0 (g.M.Machine.contents c.args.self.now.machine) (g.M.Machine.contents c.bring_zeros.new.self.machine) (g.M.Machine.run c.args.self.now.machine) (g.M.Machine.run c.bring_zeros.new.self.machine) c.args.self.now.tables c.mark.new.self c.requires.idle (frees_after c.args.b.0 (g.M.Machine.contents c.args.self.now.machine) (g.M.Machine.contents c.make_room.new.self.machine) (g.M.Machine.contents c.bring_zeros.new.self.machine) c.make_room.ensures.keeps c.bring_zeros.ensures.frees) (marks_after c.args.b.0 _ c.args.self.now.tables c.bring_zeros.new.self.tables c.mark.new.self (tables_trans c.args.self.now.tables c.make_room.new.self.tables c.bring_zeros.new.self.tables c.make_room.ensures.tables c.bring_zeros.ensures.tables) c.mark.ensures.marks) (lasts_trans (g.M.Machine.contents c.args.self.now.machine) (g.M.Machine.contents c.make_room.new.self.machine) (g.M.Machine.contents c.bring_zeros.new.self.machine) c.make_room.ensures.lasts c.bring_zeros.ensures.lasts) (steps_trans _ _ _ c.make_room.ensures.ends.steps c.bring_zeros.ensures.ends.steps) (few_then c.args.b.0 _ (g.M.Machine.contents c.args.self.now.machine) (g.M.Machine.contents c.make_room.new.self.machine) (g.M.Machine.contents c.bring_zeros.new.self.machine) c.make_room.ensures.writes c.bring_zeros.ensures.still)).standing
 
 pub returns-clause-firm : goal.returns-clause-firm
-returns-clause-firm g c = (settled c.args.b.0 (g.M.Machine.contents c.args.self.now.machine) (g.M.Machine.contents c.bring_zeros.new.self.machine) (g.M.Machine.run c.args.self.now.machine) (g.M.Machine.run c.bring_zeros.new.self.machine) c.args.self.now.tables c.mark.new.self c.requires.idle (frees_after c.args.b.0 (g.M.Machine.contents c.args.self.now.machine) (g.M.Machine.contents c.make_room.new.self.machine) (g.M.Machine.contents c.bring_zeros.new.self.machine) c.make_room.ensures.keeps c.bring_zeros.ensures.frees) (marks_after c.args.b.0 _ c.args.self.now.tables c.bring_zeros.new.self.tables c.mark.new.self (tables_trans c.args.self.now.tables c.make_room.new.self.tables c.bring_zeros.new.self.tables c.make_room.ensures.tables c.bring_zeros.ensures.tables) c.mark.ensures.marks) (lasts_trans (g.M.Machine.contents c.args.self.now.machine) (g.M.Machine.contents c.make_room.new.self.machine) (g.M.Machine.contents c.bring_zeros.new.self.machine) c.make_room.ensures.lasts c.bring_zeros.ensures.lasts) (steps_trans _ _ _ c.make_room.ensures.ends.steps c.bring_zeros.ensures.ends.steps) (few_then c.args.b.0 (g.M.Machine.contents c.args.self.now.machine) (g.M.Machine.contents c.make_room.new.self.machine) (g.M.Machine.contents c.bring_zeros.new.self.machine) c.make_room.ensures.writes c.bring_zeros.ensures.still)).firm
+returns-clause-firm g c = (settled c.args.b.0 (g.M.Machine.contents c.args.self.now.machine) (g.M.Machine.contents c.bring_zeros.new.self.machine) (g.M.Machine.run c.args.self.now.machine) (g.M.Machine.run c.bring_zeros.new.self.machine) c.args.self.now.tables c.mark.new.self c.requires.idle (frees_after c.args.b.0 (g.M.Machine.contents c.args.self.now.machine) (g.M.Machine.contents c.make_room.new.self.machine) (g.M.Machine.contents c.bring_zeros.new.self.machine) c.make_room.ensures.keeps c.bring_zeros.ensures.frees) (marks_after c.args.b.0 _ c.args.self.now.tables c.bring_zeros.new.self.tables c.mark.new.self (tables_trans c.args.self.now.tables c.make_room.new.self.tables c.bring_zeros.new.self.tables c.make_room.ensures.tables c.bring_zeros.ensures.tables) c.mark.ensures.marks) (lasts_trans (g.M.Machine.contents c.args.self.now.machine) (g.M.Machine.contents c.make_room.new.self.machine) (g.M.Machine.contents c.bring_zeros.new.self.machine) c.make_room.ensures.lasts c.bring_zeros.ensures.lasts) (steps_trans _ _ _ c.make_room.ensures.ends.steps c.bring_zeros.ensures.ends.steps) (few_then c.args.b.0 _ (g.M.Machine.contents c.args.self.now.machine) (g.M.Machine.contents c.make_room.new.self.machine) (g.M.Machine.contents c.bring_zeros.new.self.machine) c.make_room.ensures.writes c.bring_zeros.ensures.still)).firm
 
 pub returns-clause-goes : goal.returns-clause-goes
-returns-clause-goes g c = (settled c.args.b.0 (g.M.Machine.contents c.args.self.now.machine) (g.M.Machine.contents c.bring_zeros.new.self.machine) (g.M.Machine.run c.args.self.now.machine) (g.M.Machine.run c.bring_zeros.new.self.machine) c.args.self.now.tables c.mark.new.self c.requires.idle (frees_after c.args.b.0 (g.M.Machine.contents c.args.self.now.machine) (g.M.Machine.contents c.make_room.new.self.machine) (g.M.Machine.contents c.bring_zeros.new.self.machine) c.make_room.ensures.keeps c.bring_zeros.ensures.frees) (marks_after c.args.b.0 _ c.args.self.now.tables c.bring_zeros.new.self.tables c.mark.new.self (tables_trans c.args.self.now.tables c.make_room.new.self.tables c.bring_zeros.new.self.tables c.make_room.ensures.tables c.bring_zeros.ensures.tables) c.mark.ensures.marks) (lasts_trans (g.M.Machine.contents c.args.self.now.machine) (g.M.Machine.contents c.make_room.new.self.machine) (g.M.Machine.contents c.bring_zeros.new.self.machine) c.make_room.ensures.lasts c.bring_zeros.ensures.lasts) (steps_trans _ _ _ c.make_room.ensures.ends.steps c.bring_zeros.ensures.ends.steps) (few_then c.args.b.0 (g.M.Machine.contents c.args.self.now.machine) (g.M.Machine.contents c.make_room.new.self.machine) (g.M.Machine.contents c.bring_zeros.new.self.machine) c.make_room.ensures.writes c.bring_zeros.ensures.still)).goes
+returns-clause-goes g c = (settled c.args.b.0 (g.M.Machine.contents c.args.self.now.machine) (g.M.Machine.contents c.bring_zeros.new.self.machine) (g.M.Machine.run c.args.self.now.machine) (g.M.Machine.run c.bring_zeros.new.self.machine) c.args.self.now.tables c.mark.new.self c.requires.idle (frees_after c.args.b.0 (g.M.Machine.contents c.args.self.now.machine) (g.M.Machine.contents c.make_room.new.self.machine) (g.M.Machine.contents c.bring_zeros.new.self.machine) c.make_room.ensures.keeps c.bring_zeros.ensures.frees) (marks_after c.args.b.0 _ c.args.self.now.tables c.bring_zeros.new.self.tables c.mark.new.self (tables_trans c.args.self.now.tables c.make_room.new.self.tables c.bring_zeros.new.self.tables c.make_room.ensures.tables c.bring_zeros.ensures.tables) c.mark.ensures.marks) (lasts_trans (g.M.Machine.contents c.args.self.now.machine) (g.M.Machine.contents c.make_room.new.self.machine) (g.M.Machine.contents c.bring_zeros.new.self.machine) c.make_room.ensures.lasts c.bring_zeros.ensures.lasts) (steps_trans _ _ _ c.make_room.ensures.ends.steps c.bring_zeros.ensures.ends.steps) (few_then c.args.b.0 _ (g.M.Machine.contents c.args.self.now.machine) (g.M.Machine.contents c.make_room.new.self.machine) (g.M.Machine.contents c.bring_zeros.new.self.machine) c.make_room.ensures.writes c.bring_zeros.ensures.still)).goes
 
 pub returns-clause-idle : goal.returns-clause-idle
-returns-clause-idle g c = (settled c.args.b.0 (g.M.Machine.contents c.args.self.now.machine) (g.M.Machine.contents c.bring_zeros.new.self.machine) (g.M.Machine.run c.args.self.now.machine) (g.M.Machine.run c.bring_zeros.new.self.machine) c.args.self.now.tables c.mark.new.self c.requires.idle (frees_after c.args.b.0 (g.M.Machine.contents c.args.self.now.machine) (g.M.Machine.contents c.make_room.new.self.machine) (g.M.Machine.contents c.bring_zeros.new.self.machine) c.make_room.ensures.keeps c.bring_zeros.ensures.frees) (marks_after c.args.b.0 _ c.args.self.now.tables c.bring_zeros.new.self.tables c.mark.new.self (tables_trans c.args.self.now.tables c.make_room.new.self.tables c.bring_zeros.new.self.tables c.make_room.ensures.tables c.bring_zeros.ensures.tables) c.mark.ensures.marks) (lasts_trans (g.M.Machine.contents c.args.self.now.machine) (g.M.Machine.contents c.make_room.new.self.machine) (g.M.Machine.contents c.bring_zeros.new.self.machine) c.make_room.ensures.lasts c.bring_zeros.ensures.lasts) (steps_trans _ _ _ c.make_room.ensures.ends.steps c.bring_zeros.ensures.ends.steps) (few_then c.args.b.0 (g.M.Machine.contents c.args.self.now.machine) (g.M.Machine.contents c.make_room.new.self.machine) (g.M.Machine.contents c.bring_zeros.new.self.machine) c.make_room.ensures.writes c.bring_zeros.ensures.still)).idle
+returns-clause-idle g c = (settled c.args.b.0 (g.M.Machine.contents c.args.self.now.machine) (g.M.Machine.contents c.bring_zeros.new.self.machine) (g.M.Machine.run c.args.self.now.machine) (g.M.Machine.run c.bring_zeros.new.self.machine) c.args.self.now.tables c.mark.new.self c.requires.idle (frees_after c.args.b.0 (g.M.Machine.contents c.args.self.now.machine) (g.M.Machine.contents c.make_room.new.self.machine) (g.M.Machine.contents c.bring_zeros.new.self.machine) c.make_room.ensures.keeps c.bring_zeros.ensures.frees) (marks_after c.args.b.0 _ c.args.self.now.tables c.bring_zeros.new.self.tables c.mark.new.self (tables_trans c.args.self.now.tables c.make_room.new.self.tables c.bring_zeros.new.self.tables c.make_room.ensures.tables c.bring_zeros.ensures.tables) c.mark.ensures.marks) (lasts_trans (g.M.Machine.contents c.args.self.now.machine) (g.M.Machine.contents c.make_room.new.self.machine) (g.M.Machine.contents c.bring_zeros.new.self.machine) c.make_room.ensures.lasts c.bring_zeros.ensures.lasts) (steps_trans _ _ _ c.make_room.ensures.ends.steps c.bring_zeros.ensures.ends.steps) (few_then c.args.b.0 _ (g.M.Machine.contents c.args.self.now.machine) (g.M.Machine.contents c.make_room.new.self.machine) (g.M.Machine.contents c.bring_zeros.new.self.machine) c.make_room.ensures.writes c.bring_zeros.ensures.still)).idle
 
 pub returns-clause-others : goal.returns-clause-others
 returns-clause-others g c = (frees_after c.args.b.0 (g.M.Machine.contents c.args.self.now.machine) (g.M.Machine.contents c.make_room.new.self.machine) (g.M.Machine.contents c.bring_zeros.new.self.machine) c.make_room.ensures.keeps c.bring_zeros.ensures.frees).others
@@ -96,7 +96,7 @@ pub returns-clause-caches : goal.returns-clause-caches
 returns-clause-caches g c = caches_adds c.args.b.0 c.args.name (g.M.Machine.contents c.args.self.now.machine) (g.M.Machine.contents c.bring_zeros.new.self.machine) (adds_after c.args.b.0 c.args.name _ _ _ c.make_room.ensures.narrows c.bring_zeros.ensures.adds)
 
 pub returns-clause-writes : goal.returns-clause-writes
-returns-clause-writes g c = few_then c.args.b.0 (g.M.Machine.contents c.args.self.now.machine) (g.M.Machine.contents c.make_room.new.self.machine) (g.M.Machine.contents c.bring_zeros.new.self.machine) c.make_room.ensures.writes c.bring_zeros.ensures.still
+returns-clause-writes g c = few_then c.args.b.0 _ (g.M.Machine.contents c.args.self.now.machine) (g.M.Machine.contents c.make_room.new.self.machine) (g.M.Machine.contents c.bring_zeros.new.self.machine) c.make_room.ensures.writes c.bring_zeros.ensures.still
 
 pub mark-requires : goal.mark-requires
 mark-requires g c = record { place = subst (λ n. c.args.b.0 < n) (sym (c.bring_zeros.ensures.sound.marks ∙ c.bring_zeros.ensures.lasts.blocks ∙ c.make_room.ensures.lasts.blocks)) c.requires.place }

@@ -1,14 +1,15 @@
-use Rattle.page_cache.proofs.Common.{rules, ◌∙◌, ap, inl, inr, lasts_trans, steps_trans}
+use Rattle.page_cache.proofs.Common.{IsErrOf, Stopped, rules, ◌∙◌, ap, arith, inl, inr, lasts_trans, steps_trans}
+use Rattle.std.proofs.Common.{refl}
 use Rattle.page_cache.specs.declared.tables.CacheTables.{CacheTables}
 use Rattle.page_cache.proofs.StoreCalls.{named_put, stored_put}
 use Rattle.page_cache.proofs.Settling.{keeps_to, put_then, same_put, settles, settles_kept}
 use Rattle.page_cache.proofs.volume.PageCacheVolume.store.Goals as goal
-use Rattle.page_cache.proofs.Goes.{ends_of, ends_ok}
+use Rattle.page_cache.proofs.Goes.{ends_of, ends_ok, ends_stopped}
 use Rattle.page_cache.proofs.Stills.{few_then}
 use Rattle.page_cache.proofs.Uses.{leaves_then, order_same, stay_found, used_then}
 
 pub returns-clause-writes : goal.returns-clause-writes
-returns-clause-writes g c = few_then c.args.b.0 (g.M.Machine.contents c.args.self.now.machine) (g.M.Machine.contents c.ready.new.self.machine) _ c.ready.ensures.writes (search rules)
+returns-clause-writes g c = few_then c.args.b.0 _ (g.M.Machine.contents c.args.self.now.machine) (g.M.Machine.contents c.ready.new.self.machine) _ c.ready.ensures.writes (search rules)
 
 pub returns-in_err-k-clause-either : goal.returns-in_err-k-clause-either
 returns-in_err-k-clause-either g c = inl c.ready.ensures.keeps.reads
@@ -32,16 +33,16 @@ pub returns-in_err-put_frame-clause-either : goal.returns-in_err-put_frame-claus
 returns-in_err-put_frame-clause-either g c = inl (keeps_to (g.M.Machine.contents c.args.self.now.machine) (g.M.Machine.contents c.ready.new.self.machine) (g.M.Machine.contents c.put_frame.new.self.machine) c.ready.ensures.keeps c.in_err-put_frame.ensures.same).reads
 
 pub returns-in_err-put_frame-clause-standing : goal.returns-in_err-put_frame-clause-standing
-returns-in_err-put_frame-clause-standing g c = (settles_kept c.args.b.0 (g.M.Machine.contents c.args.self.now.machine) (g.M.Machine.contents c.put_frame.new.self.machine) (g.M.Machine.run c.args.self.now.machine) (g.M.Machine.run c.put_frame.new.self.machine) c.args.self.now.tables c.put_frame.new.self.tables c.requires.idle (keeps_to (g.M.Machine.contents c.args.self.now.machine) (g.M.Machine.contents c.ready.new.self.machine) (g.M.Machine.contents c.put_frame.new.self.machine) c.ready.ensures.keeps c.in_err-put_frame.ensures.same) (ap (λ (t : CacheTables). t.forgotten) c.put_frame.ensures.tables ∙ c.ready.ensures.tables.forgotten) (lasts_trans (g.M.Machine.contents c.args.self.now.machine) (g.M.Machine.contents c.ready.new.self.machine) (g.M.Machine.contents c.put_frame.new.self.machine) c.ready.ensures.lasts c.put_frame.ensures.lasts) (steps_trans _ _ _ c.ready.ensures.ends.steps c.put_frame.ensures.ends.steps) (few_then c.args.b.0 (g.M.Machine.contents c.args.self.now.machine) (g.M.Machine.contents c.ready.new.self.machine) (g.M.Machine.contents c.put_frame.new.self.machine) c.ready.ensures.writes c.put_frame.ensures.still)).standing
+returns-in_err-put_frame-clause-standing g c = (settles_kept c.args.b.0 (g.M.Machine.contents c.args.self.now.machine) (g.M.Machine.contents c.put_frame.new.self.machine) (g.M.Machine.run c.args.self.now.machine) (g.M.Machine.run c.put_frame.new.self.machine) c.args.self.now.tables c.put_frame.new.self.tables c.requires.idle (keeps_to (g.M.Machine.contents c.args.self.now.machine) (g.M.Machine.contents c.ready.new.self.machine) (g.M.Machine.contents c.put_frame.new.self.machine) c.ready.ensures.keeps c.in_err-put_frame.ensures.same) (ap (λ (t : CacheTables). t.forgotten) c.put_frame.ensures.tables ∙ c.ready.ensures.tables.forgotten) (lasts_trans (g.M.Machine.contents c.args.self.now.machine) (g.M.Machine.contents c.ready.new.self.machine) (g.M.Machine.contents c.put_frame.new.self.machine) c.ready.ensures.lasts c.put_frame.ensures.lasts) (steps_trans _ _ _ c.ready.ensures.ends.steps c.put_frame.ensures.ends.steps) (few_then c.args.b.0 _ (g.M.Machine.contents c.args.self.now.machine) (g.M.Machine.contents c.ready.new.self.machine) (g.M.Machine.contents c.put_frame.new.self.machine) c.ready.ensures.writes c.put_frame.ensures.still)).standing
 
 pub returns-in_err-put_frame-clause-firm : goal.returns-in_err-put_frame-clause-firm
-returns-in_err-put_frame-clause-firm g c = (settles_kept c.args.b.0 (g.M.Machine.contents c.args.self.now.machine) (g.M.Machine.contents c.put_frame.new.self.machine) (g.M.Machine.run c.args.self.now.machine) (g.M.Machine.run c.put_frame.new.self.machine) c.args.self.now.tables c.put_frame.new.self.tables c.requires.idle (keeps_to (g.M.Machine.contents c.args.self.now.machine) (g.M.Machine.contents c.ready.new.self.machine) (g.M.Machine.contents c.put_frame.new.self.machine) c.ready.ensures.keeps c.in_err-put_frame.ensures.same) (ap (λ (t : CacheTables). t.forgotten) c.put_frame.ensures.tables ∙ c.ready.ensures.tables.forgotten) (lasts_trans (g.M.Machine.contents c.args.self.now.machine) (g.M.Machine.contents c.ready.new.self.machine) (g.M.Machine.contents c.put_frame.new.self.machine) c.ready.ensures.lasts c.put_frame.ensures.lasts) (steps_trans _ _ _ c.ready.ensures.ends.steps c.put_frame.ensures.ends.steps) (few_then c.args.b.0 (g.M.Machine.contents c.args.self.now.machine) (g.M.Machine.contents c.ready.new.self.machine) (g.M.Machine.contents c.put_frame.new.self.machine) c.ready.ensures.writes c.put_frame.ensures.still)).firm
+returns-in_err-put_frame-clause-firm g c = (settles_kept c.args.b.0 (g.M.Machine.contents c.args.self.now.machine) (g.M.Machine.contents c.put_frame.new.self.machine) (g.M.Machine.run c.args.self.now.machine) (g.M.Machine.run c.put_frame.new.self.machine) c.args.self.now.tables c.put_frame.new.self.tables c.requires.idle (keeps_to (g.M.Machine.contents c.args.self.now.machine) (g.M.Machine.contents c.ready.new.self.machine) (g.M.Machine.contents c.put_frame.new.self.machine) c.ready.ensures.keeps c.in_err-put_frame.ensures.same) (ap (λ (t : CacheTables). t.forgotten) c.put_frame.ensures.tables ∙ c.ready.ensures.tables.forgotten) (lasts_trans (g.M.Machine.contents c.args.self.now.machine) (g.M.Machine.contents c.ready.new.self.machine) (g.M.Machine.contents c.put_frame.new.self.machine) c.ready.ensures.lasts c.put_frame.ensures.lasts) (steps_trans _ _ _ c.ready.ensures.ends.steps c.put_frame.ensures.ends.steps) (few_then c.args.b.0 _ (g.M.Machine.contents c.args.self.now.machine) (g.M.Machine.contents c.ready.new.self.machine) (g.M.Machine.contents c.put_frame.new.self.machine) c.ready.ensures.writes c.put_frame.ensures.still)).firm
 
 pub returns-in_err-put_frame-clause-idle : goal.returns-in_err-put_frame-clause-idle
-returns-in_err-put_frame-clause-idle g c = (settles_kept c.args.b.0 (g.M.Machine.contents c.args.self.now.machine) (g.M.Machine.contents c.put_frame.new.self.machine) (g.M.Machine.run c.args.self.now.machine) (g.M.Machine.run c.put_frame.new.self.machine) c.args.self.now.tables c.put_frame.new.self.tables c.requires.idle (keeps_to (g.M.Machine.contents c.args.self.now.machine) (g.M.Machine.contents c.ready.new.self.machine) (g.M.Machine.contents c.put_frame.new.self.machine) c.ready.ensures.keeps c.in_err-put_frame.ensures.same) (ap (λ (t : CacheTables). t.forgotten) c.put_frame.ensures.tables ∙ c.ready.ensures.tables.forgotten) (lasts_trans (g.M.Machine.contents c.args.self.now.machine) (g.M.Machine.contents c.ready.new.self.machine) (g.M.Machine.contents c.put_frame.new.self.machine) c.ready.ensures.lasts c.put_frame.ensures.lasts) (steps_trans _ _ _ c.ready.ensures.ends.steps c.put_frame.ensures.ends.steps) (few_then c.args.b.0 (g.M.Machine.contents c.args.self.now.machine) (g.M.Machine.contents c.ready.new.self.machine) (g.M.Machine.contents c.put_frame.new.self.machine) c.ready.ensures.writes c.put_frame.ensures.still)).idle
+returns-in_err-put_frame-clause-idle g c = (settles_kept c.args.b.0 (g.M.Machine.contents c.args.self.now.machine) (g.M.Machine.contents c.put_frame.new.self.machine) (g.M.Machine.run c.args.self.now.machine) (g.M.Machine.run c.put_frame.new.self.machine) c.args.self.now.tables c.put_frame.new.self.tables c.requires.idle (keeps_to (g.M.Machine.contents c.args.self.now.machine) (g.M.Machine.contents c.ready.new.self.machine) (g.M.Machine.contents c.put_frame.new.self.machine) c.ready.ensures.keeps c.in_err-put_frame.ensures.same) (ap (λ (t : CacheTables). t.forgotten) c.put_frame.ensures.tables ∙ c.ready.ensures.tables.forgotten) (lasts_trans (g.M.Machine.contents c.args.self.now.machine) (g.M.Machine.contents c.ready.new.self.machine) (g.M.Machine.contents c.put_frame.new.self.machine) c.ready.ensures.lasts c.put_frame.ensures.lasts) (steps_trans _ _ _ c.ready.ensures.ends.steps c.put_frame.ensures.ends.steps) (few_then c.args.b.0 _ (g.M.Machine.contents c.args.self.now.machine) (g.M.Machine.contents c.ready.new.self.machine) (g.M.Machine.contents c.put_frame.new.self.machine) c.ready.ensures.writes c.put_frame.ensures.still)).idle
 
 pub returns-in_err-put_frame-clause-goes : goal.returns-in_err-put_frame-clause-goes
-returns-in_err-put_frame-clause-goes g c = (settles_kept c.args.b.0 (g.M.Machine.contents c.args.self.now.machine) (g.M.Machine.contents c.put_frame.new.self.machine) (g.M.Machine.run c.args.self.now.machine) (g.M.Machine.run c.put_frame.new.self.machine) c.args.self.now.tables c.put_frame.new.self.tables c.requires.idle (keeps_to (g.M.Machine.contents c.args.self.now.machine) (g.M.Machine.contents c.ready.new.self.machine) (g.M.Machine.contents c.put_frame.new.self.machine) c.ready.ensures.keeps c.in_err-put_frame.ensures.same) (ap (λ (t : CacheTables). t.forgotten) c.put_frame.ensures.tables ∙ c.ready.ensures.tables.forgotten) (lasts_trans (g.M.Machine.contents c.args.self.now.machine) (g.M.Machine.contents c.ready.new.self.machine) (g.M.Machine.contents c.put_frame.new.self.machine) c.ready.ensures.lasts c.put_frame.ensures.lasts) (steps_trans _ _ _ c.ready.ensures.ends.steps c.put_frame.ensures.ends.steps) (few_then c.args.b.0 (g.M.Machine.contents c.args.self.now.machine) (g.M.Machine.contents c.ready.new.self.machine) (g.M.Machine.contents c.put_frame.new.self.machine) c.ready.ensures.writes c.put_frame.ensures.still)).goes
+returns-in_err-put_frame-clause-goes g c = (settles_kept c.args.b.0 (g.M.Machine.contents c.args.self.now.machine) (g.M.Machine.contents c.put_frame.new.self.machine) (g.M.Machine.run c.args.self.now.machine) (g.M.Machine.run c.put_frame.new.self.machine) c.args.self.now.tables c.put_frame.new.self.tables c.requires.idle (keeps_to (g.M.Machine.contents c.args.self.now.machine) (g.M.Machine.contents c.ready.new.self.machine) (g.M.Machine.contents c.put_frame.new.self.machine) c.ready.ensures.keeps c.in_err-put_frame.ensures.same) (ap (λ (t : CacheTables). t.forgotten) c.put_frame.ensures.tables ∙ c.ready.ensures.tables.forgotten) (lasts_trans (g.M.Machine.contents c.args.self.now.machine) (g.M.Machine.contents c.ready.new.self.machine) (g.M.Machine.contents c.put_frame.new.self.machine) c.ready.ensures.lasts c.put_frame.ensures.lasts) (steps_trans _ _ _ c.ready.ensures.ends.steps c.put_frame.ensures.ends.steps) (few_then c.args.b.0 _ (g.M.Machine.contents c.args.self.now.machine) (g.M.Machine.contents c.ready.new.self.machine) (g.M.Machine.contents c.put_frame.new.self.machine) c.ready.ensures.writes c.put_frame.ensures.still)).goes
 
 pub returns-in_err-put_frame-clause-count : goal.returns-in_err-put_frame-clause-count
 returns-in_err-put_frame-clause-count g c = c.put_frame.ensures.lasts.blocks ∙ c.ready.ensures.lasts.blocks
@@ -50,7 +51,7 @@ pub returns-in_err-put_frame-clause-caches : goal.returns-in_err-put_frame-claus
 returns-in_err-put_frame-clause-caches g c = stored_put c.args.b.0 c.args.name (g.M.Machine.contents c.args.self.now.machine) (g.M.Machine.contents c.ready.new.self.machine) (g.M.Machine.contents c.put_frame.new.self.machine) c.ready.ensures.caches c.put_frame.ensures.cached
 
 pub returns-in_err-put_frame-clause-writes : goal.returns-in_err-put_frame-clause-writes
-returns-in_err-put_frame-clause-writes g c = few_then c.args.b.0 (g.M.Machine.contents c.args.self.now.machine) (g.M.Machine.contents c.ready.new.self.machine) (g.M.Machine.contents c.put_frame.new.self.machine) c.ready.ensures.writes c.put_frame.ensures.still
+returns-in_err-put_frame-clause-writes g c = few_then c.args.b.0 _ (g.M.Machine.contents c.args.self.now.machine) (g.M.Machine.contents c.ready.new.self.machine) (g.M.Machine.contents c.put_frame.new.self.machine) c.ready.ensures.writes c.put_frame.ensures.still
 
 pub returns-clause-ok : goal.returns-clause-ok
 returns-clause-ok g c = (put_then c.args.b.0 c.args.w c.args.v (g.M.Machine.contents c.args.self.now.machine) (g.M.Machine.contents c.ready.new.self.machine) (g.M.Machine.contents c.put_frame.new.self.machine) c.ready.ensures.keeps c.in_ok-put_frame.ensures.rewrites).reading
@@ -59,16 +60,16 @@ pub returns-clause-either : goal.returns-clause-either
 returns-clause-either g c = inr (put_then c.args.b.0 c.args.w c.args.v (g.M.Machine.contents c.args.self.now.machine) (g.M.Machine.contents c.ready.new.self.machine) (g.M.Machine.contents c.put_frame.new.self.machine) c.ready.ensures.keeps c.in_ok-put_frame.ensures.rewrites).reading
 
 pub returns-clause-standing : goal.returns-clause-standing
-returns-clause-standing g c = (settles c.args.b.0 _ (g.M.Machine.contents c.args.self.now.machine) (g.M.Machine.contents c.put_frame.new.self.machine) (g.M.Machine.run c.args.self.now.machine) (g.M.Machine.run c.put_frame.new.self.machine) c.args.self.now.tables c.put_frame.new.self.tables c.requires.idle (put_then c.args.b.0 c.args.w c.args.v (g.M.Machine.contents c.args.self.now.machine) (g.M.Machine.contents c.ready.new.self.machine) (g.M.Machine.contents c.put_frame.new.self.machine) c.ready.ensures.keeps c.in_ok-put_frame.ensures.rewrites) (same_put c.args.b.0 c.args.w c.args.v _) (ap (λ (t : CacheTables). t.forgotten) c.put_frame.ensures.tables ∙ c.ready.ensures.tables.forgotten) (lasts_trans (g.M.Machine.contents c.args.self.now.machine) (g.M.Machine.contents c.ready.new.self.machine) (g.M.Machine.contents c.put_frame.new.self.machine) c.ready.ensures.lasts c.put_frame.ensures.lasts) (steps_trans _ _ _ c.ready.ensures.ends.steps c.put_frame.ensures.ends.steps) (few_then c.args.b.0 (g.M.Machine.contents c.args.self.now.machine) (g.M.Machine.contents c.ready.new.self.machine) (g.M.Machine.contents c.put_frame.new.self.machine) c.ready.ensures.writes c.put_frame.ensures.still)).standing
+returns-clause-standing g c = (settles c.args.b.0 _ (g.M.Machine.contents c.args.self.now.machine) (g.M.Machine.contents c.put_frame.new.self.machine) (g.M.Machine.run c.args.self.now.machine) (g.M.Machine.run c.put_frame.new.self.machine) c.args.self.now.tables c.put_frame.new.self.tables c.requires.idle (put_then c.args.b.0 c.args.w c.args.v (g.M.Machine.contents c.args.self.now.machine) (g.M.Machine.contents c.ready.new.self.machine) (g.M.Machine.contents c.put_frame.new.self.machine) c.ready.ensures.keeps c.in_ok-put_frame.ensures.rewrites) (same_put c.args.b.0 c.args.w c.args.v _) (ap (λ (t : CacheTables). t.forgotten) c.put_frame.ensures.tables ∙ c.ready.ensures.tables.forgotten) (lasts_trans (g.M.Machine.contents c.args.self.now.machine) (g.M.Machine.contents c.ready.new.self.machine) (g.M.Machine.contents c.put_frame.new.self.machine) c.ready.ensures.lasts c.put_frame.ensures.lasts) (steps_trans _ _ _ c.ready.ensures.ends.steps c.put_frame.ensures.ends.steps) (few_then c.args.b.0 _ (g.M.Machine.contents c.args.self.now.machine) (g.M.Machine.contents c.ready.new.self.machine) (g.M.Machine.contents c.put_frame.new.self.machine) c.ready.ensures.writes c.put_frame.ensures.still)).standing
 
 pub returns-clause-firm : goal.returns-clause-firm
-returns-clause-firm g c = (settles c.args.b.0 _ (g.M.Machine.contents c.args.self.now.machine) (g.M.Machine.contents c.put_frame.new.self.machine) (g.M.Machine.run c.args.self.now.machine) (g.M.Machine.run c.put_frame.new.self.machine) c.args.self.now.tables c.put_frame.new.self.tables c.requires.idle (put_then c.args.b.0 c.args.w c.args.v (g.M.Machine.contents c.args.self.now.machine) (g.M.Machine.contents c.ready.new.self.machine) (g.M.Machine.contents c.put_frame.new.self.machine) c.ready.ensures.keeps c.in_ok-put_frame.ensures.rewrites) (same_put c.args.b.0 c.args.w c.args.v _) (ap (λ (t : CacheTables). t.forgotten) c.put_frame.ensures.tables ∙ c.ready.ensures.tables.forgotten) (lasts_trans (g.M.Machine.contents c.args.self.now.machine) (g.M.Machine.contents c.ready.new.self.machine) (g.M.Machine.contents c.put_frame.new.self.machine) c.ready.ensures.lasts c.put_frame.ensures.lasts) (steps_trans _ _ _ c.ready.ensures.ends.steps c.put_frame.ensures.ends.steps) (few_then c.args.b.0 (g.M.Machine.contents c.args.self.now.machine) (g.M.Machine.contents c.ready.new.self.machine) (g.M.Machine.contents c.put_frame.new.self.machine) c.ready.ensures.writes c.put_frame.ensures.still)).firm
+returns-clause-firm g c = (settles c.args.b.0 _ (g.M.Machine.contents c.args.self.now.machine) (g.M.Machine.contents c.put_frame.new.self.machine) (g.M.Machine.run c.args.self.now.machine) (g.M.Machine.run c.put_frame.new.self.machine) c.args.self.now.tables c.put_frame.new.self.tables c.requires.idle (put_then c.args.b.0 c.args.w c.args.v (g.M.Machine.contents c.args.self.now.machine) (g.M.Machine.contents c.ready.new.self.machine) (g.M.Machine.contents c.put_frame.new.self.machine) c.ready.ensures.keeps c.in_ok-put_frame.ensures.rewrites) (same_put c.args.b.0 c.args.w c.args.v _) (ap (λ (t : CacheTables). t.forgotten) c.put_frame.ensures.tables ∙ c.ready.ensures.tables.forgotten) (lasts_trans (g.M.Machine.contents c.args.self.now.machine) (g.M.Machine.contents c.ready.new.self.machine) (g.M.Machine.contents c.put_frame.new.self.machine) c.ready.ensures.lasts c.put_frame.ensures.lasts) (steps_trans _ _ _ c.ready.ensures.ends.steps c.put_frame.ensures.ends.steps) (few_then c.args.b.0 _ (g.M.Machine.contents c.args.self.now.machine) (g.M.Machine.contents c.ready.new.self.machine) (g.M.Machine.contents c.put_frame.new.self.machine) c.ready.ensures.writes c.put_frame.ensures.still)).firm
 
 pub returns-clause-idle : goal.returns-clause-idle
-returns-clause-idle g c = (settles c.args.b.0 _ (g.M.Machine.contents c.args.self.now.machine) (g.M.Machine.contents c.put_frame.new.self.machine) (g.M.Machine.run c.args.self.now.machine) (g.M.Machine.run c.put_frame.new.self.machine) c.args.self.now.tables c.put_frame.new.self.tables c.requires.idle (put_then c.args.b.0 c.args.w c.args.v (g.M.Machine.contents c.args.self.now.machine) (g.M.Machine.contents c.ready.new.self.machine) (g.M.Machine.contents c.put_frame.new.self.machine) c.ready.ensures.keeps c.in_ok-put_frame.ensures.rewrites) (same_put c.args.b.0 c.args.w c.args.v _) (ap (λ (t : CacheTables). t.forgotten) c.put_frame.ensures.tables ∙ c.ready.ensures.tables.forgotten) (lasts_trans (g.M.Machine.contents c.args.self.now.machine) (g.M.Machine.contents c.ready.new.self.machine) (g.M.Machine.contents c.put_frame.new.self.machine) c.ready.ensures.lasts c.put_frame.ensures.lasts) (steps_trans _ _ _ c.ready.ensures.ends.steps c.put_frame.ensures.ends.steps) (few_then c.args.b.0 (g.M.Machine.contents c.args.self.now.machine) (g.M.Machine.contents c.ready.new.self.machine) (g.M.Machine.contents c.put_frame.new.self.machine) c.ready.ensures.writes c.put_frame.ensures.still)).idle
+returns-clause-idle g c = (settles c.args.b.0 _ (g.M.Machine.contents c.args.self.now.machine) (g.M.Machine.contents c.put_frame.new.self.machine) (g.M.Machine.run c.args.self.now.machine) (g.M.Machine.run c.put_frame.new.self.machine) c.args.self.now.tables c.put_frame.new.self.tables c.requires.idle (put_then c.args.b.0 c.args.w c.args.v (g.M.Machine.contents c.args.self.now.machine) (g.M.Machine.contents c.ready.new.self.machine) (g.M.Machine.contents c.put_frame.new.self.machine) c.ready.ensures.keeps c.in_ok-put_frame.ensures.rewrites) (same_put c.args.b.0 c.args.w c.args.v _) (ap (λ (t : CacheTables). t.forgotten) c.put_frame.ensures.tables ∙ c.ready.ensures.tables.forgotten) (lasts_trans (g.M.Machine.contents c.args.self.now.machine) (g.M.Machine.contents c.ready.new.self.machine) (g.M.Machine.contents c.put_frame.new.self.machine) c.ready.ensures.lasts c.put_frame.ensures.lasts) (steps_trans _ _ _ c.ready.ensures.ends.steps c.put_frame.ensures.ends.steps) (few_then c.args.b.0 _ (g.M.Machine.contents c.args.self.now.machine) (g.M.Machine.contents c.ready.new.self.machine) (g.M.Machine.contents c.put_frame.new.self.machine) c.ready.ensures.writes c.put_frame.ensures.still)).idle
 
 pub returns-clause-goes : goal.returns-clause-goes
-returns-clause-goes g c = (settles c.args.b.0 _ (g.M.Machine.contents c.args.self.now.machine) (g.M.Machine.contents c.put_frame.new.self.machine) (g.M.Machine.run c.args.self.now.machine) (g.M.Machine.run c.put_frame.new.self.machine) c.args.self.now.tables c.put_frame.new.self.tables c.requires.idle (put_then c.args.b.0 c.args.w c.args.v (g.M.Machine.contents c.args.self.now.machine) (g.M.Machine.contents c.ready.new.self.machine) (g.M.Machine.contents c.put_frame.new.self.machine) c.ready.ensures.keeps c.in_ok-put_frame.ensures.rewrites) (same_put c.args.b.0 c.args.w c.args.v _) (ap (λ (t : CacheTables). t.forgotten) c.put_frame.ensures.tables ∙ c.ready.ensures.tables.forgotten) (lasts_trans (g.M.Machine.contents c.args.self.now.machine) (g.M.Machine.contents c.ready.new.self.machine) (g.M.Machine.contents c.put_frame.new.self.machine) c.ready.ensures.lasts c.put_frame.ensures.lasts) (steps_trans _ _ _ c.ready.ensures.ends.steps c.put_frame.ensures.ends.steps) (few_then c.args.b.0 (g.M.Machine.contents c.args.self.now.machine) (g.M.Machine.contents c.ready.new.self.machine) (g.M.Machine.contents c.put_frame.new.self.machine) c.ready.ensures.writes c.put_frame.ensures.still)).goes
+returns-clause-goes g c = (settles c.args.b.0 _ (g.M.Machine.contents c.args.self.now.machine) (g.M.Machine.contents c.put_frame.new.self.machine) (g.M.Machine.run c.args.self.now.machine) (g.M.Machine.run c.put_frame.new.self.machine) c.args.self.now.tables c.put_frame.new.self.tables c.requires.idle (put_then c.args.b.0 c.args.w c.args.v (g.M.Machine.contents c.args.self.now.machine) (g.M.Machine.contents c.ready.new.self.machine) (g.M.Machine.contents c.put_frame.new.self.machine) c.ready.ensures.keeps c.in_ok-put_frame.ensures.rewrites) (same_put c.args.b.0 c.args.w c.args.v _) (ap (λ (t : CacheTables). t.forgotten) c.put_frame.ensures.tables ∙ c.ready.ensures.tables.forgotten) (lasts_trans (g.M.Machine.contents c.args.self.now.machine) (g.M.Machine.contents c.ready.new.self.machine) (g.M.Machine.contents c.put_frame.new.self.machine) c.ready.ensures.lasts c.put_frame.ensures.lasts) (steps_trans _ _ _ c.ready.ensures.ends.steps c.put_frame.ensures.ends.steps) (few_then c.args.b.0 _ (g.M.Machine.contents c.args.self.now.machine) (g.M.Machine.contents c.ready.new.self.machine) (g.M.Machine.contents c.put_frame.new.self.machine) c.ready.ensures.writes c.put_frame.ensures.still)).goes
 
 pub returns-clause-count : goal.returns-clause-count
 returns-clause-count g c = c.put_frame.ensures.lasts.blocks ∙ c.ready.ensures.lasts.blocks
@@ -90,3 +91,8 @@ returns-in_err-put_frame-clause-leaves g c = leaves_then _ _ _ _ c.ready.ensures
 
 pub returns-clause-leaves : goal.returns-clause-leaves
 returns-clause-leaves g c = leaves_then _ _ _ _ c.ready.ensures.leaves (stay_found _ _ c.put_frame.ensures.cached.found)
+
+pub returns-in_err-put_frame-clause-ends : goal.returns-in_err-put_frame-clause-ends
+returns-in_err-put_frame-clause-ends g c =
+    let stop : IsErrOf c.from_residual-in_err-put_frame.result Stopped = grind (arith, c.from_residual-in_err-put_frame.ensures) in
+    ends_stopped _ _ _ _ _ _ _ _ stop (λ q. cc) refl (lasts_trans (g.M.Machine.contents c.args.self.now.machine) (g.M.Machine.contents c.ready.new.self.machine) (g.M.Machine.contents c.put_frame.new.self.machine) c.ready.ensures.lasts c.put_frame.ensures.lasts) c.in_ok-k.ensures.ends c.in_err-put_frame.ensures.ends

@@ -1,9 +1,11 @@
-use Rattle.page_cache.proofs.Common.{◌∙◌, lasts_trans, steps_trans, found_is}
+use Rattle.page_cache.proofs.Common.{IsErrOf, Stopped, ◌∙◌, arith, lasts_trans, steps_trans, found_is}
+use Rattle.std.proofs.Common.{refl}
+use Rattle.page_cache.proofs.Goes.{ends_both, ends_stopped}
 use Rattle.rio_model.proofs.CoverSteps.{keeps_trans}
 use Rattle.page_cache.specs.Settled.{gate_open}
 use Rattle.page_cache.proofs.Rooms.{caches_adds}
 use Rattle.page_cache.proofs.Stills.{few_then}
-use Rattle.page_cache.proofs.Touches.{adds_pages, firm_forgotten, room_of, touch_goes, touches_after}
+use Rattle.page_cache.proofs.Touches.{adds_pages, firm_forgotten, metadata_of, room_of, touch_goes, touches_after}
 use Rattle.page_cache.proofs.volume.PageCacheVolume.touch.Goals as goal
 use Rattle.page_cache.proofs.Uses.{leaves_then, stay_found, used_then}
 use Rattle.page_cache.proofs.Rooms.{looks_keeps}
@@ -12,7 +14,7 @@ pub returns-in_err-k-clause-caches : goal.returns-in_err-k-clause-caches
 returns-in_err-k-clause-caches g c = caches_adds c.args.b.0 _ (g.M.Machine.contents c.args.self.now.machine) (g.M.Machine.contents c.fetch.new.self.machine) c.fetch.ensures.adds
 
 pub returns-in_err-k-clause-goes : goal.returns-in_err-k-clause-goes
-returns-in_err-k-clause-goes g c = touch_goes c.args.b.0 _ _ _ _ c.fetch.ensures.keeps c.fetch.ensures.lasts c.fetch.ensures.ends.steps c.fetch.ensures.writes
+returns-in_err-k-clause-goes g c = touch_goes c.args.b.0 _ _ _ _ _ c.fetch.ensures.keeps c.fetch.ensures.lasts c.fetch.ensures.ends.steps c.fetch.ensures.writes
 
 pub shadow_frame-requires-clause-valid : goal.shadow_frame-requires-clause-valid
 shadow_frame-requires-clause-valid g c = (found_is (g.M.Machine.contents c.fetch.new.self.machine).words c.args.b.0 c.in_ok-k.k c.in_ok-k.ensures.found).0
@@ -24,10 +26,10 @@ pub returns-in_err-shadow_frame-clause-caches : goal.returns-in_err-shadow_frame
 returns-in_err-shadow_frame-clause-caches g c = caches_adds c.args.b.0 _ (g.M.Machine.contents c.args.self.now.machine) (g.M.Machine.contents c.shadow_frame.new.self.machine) (adds_pages c.args.b.0 _ _ _ _ c.fetch.ensures.adds c.shadow_frame.ensures.pages)
 
 pub returns-in_err-shadow_frame-clause-goes : goal.returns-in_err-shadow_frame-clause-goes
-returns-in_err-shadow_frame-clause-goes g c = touch_goes c.args.b.0 _ _ _ _ (keeps_trans _ _ _ c.fetch.ensures.keeps c.shadow_frame.ensures.keeps) (lasts_trans _ _ _ c.fetch.ensures.lasts c.shadow_frame.ensures.lasts) (steps_trans _ _ _ c.fetch.ensures.ends.steps c.shadow_frame.ensures.ends.steps) (few_then c.args.b.0 _ _ _ c.fetch.ensures.writes c.shadow_frame.ensures.still)
+returns-in_err-shadow_frame-clause-goes g c = touch_goes c.args.b.0 _ _ _ _ _ (keeps_trans _ _ _ c.fetch.ensures.keeps c.shadow_frame.ensures.keeps) (lasts_trans _ _ _ c.fetch.ensures.lasts c.shadow_frame.ensures.lasts) (steps_trans _ _ _ c.fetch.ensures.ends.steps c.shadow_frame.ensures.ends.steps) (few_then c.args.b.0 _ _ _ _ c.fetch.ensures.writes c.shadow_frame.ensures.still)
 
 pub returns-in_err-shadow_frame-clause-writes : goal.returns-in_err-shadow_frame-clause-writes
-returns-in_err-shadow_frame-clause-writes g c = few_then c.args.b.0 _ _ _ c.fetch.ensures.writes c.shadow_frame.ensures.still
+returns-in_err-shadow_frame-clause-writes g c = few_then c.args.b.0 _ _ _ _ c.fetch.ensures.writes c.shadow_frame.ensures.still
 
 pub returns-clause-ok : goal.returns-clause-ok
 returns-clause-ok g c = touches_after c.args.b.0 c.in_ok-k.k (g.M.Machine.contents c.args.self.now.machine) (g.M.Machine.contents c.fetch.new.self.machine) (g.M.Machine.contents c.shadow_frame.new.self.machine) c.args.self.now.tables c.fetch.new.self.tables c.shadow_frame.new.self.tables (gate_open (g.M.Machine.contents c.args.self.now.machine).words c.requires.in_update) c.fetch.ensures.keeps c.shadow_frame.ensures.keeps c.fetch.ensures.touches c.fetch.ensures.tables c.shadow_frame.ensures.pages c.in_ok-shadow_frame.ensures.gives c.in_ok-k.ensures.found
@@ -39,10 +41,10 @@ pub returns-clause-caches : goal.returns-clause-caches
 returns-clause-caches g c = caches_adds c.args.b.0 _ (g.M.Machine.contents c.args.self.now.machine) (g.M.Machine.contents c.shadow_frame.new.self.machine) (adds_pages c.args.b.0 _ _ _ _ c.fetch.ensures.adds c.shadow_frame.ensures.pages)
 
 pub returns-clause-goes : goal.returns-clause-goes
-returns-clause-goes g c = touch_goes c.args.b.0 _ _ _ _ (keeps_trans _ _ _ c.fetch.ensures.keeps c.shadow_frame.ensures.keeps) (lasts_trans _ _ _ c.fetch.ensures.lasts c.shadow_frame.ensures.lasts) (steps_trans _ _ _ c.fetch.ensures.ends.steps c.shadow_frame.ensures.ends.steps) (few_then c.args.b.0 _ _ _ c.fetch.ensures.writes c.shadow_frame.ensures.still)
+returns-clause-goes g c = touch_goes c.args.b.0 _ _ _ _ _ (keeps_trans _ _ _ c.fetch.ensures.keeps c.shadow_frame.ensures.keeps) (lasts_trans _ _ _ c.fetch.ensures.lasts c.shadow_frame.ensures.lasts) (steps_trans _ _ _ c.fetch.ensures.ends.steps c.shadow_frame.ensures.ends.steps) (few_then c.args.b.0 _ _ _ _ c.fetch.ensures.writes c.shadow_frame.ensures.still)
 
 pub returns-clause-writes : goal.returns-clause-writes
-returns-clause-writes g c = few_then c.args.b.0 _ _ _ c.fetch.ensures.writes c.shadow_frame.ensures.still
+returns-clause-writes g c = few_then c.args.b.0 _ _ _ _ c.fetch.ensures.writes c.shadow_frame.ensures.still
 
 pub returns-clause-used : goal.returns-clause-used
 returns-clause-used g c = used_then c.args.b.0 (g.M.Machine.contents c.fetch.new.self.machine).words (g.M.Machine.contents c.shadow_frame.new.self.machine).words c.args.self.now.tables c.fetch.new.self.tables c.shadow_frame.new.self.tables c.in_ok-k.ensures.used (stay_found _ _ c.shadow_frame.ensures.pages.found) c.shadow_frame.ensures.order
@@ -91,3 +93,17 @@ returns-clause-standing g c = c.shadow_frame.ensures.keeps.stands ∙ c.fetch.en
 
 pub returns-clause-fault : goal.returns-clause-fault
 returns-clause-fault g c q = absurd cc
+
+pub shadow_frame-requires-clause-metadata : goal.shadow_frame-requires-clause-metadata
+shadow_frame-requires-clause-metadata g c = metadata_of c.args.b.0 c.in_ok-k.k (g.M.Machine.contents c.args.self.now.machine) (g.M.Machine.contents c.fetch.new.self.machine) c.requires.metadata c.fetch.ensures.adds c.in_ok-k.ensures.found
+
+pub returns-in_err-shadow_frame-clause-firm : goal.returns-in_err-shadow_frame-clause-firm
+returns-in_err-shadow_frame-clause-firm g c = firm_forgotten (g.M.Machine.contents c.args.self.now.machine) (g.M.Machine.contents c.shadow_frame.new.self.machine) c.args.self.now.tables c.shadow_frame.new.self.tables (c.shadow_frame.ensures.forgotten ∙ c.fetch.ensures.tables.forgotten) (keeps_trans _ _ _ c.fetch.ensures.keeps c.shadow_frame.ensures.keeps)
+
+pub returns-in_err-shadow_frame-clause-ends : goal.returns-in_err-shadow_frame-clause-ends
+returns-in_err-shadow_frame-clause-ends g c =
+    let stop : IsErrOf c.from_residual-in_err-shadow_frame.result Stopped = grind (arith, c.from_residual-in_err-shadow_frame.ensures) in
+    ends_stopped _ _ _ _ _ _ _ _ stop (λ q. cc) refl (lasts_trans _ _ _ c.fetch.ensures.lasts c.shadow_frame.ensures.lasts) c.in_ok-k.ensures.ends c.in_err-shadow_frame.ensures.ends
+
+pub returns-clause-ends : goal.returns-clause-ends
+returns-clause-ends g c = ends_both tt _ _ _ _ _ _ _ (λ q. cc) (λ q. cc) (lasts_trans _ _ _ c.fetch.ensures.lasts c.shadow_frame.ensures.lasts) c.in_ok-k.ensures.ends c.in_ok-shadow_frame.ensures.ends

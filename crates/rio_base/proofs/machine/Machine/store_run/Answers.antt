@@ -1,9 +1,7 @@
 use Rattle.std.proofs.Common.{◌+◌, length, slice_index, slice_set, refl, ◌∙◌, sym, ap, subst}
-use Rattle.rio_base.specs.Disks.{raised}
 use Rattle.rio_base.specs.Machine.{Contents, Falls}
-use Rattle.rio_base.proofs.MachineRules.{steps_trans, falls_trans}
+use Rattle.rio_base.proofs.MachineRules.{advances_then, falls_trans, steps_trans}
 use Rattle.rio_base.specs.Rules.{true_false}
-use Rattle.rio_base.proofs.PageCopies.{raised_next}
 use Rattle.rio_base.proofs.WordRuns.{front_next, run_within}
 use Rattle.rio_base.proofs.machine.Machine.store_run.Goals as goal
 
@@ -19,7 +17,7 @@ loop-i-preserved g c =
     record {
       stored = rw c.in_ok-store.ensures.stored (front_next at c.loop-i.i _ c.args.from.now first.words before.words room refl i.stored);
       rest = rw c.in_ok-store.ensures.stored (ap (λ (m : Contents). record m { words = slice_set before.words (at + c.loop-i.i) (slice_index c.args.from.now c.loop-i.i) }) i.rest);
-      counted = c.in_ok-store.ensures.counted ∙ ap (λ n. raised n 1) i.counted ∙ raised_next (run c.args.self.now).steps c.loop-i.i;
+      counted = advances_then c.loop-i.i 1 _ _ _ (λ e. absurd (true_false (sym (c.in_ok-store.ensures.halted e)))) i.steps c.in_ok-store.ensures.ends.steps i.counted c.in_ok-store.ensures.counted;
       steps = steps_trans _ _ _ i.steps c.in_ok-store.ensures.ends.steps;
       falls = falls_trans _ _ _ _ i.steps c.in_ok-store.ensures.ends.steps i.falls (subst (λ o. Falls o (run c.loop-i.self) (run c.store.new.self)) (ap (λ (m : Contents). m.open_page) i.rest) c.in_ok-store.ensures.falls);
       frozen = λ e. absurd (true_false (sym (c.in_ok-store.ensures.halted (i.runs ∙ e))));

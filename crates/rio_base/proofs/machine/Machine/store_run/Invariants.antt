@@ -1,6 +1,5 @@
 use Rattle.std.proofs.Common.{◌≡◌, true}
-use Rattle.rio_base.specs.Disks.{raised}
-use Rattle.rio_base.specs.Machine.{Falls, Steps}
+use Rattle.rio_base.specs.Machine.{Advances, Falls, Steps}
 use Rattle.rio_base.specs.Memory.{FrontStored}
 use Rattle.rio_base.proofs.machine.Machine.store_run.Given as goal
 
@@ -12,7 +11,7 @@ invariant-loop-i g l =
     record {
       stored : FrontStored l.at.0 l.i l.from (contents l.initial.self).words (contents l.self).words;
       rest : contents l.self ≡ record (contents l.initial.self) { words = (contents l.self).words };
-      counted : (run l.self).steps ≡ raised (run l.initial.self).steps l.i;
+      counted : Advances l.i (run l.initial.self) (run l.self);
       steps : Steps (run l.initial.self) (run l.self);
       falls : Falls (contents l.initial.self).open_page (run l.initial.self) (run l.self);
       frozen : (run l.initial.self).stopped ≡ true → (l.i ≡ 0) × (contents l.self ≡ contents l.initial.self);

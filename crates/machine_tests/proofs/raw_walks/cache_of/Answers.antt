@@ -1,0 +1,5 @@
+use Rattle.machine_tests.proofs.BlankImages.{blank_walks}
+use Rattle.machine_tests.proofs.raw_walks.cache_of.Goals as goal
+
+pub returns-clause-walks : goal.returns-clause-walks
+returns-clause-walks c = rw c.start.ensures.machine (blank_walks _ _ _ c.in_ok-machine.ensures.blank)
