@@ -1,6 +1,6 @@
 -- One bit of the bitmap, set by a store of its word.
 use Rattle.std.proofs.Common.{◌≡◌, ◌≢◌, ℕ, ◌*◌, ◌/◌, ◌%◌, ◌^◌, ◌<◌, ◌≤◌, ◌+◌, sym, ap, ◌∙◌, arith, ◌⊎◌, inl, inr, subst, bit_and, bit_or}
-use Rattle.std.specs.Prelude.{Result, Ok, Err, OnOk, IsErr, Bool, true, None}
+use Rattle.std.specs.Prelude.{Result, Ok, Err, OnOk, IsErr, Bool, true, false, None}
 use Rattle.std.specs.Int.{bit_at, bit_not, w64}
 use Rattle.std.proofs.lemmas.Nat.Bits.{bit_at_set_same, bit_at_set_other, bit_at_clear_same, bit_at_clear_other}
 use Rattle.std.proofs.lemmas.Bool.{cases_eq, cases_lt}
@@ -12,6 +12,7 @@ use Rattle.rio_base.specs.Blocks.{BlockWords, Caches, Drops, Looks, Seen}
 use Rattle.rio_base.specs.Volume.{Firm, Kept, OldOrPut, SameUpdate, put}
 use Rattle.rio_base.specs.Rules.{firm_trans}
 use Rattle.block_alloc.specs.Bitmap.{SetsBit, IsSetOrSame, MarksBit}
+use Rattle.block_alloc.specs.Words.{OneBit, bit_of}
 
 pub put_same : (f : BlockWords) (b w v : ℕ) → put f b w v b w ≡ v
 put_same f b w v = grind (arith, nat_tests)
@@ -19,11 +20,6 @@ put_same f b w v = grind (arith, nat_tests)
 pub put_other : (f : BlockWords) (b w v c x : ℕ) → (c ≢ b) ⊎ (x ≢ w) → put f b w v c x ≡ f c x
 put_other f b w v c x (inl away) = grind (arith, nat_tests)
 put_other f b w v c x (inr away) = grind (arith, nat_tests)
-
--- a word that has one bit so, and the others as before
-pub record OneBit (old new place bit : ℕ) : Type 0 where
-  pub same : bit_at new place ≡ bit
-  pub others : (i : ℕ) → i < 64 → i ≢ place → bit_at new i ≡ bit_at old i
 
 next_bitmap : (shape : VolumeShape) (b : ℕ) → 32768 ≤ b → bitmap_block shape b ≡ 1 + shape.inodes / 32 + b / 32768
 unfolding bitmap_block
@@ -90,6 +86,16 @@ bit_cleared old word place within is = record {
   others = λ i small away. bit_at_clear_other w64 word place within i small away ∙ ap (λ a. bit_at a i) is;
 }
 
+-- the bit of a block that is used, and of one that is free
+pub bit_used : (old word place : ℕ) (used : Bool) → used ≡ true → place < 64 → word ≡ old → OneBit old (bit_or word (1 * 2 ^ place % 2 ^ 64)) place (bit_of used)
+bit_used old word place used is within same = subst (λ u. OneBit old (bit_or word (1 * 2 ^ place % 2 ^ 64)) place (bit_of u)) (sym is) (bit_set old word place within same)
+
+pub bit_unused : (old word place : ℕ) (used : Bool) → used ≡ false → place < 64 → word ≡ old → OneBit old (bit_and word (bit_not w64 (1 * 2 ^ place % 2 ^ 64))) place (bit_of used)
+bit_unused old word place used is within same = subst (λ u. OneBit old (bit_and word (bit_not w64 (1 * 2 ^ place % 2 ^ 64))) place (bit_of u)) (sym is) (bit_cleared old word place within same)
+
+pub one_bit : (old word new place bit : ℕ) → word ≡ old → OneBit word new place bit → OneBit old new place bit
+one_bit old word new place bit is h = subst (λ w. OneBit w new place bit) is h
+
 on_ok_map : {T E P Q : Type 0} (answer : Result T E) → (P → Q) → OnOk answer P → OnOk answer Q
 on_ok_map (Ok x) f h = f h
 on_ok_map (Err e) f h = h
@@ -111,7 +117,7 @@ caches_first : (shape : VolumeShape) (s t : Seen) (b : ℕ) → b < 32768 → Ca
 caches_first shape s t b first h = subst (λ n. Caches s t n None) (sym (first_bitmap shape b first)) h
 
 same_update_trans : (k j l : Kept) → SameUpdate k j → SameUpdate j l → SameUpdate k l
-same_update_trans k j l h i = record { updating = i.updating ∙ h.updating; begun = i.begun ∙ h.begun; touched = i.touched ∙ h.touched; touches = i.touches ∙ h.touches }
+same_update_trans k j l h i = record { updating = i.updating ∙ h.updating; touched = i.touched ∙ h.touched; touches = i.touches ∙ h.touches }
 
 on_err : {T E : Type 0} (answer : Result T E) (P : Type 0) → IsErr answer → OnOk answer P
 on_err (Ok x) P h = cc

@@ -1,5 +1,5 @@
 -- The bitmap by whole words of 64 blocks, and by runs of 64 words.
-use Rattle.std.specs.Prelude.{◌≡◌, ℕ, ◌+◌, ◌-◌, ◌*◌, ◌/◌, ◌%◌, ◌<◌, Bool, ◌&&◌, ◌==◌, nat_lt, if◌then◌else◌, List, slice_index}
+use Rattle.std.specs.Prelude.{◌≡◌, ◌≢◌, ℕ, ◌+◌, ◌-◌, ◌*◌, ◌/◌, ◌%◌, ◌<◌, Bool, ◌&&◌, ◌==◌, nat_lt, if◌then◌else◌, List, slice_index}
 use Rattle.std.specs.List.{filter, range_with_len}
 use Rattle.std.specs.Int.{bit_at}
 use Rattle.rio_base.specs.declared.places.VolumeShape.{VolumeShape}
@@ -21,3 +21,12 @@ pub record HoldsRun (shape : VolumeShape) (words : BlockWords) (w : ℕ) (run : 
 -- the places of the bits that are 1, counted from s on
 unfoldable pub set_bits : ℕ → ℕ → List ℕ
 set_bits x s = filter (λ b. bit_at x (b - s) == 1) (range_with_len s 64)
+
+-- a word that has one bit so, and the others as before
+pub record OneBit (old new place bit : ℕ) : Type 0 where
+  pub same : bit_at new place ≡ bit
+  pub others : (i : ℕ) → i < 64 → i ≢ place → bit_at new i ≡ bit_at old i
+
+-- the bit of a block that is used, or free
+abbrev pub bit_of : Bool → ℕ
+bit_of used = if used then 1 else 0

@@ -7,5 +7,6 @@ mod taking;
 mod words;
 
 pub use counting::free_count;
-pub use marking::{bitmap_block, mark, unmark};
+pub use marking::{bitmap_block, mark, set_used, unmark};
 pub use taking::{TakeFail, take};
+pub use words::BITMAP;

@@ -6,6 +6,7 @@ ghost use Rattle.rio_base.specs.Blocks.{Looks, Caches, Halts};
 ghost use Rattle.rio_base.specs.Volume.{Firm, Goes, SameUpdate};
 ghost use Rattle.rio_base.specs.Shapes.{IsShape, HasShape};
 ghost use Rattle.block_alloc.specs.Bitmap.{MarksBit};
+ghost use Rattle.block_alloc.specs.Words.{OneBit, bit_of};
 
 use crate::words::BITMAP;
 use rio_base::{Block, Stopped, VolFail, Volume, VolumeShape};
@@ -44,6 +45,38 @@ fn touched_word<V: Volume>(v: &mut V, shape: &VolumeShape, w: u16) -> Result<u64
     }
 }
 
+/// A word with bit `place` for a used block or for a free one, and its other bits as they were.
+fn with_bit(word: u64, place: u32, used: bool) -> u64
+    requires { place < 64 }
+    ensures { OneBit word result place (bit_of used) }
+{
+    let bit = 1 << place;
+    if used { word | bit } else { word & !bit }
+}
+
+/// Marks block `b` as used or as free, in the open update. The bitmap's block must be touched. `Stopped` comes only where
+/// the machine is stopped afterwards, and then the bit may be so or as it was.
+pub fn set_used<V: Volume>(
+    v: &mut V,
+    shape: &VolumeShape,
+    b: Block,
+    used: bool,
+) -> Result<(), Stopped>
+    requires sound { V.sound v.old }
+    requires shape { HasShape shape.now (V.seen v.old) }
+    requires block { b.0 < shape.now.blocks }
+    requires touched { (V.kept v.old).touched (bitmap_block shape.now b.0) ≡ true }
+    ensures marks { MarksBit shape.now b.0 (bit_of used) (V.seen v.old) (V.seen v.new) (V.kept v.old) (V.kept v.new) result }
+    ensures shape { HasShape shape.now (V.seen v.new) }
+    ensures goes { Goes (V.health v.old) (V.below v.old) (V.health v.new) (V.below v.new) }
+    ensures ends { Halts (V.health v.old) (V.health v.new) result }
+    ensures sound { V.sound v.new }
+{
+    let w = (b.0 / 64) as u16;
+    let word = touched_word(v, shape, w)?;
+    v.edit(BITMAP, w, with_bit(word, b.0 % 64, used))
+}
+
 /// Marks block `b` as used, in the open update. The bitmap's block must be touched. `Stopped` comes only where the
 /// machine is stopped afterwards, and then the bit may be marked or not.
 pub fn mark<V: Volume>(v: &mut V, shape: &VolumeShape, b: Block) -> Result<(), Stopped>
@@ -57,9 +90,7 @@ pub fn mark<V: Volume>(v: &mut V, shape: &VolumeShape, b: Block) -> Result<(), S
     ensures ends { Halts (V.health v.old) (V.health v.new) result }
     ensures sound { V.sound v.new }
 {
-    let w = (b.0 / 64) as u16;
-    let word = touched_word(v, shape, w)?;
-    v.edit(BITMAP, w, word | (1 << (b.0 % 64)))
+    set_used(v, shape, b, true)
 }
 
 /// Marks block `b` as free, in the open update. The bitmap's block must be touched. `Stopped` comes only where the
@@ -75,7 +106,5 @@ pub fn unmark<V: Volume>(v: &mut V, shape: &VolumeShape, b: Block) -> Result<(),
     ensures ends { Halts (V.health v.old) (V.health v.new) result }
     ensures sound { V.sound v.new }
 {
-    let w = (b.0 / 64) as u16;
-    let word = touched_word(v, shape, w)?;
-    v.edit(BITMAP, w, word & !(1 << (b.0 % 64)))
+    set_used(v, shape, b, false)
 }

@@ -1,5 +1,5 @@
 -- A volume in order stays so while a plan is made: its blocks are touched, and the directory is then the planned one.
-use Rattle.directories.proofs.Common.{◌≡◌, ◌≢◌, ℕ, zero, suc, ◌<◌, ◌≤◌, ◌⊎◌, true, false, List, [], ◌∷◌, map, sym, ap, subst, ◌∙◌, arith, inl, inr, Option, None, Contains, cases_eq, PageName, VolumeShape, CachesBy, BlockWords, Seen, IsIno, inode_block, HasShape, reserved, Firm, Kept, Held, mapped_replaced, Change, Slot, AtPage, AtTable, Placed, HasSlot, Layout, volume_layout, Owns, lays_self, AllNamed, Bears, Firmly, word_edit, firm_on, IsEdited, IsUpdated, Edit}
+use Rattle.directories.proofs.Common.{◌≡◌, ◌≢◌, ℕ, zero, suc, ◌<◌, ◌≤◌, ◌⊎◌, true, false, List, [], ◌∷◌, map, sym, ap, subst, ◌∙◌, arith, inl, inr, Option, None, Contains, cases_eq, PageName, VolumeShape, CachesBy, BlockWords, Seen, IsIno, inode_block, HasShape, reserved, Firm, Kept, Held, mapped_replaced, Change, Slot, AtPage, AtTable, Placed, HasSlot, Layout, volume_layout, Owns, lays_self, AllNamed, Bears, Firmly, numbers, word_edit, firm_on, IsEdited, IsUpdated, Edit}
 use Rattle.std.specs.List.{AllByRecursion}
 use Rattle.rio_model.proofs.NodeChangeRules.{laid_replaced, lays_replaced, node_here, node_there}
 use Rattle.rio_model.proofs.PlacedRules.{with_placed, inode_low, lays_same}
@@ -7,8 +7,9 @@ use Rattle.rio_model.specs.Updates.{EditsNode}
 use Rattle.rio_model.specs.VolumeRules.{IsLaid}
 use Rattle.file_pages.proofs.OrderRules.{firm_layout}
 use Rattle.rio_model.proofs.NamedRules.{named_layout}
-use Rattle.file_pages.specs.Orders.{InOrder}
-use Rattle.directories.specs.Plans.{CanApply, PlansDir}
+use Rattle.rio_model.specs.VolumeReady.{InOrder}
+use Rattle.file_pages.specs.Updating.{CanUpdate}
+use Rattle.directories.specs.Plans.{PlansDir}
 use Rattle.directories.specs.declared.changes.DirChange.{DirChange}
 
 -- a block without a name bears what a directory's may bear
@@ -92,11 +93,11 @@ pub plan_edits : (shape : VolumeShape) (f : BlockWords) (y : Seen) (j : Kept) (d
 plan_edits shape f y j d becomes c p b (e, on, at) = let node = edits_node p.node c.edits e p.turns.edits on in (node.0, node.1, node.2 ∙ at)
 
 -- so it can be made
-pub plan_applies : (shape : VolumeShape) (f : BlockWords) (y : Seen) (j : Kept) (d : ℕ) (becomes : Held → Held → Type 0) (c : DirChange) → PlansDir shape f y j d becomes c → CanApply shape c
+pub plan_applies : (shape : VolumeShape) (f : BlockWords) (y : Seen) (j : Kept) (d : ℕ) (becomes : Held → Held → Type 0) (c : DirChange) → PlansDir shape f y j d becomes c → CanUpdate shape c.edits (numbers c.taken) (numbers c.freed)
 plan_applies shape f y j d becomes c p = record {
   words = p.words;
-  edits_from = λ e on. (let at = edits_node p.node c.edits e p.turns.edits on in subst (λ b. reserved shape ≤ b) at.2 (p.turns.new_fits.from at.0 at.1));
-  edits_to = λ e on. (let at = edits_node p.node c.edits e p.turns.edits on in subst (λ b. b < shape.blocks) at.2 (p.turns.new_fits.to at.0 at.1));
+  from = λ e on. (let at = edits_node p.node c.edits e p.turns.edits on in subst (λ b. reserved shape ≤ b) at.2 (p.turns.new_fits.from at.0 at.1));
+  to = λ e on. (let at = edits_node p.node c.edits e p.turns.edits on in subst (λ b. b < shape.blocks) at.2 (p.turns.new_fits.to at.0 at.1));
   taken = λ b on. (let at = (p.turns.taken b on).0 in subst (λ x. x < shape.blocks) at.2 (p.turns.new_fits.to at.0 at.1));
   freed = λ b on. (let at = (p.turns.freed b on).0 in subst (λ x. x < shape.blocks) at.2 (p.turns.old_fits.to at.0 at.1));
   apart = λ b taken freed. (let at = (p.turns.taken b taken).0 in (p.turns.freed b freed).1 at.0 at.1 at.2);

@@ -145,7 +145,7 @@ may_begin shape x k y j d becomes c p ino ready leaves = record { lies = same.ea
     l = volume_layout shape x.words
 
     same : SameLayout l (volume_layout shape y.words)
-    same = lays_same l y.words (lays_agree l x.words y.words ready.mapped.laid.shape_fits (lays_self shape x.words) leaves.words)
+    same = lays_same l y.words (lays_agree l x.words y.words ready.order.mapped.laid.shape_fits (lays_self shape x.words) leaves.words)
 
     by : (b : ℕ) → Available l d b → Available (volume_layout shape y.words) d b
     by b (inl (t, has, e)) = inl (t, has_same _ _ t (same.each d ino) has, (same.each d ino).blocks t has ∙ e)

@@ -191,7 +191,7 @@ dir_planned shape x k y j dir len inode change slots entries becomes c can ready
     takes : TakesLowest shape x.words n.size m.size (numbers c.taken)
     takes = record {
       lowest = ap numbers adds.taken ∙ plans.lowest ∙ ap (take (wanted_blocks inode.size len)) (none_skipped (free_blocks shape x.words)) ∙ ap (λ s. take (wanted_blocks s len) (free_blocks shape x.words)) is.size;
-      free = λ t below. subst (λ bs. t < length (numbers bs) → IsFree (volume_layout shape x.words) (slice_index (numbers bs) t)) (sym adds.taken) (λ under. (left_are_free shape x.words [] (wanted_blocks inode.size len) (numbers change.taken) ready.mapped plans.lowest room t (omega (arith, under, plans.count))).0) below;
+      free = λ t below. subst (λ bs. t < length (numbers bs) → IsFree (volume_layout shape x.words) (slice_index (numbers bs) t)) (sym adds.taken) (λ under. (left_are_free shape x.words [] (wanted_blocks inode.size len) (numbers change.taken) ready.order.mapped plans.lowest room t (omega (arith, under, plans.count))).0) below;
       once = subst (λ bs. Apart (numbers bs)) (sym adds.taken) (left_apart shape x.words [] (wanted_blocks inode.size len) (numbers change.taken) plans.lowest room);
     }
 

@@ -1,16 +1,13 @@
 -- A change of a directory that is prepared, and what it makes of the directory.
-use Rattle.std.specs.Prelude.{◌≡◌, ℕ, ◌<◌, ◌≤◌, ◌⊎◌, true, false, None, List, length, map, slice_index, take}
+use Rattle.std.specs.Prelude.{◌≡◌, ℕ, ◌<◌, ◌⊎◌, true, false, None, List, length, map, slice_index, take}
 use Rattle.std.specs.List.{Contains}
 use Rattle.rio_base.specs.declared.places.VolumeShape.{VolumeShape}
 use Rattle.rio_base.specs.Bitmap.{free_blocks}
 use Rattle.rio_base.specs.Blocks.{BlockWords, Seen}
-use Rattle.rio_base.specs.Layout.{inode_block}
-use Rattle.rio_base.specs.Shapes.{reserved}
 use Rattle.rio_base.specs.Volume.{Kept}
 use Rattle.block_alloc.specs.Bitmap.{numbers}
 use Rattle.file_pages.specs.declared.changes.Edit.{Edit}
-use Rattle.file_pages.specs.Changes.{Apart, wanted_blocks, word_edit}
-use Rattle.inode_table.specs.Inodes.{inode_words}
+use Rattle.file_pages.specs.Changes.{Apart, node_update, wanted_blocks, word_edit}
 use Rattle.rio_model.specs.Held.{Held, held, held_of}
 use Rattle.rio_model.specs.NodeChanges.{Available}
 use Rattle.rio_model.specs.Placed.{Slot, Placed, HasSlot, placed_at, volume_layout, IsFree}
@@ -19,7 +16,7 @@ use Rattle.directories.specs.declared.changes.DirChange.{DirChange}
 
 -- the update that it is
 abbrev pub dir_update : DirChange → Update
-dir_update c = record { ino = c.dir.0; inode = inode_words c.inode; edits = map word_edit c.edits; taken = numbers c.taken; freed = numbers c.freed }
+dir_update c = node_update c.dir.0 c.inode c.edits c.taken c.freed
 
 -- the blocks of a node have the same words
 abbrev pub SameBlocks : Placed → BlockWords → BlockWords → Type 0
@@ -33,21 +30,6 @@ pub record InThreeBlocks (edits : List Edit) : Type 0 where
   pub first : ℕ
   pub second : ℕ
   pub each : (e : Edit) → Contains edits e → (e.block.0 ≡ table) ⊎ (e.block.0 ≡ first) ⊎ (e.block.0 ≡ second)
-
--- a change that can be made: its edits are of words of blocks past the reserved ones
-pub record CanApply (shape : VolumeShape) (c : DirChange) : Type 0 where
-  pub words : (e : Edit) → Contains c.edits e → e.word < 512
-  pub edits_from : (e : Edit) → Contains c.edits e → reserved shape ≤ e.block.0
-  pub edits_to : (e : Edit) → Contains c.edits e → e.block.0 < shape.blocks
-  pub taken : (b : ℕ) → Contains (numbers c.taken) b → b < shape.blocks
-  pub freed : (b : ℕ) → Contains (numbers c.freed) b → b < shape.blocks
-  pub apart : (b : ℕ) → Contains (numbers c.taken) b → Contains (numbers c.freed) b → ⊥
-
--- its blocks are touched: the bitmap's, the inode's, and those of its edits
-pub record IsTouched (k : Kept) (c : DirChange) : Type 0 where
-  pub bitmap : k.touched 1 ≡ true
-  pub inode : k.touched (inode_block c.dir.0) ≡ true
-  pub edited : (e : Edit) → Contains c.edits e → k.touched e.block.0 ≡ true
 
 -- ---- what is prepared
 

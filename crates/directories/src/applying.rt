@@ -6,7 +6,9 @@ ghost use Rattle.rio_base.specs.Layout.{IsIno};
 ghost use Rattle.rio_base.specs.Shapes.{HasShape};
 ghost use Rattle.rio_base.specs.Volume.{Firm, Goes, SameUpdate};
 ghost use Rattle.rio_model.specs.Updates.{Applied};
-ghost use Rattle.directories.specs.Plans.{CanApply, IsTouched, dir_update};
+ghost use Rattle.block_alloc.specs.Bitmap.{numbers};
+ghost use Rattle.file_pages.specs.Updating.{CanUpdate, IsTouched};
+ghost use Rattle.directories.specs.Plans.{dir_update};
 
 use crate::changes::DirChange;
 use file_pages::make_update;
@@ -20,8 +22,8 @@ pub fn apply<V: Volume>(v: &mut V, shape: &VolumeShape, change: &DirChange) -> R
     requires shape { HasShape shape.now (V.seen v.old) }
     requires in_update { (V.kept v.old).updating ≡ true }
     requires ino { IsIno shape.now change.now.dir.0 }
-    requires touched { IsTouched (V.kept v.old) change.now }
-    requires can { CanApply shape.now change.now }
+    requires touched { IsTouched (V.kept v.old) change.now.dir.0 change.now.edits }
+    requires can { CanUpdate shape.now change.now.edits (numbers change.now.taken) (numbers change.now.freed) }
     ensures ok { OnOk result (Applied shape.now (dir_update change.now) (V.seen v.old).words (V.seen v.new).words) }
     ensures update { OnOk result (SameUpdate (V.kept v.old) (V.kept v.new)) }
     ensures in_update { (V.kept v.new).updating ≡ true }

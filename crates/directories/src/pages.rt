@@ -10,11 +10,8 @@ ghost use Rattle.directories.specs.Reading.{CanReadDir};
 
 use crate::entries::{ENTRY_WORDS, PAGE_ENTRIES};
 use file_pages::block_of;
-use inode_table::{Inode, read_inode};
+use inode_table::{DIRECT_PAGES, Inode, read_inode};
 use rio_base::{Block, Blocks, Ino, VolFail, VolumeShape};
-
-/// So many pages of a node are numbered in its inode.
-const DIRECT_PAGES: u32 = 24;
 
 /// The inode of a directory.
 #[tactic(auto, using(crate::proofs::CanRead::can_look))]

@@ -29,11 +29,8 @@ use crate::pages::{dir_inode, first_word, page_block};
 use crate::storing::{EntryWords, SlotWords, with_entries, words_for_slot};
 use file_pages::{SizeChange, SizeFail, plan_size};
 use inode_table::Inode;
-use rio_base::{Block, BlockList, Blocks, Ino, ReadFail, VolFail, Volume, VolumeShape};
+use rio_base::{Block, BlockList, Blocks, Ino, PAGE_BYTES, ReadFail, VolFail, Volume, VolumeShape};
 use std::alloc::Global;
-
-/// Bytes of a page.
-const PAGE_BYTES: u64 = 4096;
 
 /// The block of the last page of a directory, where a further entry lies in it. Where all its pages are full it may be any.
 fn last_block<V: Blocks>(

@@ -57,7 +57,7 @@ still_can shape x k y j c h can none left = record {
   old = can.old;
   ino = can.ino;
   plan = record { dir = p.dir; node = p.node; holds = p.holds; turns = p.turns; from = p.from; takes = p.takes; made = λ g same. p.made g (λ s has w. same s has w ∙ after.same s has w); was_dir = p.was_dir; is_dir = p.is_dir; does = p.does; words = p.words; few = p.few; firm = firm; unnamed = unnamed };
-  still = ap (λ (all : ℕ → Held). all c.dir.0) (left_held shape x.words y.words h.ready.mapped left.words) ∙ can.still;
+  still = ap (λ (all : ℕ → Held). all c.dir.0) (left_held shape x.words y.words h.ready.order.mapped left.words) ∙ can.still;
   may = record { lies = after.lies; same = λ s has w. refl; from = after.from };
 }
   where
@@ -71,7 +71,7 @@ still_can shape x k y j c h can none left = record {
     own s has = own_block shape x k c can none s has
 
     after : MayBeMade shape (placed_at can.old d) p.node d x.words y.words
-    after = may_after shape (placed_at can.old d) p.node d x.words x k y j can.ino h.ready.mapped left (λ s has free w. absurd (free.free (record { node = d; slot = (own s has).0; owns = record { ino = can.ino; slot = (own s has).1 }; is = (own s has).2 }))) can.may
+    after = may_after shape (placed_at can.old d) p.node d x.words x k y j can.ino h.ready.order.mapped left (λ s has free w. absurd (free.free (record { node = d; slot = (own s has).0; owns = record { ino = can.ino; slot = (own s has).1 }; is = (own s has).2 }))) can.may
 
     kind : (placed_at x.words d).kind ≡ 1
     kind = can.may.lies.kind ∙ p.was_dir

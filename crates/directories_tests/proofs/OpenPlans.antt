@@ -109,8 +109,8 @@ pub can_touch : (shape : VolumeShape) (y : Seen) (j : Kept) (c : DirChange) → 
 can_touch shape y j c can =
     let applies = plan_applies shape can.old y j c.dir.0 KeepsRows c can.plan in
     record {
-      from = applies.edits_from;
-      to = applies.edits_to;
+      from = applies.from;
+      to = applies.to;
       unnamed = λ e on cached. (let at = plan_edits shape can.old y j c.dir.0 KeepsRows c can.plan e.block.0 (e, on, refl) in subst (λ b. y.names b ≡ None) at.2 (can.plan.unnamed at.0 at.1 (subst (λ b. y.cached b ≡ true) (sym at.2) cached)));
     }
 

@@ -3,7 +3,7 @@ use Rattle.directories.proofs.Common.{◌≡◌, ◌≢◌, ℕ, ◌*◌, ◌<�
 use Rattle.rio_model.proofs.HeldRules.{held_by, held_in_agree, same_all}
 use Rattle.rio_model.specs.Placed.{Agrees}
 use Rattle.rio_model.proofs.PlacedRules.{lays_agree}
-use Rattle.file_pages.proofs.OrderRules.{order_ready, ready_order}
+use Rattle.file_pages.proofs.OrderRules.{ready_order}
 use Rattle.directories.proofs.MakingRules.{SetsDir, may_begin, plan_change, plan_made}
 use Rattle.directories.proofs.MakingOrder.{order_made, plan_edits}
 use Rattle.directories.specs.Plans.{PlansDir, dir_update}
@@ -25,7 +25,7 @@ left_held shape f g mapped agrees = same_all (held_of shape g) (held_of shape f)
 
 pub dirs_left : (shape : VolumeShape) (x : Seen) (k : Kept) (y : Seen) (j : Kept) → DirsReady shape x k → LeavesInUse (volume_layout shape x.words) x k y j → DirsReady shape y j
 dirs_left shape x k y j h left =
-    let same = sym (left_held shape x.words y.words h.ready.mapped left.words) in
+    let same = sym (left_held shape x.words y.words h.ready.order.mapped left.words) in
     record {
       ready = ready_left shape x k y j h.ready left;
       entries = subst EntryRule same h.entries;
@@ -35,10 +35,12 @@ dirs_left shape x k y j h left =
 pub dirs_read : (shape : VolumeShape) (s : Health) (o : Below) (t : Health) (n : Below) (x : Seen) (k : Kept) (y : Seen) (j : Kept) → DirsReady shape x k → Looks x y → HasShape shape y → AllNamed (volume_layout shape x.words) y → Passes s o k t n j → DirsReady shape y j
 dirs_read shape s o t n x k y j h looks has_shape named passes = record {
   ready = record {
-    has_shape = has_shape;
-    mapped = subst (IsMapped shape) (sym looks.words) h.ready.mapped;
-    named = subst (λ (f : BlockWords). AllNamed (volume_layout shape f) y) (sym looks.words) named;
-    firm = subst (λ (f : BlockWords). Firmly (volume_layout shape f) j) (sym looks.words) (firm_on _ k j h.ready.firm passes.firm);
+    order = record {
+      has_shape = has_shape;
+      mapped = subst (IsMapped shape) (sym looks.words) h.ready.order.mapped;
+      named = subst (λ (f : BlockWords). AllNamed (volume_layout shape f) y) (sym looks.words) named;
+      firm = subst (λ (f : BlockWords). Firmly (volume_layout shape f) j) (sym looks.words) (firm_on _ k j h.ready.order.firm passes.firm);
+    };
     idle = passes.updating ∙ h.ready.idle;
   };
   entries = subst (λ (f : BlockWords). EntryRule (held_of shape f)) (sym looks.words) h.entries;
@@ -46,7 +48,7 @@ dirs_read shape s o t n x k y j h looks has_shape named passes = record {
 }
 
 pub dirs_looked : (shape : VolumeShape) (s : Health) (o : Below) (t : Health) (n : Below) (x : Seen) (k : Kept) (y : Seen) (j : Kept) → DirsReady shape x k → LooksUp shape x y → Passes s o k t n j → DirsReady shape y j
-dirs_looked shape s o t n x k y j h l passes = dirs_read shape s o t n x k y j h l.looks l.still.has_shape (named_on shape x y h.ready.mapped h.ready.named l) passes
+dirs_looked shape s o t n x k y j h l passes = dirs_read shape s o t n x k y j h l.looks l.still.has_shape (named_on shape x y h.ready.order.mapped h.ready.order.named l) passes
 
 -- ---- a plan that is made
 
@@ -90,7 +92,7 @@ entries_set shape g k d was dir dirs set = record {
         subst (λ (h : Held). 0 < (held_of shape k (entry_ino h j)).kind) (sym same) (still_used _ (was.used e j (record { dir = subst (λ (h : Held). h.kind ≡ 1) same has.dir; within = subst (λ (h : Held). 64 * j < h.size) same has.within })))
 
 pub ready_dirs : (shape : VolumeShape) (x : Seen) (k : Kept) → DirsReady shape x k → DirsOrder shape x k
-ready_dirs shape x k h = record { order = order_ready shape x k h.ready; entries = h.entries; dirs = h.dirs }
+ready_dirs shape x k h = record { order = h.ready.order; entries = h.entries; dirs = h.dirs }
 
 pub dirs_idle : (shape : VolumeShape) (x : Seen) (k : Kept) → DirsOrder shape x k → k.updating ≡ false → DirsReady shape x k
 dirs_idle shape x k h idle = record { ready = ready_order shape x k h.order idle; entries = h.entries; dirs = h.dirs }
@@ -124,7 +126,7 @@ can_make shape x k y j d becomes c h at ino left keeps p = record {
   old = x.words;
   ino = here;
   plan = q;
-  still = ap (λ (held : ℕ → Held). held c.dir.0) (left_held shape x.words y.words h.ready.mapped left.words);
+  still = ap (λ (held : ℕ → Held). held c.dir.0) (left_held shape x.words y.words h.ready.order.mapped left.words);
   may = may_begin shape x k y j c.dir.0 KeepsRows c q here h.ready left;
 }
   where
@@ -170,7 +172,7 @@ replace_keeps h k slot i gone is at c = record {
 -- ---- a directory that is read
 
 pub dirs_can : (shape : VolumeShape) (x : Seen) (k : Kept) (d : ℕ) → DirsReady shape x k → IsTestDir d → CanReadDir shape x d
-dirs_can shape x k d h at = can_read shape x d h.ready.has_shape h.ready.mapped h.ready.named h.entries (h.dirs d at)
+dirs_can shape x k d h at = can_read shape x d h.ready.order.has_shape h.ready.order.mapped h.ready.order.named h.entries (h.dirs d at)
 
 pub size_said : (shape : VolumeShape) (x : Seen) (k : Kept) (y : Seen) (d : ℕ) (inode : Inode) → DirsReady shape x k → IsTestDir d → y.words ≡ x.words → IsInode x.words d inode → inode.size ≡ (held_of shape y.words d).size
 size_said shape x k y d inode h at same is = sym (held_size shape x d inode (dirs_can shape x k d h at) is) ∙ ap (λ (f : BlockWords). (held_of shape f d).size) (sym same)

@@ -9,9 +9,8 @@ use Rattle.rio_base.specs.Volume.{Kept}
 use Rattle.rio_model.specs.Held.{Held, held_of}
 use Rattle.rio_model.specs.Paths.{IsName}
 use Rattle.rio_model.specs.Placed.{placed_at}
-use Rattle.rio_model.specs.VolumeReady.{Ready}
+use Rattle.rio_model.specs.VolumeReady.{InOrder, Ready}
 use Rattle.rio_model.specs.VolumeRules.{EntryRule}
-use Rattle.file_pages.specs.Orders.{InOrder}
 use Rattle.file_pages.specs.declared.changes.Edit.{Edit}
 use Rattle.directories.specs.Making.{MayBeMade}
 use Rattle.directories.specs.Plans.{PlansDir}

@@ -12,9 +12,9 @@ ghost use Rattle.rio_model.specs.Held.{held_of};
 ghost use Rattle.rio_model.specs.Paths.{IsName};
 ghost use Rattle.block_alloc.specs.Bitmap.{numbers};
 ghost use Rattle.test_volumes.specs.TestVolumes.{IsTestShape};
-ghost use Rattle.file_pages.specs.Updating.{IsEdited, IsUpdated};
+ghost use Rattle.file_pages.specs.Updating.{IsEdited, IsTouched, IsUpdated};
 ghost use Rattle.file_pages.specs.declared.changes.Edit.{Edit as EditOf};
-ghost use Rattle.directories.specs.Plans.{InThreeBlocks, IsTouched};
+ghost use Rattle.directories.specs.Plans.{InThreeBlocks};
 ghost use Rattle.directories.specs.Rows.{Finds, HasRow};
 ghost use Rattle.directories_tests.specs.TestDirs.{CanMake, CanTouch, DirsOrder, DirsReady, IsPlainByte, IsTestDir};
 ghost use Rattle.directories.specs.declared.changes.DirChange.{DirChange as DirChangeOf};
@@ -116,7 +116,7 @@ fn touch_plan<V: Volume>(v: &mut V, shape: &VolumeShape, change: &DirChange) -> 
     requires ino { IsIno shape.now change.now.dir.0 }
     requires few { InThreeBlocks change.now.edits }
     requires can { CanTouch shape.now (V.seen v.old) change.now.edits }
-    ensures touched { OnOk result (IsTouched (V.kept v.new) change.now) }
+    ensures touched { OnOk result (IsTouched (V.kept v.new) change.now.dir.0 change.now.edits) }
     ensures in_update { (V.kept v.new).updating ≡ true }
     ensures count { OnOk result ((V.kept v.new).touches ≤ (V.kept v.old).touches + 5) }
     ensures looks { Looks (V.seen v.old) (V.seen v.new) }

@@ -1,9 +1,10 @@
 -- A change of size that was made: what file i holds then, and that every other node holds what it held. Before it pages of
 -- node i, and free blocks, may have been stored to.
-use Rattle.file_pages.proofs.Common.{◌≡◌, ◌≢◌, ℕ, List, [], ◌∷◌, map, sym, ap, subst, ◌∙◌, inl, inr, AllByRecursion, VolumeShape, used_bit, BlockWords, IsIno, held, held_bytes, Change, SetsFile, Slot, AtPage, AtTable, Placed, HasSlot, placed_at, Layout, volume_layout, AgreesBeside, has_same, lays_same, lays_self, owned_back, table_page, Applied, Turns, WordEdit, edited, IsMapped, lays_beside, mapped_beside}
+use Rattle.file_pages.proofs.Common.{◌≡◌, ◌≢◌, ℕ, List, [], ◌∷◌, map, sym, ap, subst, ◌∙◌, inl, inr, AllByRecursion, VolumeShape, used_bit, BlockWords, IsIno, numbers, Held, held, held_bytes, Change, SetsFile, Slot, AtPage, AtTable, Placed, HasSlot, placed_at, Layout, volume_layout, AgreesBeside, has_same, lays_same, lays_self, owned_back, table_page, Applied, Turns, WordEdit, edited, IsMapped, lays_beside, mapped_beside}
 use Rattle.rio_model.proofs.HeldRules.{held_agree}
-use Rattle.rio_model.proofs.NodeChangeRules.{file_replaced}
-use Rattle.rio_model.specs.NodeChanges.{Available, BitsFollow, Without}
+use Rattle.rio_model.proofs.LowestBlocks.{bits_agree, lowest_applied}
+use Rattle.rio_model.proofs.NodeChangeRules.{held_here, held_there, mapped_replaced}
+use Rattle.rio_model.specs.NodeChanges.{AreLowest, Available, BitsFollow, Without}
 use Rattle.rio_model.specs.Placed.{Lies}
 use Rattle.rio_model.proofs.PlacedRules.{Lays, has_back, lies_same}
 use Rattle.rio_model.specs.PlacedRules.{SamePlaced}
@@ -65,12 +66,14 @@ no_page shape m p (e ∷ es) apart has each = ((λ same. table_page each.0.0.0 p
 pub tables_held : (shape : VolumeShape) (n m : Placed) (i : ℕ) (c : SizeChange) (g k : BlockWords) → Turns shape n m (size_update i c) → AllByRecursion (EditsTable m) c.edits → Applied shape (size_update i c) g k → held k m ≡ held g m
 tables_held shape n m i c g k turns tables a = turned_held shape n m (size_update i c) g k turns a ∙ held_agree g (edited g (map word_edit c.edits)) m (λ p has w. edited_out (map word_edit c.edits) g _ w (no_page shape m p c.edits turns.new_fits.apart has tables))
 
-pub file_changed : (shape : VolumeShape) (f g k : BlockWords) (i : ℕ) (m : Placed) (c : SizeChange) → IsMapped shape f → AgreesBeside (volume_layout shape f) i f g → Change (volume_layout shape g) g k i m → Turns shape (placed_at f i) m (size_update i c) → AllByRecursion (EditsTable m) c.edits → Applied shape (size_update i c) g k → m.kind ≡ 2 → SetsFile shape f k i (held_bytes (held g m))
-file_changed shape f g k i m c h beside change turns tables a kind =
-    let set = file_replaced shape g k i m (mapped_beside shape i f g h beside) change kind in
+pub file_changed : (shape : VolumeShape) (f g k : BlockWords) (i : ℕ) (m : Placed) (c : SizeChange) → IsMapped shape f → AgreesBeside (volume_layout shape f) i f g → Change (volume_layout shape g) g k i m → Turns shape (placed_at f i) m (size_update i c) → AllByRecursion (EditsTable m) c.edits → AreLowest shape f (numbers c.taken) → Applied shape (size_update i c) g k → m.kind ≡ 2 → SetsFile shape f k i (held_bytes (held g m))
+file_changed shape f g k i m c h beside change turns tables lowest a kind =
+    let mapped = mapped_beside shape i f g h beside in
+    let own = held_here shape g k i m mapped change in
     record {
-      mapped = set.mapped;
-      kind = set.kind;
-      own = set.own ∙ ap held_bytes (tables_held shape (placed_at f i) m i c g k turns tables a);
-      others = λ j away. set.others j away ∙ held_beside shape i f g h beside j away;
+      mapped = mapped_replaced shape g k i m mapped change;
+      kind = ap (λ (d : Held). d.kind) own ∙ kind;
+      own = ap held_bytes (own ∙ tables_held shape (placed_at f i) m i c g k turns tables a);
+      others = λ j away. held_there shape g k i m mapped change j away ∙ held_beside shape i f g h beside j away;
+      lowest = lowest_applied shape f g k (size_update i c) h.laid.shape_fits (bits_agree shape f g h.laid.shape_fits beside.low) lowest a;
     }

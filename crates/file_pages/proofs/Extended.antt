@@ -2,6 +2,7 @@
 use Rattle.file_pages.proofs.Common.{◌≡◌, ℕ, zero, suc, ◌+◌, ◌-◌, ◌/◌, ◌%◌, ◌<◌, ◌≤◌, ◌⊎◌, ◌++◌, true, List, ◌∷◌, length, map, replicate, take, refl, sym, ap, subst, ◌∙◌, arith, inl, inr, slice_index, None, Contains, range_with_len, cases_lt, take_all, length-map-range_with_len, VolumeShape, BlockWords, Seen, IsIno, reserved, Kept, Settled, numbers, Inode, IsInode, IsNew, page_new, page_old, same_old, sourced, resized, byte_in, held, held_bytes, word_in, Takes, Slot, AtPage, AtTable, Placed, HasSlot, placed_at, Layout, volume_layout, Owns, IsFree, AgreesBeside, SameLayout, has_same, lays_same, lays_self, owned_back, pages, Bears, LeavesInUse, Ready, beside_agrees, beside_trans, lays_beside, same_map}
 use Rattle.rio_model.specs.Held.{byte_of}
 use Rattle.rio_model.proofs.HeldRules.{held_agree, held_same}
+use Rattle.rio_model.specs.NodeChanges.{AreLowest}
 use Rattle.rio_model.proofs.PlacedRules.{lays_agree}
 use Rattle.rio_model.proofs.WordRules.{held_word}
 use Rattle.file_pages.specs.Changes.{Grows, given_node, planned_node}
@@ -41,14 +42,14 @@ free_on l m b shape same h = record {
 }
 
 pub layout_left : (shape : VolumeShape) (x : Seen) (k : Kept) (y : Seen) (j : Kept) → Ready shape x k → LeavesInUse (volume_layout shape x.words) x k y j → SameLayout (volume_layout shape x.words) (volume_layout shape y.words)
-layout_left shape x k y j h a = lays_same (volume_layout shape x.words) y.words (lays_agree (volume_layout shape x.words) x.words y.words h.mapped.laid.shape_fits (lays_self shape x.words) a.words)
+layout_left shape x k y j h a = lays_same (volume_layout shape x.words) y.words (lays_agree (volume_layout shape x.words) x.words y.words h.order.mapped.laid.shape_fits (lays_self shape x.words) a.words)
 
 -- ---- the growth is prepared
 
-pub grow_prepared : (shape : VolumeShape) (x : Seen) (k : Kept) (y : Seen) (j : Kept) (z : Seen) (l : Kept) (i : ℕ) (given : Inode) (len : ℕ) (taken : List ℕ) (c : SizeChange) → IsIno shape i → Ready shape x k → Settled z l → IsInode x.words i given → given.kind ≡ 2 → given.size ≤ len → LeavesInUse (volume_layout shape x.words) x k y j → Grows shape x.words y j i given len taken c → TailCleared y.words z i given.size len → StoresPages shape y j z l i → Prepared shape x.words z l i (planned_node x.words i given len c) c
-grow_prepared shape x k y j z l i given len taken c ino h settled own kind grows leaves g cleared stores = record {
+pub grow_prepared : (shape : VolumeShape) (x : Seen) (k : Kept) (y : Seen) (j : Kept) (z : Seen) (l : Kept) (i : ℕ) (given : Inode) (len : ℕ) (taken : List ℕ) (c : SizeChange) → IsIno shape i → Ready shape x k → Settled z l → IsInode x.words i given → given.kind ≡ 2 → given.size ≤ len → LeavesInUse (volume_layout shape x.words) x k y j → Grows shape x.words y j i given len taken c → AreLowest shape x.words (numbers c.taken) → TailCleared y.words z i given.size len → StoresPages shape y j z l i → Prepared shape x.words z l i (planned_node x.words i given len c) c
+grow_prepared shape x k y j z l i given len taken c ino h settled own kind grows leaves g lowest cleared stores = record {
   ino = ino;
-  mapped = h.mapped;
+  mapped = h.order.mapped;
   was_file = was_file;
   ready = stores.ready;
   settled = settled;
@@ -63,6 +64,7 @@ grow_prepared shape x k y j z l i given len taken c ino h settled own kind grows
     | inr new ↦ not_true (l.loose (m.block s)) (j.loose (m.block s)) (stores.firm.loose (m.block s)) (g.staged.firm (m.block s) (new_in s new.0 new.1))
   ];
   old_tables = λ b on. edit_table b (edited_table m c.edits b g.tables on);
+  lowest = lowest;
 }
   where
     n : Placed
@@ -90,7 +92,7 @@ grow_prepared shape x k y j z l i given len taken c ino h settled own kind grows
     beside = beside_trans f i x.words y.words z.words (beside_agrees f i x.words y.words ino leaves.words) (beside_back shape x.words y.words y.words z.words i ino same stores.beside)
 
     last : SameLayout f (volume_layout shape z.words)
-    last = lays_same f z.words (lays_beside f i x.words z.words h.mapped.laid (lays_self shape x.words) beside)
+    last = lays_same f z.words (lays_beside f i x.words z.words h.order.mapped.laid (lays_self shape x.words) beside)
 
     source : (s : Slot) → HasSlot m s → HasSlot n s ⊎ ((q : ℕ) × IsNew n len (numbers c.taken) s q)
     source s has = sourced f n len (numbers c.taken) s takes has

@@ -1,6 +1,7 @@
 -- What is prepared for a write past a file's end, carried over the calls that prepare it.
 use Rattle.file_pages.proofs.Common.{◌≡◌, ℕ, ◌-◌, ◌<◌, ◌≤◌, ◌⊎◌, ◌++◌, List, sym, ap, subst, ◌∙◌, arith, inl, inr, max, Contains, cases_lt, VolumeShape, BlockWords, Health, Seen, IsIno, Below, Kept, Passes, numbers, Inode, IsInode, page_new, page_old, grown, AtPage, Placed, HasSlot, placed_at, volume_layout, IsFree, SameLayout, owned_back, pages, Bears, LeavesInUse, Ready, same_map}
 use Rattle.std.specs.Prelude.{min}
+use Rattle.rio_model.specs.NodeChanges.{AreLowest}
 use Rattle.file_pages.specs.Changes.{Grows, given_node, planned_node}
 use Rattle.file_pages.specs.Extending.{Extends}
 use Rattle.file_pages.specs.LookingUp.{LooksUp, page_blocks}
@@ -59,10 +60,11 @@ grows_looked shape s t o n x k y j z l i given len taken c ino h leaves looks pa
     free : (b : ℕ) → Contains taken b → IsFree (volume_layout shape y.words) b
     free b on = let at = place_of taken b on in free_left shape x.words y.words b (layout_left shape x k y j h leaves) (subst (IsFree (volume_layout shape x.words)) at.2 (g.takes.free at.0 at.1))
 
-pub extends_looked : (shape : VolumeShape) (s t : Health) (o n : Below) (x : Seen) (k : Kept) (y : Seen) (j : Kept) (z : Seen) (l : Kept) (i : ℕ) (given : Inode) (len first : ℕ) (taken : List ℕ) (c : SizeChange) (blocks : List ℕ) → IsIno shape i → Ready shape x k → IsInode x.words i given → given.kind ≡ 2 → LeavesInUse (volume_layout shape x.words) x k y j → LooksUp shape y z → Passes s o j t n l → Grows shape x.words y j i given len taken c → blocks ≡ page_blocks (grown (given_node y.words i given) len (numbers c.taken)) first (pages len - first) → Extends shape x.words z l i given len first c blocks
-extends_looked shape s t o n x k y j z l i given len first taken c blocks ino h own kind leaves looks passes g is = record {
+pub extends_looked : (shape : VolumeShape) (s t : Health) (o n : Below) (x : Seen) (k : Kept) (y : Seen) (j : Kept) (z : Seen) (l : Kept) (i : ℕ) (given : Inode) (len first : ℕ) (taken : List ℕ) (c : SizeChange) (blocks : List ℕ) → IsIno shape i → Ready shape x k → IsInode x.words i given → given.kind ≡ 2 → LeavesInUse (volume_layout shape x.words) x k y j → LooksUp shape y z → Passes s o j t n l → Grows shape x.words y j i given len taken c → AreLowest shape x.words taken → blocks ≡ page_blocks (grown (given_node y.words i given) len (numbers c.taken)) first (pages len - first) → Extends shape x.words z l i given len first c blocks
+extends_looked shape s t o n x k y j z l i given len first taken c blocks ino h own kind leaves looks passes g lowest is = record {
   grows = subst (λ bs. Grows shape x.words z l i given len bs c) (sym g.taken) (grows_looked shape s t o n x k y j z l i given len taken c ino h leaves looks passes g);
   span = is ∙ span_left shape x k y j i given len first (pages len - first) (numbers c.taken) ino h own kind leaves;
+  lowest = (lowest.0, g.taken ∙ lowest.1);
 }
 
 -- ---- the blocks of a run of pages: the ones that a node had, and behind them those that it takes

@@ -1,5 +1,5 @@
 -- The exits of a write past a file's end.
-use Rattle.file_pages.proofs.Common.{◌≡◌, ℕ, List, length, refl, sym, ap, subst, ◌∙◌, arith, inl, inr, Result, Err, IsErrOf, VolFail, VolumeShape, BlockWords, Seen, Kept, Settled, IsLead, held, held_bytes, held_of, Placed, placed_at, volume_layout, LeavesInUse, Ready}
+use Rattle.file_pages.proofs.Common.{◌≡◌, ℕ, List, length, refl, sym, ap, subst, ◌∙◌, arith, inl, inr, Result, Err, Ok, IsErrOf, VolFail, VolumeShape, BlockWords, Seen, Kept, Settled, IsLead, held, held_bytes, held_of, Placed, placed_at, volume_layout, LeavesInUse, Ready}
 use Rattle.rio_base.specs.declared.failures.VolFail.TheVariants.{Fault as VolFault, Stopped as VolStopped}
 use Rattle.file_pages.specs.Extending.{HoldsWritten, failed_after}
 use Rattle.file_pages.specs.Failures.{write_handed, write_of_bytes, write_of_size}
@@ -73,3 +73,9 @@ made_as T U shape x k y j z l i off bytes done m c Stopped h made = record {
 
 pub made_write : (T : Type 0) {U : Type 0} (shape : VolumeShape) (x : Seen) (k : Kept) (y : Seen) (j : Kept) (z : Seen) (l : Kept) (i off : ℕ) (bytes : List ℕ) (done : ℕ) (m : Placed) (c : SizeChange) (r : Result U SizeFail) (e : SizeFail) (d : WriteFail) → r ≡ Err e → d ≡ failed_after done e → HoldsWritten shape x.words y j i off bytes done m c → Committed shape x.words y m z l i r → WriteLeaves {T = T} shape x k z l i off bytes (Err d)
 made_write T {U = U} shape x k y j z l i off bytes done m c r e d re de h made = subst (λ p. WriteLeaves {T = T} shape x k z l i off bytes (Err p)) (sym de) (made_as T U shape x k y j z l i off bytes done m c e h (subst (λ p. Committed shape x.words y m z l i p) re made))
+
+-- the update was made
+pub made_whole : (T : Type 0) {U : Type 0} (shape : VolumeShape) (x : Seen) (k : Kept) (y : Seen) (j : Kept) (z : Seen) (l : Kept) (i off : ℕ) (bytes : List ℕ) (done : ℕ) (m : Placed) (c : SizeChange) (r : Result U SizeFail) (u : U) (t : T) → r ≡ Ok u → HoldsWritten shape x.words y j i off bytes done m c → Committed shape x.words y m z l i r → WriteLeaves {T = T} shape x k z l i off bytes (Ok t)
+made_whole T {U = U} shape x k y j z l i off bytes done m c r u t re h made =
+    let whole = subst (λ p. Committed {T = U} shape x.words y m z l i p) re made in
+    (subst (λ (b : List ℕ). SetsBoth shape x.words z l i b) h.all whole.0, whole.1)

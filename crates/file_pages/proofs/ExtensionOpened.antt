@@ -50,7 +50,7 @@ grown_from shape f y j i given len first c blocks own grows e = record {
 
 pub opened : (shape : VolumeShape) (x : Seen) (k : Kept) (y : Seen) (j : Kept) (z : Seen) (l : Kept) (i : ℕ) (given : Inode) (off : ℕ) (bytes : List ℕ) (first : ℕ) (c : SizeChange) (blocks : List ℕ) → IsIno shape i → Ready shape x k → Settled z l → IsInode x.words i given → given.kind ≡ 2 → 0 < length bytes → given.size < off + length bytes → 4096 * first ≤ off → LeavesInUse (volume_layout shape x.words) x k y j → Extends shape x.words y j i given (off + length bytes) first c blocks → HasSpace shape x.words given.size (off + length bytes) → TailCleared y.words z i given.size (off + length bytes) → StoresPages shape y j z l i → held_bytes (held z.words (placed_at y.words i)) ≡ held_bytes (held y.words (placed_at y.words i)) → Opened shape x.words z l i given.size off bytes first (planned_node x.words i given (off + length bytes) c) c blocks
 opened shape x k y j z l i given off bytes first c blocks ino h settled own kind some past start leaves e space cleared stores same = record {
-  prepared = grow_prepared shape x k y j z l i given (off + length bytes) (numbers c.taken) c ino h settled own kind grows leaves e.grows cleared stores;
+  prepared = grow_prepared shape x k y j z l i given (off + length bytes) (numbers c.taken) c ino h settled own kind grows leaves e.grows e.lowest cleared stores;
   from = grown_from shape x.words y j i given (off + length bytes) first c blocks own grows e;
   was = sym own.size;
   reaches = refl;

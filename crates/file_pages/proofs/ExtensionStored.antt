@@ -43,7 +43,7 @@ span_within shape f z l i m c first count h most t few =
     let less : t < count = (let long = span_long m first count in omega (arith, few, long)) in
     let to = h.turns.new_fits.to (AtPage (first + t)) (record { used = (let kind = h.file in omega (arith, kind)); within = omega (arith, less, most) }) in
     let is = span_at m first count t less in
-    let all = h.ready.has_shape.count in
+    let all = h.ready.order.has_shape.count in
     omega (arith, to, is, all)
 
 pub span_apart : (shape : VolumeShape) (f : BlockWords) (z : Seen) (l : Kept) (i : ℕ) (m : Placed) (c : SizeChange) (first count : ℕ) → Prepared shape f z l i m c → first + count ≤ pages m.size → Apart (page_blocks m first count)
@@ -77,13 +77,13 @@ prepared_stored shape f z l w k i m c first count h from most stored names firm 
   was_file = h.was_file;
   ready = ready_order shape w k (record {
     has_shape = record {
-      sizes = h.ready.has_shape.sizes;
-      count = stored.count ∙ h.ready.has_shape.count;
-      unnamed = λ b low on. let was = kept_outside inside z l w k b stored (low_out b low) on in was.1 ∙ h.ready.has_shape.unnamed b low was.0;
+      sizes = h.ready.order.has_shape.sizes;
+      count = stored.count ∙ h.ready.order.has_shape.count;
+      unnamed = λ b low on. let was = kept_outside inside z l w k b stored (low_out b low) on in was.1 ∙ h.ready.order.has_shape.unnamed b low was.0;
     };
-    mapped = mapped_beside shape i z.words w.words h.ready.mapped beside;
+    mapped = mapped_beside shape i z.words w.words h.ready.order.mapped beside;
     named = named_layout lz w.words w after (record { each = λ n ino s has on. by_name n ino s has on (stored.caches.each _ on) });
-    firm = firm_layout lz w.words k after (firm_on lz l k h.ready.firm firm);
+    firm = firm_layout lz w.words k after (firm_on lz l k h.ready.order.firm firm);
   }) idle;
   settled = settled;
   beside = beside_trans (volume_layout shape f) i f z.words w.words h.beside (beside_back shape f z.words z.words w.words i h.ino same beside);
@@ -97,6 +97,7 @@ prepared_stored shape f z l w k i m c first count h from most stored names firm 
     | inl free ↦ inl (free_left shape z.words w.words b after free)
     | inr (t, own, is) ↦ inr (t, record { ino = own.ino; slot = has_same (placed_at z.words i) (placed_at w.words i) (AtTable t) (after.each i own.ino) own.slot }, (after.each i own.ino).blocks (AtTable t) own.slot ∙ is)
   ];
+  lowest = h.lowest;
 }
   where
     inside : ℕ → Type 0
@@ -135,7 +136,7 @@ prepared_stored shape f z l w k i m c first count h from most stored names firm 
 
     own_out : (n : ℕ) (s : Slot) → Owns lz n s → ((p : ℕ) → n ≡ i → s ≡ AtPage p → ⊥) → inside ((lz.node n).block s) → ⊥
     own_out n s own away on = elim (source _ on) [
-      | inl (p, mine, is, named) ↦ (let one = h.ready.mapped.laid.once.each n i s (AtPage p) own mine (sym is) in away p one.0 one.1)
+      | inl (p, mine, is, named) ↦ (let one = h.ready.order.mapped.laid.once.each n i s (AtPage p) own mine (sym is) in away p one.0 one.1)
       | inr free ↦ free.free (record { node = n; slot = s; owns = own; is = refl })
     ]
 
@@ -147,16 +148,16 @@ prepared_stored shape f z l w k i m c first count h from most stored names firm 
     }
 
     after : SameLayout lz (volume_layout shape w.words)
-    after = lays_same lz w.words (lays_beside lz i z.words w.words h.ready.mapped.laid (lays_self shape z.words) beside)
+    after = lays_same lz w.words (lays_beside lz i z.words w.words h.ready.order.mapped.laid (lays_self shape z.words) beside)
 
     kind_z : (lz.node i).kind ≡ 2
     kind_z = (same.each i h.ino).kind ∙ h.was_file
 
     by_name : (n : ℕ) (ino : IsIno shape n) (s : Slot) (has : HasSlot (lz.node n) s) → w.cached ((lz.node n).block s) ≡ true → ((z.cached ((lz.node n).block s) ≡ true) × (w.names ((lz.node n).block s) ≡ z.names ((lz.node n).block s))) ⊎ inside ((lz.node n).block s) → Bears n (lz.node n) s (w.names ((lz.node n).block s))
-    by_name n ino s has on (inl was) = subst (Bears n (lz.node n) s) (sym was.1) (h.ready.named.each n ino s has was.0)
+    by_name n ino s has on (inl was) = subst (Bears n (lz.node n) s) (sym was.1) (h.ready.order.named.each n ino s has was.0)
     by_name n ino s has on (inr in_run) = elim (source _ in_run) [
       | inl (p, mine, is, named) ↦ (
-          let one = h.ready.mapped.laid.once.each i n (AtPage p) s mine (record { ino = ino; slot = has }) is in
+          let one = h.ready.order.mapped.laid.once.each i n (AtPage p) s mine (record { ino = ino; slot = has }) is in
           let bears : Bears i (lz.node i) (AtPage p) (w.names ((lz.node n).block s)) = bears_as i (lz.node i) p _ kind_z (named on) in
           subst (λ t. Bears n (lz.node n) t (w.names ((lz.node n).block s))) one.1 (subst (λ q. Bears q (lz.node q) (AtPage p) (w.names ((lz.node n).block s))) one.0 bears)
           )

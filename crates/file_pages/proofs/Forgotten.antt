@@ -71,7 +71,7 @@ prepared_forgets shape f y j i m c g w h change last gone = λ b lost. gone b (l
     stored = lays_same before y.words (lays_beside before i f y.words h.mapped.laid (lays_self shape f) h.beside)
 
     made : SameLayout (with_placed p i m) (volume_layout shape g)
-    made = lays_same (with_placed p i m) g (lays_replaced p y.words g i m h.ready.mapped.laid (lays_self shape y.words) change)
+    made = lays_same (with_placed p i m) g (lays_replaced p y.words g i m h.ready.order.mapped.laid (lays_self shape y.words) change)
 
 -- a node that grows loses no block
 pub grown_frees : (shape : VolumeShape) (f : BlockWords) (i : ℕ) (given : Inode) (len : ℕ) (c : SizeChange) → PlansFor f i given → given.size ≤ len → Turns shape (placed_at f i) (planned_node f i given len c) (size_update i c) → (b : ℕ) → Contains (numbers c.freed) b → ⊥

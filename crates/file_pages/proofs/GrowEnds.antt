@@ -6,7 +6,7 @@ use Rattle.rio_model.proofs.WordRules.{file_beside}
 use Rattle.file_pages.specs.Changes.{wanted_blocks}
 use Rattle.file_pages.specs.Failures.{size_handed}
 use Rattle.file_pages.specs.Files.{HasSpace, SetsBoth, StopsAs, file_bytes}
-use Rattle.file_pages.proofs.OrderRules.{order_agree, order_ready, stands_order}
+use Rattle.file_pages.proofs.OrderRules.{order_agree}
 use Rattle.file_pages.specs.Preparing.{SizeLeaves}
 use Rattle.file_pages.specs.Storing.{StoresPages}
 use Rattle.file_pages.specs.declared.failures.SizeFail.{SizeFail}
@@ -16,7 +16,7 @@ use Rattle.file_pages.proofs.Left.{sets_on}
 -- ---- pages of a file were stored to, and no update was made
 
 stored_agree : (shape : VolumeShape) (z : Seen) (l : Kept) → Ready shape z l → Settled z l → Agrees (volume_layout shape z.words) z.words l.standing
-stored_agree shape z l ready settled = stands_agree (volume_layout shape z.words) z l settled ready.idle ready.firm
+stored_agree shape z l ready settled = stands_agree (volume_layout shape z.words) z l settled ready.idle ready.order.firm
 
 pub stored_both : (shape : VolumeShape) (f : BlockWords) (z : Seen) (l : Kept) (i : ℕ) (bytes : List ℕ) → IsMapped shape f → IsIno shape i → (placed_at f i).kind ≡ 2 → AgreesBeside (volume_layout shape f) i f z.words → Ready shape z l → Settled z l → held_bytes (held z.words (placed_at f i)) ≡ bytes → SetsBoth shape f z l i bytes
 stored_both shape f z l i bytes mapped ino kind beside ready settled is = record { reads = reads; stands = sets_on shape f z.words l.standing i bytes reads (stored_agree shape z l ready settled) }
@@ -25,7 +25,7 @@ stored_both shape f z l i bytes mapped ino kind beside ready settled is = record
     reads = subst (SetsFile shape f z.words i) is (file_beside shape f z.words i mapped ino kind beside)
 
 pub stored_stops : (shape : VolumeShape) (f : BlockWords) (z : Seen) (l : Kept) (i : ℕ) (bytes : List ℕ) (part : List ℕ → Type 0) → Ready shape z l → Settled z l → SetsBoth shape f z l i bytes → part bytes → StopsAs shape f z l i part
-stored_stops shape f z l i bytes part ready settled both is = record { bytes = bytes; is = is; stands = both.stands; ready = stands_order shape z l (order_agree shape z.words l.standing z l (order_ready shape z l ready) (stored_agree shape z l ready settled)) }
+stored_stops shape f z l i bytes part ready settled both is = record { bytes = bytes; is = is; stands = both.stands; ready = order_agree shape z.words l.standing z l ready.order (stored_agree shape z l ready settled) }
 
 cleared_as : (T : Type 0) (shape : VolumeShape) (x : Seen) (k : Kept) (z : Seen) (l : Kept) (i len : ℕ) (e : VolFail) → Ready shape z l → Settled z l → SetsBoth shape x.words z l i (file_bytes shape x.words i) → SizeLeaves {T = T} shape x k z l i len (Err (size_handed e))
 cleared_as T shape x k z l i len VolFault ready settled both = (both, ready)
@@ -34,7 +34,7 @@ cleared_as T shape x k z l i len VolStopped ready settled both = stored_stops sh
 -- the tail was cleared, or a part of it
 pub cleared_both : (shape : VolumeShape) (x : Seen) (k : Kept) (y : Seen) (j : Kept) (z : Seen) (l : Kept) (i : ℕ) (given : Inode) → IsIno shape i → Ready shape x k → Settled z l → IsInode x.words i given → given.kind ≡ 2 → LeavesInUse (volume_layout shape x.words) x k y j → StoresPages shape y j z l i → held_bytes (held z.words (placed_at y.words i)) ≡ held_bytes (held y.words (placed_at y.words i)) → SetsBoth shape x.words z l i (file_bytes shape x.words i)
 cleared_both shape x k y j z l i given ino h settled own kind leaves stores bytes =
-    stored_both shape x.words z l i (file_bytes shape x.words i) h.mapped ino (sym own.kind ∙ kind)
+    stored_both shape x.words z l i (file_bytes shape x.words i) h.order.mapped ino (sym own.kind ∙ kind)
     (beside_trans (volume_layout shape x.words) i x.words y.words z.words (beside_agrees (volume_layout shape x.words) i x.words y.words ino leaves.words) (beside_back shape x.words y.words y.words z.words i ino (layout_left shape x k y j h leaves) stores.beside))
     stores.ready settled (grow_old shape x k y j z.words i ino h leaves bytes)
 

@@ -2,6 +2,7 @@
 use Rattle.file_pages.proofs.Common.{◌≡◌, ℕ, ◌-◌, ◌/◌, ◌%◌, ◌<◌, ◌≤◌, ◌++◌, true, cond, List, length, map, replicate, take, sym, ap, subst, ◌∙◌, arith, inl, inr, nat_lt, range_with_len, cases_eq, nat_tests, append-nil, length-map-range_with_len, take-map-range_with_len, VolumeShape, BlockWords, Seen, IsIno, reserved, Kept, Settled, resized, Held, byte_in, held, held_bytes, held_of, word_in, held_ino, lays_replaced, node_here, node_there, Change, SetsFile, Slot, AtPage, Placed, HasSlot, placed_at, Layout, volume_layout, Owned, Owns, IsFree, Agrees, with_placed, lays_same, lays_self, owned_back, pages, LeavesInUse, Ready, IsMapped, same_map}
 use Rattle.rio_model.specs.Held.{byte_of}
 use Rattle.rio_model.proofs.HeldRules.{counts_of}
+use Rattle.rio_model.proofs.LowestBlocks.{bits_agree, lowest_on, lowest_same}
 use Rattle.rio_model.specs.NodeChanges.{Without}
 use Rattle.rio_model.proofs.PlacedRules.{mapped_agree}
 use Rattle.rio_model.proofs.VolumeReadRules.{held_of_agree}
@@ -18,6 +19,7 @@ sets_same shape f g i h kind a =
       kind = ap (λ (k : ℕ → Held). (k i).kind) same ∙ kind;
       own = ap (λ (k : ℕ → Held). held_bytes (k i)) same;
       others = λ j away. ap (λ (k : ℕ → Held). k j) same;
+      lowest = lowest_same shape f g (bits_agree shape f g h.laid.shape_fits a.low);
     }
 
 -- and with those of a file that is set already
@@ -29,21 +31,22 @@ sets_on shape f g k i bytes h a =
       kind = ap (λ (d : ℕ → Held). (d i).kind) same ∙ h.kind;
       own = ap (λ (d : ℕ → Held). held_bytes (d i)) same ∙ h.own;
       others = λ j away. ap (λ (d : ℕ → Held). d j) same ∙ h.others j away;
+      lowest = lowest_on shape f g k h.lowest (bits_agree shape g k h.mapped.laid.shape_fits a.low);
     }
 
 -- ---- a call that only prepared
 
 pub both_left : (shape : VolumeShape) (x : Seen) (k : Kept) (y : Seen) (j : Kept) (i : ℕ) → Ready shape x k → Settled x k → (held_of shape x.words i).kind ≡ 2 → LeavesInUse (volume_layout shape x.words) x k y j → SetsBoth shape x.words y j i (file_bytes shape x.words i)
 both_left shape x k y j i h settled kind m = record {
-  reads = sets_same shape x.words y.words i h.mapped kind m.words;
-  stands = sets_same shape x.words j.standing i h.mapped kind (stands_left shape x k y j h settled m);
+  reads = sets_same shape x.words y.words i h.order.mapped kind m.words;
+  stands = sets_same shape x.words j.standing i h.order.mapped kind (stands_left shape x k y j h settled m);
 }
 
 pub stops_left : (shape : VolumeShape) (x : Seen) (k : Kept) (y : Seen) (j : Kept) (i : ℕ) (part : List ℕ → Type 0) → Ready shape x k → Settled x k → (held_of shape x.words i).kind ≡ 2 → LeavesInUse (volume_layout shape x.words) x k y j → part (file_bytes shape x.words i) → StopsAs shape x.words y j i part
 stops_left shape x k y j i part h settled kind m is = record {
   bytes = file_bytes shape x.words i;
   is = is;
-  stands = sets_same shape x.words j.standing i h.mapped kind (stands_left shape x k y j h settled m);
+  stands = sets_same shape x.words j.standing i h.order.mapped kind (stands_left shape x k y j h settled m);
   ready = stands_ready_left shape x k y j h settled m;
 }
 

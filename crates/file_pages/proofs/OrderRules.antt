@@ -4,10 +4,9 @@ use Rattle.rio_model.proofs.NodeChangeRules.{laid_replaced, mapped_replaced}
 use Rattle.rio_model.proofs.NamedRules.{bears_same, named_layout}
 use Rattle.rio_model.proofs.PlacedRules.{has_back, lays_agree, mapped_agree}
 use Rattle.rio_model.specs.PlacedRules.{SamePlaced}
-use Rattle.rio_model.specs.VolumeReady.{Firmly, StandsReady}
+use Rattle.rio_model.specs.VolumeReady.{Firmly, InOrder, StandsReady}
 use Rattle.file_pages.specs.LookingUp.{LooksUp}
 use Rattle.file_pages.proofs.LookingUpRules.{named_on}
-use Rattle.file_pages.specs.Orders.{InOrder}
 use Rattle.file_pages.specs.Staging.{Beside}
 use Rattle.file_pages.specs.Updating.{IsEdited, IsUpdated}
 use Rattle.file_pages.specs.declared.changes.Edit.{Edit}
@@ -15,14 +14,8 @@ use Rattle.file_pages.specs.OrderRules.{TableOrFree}
 
 -- ---- ready, and in order
 
-pub order_ready : (shape : VolumeShape) (x : Seen) (k : Kept) → Ready shape x k → InOrder shape x.words x k
-order_ready shape x k h = record { has_shape = h.has_shape; mapped = h.mapped; named = h.named; firm = h.firm }
-
 pub ready_order : (shape : VolumeShape) (x : Seen) (k : Kept) → InOrder shape x.words x k → k.updating ≡ false → Ready shape x k
-ready_order shape x k h idle = record { has_shape = h.has_shape; mapped = h.mapped; named = h.named; firm = h.firm; idle = idle }
-
-pub stands_order : (shape : VolumeShape) (x : Seen) (k : Kept) → InOrder shape k.standing x k → StandsReady shape x k
-stands_order shape x k h = record { has_shape = h.has_shape; mapped = h.mapped; named = h.named; firm = h.firm }
+ready_order shape x k h idle = record { order = h; idle = idle }
 
 -- ---- the same layout
 
@@ -59,7 +52,7 @@ agrees_trans l f g h a b = record {
 -- ---- a call that prepares a change
 
 pub order_left : (shape : VolumeShape) (x : Seen) (k : Kept) (y : Seen) (j : Kept) → Ready shape x k → LeavesInUse (volume_layout shape x.words) x k y j → InOrder shape x.words y j
-order_left shape x k y j h m = record { has_shape = m.has_shape; mapped = h.mapped; named = m.named; firm = m.firm }
+order_left shape x k y j h m = record { has_shape = m.has_shape; mapped = h.order.mapped; named = m.named; firm = m.firm }
 
 -- leaves the volume ready
 pub ready_left : (shape : VolumeShape) (x : Seen) (k : Kept) (y : Seen) (j : Kept) → Ready shape x k → LeavesInUse (volume_layout shape x.words) x k y j → Ready shape y j
@@ -67,14 +60,14 @@ ready_left shape x k y j h m = ready_order shape y j (order_agree shape x.words 
 
 -- what stands agrees with what read before
 pub stands_left : (shape : VolumeShape) (x : Seen) (k : Kept) (y : Seen) (j : Kept) → Ready shape x k → Settled x k → LeavesInUse (volume_layout shape x.words) x k y j → Agrees (volume_layout shape x.words) x.words j.standing
-stands_left shape x k y j h settled m = agrees_trans (volume_layout shape x.words) x.words k.standing j.standing (stands_agree (volume_layout shape x.words) x k settled h.idle h.firm) m.standing
+stands_left shape x k y j h settled m = agrees_trans (volume_layout shape x.words) x.words k.standing j.standing (stands_agree (volume_layout shape x.words) x k settled h.idle h.order.firm) m.standing
 
 -- and ready to be started again
 pub stands_ready_left : (shape : VolumeShape) (x : Seen) (k : Kept) (y : Seen) (j : Kept) → Ready shape x k → Settled x k → LeavesInUse (volume_layout shape x.words) x k y j → StandsReady shape y j
-stands_ready_left shape x k y j h settled m = stands_order shape y j (order_agree shape x.words j.standing y j (order_left shape x k y j h m) (stands_left shape x k y j h settled m))
+stands_ready_left shape x k y j h settled m = order_agree shape x.words j.standing y j (order_left shape x k y j h m) (stands_left shape x k y j h settled m)
 
 pub leaves_refl : (shape : VolumeShape) (x : Seen) (k : Kept) → Ready shape x k → LeavesInUse (volume_layout shape x.words) x k x k
-leaves_refl shape x k h = record { words = agrees_refl _ x.words; standing = agrees_refl _ k.standing; has_shape = h.has_shape; named = h.named; firm = h.firm; idle = h.idle }
+leaves_refl shape x k h = record { words = agrees_refl _ x.words; standing = agrees_refl _ k.standing; has_shape = h.order.has_shape; named = h.order.named; firm = h.order.firm; idle = h.idle }
 
 not_true : (a b : Bool) → (a ≡ true → b ≡ true) → b ≡ false → a ≡ false
 not_true true b f e = sym (f refl) ∙ e
@@ -92,8 +85,8 @@ leaves_looked shape s t o n x y k j h looks passes = record {
   words = record { low = λ b w low. ap (λ (f : BlockWords). f b w) looks.looks.words; owned = λ i t own w. ap (λ (f : BlockWords). f (((volume_layout shape x.words).node i).block t) w) looks.looks.words };
   standing = record { low = λ b w low. ap (λ (f : BlockWords). f b w) passes.standing; owned = λ i t own w. ap (λ (f : BlockWords). f (((volume_layout shape x.words).node i).block t) w) passes.standing };
   has_shape = looks.still.has_shape;
-  named = named_on shape x y h.mapped h.named looks;
-  firm = firm_on _ k j h.firm passes.firm;
+  named = named_on shape x y h.order.mapped h.order.named looks;
+  firm = firm_on _ k j h.order.firm passes.firm;
   idle = passes.updating ∙ h.idle;
 }
 
@@ -103,14 +96,14 @@ leaves_beside shape inside x k y j h free b idle = record {
   words = record { low = λ c w low. b.words.others c w (low_out c low); owned = λ i s own w. b.words.others _ w (own_out i s own) };
   standing = record { low = λ c w low. b.standing.others c w (low_out c low); owned = λ i s own w. b.standing.others _ w (own_out i s own) };
   has_shape = record {
-    sizes = h.has_shape.sizes;
-    count = b.count ∙ h.has_shape.count;
-    unnamed = λ c low on. let was = kept c (low_out c low) on in was.1 ∙ h.has_shape.unnamed c low was.0;
+    sizes = h.order.has_shape.sizes;
+    count = b.count ∙ h.order.has_shape.count;
+    unnamed = λ c low on. let was = kept c (low_out c low) on in was.1 ∙ h.order.has_shape.unnamed c low was.0;
   };
-  named = record { each = λ i ino s has on. let was = kept _ (own_out i s (record { ino = ino; slot = has })) on in subst (Bears i (l.node i) s) (sym was.1) (h.named.each i ino s has was.0) };
+  named = record { each = λ i ino s has on. let was = kept _ (own_out i s (record { ino = ino; slot = has })) on in subst (Bears i (l.node i) s) (sym was.1) (h.order.named.each i ino s has was.0) };
   firm = record {
-    low = λ c low. not_true (j.loose c) (k.loose c) (b.firm.loose c (low_out c low)) (h.firm.low c low);
-    owned = λ i s own. not_true (j.loose ((l.node i).block s)) (k.loose ((l.node i).block s)) (b.firm.loose _ (own_out i s own)) (h.firm.owned i s own);
+    low = λ c low. not_true (j.loose c) (k.loose c) (b.firm.loose c (low_out c low)) (h.order.firm.low c low);
+    owned = λ i s own. not_true (j.loose ((l.node i).block s)) (k.loose ((l.node i).block s)) (b.firm.loose _ (own_out i s own)) (h.order.firm.owned i s own);
   };
   idle = idle;
 }
@@ -149,7 +142,7 @@ leaves_trans shape x k y j z i h a b = record {
     m = volume_layout shape y.words
 
     same : SameLayout l m
-    same = lays_same l y.words (lays_agree l x.words y.words h.mapped.laid.shape_fits (lays_self shape x.words) a.words)
+    same = lays_same l y.words (lays_agree l x.words y.words h.order.mapped.laid.shape_fits (lays_self shape x.words) a.words)
 
     has_on : (p : ℕ) → IsIno shape p → (s : Slot) → HasSlot (l.node p) s → HasSlot (m.node p) s
     has_on p ino s has = has_same (l.node p) (m.node p) s (same.each p ino) has

@@ -5,8 +5,8 @@ use Rattle.rio_model.proofs.WordRules.{file_beside}
 use Rattle.file_pages.specs.Changes.{EditsTable, PlansFor, Shrinks, given_node, planned_node, size_update}
 use Rattle.file_pages.specs.Files.{SetsBoth, StopsAs, file_bytes}
 use Rattle.file_pages.specs.Preparing.{Committed, IsEither, Prepared, SizeLeaves}
-use Rattle.file_pages.proofs.OrderRules.{order_agree, order_changed, order_ready, order_touched, ready_left, ready_order, stands_order}
-use Rattle.file_pages.specs.Orders.{InOrder}
+use Rattle.file_pages.proofs.OrderRules.{order_agree, order_changed, order_touched, ready_left, ready_order}
+use Rattle.rio_model.specs.VolumeReady.{InOrder}
 use Rattle.file_pages.specs.Updating.{CanChange, IsEdited, IsUpdated}
 use Rattle.file_pages.specs.declared.changes.Edit.{Edit}
 use Rattle.file_pages.specs.declared.changes.SizeChange.{SizeChange}
@@ -28,16 +28,14 @@ not_root shape f i h kind root = let one = h.laid.kinds.root in let two = sym (a
 pub prepared_can : (shape : VolumeShape) (f : BlockWords) (y : Seen) (j : Kept) (i : ℕ) (m : Placed) (c : SizeChange) → Prepared shape f y j i m c → CanChange shape y c
 prepared_can shape f y j i m c h = record {
   makes = record {
-    edits = record {
-      words = λ e on. (edit e on).1;
-      from = λ e on. let at = (edit e on).0.2 in let low = h.turns.new_fits.from _ (edit e on).0.1 in omega (arith, at, low);
-      to = λ e on. let at = (edit e on).0.2 in let high = h.turns.new_fits.to _ (edit e on).0.1 in omega (arith, at, high);
-      one = λ d e ond one. sym (edit d ond).0.2 ∙ ap (λ k. m.block (AtTable k)) (zero_at d ond ∙ sym (zero_at e one)) ∙ (edit e one).0.2;
-    };
+    words = λ e on. (edit e on).1;
+    from = λ e on. let at = (edit e on).0.2 in let low = h.turns.new_fits.from _ (edit e on).0.1 in omega (arith, at, low);
+    to = λ e on. let at = (edit e on).0.2 in let high = h.turns.new_fits.to _ (edit e on).0.1 in omega (arith, at, high);
     taken = λ b on. let at = (h.turns.taken b on).0 in subst (λ (x : ℕ). x < shape.blocks) at.2 (h.turns.new_fits.to at.0 at.1);
     freed = λ b on. let at = (h.turns.freed b on).0 in subst (λ (x : ℕ). x < shape.blocks) at.2 (h.turns.old_fits.to at.0 at.1);
     apart = λ b on off. let at = (h.turns.freed b off).0 in (h.turns.taken b on).1 at.0 at.1 at.2;
   };
+  one = λ d e ond one. sym (edit d ond).0.2 ∙ ap (λ k. m.block (AtTable k)) (zero_at d ond ∙ sym (zero_at e one)) ∙ (edit e one).0.2;
   unnamed = λ e on cached. let at = (edit e on).0 in ap y.names (sym at.2) ∙ h.named (AtTable at.0) at.1 (ap y.cached at.2 ∙ cached);
 }
   where
@@ -55,20 +53,20 @@ pub change_of : (shape : VolumeShape) (f : BlockWords) (y : Seen) (j : Kept) (i 
 change_of shape f y j i m c k h a = changed shape f y.words k i m c h.mapped h.ino h.beside h.turns (λ root. absurd (not_root shape f i h.mapped h.was_file root)) h.from a
 
 pub made_file : (shape : VolumeShape) (f : BlockWords) (y : Seen) (j : Kept) (i : ℕ) (m : Placed) (c : SizeChange) (k : BlockWords) → Prepared shape f y j i m c → Applied shape (size_update i c) y.words k → SetsFile shape f k i (held_bytes (held y.words m))
-made_file shape f y j i m c k h a = file_changed shape f y.words k i m c h.mapped h.beside (change_of shape f y j i m c k h a) h.turns h.tables a h.file
+made_file shape f y j i m c k h a = file_changed shape f y.words k i m c h.mapped h.beside (change_of shape f y j i m c k h a) h.turns h.tables h.lowest a h.file
 
 pub made_order : (shape : VolumeShape) (f : BlockWords) (y : Seen) (j : Kept) (i : ℕ) (m : Placed) (c : SizeChange) (k : BlockWords) (z : Seen) (l : Kept) → Prepared shape f y j i m c → Applied shape (size_update i c) y.words k → HasShape shape z → CachesBy (IsUpdated i c.edits) y z → Firm j l → InOrder shape k z l
-made_order shape f y j i m c k z l h a has_shape caches firm = order_changed shape y.words k i m c.edits y j z l (order_ready shape y j h.ready) (change_of shape f y j i m c k h a) h.named h.firm (λ b on. edited_table m c.edits b h.tables on) has_shape caches firm
+made_order shape f y j i m c k z l h a has_shape caches firm = order_changed shape y.words k i m c.edits y j z l h.ready.order (change_of shape f y j i m c k h a) h.named h.firm (λ b on. edited_table m c.edits b h.tables on) has_shape caches firm
 
 -- words without it
 pub kept_order : (shape : VolumeShape) (f : BlockWords) (y : Seen) (j : Kept) (i : ℕ) (m : Placed) (c : SizeChange) (z : Seen) (l : Kept) → Prepared shape f y j i m c → HasShape shape z → CachesBy (IsUpdated i c.edits) y z → Firm j l → InOrder shape y.words z l
-kept_order shape f y j i m c z l h has_shape caches firm = order_touched shape y.words i c.edits y j z l h.ino (order_ready shape y j h.ready) h.old_tables has_shape caches firm
+kept_order shape f y j i m c z l h has_shape caches firm = order_touched shape y.words i c.edits y j z l h.ino h.ready.order h.old_tables has_shape caches firm
 
 pub kept_file : (shape : VolumeShape) (f : BlockWords) (y : Seen) (j : Kept) (i : ℕ) (m : Placed) (c : SizeChange) → Prepared shape f y j i m c → SetsFile shape f y.words i (held_bytes (held y.words (placed_at f i)))
 kept_file shape f y j i m c h = file_beside shape f y.words i h.mapped h.ino h.was_file h.beside
 
 stood : (shape : VolumeShape) (f : BlockWords) (y : Seen) (j : Kept) (i : ℕ) (m : Placed) (c : SizeChange) → Prepared shape f y j i m c → Agrees (volume_layout shape y.words) y.words j.standing
-stood shape f y j i m c h = stands_agree (volume_layout shape y.words) y j h.settled h.ready.idle h.ready.firm
+stood shape f y j i m c h = stands_agree (volume_layout shape y.words) y j h.settled h.ready.idle h.ready.order.firm
 
 -- ---- the exits
 
@@ -86,13 +84,13 @@ exit_stopped shape f y j i m c z l part h (inl same) old new has_shape caches fi
   bytes = held_bytes (held y.words (placed_at f i));
   is = old;
   stands = subst (λ k. SetsFile shape f k i (held_bytes (held y.words (placed_at f i)))) (sym same) (sets_on shape f y.words j.standing i (held_bytes (held y.words (placed_at f i))) (kept_file shape f y j i m c h) (stood shape f y j i m c h));
-  ready = stands_order shape z l (subst (λ k. InOrder shape k z l) (sym same) (order_agree shape y.words j.standing z l (kept_order shape f y j i m c z l h has_shape caches firm) (stood shape f y j i m c h)));
+  ready = subst (λ k. InOrder shape k z l) (sym same) (order_agree shape y.words j.standing z l (kept_order shape f y j i m c z l h has_shape caches firm) (stood shape f y j i m c h));
 }
 exit_stopped shape f y j i m c z l part h (inr made) old new has_shape caches firm = record {
   bytes = held_bytes (held y.words m);
   is = new;
   stands = made_file shape f y j i m c l.standing h made;
-  ready = stands_order shape z l (made_order shape f y j i m c l.standing z l h made has_shape caches firm);
+  ready = made_order shape f y j i m c l.standing z l h made has_shape caches firm;
 }
 
 pub exit_done : (shape : VolumeShape) (f : BlockWords) (y : Seen) (j : Kept) (i : ℕ) (m : Placed) (c : SizeChange) (z : Seen) (l : Kept) → Prepared shape f y j i m c → Applied shape (size_update i c) y.words z.words → l.standing ≡ z.words → l.updating ≡ false → HasShape shape z → CachesBy (IsUpdated i c.edits) y z → Firm j l → SetsBoth shape f z l i (held_bytes (held y.words m)) × Ready shape z l
@@ -114,7 +112,7 @@ bears_smaller i n m (AtPage p) (Some name) kind less h = ((λ dir. h.0 (sym kind
 pub shrink_prepared : (shape : VolumeShape) (x : Seen) (k : Kept) (y : Seen) (j : Kept) (i : ℕ) (given : Inode) (len : ℕ) (c : SizeChange) → IsIno shape i → Ready shape x k → Settled y j → LeavesInUse (volume_layout shape x.words) x k y j → PlansFor x.words i given → (placed_at x.words i).kind ≡ 2 → given.kind ≡ 2 → given.size ≡ (placed_at x.words i).size → len ≤ given.size → Shrinks shape x.words i given len c → Prepared shape x.words y j i (planned_node x.words i given len c) c
 shrink_prepared shape x k y j i given len c ino ready settled leaves plans was_file file size less h = record {
   ino = ino;
-  mapped = ready.mapped;
+  mapped = ready.order.mapped;
   was_file = was_file;
   ready = ready_left shape x k y j ready leaves;
   settled = settled;
@@ -126,6 +124,7 @@ shrink_prepared shape x k y j i given len c ino ready settled leaves plans was_f
   named = λ s has on. subst (λ b. Bears i m s (y.names b)) (sym (same s has)) (bears_smaller i (placed_at x.words i) m s _ (file ∙ sym was_file) (omega (arith, less, size)) (leaves.named.each i ino s (back s has) (subst (λ b. y.cached b ≡ true) (same s has) on)));
   firm = λ s has. ap j.loose (same s has) ∙ leaves.firm.owned i s (record { ino = ino; slot = back s has });
   old_tables = λ b on. absurd (none on.0 (subst (λ es. Contains es on.0) h.edits on.1));
+  lowest = (0, h.taken);
 }
   where
     m : Placed

@@ -42,10 +42,10 @@ pub stores_page : (shape : VolumeShape) (x : Seen) (k : Kept) (y : Seen) (j : Ke
 stores_page shape x k y j i p b given h own at kind wide count same firm caches idle = record {
   beside = beside;
   ready = ready_order shape y j (record {
-    has_shape = shape_beside_stored shape x y b (Some given) h.has_shape count (subst (λ c. reserved shape ≤ c) (sym at) (h.mapped.laid.numbers.from i (AtPage p) own)) caches;
-    mapped = mapped_beside shape i x.words y.words h.mapped beside;
+    has_shape = shape_beside_stored shape x y b (Some given) h.order.has_shape count (subst (λ c. reserved shape ≤ c) (sym at) (h.order.mapped.laid.numbers.from i (AtPage p) own)) caches;
+    mapped = mapped_beside shape i x.words y.words h.order.mapped beside;
     named = named_layout l y.words y layouts (record { each = λ n ino s has on. by n ino s has on (cases_eq ((l.node n).block s) b) });
-    firm = firm_layout l y.words j layouts (firm_on l k j h.firm firm);
+    firm = firm_layout l y.words j layouts (firm_on l k j h.order.firm firm);
   }) idle;
   named = λ s has on. by i own.ino s has on (cases_eq ((l.node i).block s) b);
   firm = firm;
@@ -57,16 +57,16 @@ stores_page shape x k y j i p b given h own at kind wide count same firm caches 
     l = volume_layout shape x.words
 
     beside : AgreesBeside l i x.words y.words
-    beside = beside_page l i p x.words y.words h.mapped.laid own (subst (λ c. SameBut c x.words y.words) at same)
+    beside = beside_page l i p x.words y.words h.order.mapped.laid own (subst (λ c. SameBut c x.words y.words) at same)
 
     layouts : SameLayout l (volume_layout shape y.words)
-    layouts = lays_same l y.words (lays_beside l i x.words y.words h.mapped.laid (lays_self shape x.words) beside)
+    layouts = lays_same l y.words (lays_beside l i x.words y.words h.order.mapped.laid (lays_self shape x.words) beside)
 
     out : (c : ℕ) → IsFree l c → c ≡ b → ⊥
     out c free is = free.free (record { node = i; slot = AtPage p; owns = own; is = sym (is ∙ at) })
 
     was_named : x.cached b ≡ true → NamedAs i (l.node i).size p (x.names b)
-    was_named on = as_bears i (l.node i) p (x.names b) kind (subst (λ c. Bears i (l.node i) (AtPage p) (x.names c)) (sym at) (h.named.each i own.ino (AtPage p) own.slot (subst (λ c. x.cached c ≡ true) at on)))
+    was_named on = as_bears i (l.node i) p (x.names b) kind (subst (λ c. Bears i (l.node i) (AtPage p) (x.names c)) (sym at) (h.order.named.each i own.ino (AtPage p) own.slot (subst (λ c. x.cached c ≡ true) at on)))
 
     now_named : ((x.cached b ≡ true) × (y.names b ≡ x.names b)) ⊎ (y.names b ≡ Some given) ⊎ ((x.cached b ≡ true) × (y.names b ≡ widened (x.names b) (Some given))) → NamedAs i (l.node i).size p (y.names b)
     now_named (inl kept) = subst (NamedAs i (l.node i).size p) (sym kept.1) (was_named kept.0)
@@ -74,9 +74,9 @@ stores_page shape x k y j i p b given h own at kind wide count same firm caches 
     now_named (inr (inr wider)) = subst (NamedAs i (l.node i).size p) (sym wider.1) (widened_as i (l.node i).size p (x.names b) given (was_named wider.0))
 
     by : (n : ℕ) (ino : IsIno shape n) (s : Slot) (has : HasSlot (l.node n) s) → y.cached ((l.node n).block s) ≡ true → (((l.node n).block s ≡ b) ⊎ ((l.node n).block s ≢ b)) → Bears n (l.node n) s (y.names ((l.node n).block s))
-    by n ino s has on (inr away) = let was = caches.others _ away on in subst (Bears n (l.node n) s) (sym was.1) (h.named.each n ino s has was.0)
+    by n ino s has on (inr away) = let was = caches.others _ away on in subst (Bears n (l.node n) s) (sym was.1) (h.order.named.each n ino s has was.0)
     by n ino s has on (inl here) =
-        let one = h.mapped.laid.once.each i n (AtPage p) s own (record { ino = ino; slot = has }) (sym (here ∙ at)) in
+        let one = h.order.mapped.laid.once.each i n (AtPage p) s own (record { ino = ino; slot = has }) (sym (here ∙ at)) in
         let bears : Bears i (l.node i) (AtPage p) (y.names b) = bears_as i (l.node i) p (y.names b) kind (now_named (caches.named (subst (λ c. y.cached c ≡ true) here on))) in
         subst (λ c. Bears n (l.node n) s (y.names c)) (sym here) (subst (λ t. Bears n (l.node n) t (y.names b)) one.1 (subst (λ z. Bears z (l.node z) (AtPage p) (y.names b)) one.0 bears))
 

@@ -16,13 +16,13 @@ use Rattle.rio_model.specs.Updates.{with_inode}
 use Rattle.rio_model.specs.VolumeRules.{bitmap_bits}
 use Rattle.inode_table.specs.Inodes.{inode_words}
 use Rattle.file_pages.specs.Changes.{node_update, word_edit}
-use Rattle.file_pages.specs.Updating.{CanMake, CanUpdate, SetsBits}
+use Rattle.file_pages.specs.Updating.{CanUpdate, SetsBits}
 use Rattle.file_pages.specs.declared.changes.Edit.{Edit}
 use Rattle.file_pages.specs.declared.changes.SizeChange.{SizeChange}
 use Rattle.file_pages.proofs.Listed.{place_of}
 
 pub update_trans : (k l m : Kept) → SameUpdate k l → SameUpdate l m → SameUpdate k m
-update_trans k l m a b = record { updating = b.updating ∙ a.updating; begun = b.begun ∙ a.begun; touched = b.touched ∙ a.touched; touches = b.touches ∙ a.touches }
+update_trans k l m a b = record { updating = b.updating ∙ a.updating; touched = b.touched ∙ a.touched; touches = b.touches ∙ a.touches }
 
 -- ---- edits
 
@@ -121,9 +121,6 @@ can_update shape es us ts ps fs qs se st sf can = subst (λ xs. CanUpdate shape 
 
 pub applied_as : {T E : Type 0} (shape : VolumeShape) (i : ℕ) (inode : Inode) (es us : List Edit) (ts ps fs qs : List Block) (r : Result T E) (f g : BlockWords) → es ≡ us → ts ≡ ps → fs ≡ qs → OnOk r (Applied shape (node_update i inode es ts fs) f g) → OnOk r (Applied shape (node_update i inode us ps qs) f g)
 applied_as shape i inode es us ts ps fs qs r f g se st sf h = subst (λ xs. OnOk r (Applied shape (node_update i inode us ps xs) f g)) sf (subst (λ xs. OnOk r (Applied shape (node_update i inode us xs fs) f g)) st (subst (λ xs. OnOk r (Applied shape (node_update i inode xs ts fs) f g)) se h))
-
-pub size_can : (shape : VolumeShape) (c : SizeChange) → CanMake shape c → CanUpdate shape c.edits (numbers c.taken) (numbers c.freed)
-size_can shape c can = record { words = can.edits.words; from = can.edits.from; to = can.edits.to; taken = can.taken; freed = can.freed; apart = can.apart }
 
 -- ---- touching the blocks of an update
 

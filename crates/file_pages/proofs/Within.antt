@@ -73,13 +73,13 @@ stores_span shape y j z l i first blocks h ino kind its b firm names idle = reco
   beside = beside;
   ready = ready_order shape z l (record {
     has_shape = record {
-      sizes = h.has_shape.sizes;
-      count = b.count ∙ h.has_shape.count;
-      unnamed = λ c low on. let was = kept c (low_out c low) on in was.1 ∙ h.has_shape.unnamed c low was.0;
+      sizes = h.order.has_shape.sizes;
+      count = b.count ∙ h.order.has_shape.count;
+      unnamed = λ c low on. let was = kept c (low_out c low) on in was.1 ∙ h.order.has_shape.unnamed c low was.0;
     };
-    mapped = mapped_beside shape i y.words z.words h.mapped beside;
+    mapped = mapped_beside shape i y.words z.words h.order.mapped beside;
     named = named_layout m z.words z layouts (record { each = λ n jno s has on. by n jno s has (b.caches.each _ on) on });
-    firm = firm_layout m z.words l layouts (firm_on m j l h.firm firm);
+    firm = firm_layout m z.words l layouts (firm_on m j l h.order.firm firm);
   }) idle;
   named = λ s has on. by i ino s has (b.caches.each _ on) on;
   firm = firm;
@@ -91,7 +91,7 @@ stores_span shape y j z l i first blocks h ino kind its b firm names idle = reco
     m = volume_layout shape y.words
 
     low_out : (c : ℕ) → c < reserved shape → Contains blocks c → ⊥
-    low_out c low on = let at = page_at m i first blocks c its on in let from = h.mapped.laid.numbers.from i (AtPage (first + at.0)) at.3 in let is = at.4 in omega (arith, from, low, is)
+    low_out c low on = let at = page_at m i first blocks c its on in let from = h.order.mapped.laid.numbers.from i (AtPage (first + at.0)) at.3 in let is = at.4 in omega (arith, from, low, is)
 
     free_out : (c : ℕ) → IsFree m c → Contains blocks c → ⊥
     free_out c free on = let at = page_at m i first blocks c its on in free.free (record { node = i; slot = AtPage (first + at.0); owns = at.3; is = at.4 })
@@ -102,21 +102,21 @@ stores_span shape y j z l i first blocks h ino kind its b firm names idle = reco
     beside : AgreesBeside m i y.words z.words
     beside = record {
       low = λ c w low. b.words.others c w (low_out c low);
-      tables = λ t has w. b.words.others _ w (λ on. let at = page_at m i first blocks _ its on in table_page t (first + at.0) ((h.mapped.laid.once.each i i (AtTable t) (AtPage (first + at.0)) (record { ino = ino; slot = has }) at.3 (sym at.4)).1));
-      others = λ n s away own w. b.words.others _ w (λ on. let at = page_at m i first blocks _ its on in away ((h.mapped.laid.once.each n i s (AtPage (first + at.0)) own at.3 (sym at.4)).0));
+      tables = λ t has w. b.words.others _ w (λ on. let at = page_at m i first blocks _ its on in table_page t (first + at.0) ((h.order.mapped.laid.once.each i i (AtTable t) (AtPage (first + at.0)) (record { ino = ino; slot = has }) at.3 (sym at.4)).1));
+      others = λ n s away own w. b.words.others _ w (λ on. let at = page_at m i first blocks _ its on in away ((h.order.mapped.laid.once.each n i s (AtPage (first + at.0)) own at.3 (sym at.4)).0));
     }
 
     layouts : SameLayout m (volume_layout shape z.words)
-    layouts = lays_same m z.words (lays_beside m i y.words z.words h.mapped.laid (lays_self shape y.words) beside)
+    layouts = lays_same m z.words (lays_beside m i y.words z.words h.order.mapped.laid (lays_self shape y.words) beside)
 
     page_bears : (t : ℕ) → t < length blocks → z.cached (slice_index blocks t) ≡ true → Bears i (m.node i) (AtPage (first + t)) (z.names (slice_index blocks t))
     page_bears t few on = bears_as i (m.node i) (first + t) _ kind (names.each t few on)
 
     by : (n : ℕ) (jno : IsIno shape n) (s : Slot) (has : HasSlot (m.node n) s) → ((y.cached ((m.node n).block s) ≡ true) × (z.names ((m.node n).block s) ≡ y.names ((m.node n).block s))) ⊎ Contains blocks ((m.node n).block s) → z.cached ((m.node n).block s) ≡ true → Bears n (m.node n) s (z.names ((m.node n).block s))
-    by n jno s has (inl was) on = subst (Bears n (m.node n) s) (sym was.1) (h.named.each n jno s has was.0)
+    by n jno s has (inl was) on = subst (Bears n (m.node n) s) (sym was.1) (h.order.named.each n jno s has was.0)
     by n jno s has (inr in_set) on =
         let at = page_at m i first blocks _ its in_set in
-        let one = h.mapped.laid.once.each i n (AtPage (first + at.0)) s at.3 (record { ino = jno; slot = has }) at.4 in
+        let one = h.order.mapped.laid.once.each i n (AtPage (first + at.0)) s at.3 (record { ino = jno; slot = has }) at.4 in
         let bears : Bears i (m.node i) (AtPage (first + at.0)) (z.names ((m.node n).block s)) = subst (λ c. Bears i (m.node i) (AtPage (first + at.0)) (z.names c)) at.2 (page_bears at.0 at.1 (subst (λ c. z.cached c ≡ true) (sym at.2) on)) in
         subst (λ t. Bears n (m.node n) t (z.names ((m.node n).block s))) one.1 (subst (λ q. Bears q (m.node q) (AtPage (first + at.0)) (z.names ((m.node n).block s))) one.0 bears)
 
@@ -176,7 +176,7 @@ pub record Overwrites (shape : VolumeShape) (x : Seen) (z : Seen) (l : Kept) (i 
 
 pub overwrites_of : (shape : VolumeShape) (s t : Health) (o n : Below) (x : Seen) (k : Kept) (y : Seen) (j : Kept) (z : Seen) (l : Kept) (i first : ℕ) (blocks : List ℕ) (off : ℕ) (bytes : List ℕ) (size : ℕ) → Ready shape x k → IsIno shape i → (placed_at x.words i).kind ≡ 2 → LooksUp shape x y → Passes s o k t n j → IsPages (volume_layout shape x.words) i first blocks → 4096 * first ≤ off → off + length bytes ≤ 4096 * (first + length blocks) → off + length bytes ≤ size → size ≡ (placed_at x.words i).size → Beside (Contains blocks) y j z l → Firm j l → SpanNamed blocks first i size z → l.updating ≡ false → Settled z l → Overwrites shape x z l i first blocks off bytes
 overwrites_of shape s t o n x k y j z l i first blocks off bytes size h ino file looks passes its from to within is b firm names idle settled =
-    record { mapped = h.mapped; ino = ino; file = file; its = its; from = from; to = to; within = subst (λ (m : ℕ). off + length bytes ≤ m) is within; beside = stores.beside; ready = stores.ready; settled = settled }
+    record { mapped = h.order.mapped; ino = ino; file = file; its = its; from = from; to = to; within = subst (λ (m : ℕ). off + length bytes ≤ m) is within; beside = stores.beside; ready = stores.ready; settled = settled }
   where
     same : y.words ≡ x.words
     same = looks.looks.words

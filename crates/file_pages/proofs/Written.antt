@@ -158,7 +158,7 @@ written_none old off (b ∷ bytes) none = absurd (omega (arith, none))
 pub none_both : (shape : VolumeShape) (x : Seen) (k : Kept) (i off : ℕ) (bytes : List ℕ) → Ready shape x k → Settled x k → (held_of shape x.words i).kind ≡ 2 → length bytes ≡ 0 → SetsBoth shape x.words x k i (written (file_bytes shape x.words i) off bytes)
 none_both shape x k i off bytes h settled kind none =
     let ino : IsIno shape i = file_ino shape x.words i kind in
-    subst (SetsBoth shape x.words x k i) (sym (written_none (file_bytes shape x.words i) off bytes none)) (stored_both shape x.words x k i (file_bytes shape x.words i) h.mapped ino (file_placed shape x.words i ino kind) (beside_refl (volume_layout shape x.words) i x.words) h settled (sym (file_node shape x.words i ino)))
+    subst (SetsBoth shape x.words x k i) (sym (written_none (file_bytes shape x.words i) off bytes none)) (stored_both shape x.words x k i (file_bytes shape x.words i) h.order.mapped ino (file_placed shape x.words i ino kind) (beside_refl (volume_layout shape x.words) i x.words) h settled (sym (file_node shape x.words i ino)))
 
 leaves_err : (T U : Type 0) (shape : VolumeShape) (x : Seen) (k : Kept) (y : Seen) (j : Kept) (i off : ℕ) (bytes : List ℕ) (e : WriteFail) → WriteLeaves {T = T} shape x k y j i off bytes (Err e) → WriteLeaves {T = U} shape x k y j i off bytes (Err e)
 leaves_err T U shape x k y j i off bytes NoSpace s = s

@@ -7,6 +7,7 @@ use Rattle.block_alloc.specs.Bitmap.{numbers}
 use Rattle.inode_table.specs.declared.inode.Inode.{Inode}
 use Rattle.rio_model.specs.FileParts.{IsLead, written}
 use Rattle.rio_model.specs.Held.{held, held_bytes}
+use Rattle.rio_model.specs.NodeChanges.{AreLowest}
 use Rattle.rio_model.specs.Placed.{Placed, placed_at}
 use Rattle.rio_model.specs.Sizes.{pages}
 use Rattle.file_pages.specs.Changes.{Grows, planned_node}
@@ -19,10 +20,12 @@ use Rattle.file_pages.specs.declared.failures.SizeFail.TheVariants.{NoSpace, Too
 use Rattle.file_pages.specs.declared.failures.WriteFail.{WriteFail}
 use Rattle.file_pages.specs.declared.failures.WriteFail.TheVariants.{NoSpace as WriteNoSpace, TooLarge as WriteTooLarge, Fault as WriteFault, Stopped as WriteStopped, Memory as WriteMemory}
 
--- the growth of file i to a size is prepared, and these are the blocks of its pages from one page on, old and new ones
+-- the growth of file i to a size is prepared, by the lowest free blocks, and these are the blocks of its pages from one page
+-- on, old and new ones
 pub record Extends (shape : VolumeShape) (f : BlockWords) (y : Seen) (j : Kept) (i : ℕ) (given : Inode) (len first : ℕ) (c : SizeChange) (blocks : List ℕ) : Type 0 where
   pub grows : Grows shape f y j i given len (numbers c.taken) c
   pub span : blocks ≡ page_blocks (planned_node f i given len c) first (pages len - first)
+  pub lowest : AreLowest shape f (numbers c.taken)
 
 -- the bytes of a write are stored in the pages of the file as it will be, m, and the first `done` of them count already
 pub record HoldsWritten (shape : VolumeShape) (f : BlockWords) (y : Seen) (j : Kept) (i off : ℕ) (bytes : List ℕ) (done : ℕ) (m : Placed) (c : SizeChange) : Type 0 where

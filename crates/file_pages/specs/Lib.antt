@@ -6,7 +6,6 @@ pub mod Forgetting
 pub mod Growing
 pub mod LookingUp
 pub mod OrderRules
-pub mod Orders
 pub mod PageBytes
 pub mod Preparing
 pub mod Spans

@@ -5,9 +5,10 @@ use Rattle.rio_base.specs.declared.places.VolumeShape.{VolumeShape}
 use Rattle.rio_base.specs.Blocks.{BlockWords, Seen}
 use Rattle.rio_base.specs.Layout.{IsIno}
 use Rattle.rio_base.specs.Volume.{Kept, Settled}
+use Rattle.block_alloc.specs.Bitmap.{numbers}
 use Rattle.rio_model.specs.FileParts.{ResizePart, resized}
 use Rattle.rio_model.specs.Held.{held, held_bytes}
-use Rattle.rio_model.specs.NodeChanges.{Available}
+use Rattle.rio_model.specs.NodeChanges.{AreLowest, Available}
 use Rattle.rio_model.specs.Placed.{Slot, Placed, HasSlot, placed_at, volume_layout, AgreesBeside}
 use Rattle.rio_model.specs.Updates.{Turns}
 use Rattle.rio_model.specs.VolumeReady.{LeavesInUse, NamedNode, Ready}
@@ -34,6 +35,7 @@ pub record Prepared (shape : VolumeShape) (f : BlockWords) (y : Seen) (j : Kept)
   pub named : NamedNode i m y
   pub firm : (s : Slot) → HasSlot m s → j.loose (m.block s) ≡ false
   pub old_tables : TableOrFree (volume_layout shape y.words) i c.edits
+  pub lowest : AreLowest shape f (numbers c.taken)
 
 abbrev pub IsEither : List ℕ → List ℕ → List ℕ → Type 0
 IsEither old new bytes = (bytes ≡ old) ⊎ (bytes ≡ new)

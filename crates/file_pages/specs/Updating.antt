@@ -12,13 +12,6 @@ use Rattle.block_alloc.specs.Bitmap.{numbers}
 use Rattle.file_pages.specs.declared.changes.Edit.{Edit}
 use Rattle.file_pages.specs.declared.changes.SizeChange.{SizeChange}
 
--- edits of a table
-pub record EditsFit (shape : VolumeShape) (edits : List Edit) : Type 0 where
-  pub words : (e : Edit) → Contains edits e → e.word < 512
-  pub from : (e : Edit) → Contains edits e → reserved shape ≤ e.block.0
-  pub to : (e : Edit) → Contains edits e → e.block.0 < shape.blocks
-  pub one : (d e : Edit) → Contains edits d → Contains edits e → d.block.0 ≡ e.block.0
-
 -- edits that can be made in an update, of words of blocks past the reserved ones, and blocks that can be marked and unmarked
 -- beside them
 pub record CanUpdate (shape : VolumeShape) (edits : List Edit) (gained lost : List ℕ) : Type 0 where
@@ -29,16 +22,14 @@ pub record CanUpdate (shape : VolumeShape) (edits : List Edit) (gained lost : Li
   pub freed : (b : ℕ) → Contains lost b → b < shape.blocks
   pub apart : (b : ℕ) → Contains gained b → Contains lost b → ⊥
 
--- a change of size that can be made in an update
-pub record CanMake (shape : VolumeShape) (c : SizeChange) : Type 0 where
-  pub edits : EditsFit shape c.edits
-  pub taken : (b : ℕ) → Contains (numbers c.taken) b → b < shape.blocks
-  pub freed : (b : ℕ) → Contains (numbers c.freed) b → b < shape.blocks
-  pub apart : (b : ℕ) → Contains (numbers c.taken) b → Contains (numbers c.freed) b → ⊥
+-- edits that are all in one block
+abbrev pub InOneBlock : List Edit → Type 0
+InOneBlock edits = (d e : Edit) → Contains edits d → Contains edits e → d.block.0 ≡ e.block.0
 
--- and whose table may be asked for as metadata
+-- a change of size that can be made in an update: it edits one table, which may be asked for as metadata
 pub record CanChange (shape : VolumeShape) (y : Seen) (c : SizeChange) : Type 0 where
-  pub makes : CanMake shape c
+  pub makes : CanUpdate shape c.edits (numbers c.taken) (numbers c.freed)
+  pub one : InOneBlock c.edits
   pub unnamed : (e : Edit) → Contains c.edits e → y.cached e.block.0 ≡ true → y.names e.block.0 ≡ None
 
 -- the block of an edit

@@ -11,9 +11,8 @@ ghost use Rattle.rio_model.specs.VolumeReady.{Ready};
 ghost use Rattle.file_pages.specs.Storing.{KeepsFront, NamedAs, StoresPages, TailCleared, ZerosFrom};
 
 use crate::lookup::block_of;
-use crate::sizes::PAGE_BYTES;
 use crate::staging::bytes_in_page;
-use rio_base::{Block, Ino, PageName, RunFail, VolFail, Volume, VolumeShape};
+use rio_base::{Block, Ino, PAGE_BYTES, PageName, RunFail, VolFail, Volume, VolumeShape};
 
 /// The first `k` bytes of a word, and zeros.
 fn low_bytes(word: u64, k: u32) -> u64

@@ -9,9 +9,10 @@ ghost use Rattle.rio_base.specs.Volume.{Firm, Goes};
 ghost use Rattle.rio_model.specs.NodeChanges.{Change};
 ghost use Rattle.rio_model.specs.Placed.{Placed, volume_layout};
 ghost use Rattle.rio_model.specs.Updates.{Applied};
+ghost use Rattle.block_alloc.specs.Bitmap.{numbers};
 ghost use Rattle.file_pages.specs.Changes.{size_update};
 ghost use Rattle.file_pages.specs.Preparing.{Committed, Prepared};
-ghost use Rattle.file_pages.specs.Updating.{CanChange, CanMake, IsTouched, IsUpdated};
+ghost use Rattle.file_pages.specs.Updating.{CanChange, CanUpdate, IsTouched, IsUpdated};
 ghost use Rattle.file_pages.specs.Failures.{Unrefused};
 
 use crate::changes::SizeChange;
@@ -64,7 +65,7 @@ fn close_change<V: Volume>(
     requires shape { HasShape shape.now (V.seen v.old) }
     requires in_update { (V.kept v.old).updating ≡ true }
     requires ino { IsIno shape.now i.0 }
-    requires makes { CanMake shape.now change.now }
+    requires can { CanUpdate shape.now change.now.edits (numbers change.now.taken) (numbers change.now.freed) }
     requires touched { IsTouched (V.kept v.old) i.0 change.now.edits }
     ensures ok { OnOk result (Applied shape.now (size_update i.0 change.now) (V.seen v.old).words (V.seen v.new).words × ((V.kept v.new).standing ≡ (V.seen v.new).words) × ((V.kept v.new).updating ≡ false)) }
     ensures stopped { ((V.kept v.new).standing ≡ (V.kept v.old).standing) ⊎ Applied shape.now (size_update i.0 change.now) (V.seen v.old).words (V.kept v.new).standing }

@@ -25,11 +25,11 @@ use crate::committing::commit_change;
 use crate::failures::{SizeFail, WriteFail};
 use crate::numbers::page_blocks;
 use crate::planning::plan_growth;
-use crate::sizes::{PAGE_BYTES, page_count, wanted_count};
+use crate::sizes::{page_count, wanted_count};
 use crate::spans::store_parts;
 use crate::taking::take_lowest;
 use inode_table::Inode;
-use rio_base::{Block, Ino, ReadFail, Volume, VolumeShape};
+use rio_base::{Block, Ino, PAGE_BYTES, ReadFail, Volume, VolumeShape};
 use std::alloc::{AllocError, Global};
 
 /// Adds the blocks of pages `first` to `end` of a node that takes these behind its first `have` pages.

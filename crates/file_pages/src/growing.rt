@@ -7,8 +7,7 @@ ghost use Rattle.file_pages.specs.Changes.{word_edit};
 ghost use Rattle.file_pages.specs.Growing.{new_direct, new_number, new_word};
 
 use crate::changes::{Edit, EditList};
-use crate::lookup::DIRECT_PAGES;
-use inode_table::Inode;
+use inode_table::{DIRECT_PAGES, Inode};
 use rio_base::Block;
 use std::alloc::{AllocError, Global};
 

@@ -6,10 +6,8 @@ ghost use Rattle.rio_base.specs.Layout.{IsIno, half, inode_block, inode_place, i
 ghost use Rattle.rio_model.specs.Placed.{AtPage, AtTable, HasSlot, placed_at, volume_layout, Owns};
 ghost use Rattle.file_pages.specs.LookingUp.{CanLookUp, LooksUp};
 
+use inode_table::DIRECT_PAGES;
 use rio_base::{Block, Blocks, Ino, VolFail, VolumeShape};
-
-/// So many pages of a node are numbered in its inode.
-pub const DIRECT_PAGES: u32 = 24;
 
 /// The word of an inode that has the numbers of pages 0 and 1.
 const FIRST_NUMBERS: u16 = 2;

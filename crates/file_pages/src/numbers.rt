@@ -10,9 +10,9 @@ ghost use Rattle.inode_table.specs.Inodes.{IsInode};
 ghost use Rattle.file_pages.specs.Changes.{PlansFor};
 ghost use Rattle.file_pages.specs.LookingUp.{CanLookUp, LooksUp, node_blocks, page_blocks};
 
-use crate::lookup::{DIRECT_PAGES, number_in, read_table};
+use crate::lookup::{number_in, read_table};
 use crate::sizes::{page_count, table_count};
-use inode_table::{Inode, read_inode};
+use inode_table::{DIRECT_PAGES, Inode, read_inode};
 use rio_base::{Block, BlockList, Blocks, Ino, ReadFail, VolFail, VolumeShape};
 use std::alloc::{AllocError, Global};
 

@@ -10,10 +10,9 @@ ghost use Rattle.file_pages.specs.Writing.{WriteLeaves};
 
 use crate::failures::WriteFail;
 use crate::numbers::page_blocks;
-use crate::sizes::PAGE_BYTES;
 use crate::spans::store_span;
 use inode_table::Inode;
-use rio_base::{Ino, Volume, VolumeShape};
+use rio_base::{Ino, PAGE_BYTES, Volume, VolumeShape};
 use std::alloc::Global;
 
 /// Writes bytes of file `i` that lie within its size, from byte `off` on in rising order.

@@ -16,10 +16,10 @@ ghost use Rattle.file_pages.specs.Failures.{Unrefused};
 use crate::changes::SizeChange;
 use crate::failures::SizeFail;
 use crate::growing::{grown_inode, grown_table, table_edits};
-use crate::lookup::{DIRECT_PAGES, number_in, table_word};
+use crate::lookup::{number_in, table_word};
 use crate::sizes::page_count;
 use crate::staging::stage_blocks;
-use inode_table::Inode;
+use inode_table::{DIRECT_PAGES, Inode};
 use rio_base::{Block, BlockList, Blocks, Ino, VolFail, Volume, VolumeShape};
 use std::alloc::Global;
 

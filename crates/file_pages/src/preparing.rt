@@ -15,9 +15,9 @@ use crate::changes::SizeChange;
 use crate::failures::SizeFail;
 use crate::planning::plan_growth;
 use crate::shrinking::plan_shrink;
-use crate::sizes::{LARGEST_SIZE, wanted_count};
+use crate::sizes::wanted_count;
 use crate::taking::take_beside;
-use inode_table::Inode;
+use inode_table::{Inode, LARGEST_SIZE};
 use rio_base::{BlockList, Ino, Volume, VolumeShape};
 use std::alloc::Global;
 

@@ -17,11 +17,10 @@ ghost use Rattle.file_pages.specs.LookingUp.{LooksUp, page_blocks};
 ghost use Rattle.file_pages.specs.PageBytes.{block_byte, bytes_of};
 
 use crate::numbers::{look_inode, page_blocks};
-use crate::sizes::PAGE_BYTES;
 use crate::staging::bytes_in_page;
 use byteorder::{ByteOrder, LittleEndian};
 use inode_table::Inode;
-use rio_base::{Block, Blocks, Ino, Octets, PageName, ReadFail, VolumeShape};
+use rio_base::{Block, Blocks, Ino, Octets, PAGE_BYTES, PageName, ReadFail, VolumeShape};
 use std::alloc::{AllocError, Global};
 
 /// Bytes that are made of words at once.
@@ -244,7 +243,36 @@ fn read_bytes<V: Blocks>(
     Ok(Octets::from(out))
 }
 
-/// Bytes of file `i` from `off` on, `len` of them or as many as it has.
+/// Bytes of file `i`, which has this inode, from `off` on: `len` of them, or as many as it has.
+pub fn read_with<V: Blocks>(
+    alloc: Global,
+    v: &mut V,
+    shape: &VolumeShape,
+    i: Ino,
+    inode: &Inode,
+    off: u64,
+    len: u64,
+) -> Result<Octets, ReadFail>
+    requires sound { V.sound v.old }
+    requires shape { HasShape shape.now (V.seen v.old) }
+    requires mapped { IsMapped shape.now (V.seen v.old).words }
+    requires named { AllNamed (volume_layout shape.now (V.seen v.old).words) (V.seen v.old) }
+    requires file { (held_of shape.now (V.seen v.old).words i.0).kind ≡ 2 }
+    requires inode { IsInode (V.seen v.old).words i.0 inode.now }
+    ensures value { IfOk result (λ bytes. bytes ≡ take len (drop off (file_bytes shape.now (V.seen v.old).words i.0))) }
+    ensures looks { Looks (V.seen v.old) (V.seen v.new) }
+    ensures shape { HasShape shape.now (V.seen v.new) }
+    ensures named { AllNamed (volume_layout shape.now (V.seen v.old).words) (V.seen v.new) }
+    ensures passes { V.passes v.old v.new }
+    ensures ends { EndsBy (V.health v.old) (V.health v.new) (IsErrOf result ReadFail.Fault) (IsErrOf result ReadFail.Stopped) }
+    ensures sound { V.sound v.new }
+{
+    let end = off.saturating_add(len).min(inode.size);
+    let bytes = read_bytes(alloc, v, shape, i, inode, off, end)?;
+    Ok(bytes)
+}
+
+/// The same of a file whose inode is not read yet.
 pub fn read<V: Blocks>(
     alloc: Global,
     v: &mut V,
@@ -267,7 +295,5 @@ pub fn read<V: Blocks>(
     ensures sound { V.sound v.new }
 {
     let inode = look_inode(v, shape, i)?;
-    let end = off.saturating_add(len).min(inode.size);
-    let bytes = read_bytes(alloc, v, shape, i, &inode, off, end)?;
-    Ok(bytes)
+    read_with(alloc, v, shape, i, &inode, off, len)
 }

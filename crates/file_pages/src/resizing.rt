@@ -24,9 +24,9 @@ use crate::forgetting::forget_all;
 use crate::numbers::look_inode;
 use crate::planning::plan_growth;
 use crate::shrinking::plan_shrink;
-use crate::sizes::{LARGEST_SIZE, wanted_count};
+use crate::sizes::wanted_count;
 use crate::taking::take_lowest;
-use inode_table::Inode;
+use inode_table::{Inode, LARGEST_SIZE};
 use rio_base::{Ino, Volume, VolumeShape};
 use std::alloc::Global;
 
@@ -93,7 +93,39 @@ fn grow<V: Volume>(
     Ok(())
 }
 
-/// Gives file `i` another size.
+/// Gives file `i`, which has this inode, another size, one that a file may have.
+fn size_at<V: Volume>(
+    alloc: Global,
+    v: &mut V,
+    shape: &VolumeShape,
+    i: Ino,
+    inode: &Inode,
+    len: u64,
+) -> Result<(), SizeFail>
+    requires sound { V.sound v.old }
+    requires ready { Ready shape.now (V.seen v.old) (V.kept v.old) }
+    requires ino { IsIno shape.now i.0 }
+    requires inode { IsInode (V.seen v.old).words i.0 inode.now }
+    requires file { (placed_at (V.seen v.old).words i.0).kind ≡ 2 }
+    requires most { len ≤ largest_size }
+    ensures leaves { SizeLeaves shape.now (V.seen v.old) (V.kept v.old) (V.seen v.new) (V.kept v.new) i.0 len result }
+    ensures space { HasSpace shape.now (V.seen v.old).words (placed_at (V.seen v.old).words i.0).size len ⊎ LeavesInUse (volume_layout shape.now (V.seen v.old).words) (V.seen v.old) (V.kept v.old) (V.seen v.new) (V.kept v.new) }
+    ensures room { OnOk result (HasSpace shape.now (V.seen v.old).words (placed_at (V.seen v.old).words i.0).size len) }
+    ensures no_space { IsErrOf result SizeFail.NoSpace → length (free_blocks shape.now (V.seen v.old).words) < wanted_blocks (placed_at (V.seen v.old).words i.0).size len }
+    ensures small { IsErrOf result SizeFail.TooLarge → ⊥ }
+    ensures forgets { OnOk result (Forgets (volume_layout shape.now (V.seen v.old).words) (volume_layout shape.now (V.seen v.new).words) (V.seen v.new)) }
+    ensures goes { Goes (V.health v.old) (V.below v.old) (V.health v.new) (V.below v.new) }
+    ensures ends { EndsBy (V.health v.old) (V.health v.new) (IsErrOf result SizeFail.Fault) (IsErrOf result SizeFail.Stopped) }
+    ensures sound { V.sound v.new }
+{
+    if len <= inode.size {
+        shrink(alloc, v, shape, i, inode, len)
+    } else {
+        grow(alloc, v, shape, i, inode, len)
+    }
+}
+
+/// The same of a file whose inode is not read yet, and of any size.
 #[tactic(auto, using(crate::proofs::LookingUpRules::can_look_up))]
 fn change_size<V: Volume>(
     alloc: Global,
@@ -120,18 +152,46 @@ fn change_size<V: Volume>(
         return Err(SizeFail::TooLarge);
     }
     let inode = look_inode(v, shape, i)?;
-    if len <= inode.size {
-        shrink(alloc, v, shape, i, &inode, len)
-    } else {
-        grow(alloc, v, shape, i, &inode, len)
-    }
+    size_at(alloc, v, shape, i, &inode, len)
 }
 
-/// Gives file `i` the size `len`: bytes past it are cut off, and zeros fill what is new.
+/// Gives file `i`, which has this inode, the size `len`: bytes past it are cut off, and zeros fill what is new.
 ///
 /// `NoSpace` comes exactly where fewer blocks are free than the file would take, and blocks that it frees itself are not
 /// among them; `TooLarge` exactly where no file can have so many bytes. After these and `Memory` nothing has changed, and
 /// after `Fault` the file has its old bytes. `Stopped` leaves all of the change standing, or nothing of it.
+pub fn resize_with<V: Volume>(
+    alloc: Global,
+    v: &mut V,
+    shape: &VolumeShape,
+    i: Ino,
+    inode: &Inode,
+    len: u64,
+) -> Result<(), SizeFail>
+    requires sound { V.sound v.old }
+    requires ready { Ready shape.now (V.seen v.old) (V.kept v.old) }
+    requires inode { IsInode (V.seen v.old).words i.0 inode.now }
+    requires file { (held_of shape.now (V.seen v.old).words i.0).kind ≡ 2 }
+    ensures ok { OnOk result (SetsBoth shape.now (V.seen v.old).words (V.seen v.new) (V.kept v.new) i.0 (resized (file_bytes shape.now (V.seen v.old).words i.0) len)) }
+    ensures space { OnOk result (HasSpace shape.now (V.seen v.old).words (length (file_bytes shape.now (V.seen v.old).words i.0)) len) }
+    ensures too_large { IsErrOf result SizeFail.TooLarge → largest_size < len }
+    ensures no_space { IsErrOf result SizeFail.NoSpace → (len ≤ largest_size) × (length (free_blocks shape.now (V.seen v.old).words) < wanted_blocks (length (file_bytes shape.now (V.seen v.old).words i.0)) len) }
+    ensures refused { IsErrOf result SizeFail.NoSpace ⊎ IsErrOf result SizeFail.TooLarge ⊎ IsErrOf result SizeFail.Memory → LeavesInUse (volume_layout shape.now (V.seen v.old).words) (V.seen v.old) (V.kept v.old) (V.seen v.new) (V.kept v.new) }
+    ensures fault { IsErrOf result SizeFail.Fault → SetsBoth shape.now (V.seen v.old).words (V.seen v.new) (V.kept v.new) i.0 (file_bytes shape.now (V.seen v.old).words i.0) }
+    ensures stopped { IsErrOf result SizeFail.Stopped → StopsAs shape.now (V.seen v.old).words (V.seen v.new) (V.kept v.new) i.0 (ResizeStops shape.now (V.seen v.old).words i.0 len) }
+    ensures ready { IsErrOf result SizeFail.Stopped ⊎ Ready shape.now (V.seen v.new) (V.kept v.new) }
+    ensures forgets { OnOk result (Forgets (volume_layout shape.now (V.seen v.old).words) (volume_layout shape.now (V.seen v.new).words) (V.seen v.new)) }
+    ensures goes { Goes (V.health v.old) (V.below v.old) (V.health v.new) (V.below v.new) }
+    ensures ends { EndsBy (V.health v.old) (V.health v.new) (IsErrOf result SizeFail.Fault) (IsErrOf result SizeFail.Stopped) }
+    ensures sound { V.sound v.new }
+{
+    if len > LARGEST_SIZE {
+        return Err(SizeFail::TooLarge);
+    }
+    size_at(alloc, v, shape, i, inode, len)
+}
+
+/// The same of a file whose inode is not read yet.
 pub fn resize<V: Volume>(
     alloc: Global,
     v: &mut V,

@@ -4,13 +4,8 @@ ghost use Rattle.std.specs.Prelude.{◌≡◌, ◌≤◌};
 ghost use Rattle.rio_model.specs.Sizes.{largest_size, pages, tables};
 ghost use Rattle.file_pages.specs.Changes.{wanted_blocks};
 
-use crate::lookup::DIRECT_PAGES;
-
-/// Bytes of a page.
-pub const PAGE_BYTES: u64 = 4096;
-
-/// Bytes that a node has at most: 24 pages, and the 1,024 that an indirect block numbers.
-pub const LARGEST_SIZE: u64 = 4_292_608;
+use inode_table::DIRECT_PAGES;
+use rio_base::PAGE_BYTES;
 
 /// How many pages a node of so many bytes has.
 pub fn page_count(size: u64) -> u32

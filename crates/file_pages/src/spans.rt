@@ -12,9 +12,8 @@ ghost use Rattle.file_pages.specs.Staging.{Beside};
 
 use crate::failures::BytesFail;
 use crate::pieces::store_piece;
-use crate::sizes::PAGE_BYTES;
 use crate::staging::bytes_in_page;
-use rio_base::{Block, Ino, PageName, Volume};
+use rio_base::{Block, Ino, PAGE_BYTES, PageName, Volume};
 
 /// Stores those of `bytes` that lie in one page with the first of them, which is byte `off` of the file. Says how many.
 fn store_page<V: Volume>(

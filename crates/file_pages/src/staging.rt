@@ -8,8 +8,7 @@ ghost use Rattle.block_alloc.specs.Bitmap.{numbers};
 ghost use Rattle.file_pages.specs.Changes.{Apart};
 ghost use Rattle.file_pages.specs.Staging.{Beside, Zeroed, taken_name};
 
-use crate::sizes::PAGE_BYTES;
-use rio_base::{Block, Ino, PageName, VolFail, Volume};
+use rio_base::{Block, Ino, PAGE_BYTES, PageName, VolFail, Volume};
 
 /// Makes a block zero under this name, whether it is cached or not. It must not be in use.
 #[tactic(auto, using(crate::proofs::Staged::beside_trans, crate::proofs::Staged::beside_drops, crate::proofs::Staged::beside_caches, crate::proofs::Staged::beside_refl, crate::proofs::Staged::cleared_here))]

@@ -1,6 +1,6 @@
 //! An update of a node's blocks, and a change of size made as one.
 
-ghost use Rattle.std.specs.Prelude.{◌≡◌, ◌<◌, ◌≤◌, ◌⊎◌, ℕ, true, false, None, length, OnOk, IsErrOf};
+ghost use Rattle.std.specs.Prelude.{◌≡◌, ◌<◌, ◌≤◌, ℕ, true, false, None, length, OnOk};
 ghost use Rattle.std.specs.List.{Contains};
 ghost use Rattle.rio_base.specs.BlockSets.{CachesBy};
 ghost use Rattle.rio_base.specs.Blocks.{Looks, Caches, Drops, Ends, Halts};
@@ -10,17 +10,15 @@ ghost use Rattle.rio_base.specs.Volume.{Firm, Goes, SameUpdate};
 ghost use Rattle.rio_model.specs.Updates.{Applied, edited};
 ghost use Rattle.std.specs.Prelude.{map};
 ghost use Rattle.block_alloc.specs.Bitmap.{numbers};
+ghost use Rattle.block_alloc.specs.Words.{bit_of};
 ghost use Rattle.file_pages.specs.Changes.{node_update, size_update, word_edit};
-ghost use Rattle.file_pages.specs.Updating.{CanChange, CanMake, CanUpdate, EditsFit, IsEdited, IsTouched, IsUpdated, SetsBits};
+ghost use Rattle.file_pages.specs.Updating.{CanChange, CanUpdate, InOneBlock, IsEdited, IsTouched, IsUpdated, SetsBits};
 ghost use Rattle.file_pages.specs.declared.changes.Edit.{Edit};
 
 use crate::changes::{Edit, SizeChange};
-use block_alloc::{mark, unmark};
+use block_alloc::{BITMAP, set_used};
 use inode_table::{Inode, edit_inode, inode_block};
 use rio_base::{Block, Ino, Stopped, VolFail, Volume, VolumeShape};
-
-/// The bitmap of the blocks that a volume may have.
-const BITMAP: Block = Block(1);
 
 /// Touches the block of edits, which are all in one.
 #[tactic(auto, using(rio_base::proofs::BlockSets::caches_by_refl, rio_base::proofs::Rules::looks_refl, rio_base::specs::Rules::firm_refl, rio_base::specs::Rules::goes_refl))]
@@ -29,11 +27,11 @@ fn touch_table<V: Volume>(v: &mut V, shape: &VolumeShape, edits: &[Edit]) -> Res
     requires shape { HasShape shape.now (V.seen v.old) }
     requires in_update { (V.kept v.old).updating ≡ true }
     requires room { (V.kept v.old).touches ≤ 2 }
-    requires fit { EditsFit shape.now edits.now }
+    requires within { (e : Edit) → Contains edits.now e → e.block.0 < shape.now.blocks }
+    requires one { InOneBlock edits.now }
     requires unnamed { (e : Edit) → Contains edits.now e → (V.seen v.old).cached e.block.0 ≡ true → (V.seen v.old).names e.block.0 ≡ None }
     ensures ok { OnOk result ((e : Edit) → Contains edits.now e → (V.kept v.new).touched e.block.0 ≡ true) }
     ensures more { OnOk result ((b : ℕ) → (V.kept v.old).touched b ≡ true → (V.kept v.new).touched b ≡ true) }
-    ensures begun { IsErrOf result VolFail.Stopped ⊎ ((V.kept v.new).begun ≡ (V.kept v.old).begun) }
     ensures looks { Looks (V.seen v.old) (V.seen v.new) }
     ensures standing { (V.kept v.new).standing ≡ (V.kept v.old).standing }
     ensures firm { Firm (V.kept v.old) (V.kept v.new) }
@@ -65,7 +63,6 @@ pub fn touch_change<V: Volume>(
     requires ino { IsIno shape.now i.0 }
     requires can { CanChange shape.now (V.seen v.old) change.now }
     ensures ok { OnOk result (IsTouched (V.kept v.new) i.0 change.now.edits) }
-    ensures begun { IsErrOf result VolFail.Stopped ⊎ ((V.kept v.new).begun ≡ (V.kept v.old).begun) }
     ensures looks { Looks (V.seen v.old) (V.seen v.new) }
     ensures standing { (V.kept v.new).standing ≡ (V.kept v.old).standing }
     ensures firm { Firm (V.kept v.old) (V.kept v.new) }
@@ -106,14 +103,19 @@ fn make_edits<V: Volume>(v: &mut V, edits: &[Edit]) -> Result<(), Stopped>
     Ok(())
 }
 
-/// Marks blocks as used, in the open update.
-fn mark_all<V: Volume>(v: &mut V, shape: &VolumeShape, blocks: &[Block]) -> Result<(), Stopped>
+/// Marks blocks as used or as free, in the open update.
+fn mark_all<V: Volume>(
+    v: &mut V,
+    shape: &VolumeShape,
+    blocks: &[Block],
+    used: bool,
+) -> Result<(), Stopped>
     requires sound { V.sound v.old }
     requires shape { HasShape shape.now (V.seen v.old) }
     requires blocks { (b : ℕ) → Contains (numbers blocks.now) b → b < shape.now.blocks }
     requires touched { (V.kept v.old).touched 1 ≡ true }
     requires in_update { (V.kept v.old).updating ≡ true }
-    ensures ok { OnOk result (SetsBits shape.now (V.seen v.old).words (V.seen v.new).words (numbers blocks.now) (length blocks.now) 1) }
+    ensures ok { OnOk result (SetsBits shape.now (V.seen v.old).words (V.seen v.new).words (numbers blocks.now) (length blocks.now) (bit_of used)) }
     ensures update { OnOk result (SameUpdate (V.kept v.old) (V.kept v.new)) }
     ensures in_update { (V.kept v.new).updating ≡ true }
     ensures standing { (V.kept v.new).standing ≡ (V.kept v.old).standing }
@@ -125,31 +127,7 @@ fn mark_all<V: Volume>(v: &mut V, shape: &VolumeShape, blocks: &[Block]) -> Resu
     ensures sound { V.sound v.new }
 {
     for t in 0..blocks.len() {
-        mark(v, shape, blocks[t])?;
-    }
-    Ok(())
-}
-
-/// Marks blocks as free, in the open update.
-fn unmark_all<V: Volume>(v: &mut V, shape: &VolumeShape, blocks: &[Block]) -> Result<(), Stopped>
-    requires sound { V.sound v.old }
-    requires shape { HasShape shape.now (V.seen v.old) }
-    requires blocks { (b : ℕ) → Contains (numbers blocks.now) b → b < shape.now.blocks }
-    requires touched { (V.kept v.old).touched 1 ≡ true }
-    requires in_update { (V.kept v.old).updating ≡ true }
-    ensures ok { OnOk result (SetsBits shape.now (V.seen v.old).words (V.seen v.new).words (numbers blocks.now) (length blocks.now) 0) }
-    ensures update { OnOk result (SameUpdate (V.kept v.old) (V.kept v.new)) }
-    ensures in_update { (V.kept v.new).updating ≡ true }
-    ensures standing { (V.kept v.new).standing ≡ (V.kept v.old).standing }
-    ensures firm { Firm (V.kept v.old) (V.kept v.new) }
-    ensures shape { HasShape shape.now (V.seen v.new) }
-    ensures caches { Caches (V.seen v.old) (V.seen v.new) 1 None }
-    ensures goes { Goes (V.health v.old) (V.below v.old) (V.health v.new) (V.below v.new) }
-    ensures ends { Halts (V.health v.old) (V.health v.new) result }
-    ensures sound { V.sound v.new }
-{
-    for t in 0..blocks.len() {
-        unmark(v, shape, blocks[t])?;
+        set_used(v, shape, blocks[t], used)?;
     }
     Ok(())
 }
@@ -185,8 +163,8 @@ pub fn make_update<V: Volume>(
 {
     make_edits(v, edits)?;
     edit_inode(v, shape, i, inode)?;
-    mark_all(v, shape, taken)?;
-    unmark_all(v, shape, freed)?;
+    mark_all(v, shape, taken, true)?;
+    mark_all(v, shape, freed, false)?;
     Ok(())
 }
 
@@ -202,7 +180,7 @@ pub fn apply<V: Volume>(
     requires in_update { (V.kept v.old).updating ≡ true }
     requires ino { IsIno shape.now i.0 }
     requires touched { IsTouched (V.kept v.old) i.0 change.now.edits }
-    requires makes { CanMake shape.now change.now }
+    requires can { CanUpdate shape.now change.now.edits (numbers change.now.taken) (numbers change.now.freed) }
     ensures ok { OnOk result (Applied shape.now (size_update i.0 change.now) (V.seen v.old).words (V.seen v.new).words) }
     ensures update { OnOk result (SameUpdate (V.kept v.old) (V.kept v.new)) }
     ensures in_update { (V.kept v.new).updating ≡ true }

@@ -86,17 +86,19 @@ files_stopped shape x k y j i part h at stop = record { ready = stop.ready; file
 pub files_read : (shape : VolumeShape) (s : Health) (o : Below) (t : Health) (n : Below) (x : Seen) (k : Kept) (y : Seen) (j : Kept) → FilesReady shape x k → Looks x y → HasShape shape y → AllNamed (volume_layout shape x.words) y → Passes s o k t n j → FilesReady shape y j
 files_read shape s o t n x k y j h looks has_shape named passes = record {
   ready = record {
-    has_shape = has_shape;
-    mapped = subst (IsMapped shape) (sym looks.words) h.ready.mapped;
-    named = subst (λ (f : BlockWords). AllNamed (volume_layout shape f) y) (sym looks.words) named;
-    firm = subst (λ (f : BlockWords). Firmly (volume_layout shape f) j) (sym looks.words) (firm_on _ k j h.ready.firm passes.firm);
+    order = record {
+      has_shape = has_shape;
+      mapped = subst (IsMapped shape) (sym looks.words) h.ready.order.mapped;
+      named = subst (λ (f : BlockWords). AllNamed (volume_layout shape f) y) (sym looks.words) named;
+      firm = subst (λ (f : BlockWords). Firmly (volume_layout shape f) j) (sym looks.words) (firm_on _ k j h.ready.order.firm passes.firm);
+    };
     idle = passes.updating ∙ h.ready.idle;
   };
   files = subst (HasFiles shape) (sym looks.words) h.files;
 }
 
 pub files_looked : (shape : VolumeShape) (s : Health) (o : Below) (t : Health) (n : Below) (x : Seen) (k : Kept) (y : Seen) (j : Kept) → FilesReady shape x k → LooksUp shape x y → Passes s o k t n j → FilesReady shape y j
-files_looked shape s o t n x k y j h l passes = files_read shape s o t n x k y j h l.looks l.still.has_shape (named_on shape x y h.ready.mapped h.ready.named l) passes
+files_looked shape s o t n x k y j h l passes = files_read shape s o t n x k y j h l.looks l.still.has_shape (named_on shape x y h.ready.order.mapped h.ready.order.named l) passes
 
 -- ---- a call that writes, by how it ends
 

@@ -3,7 +3,8 @@
 ghost use Rattle.std.specs.Prelude.{◌⊎◌, IsErrOf, OnOk};
 ghost use Rattle.file_pages_tests.specs.TestFiles.{FilesReady, FilesStand, IsTestFile};
 
-use file_pages::{LARGEST_SIZE, SizeFail, WriteFail, blocks_of, read, resize, write};
+use file_pages::{SizeFail, WriteFail, blocks_of, read, resize, write};
+use inode_table::LARGEST_SIZE;
 use rio_base::{BlockList, Ino, Octets, ReadFail, Volume, VolumeShape};
 use std::alloc::{AllocError, Global};
 

@@ -28,7 +28,7 @@ pub use Rattle.file_pages.specs.Changes.{wanted_blocks}
 pub use Rattle.file_pages.specs.Files.{SetsBoth, file_bytes}
 pub use Rattle.file_pages.specs.Forgetting.{Forgets}
 pub use Rattle.file_pages.specs.LookingUp.{node_blocks}
-pub use Rattle.file_pages.specs.Orders.{InOrder}
+pub use Rattle.rio_model.specs.VolumeReady.{AllNamed, Bears, InOrder, LeavesInUse, NamedNode, NamesPage, Ready}
 pub use Rattle.file_pages.specs.Updating.{IsEdited}
 pub use Rattle.file_pages.specs.declared.changes.Edit.{Edit}
 pub use Rattle.file_pages.specs.declared.failures.SizeFail.{SizeFail}
@@ -72,7 +72,6 @@ pub use Rattle.rio_model.specs.States.{front_of, last_of, least_free, names_in, 
 pub use Rattle.rio_model.specs.Undo.{region_words}
 pub use Rattle.rio_model.specs.Updates.{Applied}
 pub use Rattle.rio_model.specs.VolumeReads.{Reads, ReadsAs, node_in, region_in}
-pub use Rattle.rio_model.specs.VolumeReady.{AllNamed, Bears, LeavesInUse, NamedNode, NamesPage, Ready}
 pub use Rattle.rio_model.specs.VolumeRules.{EntryRule, IsMapped, NamesApartRule, NodeFits, TreeRule, bitmap_bits}
 pub use Rattle.rio_model.specs.declared.node.Node.{Node}
 pub use Rattle.rio_model.specs.declared.node.Node.TheVariants.{File, Region}

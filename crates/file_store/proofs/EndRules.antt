@@ -1,5 +1,6 @@
 -- What may follow the end of a request on files.
 use Rattle.file_store.proofs.Common.{ℕ, ap, inl, refl, Result, Ok, Err, IsErrOf, VolumeShape, Seen, Kept, Answered, Reply, State, Held, volume_layout, held_of_agree, reads_agree, ReadsAs, LeavesInUse, Ready, ready_left}
+use Rattle.rio_model.proofs.LowestBlocks.{bits_agree, lowest_same}
 use Rattle.file_store.specs.Ends.{CanServe, FileEnds, Left}
 use Rattle.file_store.specs.declared.failures.FileFail.{FileFail}
 use Rattle.file_store.specs.declared.failures.FileFail.TheVariants.{Refused, Fault, Stopped, Memory}
@@ -23,5 +24,6 @@ pub left_same : (shape : VolumeShape) (x : Seen) (k : Kept) (y : Seen) (j : Kept
 left_same shape x k y j s ready leaves reads = record {
   ready = ready_left shape x k y j ready leaves;
   reads = reads_agree shape x.words y.words s reads leaves.words;
-  spares = record { each = λ i region. inl (ap (λ (h : ℕ → Held). h i) (held_of_agree shape x.words y.words ready.mapped leaves.words)) };
+  spares = record { each = λ i region. inl (ap (λ (h : ℕ → Held). h i) (held_of_agree shape x.words y.words ready.order.mapped leaves.words)) };
+  lowest = lowest_same shape x.words y.words (bits_agree shape x.words y.words ready.order.mapped.laid.shape_fits leaves.words.low);
 }

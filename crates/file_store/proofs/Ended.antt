@@ -2,19 +2,23 @@
 use Rattle.file_store.proofs.Common.{◌≡◌, ℕ, ◌≤◌, false, List, map, refl, sym, ap, subst, ◌∙◌, arith, inl, inr, Ok, Err, Some, None, true_false, PageName, VolumeShape, FirmOutside, SameOutside, BlockWords, Seen, reserved, Firm, Kept, Settled, Answered, Reply, State, Held, held_of, volume_layout, Owned, Agrees, held_of_agree, reads_agree, ReadsAs, LeavesInUse, Ready, firm_on, ready_left, ready_order, InOrder}
 use Rattle.std.specs.Prelude.{Bool, true, Option}
 use Rattle.rio_base.specs.declared.failures.VolFail.TheVariants.{Fault as VolFault, Stopped as VolStopped}
-use Rattle.file_pages.proofs.OrderRules.{order_agree, order_left, stands_left, stands_order, stands_ready_left}
-use Rattle.file_store.specs.Changes.{AllApplied, IsFreed, IsTouchedBy, node_update}
+use Rattle.rio_model.proofs.LowestBlocks.{bits_agree, lowest_on, lowest_same}
+use Rattle.rio_model.specs.NodeChanges.{UsesLowest}
+use Rattle.file_pages.proofs.OrderRules.{order_agree, order_left, stands_left, stands_ready_left}
+use Rattle.file_store.specs.Changes.{AllApplied, IsFreed, IsTouchedBy, change_update}
 use Rattle.file_store.specs.Committing.{Commits, Touched}
 use Rattle.file_store.specs.Ends.{FileEnds, Left, Spares, Stands}
 use Rattle.file_store.specs.declared.changes.NodeChange.{NodeChange}
 use Rattle.file_store.specs.declared.failures.FileFail.TheVariants.{Fault, Stopped}
 use Rattle.file_store.proofs.Steps.{MayBeMetadata, order_start}
 
--- what an update comes to that is made of blocks f, under names z: blocks g read as state t, and no freed block is in use
+-- what an update comes to that is made of blocks f, under names z: blocks g read as state t, in the lowest free blocks, and
+-- no freed block is in use
 pub record Reaches (shape : VolumeShape) (f : BlockWords) (z : Seen) (j : Kept) (changes : List NodeChange) (g : BlockWords) (t : State) : Type 0 where
   pub order : InOrder shape g z j
   pub reads : ReadsAs shape g t
   pub spares : Spares (held_of shape f) (held_of shape g)
+  pub lowest : UsesLowest shape f g
   pub out : (b : ℕ) → IsFreed changes b → Owned (volume_layout shape g) b → ⊥
   pub above : (b : ℕ) → IsFreed changes b → reserved shape ≤ b
 
@@ -27,7 +31,8 @@ pub left_planned : (shape : VolumeShape) (x : Seen) (k : Kept) (y : Seen) (j : K
 left_planned shape x k y j s ready leaves reads = record {
   ready = ready_left shape x k y j ready leaves;
   reads = reads_agree shape x.words y.words s reads leaves.words;
-  spares = spares_same _ _ (held_of_agree shape x.words y.words ready.mapped leaves.words);
+  spares = spares_same _ _ (held_of_agree shape x.words y.words ready.order.mapped leaves.words);
+  lowest = lowest_same shape x.words y.words (bits_agree shape x.words y.words ready.order.mapped.laid.shape_fits leaves.words.low);
 }
 
 pub stands_planned : (shape : VolumeShape) (x : Seen) (k : Kept) (y : Seen) (j : Kept) (s : State) → Ready shape x k → Settled x k → LeavesInUse (volume_layout shape x.words) x k y j → ReadsAs shape x.words s → Stands shape y j s
@@ -62,13 +67,14 @@ firm_made shape f z j l changes g t r firm = record {
         by false e = refl
         by true e = absurd (true_false (sym (firm.loose b none e) ∙ was))
 
-pub ends_made : {T : Type 0} (says : T → Reply → Type 0) (value : T) (shape : VolumeShape) (x : Seen) (k : Kept) (y : Seen) (j : Kept) (changes : List NodeChange) (z : Seen) (l : Kept) (s : State) (a : Answered) (leads : ℕ → State → Type 0) → ((g : BlockWords) → AllApplied shape (map node_update changes) y.words g → Reaches shape x.words z j changes g a.next) → Commits {T = Unit {0}} shape changes y j z l (Ok tt) → (reply : Reply) × (a.reply ≡ Some reply) × says value reply → FileEnds says shape x k z l s a leads (Ok value)
+pub ends_made : {T : Type 0} (says : T → Reply → Type 0) (value : T) (shape : VolumeShape) (x : Seen) (k : Kept) (y : Seen) (j : Kept) (changes : List NodeChange) (z : Seen) (l : Kept) (s : State) (a : Answered) (leads : ℕ → State → Type 0) → ((g : BlockWords) → AllApplied shape (map change_update changes) y.words g → Reaches shape x.words z j changes g a.next) → Commits {T = Unit {0}} shape changes y j z l (Ok tt) → (reply : Reply) × (a.reply ≡ Some reply) × says value reply → FileEnds says shape x k z l s a leads (Ok value)
 ends_made says value shape x k y j changes z l s a leads reach ((m, same), idle) replies = (
   replies,
   record {
     ready = ready_order shape z l (order_agree shape m.made z.words z l (firm_made shape x.words z j l changes m.made a.next r m.firm) agrees) idle;
     reads = reads_agree shape m.made z.words a.next r.reads agrees;
     spares = subst (λ h. Spares (held_of shape x.words) h) (sym (held_of_agree shape m.made z.words r.order.mapped agrees)) r.spares;
+    lowest = lowest_on shape x.words m.made z.words r.lowest (bits_agree shape m.made z.words r.order.mapped.laid.shape_fits agrees.low);
   },
 )
   where
@@ -106,13 +112,13 @@ ends_fault says shape x k y j changes z l s a leads ready leaves reads touched a
 
 -- ---- it is stopped: all of it stands, or nothing
 
-pub ends_stopped : {T : Type 0} (says : T → Reply → Type 0) (shape : VolumeShape) (x : Seen) (k : Kept) (y : Seen) (j : Kept) (changes : List NodeChange) (z : Seen) (l : Kept) (s : State) (a : Answered) (leads : ℕ → State → Type 0) → Ready shape x k → Settled x k → LeavesInUse (volume_layout shape x.words) x k y j → ReadsAs shape x.words s → Touched shape changes y z → MayTouch shape x.words changes → ((g : BlockWords) → AllApplied shape (map node_update changes) y.words g → Reaches shape x.words z j changes g a.next) → Commits {T = Unit {0}} shape changes y j z l (Err VolStopped) → FileEnds {T = T} says shape x k z l s a leads (Err Stopped)
+pub ends_stopped : {T : Type 0} (says : T → Reply → Type 0) (shape : VolumeShape) (x : Seen) (k : Kept) (y : Seen) (j : Kept) (changes : List NodeChange) (z : Seen) (l : Kept) (s : State) (a : Answered) (leads : ℕ → State → Type 0) → Ready shape x k → Settled x k → LeavesInUse (volume_layout shape x.words) x k y j → ReadsAs shape x.words s → Touched shape changes y z → MayTouch shape x.words changes → ((g : BlockWords) → AllApplied shape (map change_update changes) y.words g → Reaches shape x.words z j changes g a.next) → Commits {T = Unit {0}} shape changes y j z l (Err VolStopped) → FileEnds {T = T} says shape x k z l s a leads (Err Stopped)
 ends_stopped says shape x k y j changes z l s a leads ready settled leaves reads touched allowed reach (inl (standing, firm)) =
     let agrees = subst (λ f. Agrees (volume_layout shape x.words) x.words f) (sym standing) (stands_left shape x k y j ready settled leaves) in (
       s,
       inl refl,
       record {
-        ready = stands_order shape z l (order_agree shape x.words l.standing z l (order_touched shape x k y j changes z l ready leaves touched allowed firm) agrees);
+        ready = order_agree shape x.words l.standing z l (order_touched shape x k y j changes z l ready leaves touched allowed firm) agrees;
         reads = reads_agree shape x.words l.standing s reads agrees;
       },
     )
@@ -120,7 +126,7 @@ ends_stopped says shape x k y j changes z l s a leads ready settled leaves reads
   a.next,
   inr (inl refl),
   record {
-    ready = stands_order shape z l (order_agree shape m.made l.standing z l (firm_made shape x.words z j l changes m.made a.next r m.firm) agrees);
+    ready = order_agree shape m.made l.standing z l (firm_made shape x.words z j l changes m.made a.next r m.firm) agrees;
     reads = reads_agree shape m.made l.standing a.next r.reads agrees;
   },
 )

@@ -20,6 +20,7 @@ left_set shape x y j s i bytes reads file ready sets = record {
   ready = ready;
   reads = file_set shape x.words y.words s i bytes reads sets file;
   spares = record { each = λ n region. by n region (cases_eq n i) };
+  lowest = sets.lowest;
 }
   where
     by : (n : ℕ) → (held_of shape y.words n).kind ≡ 3 → (n ≡ i) ⊎ (n ≢ i) → (held_of shape y.words n ≡ held_of shape x.words n) ⊎ (((held_of shape x.words n).kind ≡ 0) × ((held_of shape y.words n).word 3 ≡ 0))

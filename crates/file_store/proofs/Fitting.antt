@@ -1,8 +1,9 @@
 -- Changes that are made in one update: what they may cache, and that no block which they free is in use afterwards.
 use Rattle.file_store.proofs.Common.{◌≡◌, ◌≢◌, ℕ, zero, suc, ◌<◌, ◌≤◌, ◌⊎◌, List, [], ◌∷◌, map, sym, subst, ◌∙◌, arith, inl, inr, None, Contains, cases_eq, PageName, VolumeShape, used_bit, BlockWords, IsIno, reserved, numbers, IsFree, Owned, volume_layout, inode_low, owned_below, IsMapped, bitmap_bits, IsEdited}
 use Rattle.std.specs.Prelude.{Option}
+use Rattle.rio_model.proofs.LowestBlocks.{decided}
 use Rattle.rio_model.proofs.PlacedRules.{has_bit}
-use Rattle.file_store.specs.Changes.{AllApplied, IsFreed, IsTouchedBy, node_update}
+use Rattle.file_store.specs.Changes.{AllApplied, IsFreed, IsTouchedBy, change_update}
 use Rattle.file_store.specs.declared.changes.NodeChange.{NodeChange}
 use Rattle.file_store.proofs.Steps.{MayBeMetadata}
 
@@ -31,24 +32,11 @@ may_touch shape y changes mapped all b name (inr (c, on, inr edited), none) = (n
 
 -- ---- freed blocks
 
-in_head : (x b : ℕ) (xs : List ℕ) → Contains (x ∷ xs) b → (x ≡ b) ⊎ Contains xs b
-in_head x b xs (zero, few, at) = inl at
-in_head x b xs (suc t, few, at) = inr (t, omega (arith, few), at)
-
-pub decided : (xs : List ℕ) (b : ℕ) → Contains xs b ⊎ (Contains xs b → ⊥)
-decided [] b = inr (λ on. (let few = on.1 in omega (arith, few)))
-decided (x ∷ xs) b = by (cases_eq x b) (decided xs b)
-  where
-    by : (x ≡ b) ⊎ (x ≢ b) → Contains xs b ⊎ (Contains xs b → ⊥) → Contains (x ∷ xs) b ⊎ (Contains (x ∷ xs) b → ⊥)
-    by (inl here) _ = inl (0, omega arith, here)
-    by (inr away) (inl (t, few, at)) = inl (suc t, omega (arith, few), at)
-    by (inr away) (inr none) = inr (λ on. elim (in_head x b xs on) [ inl here ↦ away here | inr later ↦ none later ])
-
 -- a block that is in use before: it is taken by no change
 in_use : (shape : VolumeShape) (y : BlockWords) (c : NodeChange) (b : ℕ) → Fits shape y c → Owned (volume_layout shape y) b → Contains (numbers c.taken) b → ⊥
 in_use shape y c b fits own taken = (fits.takes b taken).free own
 
-bit_stays : (shape : VolumeShape) (y f g : BlockWords) (changes : List NodeChange) (b : ℕ) → AllFit shape y changes → AllApplied shape (map node_update changes) f g → Owned (volume_layout shape y) b → b < bitmap_bits shape → used_bit shape f b ≡ 0 → used_bit shape g b ≡ 0
+bit_stays : (shape : VolumeShape) (y f g : BlockWords) (changes : List NodeChange) (b : ℕ) → AllFit shape y changes → AllApplied shape (map change_update changes) f g → Owned (volume_layout shape y) b → b < bitmap_bits shape → used_bit shape f b ≡ 0 → used_bit shape g b ≡ 0
 bit_stays shape y f g [] b all is own below zero_bit = subst (λ (w : BlockWords). used_bit shape w b ≡ 0) (sym is) zero_bit
 bit_stays shape y f g (c ∷ changes) b all (h, a, rest) own below zero_bit = bit_stays shape y h g changes b all.1 rest own below (now (decided (numbers c.freed) b))
   where
@@ -56,14 +44,14 @@ bit_stays shape y f g (c ∷ changes) b all (h, a, rest) own below zero_bit = bi
     now (inl on) = a.freed b on
     now (inr none) = a.others b below (in_use shape y c b all.0 own) none ∙ zero_bit
 
-bit_freed : (shape : VolumeShape) (y f g : BlockWords) (changes : List NodeChange) (c : NodeChange) (b : ℕ) → AllFit shape y changes → AllApplied shape (map node_update changes) f g → Contains changes c → Contains (numbers c.freed) b → b < bitmap_bits shape → used_bit shape g b ≡ 0
+bit_freed : (shape : VolumeShape) (y f g : BlockWords) (changes : List NodeChange) (c : NodeChange) (b : ℕ) → AllFit shape y changes → AllApplied shape (map change_update changes) f g → Contains changes c → Contains (numbers c.freed) b → b < bitmap_bits shape → used_bit shape g b ≡ 0
 bit_freed shape y f g [] c b all is (t, few, at) freed below = absurd (omega (arith, few))
 bit_freed shape y f g (d ∷ changes) c b all (h, a, rest) (zero, few, at) freed below =
     let on = subst (λ (x : NodeChange). Contains (numbers x.freed) b) (sym at) freed in
     bit_stays shape y h g changes b all.1 rest (all.0.frees b on) below (a.freed b on)
 bit_freed shape y f g (d ∷ changes) c b all (h, a, rest) (suc t, few, at) freed below = bit_freed shape y h g changes c b all.1 rest (t, omega (arith, few), at) freed below
 
-pub freed_out : (shape : VolumeShape) (y g : BlockWords) (changes : List NodeChange) → IsMapped shape y → IsMapped shape g → AllFit shape y changes → AllApplied shape (map node_update changes) y g → (b : ℕ) → IsFreed changes b → Owned (volume_layout shape g) b → ⊥
+pub freed_out : (shape : VolumeShape) (y g : BlockWords) (changes : List NodeChange) → IsMapped shape y → IsMapped shape g → AllFit shape y changes → AllApplied shape (map change_update changes) y g → (b : ℕ) → IsFreed changes b → Owned (volume_layout shape g) b → ⊥
 freed_out shape y g changes before mapped all applied b (c, on, freed) own =
     let fits = fits_of shape y changes c all on in
     let within = owned_below (volume_layout shape y) b before.laid.numbers (fits.frees b freed) in

@@ -4,10 +4,11 @@ use Rattle.std.proofs.lemmas.List.{get_or_default}
 use Rattle.rio_model.proofs.PlacedRules.{has_bit}
 use Rattle.file_pages.specs.Forgetting.{Uncached}
 use Rattle.file_pages.proofs.Staged.{not_true}
-use Rattle.file_store.specs.Changes.{AllApplied, IsFreed, node_update}
+use Rattle.file_store.specs.Changes.{AllApplied, IsFreed, change_update}
 use Rattle.file_store.specs.Committing.{Commits}
 use Rattle.file_store.specs.declared.changes.NodeChange.{NodeChange}
-use Rattle.file_store.proofs.Fitting.{AllFit, decided, freed_above, freed_out}
+use Rattle.rio_model.proofs.LowestBlocks.{decided}
+use Rattle.file_store.proofs.Fitting.{AllFit, freed_above, freed_out}
 use Rattle.file_store.proofs.Reached.{Prepared, mapped_now}
 use Rattle.file_store.proofs.Requested.{Committed, OrdersAll, ReachesAll, prepared}
 
@@ -40,7 +41,7 @@ forgotten_every y cs n end h b (c, (t, few, at), on) = h.each c t (omega (arith,
 freed_further : (c : NodeChange) (cs : List NodeChange) (b : ℕ) → IsFreed cs b → IsFreed (c ∷ cs) b
 freed_further c cs b (d, (t, few, at), on) = (d, (suc t, omega (arith, few), at), on)
 
-still_marked : (shape : VolumeShape) (f h : BlockWords) (c : NodeChange) (b : ℕ) → Applied shape (node_update c) f h → b < bitmap_bits shape → (Contains (numbers c.freed) b → ⊥) → used_bit shape f b ≡ 1 → used_bit shape h b ≡ 1
+still_marked : (shape : VolumeShape) (f h : BlockWords) (c : NodeChange) (b : ℕ) → Applied shape (change_update c) f h → b < bitmap_bits shape → (Contains (numbers c.freed) b → ⊥) → used_bit shape f b ≡ 1 → used_bit shape h b ≡ 1
 still_marked shape f h c b a below kept was = by (decided (numbers c.taken) b)
   where
     by : Contains (numbers c.taken) b ⊎ (Contains (numbers c.taken) b → ⊥) → used_bit shape h b ≡ 1
@@ -48,7 +49,7 @@ still_marked shape f h c b a below kept was = by (decided (numbers c.taken) b)
     by (inr none) = a.others b below none kept ∙ was
 
 -- a block that is marked before, and not after, is one that a change frees
-unmarked_freed : (shape : VolumeShape) (f g : BlockWords) (cs : List NodeChange) (b : ℕ) → AllApplied shape (map node_update cs) f g → b < bitmap_bits shape → used_bit shape f b ≡ 1 → used_bit shape g b ≡ 0 → IsFreed cs b
+unmarked_freed : (shape : VolumeShape) (f g : BlockWords) (cs : List NodeChange) (b : ℕ) → AllApplied shape (map change_update cs) f g → b < bitmap_bits shape → used_bit shape f b ≡ 1 → used_bit shape g b ≡ 0 → IsFreed cs b
 unmarked_freed shape f g [] b is below was now = absurd (let same = ap (λ (w : BlockWords). used_bit shape w b) is in omega (arith, same, was, now))
 unmarked_freed shape f g (c ∷ cs) b (h, a, rest) below was now = by (decided (numbers c.freed) b) (λ bit. unmarked_freed shape h g cs b rest below bit now)
   where
@@ -61,7 +62,7 @@ same_agrees shape f g mapped agrees = lays_same (volume_layout shape f) g (lays_
 
 -- changes of blocks y make blocks g, and both keep the rules of a volume; nodes lie over f as over y, and over w as over g.
 -- Where no block is cached that a change frees, none is that lost its node
-pub forgets_applied : (shape : VolumeShape) (f y g : BlockWords) (w : Seen) (cs : List NodeChange) → IsMapped shape y → IsMapped shape g → SameLayout (volume_layout shape f) (volume_layout shape y) → AllApplied shape (map node_update cs) y g → SameLayout (volume_layout shape g) (volume_layout shape w.words) → Uncached (IsFreed cs) w → Forgets (volume_layout shape f) (volume_layout shape w.words) w
+pub forgets_applied : (shape : VolumeShape) (f y g : BlockWords) (w : Seen) (cs : List NodeChange) → IsMapped shape y → IsMapped shape g → SameLayout (volume_layout shape f) (volume_layout shape y) → AllApplied shape (map change_update cs) y g → SameLayout (volume_layout shape g) (volume_layout shape w.words) → Uncached (IsFreed cs) w → Forgets (volume_layout shape f) (volume_layout shape w.words) w
 forgets_applied shape f y g w cs before after first applied last gone = λ b lost. gone b (freed b lost.0 lost.1)
   where
     freed : (b : ℕ) → Owned (volume_layout shape f) b → (Owned (volume_layout shape w.words) b → ⊥) → IsFreed cs b
@@ -75,7 +76,7 @@ forgets_applied shape f y g w cs before after first applied last gone = λ b los
 -- ---- a request of one update
 
 -- what reads otherwise once freed blocks are dropped is in use by no node
-agrees_dropped : (shape : VolumeShape) (y g w : BlockWords) (cs : List NodeChange) → IsMapped shape y → IsMapped shape g → AllFit shape y cs → AllApplied shape (map node_update cs) y g → SameOutside (IsFreed cs) g w → Agrees (volume_layout shape g) g w
+agrees_dropped : (shape : VolumeShape) (y g w : BlockWords) (cs : List NodeChange) → IsMapped shape y → IsMapped shape g → AllFit shape y cs → AllApplied shape (map change_update cs) y g → SameOutside (IsFreed cs) g w → Agrees (volume_layout shape g) g w
 agrees_dropped shape y g w cs before after fits applied same = record {
   low = λ b x low. same.others b x (λ freed. (let above = freed_above shape y cs before fits b freed in omega (arith, above, low)));
   owned = λ i s own x. same.others _ x (λ freed. freed_out shape y g cs before after fits applied _ freed (record { node = i; slot = s; owns = own; is = refl }));
@@ -91,7 +92,7 @@ forgets_committed shape x k y j z l items changes r u re is h orders gone = by (
         let before : IsMapped shape y.words = mapped_now shape x k y j z changes pre in
         let after : IsMapped shape m.made = (orders pre m.made m.applied).mapped in
         forgets_applied shape x.words y.words m.made z changes before after
-        (same_agrees shape x.words y.words h.request.ready.mapped h.request.leaves.words) m.applied
+        (same_agrees shape x.words y.words h.request.ready.order.mapped h.request.leaves.words) m.applied
         (same_agrees shape m.made z.words after (agrees_dropped shape y.words m.made z.words changes before after pre.fits m.applied same))
         (subst (λ (cs : List NodeChange). Uncached (IsFreed cs) z) is gone)
 

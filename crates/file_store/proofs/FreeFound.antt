@@ -52,4 +52,4 @@ least_some shape f s i reads ino free used =
 
 -- the look for it leaves all that is in use
 pub leaves_found : (shape : VolumeShape) (s t : Health) (o n : Below) (x y : Seen) (k j : Kept) → Ready shape x k → Looks x y → HasShape shape y → CachesBy (IsMetadata shape) x y → Passes s o k t n j → LeavesInUse (volume_layout shape x.words) x k y j
-leaves_found shape s t o n x y k j ready looks has_shape caches passes = leaves_read shape s t o n x y k j ready looks has_shape (all_touched (volume_layout shape x.words) (IsMetadata shape) x y ready.mapped.laid (λ c name low. (low.1, inl low.0)) caches ready.named) passes
+leaves_found shape s t o n x y k j ready looks has_shape caches passes = leaves_read shape s t o n x y k j ready looks has_shape (all_touched (volume_layout shape x.words) (IsMetadata shape) x y ready.order.mapped.laid (λ c name low. (low.1, inl low.0)) caches ready.order.named) passes

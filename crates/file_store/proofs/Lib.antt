@@ -15,6 +15,7 @@ pub mod Forgotten
 pub mod FreeFound
 pub mod FreeRows
 pub mod LookedAt
+pub mod LowestTaken
 pub mod NameSteps
 pub mod NamesListed
 pub mod NewRegionWords

@@ -23,7 +23,7 @@ used_ino shape f i used = by (nat_le 1 i && nat_le i shape.inodes) refl used
 
 -- is read
 pub leaves_inode : (shape : VolumeShape) (s t : Health) (o n : Below) (x y : Seen) (k j : Kept) (i : ℕ) → Ready shape x k → 0 < (held_of shape x.words i).kind → Looks x y → Caches x y (inode_block i) None → Passes s o k t n j → LeavesInUse (volume_layout shape x.words) x k y j
-leaves_inode shape s t o n x y k j i ready used looks caches passes = leaves_looked shape s t o n x y k j ready (looked_inode shape x y i (can_look_up shape x ready.has_shape ready.mapped ready.named) (used_ino shape x.words i used) looks caches) passes
+leaves_inode shape s t o n x y k j i ready used looks caches passes = leaves_looked shape s t o n x y k j ready (looked_inode shape x y i (can_look_up shape x ready.order.has_shape ready.order.mapped ready.order.named) (used_ino shape x.words i used) looks caches) passes
 
 -- ---- kinds, in the state
 

@@ -7,6 +7,7 @@ use Rattle.file_store.proofs.AnsweredAt.{FailsBy}
 use Rattle.file_store.specs.Changes.{IsMade, of_dir}
 use Rattle.file_store.specs.declared.changes.NodeChange.{NodeChange}
 use Rattle.file_store.proofs.LookedAt.{no_row}
+use Rattle.file_store.proofs.LowestTaken.{bare_lower, lowest_each, stood_lower}
 use Rattle.file_store.proofs.Reached.{reaches_made}
 use Rattle.file_store.proofs.Requested.{ReachesAll, Requested, dir_ino, dir_may, fails_add, made_may}
 use Rattle.file_store.proofs.Stood.{Stood, stood_now}
@@ -25,16 +26,17 @@ pub record NewRow (shape : VolumeShape) (x : Seen) (k : Kept) (y : Seen) (j : Ke
   pub absent : (n : ℕ) → HasRow (held_of shape x.words d) name n → ⊥
 
 new_stood : (shape : VolumeShape) (x : Seen) (k : Kept) (y : Seen) (j : Kept) (d : ℕ) (name : List ℕ) (i kind : ℕ) (c : DirChange) (m : NodeChange) → NewRow shape x k y j d name i kind c m → Stood shape x y j d (AddsRow name i) c
-new_stood shape x k y j d name i kind c m h = stood_now shape x x k y j d (AddsRow name i) c h.ready h.leaves (dir_ino shape x.words d h.dir) refl h.plan
+new_stood shape x k y j d name i kind c m h = stood_now shape x x k y j d (AddsRow name i) c h.ready h.leaves (dir_ino shape x.words d h.dir) refl (λ b within. refl) h.plan
 
 pub new_requested : (shape : VolumeShape) (x : Seen) (k : Kept) (y : Seen) (j : Kept) (d : ℕ) (name : List ℕ) (i kind : ℕ) (c : DirChange) (m : NodeChange) → Settled x k → NewRow shape x k y j d name i kind c m → Requested shape x k y j (of_dir c ∷ m ∷ [])
 new_requested shape x k y j d name i kind c m settled h =
-    let mapped = (ready_left shape x k y j h.ready h.leaves).mapped in
+    let mapped = (ready_left shape x k y j h.ready h.leaves).order.mapped in
     record {
       ready = h.ready;
       settled = settled;
       leaves = h.leaves;
       may = (dir_may shape x y j d (AddsRow name i) c mapped (dir_ino shape x.words d h.dir) (new_stood shape x k y j d name i kind c m h), (made_may shape y i kind m mapped h.ino h.made, tt));
+      lowest = lowest_each shape x.words (of_dir c ∷ m ∷ []) (stood_lower shape x y j d (AddsRow name i) c (new_stood shape x k y j d name i kind c m h), (bare_lower shape x.words m h.made.taken, tt));
     }
 
 pub new_reaches : (shape : VolumeShape) (x : Seen) (k : Kept) (y : Seen) (j : Kept) (z : Seen) (d : ℕ) (name : List ℕ) (i kind : ℕ) (c : DirChange) (m : NodeChange) (s : State) → NewRow shape x k y j d name i kind c m → ReadsAs shape x.words s → ReachesAll shape x k y j z (of_dir c ∷ m ∷ []) (with_new s d name i (empty_node kind))

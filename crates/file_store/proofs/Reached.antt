@@ -1,9 +1,10 @@
 -- The state that is read once the changes of a request are made, for each list of changes that a request makes.
 use Rattle.file_store.proofs.Common.{◌≡◌, ◌≢◌, ℕ, ◌<◌, ◌≤◌, ◌⊎◌, true, List, [], ◌∷◌, map, refl, sym, ap, subst, ◌∙◌, arith, inl, inr, None, nat_lt, get, cases_eq, nat_tests, Block, PageName, VolumeShape, BlockWords, Seen, IsIno, Kept, numbers, State, with_new, Held, held_of, held_ino, IsName, is_dir, Placed, placed_at, volume_layout, SamePlaced, Applied, held_of_agree, reads_dir, reads_none, ReadsAs, LeavesInUse, Ready, IsMapped, TreeRule, node_blocks, ready_left, InOrder, PlansDir, AddsRow, RemovesRow, ReplacesRow, SetsRow, IsEntry, DirChange, empty_node, moved, without}
 use Rattle.std.specs.Prelude.{Option, cond}
+use Rattle.rio_model.proofs.LowestBlocks.{bits_agree}
 use Rattle.rio_model.proofs.PlacedRules.{root_ino}
-use Rattle.file_pages.proofs.OrderRules.{order_ready}
-use Rattle.file_store.specs.Changes.{AllApplied, IsGone, IsMade, IsTouchedBy, node_update, of_dir}
+use Rattle.rio_model.specs.NodeChanges.{UsesLowest}
+use Rattle.file_store.specs.Changes.{AllApplied, IsGone, IsMade, IsTouchedBy, change_update, of_dir}
 use Rattle.file_store.specs.Committing.{Touched}
 use Rattle.file_store.proofs.EmptyHeld.{empty_held}
 use Rattle.file_store.proofs.ReadSteps.{DropsRow, MakesRow, RenamesRow, gone_as, made_as, renamed_as}
@@ -13,6 +14,7 @@ use Rattle.file_store.specs.declared.changes.NodeChange.{NodeChange}
 use Rattle.file_store.proofs.Blocks.{still_all, still_own}
 use Rattle.file_store.proofs.Ended.{Reaches}
 use Rattle.file_store.proofs.Fitting.{AllFit, freed_above, freed_out, may_touch}
+use Rattle.file_store.proofs.LowestTaken.{TakesLowest, uses_lowest}
 use Rattle.file_store.proofs.Steps.{Steps, gone_step, made_step, order_start}
 use Rattle.file_store.proofs.Stood.{Stood, stood_step}
 
@@ -24,18 +26,19 @@ pub record Prepared (shape : VolumeShape) (x : Seen) (k : Kept) (y : Seen) (j : 
   pub leaves : LeavesInUse (volume_layout shape x.words) x k y j
   pub touched : Touched shape changes y z
   pub fits : AllFit shape y.words changes
+  pub lowest : TakesLowest shape x.words changes
 
 pub mapped_now : (shape : VolumeShape) (x : Seen) (k : Kept) (y : Seen) (j : Kept) (z : Seen) (changes : List NodeChange) → Prepared shape x k y j z changes → IsMapped shape y.words
-mapped_now shape x k y j z changes p = (ready_left shape x k y j p.ready p.leaves).mapped
+mapped_now shape x k y j z changes p = (ready_left shape x k y j p.ready p.leaves).order.mapped
 
 -- names are right, with the update's blocks cached
 pub order_now : (shape : VolumeShape) (x : Seen) (k : Kept) (y : Seen) (j : Kept) (z : Seen) (changes : List NodeChange) → Prepared shape x k y j z changes → InOrder shape y.words z j
 order_now shape x k y j z changes p =
     let now = ready_left shape x k y j p.ready p.leaves in
-    order_start shape y.words (IsTouchedBy changes) y z j (order_ready shape y j now) p.touched.has_shape (may_touch shape y.words changes now.mapped p.fits) p.touched.caches
+    order_start shape y.words (IsTouchedBy changes) y z j now.order p.touched.has_shape (may_touch shape y.words changes now.order.mapped p.fits) p.touched.caches
 
 pub held_now : (shape : VolumeShape) (x : Seen) (k : Kept) (y : Seen) (j : Kept) (z : Seen) (changes : List NodeChange) → Prepared shape x k y j z changes → (n : ℕ) → held_of shape y.words n ≡ held_of shape x.words n
-held_now shape x k y j z changes p n = ap (λ (h : ℕ → Held). h n) (held_of_agree shape x.words y.words p.ready.mapped p.leaves.words)
+held_now shape x k y j z changes p n = ap (λ (h : ℕ → Held). h n) (held_of_agree shape x.words y.words p.ready.order.mapped p.leaves.words)
 
 pub unnamed_touch : (changes : List NodeChange) (b : ℕ) (name : Option PageName) → IsTouchedBy changes b name → name ≡ None
 unnamed_touch changes b name t = t.1
@@ -43,6 +46,10 @@ unnamed_touch changes b name t = t.1
 -- a kind by what is held
 pub kind_held : (shape : VolumeShape) (f : BlockWords) (i : ℕ) → IsIno shape i → (held_of shape f i).kind ≡ (placed_at f i).kind
 kind_held shape f i ino = ap (λ (h : Held). h.kind) (held_ino (volume_layout shape f) f i ino)
+
+-- the blocks that are used once they are made
+pub lowest_now : (shape : VolumeShape) (x : Seen) (k : Kept) (y : Seen) (j : Kept) (z : Seen) (changes : List NodeChange) (g : BlockWords) → Prepared shape x k y j z changes → AllApplied shape (map change_update changes) y.words g → UsesLowest shape x.words g
+lowest_now shape x k y j z changes g p applied = uses_lowest shape x.words y.words g changes p.ready.order.mapped.laid.shape_fits (bits_agree shape x.words y.words p.ready.order.mapped.laid.shape_fits p.leaves.words.low) p.fits p.lowest applied
 
 -- kinds that differ
 pub apart_kinds : (shape : VolumeShape) (f : BlockWords) (i d a b : ℕ) → (held_of shape f i).kind ≡ a → (held_of shape f d).kind ≡ b → a ≢ b → i ≢ d
@@ -62,18 +69,19 @@ pub fit_read : (shape : VolumeShape) (f : BlockWords) (s : State) → ReadsAs sh
 fit_read shape f s reads = rows_fit _ s reads.reads reads.entries
 
 -- what is reached, once its parts are known
-pub reached : (shape : VolumeShape) (x : Seen) (k : Kept) (y : Seen) (j : Kept) (z : Seen) (changes : List NodeChange) (g : BlockWords) (t : State) → Prepared shape x k y j z changes → AllApplied shape (map node_update changes) y.words g → InOrder shape g z j → ReadsAs shape g t → ((n : ℕ) → (held_of shape g n ≡ held_of shape x.words n) ⊎ ((held_of shape g n).kind ≢ 3)) → Reaches shape x.words z j changes g t
+pub reached : (shape : VolumeShape) (x : Seen) (k : Kept) (y : Seen) (j : Kept) (z : Seen) (changes : List NodeChange) (g : BlockWords) (t : State) → Prepared shape x k y j z changes → AllApplied shape (map change_update changes) y.words g → InOrder shape g z j → ReadsAs shape g t → ((n : ℕ) → (held_of shape g n ≡ held_of shape x.words n) ⊎ ((held_of shape g n).kind ≢ 3)) → Reaches shape x.words z j changes g t
 reached shape x k y j z changes g t p applied order reads stays = record {
   order = order;
   reads = reads;
   spares = record { each = λ n region. elim (stays n) [ inl same ↦ inl same | inr other ↦ absurd (other region) ] };
+  lowest = lowest_now shape x k y j z changes g p applied;
   out = freed_out shape y.words g changes (mapped_now shape x k y j z changes p) order.mapped p.fits applied;
   above = freed_above shape y.words changes (mapped_now shape x k y j z changes p) p.fits;
 }
 
 -- ---- a row and a node made
 
-pub reaches_made : (shape : VolumeShape) (x : Seen) (k : Kept) (y : Seen) (j : Kept) (z : Seen) (s : State) (d : ℕ) (name : List ℕ) (i kind : ℕ) (c : DirChange) (m : NodeChange) (g : BlockWords) → Prepared shape x k y j z (of_dir c ∷ m ∷ []) → ReadsAs shape x.words s → Stood shape x y j d (AddsRow name i) c → IsMade i kind m → IsIno shape d → IsIno shape i → (held_of shape x.words d).kind ≡ 1 → (held_of shape x.words i).kind ≡ 0 → (kind ≡ 1) ⊎ (kind ≡ 2) → IsName name → get s.names (d, name) ≡ None → AllApplied shape (map node_update (of_dir c ∷ m ∷ [])) y.words g → Reaches shape x.words z j (of_dir c ∷ m ∷ []) g (with_new s d name i (empty_node kind))
+pub reaches_made : (shape : VolumeShape) (x : Seen) (k : Kept) (y : Seen) (j : Kept) (z : Seen) (s : State) (d : ℕ) (name : List ℕ) (i kind : ℕ) (c : DirChange) (m : NodeChange) (g : BlockWords) → Prepared shape x k y j z (of_dir c ∷ m ∷ []) → ReadsAs shape x.words s → Stood shape x y j d (AddsRow name i) c → IsMade i kind m → IsIno shape d → IsIno shape i → (held_of shape x.words d).kind ≡ 1 → (held_of shape x.words i).kind ≡ 0 → (kind ≡ 1) ⊎ (kind ≡ 2) → IsName name → get s.names (d, name) ≡ None → AllApplied shape (map change_update (of_dir c ∷ m ∷ [])) y.words g → Reaches shape x.words z j (of_dir c ∷ m ∷ []) g (with_new s d name i (empty_node kind))
 reaches_made shape x k y j z s d name i kind c m g p reads plan made dno ino dir free which named absent (h, a1, (h2, a2, e)) =
     reached shape x k y j z changes g _ p (h, a1, (h2, a2, e)) order
     (made_as shape x.words g s d name i kind reads order.mapped (tree_new s d name i (empty_node kind) (fit_read shape x.words s reads) reads.tree (dir_read shape x.words s d reads dir) absent (unused_read shape x.words s i reads free)) absent named makes)
@@ -95,7 +103,7 @@ reaches_made shape x k y j z s d name i kind c m g p reads plan made dno ino dir
     free_now = sym (kind_held shape h i ino) ∙ ap (λ (n : Held). n.kind) (first.0.others i away ∙ held_now shape x k y j z changes p i) ∙ free
 
     second : Steps shape h h2 i z j × (held_of shape h2 i ≡ empty_held kind)
-    second = made_step shape h h2 i kind m z j first.0.order made ino (apart_kinds shape x.words i 1 0 1 free (root_held shape x.words p.ready.mapped) (λ e. (let f : 0 ≡ 1 = e in omega (arith, f)))) free_now few a2
+    second = made_step shape h h2 i kind m z j first.0.order made ino (apart_kinds shape x.words i 1 0 1 free (root_held shape x.words p.ready.order.mapped) (λ e. (let f : 0 ≡ 1 = e in omega (arith, f)))) free_now few a2
 
     order : InOrder shape g z j
     order = subst (λ f. InOrder shape f z j) (sym e) second.0.order
@@ -144,12 +152,12 @@ pub less_replaced : (shape : VolumeShape) (x y : Seen) (j : Kept) (d slot i last
 less_replaced shape x y j d slot i last c h ino = plan_size shape h.was h.seen h.kept d (ReplacesRow slot i last) c h.plan ino (let e = h.plan.does.sized in omega (arith, e))
 
 -- a node goes after rows of directory d changed
-pub gone_after : (shape : VolumeShape) (x : Seen) (k : Kept) (y : Seen) (j : Kept) (z : Seen) (changes : List NodeChange) (i : ℕ) (blocks : List Block) (m : NodeChange) (h h2 : BlockWords) → Prepared shape x k y j z changes → InOrder shape h z j → SamePlaced (placed_at y.words i) (placed_at h i) → IsGone i blocks m → IsIno shape i → i ≢ 1 → 0 < (held_of shape x.words i).kind → numbers blocks ≡ node_blocks (placed_at y.words i) → Applied shape (node_update m) h h2 → Steps shape h h2 i z j × (held_of shape h2 i ≡ empty_held 0)
+pub gone_after : (shape : VolumeShape) (x : Seen) (k : Kept) (y : Seen) (j : Kept) (z : Seen) (changes : List NodeChange) (i : ℕ) (blocks : List Block) (m : NodeChange) (h h2 : BlockWords) → Prepared shape x k y j z changes → InOrder shape h z j → SamePlaced (placed_at y.words i) (placed_at h i) → IsGone i blocks m → IsIno shape i → i ≢ 1 → 0 < (held_of shape x.words i).kind → numbers blocks ≡ node_blocks (placed_at y.words i) → Applied shape (change_update m) h h2 → Steps shape h h2 i z j × (held_of shape h2 i ≡ empty_held 0)
 gone_after shape x k y j z changes i blocks m h h2 p order lies gone ino other used is a =
     gone_step shape h h2 i blocks m z j order gone ino other (still_all (placed_at y.words i) (placed_at h i) blocks is lies)
     (still_own (placed_at y.words i) (placed_at h i) blocks is lies (let k = sym (kind_held shape y.words i ino) ∙ ap (λ (n : Held). n.kind) (held_now shape x k y j z changes p i) in omega (arith, k, used))) a
 
-pub reaches_gone : (shape : VolumeShape) (x : Seen) (k : Kept) (y : Seen) (j : Kept) (z : Seen) (s : State) (d slot : ℕ) (name : List ℕ) (i : ℕ) (blocks : List Block) (c : DirChange) (m : NodeChange) (g : BlockWords) → Prepared shape x k y j z (of_dir c ∷ m ∷ []) → ReadsAs shape x.words s → Stood shape x y j d (RemovesRow slot) c → IsGone i blocks m → numbers blocks ≡ node_blocks (placed_at y.words i) → IsIno shape d → IsIno shape i → (held_of shape x.words d).kind ≡ 1 → IsEntry (held_of shape x.words d) slot name i → 0 < (held_of shape x.words i).kind → ((held_of shape x.words i).kind ≡ 1 → (held_of shape x.words i).size ≡ 0) → TreeRule (without s d name i) → i ≢ 1 → i ≢ d → AllApplied shape (map node_update (of_dir c ∷ m ∷ [])) y.words g → Reaches shape x.words z j (of_dir c ∷ m ∷ []) g (without s d name i)
+pub reaches_gone : (shape : VolumeShape) (x : Seen) (k : Kept) (y : Seen) (j : Kept) (z : Seen) (s : State) (d slot : ℕ) (name : List ℕ) (i : ℕ) (blocks : List Block) (c : DirChange) (m : NodeChange) (g : BlockWords) → Prepared shape x k y j z (of_dir c ∷ m ∷ []) → ReadsAs shape x.words s → Stood shape x y j d (RemovesRow slot) c → IsGone i blocks m → numbers blocks ≡ node_blocks (placed_at y.words i) → IsIno shape d → IsIno shape i → (held_of shape x.words d).kind ≡ 1 → IsEntry (held_of shape x.words d) slot name i → 0 < (held_of shape x.words i).kind → ((held_of shape x.words i).kind ≡ 1 → (held_of shape x.words i).size ≡ 0) → TreeRule (without s d name i) → i ≢ 1 → i ≢ d → AllApplied shape (map change_update (of_dir c ∷ m ∷ [])) y.words g → Reaches shape x.words z j (of_dir c ∷ m ∷ []) g (without s d name i)
 reaches_gone shape x k y j z s d slot name i blocks c m g p reads plan gone is dno ino dir entry used bare tree other away (h, a1, (h2, a2, e)) =
     reached shape x k y j z changes g _ p (h, a1, (h2, a2, e)) order (gone_as shape x.words g s d slot name i reads order.mapped tree drops) stays
   where
@@ -189,7 +197,7 @@ reaches_gone shape x k y j z s d slot name i blocks c m g p reads plan gone is d
 -- ---- a row of another name in its slot
 
 -- names of cached pages are right once it is made, whatever the names come to
-pub order_renamed : (shape : VolumeShape) (x : Seen) (k : Kept) (y : Seen) (j : Kept) (z : Seen) (d slot : ℕ) (b : List ℕ) (i : ℕ) (c : DirChange) (g : BlockWords) → Prepared shape x k y j z (of_dir c ∷ []) → Stood shape x y j d (SetsRow slot b i) c → AllApplied shape (map node_update (of_dir c ∷ [])) y.words g → InOrder shape g z j
+pub order_renamed : (shape : VolumeShape) (x : Seen) (k : Kept) (y : Seen) (j : Kept) (z : Seen) (d slot : ℕ) (b : List ℕ) (i : ℕ) (c : DirChange) (g : BlockWords) → Prepared shape x k y j z (of_dir c ∷ []) → Stood shape x y j d (SetsRow slot b i) c → AllApplied shape (map change_update (of_dir c ∷ [])) y.words g → InOrder shape g z j
 order_renamed shape x k y j z d slot b i c g p plan (h, a1, e) = subst (λ f. InOrder shape f z j) (sym e) first.0.order
   where
     changes : List NodeChange
@@ -198,7 +206,7 @@ order_renamed shape x k y j z d slot b i c g p plan (h, a1, e) = subst (λ f. In
     first : Steps shape y.words h d z j × SetsRow slot b i (held_of shape x.words d) (held_of shape h d)
     first = stood_step shape x y j d (SetsRow slot b i) c (IsTouchedBy changes) z y.words h plan (unnamed_touch changes) p.touched.caches (order_now shape x k y j z changes p) (held_now shape x k y j z changes p d) plan.may a1
 
-pub reaches_renamed : (shape : VolumeShape) (x : Seen) (k : Kept) (y : Seen) (j : Kept) (z : Seen) (s : State) (d slot : ℕ) (a b : List ℕ) (i : ℕ) (c : DirChange) (g : BlockWords) → Prepared shape x k y j z (of_dir c ∷ []) → ReadsAs shape x.words s → Stood shape x y j d (SetsRow slot b i) c → (held_of shape x.words d).kind ≡ 1 → IsEntry (held_of shape x.words d) slot a i → IsName b → get s.names (d, b) ≡ None → TreeRule (moved s d a d b i) → AllApplied shape (map node_update (of_dir c ∷ [])) y.words g → Reaches shape x.words z j (of_dir c ∷ []) g (moved s d a d b i)
+pub reaches_renamed : (shape : VolumeShape) (x : Seen) (k : Kept) (y : Seen) (j : Kept) (z : Seen) (s : State) (d slot : ℕ) (a b : List ℕ) (i : ℕ) (c : DirChange) (g : BlockWords) → Prepared shape x k y j z (of_dir c ∷ []) → ReadsAs shape x.words s → Stood shape x y j d (SetsRow slot b i) c → (held_of shape x.words d).kind ≡ 1 → IsEntry (held_of shape x.words d) slot a i → IsName b → get s.names (d, b) ≡ None → TreeRule (moved s d a d b i) → AllApplied shape (map change_update (of_dir c ∷ [])) y.words g → Reaches shape x.words z j (of_dir c ∷ []) g (moved s d a d b i)
 reaches_renamed shape x k y j z s d slot a b i c g p reads plan dir entry named absent tree (h, a1, e) =
     reached shape x k y j z changes g _ p (h, a1, e) order (renamed_as shape x.words g s d slot a b i reads order.mapped tree absent named renames) stays
   where

@@ -1,7 +1,7 @@
 -- The state that is read once the changes of a rename are made, where two directories change or a node goes.
 use Rattle.file_store.proofs.Common.{◌≡◌, ◌≢◌, ℕ, ◌<◌, ◌≤◌, ◌⊎◌, List, [], ◌∷◌, map, sym, ap, subst, ◌∙◌, arith, inl, inr, None, get, cases_eq, Block, VolumeShape, BlockWords, Seen, IsIno, Kept, numbers, State, Held, held_of, Available, IsName, Slot, Placed, HasSlot, Owns, placed_at, volume_layout, SamePlaced, has_same, Applied, ReadsAs, IsMapped, TreeRule, node_blocks, InOrder, MayBeMade, plan_change, dir_update, AddsRow, RemovesRow, ReplacesRow, SetsRow, IsEntry, DirChange, moved, replaced}
 use Rattle.directories.proofs.MakingRules.{DisjointNodes, may_still}
-use Rattle.file_store.specs.Changes.{AllApplied, IsGone, IsTouchedBy, node_update, of_dir}
+use Rattle.file_store.specs.Changes.{AllApplied, IsGone, IsTouchedBy, change_update, of_dir}
 use Rattle.file_store.proofs.EmptyHeld.{empty_held}
 use Rattle.file_store.proofs.ReadSteps.{MovesRow, ReplacesAcross, ReplacesWithin, moved_as, replaced_across_as, replaced_within_as}
 use Rattle.file_store.specs.declared.changes.NodeChange.{NodeChange}
@@ -49,7 +49,7 @@ stays_beside h g d e dir_d dir_e others n = by (cases_eq n d) (cases_eq n e)
 -- ---- a row moved to another directory
 
 -- names of cached pages are right once it is made, whatever the names come to
-pub order_moved : (shape : VolumeShape) (x : Seen) (k : Kept) (y : Seen) (j : Kept) (z : Seen) (d slot e : ℕ) (b : List ℕ) (i : ℕ) (c m : DirChange) (g : BlockWords) → Prepared shape x k y j z (of_dir c ∷ of_dir m ∷ []) → (goes : Stood shape x y j d (RemovesRow slot) c) → Stood shape x y j e (AddsRow b i) m → goes.plan.node.size ≤ (placed_at goes.was d).size → IsIno shape d → IsIno shape e → d ≢ e → AllApplied shape (map node_update (of_dir c ∷ of_dir m ∷ [])) y.words g → InOrder shape g z j
+pub order_moved : (shape : VolumeShape) (x : Seen) (k : Kept) (y : Seen) (j : Kept) (z : Seen) (d slot e : ℕ) (b : List ℕ) (i : ℕ) (c m : DirChange) (g : BlockWords) → Prepared shape x k y j z (of_dir c ∷ of_dir m ∷ []) → (goes : Stood shape x y j d (RemovesRow slot) c) → Stood shape x y j e (AddsRow b i) m → goes.plan.node.size ≤ (placed_at goes.was d).size → IsIno shape d → IsIno shape e → d ≢ e → AllApplied shape (map change_update (of_dir c ∷ of_dir m ∷ [])) y.words g → InOrder shape g z j
 order_moved shape x k y j z d slot e b i c m g p goes comes less dno eno apart (h, a1, (h2, a2, end)) = subst (λ f. InOrder shape f z j) (sym end) second.0.order
   where
     changes : List NodeChange
@@ -65,7 +65,7 @@ order_moved shape x k y j z d slot e b i c m g p goes comes less dno eno apart (
     second = stood_step shape x y j e (AddsRow b i) m (IsTouchedBy changes) z h h2 comes (unnamed_touch changes) p.touched.caches first.0.order (first.0.others e away ∙ held_now shape x k y j z changes p e)
         (stood_still shape x y j d e (RemovesRow slot) (AddsRow b i) c m h goes comes (mapped_now shape x k y j z changes p) dno eno away less a1) a2
 
-pub reaches_moved : (shape : VolumeShape) (x : Seen) (k : Kept) (y : Seen) (j : Kept) (z : Seen) (s : State) (d slot : ℕ) (a : List ℕ) (e : ℕ) (b : List ℕ) (i : ℕ) (c m : DirChange) (g : BlockWords) → Prepared shape x k y j z (of_dir c ∷ of_dir m ∷ []) → ReadsAs shape x.words s → (goes : Stood shape x y j d (RemovesRow slot) c) → Stood shape x y j e (AddsRow b i) m → goes.plan.node.size ≤ (placed_at goes.was d).size → IsIno shape d → IsIno shape e → d ≢ e → (held_of shape x.words d).kind ≡ 1 → (held_of shape x.words e).kind ≡ 1 → IsEntry (held_of shape x.words d) slot a i → IsName b → get s.names (e, b) ≡ None → TreeRule (moved s d a e b i) → AllApplied shape (map node_update (of_dir c ∷ of_dir m ∷ [])) y.words g → Reaches shape x.words z j (of_dir c ∷ of_dir m ∷ []) g (moved s d a e b i)
+pub reaches_moved : (shape : VolumeShape) (x : Seen) (k : Kept) (y : Seen) (j : Kept) (z : Seen) (s : State) (d slot : ℕ) (a : List ℕ) (e : ℕ) (b : List ℕ) (i : ℕ) (c m : DirChange) (g : BlockWords) → Prepared shape x k y j z (of_dir c ∷ of_dir m ∷ []) → ReadsAs shape x.words s → (goes : Stood shape x y j d (RemovesRow slot) c) → Stood shape x y j e (AddsRow b i) m → goes.plan.node.size ≤ (placed_at goes.was d).size → IsIno shape d → IsIno shape e → d ≢ e → (held_of shape x.words d).kind ≡ 1 → (held_of shape x.words e).kind ≡ 1 → IsEntry (held_of shape x.words d) slot a i → IsName b → get s.names (e, b) ≡ None → TreeRule (moved s d a e b i) → AllApplied shape (map change_update (of_dir c ∷ of_dir m ∷ [])) y.words g → Reaches shape x.words z j (of_dir c ∷ of_dir m ∷ []) g (moved s d a e b i)
 reaches_moved shape x k y j z s d slot a e b i c m g p reads goes comes less dno eno apart dir_d dir_e entry named absent tree (h, a1, (h2, a2, end)) =
     reached shape x k y j z changes g _ p (h, a1, (h2, a2, end)) order (moved_as shape x.words g s d slot a e b i reads order.mapped tree absent named moves) stays
   where
@@ -102,7 +102,7 @@ reaches_moved shape x k y j z s d slot a e b i c m g p reads goes comes less dno
 
 -- ---- a row over another one of the same directory, whose node goes
 
-pub reaches_within : (shape : VolumeShape) (x : Seen) (k : Kept) (y : Seen) (j : Kept) (z : Seen) (s : State) (d from to : ℕ) (a b : List ℕ) (i n : ℕ) (blocks : List Block) (c : DirChange) (m : NodeChange) (g : BlockWords) → Prepared shape x k y j z (of_dir c ∷ m ∷ []) → ReadsAs shape x.words s → Stood shape x y j d (ReplacesRow to i from) c → IsGone n blocks m → numbers blocks ≡ node_blocks (placed_at y.words n) → IsIno shape d → IsIno shape n → (held_of shape x.words d).kind ≡ 1 → IsEntry (held_of shape x.words d) from a i → IsEntry (held_of shape x.words d) to b n → i ≢ n → (held_of shape x.words n).kind ≢ 1 → 0 < (held_of shape x.words n).kind → n ≢ 1 → n ≢ d → TreeRule (replaced s d a d b i n) → AllApplied shape (map node_update (of_dir c ∷ m ∷ [])) y.words g → Reaches shape x.words z j (of_dir c ∷ m ∷ []) g (replaced s d a d b i n)
+pub reaches_within : (shape : VolumeShape) (x : Seen) (k : Kept) (y : Seen) (j : Kept) (z : Seen) (s : State) (d from to : ℕ) (a b : List ℕ) (i n : ℕ) (blocks : List Block) (c : DirChange) (m : NodeChange) (g : BlockWords) → Prepared shape x k y j z (of_dir c ∷ m ∷ []) → ReadsAs shape x.words s → Stood shape x y j d (ReplacesRow to i from) c → IsGone n blocks m → numbers blocks ≡ node_blocks (placed_at y.words n) → IsIno shape d → IsIno shape n → (held_of shape x.words d).kind ≡ 1 → IsEntry (held_of shape x.words d) from a i → IsEntry (held_of shape x.words d) to b n → i ≢ n → (held_of shape x.words n).kind ≢ 1 → 0 < (held_of shape x.words n).kind → n ≢ 1 → n ≢ d → TreeRule (replaced s d a d b i n) → AllApplied shape (map change_update (of_dir c ∷ m ∷ [])) y.words g → Reaches shape x.words z j (of_dir c ∷ m ∷ []) g (replaced s d a d b i n)
 reaches_within shape x k y j z s d from to a b i n blocks c m g p reads plan gone is dno nno dir old over differ leaf used other away tree (h, a1, (h2, a2, end)) =
     reached shape x k y j z changes g _ p (h, a1, (h2, a2, end)) order (replaced_within_as shape x.words g s d from to a b i n reads order.mapped tree replaces) stays
   where
@@ -136,7 +136,7 @@ reaches_within shape x k y j z s d from to a b i n blocks c m g p reads plan gon
 
 -- ---- the same over a row of another directory
 
-pub reaches_across : (shape : VolumeShape) (x : Seen) (k : Kept) (y : Seen) (j : Kept) (z : Seen) (s : State) (d from : ℕ) (a : List ℕ) (e to : ℕ) (b : List ℕ) (i n : ℕ) (blocks : List Block) (c m : DirChange) (w : NodeChange) (g : BlockWords) → Prepared shape x k y j z (of_dir c ∷ of_dir m ∷ w ∷ []) → ReadsAs shape x.words s → (goes : Stood shape x y j d (RemovesRow from) c) → Stood shape x y j e (SetsRow to b i) m → goes.plan.node.size ≤ (placed_at goes.was d).size → IsGone n blocks w → numbers blocks ≡ node_blocks (placed_at y.words n) → IsIno shape d → IsIno shape e → IsIno shape n → d ≢ e → (held_of shape x.words d).kind ≡ 1 → (held_of shape x.words e).kind ≡ 1 → IsEntry (held_of shape x.words d) from a i → IsEntry (held_of shape x.words e) to b n → i ≢ n → (held_of shape x.words n).kind ≢ 1 → 0 < (held_of shape x.words n).kind → n ≢ 1 → n ≢ d → n ≢ e → TreeRule (replaced s d a e b i n) → AllApplied shape (map node_update (of_dir c ∷ of_dir m ∷ w ∷ [])) y.words g → Reaches shape x.words z j (of_dir c ∷ of_dir m ∷ w ∷ []) g (replaced s d a e b i n)
+pub reaches_across : (shape : VolumeShape) (x : Seen) (k : Kept) (y : Seen) (j : Kept) (z : Seen) (s : State) (d from : ℕ) (a : List ℕ) (e to : ℕ) (b : List ℕ) (i n : ℕ) (blocks : List Block) (c m : DirChange) (w : NodeChange) (g : BlockWords) → Prepared shape x k y j z (of_dir c ∷ of_dir m ∷ w ∷ []) → ReadsAs shape x.words s → (goes : Stood shape x y j d (RemovesRow from) c) → Stood shape x y j e (SetsRow to b i) m → goes.plan.node.size ≤ (placed_at goes.was d).size → IsGone n blocks w → numbers blocks ≡ node_blocks (placed_at y.words n) → IsIno shape d → IsIno shape e → IsIno shape n → d ≢ e → (held_of shape x.words d).kind ≡ 1 → (held_of shape x.words e).kind ≡ 1 → IsEntry (held_of shape x.words d) from a i → IsEntry (held_of shape x.words e) to b n → i ≢ n → (held_of shape x.words n).kind ≢ 1 → 0 < (held_of shape x.words n).kind → n ≢ 1 → n ≢ d → n ≢ e → TreeRule (replaced s d a e b i n) → AllApplied shape (map change_update (of_dir c ∷ of_dir m ∷ w ∷ [])) y.words g → Reaches shape x.words z j (of_dir c ∷ of_dir m ∷ w ∷ []) g (replaced s d a e b i n)
 reaches_across shape x k y j z s d from a e to b i n blocks c m w g p reads goes comes less gone is dno eno nno apart dir_d dir_e old over differ leaf used other away_d away_e tree (h, a1, (h2, a2, (h3, a3, end))) =
     reached shape x k y j z changes g _ p (h, a1, (h2, a2, (h3, a3, end))) order (replaced_across_as shape x.words g s d from a e to b i n reads order.mapped tree replaces) stays
   where

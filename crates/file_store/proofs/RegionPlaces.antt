@@ -38,7 +38,7 @@ direct_page shape f i at n mapped region less is few = word_page shape f f i at 
 
 -- it is one of the volume's
 pub page_below : (shape : VolumeShape) (y : Seen) (j : Kept) (i at b : ℕ) → Ready shape y j → IsWordPage shape y.words i at b → b < y.count
-page_below shape y j i at b ready h = subst (λ n. b < n) (sym ready.has_shape.count) (subst (λ c. c < shape.blocks) (sym h.block) (ready.mapped.laid.numbers.to i (AtPage (at / 512)) h.own))
+page_below shape y j i at b ready h = subst (λ n. b < n) (sym ready.order.has_shape.count) (subst (λ c. c < shape.blocks) (sym h.block) (ready.order.mapped.laid.numbers.to i (AtPage (at / 512)) h.own))
 
 -- ---- the name that it is asked for under
 
@@ -51,13 +51,13 @@ same_name i n at (Some own) name kind is bears = (ap (λ (m : ℕ). record { 0 =
 
 pub can_name : (shape : VolumeShape) (y : Seen) (j : Kept) (i at b : ℕ) (name : PageName) → Ready shape y j → IsWordPage shape y.words i at b → IsWordName i at name → CanName y b (Some name)
 can_name shape y j i at b name ready h is = record {
-  in_range = (let from = h.own.ino.from in let to = h.own.ino.to in let most = ready.mapped.laid.shape_fits.inodes_to in let file = is.file in let index = is.index in let size = is.size in let within = h.within in let largest = (ready.mapped.laid.sizes.each i h.own.ino h.own.slot.used).most in record {
+  in_range = (let from = h.own.ino.from in let to = h.own.ino.to in let most = ready.order.mapped.laid.shape_fits.inodes_to in let file = is.file in let index = is.index in let size = is.size in let within = h.within in let largest = (ready.order.mapped.laid.sizes.each i h.own.ino h.own.slot.used).most in record {
     file_from = omega (arith, from, file);
     file_to = omega (arith, to, most, file);
     index = omega (arith, index, within, largest);
     size = omega (arith, size);
   });
-  agrees = λ on. subst (λ c. SamePage (y.names c) (Some name)) (sym h.block) (same_name i (placed_at y.words i) at _ name h.kind is (ready.named.each i h.own.ino (AtPage (at / 512)) h.own.slot (subst (λ c. y.cached c ≡ true) h.block on)));
+  agrees = λ on. subst (λ c. SamePage (y.names c) (Some name)) (sym h.block) (same_name i (placed_at y.words i) at _ name h.kind is (ready.order.named.each i h.own.ino (AtPage (at / 512)) h.own.slot (subst (λ c. y.cached c ≡ true) h.block on)));
 }
 
 -- ---- what a call on it leaves in order
@@ -75,10 +75,10 @@ pub page_done : (shape : VolumeShape) (x : Seen) (k : Kept) (y : Seen) (j : Kept
 page_done shape x k y j i at b given h on name count same firm caches idle = record {
   beside = beside;
   ready = ready_order shape y j (record {
-    has_shape = shape_beside_stored shape x y b (Some given) h.has_shape count (subst (λ c. reserved shape ≤ c) (sym on.block) (h.mapped.laid.numbers.from i (AtPage p) on.own)) caches;
-    mapped = mapped_beside shape i x.words y.words h.mapped beside;
+    has_shape = shape_beside_stored shape x y b (Some given) h.order.has_shape count (subst (λ c. reserved shape ≤ c) (sym on.block) (h.order.mapped.laid.numbers.from i (AtPage p) on.own)) caches;
+    mapped = mapped_beside shape i x.words y.words h.order.mapped beside;
     named = named_layout l y.words y layouts (record { each = λ n ino s has cached. by n ino s has cached (cases_eq ((l.node n).block s) b) });
-    firm = firm_layout l y.words j layouts (firm_on l k j h.firm firm);
+    firm = firm_layout l y.words j layouts (firm_on l k j h.order.firm firm);
   }) idle;
 }
   where
@@ -89,13 +89,13 @@ page_done shape x k y j i at b given h on name count same firm caches idle = rec
     p = at / 512
 
     beside : AgreesBeside l i x.words y.words
-    beside = beside_page l i p x.words y.words h.mapped.laid on.own (subst (λ c. SameBut c x.words y.words) on.block same)
+    beside = beside_page l i p x.words y.words h.order.mapped.laid on.own (subst (λ c. SameBut c x.words y.words) on.block same)
 
     layouts : SameLayout l (volume_layout shape y.words)
-    layouts = lays_same l y.words (lays_beside l i x.words y.words h.mapped.laid (lays_self shape x.words) beside)
+    layouts = lays_same l y.words (lays_beside l i x.words y.words h.order.mapped.laid (lays_self shape x.words) beside)
 
     was_named : x.cached b ≡ true → Bears i (l.node i) (AtPage p) (x.names b)
-    was_named cached = subst (λ c. Bears i (l.node i) (AtPage p) (x.names c)) (sym on.block) (h.named.each i on.own.ino (AtPage p) on.own.slot (subst (λ c. x.cached c ≡ true) on.block cached))
+    was_named cached = subst (λ c. Bears i (l.node i) (AtPage p) (x.names c)) (sym on.block) (h.order.named.each i on.own.ino (AtPage p) on.own.slot (subst (λ c. x.cached c ≡ true) on.block cached))
 
     now_named : ((x.cached b ≡ true) × (y.names b ≡ x.names b)) ⊎ (y.names b ≡ Some given) ⊎ ((x.cached b ≡ true) × (y.names b ≡ widened (x.names b) (Some given))) → Bears i (l.node i) (AtPage p) (y.names b)
     now_named (inl kept) = subst (Bears i (l.node i) (AtPage p)) (sym kept.1) (was_named kept.0)
@@ -103,9 +103,9 @@ page_done shape x k y j i at b given h on name count same firm caches idle = rec
     now_named (inr (inr wider)) = subst (Bears i (l.node i) (AtPage p)) (sym wider.1) (widened_bears i (l.node i) p (x.names b) given on.kind (was_named wider.0))
 
     by : (n : ℕ) (ino : IsIno shape n) (s : Slot) (has : HasSlot (l.node n) s) → y.cached ((l.node n).block s) ≡ true → (((l.node n).block s ≡ b) ⊎ ((l.node n).block s ≢ b)) → Bears n (l.node n) s (y.names ((l.node n).block s))
-    by n ino s has cached (inr away) = let was = caches.others _ away cached in subst (Bears n (l.node n) s) (sym was.1) (h.named.each n ino s has was.0)
+    by n ino s has cached (inr away) = let was = caches.others _ away cached in subst (Bears n (l.node n) s) (sym was.1) (h.order.named.each n ino s has was.0)
     by n ino s has cached (inl here) =
-        let one = h.mapped.laid.once.each i n (AtPage p) s on.own (record { ino = ino; slot = has }) (sym (here ∙ on.block)) in
+        let one = h.order.mapped.laid.once.each i n (AtPage p) s on.own (record { ino = ino; slot = has }) (sym (here ∙ on.block)) in
         let bears : Bears i (l.node i) (AtPage p) (y.names b) = now_named (caches.named (subst (λ c. y.cached c ≡ true) here cached)) in
         subst (λ c. Bears n (l.node n) s (y.names c)) (sym here) (subst (λ t. Bears n (l.node n) t (y.names b)) one.1 (subst (λ z. Bears z (l.node z) (AtPage p) (y.names b)) one.0 bears))
 
@@ -190,7 +190,7 @@ run_put shape f i at b w m words mapped h place within most =
 pub one_put : (shape : VolumeShape) (f g : BlockWords) (y : Seen) (j : Kept) (i at b w v : ℕ) → Ready shape y j → IsWordPage shape y.words i at b → w ≡ at % 512 → y.words ≡ f → g ≡ put y.words b w v → (held_of shape g i).word ≡ put_word (held_of shape f i).word at v
 one_put shape f g y j i at b w v ready on place same is =
     ap (λ e. (held_of shape e i).word) is
-    ∙ word_put shape y.words i at b w v ready.mapped on place
+    ∙ word_put shape y.words i at b w v ready.order.mapped on place
     ∙ ap (λ e. put_word (held_of shape e i).word at v) same
 
 pub one_either : (shape : VolumeShape) (f g : BlockWords) (y : Seen) (j : Kept) (i at b w v : ℕ) → Ready shape y j → IsWordPage shape y.words i at b → w ≡ at % 512 → y.words ≡ f → OldOrPut y.words g b w v → OldOrPutWord (held_of shape f i).word (held_of shape g i).word at v
@@ -205,7 +205,7 @@ pub many_put : (shape : VolumeShape) (f g : BlockWords) (y : Seen) (j : Kept) (i
 many_put shape f g y j i at b w m len words ready on place few within most same is =
     let size : 8 * (at + len) ≤ (held_of shape y.words i).size = subst (λ e. 8 * (at + len) ≤ (held_of shape e i).size) (sym same) most in
     ap (λ e. (held_of shape e i).word) is
-    ∙ run_put shape y.words i at b w m words ready.mapped on place (omega (arith, few, within)) (omega (arith, few, size))
+    ∙ run_put shape y.words i at b w m words ready.order.mapped on place (omega (arith, few, within)) (omega (arith, few, size))
     ∙ ap (λ e. put_words (held_of shape e i).word at m words) same
 
 pub many_front : (shape : VolumeShape) (f g : BlockWords) (y : Seen) (j : Kept) (i at b w len : ℕ) (words : List ℕ) → Ready shape y j → IsWordPage shape y.words i at b → w ≡ at % 512 → w + len ≤ 512 → 8 * (at + len) ≤ (held_of shape f i).size → y.words ≡ f → OldOrRun y.words g b w words len → OldOrPutWords (held_of shape f i).word (held_of shape g i).word at words len
@@ -216,7 +216,7 @@ many_same_but f g b w len words (m, few, is) = subst (SameBut b f) (sym is) (run
 
 -- what is held beside the region, after a change of this page alone
 pub rest_by : (shape : VolumeShape) (f g : BlockWords) (y : Seen) (j : Kept) (i at b : ℕ) → Ready shape y j → IsWordPage shape y.words i at b → y.words ≡ f → SameBut b y.words g → RestHeld shape i f g
-rest_by shape f g y j i at b ready on same but = subst (λ e. RestHeld shape i e g) same (rest_held shape i y.words g ready.mapped on.own.ino (beside_page (volume_layout shape y.words) i (at / 512) y.words g ready.mapped.laid on.own (subst (λ c. SameBut c y.words g) on.block but)))
+rest_by shape f g y j i at b ready on same but = subst (λ e. RestHeld shape i e g) same (rest_held shape i y.words g ready.order.mapped on.own.ino (beside_page (volume_layout shape y.words) i (at / 512) y.words g ready.order.mapped.laid on.own (subst (λ c. SameBut c y.words g) on.block but)))
 
 -- nothing was stored
 pub held_none : (shape : VolumeShape) (f g : BlockWords) (i at : ℕ) (words : List ℕ) → g ≡ f → OldOrPutWords (held_of shape f i).word (held_of shape g i).word at words (length words)

@@ -53,7 +53,7 @@ free_on shape f g b mapped agrees free =
 pub put_leaves : (shape : VolumeShape) (x : Seen) (k : Kept) (z : Seen) (l : Kept) (y : Seen) (j : Kept) (b : ℕ) (i : Ino) → Ready shape x k → LeavesInUse (volume_layout shape x.words) x k z l → IsFree (volume_layout shape x.words) b → PutsHeader z l y j b i → LeavesInUse (volume_layout shape x.words) x k y j
 put_leaves shape x k z l y j b i ready leaves free h =
     leaves_trans shape x k z l y j ready leaves
-    (leaves_beside shape (λ c. c ≡ b) z l y j (ready_left shape x k z l ready leaves) (λ c e. subst (IsFree (volume_layout shape z.words)) (sym e) (free_on shape x.words z.words b ready.mapped leaves.words free)) (put_beside z l y j b i h) h.idle)
+    (leaves_beside shape (λ c. c ≡ b) z l y j (ready_left shape x k z l ready leaves) (λ c e. subst (IsFree (volume_layout shape z.words)) (sym e) (free_on shape x.words z.words b ready.order.mapped leaves.words free)) (put_beside z l y j b i h) h.idle)
 
 pub put_spares : (skip : List ℕ) (x : Seen) (k : Kept) (z : Seen) (l : Kept) (y : Seen) (j : Kept) (b : ℕ) (i : Ino) → (Contains skip b → ⊥) → Spares skip x k z l → PutsHeader z l y j b i → Spares skip x k y j
 put_spares skip x k z l y j b i away s h = record {
@@ -248,6 +248,7 @@ plans_region shape f z l y j i given r skip c b node h at puts words is = subst 
   turns = h.plan.turns;
   from = are_free shape f z l i.0 given r skip c h;
   beside = are_beside shape f z l i.0 given r skip c h;
+  lowest = (wanted_blocks given.size r.bytes, h.plan.lowest);
   tables = h.plan.tables;
   unnamed = λ k has on. (let now = puts.caches.others (m.block (AtTable k)) (λ same. table_apart m k (same ∙ at) h.plan.turns.new_fits.apart has page) on in now.1 ∙ h.plan.unnamed k has now.0);
   holds = holds_new shape f z l y.words i.0 given r skip c b h at words;

@@ -54,7 +54,7 @@ row_taken shape f y j d name i c s reads dir p space =
     ap length p.takes.lowest ∙ ap (λ n. length (take n (free_blocks shape f))) wants ∙ length-take-le _ (free_blocks shape f) space ∙ sym (row_takes shape f s d reads dir)
 
 pub taken_free : (shape : VolumeShape) (x : Seen) (k : Kept) (m : Seen) (l : Kept) (d : ℕ) (name : List ℕ) (i : ℕ) (c : DirChange) → Ready shape x k → LeavesInUse (volume_layout shape x.words) x k m l → PlansDir shape x.words m l d (AddsRow name i) c → (t : ℕ) → t < length (numbers c.taken) → IsFree (volume_layout shape m.words) (slice_index (numbers c.taken) t)
-taken_free shape x k m l d name i c ready leaves p t few = free_on shape x.words m.words _ ready.mapped leaves.words (p.takes.free t few)
+taken_free shape x k m l d name i c ready leaves p t few = free_on shape x.words m.words _ ready.order.mapped leaves.words (p.takes.free t few)
 
 pub blocks_free : (shape : VolumeShape) (x : Seen) (k : Kept) (m : Seen) (l : Kept) (d : ℕ) (name : List ℕ) (i : ℕ) (c : DirChange) → Ready shape x k → LeavesInUse (volume_layout shape x.words) x k m l → PlansDir shape x.words m l d (AddsRow name i) c → (t : ℕ) → t < length c.taken → IsFree (volume_layout shape m.words) (slice_index (numbers c.taken) t)
 blocks_free shape x k m l d name i c ready leaves p t few = taken_free shape x k m l d name i c ready leaves p t (subst (λ n. t < n) (sym (as_many c.taken)) few)
@@ -63,7 +63,7 @@ blocks_free shape x k m l d name i c ready leaves p t few = taken_free shape x k
 left_counted : (shape : VolumeShape) (x : Seen) (k : Kept) (m : Seen) (l : Kept) (d : ℕ) (name : List ℕ) (i : ℕ) (c : DirChange) (s : State) → Ready shape x k → LeavesInUse (volume_layout shape x.words) x k m l → ReadsAs shape x.words s → (held_of shape x.words d).kind ≡ 1 → PlansDir shape x.words m l d (AddsRow name i) c → wanted_blocks (held_of shape x.words d).size ((held_of shape x.words d).size + 64) ≤ length (free_blocks shape x.words) → length (free_beside shape m.words (numbers c.taken)) + row_wanted s d ≡ free_count s
 left_counted shape x k m l d name i c s ready leaves reads dir p space =
     ap (λ n. length (free_beside shape m.words (numbers c.taken)) + n) (sym (row_taken shape x.words m l d name i c s reads dir p space))
-    ∙ count_beside shape m.words (numbers c.taken) (ready_left shape x k m l ready leaves).mapped p.takes.once (taken_free shape x k m l d name i c ready leaves p)
+    ∙ count_beside shape m.words (numbers c.taken) (ready_left shape x k m l ready leaves).order.mapped p.takes.once (taken_free shape x k m l d name i c ready leaves p)
     ∙ free_by_state shape m.words s (reads_agree shape x.words m.words s reads leaves.words)
 
 -- ---- answers

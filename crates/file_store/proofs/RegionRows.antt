@@ -3,22 +3,24 @@ use Rattle.file_store.proofs.Common.{◌≡◌, ◌≢◌, ℕ, zero, suc, ◌<�
 use Rattle.std.specs.Prelude.{Option}
 use Rattle.rio_model.proofs.GrowthRules.{few_tables}
 use Rattle.rio_model.proofs.HeldRules.{held_agree}
+use Rattle.rio_model.proofs.LowestBlocks.{bits_agree}
 use Rattle.rio_model.proofs.NodeChangeRules.{held_here}
 use Rattle.rio_model.specs.Placed.{Lies}
 use Rattle.rio_model.proofs.PlacedRules.{table_page}
 use Rattle.rio_model.proofs.UpdateRules.{edited_out, turned_held}
 use Rattle.rio_model.specs.Updates.{Turns, Update, WordEdit, edited}
-use Rattle.file_pages.specs.Changes.{EditsTable, Spares, word_edit}
+use Rattle.file_pages.specs.Changes.{EditsTable, Spares, wanted_blocks, word_edit}
 use Rattle.directories.proofs.MakingRules.{DisjointNodes, may_after, may_begin, may_still}
 use Rattle.directories.specs.Plans.{SameBlocks}
-use Rattle.file_store.specs.Changes.{IsTouchedBy, node_update, of_dir}
+use Rattle.file_store.specs.Changes.{IsTouchedBy, change_update, of_dir}
 use Rattle.file_store.specs.NewRegions.{FitRegion, PlansRegion, new_held}
 use Rattle.file_store.proofs.TreeRules.{tree_new}
 use Rattle.file_store.specs.declared.changes.NodeChange.{NodeChange}
 use Rattle.file_store.specs.declared.regions.RegionSizes.{RegionSizes}
 use Rattle.file_store.proofs.Fitting.{freed_above, freed_out}
 use Rattle.file_store.proofs.LookedAt.{dir_read, no_row}
-use Rattle.file_store.proofs.Reached.{apart_kinds, fit_read, held_now, kind_held, mapped_now, order_now, root_held, unnamed_touch, unused_read}
+use Rattle.file_store.proofs.LowestTaken.{lowest_two}
+use Rattle.file_store.proofs.Reached.{apart_kinds, fit_read, held_now, kind_held, lowest_now, mapped_now, order_now, root_held, unnamed_touch, unused_read}
 use Rattle.file_store.proofs.RegionPlanned.{free_on}
 use Rattle.file_store.proofs.RegionRead.{MakesRegion, region_as}
 use Rattle.file_store.proofs.Requested.{MayMake, ReachesAll, Requested, dir_ino, dir_may}
@@ -53,7 +55,7 @@ region_leaves shape x k m l y j d name i r c n h = leaves_trans shape x k m l y 
 -- ---- the row still stands when the region is prepared
 
 row_may : (shape : VolumeShape) (x : Seen) (k : Kept) (m : Seen) (l : Kept) (y : Seen) (j : Kept) (d : ℕ) (name : List ℕ) (i : ℕ) (r : RegionSizes) (c : DirChange) (n : NodeChange) → (h : RegionRow shape x k m l y j d name i r c n) → MayBeMade shape (placed_at x.words d) h.plan.node d m.words y.words
-row_may shape x k m l y j d name i r c n h = may_after shape (placed_at x.words d) p d m.words m l y j ino (ready_left shape x k m l h.ready h.leaves).mapped h.then spared (may_begin shape x k m l d (AddsRow name i) c h.plan ino h.ready h.leaves)
+row_may shape x k m l y j d name i r c n h = may_after shape (placed_at x.words d) p d m.words m l y j ino (ready_left shape x k m l h.ready h.leaves).order.mapped h.then spared (may_begin shape x k m l d (AddsRow name i) c h.plan ino h.ready h.leaves)
   where
     p : Placed
     p = h.plan.node
@@ -62,7 +64,7 @@ row_may shape x k m l y j d name i r c n h = may_after shape (placed_at x.words 
     ino = dir_ino shape x.words d h.dir
 
     same : SameLayout (volume_layout shape x.words) (volume_layout shape m.words)
-    same = same_layout shape x.words m.words h.ready.mapped h.leaves.words
+    same = same_layout shape x.words m.words h.ready.order.mapped h.leaves.words
 
     spared : (s : Slot) → HasSlot p s → IsFree (volume_layout shape m.words) (p.block s) → (w : ℕ) → y.words (p.block s) w ≡ m.words (p.block s) w
     spared s has free w = elim (h.plan.turns.gains s has) [
@@ -77,6 +79,7 @@ row_stood shape x k m l y j d name i r c n h = record {
   kept = l;
   plan = h.plan;
   same = refl;
+  bits = λ b within. refl;
   may = row_may shape x k m l y j d name i r c n h;
   firm = firm;
   unnamed = unnamed;
@@ -123,7 +126,7 @@ edit_of m (d ∷ es) e all (suc t, few, at) = edit_of m es e all.1 (t, omega (ar
 
 -- where inode i is free, and the blocks of the region are, in y
 free_then : (shape : VolumeShape) (m : Seen) (l : Kept) (y : Seen) (j : Kept) (i : ℕ) (r : RegionSizes) (skip : List ℕ) (n : NodeChange) → Ready shape m l → LeavesInUse (volume_layout shape m.words) m l y j → (p : PlansRegion shape m.words y j i r skip n) → (s : Slot) → HasSlot p.node s → IsFree (volume_layout shape y.words) (p.node.block s)
-free_then shape m l y j i r skip n ready leaves p s has = free_on shape m.words y.words _ ready.mapped leaves.words (p.from s has)
+free_then shape m l y j i r skip n ready leaves p s has = free_on shape m.words y.words _ ready.order.mapped leaves.words (p.from s has)
 
 region_may : (shape : VolumeShape) (m : Seen) (l : Kept) (y : Seen) (j : Kept) (i : ℕ) (r : RegionSizes) (skip : List ℕ) (n : NodeChange) → Ready shape m l → LeavesInUse (volume_layout shape m.words) m l y j → IsIno shape i → own_free m.words i → PlansRegion shape m.words y j i r skip n → MayMake shape y n
 region_may shape m l y j i r skip n ready leaves ino free p = record {
@@ -135,13 +138,15 @@ region_may shape m l y j i r skip n ready leaves ino free p = record {
   };
   can = record {
     ino = subst (IsIno shape) (sym p.ino) ino;
-    words = λ e on. (edit_of p.node n.edits e p.tables on).1;
-    from = λ e on. (let at = table e on in subst (λ b. reserved shape ≤ b) at.2 (p.turns.new_fits.from (AtTable at.0) at.1));
-    to = λ e on. (let at = table e on in subst (λ b. b < shape.blocks) at.2 (p.turns.new_fits.to (AtTable at.0) at.1));
+    can = record {
+      words = λ e on. (edit_of p.node n.edits e p.tables on).1;
+      from = λ e on. (let at = table e on in subst (λ b. reserved shape ≤ b) at.2 (p.turns.new_fits.from (AtTable at.0) at.1));
+      to = λ e on. (let at = table e on in subst (λ b. b < shape.blocks) at.2 (p.turns.new_fits.to (AtTable at.0) at.1));
+      taken = λ b on. (taken_free b (p.turns.taken b on).0).to;
+      freed = λ b on. absurd (no_own m.words i (p.turns.freed b on).0.0 free (p.turns.freed b on).0.1);
+      apart = λ b on off. absurd (no_own m.words i (p.turns.freed b off).0.0 free (p.turns.freed b off).0.1);
+    };
     few = record { table = p.node.block (AtTable 0); first = 0; second = 0; each = λ e on. inl (the_table e on) };
-    taken = λ b on. (taken_free b (p.turns.taken b on).0).to;
-    freed = λ b on. absurd (no_own m.words i (p.turns.freed b on).0.0 free (p.turns.freed b on).0.1);
-    apart = λ b on off. absurd (no_own m.words i (p.turns.freed b off).0.0 free (p.turns.freed b off).0.1);
     unnamed = λ e on cached. (let at = table e on in subst (λ b. y.names b ≡ None) at.2 (p.unnamed at.0 at.1 (subst (λ b. y.cached b ≡ true) (sym at.2) cached)));
   };
 }
@@ -160,7 +165,7 @@ region_may shape m l y j i r skip n ready leaves ino free p = record {
 
 -- inode i is free when the row is prepared
 pub free_still : (shape : VolumeShape) (x : Seen) (k : Kept) (m : Seen) (l : Kept) (i : ℕ) → Ready shape x k → LeavesInUse (volume_layout shape x.words) x k m l → IsIno shape i → own_free x.words i → own_free m.words i
-free_still shape x k m l i ready leaves ino free = ((same_layout shape x.words m.words ready.mapped leaves.words).each i ino).kind ∙ free
+free_still shape x k m l i ready leaves ino free = ((same_layout shape x.words m.words ready.order.mapped leaves.words).each i ino).kind ∙ free
 
 free_row : (shape : VolumeShape) (x : Seen) (k : Kept) (m : Seen) (l : Kept) (y : Seen) (j : Kept) (d : ℕ) (name : List ℕ) (i : ℕ) (r : RegionSizes) (c : DirChange) (n : NodeChange) → RegionRow shape x k m l y j d name i r c n → own_free m.words i
 free_row shape x k m l y j d name i r c n h = free_still shape x k m l i h.ready h.leaves h.ino (sym (kind_held shape x.words i h.ino) ∙ h.free)
@@ -168,7 +173,7 @@ free_row shape x k m l y j d name i r c n h = free_still shape x k m l i h.ready
 pub region_requested : (shape : VolumeShape) (x : Seen) (k : Kept) (m : Seen) (l : Kept) (y : Seen) (j : Kept) (d : ℕ) (name : List ℕ) (i : ℕ) (r : RegionSizes) (c : DirChange) (n : NodeChange) → Settled x k → RegionRow shape x k m l y j d name i r c n → Requested shape x k y j (of_dir c ∷ n ∷ [])
 region_requested shape x k m l y j d name i r c n settled h =
     let leaves = region_leaves shape x k m l y j d name i r c n h in
-    let mapped = (ready_left shape x k y j h.ready leaves).mapped in
+    let mapped = (ready_left shape x k y j h.ready leaves).order.mapped in
     record {
       ready = h.ready;
       settled = settled;
@@ -177,6 +182,7 @@ region_requested shape x k m l y j d name i r c n settled h =
         dir_may shape x y j d (AddsRow name i) c mapped (dir_ino shape x.words d h.dir) (row_stood shape x k m l y j d name i r c n h),
         (region_may shape m l y j i r (numbers c.taken) n (ready_left shape x k m l h.ready h.leaves) h.then h.ino (free_row shape x k m l y j d name i r c n h) h.region, tt),
       );
+      lowest = lowest_two shape x.words m.words (of_dir c) n h.ready.order.mapped.laid.shape_fits (bits_agree shape x.words m.words h.ready.order.mapped.laid.shape_fits h.leaves.words.low) (wanted_blocks (placed_at x.words d).size h.plan.node.size, h.plan.takes.lowest) h.region.lowest;
     }
 
 -- ---- the region made, on blocks in which its inode is free and its blocks read as they did
@@ -211,22 +217,22 @@ out_edits : (m : Placed) (p : ℕ) (es : List Edit) → ((s t : Slot) → HasSlo
 out_edits m p [] apart has all = tt
 out_edits m p (e ∷ es) apart has all = ((λ same. table_page all.0.0.0 p (apart (AtTable all.0.0.0) (AtPage p) all.0.0.1 has (all.0.0.2 ∙ same))), out_edits m p es apart has all.1)
 
-pub region_step : (shape : VolumeShape) (f : BlockWords) (y : Seen) (j : Kept) (i : ℕ) (r : RegionSizes) (skip : List ℕ) (n : NodeChange) (g h : BlockWords) (z : Seen) (p : PlansRegion shape f y j i r skip n) → InOrder shape g z j → IsIno shape i → i ≢ 1 → own_free f i → own_free g i → SameBlocks p.node y.words g → ((s : Slot) → HasSlot p.node s → Available (volume_layout shape g) i (p.node.block s)) → NamedNode i p.node z → Applied shape (node_update n) g h → Steps shape g h i z j × (held_of shape h i ≡ new_held r.undo_pages r.data_pages)
+pub region_step : (shape : VolumeShape) (f : BlockWords) (y : Seen) (j : Kept) (i : ℕ) (r : RegionSizes) (skip : List ℕ) (n : NodeChange) (g h : BlockWords) (z : Seen) (p : PlansRegion shape f y j i r skip n) → InOrder shape g z j → IsIno shape i → i ≢ 1 → own_free f i → own_free g i → SameBlocks p.node y.words g → ((s : Slot) → HasSlot p.node s → Available (volume_layout shape g) i (p.node.block s)) → NamedNode i p.node z → Applied shape (change_update n) g h → Steps shape g h i z j × (held_of shape h i ≡ new_held r.undo_pages r.data_pages)
 region_step shape f y j i r skip n g h z p order ino other free still same from named a = (
   step_of shape g h i p.node z j order change named p.firm,
   held_here shape g h i p.node order.mapped change
-      ∙ turned_held shape (placed_at g i) p.node (node_update n) g h turns a
+      ∙ turned_held shape (placed_at g i) p.node (change_update n) g h turns a
       ∙ held_agree g (edited g (map word_edit n.edits)) p.node (λ q has w. edited_out (map word_edit n.edits) g _ w (out_edits p.node q n.edits p.turns.new_fits.apart has p.tables))
       ∙ held_agree y.words g p.node (λ q has w. same (AtPage q) has w)
       ∙ p.holds,
 )
   where
-    turns : Turns shape (placed_at g i) p.node (node_update n)
-    turns = turns_free shape (placed_at f i) (placed_at g i) p.node (node_update n) free still (node_fits (volume_layout shape g) i order.mapped.laid ino) p.turns
+    turns : Turns shape (placed_at g i) p.node (change_update n)
+    turns = turns_free shape (placed_at f i) (placed_at g i) p.node (change_update n) free still (node_fits (volume_layout shape g) i order.mapped.laid ino) p.turns
 
     change : Change (volume_layout shape g) g h i p.node
     change = subst (λ q. Change (volume_layout shape g) g h q p.node) p.ino
-        (node_change shape p.node (node_update n) g h (subst (λ q. Turns shape (placed_at g q) p.node (node_update n)) (sym p.ino) turns) (λ root. absurd (other (sym p.ino ∙ root))) (subst (λ q. (s : Slot) → HasSlot p.node s → Available (volume_layout shape g) q (p.node.block s)) (sym p.ino) from) a)
+        (node_change shape p.node (change_update n) g h (subst (λ q. Turns shape (placed_at g q) p.node (change_update n)) (sym p.ino) turns) (λ root. absurd (other (sym p.ino ∙ root))) (subst (λ q. (s : Slot) → HasSlot p.node s → Available (volume_layout shape g) q (p.node.block s)) (sym p.ino) from) a)
 
 -- ---- names, with the update's blocks cached
 
@@ -252,9 +258,9 @@ region_named shape x k m l y j z d name i r c n h caches apart s has on = by (ca
         subst (λ t. Bears i p t (z.names (p.block s))) slot none
 
     of_change : (a : NodeChange) → Contains changes a → (p.block s ≡ inode_block a.ino.0) ⊎ ((e : Edit) × Contains a.edits e × (e.block.0 ≡ p.block s)) → z.names (p.block s) ≡ None → Bears i p s (z.names (p.block s))
-    of_change a (zero, few, at) (inl inode) none = absurd (let ino = subst (λ (q : NodeChange). p.block s ≡ inode_block q.ino.0) (sym at) inode in let low = inode_low shape d h.ready.mapped.laid.shape_fits (dir_ino shape x.words d h.dir) in let same = h.plan.dir in omega (arith, from, low, ino, same))
+    of_change a (zero, few, at) (inl inode) none = absurd (let ino = subst (λ (q : NodeChange). p.block s ≡ inode_block q.ino.0) (sym at) inode in let low = inode_low shape d h.ready.order.mapped.laid.shape_fits (dir_ino shape x.words d h.dir) in let same = h.plan.dir in omega (arith, from, low, ino, same))
     of_change a (zero, few, at) (inr (e, one, is)) none = absurd (in_row e (subst (λ (q : NodeChange). Contains q.edits e) (sym at) one) is)
-    of_change a (suc zero, few, at) (inl inode) none = absurd (let ino = subst (λ (q : NodeChange). p.block s ≡ inode_block q.ino.0) (sym at) inode in let low = inode_low shape i h.ready.mapped.laid.shape_fits h.ino in let same = h.region.ino in omega (arith, from, low, ino, same))
+    of_change a (suc zero, few, at) (inl inode) none = absurd (let ino = subst (λ (q : NodeChange). p.block s ≡ inode_block q.ino.0) (sym at) inode in let low = inode_low shape i h.ready.order.mapped.laid.shape_fits h.ino in let same = h.region.ino in omega (arith, from, low, ino, same))
     of_change a (suc zero, few, at) (inr (e, one, is)) none = in_region e (subst (λ (q : NodeChange). Contains q.edits e) (sym at) one) is none
     of_change a (suc (suc t), few, at) _ none = absurd (omega (arith, few))
 
@@ -270,6 +276,7 @@ region_reaches shape x k m l y j z d name i r c n s row reads p g (h, a1, (h2, a
   order = order;
   reads = region_as shape x.words g s d name i r.undo_pages r.data_pages reads order.mapped (tree_new s d name i (Region (new_region r.data_pages r.undo_pages)) (fit_read shape x.words s reads) reads.tree (dir_read shape x.words s d reads row.dir) absent (unused_read shape x.words s i reads row.free)) row.fit.undo row.fit.data_pages absent row.is_name makes;
   spares = record { each = spares };
+  lowest = lowest_now shape x k y j z changes g p (h, a1, (h2, a2, e));
   out = freed_out shape y.words g changes (mapped_now shape x k y j z changes p) order.mapped p.fits (h, a1, (h2, a2, e));
   above = freed_above shape y.words changes (mapped_now shape x k y j z changes p) p.fits;
 }
@@ -299,7 +306,7 @@ region_reaches shape x k m l y j z d name i r c n s row reads p g (h, a1, (h2, a
     free_at t has = free_then shape m l y j i r (numbers c.taken) n (ready_left shape x k m l row.ready row.leaves) row.then row.region t has
 
     same_y : SameLayout (volume_layout shape x.words) (volume_layout shape y.words)
-    same_y = same_layout shape x.words y.words row.ready.mapped (region_leaves shape x k m l y j d name i r c n row).words
+    same_y = same_layout shape x.words y.words row.ready.order.mapped (region_leaves shape x k m l y j d name i r c n row).words
 
     apart : DisjointNodes row.plan.node row.region.node
     apart t u has_t has_u same = elim (row.plan.turns.gains t has_t) [
@@ -318,7 +325,7 @@ region_reaches shape x k m l y j z d name i r c n s row reads p g (h, a1, (h2, a
     free_y = (same_y.each i row.ino).kind ∙ sym (kind_held shape x.words i row.ino) ∙ row.free
 
     second : Steps shape h h2 i z j × (held_of shape h2 i ≡ new_held r.undo_pages r.data_pages)
-    second = region_step shape m.words y j i r (numbers c.taken) n h h2 z row.region first.0.order row.ino (apart_kinds shape x.words i 1 0 1 row.free (root_held shape x.words row.ready.mapped) (λ q. (let f : 0 ≡ 1 = q in omega (arith, f)))) (free_row shape x k m l y j d name i r c n row) (may.lies.kind ∙ free_y) may.same may.from (region_named shape x k m l y j z d name i r c n row p.touched.caches apart) a2
+    second = region_step shape m.words y j i r (numbers c.taken) n h h2 z row.region first.0.order row.ino (apart_kinds shape x.words i 1 0 1 row.free (root_held shape x.words row.ready.order.mapped) (λ q. (let f : 0 ≡ 1 = q in omega (arith, f)))) (free_row shape x k m l y j d name i r c n row) (may.lies.kind ∙ free_y) may.same may.from (region_named shape x k m l y j z d name i r c n row p.touched.caches apart) a2
 
     order : InOrder shape g z j
     order = subst (λ f. InOrder shape f z j) (sym e) second.0.order

@@ -15,7 +15,7 @@ few_bytes shape f i n mapped region is =
 -- x is the volume before the inode was read, y and j are it afterwards
 pub on_region : (shape : VolumeShape) (x y : Seen) (j : Kept) (i words : ℕ) (n : Inode) → Ready shape y j → y.words ≡ x.words → (held_of shape x.words i).kind ≡ 3 → IsInode x.words i n → words ≡ n.size / 8 → OnRegion shape y j i words
 on_region shape x y j i words n ready same region is count =
-    let mapped : IsMapped shape x.words = subst (IsMapped shape) same ready.mapped in
+    let mapped : IsMapped shape x.words = subst (IsMapped shape) same ready.order.mapped in
     let h = has_header shape x.words i mapped region in
     let bytes : n.size ≡ (placed_at x.words i).size = is.size in
     let whole : (placed_at x.words i).size % 4096 ≡ 0 = (mapped.laid.sizes.each i h.ino h.page.used).region h.kind in

@@ -2,6 +2,8 @@
 -- are before the request, w and p, u and q, y and j after one call after the other that only prepares.
 use Rattle.file_store.proofs.Common.{◌≡◌, ◌≢◌, ℕ, ◌+◌, ◌<◌, ◌≤◌, false, cond, List, [], ◌∷◌, refl, sym, ap, subst, ◌∙◌, arith, Result, Err, IsErrOf, nat_lt, nat_tests, Block, VolumeShape, free_blocks, BlockWords, Seen, IsIno, Kept, Settled, numbers, State, answered, refused, Held, held_of, IsName, placed_at, volume_layout, free_count, held_of_agree, ReadsAs, LeavesInUse, Ready, TreeRule, differs, itself, wanted_blocks, node_blocks, leaves_trans, ready_left, SizeFail, NoSpace, TooLarge, PlansDir, AddsRow, RemovesRow, ReplacesRow, SetsRow, HasRow, IsEntry, DirChange, moved, replaced, row_wanted, with_room}
 use Rattle.std.specs.Prelude.{length}
+use Rattle.rio_base.specs.Bitmap.{used_bit}
+use Rattle.rio_model.proofs.LowestBlocks.{bits_agree}
 use Rattle.rio_requests.specs.declared.reply.Reply.TheVariants.{Ok as Done}
 use Rattle.rio_requests.specs.Answers.{move_row}
 use Rattle.file_store.specs.Changes.{IsGone, of_dir}
@@ -15,6 +17,7 @@ use Rattle.file_store.specs.declared.walking.Row.{Row}
 use Rattle.file_store.proofs.AnsweredAt.{FailsBy}
 use Rattle.file_store.proofs.Ended.{Reaches}
 use Rattle.file_store.proofs.LookedAt.{dir_read, leaf_read, no_row, row_read, used_ino}
+use Rattle.file_store.proofs.LowestTaken.{bare_lower, lowest_each, stood_lower}
 use Rattle.file_store.proofs.Reached.{less_removed, less_replaced, less_set, order_renamed, reaches_renamed, root_held}
 use Rattle.file_store.proofs.ReachedMoves.{order_moved, reaches_across, reaches_moved, reaches_within}
 use Rattle.file_store.proofs.Requested.{OrdersAll, ReachesAll, Requested, dir_ino, dir_may, fails_add, gone_may}
@@ -66,10 +69,14 @@ leaf_apart shape f n d leaf dir same = leaf (ap (λ i. (held_of shape f i).kind)
 -- ---- after calls that only prepare
 
 pub held_left : (shape : VolumeShape) (x : Seen) (k : Kept) (y : Seen) (j : Kept) → Ready shape x k → LeavesInUse (volume_layout shape x.words) x k y j → held_of shape y.words ≡ held_of shape x.words
-held_left shape x k y j ready leaves = held_of_agree shape x.words y.words ready.mapped leaves.words
+held_left shape x k y j ready leaves = held_of_agree shape x.words y.words ready.order.mapped leaves.words
 
 held_at : (shape : VolumeShape) (x : Seen) (k : Kept) (y : Seen) (j : Kept) (n : ℕ) → Ready shape x k → LeavesInUse (volume_layout shape x.words) x k y j → held_of shape y.words n ≡ held_of shape x.words n
 held_at shape x k y j n ready leaves = ap (λ (h : ℕ → Held). h n) (held_left shape x k y j ready leaves)
+
+-- and the bits of the bitmap before it
+bits_left : (shape : VolumeShape) (x : Seen) (k : Kept) (y : Seen) (j : Kept) → Ready shape x k → LeavesInUse (volume_layout shape x.words) x k y j → (b : ℕ) → b < shape.blocks → used_bit shape x.words b ≡ used_bit shape y.words b
+bits_left shape x k y j ready leaves b within = sym (bits_agree shape x.words y.words ready.order.mapped.laid.shape_fits leaves.words.low b within)
 
 -- blocks that were listed before a call that only looks
 listed_on : (blocks : List Block) (n : ℕ) (w y : Seen) → y.words ≡ w.words → numbers blocks ≡ node_blocks (placed_at w.words n) → numbers blocks ≡ node_blocks (placed_at y.words n)
@@ -84,14 +91,15 @@ pub record RenamedRow (shape : VolumeShape) (x : Seen) (k : Kept) (y : Seen) (j 
   pub dir : (held_of shape x.words row.dir.0).kind ≡ 1
 
 renamed_stood : (shape : VolumeShape) (x : Seen) (k : Kept) (y : Seen) (j : Kept) (row : Row) (b : List ℕ) (c : DirChange) → RenamedRow shape x k y j row b c → Stood shape x y j row.dir.0 (SetsRow row.slot b row.ino.0) c
-renamed_stood shape x k y j row b c h = stood_now shape x x k y j row.dir.0 (SetsRow row.slot b row.ino.0) c h.ready h.leaves (dir_ino shape x.words row.dir.0 h.dir) refl h.plan
+renamed_stood shape x k y j row b c h = stood_now shape x x k y j row.dir.0 (SetsRow row.slot b row.ino.0) c h.ready h.leaves (dir_ino shape x.words row.dir.0 h.dir) refl (λ b within. refl) h.plan
 
 pub renamed_requested : (shape : VolumeShape) (x : Seen) (k : Kept) (y : Seen) (j : Kept) (row : Row) (b : List ℕ) (c : DirChange) → Settled x k → RenamedRow shape x k y j row b c → Requested shape x k y j (of_dir c ∷ [])
 renamed_requested shape x k y j row b c settled h = record {
   ready = h.ready;
   settled = settled;
   leaves = h.leaves;
-  may = (dir_may shape x y j row.dir.0 (SetsRow row.slot b row.ino.0) c (ready_left shape x k y j h.ready h.leaves).mapped (dir_ino shape x.words row.dir.0 h.dir) (renamed_stood shape x k y j row b c h), tt);
+  may = (dir_may shape x y j row.dir.0 (SetsRow row.slot b row.ino.0) c (ready_left shape x k y j h.ready h.leaves).order.mapped (dir_ino shape x.words row.dir.0 h.dir) (renamed_stood shape x k y j row b c h), tt);
+  lowest = lowest_each shape x.words (of_dir c ∷ []) (stood_lower shape x y j row.dir.0 (SetsRow row.slot b row.ino.0) c (renamed_stood shape x k y j row b c h), tt);
 }
 
 pub renamed_reaches : (shape : VolumeShape) (x : Seen) (k : Kept) (y : Seen) (j : Kept) (z : Seen) (row : Row) (a b : List ℕ) (c : DirChange) (s : State) → RenamedRow shape x k y j row b c → ReadsAs shape x.words s → IsRow shape x.words a row → IsName b → ((n : ℕ) → HasRow (held_of shape x.words row.dir.0) b n → ⊥) → OutOfReach s row.ino.0 row.dir.0 → ReachesAll shape x k y j z (of_dir c ∷ []) (moved s row.dir.0 a row.dir.0 b row.ino.0)
@@ -115,24 +123,25 @@ pub record MovedRow (shape : VolumeShape) (x : Seen) (k : Kept) (w : Seen) (p : 
 -- a row that goes, and another call later
 removed_stood : (shape : VolumeShape) (x : Seen) (k : Kept) (w : Seen) (p : Kept) (y : Seen) (j : Kept) (d slot : ℕ) (c : DirChange) → Ready shape x k → LeavesInUse (volume_layout shape x.words) x k w p → LeavesInUse (volume_layout shape w.words) w p y j → IsIno shape d → PlansDir shape x.words w p d (RemovesRow slot) c → Stood shape x y j d (RemovesRow slot) c
 removed_stood shape x k w p y j d slot c ready leaves later ino plan =
-    let now : Stood shape x w p d (RemovesRow slot) c = stood_now shape x x k w p d (RemovesRow slot) c ready leaves ino refl plan in
+    let now : Stood shape x w p d (RemovesRow slot) c = stood_now shape x x k w p d (RemovesRow slot) c ready leaves ino refl (λ b within. refl) plan in
     stood_after shape x w p y j d (RemovesRow slot) c now (ready_left shape x k w p ready leaves) later ino (less_removed shape x w p d slot c now ino)
 
 moved_goes : (shape : VolumeShape) (x : Seen) (k : Kept) (w : Seen) (p : Kept) (y : Seen) (j : Kept) (row : Row) (e : ℕ) (b : List ℕ) (c m : DirChange) → MovedRow shape x k w p y j row e b c m → Stood shape x y j row.dir.0 (RemovesRow row.slot) c
 moved_goes shape x k w p y j row e b c m h = removed_stood shape x k w p y j row.dir.0 row.slot c h.ready h.leaves h.later (dir_ino shape x.words row.dir.0 h.dir) h.goes
 
 moved_comes : (shape : VolumeShape) (x : Seen) (k : Kept) (w : Seen) (p : Kept) (y : Seen) (j : Kept) (row : Row) (e : ℕ) (b : List ℕ) (c m : DirChange) → MovedRow shape x k w p y j row e b c m → Stood shape x y j e (AddsRow b row.ino.0) m
-moved_comes shape x k w p y j row e b c m h = stood_now shape x w p y j e (AddsRow b row.ino.0) m (ready_left shape x k w p h.ready h.leaves) h.later (dir_ino shape x.words e h.to) (held_at shape x k w p e h.ready h.leaves) h.comes
+moved_comes shape x k w p y j row e b c m h = stood_now shape x w p y j e (AddsRow b row.ino.0) m (ready_left shape x k w p h.ready h.leaves) h.later (dir_ino shape x.words e h.to) (held_at shape x k w p e h.ready h.leaves) (bits_left shape x k w p h.ready h.leaves) h.comes
 
 pub moved_requested : (shape : VolumeShape) (x : Seen) (k : Kept) (w : Seen) (p : Kept) (y : Seen) (j : Kept) (row : Row) (e : ℕ) (b : List ℕ) (c m : DirChange) → Settled x k → MovedRow shape x k w p y j row e b c m → Requested shape x k y j (of_dir c ∷ of_dir m ∷ [])
 moved_requested shape x k w p y j row e b c m settled h =
     let leaves = leaves_trans shape x k w p y j h.ready h.leaves h.later in
-    let mapped = (ready_left shape x k y j h.ready leaves).mapped in
+    let mapped = (ready_left shape x k y j h.ready leaves).order.mapped in
     record {
       ready = h.ready;
       settled = settled;
       leaves = leaves;
       may = (dir_may shape x y j row.dir.0 (RemovesRow row.slot) c mapped (dir_ino shape x.words row.dir.0 h.dir) (moved_goes shape x k w p y j row e b c m h), (dir_may shape x y j e (AddsRow b row.ino.0) m mapped (dir_ino shape x.words e h.to) (moved_comes shape x k w p y j row e b c m h), tt));
+      lowest = lowest_each shape x.words (of_dir c ∷ of_dir m ∷ []) (stood_lower shape x y j row.dir.0 (RemovesRow row.slot) c (moved_goes shape x k w p y j row e b c m h), (stood_lower shape x y j e (AddsRow b row.ino.0) m (moved_comes shape x k w p y j row e b c m h), tt));
     }
 
 pub moved_reaches : (shape : VolumeShape) (x : Seen) (k : Kept) (w : Seen) (p : Kept) (y : Seen) (j : Kept) (z : Seen) (row : Row) (e : ℕ) (a b : List ℕ) (c m : DirChange) (s : State) → MovedRow shape x k w p y j row e b c m → row.dir.0 ≢ e → ReadsAs shape x.words s → IsRow shape x.words a row → IsName b → ((n : ℕ) → HasRow (held_of shape x.words e) b n → ⊥) → OutOfReach s row.ino.0 e → ReachesAll shape x k y j z (of_dir c ∷ of_dir m ∷ []) (moved s row.dir.0 a e b row.ino.0)
@@ -163,25 +172,26 @@ pub record WithinRow (shape : VolumeShape) (x : Seen) (k : Kept) (w : Seen) (p :
 within_stood : (shape : VolumeShape) (x : Seen) (k : Kept) (w : Seen) (p : Kept) (y : Seen) (j : Kept) (from to : Row) (blocks : List Block) (c : DirChange) (m : NodeChange) → WithinRow shape x k w p y j from to blocks c m → Stood shape x y j to.dir.0 (ReplacesRow to.slot from.ino.0 from.slot) c
 within_stood shape x k w p y j from to blocks c m h =
     let ino = dir_ino shape x.words to.dir.0 h.dir in
-    let now : Stood shape x w p to.dir.0 (ReplacesRow to.slot from.ino.0 from.slot) c = stood_now shape x x k w p to.dir.0 (ReplacesRow to.slot from.ino.0 from.slot) c h.ready h.leaves ino refl h.plan in
+    let now : Stood shape x w p to.dir.0 (ReplacesRow to.slot from.ino.0 from.slot) c = stood_now shape x x k w p to.dir.0 (ReplacesRow to.slot from.ino.0 from.slot) c h.ready h.leaves ino refl (λ b within. refl) h.plan in
     stood_after shape x w p y j to.dir.0 (ReplacesRow to.slot from.ino.0 from.slot) c now (ready_left shape x k w p h.ready h.leaves) h.later ino (less_replaced shape x w p to.dir.0 to.slot from.ino.0 from.slot c now ino)
 
 pub within_requested : (shape : VolumeShape) (x : Seen) (k : Kept) (w : Seen) (p : Kept) (y : Seen) (j : Kept) (from to : Row) (blocks : List Block) (c : DirChange) (m : NodeChange) → Settled x k → WithinRow shape x k w p y j from to blocks c m → Requested shape x k y j (of_dir c ∷ m ∷ [])
 within_requested shape x k w p y j from to blocks c m settled h =
     let leaves = leaves_trans shape x k w p y j h.ready h.leaves h.later in
-    let mapped = (ready_left shape x k y j h.ready leaves).mapped in
+    let mapped = (ready_left shape x k y j h.ready leaves).order.mapped in
     record {
       ready = h.ready;
       settled = settled;
       leaves = leaves;
       may = (dir_may shape x y j to.dir.0 (ReplacesRow to.slot from.ino.0 from.slot) c mapped (dir_ino shape x.words to.dir.0 h.dir) (within_stood shape x k w p y j from to blocks c m h), (gone_may shape y to.ino.0 blocks m mapped (used_ino shape x.words to.ino.0 h.used) h.gone (kind_still shape x k y j to.ino.0 h.ready leaves h.used) (listed_on blocks to.ino.0 w y h.words h.listed), tt));
+      lowest = lowest_each shape x.words (of_dir c ∷ m ∷ []) (stood_lower shape x y j to.dir.0 (ReplacesRow to.slot from.ino.0 from.slot) c (within_stood shape x k w p y j from to blocks c m h), (bare_lower shape x.words m h.gone.taken, tt));
     }
 
 pub within_reaches : (shape : VolumeShape) (x : Seen) (k : Kept) (w : Seen) (p : Kept) (y : Seen) (j : Kept) (z : Seen) (a b : List ℕ) (from to : Row) (blocks : List Block) (c : DirChange) (m : NodeChange) (s : State) → WithinRow shape x k w p y j from to blocks c m → from.dir.0 ≡ to.dir.0 → ReadsAs shape x.words s → OverLeaf shape x.words a b from to → ReachesAll shape x k y j z (of_dir c ∷ m ∷ []) (replaced s from.dir.0 a to.dir.0 b from.ino.0 to.ino.0)
 within_reaches shape x k w p y j z a b from to blocks c m s h one reads rows pre g applied =
     subst (λ d. Reaches shape x.words z j (of_dir c ∷ m ∷ []) g (replaced s d a to.dir.0 b from.ino.0 to.ino.0)) (sym one)
     (reaches_within shape x k y j z s to.dir.0 from.slot to.slot a b from.ino.0 to.ino.0 blocks c m g pre reads (within_stood shape x k w p y j from to blocks c m h) h.gone (listed_on blocks to.ino.0 w y h.words h.listed) (dir_ino shape x.words to.dir.0 h.dir) (used_ino shape x.words to.ino.0 h.used) h.dir (subst (λ d. IsEntry (held_of shape x.words d) from.slot a from.ino.0) one rows.old.entry) rows.over.entry rows.other rows.leaf_to h.used
-    (leaf_apart shape x.words to.ino.0 1 rows.leaf_to (root_held shape x.words h.ready.mapped)) (leaf_apart shape x.words to.ino.0 to.dir.0 rows.leaf_to h.dir)
+    (leaf_apart shape x.words to.ino.0 1 rows.leaf_to (root_held shape x.words h.ready.order.mapped)) (leaf_apart shape x.words to.ino.0 to.dir.0 rows.leaf_to h.dir)
     (subst (λ d. TreeRule (replaced s d a to.dir.0 b from.ino.0 to.ino.0)) one (replaced_tree shape x.words s a b from to reads rows)) applied)
 
 -- ---- over a row of another directory
@@ -210,13 +220,13 @@ across_comes : (shape : VolumeShape) (x : Seen) (k : Kept) (w : Seen) (p : Kept)
 across_comes shape x k w p u q y j from to b blocks c m v h =
     let ino = dir_ino shape x.words to.dir.0 h.to_dir in
     let then_ready = ready_left shape x k w p h.ready h.leaves in
-    let now : Stood shape x u q to.dir.0 (SetsRow to.slot b from.ino.0) m = stood_now shape x w p u q to.dir.0 (SetsRow to.slot b from.ino.0) m then_ready h.later ino (held_at shape x k w p to.dir.0 h.ready h.leaves) h.comes in
+    let now : Stood shape x u q to.dir.0 (SetsRow to.slot b from.ino.0) m = stood_now shape x w p u q to.dir.0 (SetsRow to.slot b from.ino.0) m then_ready h.later ino (held_at shape x k w p to.dir.0 h.ready h.leaves) (bits_left shape x k w p h.ready h.leaves) h.comes in
     stood_after shape x u q y j to.dir.0 (SetsRow to.slot b from.ino.0) m now (ready_left shape w p u q then_ready h.later) h.last ino (less_set shape x u q to.dir.0 to.slot b from.ino.0 m now ino)
 
 pub across_requested : (shape : VolumeShape) (x : Seen) (k : Kept) (w : Seen) (p : Kept) (u : Seen) (q : Kept) (y : Seen) (j : Kept) (from to : Row) (b : List ℕ) (blocks : List Block) (c m : DirChange) (v : NodeChange) → Settled x k → AcrossRow shape x k w p u q y j from to b blocks c m v → Requested shape x k y j (of_dir c ∷ of_dir m ∷ v ∷ [])
 across_requested shape x k w p u q y j from to b blocks c m v settled h =
     let leaves = leaves_trans shape x k w p y j h.ready h.leaves (across_later shape x k w p u q y j from to b blocks c m v h) in
-    let mapped = (ready_left shape x k y j h.ready leaves).mapped in
+    let mapped = (ready_left shape x k y j h.ready leaves).order.mapped in
     let first = dir_may shape x y j from.dir.0 (RemovesRow from.slot) c mapped (dir_ino shape x.words from.dir.0 h.dir) (across_goes shape x k w p u q y j from to b blocks c m v h) in
     let second = dir_may shape x y j to.dir.0 (SetsRow to.slot b from.ino.0) m mapped (dir_ino shape x.words to.dir.0 h.to_dir) (across_comes shape x k w p u q y j from to b blocks c m v h) in
     let third = gone_may shape y to.ino.0 blocks v mapped (used_ino shape x.words to.ino.0 h.used) h.gone (kind_still shape x k y j to.ino.0 h.ready leaves h.used) (listed_on blocks to.ino.0 u y h.words h.listed) in
@@ -225,6 +235,7 @@ across_requested shape x k w p u q y j from to b blocks c m v settled h =
       settled = settled;
       leaves = leaves;
       may = (first, (second, (third, tt)));
+      lowest = lowest_each shape x.words (of_dir c ∷ of_dir m ∷ v ∷ []) (stood_lower shape x y j from.dir.0 (RemovesRow from.slot) c (across_goes shape x k w p u q y j from to b blocks c m v h), (stood_lower shape x y j to.dir.0 (SetsRow to.slot b from.ino.0) m (across_comes shape x k w p u q y j from to b blocks c m v h), (bare_lower shape x.words v h.gone.taken, tt)));
     }
 
 pub across_reaches : (shape : VolumeShape) (x : Seen) (k : Kept) (w : Seen) (p : Kept) (u : Seen) (q : Kept) (y : Seen) (j : Kept) (z : Seen) (a b : List ℕ) (from to : Row) (blocks : List Block) (c m : DirChange) (v : NodeChange) (s : State) → AcrossRow shape x k w p u q y j from to b blocks c m v → from.dir.0 ≢ to.dir.0 → ReadsAs shape x.words s → OverLeaf shape x.words a b from to → ReachesAll shape x k y j z (of_dir c ∷ of_dir m ∷ v ∷ []) (replaced s from.dir.0 a to.dir.0 b from.ino.0 to.ino.0)
@@ -232,5 +243,5 @@ across_reaches shape x k w p u q y j z a b from to blocks c m v s h two reads ro
     let dno = dir_ino shape x.words from.dir.0 h.dir in
     let goes = across_goes shape x k w p u q y j from to b blocks c m v h in
     reaches_across shape x k y j z s from.dir.0 from.slot a to.dir.0 to.slot b from.ino.0 to.ino.0 blocks c m v g pre reads goes (across_comes shape x k w p u q y j from to b blocks c m v h) (less_removed shape x y j from.dir.0 from.slot c goes dno) h.gone (listed_on blocks to.ino.0 u y h.words h.listed) dno (dir_ino shape x.words to.dir.0 h.to_dir) (used_ino shape x.words to.ino.0 h.used) two h.dir h.to_dir rows.old.entry rows.over.entry rows.other rows.leaf_to h.used
-    (leaf_apart shape x.words to.ino.0 1 rows.leaf_to (root_held shape x.words h.ready.mapped)) (leaf_apart shape x.words to.ino.0 from.dir.0 rows.leaf_to h.dir) (leaf_apart shape x.words to.ino.0 to.dir.0 rows.leaf_to h.to_dir)
+    (leaf_apart shape x.words to.ino.0 1 rows.leaf_to (root_held shape x.words h.ready.order.mapped)) (leaf_apart shape x.words to.ino.0 from.dir.0 rows.leaf_to h.dir) (leaf_apart shape x.words to.ino.0 to.dir.0 rows.leaf_to h.to_dir)
     (replaced_tree shape x.words s a b from to reads rows) applied

@@ -7,8 +7,7 @@ use Rattle.rio_base.proofs.Rules.{ends_by_as}
 use Rattle.rio_model.proofs.PlacedRules.{owns_back}
 use Rattle.file_pages.specs.declared.failures.SizeFail.TheVariants.{Fault as SizeFault, Stopped as SizeStopped, Memory as SizeMemory}
 use Rattle.directories.proofs.MakingOrder.{plan_applies}
-use Rattle.directories.specs.Plans.{CanApply}
-use Rattle.file_store.specs.Changes.{AllApplied, CanCommit, CanMakeNode, IsGone, IsMade, node_update, of_dir}
+use Rattle.file_store.specs.Changes.{AllApplied, CanCommit, CanMakeNode, IsGone, IsMade, change_update, of_dir}
 use Rattle.file_store.specs.Committing.{Commits, Touched}
 use Rattle.file_store.specs.Ends.{FileEnds}
 use Rattle.file_store.specs.Failures.{fail_of_size, fail_of_vol}
@@ -21,6 +20,7 @@ use Rattle.file_store.proofs.CallEnds.{EndsFile}
 use Rattle.file_store.proofs.Ended.{MayTouch, Reaches, ends_fault, ends_made, ends_stopped}
 use Rattle.file_store.proofs.Fitting.{AllFit, Fits, may_touch}
 use Rattle.file_store.proofs.LookedAt.{used_ino}
+use Rattle.file_store.proofs.LowestTaken.{TakesLowest}
 use Rattle.file_store.proofs.Reached.{Prepared}
 use Rattle.file_store.proofs.RowRoom.{row_full}
 use Rattle.file_store.proofs.Steps.{MayBeMetadata}
@@ -47,20 +47,12 @@ dir_may shape x y j d becomes c mapped ino h = record {
   fits = stood_fits shape x y j d becomes c mapped ino h;
   can = record {
     ino = subst (IsIno shape) (sym h.plan.dir) ino;
-    words = a.words;
-    from = a.edits_from;
-    to = a.edits_to;
+    can = plan_applies shape h.was h.seen h.kept d becomes c h.plan;
     few = h.plan.few;
-    taken = a.taken;
-    freed = a.freed;
-    apart = a.apart;
     unnamed = λ e on. unnamed e (plan_edits shape h.was h.seen h.kept d becomes c h.plan e.block.0 (e, on, refl));
   };
 }
   where
-    a : CanApply shape c
-    a = plan_applies shape h.was h.seen h.kept d becomes c h.plan
-
     unnamed : (e : Edit) → (t : Slot) × HasSlot h.plan.node t × (h.plan.node.block t ≡ e.block.0) → y.cached e.block.0 ≡ true → y.names e.block.0 ≡ None
     unnamed e (t, has, at) on = subst (λ b. y.names b ≡ None) at (h.unnamed t has (subst (λ b. y.cached b ≡ true) (sym at) on))
 
@@ -73,13 +65,15 @@ bare_may shape y c mapped none fits = record {
   fits = fits;
   can = record {
     ino = fits.ino;
-    words = λ e on. absurd (away e on);
-    from = λ e on. absurd (away e on);
-    to = λ e on. absurd (away e on);
+    can = record {
+      words = λ e on. absurd (away e on);
+      from = λ e on. absurd (away e on);
+      to = λ e on. absurd (away e on);
+      taken = λ b on. (fits.takes b on).to;
+      freed = λ b on. owned_below (volume_layout shape y.words) b mapped.laid.numbers (fits.frees b on);
+      apart = λ b on off. (fits.takes b on).free (fits.frees b off);
+    };
     few = record { table = 0; first = 0; second = 0; each = λ e on. absurd (away e on) };
-    taken = λ b on. (fits.takes b on).to;
-    freed = λ b on. owned_below (volume_layout shape y.words) b mapped.laid.numbers (fits.frees b on);
-    apart = λ b on off. (fits.takes b on).free (fits.frees b off);
     unnamed = λ e on. absurd (away e on);
   };
 }
@@ -109,6 +103,7 @@ pub record Requested (shape : VolumeShape) (x : Seen) (k : Kept) (y : Seen) (j :
   pub settled : Settled x k
   pub leaves : LeavesInUse (volume_layout shape x.words) x k y j
   pub may : AllMay shape y changes
+  pub lowest : TakesLowest shape x.words changes
 
 -- what the call asks that makes the changes. `items` is the list that it is given
 pub can_commit : (shape : VolumeShape) (x : Seen) (k : Kept) (y : Seen) (j : Kept) (items changes : List NodeChange) → items ≡ changes → length changes ≤ 3 → Requested shape x k y j changes → CanCommit shape y items
@@ -135,8 +130,8 @@ may_before shape f g b mapped agrees h = by h
 
 touch_before : (shape : VolumeShape) (x : Seen) (k : Kept) (y : Seen) (j : Kept) (changes : List NodeChange) → Requested shape x k y j changes → MayTouch shape x.words changes
 touch_before shape x k y j changes h c name on =
-    let may = may_touch shape y.words changes (ready_left shape x k y j h.ready h.leaves).mapped (all_fit shape y changes h.may) c name on in
-    (may.0, may_before shape x.words y.words c h.ready.mapped h.leaves.words may.1)
+    let may = may_touch shape y.words changes (ready_left shape x k y j h.ready h.leaves).order.mapped (all_fit shape y changes h.may) c name on in
+    (may.0, may_before shape x.words y.words c h.ready.order.mapped h.leaves.words may.1)
 
 -- ---- the call that makes the changes
 
@@ -154,14 +149,14 @@ committed shape x k y j z l items changes r is h commits touched = record {
 
 -- what the changes come to: blocks that read as state t
 abbrev pub ReachesAll : VolumeShape → Seen → Kept → Seen → Kept → Seen → List NodeChange → State → Type 0
-ReachesAll shape x k y j z changes t = Prepared shape x k y j z changes → (g : BlockWords) → AllApplied shape (map node_update changes) y.words g → Reaches shape x.words z j changes g t
+ReachesAll shape x k y j z changes t = Prepared shape x k y j z changes → (g : BlockWords) → AllApplied shape (map change_update changes) y.words g → Reaches shape x.words z j changes g t
 
 -- and blocks in which names of cached pages are right
 abbrev pub OrdersAll : VolumeShape → Seen → Kept → Seen → Kept → Seen → List NodeChange → Type 0
-OrdersAll shape x k y j z changes = Prepared shape x k y j z changes → (g : BlockWords) → AllApplied shape (map node_update changes) y.words g → InOrder shape g z j
+OrdersAll shape x k y j z changes = Prepared shape x k y j z changes → (g : BlockWords) → AllApplied shape (map change_update changes) y.words g → InOrder shape g z j
 
 pub prepared : (shape : VolumeShape) (x : Seen) (k : Kept) (y : Seen) (j : Kept) (z : Seen) (changes : List NodeChange) → Requested shape x k y j changes → Touched shape changes y z → Prepared shape x k y j z changes
-prepared shape x k y j z changes h touched = record { ready = h.ready; leaves = h.leaves; touched = touched; fits = all_fit shape y changes h.may }
+prepared shape x k y j z changes h touched = record { ready = h.ready; leaves = h.leaves; touched = touched; fits = all_fit shape y changes h.may; lowest = h.lowest }
 
 -- ---- how the request ends
 

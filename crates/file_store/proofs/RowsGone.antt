@@ -5,6 +5,7 @@ use Rattle.file_store.proofs.RowReads.{bare_names, by_each, sound_of}
 use Rattle.file_store.proofs.TreeRules.{tree_without}
 use Rattle.file_store.specs.declared.changes.NodeChange.{NodeChange}
 use Rattle.file_store.proofs.LookedAt.{row_read, used_ino}
+use Rattle.file_store.proofs.LowestTaken.{bare_lower, lowest_each, stood_lower}
 use Rattle.file_store.proofs.Reached.{kind_held, less_removed, reaches_gone}
 use Rattle.file_store.proofs.Requested.{ReachesAll, Requested, dir_ino, dir_may, gone_may}
 use Rattle.file_store.proofs.Stood.{Stood, stood_after, stood_now}
@@ -27,14 +28,14 @@ pub record GoneRow (shape : VolumeShape) (x : Seen) (k : Kept) (w : Seen) (p : K
 -- a node's kind after calls that only prepare
 pub kind_still : (shape : VolumeShape) (x : Seen) (k : Kept) (y : Seen) (j : Kept) (i : ℕ) → Ready shape x k → LeavesInUse (volume_layout shape x.words) x k y j → 0 < (held_of shape x.words i).kind → 0 < (placed_at y.words i).kind
 kind_still shape x k y j i ready leaves used =
-    let same = ap (λ (h : ℕ → Held). (h i).kind) (held_of_agree shape x.words y.words ready.mapped leaves.words) in
+    let same = ap (λ (h : ℕ → Held). (h i).kind) (held_of_agree shape x.words y.words ready.order.mapped leaves.words) in
     let now = kind_held shape y.words i (used_ino shape x.words i used) in
     omega (arith, used, same, now)
 
 gone_stood : (shape : VolumeShape) (x : Seen) (k : Kept) (w : Seen) (p : Kept) (y : Seen) (j : Kept) (d slot : ℕ) (name : List ℕ) (i : ℕ) (blocks : List Block) (c : DirChange) (m : NodeChange) → GoneRow shape x k w p y j d slot name i blocks c m → Stood shape x y j d (RemovesRow slot) c
 gone_stood shape x k w p y j d slot name i blocks c m h =
     let ino = dir_ino shape x.words d h.dir in
-    let now : Stood shape x w p d (RemovesRow slot) c = stood_now shape x x k w p d (RemovesRow slot) c h.ready h.leaves ino refl h.plan in
+    let now : Stood shape x w p d (RemovesRow slot) c = stood_now shape x x k w p d (RemovesRow slot) c h.ready h.leaves ino refl (λ b within. refl) h.plan in
     stood_after shape x w p y j d (RemovesRow slot) c now (ready_left shape x k w p h.ready h.leaves) h.later ino (less_removed shape x w p d slot c now ino)
 
 gone_leaves : (shape : VolumeShape) (x : Seen) (k : Kept) (w : Seen) (p : Kept) (y : Seen) (j : Kept) (d slot : ℕ) (name : List ℕ) (i : ℕ) (blocks : List Block) (c : DirChange) (m : NodeChange) → GoneRow shape x k w p y j d slot name i blocks c m → LeavesInUse (volume_layout shape x.words) x k y j
@@ -47,12 +48,13 @@ gone_listed shape x k w p y j d slot name i blocks c m h = h.listed ∙ sym (ap 
 pub gone_requested : (shape : VolumeShape) (x : Seen) (k : Kept) (w : Seen) (p : Kept) (y : Seen) (j : Kept) (d slot : ℕ) (name : List ℕ) (i : ℕ) (blocks : List Block) (c : DirChange) (m : NodeChange) → Settled x k → GoneRow shape x k w p y j d slot name i blocks c m → Requested shape x k y j (of_dir c ∷ m ∷ [])
 gone_requested shape x k w p y j d slot name i blocks c m settled h =
     let leaves = gone_leaves shape x k w p y j d slot name i blocks c m h in
-    let mapped = (ready_left shape x k y j h.ready leaves).mapped in
+    let mapped = (ready_left shape x k y j h.ready leaves).order.mapped in
     record {
       ready = h.ready;
       settled = settled;
       leaves = leaves;
       may = (dir_may shape x y j d (RemovesRow slot) c mapped (dir_ino shape x.words d h.dir) (gone_stood shape x k w p y j d slot name i blocks c m h), (gone_may shape y i blocks m mapped (used_ino shape x.words i h.used) h.gone (kind_still shape x k y j i h.ready leaves h.used) (gone_listed shape x k w p y j d slot name i blocks c m h), tt));
+      lowest = lowest_each shape x.words (of_dir c ∷ m ∷ []) (stood_lower shape x y j d (RemovesRow slot) c (gone_stood shape x k w p y j d slot name i blocks c m h), (bare_lower shape x.words m h.gone.taken, tt));
     }
 
 pub gone_reaches : (shape : VolumeShape) (x : Seen) (k : Kept) (w : Seen) (p : Kept) (y : Seen) (j : Kept) (z : Seen) (d slot : ℕ) (name : List ℕ) (i : ℕ) (blocks : List Block) (c : DirChange) (m : NodeChange) (s : State) → GoneRow shape x k w p y j d slot name i blocks c m → ReadsAs shape x.words s → ReachesAll shape x k y j z (of_dir c ∷ m ∷ []) (without s d name i)

@@ -8,11 +8,11 @@ use Rattle.rio_base.specs.declared.failures.VolFail.TheVariants.{Fault, Stopped}
 use Rattle.rio_base.proofs.BlockRules.{shape_dropped}
 use Rattle.rio_base.proofs.BlockSets.{caches_by_drops, caches_by_one, caches_by_wider, firm_outside_all, firm_outside_refl, same_outside_refl}
 use Rattle.rio_base.specs.Volume.{HasRoom, SameUpdate, Touches}
-use Rattle.file_pages.specs.Updating.{IsTouched, IsUpdated, CanUpdate}
+use Rattle.file_pages.specs.Updating.{IsTouched, IsUpdated}
 use Rattle.file_pages.proofs.Listed.{listed}
 use Rattle.file_pages.proofs.Updated.{touched_now, touched_still, unnamed_on}
-use Rattle.file_store.specs.Changes.{AllApplied, AllTouched, CanMakeNode, CanCommit, IsEditOf, IsFreed, IsTouchedBy, MakesFit, edited_blocks, node_update}
-use Rattle.file_pages.specs.Changes.{node_update as one_update}
+use Rattle.file_store.specs.Changes.{AllApplied, AllTouched, CanMakeNode, CanCommit, IsFreed, IsTouchedBy, MakesFit, edited_blocks, change_update}
+use Rattle.file_pages.specs.Changes.{node_update}
 use Rattle.file_store.specs.Committing.{Commits, Makes, Touched}
 use Rattle.file_store.specs.declared.changes.NodeChange.{NodeChange}
 
@@ -157,11 +157,15 @@ all_touched k es t end done e (s, few, is) = subst (λ b. k.touched b ≡ true) 
 unnamed_kept : (bears : ℕ → Option PageName → Type 0) (x y : Seen) (b : ℕ) → ((name : Option PageName) → bears b name → name ≡ None) → CachesBy bears x y → (x.cached b ≡ true → x.names b ≡ None) → y.cached b ≡ true → y.names b ≡ None
 unnamed_kept bears x y b none h was on = elim (h.each b on) [ inl old ↦ old.1 ∙ was old.0 | inr new ↦ none _ new ]
 
-pub edits_unnamed : (es : List Edit) (x y : Seen) (b : ℕ) → CachesBy (IsEditOf es) x y → (x.cached b ≡ true → x.names b ≡ None) → y.cached b ≡ true → y.names b ≡ None
-edits_unnamed es x y b h was = unnamed_kept (IsEditOf es) x y b (λ name e. e.1) h was
+-- the block of an edit, which is cached without a name
+abbrev TouchesEdit : List Edit → ℕ → Option PageName → Type 0
+TouchesEdit es b name = IsEdited es b × (name ≡ None)
 
-pub caches_edit : (es : List Edit) (t : ℕ) (d : Edit) (x y : Seen) → t < length es → Caches x y (slice_index_or es t d).block.0 None → CachesBy (IsEditOf es) x y
-caches_edit es t d x y few h = caches_by_one (IsEditOf es) x y _ None h ((slice_index_or es t d, edit_at es t d few, refl), refl)
+pub edits_unnamed : (es : List Edit) (x y : Seen) (b : ℕ) → CachesBy (TouchesEdit es) x y → (x.cached b ≡ true → x.names b ≡ None) → y.cached b ≡ true → y.names b ≡ None
+edits_unnamed es x y b h was = unnamed_kept (TouchesEdit es) x y b (λ name e. e.1) h was
+
+pub caches_edit : (es : List Edit) (t : ℕ) (d : Edit) (x y : Seen) → t < length es → Caches x y (slice_index_or es t d).block.0 None → CachesBy (TouchesEdit es) x y
+caches_edit es t d x y few h = caches_by_one (TouchesEdit es) x y _ None h ((slice_index_or es t d, edit_at es t d few, refl), refl)
 
 pub edit_was_unnamed : (es : List Edit) (t : ℕ) (d : Edit) (x : Seen) → t < length es → ((e : Edit) → Contains es e → x.cached e.block.0 ≡ true → x.names e.block.0 ≡ None) → x.cached (slice_index_or es t d).block.0 ≡ true → x.names (slice_index_or es t d).block.0 ≡ None
 edit_was_unnamed es t d x few was on = was _ (edit_at es t d few) on
@@ -183,26 +187,16 @@ touched_on cs c es k l on is same all =
       edited = λ e in_es. at _ (all.edited c on e (subst (λ xs. Contains xs e) is in_es));
     }
 
-pub can_update : (shape : VolumeShape) (c : NodeChange) (es : List Edit) (gained lost : List Block) → es ≡ c.edits → gained ≡ c.taken → lost ≡ c.freed → MakesFit shape c → CanUpdate shape es (numbers gained) (numbers lost)
-can_update shape c es gained lost e t f h = record {
-  words = λ x on. h.words x (subst (λ xs. Contains xs x) e on);
-  from = λ x on. h.from x (subst (λ xs. Contains xs x) e on);
-  to = λ x on. h.to x (subst (λ xs. Contains xs x) e on);
-  taken = λ b on. h.taken b (subst (λ xs. Contains (numbers xs) b) t on);
-  freed = λ b on. h.freed b (subst (λ xs. Contains (numbers xs) b) f on);
-  apart = λ b on off. h.apart b (subst (λ xs. Contains (numbers xs) b) t on) (subst (λ xs. Contains (numbers xs) b) f off);
-}
+update_is : (c : NodeChange) (es : List Edit) (gained lost : List Block) → es ≡ c.edits → gained ≡ c.taken → lost ≡ c.freed → node_update c.ino.0 c.inode es gained lost ≡ change_update c
+update_is c es gained lost e t f = ap (λ xs. node_update c.ino.0 c.inode xs gained lost) e ∙ ap (λ xs. node_update c.ino.0 c.inode c.edits xs lost) t ∙ ap (λ xs. node_update c.ino.0 c.inode c.edits c.taken xs) f
 
-update_is : (c : NodeChange) (es : List Edit) (gained lost : List Block) → es ≡ c.edits → gained ≡ c.taken → lost ≡ c.freed → one_update c.ino.0 c.inode es gained lost ≡ node_update c
-update_is c es gained lost e t f = ap (λ xs. one_update c.ino.0 c.inode xs gained lost) e ∙ ap (λ xs. one_update c.ino.0 c.inode c.edits xs lost) t ∙ ap (λ xs. one_update c.ino.0 c.inode c.edits c.taken xs) f
-
-rest_is : (cs : List NodeChange) (c : NodeChange) (t : ℕ) → t < length cs → c ≡ slice_index_or cs t c → map node_update (drop t cs) ≡ node_update c ∷ map node_update (drop (t + 1) cs)
+rest_is : (cs : List NodeChange) (c : NodeChange) (t : ℕ) → t < length cs → c ≡ slice_index_or cs t c → map change_update (drop t cs) ≡ change_update c ∷ map change_update (drop (t + 1) cs)
 rest_is cs c t few is =
     let next : t + 1 ≡ suc t = omega arith in
-    ap (map node_update) (drop-cons cs t c few) ∙ ap (λ x. node_update x ∷ map node_update (drop (suc t) cs)) (sym is) ∙ sym (ap (λ n. node_update c ∷ map node_update (drop n cs)) next)
+    ap (map change_update) (drop-cons cs t c few) ∙ ap (λ x. change_update x ∷ map change_update (drop (suc t) cs)) (sym is) ∙ sym (ap (λ n. change_update c ∷ map change_update (drop n cs)) next)
 
 -- the changes from the t-th on give what all of them give, and so do those behind it
-pub made_next : (shape : VolumeShape) (cs : List NodeChange) (c : NodeChange) (t : ℕ) (es : List Edit) (gained lost : List Block) (f g h : BlockWords) → t < length cs → c ≡ slice_index_or cs t c → es ≡ c.edits → gained ≡ c.taken → lost ≡ c.freed → Applied shape (one_update c.ino.0 c.inode es gained lost) g h → ((z : BlockWords) → AllApplied shape (map node_update (drop t cs)) g z → AllApplied shape (map node_update cs) f z) → (z : BlockWords) → AllApplied shape (map node_update (drop (t + 1) cs)) h z → AllApplied shape (map node_update cs) f z
+pub made_next : (shape : VolumeShape) (cs : List NodeChange) (c : NodeChange) (t : ℕ) (es : List Edit) (gained lost : List Block) (f g h : BlockWords) → t < length cs → c ≡ slice_index_or cs t c → es ≡ c.edits → gained ≡ c.taken → lost ≡ c.freed → Applied shape (node_update c.ino.0 c.inode es gained lost) g h → ((z : BlockWords) → AllApplied shape (map change_update (drop t cs)) g z → AllApplied shape (map change_update cs) f z) → (z : BlockWords) → AllApplied shape (map change_update (drop (t + 1) cs)) h z → AllApplied shape (map change_update cs) f z
 made_next shape cs c t es gained lost f g h few is e n l applied made z rest = made z (subst (λ us. AllApplied shape us g z) (sym (rest_is cs c t few is)) (h, subst (λ u. Applied shape u g h) (update_is c es gained lost e n l) applied, rest))
 
 none_left : (cs : List NodeChange) (t : ℕ) → length cs ≤ t → drop t cs ≡ []
@@ -211,15 +205,15 @@ none_left [] (suc t) h = refl
 none_left (c ∷ cs) zero h = absurd (omega (arith, h))
 none_left (c ∷ cs) (suc t) h = none_left cs t (omega (arith, h))
 
-pub all_made : (shape : VolumeShape) (cs : List NodeChange) (t : ℕ) (f g : BlockWords) → length cs ≤ t → ((z : BlockWords) → AllApplied shape (map node_update (drop t cs)) g z → AllApplied shape (map node_update cs) f z) → AllApplied shape (map node_update cs) f g
-all_made shape cs t f g end made = made g (subst (λ xs. AllApplied shape (map node_update xs) g g) (sym (none_left cs t end)) refl)
+pub all_made : (shape : VolumeShape) (cs : List NodeChange) (t : ℕ) (f g : BlockWords) → length cs ≤ t → ((z : BlockWords) → AllApplied shape (map change_update (drop t cs)) g z → AllApplied shape (map change_update cs) f z) → AllApplied shape (map change_update cs) f g
+all_made shape cs t f g end made = made g (subst (λ xs. AllApplied shape (map change_update xs) g g) (sym (none_left cs t end)) refl)
 
 -- ---- touching the blocks of one change
 
 pub node_edits_fit : (shape : VolumeShape) (x y : Seen) (c : NodeChange) (es : List Edit) (b : ℕ) → HasShape shape x → y.count ≡ x.count → CanMakeNode shape x c → es ≡ c.edits → Caches x y b None → ((e : Edit) → Contains es e → e.block.0 < y.count) × ((e : Edit) → Contains es e → y.cached e.block.0 ≡ true → y.names e.block.0 ≡ None)
 node_edits_fit shape x y c es b h count can is caches =
     let theirs : (e : Edit) → Contains es e → Contains c.edits e = λ e on. subst (λ xs. Contains xs e) is on in (
-      λ e on. subst (λ n. e.block.0 < n) (sym (count ∙ h.count)) (can.to e (theirs e on)),
+      λ e on. subst (λ n. e.block.0 < n) (sym (count ∙ h.count)) (can.can.to e (theirs e on)),
       λ e on. unnamed_on x y b e.block.0 caches (can.unnamed e (theirs e on)),
     )
 
@@ -246,13 +240,8 @@ touched_unnamed cs x y b h was = unnamed_kept (IsTouchedBy cs) x y b (λ name e.
 pub can_make_on : (shape : VolumeShape) (cs : List NodeChange) (c : NodeChange) (x y : Seen) → CachesBy (IsTouchedBy cs) x y → CanMakeNode shape x c → CanMakeNode shape y c
 can_make_on shape cs c x y h can = record {
   ino = can.ino;
-  words = can.words;
-  from = can.from;
-  to = can.to;
+  can = can.can;
   few = can.few;
-  taken = can.taken;
-  freed = can.freed;
-  apart = can.apart;
   unnamed = λ e on. touched_unnamed cs x y e.block.0 h (can.unnamed e on);
 }
 
@@ -291,13 +280,13 @@ pub can_on_drops : (shape : VolumeShape) (cs : List NodeChange) (x y : Seen) →
 can_on_drops shape cs x y drops can = record { few = can.few; each = λ c on. can_make_on shape cs c x y (caches_by_drops (IsTouchedBy cs) x y drops) (can.each c on) }
 
 pub makes_fit : (shape : VolumeShape) (x : Seen) (cs : List NodeChange) → CanCommit shape x cs → (c : NodeChange) → Contains cs c → MakesFit shape c
-makes_fit shape x cs can c on = let h = can.each c on in record { ino = h.ino; words = h.words; from = h.from; to = h.to; taken = h.taken; freed = h.freed; apart = h.apart }
+makes_fit shape x cs can c on = let h = can.each c on in record { ino = h.ino; can = h.can }
 
 pub freed_place : (shape : VolumeShape) (x y : Seen) (cs : List NodeChange) → CanCommit shape x cs → HasShape shape y → (b : ℕ) → IsFreed cs b → b < y.count
-freed_place shape x y cs can h b (c, on, freed) = subst (λ n. b < n) (sym h.count) ((can.each c on).freed b freed)
+freed_place shape x y cs can h b (c, on, freed) = subst (λ n. b < n) (sym h.count) ((can.each c on).can.freed b freed)
 
 -- the changes stand, and then blocks that they free are dropped
-pub makes_all : (shape : VolumeShape) (cs : List NodeChange) (f : BlockWords) (k j l : Kept) → AllApplied shape (map node_update cs) f j.standing → Firm k j → SameOutside (IsFreed cs) j.standing l.standing → FirmOutside (IsFreed cs) j l → Makes shape cs f k l
+pub makes_all : (shape : VolumeShape) (cs : List NodeChange) (f : BlockWords) (k j l : Kept) → AllApplied shape (map change_update cs) f j.standing → Firm k j → SameOutside (IsFreed cs) j.standing l.standing → FirmOutside (IsFreed cs) j l → Makes shape cs f k l
 makes_all shape cs f k j l applied firm stands loose = record {
   made = j.standing;
   applied = applied;
@@ -305,10 +294,10 @@ makes_all shape cs f k j l applied firm stands loose = record {
   firm = firm_outside_trans _ _ _ _ (firm_outside_all (IsFreed cs) k j firm) loose;
 }
 
-pub makes_now : (shape : VolumeShape) (cs : List NodeChange) (f : BlockWords) (k l : Kept) → AllApplied shape (map node_update cs) f l.standing → Firm k l → Makes shape cs f k l
+pub makes_now : (shape : VolumeShape) (cs : List NodeChange) (f : BlockWords) (k l : Kept) → AllApplied shape (map change_update cs) f l.standing → Firm k l → Makes shape cs f k l
 makes_now shape cs f k l applied firm = makes_all shape cs f k l l applied firm (same_outside_refl _ _) (firm_outside_refl _ _)
 
-pub stopped_so : (shape : VolumeShape) (cs : List NodeChange) (f : BlockWords) (k l : Kept) → (l.standing ≡ k.standing) ⊎ AllApplied shape (map node_update cs) f l.standing → Firm k l → ((l.standing ≡ k.standing) × Firm k l) ⊎ Makes shape cs f k l
+pub stopped_so : (shape : VolumeShape) (cs : List NodeChange) (f : BlockWords) (k l : Kept) → (l.standing ≡ k.standing) ⊎ AllApplied shape (map change_update cs) f l.standing → Firm k l → ((l.standing ≡ k.standing) × Firm k l) ⊎ Makes shape cs f k l
 stopped_so shape cs f k l (inl same) firm = inl (same, firm)
 stopped_so shape cs f k l (inr applied) firm = inr (makes_now shape cs f k l applied firm)
 
@@ -320,17 +309,17 @@ touched_then shape cs x y z h caches count drops = record {
 
 -- ---- how the whole ends
 
-pub commits_failed : {T : Type 0} (shape : VolumeShape) (cs : List NodeChange) (y : Seen) (j : Kept) (z : Seen) (l : Kept) (r : Result T VolFail) → IsErr r → (IsErrOf r Fault → (l.updating ≡ false) × (z.words ≡ y.words) × (l.standing ≡ j.standing)) → (l.standing ≡ j.standing) ⊎ AllApplied shape (map node_update cs) y.words l.standing → Firm j l → Commits shape cs y j z l r
+pub commits_failed : {T : Type 0} (shape : VolumeShape) (cs : List NodeChange) (y : Seen) (j : Kept) (z : Seen) (l : Kept) (r : Result T VolFail) → IsErr r → (IsErrOf r Fault → (l.updating ≡ false) × (z.words ≡ y.words) × (l.standing ≡ j.standing)) → (l.standing ≡ j.standing) ⊎ AllApplied shape (map change_update cs) y.words l.standing → Firm j l → Commits shape cs y j z l r
 commits_failed shape cs y j z l (Ok x) err fault stopped firm = absurd (true_false (sym err))
 commits_failed shape cs y j z l (Err Fault) err fault stopped firm = let f = fault refl in (f.1, f.2, firm, f.0)
 commits_failed shape cs y j z l (Err Stopped) err fault stopped firm = stopped_so shape cs y.words j l stopped firm
 
-makes_words : (shape : VolumeShape) (cs : List NodeChange) (f m : BlockWords) (k j l : Kept) → AllApplied shape (map node_update cs) f m → j.standing ≡ m → Firm k j → SameOutside (IsFreed cs) j.standing l.standing → FirmOutside (IsFreed cs) j l → Makes shape cs f k l
-makes_words shape cs f m k j l applied is firm stands loose = makes_all shape cs f k j l (subst (λ g. AllApplied shape (map node_update cs) f g) (sym is) applied) firm stands loose
+makes_words : (shape : VolumeShape) (cs : List NodeChange) (f m : BlockWords) (k j l : Kept) → AllApplied shape (map change_update cs) f m → j.standing ≡ m → Firm k j → SameOutside (IsFreed cs) j.standing l.standing → FirmOutside (IsFreed cs) j l → Makes shape cs f k l
+makes_words shape cs f m k j l applied is firm stands loose = makes_all shape cs f k j l (subst (λ g. AllApplied shape (map change_update cs) f g) (sym is) applied) firm stands loose
 
-pub commits_stopped : {T : Type 0} (shape : VolumeShape) (cs : List NodeChange) (y : Seen) (k : Kept) (m : BlockWords) (j : Kept) (z : Seen) (l : Kept) (r : Result T VolFail) → IsErrOf r Stopped → AllApplied shape (map node_update cs) y.words m → j.standing ≡ m → Firm k j → SameOutside (IsFreed cs) j.standing l.standing → FirmOutside (IsFreed cs) j l → Commits shape cs y k z l r
+pub commits_stopped : {T : Type 0} (shape : VolumeShape) (cs : List NodeChange) (y : Seen) (k : Kept) (m : BlockWords) (j : Kept) (z : Seen) (l : Kept) (r : Result T VolFail) → IsErrOf r Stopped → AllApplied shape (map change_update cs) y.words m → j.standing ≡ m → Firm k j → SameOutside (IsFreed cs) j.standing l.standing → FirmOutside (IsFreed cs) j l → Commits shape cs y k z l r
 commits_stopped shape cs y k m j z l r err applied is firm stands loose = subst (Commits shape cs y k z l) (sym err) (inr (makes_words shape cs y.words m k j l applied is firm stands loose))
 
-pub commits_done : {T : Type 0} (shape : VolumeShape) (cs : List NodeChange) (y : Seen) (k : Kept) (m : BlockWords) (j : Kept) (z : Seen) (l : Kept) (x : T) → AllApplied shape (map node_update cs) y.words m → j.standing ≡ m → Firm k j → SameOutside (IsFreed cs) j.standing l.standing → FirmOutside (IsFreed cs) j l → SameOutside (IsFreed cs) m z.words → l.updating ≡ false → Commits shape cs y k z l (Ok x)
+pub commits_done : {T : Type 0} (shape : VolumeShape) (cs : List NodeChange) (y : Seen) (k : Kept) (m : BlockWords) (j : Kept) (z : Seen) (l : Kept) (x : T) → AllApplied shape (map change_update cs) y.words m → j.standing ≡ m → Firm k j → SameOutside (IsFreed cs) j.standing l.standing → FirmOutside (IsFreed cs) j l → SameOutside (IsFreed cs) m z.words → l.updating ≡ false → Commits shape cs y k z l (Ok x)
 unfolding makes_words makes_all
 commits_done shape cs y k m j z l x applied is firm stands loose words idle = ((makes_words shape cs y.words m k j l applied is firm stands loose, subst (λ f. SameOutside (IsFreed cs) f z.words) (sym is) words), idle)

@@ -15,7 +15,7 @@ use Rattle.rio_model.specs.Updates.{EditsNode, Turns, Update}
 use Rattle.rio_model.specs.VolumeRules.{IsLaid}
 use Rattle.file_pages.proofs.OrderRules.{order_changed}
 use Rattle.file_store.proofs.EmptyHeld.{empty_held}
-use Rattle.file_store.specs.Changes.{IsGone, IsMade, node_update}
+use Rattle.file_store.specs.Changes.{IsGone, IsMade, change_update}
 use Rattle.file_store.specs.declared.changes.NodeChange.{NodeChange}
 
 -- ---- names under what an update has cached
@@ -90,7 +90,7 @@ no_block : (b : ℕ) → Contains (numbers []) b → ⊥
 no_block b (t, few, at) = omega (arith, few)
 
 -- a node is made in a free inode
-pub made_turns : (shape : VolumeShape) (g : BlockWords) (i kind : ℕ) (c : NodeChange) → IsMapped shape g → IsMade i kind c → IsIno shape i → (placed_at g i).kind ≡ 0 → kind ≤ 2 → Turns shape (placed_at g i) (bare kind) (node_update c)
+pub made_turns : (shape : VolumeShape) (g : BlockWords) (i kind : ℕ) (c : NodeChange) → IsMapped shape g → IsMade i kind c → IsIno shape i → (placed_at g i).kind ≡ 0 → kind ≤ 2 → Turns shape (placed_at g i) (bare kind) (change_update c)
 unfolding inode_words
 made_turns shape g i kind c mapped made ino free few = record {
   shape_fits = mapped.laid.shape_fits;
@@ -110,7 +110,7 @@ made_turns shape g i kind c mapped made ino free few = record {
 }
 
 -- a node goes, and all its blocks with it
-pub gone_turns : (shape : VolumeShape) (g : BlockWords) (i : ℕ) (blocks : List Block) (c : NodeChange) → IsMapped shape g → IsGone i blocks c → IsIno shape i → ((s : Slot) → HasSlot (placed_at g i) s → Contains (numbers blocks) ((placed_at g i).block s)) → ((b : ℕ) → Contains (numbers blocks) b → (s : Slot) × HasSlot (placed_at g i) s × ((placed_at g i).block s ≡ b)) → Turns shape (placed_at g i) (bare 0) (node_update c)
+pub gone_turns : (shape : VolumeShape) (g : BlockWords) (i : ℕ) (blocks : List Block) (c : NodeChange) → IsMapped shape g → IsGone i blocks c → IsIno shape i → ((s : Slot) → HasSlot (placed_at g i) s → Contains (numbers blocks) ((placed_at g i).block s)) → ((b : ℕ) → Contains (numbers blocks) b → (s : Slot) × HasSlot (placed_at g i) s × ((placed_at g i).block s ≡ b)) → Turns shape (placed_at g i) (bare 0) (change_update c)
 unfolding inode_words
 gone_turns shape g i blocks c mapped gone ino all own = record {
   shape_fits = mapped.laid.shape_fits;
@@ -158,7 +158,7 @@ bare_held h kind = same_held _ _ refl size (λ y. word y)
     word y = let none : (nat_lt 0 kind && nat_lt (8 * y) 0) ≡ false = grind (arith, nat_tests) in ap (λ b. cond b (h 0 (y % 512)) 0) none
 
 -- a node made
-pub made_step : (shape : VolumeShape) (g h : BlockWords) (i kind : ℕ) (c : NodeChange) (z : Seen) (j : Kept) → InOrder shape g z j → IsMade i kind c → IsIno shape i → i ≢ 1 → (placed_at g i).kind ≡ 0 → kind ≤ 2 → Applied shape (node_update c) g h → Steps shape g h i z j × (held_of shape h i ≡ empty_held kind)
+pub made_step : (shape : VolumeShape) (g h : BlockWords) (i kind : ℕ) (c : NodeChange) (z : Seen) (j : Kept) → InOrder shape g z j → IsMade i kind c → IsIno shape i → i ≢ 1 → (placed_at g i).kind ≡ 0 → kind ≤ 2 → Applied shape (change_update c) g h → Steps shape g h i z j × (held_of shape h i ≡ empty_held kind)
 made_step shape g h i kind c z j order made ino other free few a = (
   step_of shape g h i (bare kind) z j order change (λ s has on. absurd (bare_none kind s has)) (λ s has. absurd (bare_none kind s has)),
   held_here shape g h i (bare kind) order.mapped change ∙ bare_held h kind,
@@ -166,10 +166,10 @@ made_step shape g h i kind c z j order made ino other free few a = (
   where
     change : Change (volume_layout shape g) g h i (bare kind)
     change = subst (λ x. Change (volume_layout shape g) g h x (bare kind)) made.ino
-        (node_change shape (bare kind) (node_update c) g h (subst (λ x. Turns shape (placed_at g x) (bare kind) (node_update c)) (sym made.ino) (made_turns shape g i kind c order.mapped made ino free few)) (λ root. absurd (other (sym made.ino ∙ root))) (λ s has. absurd (bare_none kind s has)) a)
+        (node_change shape (bare kind) (change_update c) g h (subst (λ x. Turns shape (placed_at g x) (bare kind) (change_update c)) (sym made.ino) (made_turns shape g i kind c order.mapped made ino free few)) (λ root. absurd (other (sym made.ino ∙ root))) (λ s has. absurd (bare_none kind s has)) a)
 
 -- a node gone
-pub gone_step : (shape : VolumeShape) (g h : BlockWords) (i : ℕ) (blocks : List Block) (c : NodeChange) (z : Seen) (j : Kept) → InOrder shape g z j → IsGone i blocks c → IsIno shape i → i ≢ 1 → ((s : Slot) → HasSlot (placed_at g i) s → Contains (numbers blocks) ((placed_at g i).block s)) → ((b : ℕ) → Contains (numbers blocks) b → (s : Slot) × HasSlot (placed_at g i) s × ((placed_at g i).block s ≡ b)) → Applied shape (node_update c) g h → Steps shape g h i z j × (held_of shape h i ≡ empty_held 0)
+pub gone_step : (shape : VolumeShape) (g h : BlockWords) (i : ℕ) (blocks : List Block) (c : NodeChange) (z : Seen) (j : Kept) → InOrder shape g z j → IsGone i blocks c → IsIno shape i → i ≢ 1 → ((s : Slot) → HasSlot (placed_at g i) s → Contains (numbers blocks) ((placed_at g i).block s)) → ((b : ℕ) → Contains (numbers blocks) b → (s : Slot) × HasSlot (placed_at g i) s × ((placed_at g i).block s ≡ b)) → Applied shape (change_update c) g h → Steps shape g h i z j × (held_of shape h i ≡ empty_held 0)
 gone_step shape g h i blocks c z j order gone ino other all own a = (
   step_of shape g h i (bare 0) z j order change (λ s has on. absurd (bare_none 0 s has)) (λ s has. absurd (bare_none 0 s has)),
   held_here shape g h i (bare 0) order.mapped change ∙ bare_held h 0,
@@ -177,7 +177,7 @@ gone_step shape g h i blocks c z j order gone ino other all own a = (
   where
     change : Change (volume_layout shape g) g h i (bare 0)
     change = subst (λ x. Change (volume_layout shape g) g h x (bare 0)) gone.ino
-        (node_change shape (bare 0) (node_update c) g h (subst (λ x. Turns shape (placed_at g x) (bare 0) (node_update c)) (sym gone.ino) (gone_turns shape g i blocks c order.mapped gone ino all own)) (λ root. absurd (other (sym gone.ino ∙ root))) (λ s has. absurd (bare_none 0 s has)) a)
+        (node_change shape (bare 0) (change_update c) g h (subst (λ x. Turns shape (placed_at g x) (bare 0) (change_update c)) (sym gone.ino) (gone_turns shape g i blocks c order.mapped gone ino all own)) (λ root. absurd (other (sym gone.ino ∙ root))) (λ s has. absurd (bare_none 0 s has)) a)
 
 -- rows of a directory changed by a plan that may be made
 pub dir_step : (shape : VolumeShape) (f : BlockWords) (y : Seen) (k : Kept) (d : ℕ) (becomes : Held → Held → Type 0) (c : DirChange) (g h : BlockWords) (z : Seen) (j : Kept) (p : PlansDir shape f y k d becomes c) → InOrder shape g z j → held_of shape g d ≡ held_of shape f d → MayBeMade shape (placed_at f d) p.node d y.words g → NamedNode d p.node z → ((s : Slot) → HasSlot p.node s → j.loose (p.node.block s) ≡ false) → Applied shape (dir_update c) g h → Steps shape g h d z j × becomes (held_of shape f d) (held_of shape h d)

@@ -1,5 +1,5 @@
 -- A plan of a directory as it stands when all of a request is prepared, and the change that it is once the update is made.
-use Rattle.file_store.proofs.Common.{◌≡◌, ℕ, ◌<◌, ◌≤◌, ◌⊎◌, true, false, List, [], Option, refl, sym, ap, subst, ◌∙◌, arith, inl, inr, nat_lt, Contains, PageName, VolumeShape, CachesBy, BlockWords, Seen, IsIno, Kept, Held, held_of, Available, Slot, AtPage, AtTable, Placed, HasSlot, placed_at, volume_layout, IsFree, cases_lt, has_same, pages, Applied, Bears, LeavesInUse, NamedNode, Ready, IsMapped, wanted_blocks, InOrder, IsEdited, MayBeMade, PlansDir, dir_update, DirChange, plan_edits}
+use Rattle.file_store.proofs.Common.{◌≡◌, ℕ, ◌<◌, ◌≤◌, ◌⊎◌, true, false, List, [], Option, refl, sym, ap, subst, ◌∙◌, arith, inl, inr, nat_lt, Contains, PageName, VolumeShape, used_bit, CachesBy, BlockWords, Seen, IsIno, Kept, Held, held_of, Available, Slot, AtPage, AtTable, Placed, HasSlot, placed_at, volume_layout, IsFree, cases_lt, has_same, pages, Applied, Bears, LeavesInUse, NamedNode, Ready, IsMapped, wanted_blocks, InOrder, IsEdited, MayBeMade, PlansDir, dir_update, DirChange, plan_edits}
 use Rattle.std.proofs.Common.{None, Some}
 use Rattle.std.specs.Prelude.{cond, take}
 use Rattle.rio_model.specs.Sizes.{tables}
@@ -14,18 +14,20 @@ pub record Stood (shape : VolumeShape) (x y : Seen) (j : Kept) (d : ℕ) (become
   pub kept : Kept
   pub plan : PlansDir shape was seen kept d becomes c
   pub same : held_of shape was d ≡ held_of shape x.words d
+  pub bits : (b : ℕ) → b < shape.blocks → used_bit shape x.words b ≡ used_bit shape was b
   pub may : MayBeMade shape (placed_at was d) plan.node d seen.words y.words
   pub firm : (s : Slot) → HasSlot plan.node s → j.loose (plan.node.block s) ≡ false
   pub unnamed : (s : Slot) → HasSlot plan.node s → y.cached (plan.node.block s) ≡ true → y.names (plan.node.block s) ≡ None
 
 -- right after its call. x0 is before the request, x and k are before the call
-pub stood_now : (shape : VolumeShape) (x0 x : Seen) (k : Kept) (y : Seen) (j : Kept) (d : ℕ) (becomes : Held → Held → Type 0) (c : DirChange) → Ready shape x k → LeavesInUse (volume_layout shape x.words) x k y j → IsIno shape d → held_of shape x.words d ≡ held_of shape x0.words d → PlansDir shape x.words y j d becomes c → Stood shape x0 y j d becomes c
-stood_now shape x0 x k y j d becomes c ready leaves ino same plan = record {
+pub stood_now : (shape : VolumeShape) (x0 x : Seen) (k : Kept) (y : Seen) (j : Kept) (d : ℕ) (becomes : Held → Held → Type 0) (c : DirChange) → Ready shape x k → LeavesInUse (volume_layout shape x.words) x k y j → IsIno shape d → held_of shape x.words d ≡ held_of shape x0.words d → ((b : ℕ) → b < shape.blocks → used_bit shape x0.words b ≡ used_bit shape x.words b) → PlansDir shape x.words y j d becomes c → Stood shape x0 y j d becomes c
+stood_now shape x0 x k y j d becomes c ready leaves ino same bits plan = record {
   was = x.words;
   seen = y;
   kept = j;
   plan = plan;
   same = same;
+  bits = bits;
   may = may_begin shape x k y j d becomes c plan ino ready leaves;
   firm = plan.firm;
   unnamed = plan.unnamed;
@@ -67,7 +69,8 @@ stood_after shape x y j z l d becomes c h ready leaves ino less = record {
   kept = h.kept;
   plan = h.plan;
   same = h.same;
-  may = may_after shape (placed_at h.was d) h.plan.node d h.seen.words y j z l ino ready.mapped leaves (λ s has free w. absurd (owned s has free)) h.may;
+  bits = h.bits;
+  may = may_after shape (placed_at h.was d) h.plan.node d h.seen.words y j z l ino ready.order.mapped leaves (λ s has free w. absurd (owned s has free)) h.may;
   firm = λ s has. firm s (own s has);
   unnamed = λ s has on. unnamed s (own s has) on;
 }

@@ -12,7 +12,7 @@ leaves_read shape s t o n x y k j h looks has_shape named passes = record {
   standing = record { low = λ b w low. ap (λ (f : BlockWords). f b w) passes.standing; owned = λ i u own w. ap (λ (f : BlockWords). f (((volume_layout shape x.words).node i).block u) w) passes.standing };
   has_shape = has_shape;
   named = named;
-  firm = firm_on (volume_layout shape x.words) k j h.firm passes.firm;
+  firm = firm_on (volume_layout shape x.words) k j h.order.firm passes.firm;
   idle = passes.updating ∙ h.idle;
 }
 

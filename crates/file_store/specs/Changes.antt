@@ -1,5 +1,5 @@
 -- Changes of nodes that one update makes together.
-use Rattle.std.specs.Prelude.{◌≡◌, ℕ, ◌<◌, ◌≤◌, ◌⊎◌, true, List, [], ◌∷◌, length, map, Option, None}
+use Rattle.std.specs.Prelude.{◌≡◌, ℕ, ◌≤◌, ◌⊎◌, true, List, [], ◌∷◌, length, map, Option, None}
 use Rattle.std.specs.List.{Contains}
 use Rattle.directories.specs.declared.changes.DirChange.{DirChange}
 use Rattle.rio_base.specs.declared.places.Block.{Block}
@@ -9,19 +9,18 @@ use Rattle.rio_base.specs.declared.places.VolumeShape.{VolumeShape}
 use Rattle.rio_base.specs.Blocks.{BlockWords, Seen}
 use Rattle.rio_base.specs.Layout.{IsIno, inode_block}
 use Rattle.rio_base.specs.Volume.{Kept}
-use Rattle.rio_base.specs.Shapes.{reserved}
 use Rattle.block_alloc.specs.Bitmap.{numbers}
 use Rattle.file_pages.specs.declared.changes.Edit.{Edit}
 use Rattle.file_pages.specs.declared.changes.SizeChange.{SizeChange}
-use Rattle.file_pages.specs.Changes.{word_edit}
-use Rattle.inode_table.specs.Inodes.{inode_words}
+use Rattle.file_pages.specs.Changes.{node_update}
+use Rattle.file_pages.specs.Updating.{CanUpdate, IsEdited}
 use Rattle.rio_model.specs.Updates.{Applied, Update}
 use Rattle.directories.specs.Plans.{InThreeBlocks}
 use Rattle.file_store.specs.declared.changes.NodeChange.{NodeChange}
 
 -- the update that it is
-abbrev pub node_update : NodeChange → Update
-node_update c = record { ino = c.ino.0; inode = inode_words c.inode; edits = map word_edit c.edits; taken = numbers c.taken; freed = numbers c.freed }
+abbrev pub change_update : NodeChange → Update
+change_update c = node_update c.ino.0 c.inode c.edits c.taken c.freed
 
 -- the blocks of edits, in their order
 abbrev pub edited_blocks : List Edit → List ℕ
@@ -32,17 +31,16 @@ abbrev pub AllApplied : VolumeShape → List Update → BlockWords → BlockWord
 AllApplied shape [] f g = g ≡ f
 AllApplied shape (u ∷ updates) f g = (h : BlockWords) × Applied shape u f h × AllApplied shape updates h g
 
--- a change that can be made in an update: its edits are in three blocks at most, all past the reserved ones, that may be
--- asked for as metadata
+-- what an update asks of a change that is made in it
+pub record MakesFit (shape : VolumeShape) (c : NodeChange) : Type 0 where
+  pub ino : IsIno shape c.ino.0
+  pub can : CanUpdate shape c.edits (numbers c.taken) (numbers c.freed)
+
+-- and what is asked before its blocks are touched: its edits are in three blocks at most, that may be asked for as metadata
 pub record CanMakeNode (shape : VolumeShape) (x : Seen) (c : NodeChange) : Type 0 where
   pub ino : IsIno shape c.ino.0
-  pub words : (e : Edit) → Contains c.edits e → e.word < 512
-  pub from : (e : Edit) → Contains c.edits e → reserved shape ≤ e.block.0
-  pub to : (e : Edit) → Contains c.edits e → e.block.0 < shape.blocks
+  pub can : CanUpdate shape c.edits (numbers c.taken) (numbers c.freed)
   pub few : InThreeBlocks c.edits
-  pub taken : (b : ℕ) → Contains (numbers c.taken) b → b < shape.blocks
-  pub freed : (b : ℕ) → Contains (numbers c.freed) b → b < shape.blocks
-  pub apart : (b : ℕ) → Contains (numbers c.taken) b → Contains (numbers c.freed) b → ⊥
   pub unnamed : (e : Edit) → Contains c.edits e → x.cached e.block.0 ≡ true → x.names e.block.0 ≡ None
 
 -- three changes at most, so that an update touches 13 blocks of 16: the bitmap, three inodes, and the blocks of edits
@@ -52,25 +50,11 @@ pub record CanCommit (shape : VolumeShape) (x : Seen) (changes : List NodeChange
 
 -- the blocks that an update touches, which are cached without a name: the bitmap's, the inodes', and those of edits
 abbrev pub IsTouchedBy : List NodeChange → ℕ → Option PageName → Type 0
-IsTouchedBy changes b name = ((b ≡ 1) ⊎ ((c : NodeChange) × Contains changes c × ((b ≡ inode_block c.ino.0) ⊎ ((e : Edit) × Contains c.edits e × (e.block.0 ≡ b))))) × (name ≡ None)
+IsTouchedBy changes b name = ((b ≡ 1) ⊎ ((c : NodeChange) × Contains changes c × ((b ≡ inode_block c.ino.0) ⊎ IsEdited c.edits b))) × (name ≡ None)
 
 -- the blocks that changes free
 abbrev pub IsFreed : List NodeChange → ℕ → Type 0
 IsFreed changes b = (c : NodeChange) × Contains changes c × Contains (numbers c.freed) b
-
--- the block of an edit, which is cached without a name
-abbrev pub IsEditOf : List Edit → ℕ → Option PageName → Type 0
-IsEditOf edits b name = ((e : Edit) × Contains edits e × (e.block.0 ≡ b)) × (name ≡ None)
-
--- what an update asks of a change that is made in it
-pub record MakesFit (shape : VolumeShape) (c : NodeChange) : Type 0 where
-  pub ino : IsIno shape c.ino.0
-  pub words : (e : Edit) → Contains c.edits e → e.word < 512
-  pub from : (e : Edit) → Contains c.edits e → reserved shape ≤ e.block.0
-  pub to : (e : Edit) → Contains c.edits e → e.block.0 < shape.blocks
-  pub taken : (b : ℕ) → Contains (numbers c.taken) b → b < shape.blocks
-  pub freed : (b : ℕ) → Contains (numbers c.freed) b → b < shape.blocks
-  pub apart : (b : ℕ) → Contains (numbers c.taken) b → Contains (numbers c.freed) b → ⊥
 
 -- all blocks of changes are touched
 pub record AllTouched (k : Kept) (changes : List NodeChange) : Type 0 where

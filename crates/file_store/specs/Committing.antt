@@ -7,13 +7,13 @@ use Rattle.rio_base.specs.BlockSets.{CachesBy, FirmOutside, SameOutside}
 use Rattle.rio_base.specs.Blocks.{BlockWords, Seen}
 use Rattle.rio_base.specs.Shapes.{HasShape}
 use Rattle.rio_base.specs.Volume.{Firm, Kept}
-use Rattle.file_store.specs.Changes.{AllApplied, IsFreed, IsTouchedBy, node_update}
+use Rattle.file_store.specs.Changes.{AllApplied, IsFreed, IsTouchedBy, change_update}
 use Rattle.file_store.specs.declared.changes.NodeChange.{NodeChange}
 
 -- the changes stand, but for words of blocks that they free, which may be loose then
 pub record Makes (shape : VolumeShape) (changes : List NodeChange) (f : BlockWords) (k : Kept) (l : Kept) : Type 0 where
   pub made : BlockWords
-  pub applied : AllApplied shape (map node_update changes) f made
+  pub applied : AllApplied shape (map change_update changes) f made
   pub stands : SameOutside (IsFreed changes) made l.standing
   pub firm : FirmOutside (IsFreed changes) k l
 

@@ -10,6 +10,7 @@ use Rattle.rio_requests.specs.declared.reply.Reply.TheVariants.{Ok as Done, Numb
 use Rattle.rio_model.specs.declared.state.State.{State}
 use Rattle.rio_model.specs.FileParts.{LeadsTo}
 use Rattle.rio_model.specs.Held.{Held, held_of}
+use Rattle.rio_model.specs.NodeChanges.{UsesLowest}
 use Rattle.rio_model.specs.Paths.{IsName, names_of, walk}
 use Rattle.rio_requests.specs.Parts.{PartOf}
 use Rattle.rio_model.specs.Placed.{volume_layout}
@@ -33,11 +34,13 @@ pub record CanServe (shape : VolumeShape) (x : Seen) (k : Kept) : Type 0 where
 pub record Spares (h k : ℕ → Held) : Type 0 where
   pub each : (i : ℕ) → (k i).kind ≡ 3 → (k i ≡ h i) ⊎ (((h i).kind ≡ 0) × ((k i).word 3 ≡ 0))
 
--- a call that was not stopped: the blocks read as state t
+-- a call that was not stopped: the blocks read as state t, and those that are used beside the ones of before are the lowest
+-- that were free
 pub record Left (shape : VolumeShape) (f : BlockWords) (y : Seen) (j : Kept) (t : State) : Type 0 where
   pub ready : Ready shape y j
   pub reads : ReadsAs shape y.words t
   pub spares : Spares (held_of shape f) (held_of shape y.words)
+  pub lowest : UsesLowest shape f y.words
 
 -- a call that was: what stands reads as state t, and may be started again
 pub record Stands (shape : VolumeShape) (y : Seen) (j : Kept) (t : State) : Type 0 where

@@ -1,5 +1,5 @@
 -- A region that is made: its pages, its words, and the change that is prepared. And what a look-up of a region answers.
-use Rattle.std.specs.Prelude.{◌≡◌, ℕ, ◌*◌, ◌<◌, ◌≤◌, ◌⊎◌, ◌==◌, if◌then◌else◌, true, false, List, [], ◌∷◌, Option, None, Some, Result, Ok, Err}
+use Rattle.std.specs.Prelude.{◌≡◌, ℕ, ◌*◌, ◌<◌, ◌≤◌, ◌⊎◌, ◌==◌, if◌then◌else◌, true, false, List, [], ◌∷◌, take, Option, None, Some, Result, Ok, Err}
 use Rattle.std.specs.List.{AllByRecursion, Contains}
 use Rattle.std.specs.FinMap.{get}
 use Rattle.rio_base.specs.declared.places.Ino.{Ino}
@@ -7,6 +7,7 @@ use Rattle.rio_base.specs.declared.places.PageName.{PageName}
 use Rattle.rio_base.specs.declared.places.VolumeShape.{VolumeShape}
 use Rattle.rio_base.specs.Blocks.{BlockWords, Seen}
 use Rattle.rio_base.specs.Volume.{Kept}
+use Rattle.block_alloc.specs.Bitmap.{numbers}
 use Rattle.rio_model.specs.declared.node.Node.TheVariants.{Region}
 use Rattle.rio_model.specs.declared.node.RegionNode.{RegionNode}
 use Rattle.rio_model.specs.declared.state.State.{State}
@@ -17,8 +18,8 @@ use Rattle.rio_model.specs.Sizes.{largest_size}
 use Rattle.rio_model.specs.Undo.{region_magic, region_words}
 use Rattle.rio_model.specs.Updates.{Turns}
 use Rattle.rio_model.specs.VolumeReady.{NamedNode}
-use Rattle.file_pages.specs.Changes.{EditsTable}
-use Rattle.file_store.specs.Changes.{node_update}
+use Rattle.file_pages.specs.Changes.{EditsTable, free_beside}
+use Rattle.file_store.specs.Changes.{change_update}
 use Rattle.file_store.specs.declared.changes.NodeChange.{NodeChange}
 use Rattle.file_store.specs.declared.failures.FileFail.{FileFail}
 use Rattle.file_store.specs.declared.failures.FileFail.TheVariants.{Refused, Fault, Stopped, Memory}
@@ -56,16 +57,17 @@ new_word undo pages y = if y == 0 then region_magic else if y == 1 then undo els
 abbrev pub new_held : ℕ → ℕ → Held
 new_held undo pages = record { kind = 3; size = 8 * region_words undo pages; word = new_word undo pages }
 
--- ---- a new region that is prepared over blocks f, in blocks that are free there and none of these. y and j are the volume
--- then
+-- ---- a new region that is prepared over blocks f, in the lowest blocks that are free there and none of these. y and j are
+-- the volume then
 
 pub record PlansRegion (shape : VolumeShape) (f : BlockWords) (y : Seen) (j : Kept) (i : ℕ) (r : RegionSizes) (skip : List ℕ) (c : NodeChange) : Type 0 where
   pub ino : c.ino.0 ≡ i
   pub node : Placed
   pub kind : node.kind ≡ 3
-  pub turns : Turns shape (placed_at f i) node (node_update c)
+  pub turns : Turns shape (placed_at f i) node (change_update c)
   pub from : (s : Slot) → HasSlot node s → IsFree (volume_layout shape f) (node.block s)
   pub beside : (s : Slot) → HasSlot node s → Contains skip (node.block s) → ⊥
+  pub lowest : (n : ℕ) × (numbers c.taken ≡ take n (free_beside shape f skip))
   pub tables : AllByRecursion (EditsTable node) c.edits
   pub unnamed : (k : ℕ) → HasSlot node (AtTable k) → y.cached (node.block (AtTable k)) ≡ true → y.names (node.block (AtTable k)) ≡ None
   pub holds : held y.words node ≡ new_held r.undo_pages r.data_pages

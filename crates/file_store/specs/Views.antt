@@ -70,5 +70,5 @@ few_words shape x k i words h =
     let used : 0 < n.kind = omega (arith, kind) in
     let test : nat_lt 0 n.kind ≡ true = grind (arith, nat_tests, used) in
     let size : n.size ≡ 8 * words = sym (ap (λ (g : Held). g.size) held_as ∙ ap (λ b. cond b n.size 0) test) ∙ h.size in
-    let most : n.size ≤ 4292608 = (h.ready.mapped.laid.sizes.each i h.ino used).most in
+    let most : n.size ≤ 4292608 = (h.ready.order.mapped.laid.sizes.each i h.ino used).most in
     omega (arith, most, size)

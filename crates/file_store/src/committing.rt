@@ -10,20 +10,18 @@ ghost use Rattle.rio_base.specs.Volume.{Firm, Goes, SameUpdate};
 ghost use Rattle.block_alloc.specs.Bitmap.{numbers};
 ghost use Rattle.rio_model.specs.Updates.{Applied};
 ghost use Rattle.file_pages.specs.Forgetting.{Uncached};
-ghost use Rattle.file_pages.specs.Updating.{IsTouched, IsUpdated};
+ghost use Rattle.file_pages.specs.Updating.{IsEdited, IsTouched, IsUpdated};
 ghost use Rattle.file_pages.specs.declared.changes.Edit.{Edit as EditOf};
 ghost use Rattle.directories.specs.Plans.{InThreeBlocks};
-ghost use Rattle.file_store.specs.Changes.{AllApplied, AllTouched, CanCommit, CanMakeNode, IsEditOf, IsFreed, IsTouchedBy, MakesFit, edited_blocks, node_update};
+ghost use Rattle.file_store.specs.Changes.{AllApplied, AllTouched, CanCommit, CanMakeNode, IsFreed, IsTouchedBy, MakesFit, edited_blocks, change_update};
 ghost use Rattle.file_store.specs.Committing.{Commits, Touched};
 ghost use Rattle.file_store.specs.declared.changes.NodeChange.{NodeChange as NodeChangeOf};
 
 use crate::changes::NodeChange;
+use block_alloc::BITMAP;
 use file_pages::{Edit, make_update};
 use inode_table::{Inode, inode_block};
 use rio_base::{Block, Ino, Stopped, VolFail, Volume, VolumeShape};
-
-/// The bitmap of the blocks that a volume may have.
-const BITMAP: Block = Block(1);
 
 /// Whether edit `t` is in the same block as the edit before it.
 fn is_same_block(edits: &[Edit], t: usize) -> bool
@@ -47,11 +45,10 @@ fn touch_edits<V: Volume>(v: &mut V, edits: &[Edit]) -> Result<(), VolFail>
     ensures ok { OnOk result ((e : EditOf) → Contains edits.now e → (V.kept v.new).touched e.block.0 ≡ true) }
     ensures touches { OnOk result ((V.kept v.new).touches ≤ 3 + (V.kept v.old).touches) }
     ensures more { OnOk result ((b : ℕ) → (V.kept v.old).touched b ≡ true → (V.kept v.new).touched b ≡ true) }
-    ensures begun { IsErrOf result VolFail.Stopped ⊎ ((V.kept v.new).begun ≡ (V.kept v.old).begun) }
     ensures looks { Looks (V.seen v.old) (V.seen v.new) }
     ensures standing { (V.kept v.new).standing ≡ (V.kept v.old).standing }
     ensures firm { Firm (V.kept v.old) (V.kept v.new) }
-    ensures caches { CachesBy (IsEditOf edits.now) (V.seen v.old) (V.seen v.new) }
+    ensures caches { CachesBy (λ b name. IsEdited edits.now b × (name ≡ None)) (V.seen v.old) (V.seen v.new) }
     ensures in_update { (V.kept v.new).updating ≡ true }
     ensures goes { Goes (V.health v.old) (V.below v.old) (V.health v.new) (V.below v.new) }
     ensures ends { Ends (V.health v.old) (V.health v.new) result }
@@ -77,7 +74,6 @@ fn touch_node<V: Volume>(v: &mut V, shape: &VolumeShape, change: &NodeChange) ->
     ensures ok { OnOk result (IsTouched (V.kept v.new) change.now.ino.0 change.now.edits) }
     ensures touches { OnOk result ((V.kept v.new).touches ≤ 4 + (V.kept v.old).touches) }
     ensures more { OnOk result ((b : ℕ) → (V.kept v.old).touched b ≡ true → (V.kept v.new).touched b ≡ true) }
-    ensures begun { IsErrOf result VolFail.Stopped ⊎ ((V.kept v.new).begun ≡ (V.kept v.old).begun) }
     ensures looks { Looks (V.seen v.old) (V.seen v.new) }
     ensures standing { (V.kept v.new).standing ≡ (V.kept v.old).standing }
     ensures firm { Firm (V.kept v.old) (V.kept v.new) }
@@ -104,7 +100,6 @@ fn touch_changes<V: Volume>(
     requires room { (V.kept v.old).touches ≡ 0 }
     requires can { CanCommit shape.now (V.seen v.old) changes.now }
     ensures ok { OnOk result (AllTouched (V.kept v.new) changes.now) }
-    ensures begun { IsErrOf result VolFail.Stopped ⊎ ((V.kept v.new).begun ≡ (V.kept v.old).begun) }
     ensures looks { Looks (V.seen v.old) (V.seen v.new) }
     ensures standing { (V.kept v.new).standing ≡ (V.kept v.old).standing }
     ensures firm { Firm (V.kept v.old) (V.kept v.new) }
@@ -164,7 +159,7 @@ fn make_changes<V: Volume>(
     requires in_update { (V.kept v.old).updating ≡ true }
     requires can { (c : NodeChangeOf) → Contains changes.now c → MakesFit shape.now c }
     requires touched { AllTouched (V.kept v.old) changes.now }
-    ensures ok { OnOk result (AllApplied shape.now (map node_update changes.now) (V.seen v.old).words (V.seen v.new).words) }
+    ensures ok { OnOk result (AllApplied shape.now (map change_update changes.now) (V.seen v.old).words (V.seen v.new).words) }
     ensures update { OnOk result (SameUpdate (V.kept v.old) (V.kept v.new)) }
     ensures in_update { (V.kept v.new).updating ≡ true }
     ensures standing { (V.kept v.new).standing ≡ (V.kept v.old).standing }
@@ -200,9 +195,9 @@ fn change_nodes<V: Volume>(
     requires shape { HasShape shape.now (V.seen v.old) }
     requires idle { (V.kept v.old).updating ≡ false }
     requires can { CanCommit shape.now (V.seen v.old) changes.now }
-    ensures ok { OnOk result (AllApplied shape.now (map node_update changes.now) (V.seen v.old).words (V.seen v.new).words × ((V.kept v.new).standing ≡ (V.seen v.new).words) × ((V.kept v.new).updating ≡ false)) }
+    ensures ok { OnOk result (AllApplied shape.now (map change_update changes.now) (V.seen v.old).words (V.seen v.new).words × ((V.kept v.new).standing ≡ (V.seen v.new).words) × ((V.kept v.new).updating ≡ false)) }
     ensures fault { IsErrOf result VolFail.Fault → ((V.kept v.new).updating ≡ false) × ((V.seen v.new).words ≡ (V.seen v.old).words) × ((V.kept v.new).standing ≡ (V.kept v.old).standing) }
-    ensures stopped { ((V.kept v.new).standing ≡ (V.kept v.old).standing) ⊎ AllApplied shape.now (map node_update changes.now) (V.seen v.old).words (V.kept v.new).standing }
+    ensures stopped { ((V.kept v.new).standing ≡ (V.kept v.old).standing) ⊎ AllApplied shape.now (map change_update changes.now) (V.seen v.old).words (V.kept v.new).standing }
     ensures shape { HasShape shape.now (V.seen v.new) }
     ensures firm { Firm (V.kept v.old) (V.kept v.new) }
     ensures caches { CachesBy (IsTouchedBy changes.now) (V.seen v.old) (V.seen v.new) }

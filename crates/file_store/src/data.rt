@@ -14,20 +14,27 @@ ghost use Rattle.rio_requests.specs.Parts.{NoneDone, WriteDone};
 ghost use Rattle.file_pages.specs.Forgetting.{Forgets};
 ghost use Rattle.file_store.specs.Ends.{CanServe, FileEnds, SaysBytes, SaysCount, SaysDone};
 ghost use Rattle.file_store.specs.Failures.{Faulted};
-ghost use Rattle.file_store.specs.Walks.{FileComes};
+ghost use Rattle.inode_table.specs.Inodes.{IsInode};
+ghost use Rattle.file_store.specs.Walks.{FileComes, ino_in};
 
 use crate::changes::{DIRECTORY, REGION};
 use crate::failures::{FileFail, IS_A_DIRECTORY, IS_A_REGION};
 use crate::walking::{inode_of, walk};
+use inode_table::Inode;
 use rio_base::{Ino, Octets, Volume, VolumeShape};
 use std::alloc::Global;
 
-/// The file at a path.
-fn walk_to_file<V: Volume>(v: &mut V, shape: &VolumeShape, path: &[u8]) -> Result<Ino, FileFail>
+/// The file at a path, and its inode.
+fn walk_to_file<V: Volume>(
+    v: &mut V,
+    shape: &VolumeShape,
+    path: &[u8],
+) -> Result<(Ino, Inode), FileFail>
     requires sound { V.sound v.old }
     requires can { CanServe shape.now (V.seen v.old) (V.kept v.old) }
-    ensures value { (s : State) → ReadsAs shape.now (V.seen v.old).words s → FileComes s (walk_of s 1 (names_of path.now)) result }
-    ensures file { IfOk result (λ i. (held_of shape.now (V.seen v.old).words i.0).kind ≡ 2) }
+    ensures value { (s : State) → ReadsAs shape.now (V.seen v.old).words s → FileComes s (walk_of s 1 (names_of path.now)) (ino_in result) }
+    ensures file { IfOk result (λ at. (held_of shape.now (V.seen v.old).words at.0.0).kind ≡ 2) }
+    ensures inode { IfOk result (λ at. IsInode (V.seen v.old).words at.0.0 at.1) }
     ensures leaves { LeavesInUse (volume_layout shape.now (V.seen v.old).words) (V.seen v.old) (V.kept v.old) (V.seen v.new) (V.kept v.new) }
     ensures words { (V.seen v.new).words ≡ (V.seen v.old).words }
     ensures can { CanServe shape.now (V.seen v.new) (V.kept v.new) }
@@ -40,7 +47,7 @@ fn walk_to_file<V: Volume>(v: &mut V, shape: &VolumeShape, path: &[u8]) -> Resul
     match inode.kind {
         DIRECTORY => Err(FileFail::Refused(IS_A_DIRECTORY)),
         REGION => Err(FileFail::Refused(IS_A_REGION)),
-        _ => Ok(i),
+        _ => Ok((i, inode)),
     }
 }
 
@@ -61,8 +68,8 @@ pub fn write<V: Volume>(
     ensures ends { EndsBy (V.health v.old) (V.health v.new) (Faulted result) (IsErrOf result FileFail.Stopped) }
     ensures sound { V.sound v.new }
 {
-    let i = walk_to_file(v, shape, path)?;
-    let count = file_pages::write(alloc, v, shape, i, off, bytes)?;
+    let (i, inode) = walk_to_file(v, shape, path)?;
+    let count = file_pages::write_with(alloc, v, shape, i, &inode, off, bytes)?;
     Ok(count)
 }
 
@@ -83,8 +90,8 @@ pub fn truncate<V: Volume>(
     ensures ends { EndsBy (V.health v.old) (V.health v.new) (Faulted result) (IsErrOf result FileFail.Stopped) }
     ensures sound { V.sound v.new }
 {
-    let i = walk_to_file(v, shape, path)?;
-    file_pages::resize(alloc, v, shape, i, len)?;
+    let (i, inode) = walk_to_file(v, shape, path)?;
+    file_pages::resize_with(alloc, v, shape, i, &inode, len)?;
     Ok(())
 }
 
@@ -105,7 +112,7 @@ pub fn read<V: Volume>(
     ensures ends { EndsBy (V.health v.old) (V.health v.new) (Faulted result) (IsErrOf result FileFail.Stopped) }
     ensures sound { V.sound v.new }
 {
-    let i = walk_to_file(v, shape, path)?;
-    let bytes = file_pages::read(alloc, v, shape, i, off, len)?;
+    let (i, inode) = walk_to_file(v, shape, path)?;
+    let bytes = file_pages::read_with(alloc, v, shape, i, &inode, off, len)?;
     Ok(bytes)
 }

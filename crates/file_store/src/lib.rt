@@ -8,6 +8,7 @@ mod failures;
 mod looking;
 mod making;
 mod moving;
+mod new_nodes;
 mod paths;
 mod region_pages;
 mod region_view;

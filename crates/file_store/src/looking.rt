@@ -19,11 +19,8 @@ use crate::failures::FileFail;
 use crate::walking::{inode_of, walk, walk_to_dir};
 use directories::names;
 use file_pages::block_of;
-use rio_base::{Ino, NameList, PageName, Volume, VolumeShape};
+use rio_base::{Ino, NameList, PAGE_BYTES, PageName, Volume, VolumeShape};
 use std::alloc::Global;
-
-/// Bytes of a page.
-const PAGE_BYTES: u64 = 4096;
 
 /// The word of a region's header that has the number of its data pages.
 const DATA_PAGES: u16 = 2;

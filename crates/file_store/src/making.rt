@@ -4,7 +4,6 @@ ghost use Rattle.std.specs.Prelude.{◌≡◌, ◌⊎◌, ℕ, Some, IsErrOf, On
 ghost use Rattle.rio_base.specs.Blocks.{EndsBy};
 ghost use Rattle.rio_base.specs.Layout.{IsIno};
 ghost use Rattle.rio_base.specs.Volume.{Goes};
-ghost use Rattle.rio_model.specs.States.{least_free};
 ghost use Rattle.rio_model.specs.Held.{held_of};
 ghost use Rattle.rio_model.specs.Paths.{IsName, IsPath, names_of};
 ghost use Rattle.rio_model.specs.VolumeReads.{ReadsAs};
@@ -19,16 +18,16 @@ ghost use Rattle.file_store.specs.Failures.{Faulted};
 
 use crate::changes::{DIRECTORY, FILE, NodeChange, node_made, two_changes};
 use crate::committing::commit_changes;
-use crate::failures::{EXISTS, FileFail, NO_INODE};
+use crate::failures::{EXISTS, FileFail};
+use crate::new_nodes::{NewNode, make_new};
 use crate::paths::{cut_last, is_root};
 use crate::walking::dir_without;
 use directories::plan_add;
-use inode_table::least_free;
 use rio_base::{Ino, Volume, VolumeShape};
 use std::alloc::Global;
 
 /// Makes a node without bytes, in inode `i`, and its row in one update.
-fn make_row<V: Volume>(
+pub fn make_row<V: Volume>(
     alloc: Global,
     v: &mut V,
     shape: &VolumeShape,
@@ -57,34 +56,6 @@ fn make_row<V: Volume>(
     Ok(())
 }
 
-/// Makes a node without bytes under a name that a directory has not, in the least free inode.
-fn make_new<V: Volume>(
-    alloc: Global,
-    v: &mut V,
-    shape: &VolumeShape,
-    dir: Ino,
-    name: &[u8],
-    kind: u8,
-) -> Result<Ino, FileFail>
-    requires sound { V.sound v.old }
-    requires can { CanServe shape.now (V.seen v.old) (V.kept v.old) }
-    requires dir { (held_of shape.now (V.seen v.old).words dir.0).kind ≡ 1 }
-    requires is_name { IsName name.now }
-    requires absent { (n : ℕ) → HasRow (held_of shape.now (V.seen v.old).words dir.0) name.now n → ⊥ }
-    requires kind { (kind ≡ 1) ⊎ (kind ≡ 2) }
-    ensures leaves { (s : State) → ReadsAs shape.now (V.seen v.old).words s → FileEnds SaysIno shape.now (V.seen v.old) (V.kept v.old) (V.seen v.new) (V.kept v.new) s (make_new_of s dir.0 name.now (empty_node kind) (least_free s)) (NoneDone s) result }
-    ensures forgets { OnOk result (Forgets (volume_layout shape.now (V.seen v.old).words) (volume_layout shape.now (V.seen v.new).words) (V.seen v.new)) }
-    ensures goes { Goes (V.health v.old) (V.below v.old) (V.health v.new) (V.below v.new) }
-    ensures ends { EndsBy (V.health v.old) (V.health v.new) (Faulted result) (IsErrOf result FileFail.Stopped) }
-    ensures sound { V.sound v.new }
-{
-    let Some(i) = least_free(v, shape)? else {
-        return Err(FileFail::Refused(NO_INODE));
-    };
-    make_row(alloc, v, shape, dir, name, i, kind)?;
-    Ok(i)
-}
-
 /// Makes a node without bytes at a path.
 fn make<V: Volume>(
     alloc: Global,
@@ -108,7 +79,7 @@ fn make<V: Volume>(
     }
     let (front, name) = cut_last(path);
     let dir = dir_without(v, shape, front, name)?;
-    make_new(alloc, v, shape, dir, name, kind)
+    make_new(alloc, v, shape, dir, name, NewNode::Bare(kind))
 }
 
 /// Makes a directory without names.

@@ -14,20 +14,14 @@ ghost use Rattle.file_store.specs.Views.{IsWordName, IsWordPage};
 ghost use Rattle.rio_model.specs.RegionMoves.{RestHeld};
 
 use file_pages::block_of;
-use inode_table::{Inode, read_inode};
-use rio_base::{Block, Ino, PageName, RunFail, VolFail, Volume, VolumeShape};
-
-/// Bytes of a page.
-const PAGE_BYTES: u32 = 4096;
+use inode_table::{DIRECT_PAGES, Inode, read_inode};
+use rio_base::{Block, Ino, PAGE_BYTES, PageName, RunFail, VolFail, Volume, VolumeShape};
 
 /// Words of a page.
 const PAGE_WORDS: u32 = 512;
 
 /// Bytes of a word.
 const WORD_BYTES: u64 = 8;
-
-/// So many pages of a node are numbered in its inode.
-const DIRECT_PAGES: u32 = 24;
 
 /// The inode of region `i`.
 pub fn region_inode<V: Volume>(v: &mut V, shape: &VolumeShape, i: Ino) -> Result<Inode, VolFail>
@@ -61,7 +55,7 @@ fn page_name(i: Ino, at: u32) -> PageName
     PageName {
         file: i,
         index: at / PAGE_WORDS,
-        size: PAGE_BYTES,
+        size: PAGE_BYTES as u32,
     }
 }
 

@@ -7,7 +7,6 @@ ghost use Rattle.rio_base.specs.Volume.{CachesStored, Firm, Goes, SameBut, put_r
 ghost use Rattle.block_alloc.specs.Bitmap.{numbers};
 ghost use Rattle.rio_model.specs.declared.node.Node.TheVariants.{Region};
 ghost use Rattle.rio_model.specs.declared.state.State.{State};
-ghost use Rattle.rio_model.specs.States.{least_free};
 ghost use Rattle.rio_model.specs.Held.{held_of};
 ghost use Rattle.rio_model.specs.Paths.{IsName, IsPath, names_of};
 ghost use Rattle.rio_model.specs.Placed.{IsFree, volume_layout};
@@ -27,20 +26,18 @@ ghost use Rattle.file_store.specs.Walks.{FreeRow, ino_in};
 
 use crate::changes::{NodeChange, REGION, empty_inode, node_sized, two_changes};
 use crate::committing::commit_changes;
-use crate::failures::{EXISTS, FileFail, NO_INODE, NOT_A_REGION, TOO_LARGE};
+use crate::failures::{EXISTS, FileFail, NOT_A_REGION, TOO_LARGE};
+use crate::new_nodes::{NewNode, make_new};
 use crate::paths::{cut_last, is_root};
 use crate::walking::{dir_without, inode_of, walk};
 use directories::plan_add;
 use file_pages::{SizeFail, plan_size};
-use inode_table::{Inode, least_free};
-use rio_base::{Block, BlockList, Ino, PageName, RunFail, VolFail, Volume, VolumeShape};
+use inode_table::Inode;
+use rio_base::{
+    Block, BlockList, Ino, PAGE_BYTES, PageName, REGION_MAGIC, RunFail, VolFail, Volume,
+    VolumeShape,
+};
 use std::alloc::Global;
-
-/// The word at the begin of each region, the text `VISTAREG`.
-const REGION_MAGIC: u64 = 0x4745_5241_5453_4956;
-
-/// Bytes of a page.
-const PAGE_BYTES: u64 = 4096;
 
 /// Pages of the largest node.
 const MOST_PAGES: u64 = 1048;
@@ -148,7 +145,7 @@ fn plan_region<V: Volume>(
 }
 
 /// Makes a region in inode `i`, and its row, in one update.
-fn make_region_row<V: Volume>(
+pub fn make_region_row<V: Volume>(
     alloc: Global,
     v: &mut V,
     shape: &VolumeShape,
@@ -176,34 +173,6 @@ fn make_region_row<V: Volume>(
     let changes = two_changes(alloc, NodeChange::from(row), node)?;
     commit_changes(v, shape, &changes)?;
     Ok(())
-}
-
-/// Makes a region under a name that a directory has not, in the least free inode.
-fn make_new_region<V: Volume>(
-    alloc: Global,
-    v: &mut V,
-    shape: &VolumeShape,
-    dir: Ino,
-    name: &[u8],
-    sizes: RegionSizes,
-) -> Result<Ino, FileFail>
-    requires sound { V.sound v.old }
-    requires can { CanServe shape.now (V.seen v.old) (V.kept v.old) }
-    requires dir { (held_of shape.now (V.seen v.old).words dir.0).kind ≡ 1 }
-    requires is_name { IsName name.now }
-    requires absent { (n : ℕ) → HasRow (held_of shape.now (V.seen v.old).words dir.0) name.now n → ⊥ }
-    requires sizes { FitRegion sizes }
-    ensures leaves { (s : State) → ReadsAs shape.now (V.seen v.old).words s → FileEnds SaysIno shape.now (V.seen v.old) (V.kept v.old) (V.seen v.new) (V.kept v.new) s (make_new_of s dir.0 name.now (Region (new_region sizes.data_pages sizes.undo_pages)) (least_free s)) (NoneDone s) result }
-    ensures forgets { OnOk result (Forgets (volume_layout shape.now (V.seen v.old).words) (volume_layout shape.now (V.seen v.new).words) (V.seen v.new)) }
-    ensures goes { Goes (V.health v.old) (V.below v.old) (V.health v.new) (V.below v.new) }
-    ensures ends { EndsBy (V.health v.old) (V.health v.new) (Faulted result) (IsErrOf result FileFail.Stopped) }
-    ensures sound { V.sound v.new }
-{
-    let Some(i) = least_free(v, shape)? else {
-        return Err(FileFail::Refused(NO_INODE));
-    };
-    make_region_row(alloc, v, shape, dir, name, i, sizes)?;
-    Ok(i)
 }
 
 /// Makes a region of so many data pages of zeros and undo pages, at a path.
@@ -234,7 +203,7 @@ pub fn make_region<V: Volume>(
     let Some(sizes) = region_sizes(data_pages, undo_pages) else {
         return Err(FileFail::Refused(TOO_LARGE));
     };
-    make_new_region(alloc, v, shape, dir, name, sizes)
+    make_new(alloc, v, shape, dir, name, NewNode::Sized(sizes))
 }
 
 /// The region at a path, and its inode. Takes no memory.

@@ -40,7 +40,7 @@ follows_ok shape x k v can = record { ok = can; err = tt }
 -- a look at the bitmap leaves a volume that may be asked again
 pub can_counted : (shape : VolumeShape) (s t : Health) (o n : Below) (x y : Seen) (k j : Kept) → CanServe shape x k → Looks x y → Caches x y 1 None → Passes s o k t n j → CanServe shape y j
 can_counted shape s t o n x y k j can looks caches passes =
-    can_again shape x k y j can (leaves_looked shape s t o n x y k j can.ready (looked_low shape x y 1 (can_look_up shape x can.ready.has_shape can.ready.mapped can.ready.named) (omega arith) looks caches) passes) looks.words
+    can_again shape x k y j can (leaves_looked shape s t o n x y k j can.ready (looked_low shape x y 1 (can_look_up shape x can.ready.order.has_shape can.ready.order.mapped can.ready.order.named) (omega arith) looks caches) passes) looks.words
 
 -- a fresh volume may be asked, and one that is started again
 pub fresh_can : (shape : VolumeShape) (x : Seen) (k : Kept) → IsFresh shape x k → CanServe shape x k

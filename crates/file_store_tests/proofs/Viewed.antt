@@ -49,10 +49,12 @@ begun_fits old new i m n f g put count words head sound = subst (λ k. Fits new 
 pub on_again : (shape : VolumeShape) (stop_after : Option ℕ) (v w : ListVolume) (i words : ℕ) → ListSound v → OnRegion shape (list_seen v) (list_kept v) i words → IsRestarted stop_after v w → OnRegion shape (list_seen w) (list_kept w) i words
 on_again shape stop_after v w i words sound h again = record {
   ready = record {
-    has_shape = record { sizes = h.ready.has_shape.sizes; count = again.count ∙ h.ready.has_shape.count; unnamed = λ b low on. refl };
-    mapped = subst (IsMapped shape) (sym now) h.ready.mapped;
-    named = record { each = λ j ino s has on. absurd (true_false (sym on)) };
-    firm = subst (λ f. Firmly (volume_layout shape f) (list_kept w)) (sym now) (record { low = λ b low. ap (λ (l : Vec Bool). mark_of l.items b) again.loose ∙ h.ready.firm.low b low; owned = λ j s own. ap (λ (l : Vec Bool). mark_of l.items ((placed_at (list_seen v).words j).block s)) again.loose ∙ h.ready.firm.owned j s own });
+    order = record {
+      has_shape = record { sizes = h.ready.order.has_shape.sizes; count = again.count ∙ h.ready.order.has_shape.count; unnamed = λ b low on. refl };
+      mapped = subst (IsMapped shape) (sym now) h.ready.order.mapped;
+      named = record { each = λ j ino s has on. absurd (true_false (sym on)) };
+      firm = subst (λ f. Firmly (volume_layout shape f) (list_kept w)) (sym now) (record { low = λ b low. ap (λ (l : Vec Bool). mark_of l.items b) again.loose ∙ h.ready.order.firm.low b low; owned = λ j s own. ap (λ (l : Vec Bool). mark_of l.items ((placed_at (list_seen v).words j).block s)) again.loose ∙ h.ready.order.firm.owned j s own });
+    };
     idle = again.idle;
   };
   ino = h.ino;

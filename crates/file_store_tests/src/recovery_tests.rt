@@ -8,15 +8,12 @@ ghost use Rattle.vista_region.specs.Ends.{Fits};
 use crate::asks::{Ask, Want};
 use crate::views::{start_again, view_of};
 use file_store::RegionView;
-use rio_base::{Ino, RegionWords, VolFail};
+use rio_base::{Ino, RegionWords, UNDO_HEAD, VolFail};
 use rio_fakes::ListVolume;
 use std::alloc::Global;
 use std::process::Abort;
 use std::test::Fail;
 use vista_region::{OpenTable, recover};
-
-/// The header's word for the newest undo record, 0 for none.
-const HEAD: u32 = 3;
 
 /// The place of the first data word: the header, the undo page and the page of the heap map are before it.
 const FIRST: u32 = 1536;
@@ -34,10 +31,10 @@ fn begun<R: RegionWords>(
     ensures fits { IfOk result (λ table. Fits table i.0 (R.count r.new) (R.words r.new)) }
 {
     let mut table = OpenTable::new(alloc)?;
-    if r.len() <= HEAD {
+    if r.len() <= UNDO_HEAD {
         panic!(rt; "no header");
     }
-    if r.word(HEAD)? != 0 {
+    if r.word(UNDO_HEAD)? != 0 {
         panic!(rt; "a new region has an undo record");
     }
     table.begin(i)?;

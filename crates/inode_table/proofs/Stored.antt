@@ -29,10 +29,10 @@ front_at f g h i n words w b p block place all few before either = front_of f g 
 -- ---- records that compose
 
 pub update_refl : (k : Kept) → SameUpdate k k
-update_refl k = record { updating = refl; begun = refl; touched = refl; touches = refl }
+update_refl k = record { updating = refl; touched = refl; touches = refl }
 
 pub update_trans : (k l m : Kept) → SameUpdate k l → SameUpdate l m → SameUpdate k m
-update_trans k l m h i = record { updating = i.updating ∙ h.updating; begun = i.begun ∙ h.begun; touched = i.touched ∙ h.touched; touches = i.touches ∙ h.touches }
+update_trans k l m h i = record { updating = i.updating ∙ h.updating; touched = i.touched ∙ h.touched; touches = i.touches ∙ h.touches }
 
 pub drops_refl : (s : Seen) → Drops s s
 drops_refl s = record { kept = λ c cached. (cached, refl) }

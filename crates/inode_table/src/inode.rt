@@ -11,6 +11,12 @@ pub const INODE_WORDS: usize = 16;
 /// Inodes of a block.
 pub const BLOCK_INODES: u32 = 32;
 
+/// Pages of a node that its inode numbers. Its indirect block numbers 1,024 more.
+pub const DIRECT_PAGES: u32 = 24;
+
+/// The most bytes of a node: 4,096 in each of those pages.
+pub const LARGEST_SIZE: u64 = 4_292_608;
+
 /// The first block of inodes.
 const FIRST_BLOCK: u32 = 2;
 

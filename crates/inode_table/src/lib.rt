@@ -7,6 +7,6 @@ mod reading;
 mod storing;
 
 pub use finding::least_free;
-pub use inode::{Inode, inode_block};
+pub use inode::{BLOCK_INODES, DIRECT_PAGES, INODE_WORDS, Inode, LARGEST_SIZE, inode_block};
 pub use reading::read_inode;
 pub use storing::edit_inode;

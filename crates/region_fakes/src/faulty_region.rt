@@ -7,11 +7,8 @@ ghost use Rattle.rio_model.specs.Heap.{OfBlocks};
 ghost use Rattle.rio_model.specs.Undo.{IsRegion, live};
 ghost use Rattle.region_fakes.specs.FaultyRegions.{FaultyReady, IsFreshRegion, OnlyCounts, faulty_content, faulty_health};
 
-use rio_base::{RegionWords, VolFail};
+use rio_base::{REGION_MAGIC, RegionWords, VolFail};
 use std::alloc::{AllocError, Global};
-
-/// The magic word of a region, the text `VISTAREG`.
-const REGION_MAGIC: u64 = 5135601390627014998;
 
 /// A region's words in memory. Each word that is read or stored is a call. It can be told which calls fail, and at which
 /// one it stops; neither changes a word. After a stop it can be started again.

@@ -15,6 +15,7 @@ pub mod HeapRules
 pub mod HeldEntries
 pub mod HeldRules
 pub mod InDirectory
+pub mod LowestBlocks
 pub mod NameOrder
 pub mod NameRules
 pub mod NamedRules

@@ -1,10 +1,10 @@
 -- A change of one node leaves a volume that keeps its rules, in which every other node holds what it held.
 use Rattle.rio_model.proofs.Common.{◌≡◌, ◌≢◌, ℕ, ◌+◌, ◌-◌, ◌*◌, ◌/◌, ◌%◌, ◌<◌, ◌≤◌, ◌⊎◌, cond, refl, sym, ap, subst, ◌∙◌, arith, inl, inr, cases_eq, nat_tests, VolumeShape, used_bit, BlockWords, inode_block, inode_word, IsIno, reserved}
 use Rattle.rio_base.specs.Layout.{inode_place}
-use Rattle.rio_model.specs.Held.{Held, held, held_of, held_bytes}
+use Rattle.rio_model.specs.Held.{held, held_of}
 use Rattle.rio_model.proofs.HeldRules.{held_agree, held_at, held_by}
 use Rattle.rio_model.specs.HeldRules.{held_ino}
-use Rattle.rio_model.specs.NodeChanges.{Without, Available, Change, SetsFile}
+use Rattle.rio_model.specs.NodeChanges.{Without, Available, Change}
 use Rattle.rio_model.specs.Placed.{Slot, AtPage, AtTable, Placed, HasSlot, Lies, Layout, volume_layout, Owns}
 use Rattle.rio_model.proofs.PlacedRules.{Lays, with_placed, lies_agree, lays_self, node_fits, laid_by_nodes, inode_low, inode_no_bitmap, superblock_no_bitmap, above_no_bitmap, has_bit, reserved_below, mapped_by}
 use Rattle.rio_model.specs.VolumeRules.{SuperblockRule, ReservedRule, MarkRule, IsLaid, IsMapped, NodeFits}
@@ -173,14 +173,3 @@ pub held_here : (shape : VolumeShape) (f g : BlockWords) (i : ℕ) (m : Placed) 
 held_here shape f g i m h c =
     let l = volume_layout shape f in
     held_by (with_placed l i m) g (lays_replaced l f g i m h.laid (lays_self shape f) c) i ∙ held_ino (with_placed l i m) g i c.ino ∙ ap (held g) (node_here l i m)
-
--- so a file that changes is set
-pub file_replaced : (shape : VolumeShape) (f g : BlockWords) (i : ℕ) (m : Placed) → IsMapped shape f → Change (volume_layout shape f) f g i m → m.kind ≡ 2 → SetsFile shape f g i (held_bytes (held g m))
-file_replaced shape f g i m h c kind =
-    let own = held_here shape f g i m h c in
-    record {
-      mapped = mapped_replaced shape f g i m h c;
-      kind = ap (λ (k : Held). k.kind) own ∙ kind;
-      own = ap held_bytes own;
-      others = held_there shape f g i m h c;
-    }

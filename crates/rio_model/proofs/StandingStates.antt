@@ -302,13 +302,13 @@ stands_for_standing c n s x k h tells sizes ready reads = stands_for_by c n s x 
 
 -- after a call that leaves the volume ready, stopped or not: the blocks read as a state
 pub stands_for_ready : (c : Contents) (n : ℕ) (s : State) (x : Seen) (k : Kept) → StandsAs c n k.standing k.loose → TellsEntries c x → HasSizes c n s → Settled x k → Ready s.shape x k → ReadsAs s.shape x.words s → StandsFor c n s
-stands_for_ready c n s x k h tells sizes settled ready reads = stands_for_by c n s x x.words (restorable c n h.coherent) tells sizes ready.has_shape ready.named reads (λ disk m. record {
-  low = λ b w low. h.blocks disk m b (ready.firm.low b low) w ∙ agrees.low b w low;
-  owned = λ i t own w. h.blocks disk m _ (ready.firm.owned i t own) w ∙ agrees.owned i t own w;
+stands_for_ready c n s x k h tells sizes settled ready reads = stands_for_by c n s x x.words (restorable c n h.coherent) tells sizes ready.order.has_shape ready.order.named reads (λ disk m. record {
+  low = λ b w low. h.blocks disk m b (ready.order.firm.low b low) w ∙ agrees.low b w low;
+  owned = λ i t own w. h.blocks disk m _ (ready.order.firm.owned i t own) w ∙ agrees.owned i t own w;
 })
   where
     agrees : Agrees (volume_layout s.shape x.words) x.words k.standing
-    agrees = stands_agree (volume_layout s.shape x.words) x k settled ready.idle ready.firm
+    agrees = stands_agree (volume_layout s.shape x.words) x k settled ready.idle ready.order.firm
 
 -- ---- a cache that starts where no entry is valid and the gate is 0
 
@@ -319,9 +319,11 @@ reads_started c n s whole shut h = subst (λ f. ReadsAs s.shape f s) (stands_idl
 -- no block is cached, none is loose where none is pending, and no update is open: the volume is ready
 pub ready_started : (c : Contents) (n : ℕ) (s : State) (x : Seen) (k : Kept) → StandsFor c n s → ReadsAs s.shape x.words s → x.count ≡ length c.disk → ((b : ℕ) → x.cached b ≡ false) → ((b : ℕ) → k.loose b ≡ is_pending c.pending b) → k.updating ≡ false → ((b : ℕ) → is_pending c.pending b ≡ false) → Ready s.shape x k
 ready_started c n s x k h reads count uncached loose idle none = record {
-  has_shape = record { sizes = h.served.sizes; count = count ∙ h.blocks; unnamed = λ b low e. absurd (true_false (sym e ∙ uncached b)) };
-  mapped = reads.mapped;
-  named = record { each = λ i ino t has e. absurd (true_false (sym e ∙ uncached _)) };
-  firm = record { low = λ b low. loose b ∙ none b; owned = λ i t own. loose _ ∙ none _ };
+  order = record {
+    has_shape = record { sizes = h.served.sizes; count = count ∙ h.blocks; unnamed = λ b low e. absurd (true_false (sym e ∙ uncached b)) };
+    mapped = reads.mapped;
+    named = record { each = λ i ino t has e. absurd (true_false (sym e ∙ uncached _)) };
+    firm = record { low = λ b low. loose b ∙ none b; owned = λ i t own. loose _ ∙ none _ };
+  };
   idle = idle;
 }

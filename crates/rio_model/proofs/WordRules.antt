@@ -5,6 +5,7 @@ use Rattle.rio_base.specs.Volume.{put_run, SameBut}
 use Rattle.rio_model.specs.Held.{Held, held, held_of, word_in, byte_of, byte_in, held_bytes}
 use Rattle.rio_model.proofs.HeldRules.{with_word, same_held, counts_of, counts_below, page_counts, held_agree, held_at, held_by}
 use Rattle.rio_model.specs.HeldRules.{held_ino}
+use Rattle.rio_model.proofs.LowestBlocks.{bits_agree, lowest_same}
 use Rattle.rio_model.proofs.NodeChanges.{IsAt}
 use Rattle.rio_model.specs.NodeChanges.{SetsFile}
 use Rattle.rio_model.specs.Placed.{Slot, AtPage, AtTable, Placed, HasSlot, placed_at, Layout, volume_layout, Owns, IsFree, Agrees, AgreesBeside}
@@ -200,4 +201,5 @@ file_beside shape f g i h ino kind a =
       kind = ap (λ (k : Held). k.kind) own ∙ kind;
       own = ap held_bytes own;
       others = held_beside shape i f g h a;
+      lowest = lowest_same shape f g (bits_agree shape f g h.laid.shape_fits a.low);
     }

@@ -1,7 +1,7 @@
 -- One node of a volume changed: what becomes of its inode, of its blocks and of their bits.
-use Rattle.std.specs.Prelude.{◌≡◌, ◌≢◌, ℕ, ◌+◌, ◌-◌, ◌/◌, ◌<◌, ◌≤◌, ◌⊎◌, nat_lt, if◌then◌else◌, List, length, slice_index}
+use Rattle.std.specs.Prelude.{◌≡◌, ◌≢◌, ℕ, ◌+◌, ◌-◌, ◌/◌, ◌<◌, ◌≤◌, ◌⊎◌, nat_lt, if◌then◌else◌, List, length, slice_index, take}
 use Rattle.rio_base.specs.declared.places.VolumeShape.{VolumeShape}
-use Rattle.rio_base.specs.Bitmap.{used_bit}
+use Rattle.rio_base.specs.Bitmap.{free_blocks, used_bit}
 use Rattle.rio_base.specs.Blocks.{BlockWords}
 use Rattle.rio_base.specs.Layout.{IsIno, inode_block, inode_place}
 use Rattle.rio_base.specs.Shapes.{reserved}
@@ -69,11 +69,23 @@ pub record Takes (l : Layout) (n : Placed) (size : ℕ) (taken : List ℕ) : Typ
 abbrev pub shrunk : Placed → ℕ → Placed
 shrunk n size = record { kind = n.kind; size = size; block = n.block }
 
+-- ---- which blocks are taken
+
+-- these are the lowest free blocks, however many
+abbrev pub AreLowest : VolumeShape → BlockWords → List ℕ → Type 0
+AreLowest shape f taken = (n : ℕ) × (taken ≡ take n (free_blocks shape f))
+
+-- the blocks that were free in f and are used in g are the lowest that were free: where one is used, each lower one is
+pub record UsesLowest (shape : VolumeShape) (f g : BlockWords) : Type 0 where
+  pub each : (b c : ℕ) → c < b → b < shape.blocks → used_bit shape f b ≡ 0 → used_bit shape g b ≡ 1 → used_bit shape f c ≡ 0 → used_bit shape g c ≡ 1
+
 -- ---- a file
 
--- file i holds these bytes, the rules 1 to 7 hold, and every other node holds what it held
+-- file i holds these bytes, the rules 1 to 7 hold, every other node holds what it held, and the blocks that are used beside
+-- those of f are the lowest that were free
 pub record SetsFile (shape : VolumeShape) (f g : BlockWords) (i : ℕ) (bytes : List ℕ) : Type 0 where
   pub mapped : IsMapped shape g
   pub kind : (held_of shape g i).kind ≡ 2
   pub own : held_bytes (held_of shape g i) ≡ bytes
   pub others : (j : ℕ) → j ≢ i → held_of shape g j ≡ held_of shape f j
+  pub lowest : UsesLowest shape f g

@@ -2,7 +2,7 @@
 use Rattle.std.specs.Prelude.{◌≡◌, ◌≢◌, ℕ, ◌-◌, ◌*◌, ◌<◌, ◌≤◌, ◌⊎◌, true, false, min, Option, None, Some}
 use Rattle.rio_base.specs.declared.places.PageName.{PageName}
 use Rattle.rio_base.specs.declared.places.VolumeShape.{VolumeShape}
-use Rattle.rio_base.specs.Blocks.{Seen}
+use Rattle.rio_base.specs.Blocks.{BlockWords, Seen}
 use Rattle.rio_base.specs.Layout.{IsIno}
 use Rattle.rio_base.specs.Shapes.{HasShape, reserved}
 use Rattle.rio_base.specs.Volume.{Kept}
@@ -38,20 +38,22 @@ pub record Firmly (l : Layout) (k : Kept) : Type 0 where
   pub low : (b : ℕ) → b < reserved l.shape → k.loose b ≡ false
   pub owned : (i : ℕ) (s : Slot) → Owns l i s → k.loose ((l.node i).block s) ≡ false
 
--- what a changing call supposes: rules 1 to 7, names of cached pages, no block in use loose, and no open update
-pub record Ready (shape : VolumeShape) (x : Seen) (k : Kept) : Type 0 where
+-- a volume in order, by words that read or that stand: the rules 1 to 7 hold, cached pages bear their names, and no block in
+-- use is loose
+pub record InOrder (shape : VolumeShape) (f : BlockWords) (x : Seen) (k : Kept) : Type 0 where
   pub has_shape : HasShape shape x
-  pub mapped : IsMapped shape x.words
-  pub named : AllNamed (volume_layout shape x.words) x
-  pub firm : Firmly (volume_layout shape x.words) k
+  pub mapped : IsMapped shape f
+  pub named : AllNamed (volume_layout shape f) x
+  pub firm : Firmly (volume_layout shape f) k
+
+-- what a changing call supposes: a volume in order by the words as they read, and no open update
+pub record Ready (shape : VolumeShape) (x : Seen) (k : Kept) : Type 0 where
+  pub order : InOrder shape x.words x k
   pub idle : k.updating ≡ false
 
--- what a changing call leaves that is stopped: the same of what stands
-pub record StandsReady (shape : VolumeShape) (x : Seen) (k : Kept) : Type 0 where
-  pub has_shape : HasShape shape x
-  pub mapped : IsMapped shape k.standing
-  pub named : AllNamed (volume_layout shape k.standing) x
-  pub firm : Firmly (volume_layout shape k.standing) k
+-- what a changing call leaves that is stopped: order by what stands
+abbrev pub StandsReady : VolumeShape → Seen → Kept → Type 0
+StandsReady shape x k = InOrder shape k.standing x k
 
 -- a call that only prepares a change: nothing in use differs, read or standing
 pub record LeavesInUse (l : Layout) (x : Seen) (k : Kept) (y : Seen) (j : Kept) : Type 0 where

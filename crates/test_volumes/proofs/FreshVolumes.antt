@@ -110,10 +110,12 @@ fresh_volume shape f h sizes zero = record {
 pub fresh_ready : (shape : VolumeShape) (stop_after : Option ℕ) (u v : ListVolume) → IsTestShape shape → IsNew shape.blocks stop_after u → Firm (list_kept u) (list_kept v) → HasShape shape (list_seen v) → (list_kept v).updating ≡ false → (list_seen v).words ≡ fresh_words shape (list_seen u).words → IsFresh shape (list_seen v) (list_kept v)
 fresh_ready shape stop_after u v h new firm has_shape idle words = record {
   ready = record {
-    has_shape = has_shape;
-    mapped = reads.mapped;
-    named = record { each = λ i ino s has on. absurd (true_false (sym on)) };
-    firm = record { low = λ c low. unloose c; owned = λ i s own. unloose _ };
+    order = record {
+      has_shape = has_shape;
+      mapped = reads.mapped;
+      named = record { each = λ i ino s has on. absurd (true_false (sym on)) };
+      firm = record { low = λ c low. unloose c; owned = λ i s own. unloose _ };
+    };
     idle = idle;
   };
   reads = reads;
@@ -134,10 +136,12 @@ fresh_ready shape stop_after u v h new firm has_shape idle words = record {
 
 pub restarted : (shape : VolumeShape) (stop_after : Option ℕ) (v w : ListVolume) → StandsReady shape (list_seen v) (list_kept v) → IsRestarted stop_after v w → Ready shape (list_seen w) (list_kept w)
 restarted shape stop_after v w stands again = record {
-  has_shape = record { sizes = stands.has_shape.sizes; count = again.count ∙ stands.has_shape.count; unnamed = λ b low on. refl };
-  mapped = subst (IsMapped shape) (sym now) stands.mapped;
-  named = record { each = λ i ino s has on. absurd (true_false (sym on)) };
-  firm = subst (λ f. Firmly (volume_layout shape f) (list_kept w)) (sym now) (subst (λ (loose : ℕ → Bool). Firmly (volume_layout shape (list_kept v).standing) (record (list_kept w) { loose = loose })) (sym marks) (record { low = stands.firm.low; owned = stands.firm.owned }));
+  order = record {
+    has_shape = record { sizes = stands.has_shape.sizes; count = again.count ∙ stands.has_shape.count; unnamed = λ b low on. refl };
+    mapped = subst (IsMapped shape) (sym now) stands.mapped;
+    named = record { each = λ i ino s has on. absurd (true_false (sym on)) };
+    firm = subst (λ f. Firmly (volume_layout shape f) (list_kept w)) (sym now) (subst (λ (loose : ℕ → Bool). Firmly (volume_layout shape (list_kept v).standing) (record (list_kept w) { loose = loose })) (sym marks) (record { low = stands.firm.low; owned = stands.firm.owned }));
+  };
   idle = again.idle;
 }
   where

@@ -175,10 +175,12 @@ node_made shape f g i kind n h was from few either is_kind size is = subst (λ k
 
 pub nodes_ready : (shape : VolumeShape) (v w : ListVolume) (kind last : ℕ) → Ready shape (list_seen v) (list_kept v) → Firm (list_kept v) (list_kept w) → ((b : ℕ) → (list_kept v).loose b ≡ false) → HasShape shape (list_seen w) → (list_kept w).updating ≡ false → HasNodes shape (list_seen w).words kind last → Ready shape (list_seen w) (list_kept w)
 nodes_ready shape v w kind last was firm none has_shape idle nodes = record {
-  has_shape = has_shape;
-  mapped = nodes.mapped;
-  named = record { each = λ i ino s has on. absurd (true_false (sym on)) };
-  firm = record { low = λ c low. kept c; owned = λ i s own. kept _ };
+  order = record {
+    has_shape = has_shape;
+    mapped = nodes.mapped;
+    named = record { each = λ i ino s has on. absurd (true_false (sym on)) };
+    firm = record { low = λ c low. kept c; owned = λ i s own. kept _ };
+  };
   idle = idle;
 }
   where

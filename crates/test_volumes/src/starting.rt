@@ -7,13 +7,10 @@ ghost use Rattle.rio_base.specs.Volume.{Firm};
 ghost use Rattle.rio_model.specs.VolumeReady.{Ready, StandsReady};
 ghost use Rattle.test_volumes.specs.TestVolumes.{HasNodes, IsFresh, IsTestShape, fresh_words, marks_of};
 
-use rio_base::{Block, Volume, VolumeShape};
+use rio_base::{Block, VOLUME_MAGIC, Volume, VolumeShape};
 use rio_fakes::ListVolume;
 use std::alloc::Global;
 use std::test::Fail;
-
-/// The text `RIOVOLUM` as a word.
-const VOLUME_MAGIC: u64 = 0x4d55_4c4f_564f_4952;
 
 /// The marks of the reserved blocks.
 #[tactic(auto, using(crate::proofs::FreshVolumes::marks_first, crate::proofs::FreshVolumes::marks_second))]

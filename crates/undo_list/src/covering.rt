@@ -8,8 +8,8 @@ ghost use Rattle.undo_list.specs.Chains.{Awaits, MarksRecord};
 ghost use Rattle.undo_list.specs.Marks.{mark_of};
 
 use crate::marks::{mark, unmarked_from};
-use crate::records::{HEAD, SavedAt, record_at};
-use rio_base::{RegionWords, VolFail};
+use crate::records::{SavedAt, record_at};
+use rio_base::{RegionWords, UNDO_HEAD, VolFail};
 
 /// The places from `from` up to before `to`.
 #[derive(Clone, Copy)]
@@ -202,7 +202,7 @@ pub fn covered<R: RegionWords>(r: &mut R, place: u32, count: u32) -> Result<bool
     if count == 0 {
         return Ok(true);
     }
-    let head = r.word(HEAD)?;
+    let head = r.word(UNDO_HEAD)?;
     covered_with(r, head, place, count)
 }
 

@@ -8,9 +8,9 @@ ghost use Rattle.undo_list.specs.Headers.{IsHeader};
 ghost use Rattle.undo_list.specs.Stages.{Off, Staged};
 
 use crate::failures::{UndoFail, uncounted};
-use crate::records::{FRONT_WORDS, HEAD, Header, read_header, taken};
+use crate::records::{FRONT_WORDS, Header, read_header, taken};
 use crate::runs::{SHORT_WORDS, copy_words};
-use rio_base::{RegionWords, VolFail};
+use rio_base::{RegionWords, UNDO_HEAD, VolFail};
 
 /// How many undo words are free.
 pub fn room<R: RegionWords>(r: &mut R) -> Result<u32, VolFail>
@@ -125,7 +125,7 @@ fn publish<R: RegionWords>(
 {
     let from = 512 * (1 + header.undo) + place;
     stage(r, at, header.head, place, from, count)?;
-    r.set(HEAD, u64::from(at) + 1)
+    r.set(UNDO_HEAD, u64::from(at) + 1)
 }
 
 /// Saves the present words of `count` places from `place` on in one record, which takes `3 + count` undo words. `Full`

@@ -13,8 +13,6 @@ use rio_base::{RegionWords, VolFail};
 pub(crate) const UNDO: u32 = 1;
 /// The header's word for the number of data pages.
 pub(crate) const DATA: u32 = 2;
-/// The header's word for the newest record.
-pub(crate) const HEAD: u32 = 3;
 
 /// Words of a record in front of those that it saves: the head before it, its first place, and how many it saves.
 pub(crate) const FRONT_WORDS: u32 = 3;
@@ -42,7 +40,7 @@ pub(crate) struct SavedAt {
     pub(crate) older: u64,
 }
 
-/// Reads what the header says, by one call: the words from `UNDO` to `HEAD`.
+/// Reads what the header says, by one call: the words from `UNDO` to [`rio_base::UNDO_HEAD`].
 pub fn read_header<R: RegionWords>(r: &mut R) -> Result<Header, VolFail>
     requires ready { R.ready r.old }
     requires region { IsRegion (R.count r.old) (R.words r.old) }

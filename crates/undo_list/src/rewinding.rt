@@ -5,9 +5,9 @@ ghost use Rattle.rio_base.specs.Blocks.{Ends};
 ghost use Rattle.rio_base.specs.Regions.{Stays};
 ghost use Rattle.rio_model.specs.Undo.{Dropped, IsRegion, Undoes, Undone};
 
-use crate::records::{HEAD, read_header, record_at};
+use crate::records::{read_header, record_at};
 use crate::runs::copy_words;
-use rio_base::{RegionWords, VolFail};
+use rio_base::{RegionWords, UNDO_HEAD, VolFail};
 
 /// Puts the words of the newest record back, and then drops it. The answer is the head that is left.
 fn rewind_newest<R: RegionWords>(r: &mut R, undo: u32, head: u64) -> Result<u64, VolFail>
@@ -28,7 +28,7 @@ fn rewind_newest<R: RegionWords>(r: &mut R, undo: u32, head: u64) -> Result<u64,
         512 * (1 + undo) + newest.first,
         newest.count,
     )?;
-    r.set(HEAD, newest.older)?;
+    r.set(UNDO_HEAD, newest.older)?;
     Ok(newest.older)
 }
 
@@ -63,6 +63,6 @@ pub fn drop_all<R: RegionWords>(r: &mut R) -> Result<(), VolFail>
     ensures stays { Stays R.keeps_rest R.ready R.count R.health R.below r.old r.new }
     ensures ends { Ends (R.health r.old) (R.health r.new) result }
 {
-    r.set(HEAD, 0)?;
+    r.set(UNDO_HEAD, 0)?;
     Ok(())
 }

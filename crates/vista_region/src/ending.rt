@@ -13,11 +13,8 @@ ghost use Rattle.vista_region.specs.Steps.{IsTold};
 
 use crate::failures::TxnFail;
 use crate::open_table::OpenTable;
-use rio_base::{Ino, RegionWords, VolFail};
+use rio_base::{Ino, RegionWords, UNDO_HEAD, VolFail};
 use undo_list::{drop_all, rewind};
-
-/// The header's word for the newest undo record, 0 for none.
-const HEAD: u32 = 3;
 
 /// Rewinds a region.
 fn put_back<R: RegionWords>(r: &mut R) -> Result<(), TxnFail>
@@ -90,7 +87,7 @@ pub fn recover<R: RegionWords>(r: &mut R) -> Result<bool, VolFail>
     ensures stays { Stays R.keeps_rest R.ready R.count R.health R.below r.old r.new }
     ensures ends { Ends (R.health r.old) (R.health r.new) result }
 {
-    let head = r.word(HEAD)?;
+    let head = r.word(UNDO_HEAD)?;
     rewind(r)?;
     Ok(head != 0)
 }

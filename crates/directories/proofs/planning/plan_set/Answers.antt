@@ -29,7 +29,7 @@ returns-clause-ok g c =
     let slot = c.args.slot in
     let own = c.entry_words-words.result in
     let ready = c.requires.ready in
-    let can = can_read shape x d ready.has_shape ready.mapped ready.named c.requires.entries c.requires.slot.dir in
+    let can = can_read shape x d ready.order.has_shape ready.order.mapped ready.order.named c.requires.entries c.requires.slot.dir in
     let is = c.in_ok-inode.ensures.value.size in
     if_ok_map (PlansDir shape (g.V.Blocks.seen c.dir_inode.new.v).words y j d (λ h k. k ≡ sized_to len (with_entry h slot (slice_index own)))) (PlansDir shape x.words y j d (SetsRow slot c.args.name.now c.args.i.0)) c.plan_entry.result
     (λ change plans. set_planned shape x y j d slot c.args.i.0 len own c.args.name.now change can is (slot_in shape x d slot len can is c.requires.slot) c.entry_words-words.ensures c.requires.is_name c.requires.absent

@@ -6,4 +6,4 @@ use Rattle.directories_tests.proofs.dirs.free_blocks.Goals as goal
 pub returns-clause-dirs : goal.returns-clause-dirs
 returns-clause-dirs g c =
     let h = c.requires.dirs in
-    dirs_looked c.args.shape.now _ _ _ _ _ _ _ _ h (looked_low c.args.shape.now _ _ 1 (can_look_up c.args.shape.now _ h.ready.has_shape h.ready.mapped h.ready.named) (omega arith) c.free_count.ensures.looks c.free_count.ensures.caches) (g.met.V.Volume.passes_keeps _ _ c.free_count.ensures.passes)
+    dirs_looked c.args.shape.now _ _ _ _ _ _ _ _ h (looked_low c.args.shape.now _ _ 1 (can_look_up c.args.shape.now _ h.ready.order.has_shape h.ready.order.mapped h.ready.order.named) (omega arith) c.free_count.ensures.looks c.free_count.ensures.caches) (g.met.V.Volume.passes_keeps _ _ c.free_count.ensures.passes)

@@ -8,7 +8,7 @@ make_open-requires-clause-dirs g c =
     let shape = c.args.shape.now in
     let h = c.requires.dirs in
     let call = c.begin.ensures in
-    order_passed shape _ _ _ _ (ready_dirs shape _ _ h) call.looks.words (shape_dropped shape _ _ h.ready.has_shape call.looks.count call.drops) call.drops call.firm
+    order_passed shape _ _ _ _ (ready_dirs shape _ _ h) call.looks.words (shape_dropped shape _ _ h.ready.order.has_shape call.looks.count call.drops) call.drops call.firm
 
 pub make_open-requires-clause-can : goal.make_open-requires-clause-can
 make_open-requires-clause-can g c = can_passed c.args.shape.now _ _ _ _ c.args.first.now c.requires.can_first c.begin.ensures.looks.words c.begin.ensures.drops c.begin.ensures.firm

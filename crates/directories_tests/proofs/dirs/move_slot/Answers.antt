@@ -20,10 +20,10 @@ pub plan_add-requires-clause-dir : goal.plan_add-requires-clause-dir
 plan_add-requires-clause-dir g c = (dirs_left c.args.shape.now _ _ _ _ c.requires.dirs c.plan_remove.ensures.leaves).dirs 2 (record { from = omega arith; to = omega arith })
 
 pub plan_add-requires-clause-room : goal.plan_add-requires-clause-room
-plan_add-requires-clause-room g c = subst (λ (all : ℕ → Held). (all 2).size + 64 ≤ 4292608) (sym (left_held c.args.shape.now _ _ c.requires.dirs.ready.mapped c.plan_remove.ensures.leaves.words)) c.requires.room
+plan_add-requires-clause-room g c = subst (λ (all : ℕ → Held). (all 2).size + 64 ≤ 4292608) (sym (left_held c.args.shape.now _ _ c.requires.dirs.ready.order.mapped c.plan_remove.ensures.leaves.words)) c.requires.room
 
 pub plan_add-requires-clause-absent : goal.plan_add-requires-clause-absent
-plan_add-requires-clause-absent g c = subst (λ (all : ℕ → Held). (n : ℕ) → HasRow (all 2) c.args.name.now n → ⊥) (sym (left_held c.args.shape.now _ _ c.requires.dirs.ready.mapped c.plan_remove.ensures.leaves.words)) c.requires.absent
+plan_add-requires-clause-absent g c = subst (λ (all : ℕ → Held). (n : ℕ) → HasRow (all 2) c.args.name.now n → ⊥) (sym (left_held c.args.shape.now _ _ c.requires.dirs.ready.order.mapped c.plan_remove.ensures.leaves.words)) c.requires.absent
 
 pub make_both-requires-clause-can_first : goal.make_both-requires-clause-can_first
 make_both-requires-clause-can_first g c =

@@ -13,13 +13,13 @@ pub returns-in_err-inode-clause-dirs : goal.returns-in_err-inode-clause-dirs
 returns-in_err-inode-clause-dirs g c =
     let h = c.requires.dirs in
     let call = c.read_inode.ensures in
-    dirs_looked c.args.shape.now _ _ _ _ _ _ _ _ h (looked_inode c.args.shape.now _ _ c.args.dir.0 (can_look_up c.args.shape.now _ h.ready.has_shape h.ready.mapped h.ready.named) (test_ino c.args.shape.now _ _ c.args.dir.0 h c.requires.dir) call.looks call.caches) (g.met.V.Volume.passes_keeps _ _ call.passes)
+    dirs_looked c.args.shape.now _ _ _ _ _ _ _ _ h (looked_inode c.args.shape.now _ _ c.args.dir.0 (can_look_up c.args.shape.now _ h.ready.order.has_shape h.ready.order.mapped h.ready.order.named) (test_ino c.args.shape.now _ _ c.args.dir.0 h c.requires.dir) call.looks call.caches) (g.met.V.Volume.passes_keeps _ _ call.passes)
 
 pub returns-clause-dirs : goal.returns-clause-dirs
 returns-clause-dirs g c =
     let h = c.requires.dirs in
     let call = c.read_inode.ensures in
-    dirs_looked c.args.shape.now _ _ _ _ _ _ _ _ h (looked_inode c.args.shape.now _ _ c.args.dir.0 (can_look_up c.args.shape.now _ h.ready.has_shape h.ready.mapped h.ready.named) (test_ino c.args.shape.now _ _ c.args.dir.0 h c.requires.dir) call.looks call.caches) (g.met.V.Volume.passes_keeps _ _ call.passes)
+    dirs_looked c.args.shape.now _ _ _ _ _ _ _ _ h (looked_inode c.args.shape.now _ _ c.args.dir.0 (can_look_up c.args.shape.now _ h.ready.order.has_shape h.ready.order.mapped h.ready.order.named) (test_ino c.args.shape.now _ _ c.args.dir.0 h c.requires.dir) call.looks call.caches) (g.met.V.Volume.passes_keeps _ _ call.passes)
 
 pub returns-clause-value : goal.returns-clause-value
 returns-clause-value g c = size_said c.args.shape.now (g.V.Blocks.seen c.args.v.now) (g.V.Volume.kept c.args.v.now) (g.V.Blocks.seen c.read_inode.new.v) c.args.dir.0 c.in_ok-inode.inode c.requires.dirs c.requires.dir c.read_inode.ensures.looks.words c.in_ok-inode.ensures.value

@@ -25,7 +25,7 @@ returns-clause-bytes g c =
     let f = (g.V.Blocks.seen c.args.v.now).words in
     let z = g.V.Blocks.seen c.clear_page.new.v in
     let b = c.in_ok-b.b.0 in
-    bytes_front (volume_layout c.args.shape.now f) f z.words c.args.i.0 c.args.size b c.requires.ready.mapped.laid c.requires.ino c.requires.file c.requires.size c.in_ok-b.ensures.value (omega (arith, c.if-at-eq0.false))
+    bytes_front (volume_layout c.args.shape.now f) f z.words c.args.i.0 c.args.size b c.requires.ready.order.mapped.laid c.requires.ino c.requires.file c.requires.size c.in_ok-b.ensures.value (omega (arith, c.if-at-eq0.false))
     (subst (λ w. KeepsFront w z.words b (c.args.size % 4096)) c.block_of.ensures.looks.looks.words c.clear_page.ensures.front)
 
 pub returns-clause-stores : goal.returns-clause-stores

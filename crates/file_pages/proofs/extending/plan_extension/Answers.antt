@@ -31,7 +31,7 @@ span_blocks-requires-clause-can g c =
     let j = g.V.Volume.kept c.plan_growth.new.v in
     let leaves : LeavesInUse (volume_layout shape x.words) x k y j = leaves_trans shape x k (g.V.Blocks.seen c.take_lowest.new.v) (g.V.Volume.kept c.take_lowest.new.v) y j c.requires.ready looked c.plan_growth.ensures.leaves in
     let ready : Ready shape y j = ready_left shape x k y j c.requires.ready leaves in
-    can_look_up shape y ready.has_shape ready.mapped ready.named
+    can_look_up shape y ready.order.has_shape ready.order.mapped ready.order.named
 
 pub returns-in_err-blocks-clause-leaves : goal.returns-in_err-blocks-clause-leaves
 returns-in_err-blocks-clause-leaves g c =
@@ -71,7 +71,7 @@ returns-clause-ok g c =
     let leaves : LeavesInUse (volume_layout shape x.words) x k y j = leaves_trans shape x k (g.V.Blocks.seen c.take_lowest.new.v) (g.V.Volume.kept c.take_lowest.new.v) y j c.requires.ready looked c.plan_growth.ensures.leaves in
     let change = c.in_ok-change.change in
     let grows : Grows shape x.words y j i given len (numbers c.in_ok-taken.taken) change = subst (λ f. Grows shape f y j i given len (numbers c.in_ok-taken.taken) change) first.looks.looks.words c.in_ok-change.ensures.ok in
-    extends_looked shape _ _ _ _ x k y j (g.V.Blocks.seen c.span_blocks.new.v) (g.V.Volume.kept c.span_blocks.new.v) i given len c.args.first (numbers c.in_ok-taken.taken) change (numbers c.in_ok-blocks.blocks.items) c.requires.ino c.requires.ready c.requires.inode c.requires.file leaves c.span_blocks.ensures.looks (g.met.V.Volume.passes_keeps _ _ c.span_blocks.ensures.passes) grows
+    extends_looked shape _ _ _ _ x k y j (g.V.Blocks.seen c.span_blocks.new.v) (g.V.Volume.kept c.span_blocks.new.v) i given len c.args.first (numbers c.in_ok-taken.taken) change (numbers c.in_ok-blocks.blocks.items) c.requires.ino c.requires.ready c.requires.inode c.requires.file leaves c.span_blocks.ensures.looks (g.met.V.Volume.passes_keeps _ _ c.span_blocks.ensures.passes) grows (c.wanted_count-wanted.result, c.in_ok-taken.ensures.value)
     (c.in_ok-blocks.ensures.value len
     ∙ ap (λ bs. page_blocks (grown (given_node y.words i given) len (numbers bs)) c.args.first (c.page_count.result - c.args.first)) c.as_slice-new.ensures
     ∙ ap (λ e. page_blocks (grown (given_node y.words i given) len (numbers change.taken)) c.args.first (e - c.args.first)) c.page_count.ensures.pages)

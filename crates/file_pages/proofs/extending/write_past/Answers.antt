@@ -242,7 +242,7 @@ commit_written-requires-clause-shape g c =
     let h = g.V.Volume.kept c.store_parts.new.v in
     let parts = c.store_parts.ensures in
     let prepared : Prepared shape x.words w h i m change = still_prepared shape x.words z l w h i given.size off bytes first m change blocks o parts.beside parts.named parts.firm parts.idle (g.met.V.Volume.settled _ parts.sound) in
-    prepared.ready.has_shape
+    prepared.ready.order.has_shape
 
 pub commit_written-requires-clause-can : goal.commit_written-requires-clause-can
 commit_written-requires-clause-can g c =

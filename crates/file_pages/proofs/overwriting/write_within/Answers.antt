@@ -31,7 +31,7 @@ store_span-requires-clause-places g c t few =
     let blocks = numbers c.deref.result.now in
     let file : (placed_at x.words i).kind ≡ 2 = sym c.requires.inode.kind ∙ c.requires.file in
     let over = pages_over l i c.args.off (length c.args.bytes.now) c.args.inode.now.size c.div_ceil-end.result blocks c.requires.ino file c.requires.inode.size c.requires.some c.requires.within c.div_ceil-end.ensures (ap numbers c.deref.ensures.value ∙ c.in_ok-blocks.ensures.value) in
-    pages_places l i (c.args.off / 4096) blocks y.count c.requires.ready.mapped.laid over.0 (c.page_blocks.ensures.looks.looks.count ∙ c.requires.ready.has_shape.count) t (let many = as_many c.deref.result.now in omega (arith, few, many))
+    pages_places l i (c.args.off / 4096) blocks y.count c.requires.ready.order.mapped.laid over.0 (c.page_blocks.ensures.looks.looks.count ∙ c.requires.ready.order.has_shape.count) t (let many = as_many c.deref.result.now in omega (arith, few, many))
 
 pub store_span-requires-clause-apart : goal.store_span-requires-clause-apart
 store_span-requires-clause-apart g c =
@@ -42,7 +42,7 @@ store_span-requires-clause-apart g c =
     let blocks = numbers c.deref.result.now in
     let file : (placed_at x.words i).kind ≡ 2 = sym c.requires.inode.kind ∙ c.requires.file in
     let over = pages_over l i c.args.off (length c.args.bytes.now) c.args.inode.now.size c.div_ceil-end.result blocks c.requires.ino file c.requires.inode.size c.requires.some c.requires.within c.div_ceil-end.ensures (ap numbers c.deref.ensures.value ∙ c.in_ok-blocks.ensures.value) in
-    pages_apart l i (c.args.off / 4096) blocks c.requires.ready.mapped.laid over.0
+    pages_apart l i (c.args.off / 4096) blocks c.requires.ready.order.mapped.laid over.0
 
 pub store_span-requires-clause-few : goal.store_span-requires-clause-few
 store_span-requires-clause-few g c =
@@ -53,7 +53,7 @@ store_span-requires-clause-few g c =
     let blocks = numbers c.deref.result.now in
     let file : (placed_at x.words i).kind ≡ 2 = sym c.requires.inode.kind ∙ c.requires.file in
     let over = pages_over l i c.args.off (length c.args.bytes.now) c.args.inode.now.size c.div_ceil-end.result blocks c.requires.ino file c.requires.inode.size c.requires.some c.requires.within c.div_ceil-end.ensures (ap numbers c.deref.ensures.value ∙ c.in_ok-blocks.ensures.value) in
-    let most : c.args.inode.now.size ≤ largest_size = given_most shape x.words i c.args.inode.now (numbered_of shape x.words c.requires.ready.mapped) c.requires.ino (inl (c.requires.inode, omega (arith, c.requires.file))) in
+    let most : c.args.inode.now.size ≤ largest_size = given_most shape x.words i c.args.inode.now (numbered_of shape x.words c.requires.ready.order.mapped) c.requires.ino (inl (c.requires.inode, omega (arith, c.requires.file))) in
     let many = as_many c.deref.result.now in
     let reach = over.2 in
     omega (arith, most, many, reach)

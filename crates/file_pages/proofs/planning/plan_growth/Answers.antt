@@ -32,7 +32,7 @@ pub returns-clause-goes : goal.returns-clause-goes
 returns-clause-goes g c = (g.met.V.Volume.passes_keeps _ _ c.last_number.ensures.passes).goes then c.stage_blocks.ensures.goes
 
 pub last_number-requires-clause-can : goal.last_number-requires-clause-can
-last_number-requires-clause-can g c = can_look_up c.args.shape.now _ c.requires.ready.has_shape c.requires.ready.mapped c.requires.ready.named
+last_number-requires-clause-can g c = can_look_up c.args.shape.now _ c.requires.ready.order.has_shape c.requires.ready.order.mapped c.requires.ready.order.named
 
 pub returns-in_err-last-clause-leaves : goal.returns-in_err-last-clause-leaves
 returns-in_err-last-clause-leaves g c = leaves_looked c.args.shape.now _ _ _ _ _ _ _ _ c.requires.ready c.last_number.ensures.looks (g.met.V.Volume.passes_keeps _ _ c.last_number.ensures.passes)
@@ -95,7 +95,7 @@ returns-clause-ok g c =
     let table = c.grown_table-table.result in
     let more = most_tables len in
     let parts : Made shape f i given len c.in_ok-last.last table made = record {
-      laid = c.requires.ready.mapped.laid;
+      laid = c.requires.ready.order.mapped.laid;
       ino = c.requires.ino;
       plans = c.requires.inode;
       fits = c.requires.fits;

@@ -169,7 +169,7 @@ plan_growth-requires-clause-count g c =
     let value = c.in_ok-taken.ensures.value in
     let room = c.in_ok-taken.ensures.room in
     let wanted = c.wanted_count-wanted.ensures.wanted in
-    let left = left_are_free shape x.words skip _ (numbers bs) c.requires.ready.mapped value room in
+    let left = left_are_free shape x.words skip _ (numbers bs) c.requires.ready.order.mapped value room in
     let count : length (numbers bs) ≡ wanted_blocks given.size len = left_count shape x.words skip _ (numbers bs) value room ∙ wanted in
     sym (as_many bs) ∙ count
 
@@ -187,7 +187,7 @@ plan_growth-requires-clause-free g c =
     let value = c.in_ok-taken.ensures.value in
     let room = c.in_ok-taken.ensures.room in
     let wanted = c.wanted_count-wanted.ensures.wanted in
-    let left = left_are_free shape x.words skip _ (numbers bs) c.requires.ready.mapped value room in
+    let left = left_are_free shape x.words skip _ (numbers bs) c.requires.ready.order.mapped value room in
     let count : length (numbers bs) ≡ wanted_blocks given.size len = left_count shape x.words skip _ (numbers bs) value room ∙ wanted in
     λ q few. subst (λ f. IsFree (volume_layout shape f) (slice_index (numbers bs) q)) (sym c.take_beside.ensures.looks.looks.words) (left q (subst (λ (n : ℕ). q < n) (sym (as_many bs) ∙ left_count shape x.words skip _ (numbers bs) value room) few)).0
 
@@ -205,7 +205,7 @@ plan_growth-requires-clause-apart g c =
     let value = c.in_ok-taken.ensures.value in
     let room = c.in_ok-taken.ensures.room in
     let wanted = c.wanted_count-wanted.ensures.wanted in
-    let left = left_are_free shape x.words skip _ (numbers bs) c.requires.ready.mapped value room in
+    let left = left_are_free shape x.words skip _ (numbers bs) c.requires.ready.order.mapped value room in
     let count : length (numbers bs) ≡ wanted_blocks given.size len = left_count shape x.words skip _ (numbers bs) value room ∙ wanted in
     left_apart shape x.words skip _ (numbers bs) value room
 
@@ -226,7 +226,7 @@ returns-clause-ok g c =
     let value = c.in_ok-taken.ensures.value in
     let room = c.in_ok-taken.ensures.room in
     let wanted = c.wanted_count-wanted.ensures.wanted in
-    let left = left_are_free shape x.words skip _ (numbers bs) c.requires.ready.mapped value room in
+    let left = left_are_free shape x.words skip _ (numbers bs) c.requires.ready.order.mapped value room in
     let count : length (numbers bs) ≡ wanted_blocks given.size len = left_count shape x.words skip _ (numbers bs) value room ∙ wanted in
     let z = g.V.Blocks.seen c.plan_growth.new.v in
     let l = g.V.Volume.kept c.plan_growth.new.v in
@@ -248,7 +248,7 @@ returns-clause-space g c =
     let value = c.in_ok-taken.ensures.value in
     let room = c.in_ok-taken.ensures.room in
     let wanted = c.wanted_count-wanted.ensures.wanted in
-    let left = left_are_free shape x.words skip _ (numbers bs) c.requires.ready.mapped value room in
+    let left = left_are_free shape x.words skip _ (numbers bs) c.requires.ready.order.mapped value room in
     let count : length (numbers bs) ≡ wanted_blocks given.size len = left_count shape x.words skip _ (numbers bs) value room ∙ wanted in
     on_any ((len ≤ largest_size) × (wanted_blocks given.size len ≤ length (free_beside shape x.words skip))) c.plan_growth.result (omega (arith, c.if-len-gt-LARGEST_SIZE.false), subst (λ (n : ℕ). n ≤ length (free_beside shape x.words skip)) wanted room)
 
@@ -295,7 +295,7 @@ returns-clause-spared g c =
     let value = c.in_ok-taken.ensures.value in
     let room = c.in_ok-taken.ensures.room in
     let wanted = c.wanted_count-wanted.ensures.wanted in
-    let left = left_are_free shape x.words skip _ (numbers bs) c.requires.ready.mapped value room in
+    let left = left_are_free shape x.words skip _ (numbers bs) c.requires.ready.order.mapped value room in
     let count : length (numbers bs) ≡ wanted_blocks given.size len = left_count shape x.words skip _ (numbers bs) value room ∙ wanted in
     let z = g.V.Blocks.seen c.plan_growth.new.v in
     let l = g.V.Volume.kept c.plan_growth.new.v in

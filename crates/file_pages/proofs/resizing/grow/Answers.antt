@@ -1,4 +1,4 @@
-use Rattle.file_pages.proofs.Common.{◌<◌, ℕ, length, subst, arith, inl, inr, err_from_is_err_and, ◌then◌, numbers, volume_layout, LeavesInUse, free_blocks}
+use Rattle.file_pages.proofs.Common.{◌<◌, ◌∙◌, ℕ, length, subst, arith, inl, inr, err_from_is_err_and, ◌then◌, numbers, volume_layout, LeavesInUse, free_blocks}
 use Rattle.rio_model.proofs.PlacedRules.{layout_refl}
 use Rattle.file_pages.specs.Changes.{Grows, planned_node}
 use Rattle.file_pages.specs.Files.{SetsBoth, file_bytes}
@@ -146,7 +146,7 @@ returns-in_err-commit_change-clause-leaves g c =
     let change = c.in_ok-change.change in
     let m = planned_node x.words i given len change in
     let grows : Grows shape x.words y j i given len (numbers c.in_ok-taken.taken) change = subst (λ f. Grows shape f y j i given len (numbers c.in_ok-taken.taken) change) first.looks.looks.words c.in_ok-change.ensures.ok in
-    let prepared : Prepared shape x.words z l i m change = grow_prepared shape x k y j z l i given len (numbers c.in_ok-taken.taken) change c.requires.ino c.requires.ready settled c.requires.inode c.requires.file c.requires.grows leaves grows c.in_ok-clear_tail.ensures.cleared c.clear_tail.ensures.stores in
+    let prepared : Prepared shape x.words z l i m change = grow_prepared shape x k y j z l i given len (numbers c.in_ok-taken.taken) change c.requires.ino c.requires.ready settled c.requires.inode c.requires.file c.requires.grows leaves grows (c.wanted_count-wanted.result, grows.taken ∙ c.in_ok-taken.ensures.value) c.in_ok-clear_tail.ensures.cleared c.clear_tail.ensures.stores in
     let old = grow_old shape x k y j z.words i c.requires.ino c.requires.ready leaves c.clear_tail.ensures.bytes in
     let new = grow_new shape x k y j z l i given len (numbers c.in_ok-taken.taken) change c.requires.ino c.requires.ready c.requires.inode c.requires.file c.requires.grows leaves grows c.in_ok-clear_tail.ensures.cleared c.clear_tail.ensures.stores c.clear_tail.ensures.bytes in
     made_err shape x k z m _ _ i len c.commit_change.result _ c.from_residual-in_err-commit_change.result p.0 c.in_err-commit_change.was p.1 p.2 old new (c.commit_change.ensures.leaves x.words m prepared)
@@ -182,7 +182,7 @@ commit_change-requires-clause-can g c =
     let change = c.in_ok-change.change in
     let m = planned_node x.words i given len change in
     let grows : Grows shape x.words y j i given len (numbers c.in_ok-taken.taken) change = subst (λ f. Grows shape f y j i given len (numbers c.in_ok-taken.taken) change) first.looks.looks.words c.in_ok-change.ensures.ok in
-    let prepared : Prepared shape x.words z l i m change = grow_prepared shape x k y j z l i given len (numbers c.in_ok-taken.taken) change c.requires.ino c.requires.ready settled c.requires.inode c.requires.file c.requires.grows leaves grows c.in_ok-clear_tail.ensures.cleared c.clear_tail.ensures.stores in
+    let prepared : Prepared shape x.words z l i m change = grow_prepared shape x k y j z l i given len (numbers c.in_ok-taken.taken) change c.requires.ino c.requires.ready settled c.requires.inode c.requires.file c.requires.grows leaves grows (c.wanted_count-wanted.result, grows.taken ∙ c.in_ok-taken.ensures.value) c.in_ok-clear_tail.ensures.cleared c.clear_tail.ensures.stores in
     prepared_can shape x.words z l i m change prepared
 
 pub returns-clause-leaves : goal.returns-clause-leaves
@@ -205,7 +205,7 @@ returns-clause-leaves g c =
     let change = c.in_ok-change.change in
     let m = planned_node x.words i given len change in
     let grows : Grows shape x.words y j i given len (numbers c.in_ok-taken.taken) change = subst (λ f. Grows shape f y j i given len (numbers c.in_ok-taken.taken) change) first.looks.looks.words c.in_ok-change.ensures.ok in
-    let prepared : Prepared shape x.words z l i m change = grow_prepared shape x k y j z l i given len (numbers c.in_ok-taken.taken) change c.requires.ino c.requires.ready settled c.requires.inode c.requires.file c.requires.grows leaves grows c.in_ok-clear_tail.ensures.cleared c.clear_tail.ensures.stores in
+    let prepared : Prepared shape x.words z l i m change = grow_prepared shape x k y j z l i given len (numbers c.in_ok-taken.taken) change c.requires.ino c.requires.ready settled c.requires.inode c.requires.file c.requires.grows leaves grows (c.wanted_count-wanted.result, grows.taken ∙ c.in_ok-taken.ensures.value) c.in_ok-clear_tail.ensures.cleared c.clear_tail.ensures.stores in
     let old = grow_old shape x k y j z.words i c.requires.ino c.requires.ready leaves c.clear_tail.ensures.bytes in
     let new = grow_new shape x k y j z l i given len (numbers c.in_ok-taken.taken) change c.requires.ino c.requires.ready c.requires.inode c.requires.file c.requires.grows leaves grows c.in_ok-clear_tail.ensures.cleared c.clear_tail.ensures.stores c.clear_tail.ensures.bytes in
     let done = made_ok shape x.words z m (g.V.Blocks.seen c.commit_change.new.v) (g.V.Volume.kept c.commit_change.new.v) i c.commit_change.result _ c.in_ok-commit_change.was (c.commit_change.ensures.leaves x.words m prepared) in
@@ -230,7 +230,7 @@ returns-clause-forgets g c =
     let change = c.in_ok-change.change in
     let m = planned_node x.words i given len change in
     let grows : Grows shape x.words y j i given len (numbers c.in_ok-taken.taken) change = subst (λ f. Grows shape f y j i given len (numbers c.in_ok-taken.taken) change) first.looks.looks.words c.in_ok-change.ensures.ok in
-    let prepared : Prepared shape x.words z l i m change = grow_prepared shape x k y j z l i given len (numbers c.in_ok-taken.taken) change c.requires.ino c.requires.ready settled c.requires.inode c.requires.file c.requires.grows leaves grows c.in_ok-clear_tail.ensures.cleared c.clear_tail.ensures.stores in
+    let prepared : Prepared shape x.words z l i m change = grow_prepared shape x k y j z l i given len (numbers c.in_ok-taken.taken) change c.requires.ino c.requires.ready settled c.requires.inode c.requires.file c.requires.grows leaves grows (c.wanted_count-wanted.result, grows.taken ∙ c.in_ok-taken.ensures.value) c.in_ok-clear_tail.ensures.cleared c.clear_tail.ensures.stores in
     let w = g.V.Blocks.seen c.commit_change.new.v in
     prepared_forgets shape x.words z l i m change w.words w prepared (c.in_ok-commit_change.ensures.change x.words m prepared) (layout_refl _) (λ b on. absurd (grown_frees shape x.words i given len change (inl (c.requires.inode, omega (arith, c.requires.file))) c.requires.grows grows.turns b on))
 

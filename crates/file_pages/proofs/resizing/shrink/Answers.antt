@@ -14,13 +14,13 @@ use Rattle.file_pages.proofs.resizing.shrink.Goals as goal
 -- ---- the plan, which only looks up
 
 pub plan_shrink-requires-clause-can : goal.plan_shrink-requires-clause-can
-plan_shrink-requires-clause-can g c = can_look_up c.args.shape.now _ c.requires.ready.has_shape c.requires.ready.mapped c.requires.ready.named
+plan_shrink-requires-clause-can g c = can_look_up c.args.shape.now _ c.requires.ready.order.has_shape c.requires.ready.order.mapped c.requires.ready.order.named
 
 pub plan_shrink-requires-clause-inode : goal.plan_shrink-requires-clause-inode
 plan_shrink-requires-clause-inode g c = inl (c.requires.inode, omega (arith, c.requires.file))
 
 pub plan_shrink-requires-clause-fits : goal.plan_shrink-requires-clause-fits
-plan_shrink-requires-clause-fits g c = file_fits c.args.shape.now _ c.args.i.0 c.args.inode.now c.args.len c.requires.ready.mapped c.requires.ino c.requires.inode c.requires.file c.requires.less
+plan_shrink-requires-clause-fits g c = file_fits c.args.shape.now _ c.args.i.0 c.args.inode.now c.args.len c.requires.ready.order.mapped c.requires.ino c.requires.inode c.requires.file c.requires.less
 
 pub returns-in_err-change-clause-leaves : goal.returns-in_err-change-clause-leaves
 returns-in_err-change-clause-leaves g c =
@@ -105,7 +105,7 @@ forget_all-requires-clause-places g c =
     let m = planned_node x.words i given len change in
     let prepared : Prepared shape x.words y j i m change = shrink_prepared shape x k y j i given len change c.requires.ino c.requires.ready (g.met.V.Volume.settled _ call.sound) leaves (inl (c.requires.inode, omega (arith, c.requires.file))) (sym c.requires.inode.kind ∙ c.requires.file) c.requires.file c.requires.inode.size c.requires.less c.in_ok-change.ensures.ok in
     let done = made_ok shape x.words y m z l i c.commit_change.result _ c.in_ok-commit_change.was (c.commit_change.ensures.leaves x.words m prepared) in
-    λ t few. freed_place shape change _ c.as_slice.result.now t z.count c.as_slice.ensures (prepared_can shape x.words y j i m change prepared) done.1.has_shape.count few
+    λ t few. freed_place shape change _ c.as_slice.result.now t z.count c.as_slice.ensures (prepared_can shape x.words y j i m change prepared) done.1.order.has_shape.count few
 
 pub forget_all-requires-clause-idle : goal.forget_all-requires-clause-idle
 forget_all-requires-clause-idle g c =
@@ -147,7 +147,7 @@ returns-in_err-forget_all-clause-leaves g c =
     let prepared : Prepared shape x.words y j i m change = shrink_prepared shape x k y j i given len change c.requires.ino c.requires.ready (g.met.V.Volume.settled _ call.sound) leaves (inl (c.requires.inode, omega (arith, c.requires.file))) (sym c.requires.inode.kind ∙ c.requires.file) c.requires.file c.requires.inode.size c.requires.less c.in_ok-change.ensures.ok in
     let done = made_ok shape x.words y m z l i c.commit_change.result _ c.in_ok-commit_change.was (c.commit_change.ensures.leaves x.words m prepared) in
     let freed = numbers c.as_slice.result.now in
-    let free = λ (b : ℕ) (on : Contains freed b). freed_free shape x.words y.words z.words i m change b call.looks.looks.words (ready_left shape x k y j c.requires.ready leaves).mapped (c.in_ok-commit_change.ensures.change x.words m prepared) c.in_ok-change.ensures.ok.turns (subst (λ bs. Contains (numbers bs) b) c.as_slice.ensures on) in
+    let free = λ (b : ℕ) (on : Contains freed b). freed_free shape x.words y.words z.words i m change b call.looks.looks.words (ready_left shape x k y j c.requires.ready leaves).order.mapped (c.in_ok-commit_change.ensures.change x.words m prepared) c.in_ok-change.ensures.ok.turns (subst (λ bs. Contains (numbers bs) b) c.as_slice.ensures on) in
     let dropped = leaves_beside shape (Contains freed) z l (g.V.Blocks.seen c.forget_all.new.v) (g.V.Volume.kept c.forget_all.new.v) done.1 free c.forget_all.ensures.beside c.forget_all.ensures.idle in
     let bytes = new_bytes shape x.words y.words i given len change c.requires.ino call.looks.looks.words c.requires.inode c.requires.file c.requires.less in
     let settled = g.met.V.Volume.settled _ c.commit_change.ensures.sound in
@@ -172,7 +172,7 @@ returns-clause-leaves g c =
     let prepared : Prepared shape x.words y j i m change = shrink_prepared shape x k y j i given len change c.requires.ino c.requires.ready (g.met.V.Volume.settled _ call.sound) leaves (inl (c.requires.inode, omega (arith, c.requires.file))) (sym c.requires.inode.kind ∙ c.requires.file) c.requires.file c.requires.inode.size c.requires.less c.in_ok-change.ensures.ok in
     let done = made_ok shape x.words y m z l i c.commit_change.result _ c.in_ok-commit_change.was (c.commit_change.ensures.leaves x.words m prepared) in
     let freed = numbers c.as_slice.result.now in
-    let free = λ (b : ℕ) (on : Contains freed b). freed_free shape x.words y.words z.words i m change b call.looks.looks.words (ready_left shape x k y j c.requires.ready leaves).mapped (c.in_ok-commit_change.ensures.change x.words m prepared) c.in_ok-change.ensures.ok.turns (subst (λ bs. Contains (numbers bs) b) c.as_slice.ensures on) in
+    let free = λ (b : ℕ) (on : Contains freed b). freed_free shape x.words y.words z.words i m change b call.looks.looks.words (ready_left shape x k y j c.requires.ready leaves).order.mapped (c.in_ok-commit_change.ensures.change x.words m prepared) c.in_ok-change.ensures.ok.turns (subst (λ bs. Contains (numbers bs) b) c.as_slice.ensures on) in
     let dropped = leaves_beside shape (Contains freed) z l (g.V.Blocks.seen c.forget_all.new.v) (g.V.Volume.kept c.forget_all.new.v) done.1 free c.forget_all.ensures.beside c.forget_all.ensures.idle in
     let bytes = new_bytes shape x.words y.words i given len change c.requires.ino call.looks.looks.words c.requires.inode c.requires.file c.requires.less in
     let settled = g.met.V.Volume.settled _ c.commit_change.ensures.sound in
@@ -197,7 +197,7 @@ returns-clause-forgets g c =
     let prepared : Prepared shape x.words y j i m change = shrink_prepared shape x k y j i given len change c.requires.ino c.requires.ready (g.met.V.Volume.settled _ call.sound) leaves (inl (c.requires.inode, omega (arith, c.requires.file))) (sym c.requires.inode.kind ∙ c.requires.file) c.requires.file c.requires.inode.size c.requires.less c.in_ok-change.ensures.ok in
     let done = made_ok shape x.words y m z l i c.commit_change.result _ c.in_ok-commit_change.was (c.commit_change.ensures.leaves x.words m prepared) in
     let freed = numbers c.as_slice.result.now in
-    let free = λ (b : ℕ) (on : Contains freed b). freed_free shape x.words y.words z.words i m change b call.looks.looks.words (ready_left shape x k y j c.requires.ready leaves).mapped (c.in_ok-commit_change.ensures.change x.words m prepared) c.in_ok-change.ensures.ok.turns (subst (λ bs. Contains (numbers bs) b) c.as_slice.ensures on) in
+    let free = λ (b : ℕ) (on : Contains freed b). freed_free shape x.words y.words z.words i m change b call.looks.looks.words (ready_left shape x k y j c.requires.ready leaves).order.mapped (c.in_ok-commit_change.ensures.change x.words m prepared) c.in_ok-change.ensures.ok.turns (subst (λ bs. Contains (numbers bs) b) c.as_slice.ensures on) in
     let dropped = leaves_beside shape (Contains freed) z l (g.V.Blocks.seen c.forget_all.new.v) (g.V.Volume.kept c.forget_all.new.v) done.1 free c.forget_all.ensures.beside c.forget_all.ensures.idle in
     let w = g.V.Blocks.seen c.forget_all.new.v in
     prepared_forgets shape x.words y j i m change z.words w prepared (c.in_ok-commit_change.ensures.change x.words m prepared) (layout_left shape z l w _ done.1 dropped) (subst (λ bs. Uncached (Contains (numbers bs)) w) c.as_slice.ensures c.in_ok-forget_all.ensures.forgotten)

@@ -8,19 +8,19 @@ use Rattle.file_pages.proofs.taking.take_beside.Goals as goal
 
 pub overflow_cast-away : goal.overflow_cast-away
 overflow_cast-away g c =
-    let few = (skip_few c.args.shape.now (g.V.Blocks.seen c.args.v.now).words (numbers c.args.skip.now) c.requires.ready.mapped c.requires.once (λ k few. c.requires.skip k (subst (λ (m : ℕ). k < m) (as_many c.args.skip.now) few))) in
-    omega (arith, few, as_many c.args.skip.now, ap length c.as_slice-away.ensures, c.requires.ready.has_shape.sizes.blocks_to)
+    let few = (skip_few c.args.shape.now (g.V.Blocks.seen c.args.v.now).words (numbers c.args.skip.now) c.requires.ready.order.mapped c.requires.once (λ k few. c.requires.skip k (subst (λ (m : ℕ). k < m) (as_many c.args.skip.now) few))) in
+    omega (arith, few, as_many c.args.skip.now, ap length c.as_slice-away.ensures, c.requires.ready.order.has_shape.sizes.blocks_to)
 
 pub overflow_add-n : goal.overflow_add-n
 overflow_add-n g c =
-    let few = (skip_few c.args.shape.now (g.V.Blocks.seen c.args.v.now).words (numbers c.args.skip.now) c.requires.ready.mapped c.requires.once (λ k few. c.requires.skip k (subst (λ (m : ℕ). k < m) (as_many c.args.skip.now) few))) in
-    omega (arith, few, as_many c.args.skip.now, ap length c.as_slice-away.ensures, c.requires.ready.has_shape.sizes.blocks_to, c.requires.few)
+    let few = (skip_few c.args.shape.now (g.V.Blocks.seen c.args.v.now).words (numbers c.args.skip.now) c.requires.ready.order.mapped c.requires.once (λ k few. c.requires.skip k (subst (λ (m : ℕ). k < m) (as_many c.args.skip.now) few))) in
+    omega (arith, few, as_many c.args.skip.now, ap length c.as_slice-away.ensures, c.requires.ready.order.has_shape.sizes.blocks_to, c.requires.few)
 
 pub returns-in_err-all-clause-no_space : goal.returns-in_err-all-clause-no_space
 returns-in_err-all-clause-no_space g c =
     let p = err_from_is_err_and c.from_residual.result c.from_residual.ensures.1 in
     λ is. let short = c.take_lowest.ensures.no_space (err_handed NoSpace c.take_lowest.result c.from_residual.result _ p.0 c.in_err-all.was p.1 p.2 is) in
-    let count = count_beside c.args.shape.now (g.V.Blocks.seen c.args.v.now).words (numbers c.args.skip.now) c.requires.ready.mapped c.requires.once (λ k few. c.requires.skip k (subst (λ (m : ℕ). k < m) (as_many c.args.skip.now) few)) in
+    let count = count_beside c.args.shape.now (g.V.Blocks.seen c.args.v.now).words (numbers c.args.skip.now) c.requires.ready.order.mapped c.requires.once (λ k few. c.requires.skip k (subst (λ (m : ℕ). k < m) (as_many c.args.skip.now) few)) in
     omega (arith, short, count, as_many c.args.skip.now, ap length c.as_slice-away.ensures)
 
 pub returns-clause-value : goal.returns-clause-value
@@ -28,12 +28,12 @@ returns-clause-value g c =
     let skip = numbers c.args.skip.now in
     let f = (g.V.Blocks.seen c.args.v.now).words in
     let many = as_many c.args.skip.now ∙ sym (ap length c.as_slice-away.ensures) in
-    lowest_left c.args.shape.now f skip c.args.n (numbers c.in_ok-all.all) (numbers c.in_ok-leave_out.field-0) c.requires.ready.mapped c.requires.once (λ k few. c.requires.skip k (subst (λ (m : ℕ). k < m) (as_many c.args.skip.now) few))
+    lowest_left c.args.shape.now f skip c.args.n (numbers c.in_ok-all.all) (numbers c.in_ok-leave_out.field-0) c.requires.ready.order.mapped c.requires.once (λ k few. c.requires.skip k (subst (λ (m : ℕ). k < m) (as_many c.args.skip.now) few))
     (c.in_ok-all.ensures.value ∙ ap (λ q. take (c.args.n + q) (free_blocks c.args.shape.now f)) (sym many))
     (subst (λ (q : ℕ). c.args.n + q ≤ length (free_blocks c.args.shape.now f)) (sym many) c.in_ok-all.ensures.room)
     (c.in_ok-leave_out.ensures ∙ (λ p. take c.args.n (filter (λ b. not (is_among (numbers (c.as_slice-away.ensures p)) b)) (numbers (c.as_slice.ensures p)))))
 
 pub returns-clause-room : goal.returns-clause-room
 returns-clause-room g c =
-    let count = count_beside c.args.shape.now (g.V.Blocks.seen c.args.v.now).words (numbers c.args.skip.now) c.requires.ready.mapped c.requires.once (λ k few. c.requires.skip k (subst (λ (m : ℕ). k < m) (as_many c.args.skip.now) few)) in
+    let count = count_beside c.args.shape.now (g.V.Blocks.seen c.args.v.now).words (numbers c.args.skip.now) c.requires.ready.order.mapped c.requires.once (λ k few. c.requires.skip k (subst (λ (m : ℕ). k < m) (as_many c.args.skip.now) few)) in
     omega (arith, c.in_ok-all.ensures.room, count, as_many c.args.skip.now, ap length c.as_slice-away.ensures)

@@ -5,10 +5,10 @@ use Rattle.file_pages.proofs.FreeLists.{ends_short, ends_small, ends_take, ends_
 use Rattle.file_pages.proofs.taking.take_lowest.Goals as goal
 
 pub returns-in_err-blocks-clause-looks : goal.returns-in_err-blocks-clause-looks
-returns-in_err-blocks-clause-looks g c = looked_low c.args.shape.now _ _ 1 (can_look_up c.args.shape.now _ c.requires.ready.has_shape c.requires.ready.mapped c.requires.ready.named) (omega arith) c.take.ensures.looks c.take.ensures.caches
+returns-in_err-blocks-clause-looks g c = looked_low c.args.shape.now _ _ 1 (can_look_up c.args.shape.now _ c.requires.ready.order.has_shape c.requires.ready.order.mapped c.requires.ready.order.named) (omega arith) c.take.ensures.looks c.take.ensures.caches
 
 pub returns-clause-looks : goal.returns-clause-looks
-returns-clause-looks g c = looked_low c.args.shape.now _ _ 1 (can_look_up c.args.shape.now _ c.requires.ready.has_shape c.requires.ready.mapped c.requires.ready.named) (omega arith) c.take.ensures.looks c.take.ensures.caches
+returns-clause-looks g c = looked_low c.args.shape.now _ _ 1 (can_look_up c.args.shape.now _ c.requires.ready.order.has_shape c.requires.ready.order.mapped c.requires.ready.order.named) (omega arith) c.take.ensures.looks c.take.ensures.caches
 
 pub returns-in_err-blocks-clause-ends : goal.returns-in_err-blocks-clause-ends
 returns-in_err-blocks-clause-ends g c =
@@ -32,7 +32,7 @@ pub returns-clause-count : goal.returns-clause-count
 returns-clause-count g c = first_count _ (free_blocks c.args.shape.now (g.V.Blocks.seen c.args.v.now).words) c.in_ok-blocks.blocks c.in_ok-blocks.ensures.value c.in_ok-blocks.ensures.room
 
 pub returns-clause-free : goal.returns-clause-free
-returns-clause-free g c = first_free c.args.shape.now _ _ c.in_ok-blocks.blocks c.requires.ready.mapped c.in_ok-blocks.ensures.value c.in_ok-blocks.ensures.room
+returns-clause-free g c = first_free c.args.shape.now _ _ c.in_ok-blocks.blocks c.requires.ready.order.mapped c.in_ok-blocks.ensures.value c.in_ok-blocks.ensures.room
 
 pub returns-clause-apart : goal.returns-clause-apart
 returns-clause-apart g c = subst Apart (sym c.in_ok-blocks.ensures.value) (first_apart _ (free_blocks c.args.shape.now (g.V.Blocks.seen c.args.v.now).words) c.in_ok-blocks.ensures.room (lists_apart c.args.shape.now (g.V.Blocks.seen c.args.v.now).words))

@@ -13,12 +13,12 @@ returns-clause-ok g c =
     let shape = c.args.shape.now in
     let taken = c.args.taken.now in
     let freed = c.args.freed.now in
-    applied shape c.args.i.0 c.args.inode.now c.args.edits.now taken freed (seen c.args.v.now).words (seen c.make_edits.new.v).words (seen c.edit_inode.new.v).words (seen c.mark_all.new.v).words (seen c.unmark_all.new.v).words c.requires.shape.sizes c.requires.ino
+    applied shape c.args.i.0 c.args.inode.now c.args.edits.now taken freed (seen c.args.v.now).words (seen c.make_edits.new.v).words (seen c.edit_inode.new.v).words (seen c.mark_all.new.v).words (seen c.mark_all-2.new.v).words c.requires.shape.sizes c.requires.ino
     c.requires.can.from c.requires.can.apart
     c.in_ok-make_edits.ensures.ok
     c.in_ok-edit_inode.ensures.ok
     (subst (λ n. SetsBits shape (seen c.edit_inode.new.v).words (seen c.mark_all.new.v).words (numbers taken) n 1) (sym (as_many taken)) c.in_ok-mark_all.ensures.ok)
-    (subst (λ n. SetsBits shape (seen c.mark_all.new.v).words (seen c.unmark_all.new.v).words (numbers freed) n 0) (sym (as_many freed)) c.in_ok-unmark_all.ensures.ok)
+    (subst (λ n. SetsBits shape (seen c.mark_all.new.v).words (seen c.mark_all-2.new.v).words (numbers freed) n 0) (sym (as_many freed)) c.in_ok-mark_all-2.ensures.ok)
 
 pub returns-in_err-make_edits-clause-in_update : goal.returns-in_err-make_edits-clause-in_update
 returns-in_err-make_edits-clause-in_update g c = c.make_edits.ensures.in_update
@@ -71,41 +71,41 @@ returns-in_err-mark_all-clause-goes g c = c.make_edits.ensures.goes then c.edit_
 pub returns-in_err-mark_all-clause-firm : goal.returns-in_err-mark_all-clause-firm
 returns-in_err-mark_all-clause-firm g c = firm_trans _ _ _ (firm_trans _ _ _ c.make_edits.ensures.firm c.edit_inode.ensures.firm) c.mark_all.ensures.firm
 
-pub returns-in_err-unmark_all-clause-in_update : goal.returns-in_err-unmark_all-clause-in_update
-returns-in_err-unmark_all-clause-in_update g c = c.unmark_all.ensures.in_update
+pub returns-in_err-mark_all-2-clause-in_update : goal.returns-in_err-mark_all-2-clause-in_update
+returns-in_err-mark_all-2-clause-in_update g c = c.mark_all-2.ensures.in_update
 
-pub returns-in_err-unmark_all-clause-sound : goal.returns-in_err-unmark_all-clause-sound
-returns-in_err-unmark_all-clause-sound g c = c.unmark_all.ensures.sound
+pub returns-in_err-mark_all-2-clause-sound : goal.returns-in_err-mark_all-2-clause-sound
+returns-in_err-mark_all-2-clause-sound g c = c.mark_all-2.ensures.sound
 
-pub returns-in_err-unmark_all-clause-shape : goal.returns-in_err-unmark_all-clause-shape
-returns-in_err-unmark_all-clause-shape g c = c.unmark_all.ensures.shape
+pub returns-in_err-mark_all-2-clause-shape : goal.returns-in_err-mark_all-2-clause-shape
+returns-in_err-mark_all-2-clause-shape g c = c.mark_all-2.ensures.shape
 
-pub returns-in_err-unmark_all-clause-standing : goal.returns-in_err-unmark_all-clause-standing
-returns-in_err-unmark_all-clause-standing g c = c.unmark_all.ensures.standing ∙ c.mark_all.ensures.standing ∙ c.edit_inode.ensures.standing ∙ c.make_edits.ensures.standing
+pub returns-in_err-mark_all-2-clause-standing : goal.returns-in_err-mark_all-2-clause-standing
+returns-in_err-mark_all-2-clause-standing g c = c.mark_all-2.ensures.standing ∙ c.mark_all.ensures.standing ∙ c.edit_inode.ensures.standing ∙ c.make_edits.ensures.standing
 
-pub returns-in_err-unmark_all-clause-goes : goal.returns-in_err-unmark_all-clause-goes
-returns-in_err-unmark_all-clause-goes g c = c.make_edits.ensures.goes then c.edit_inode.ensures.goes then c.mark_all.ensures.goes then c.unmark_all.ensures.goes
+pub returns-in_err-mark_all-2-clause-goes : goal.returns-in_err-mark_all-2-clause-goes
+returns-in_err-mark_all-2-clause-goes g c = c.make_edits.ensures.goes then c.edit_inode.ensures.goes then c.mark_all.ensures.goes then c.mark_all-2.ensures.goes
 
-pub returns-in_err-unmark_all-clause-firm : goal.returns-in_err-unmark_all-clause-firm
-returns-in_err-unmark_all-clause-firm g c = firm_trans _ _ _ (firm_trans _ _ _ (firm_trans _ _ _ c.make_edits.ensures.firm c.edit_inode.ensures.firm) c.mark_all.ensures.firm) c.unmark_all.ensures.firm
+pub returns-in_err-mark_all-2-clause-firm : goal.returns-in_err-mark_all-2-clause-firm
+returns-in_err-mark_all-2-clause-firm g c = firm_trans _ _ _ (firm_trans _ _ _ (firm_trans _ _ _ c.make_edits.ensures.firm c.edit_inode.ensures.firm) c.mark_all.ensures.firm) c.mark_all-2.ensures.firm
 
 pub returns-clause-in_update : goal.returns-clause-in_update
-returns-clause-in_update g c = c.unmark_all.ensures.in_update
+returns-clause-in_update g c = c.mark_all-2.ensures.in_update
 
 pub returns-clause-sound : goal.returns-clause-sound
-returns-clause-sound g c = c.unmark_all.ensures.sound
+returns-clause-sound g c = c.mark_all-2.ensures.sound
 
 pub returns-clause-shape : goal.returns-clause-shape
-returns-clause-shape g c = c.unmark_all.ensures.shape
+returns-clause-shape g c = c.mark_all-2.ensures.shape
 
 pub returns-clause-standing : goal.returns-clause-standing
-returns-clause-standing g c = c.unmark_all.ensures.standing ∙ c.mark_all.ensures.standing ∙ c.edit_inode.ensures.standing ∙ c.make_edits.ensures.standing
+returns-clause-standing g c = c.mark_all-2.ensures.standing ∙ c.mark_all.ensures.standing ∙ c.edit_inode.ensures.standing ∙ c.make_edits.ensures.standing
 
 pub returns-clause-goes : goal.returns-clause-goes
-returns-clause-goes g c = c.make_edits.ensures.goes then c.edit_inode.ensures.goes then c.mark_all.ensures.goes then c.unmark_all.ensures.goes
+returns-clause-goes g c = c.make_edits.ensures.goes then c.edit_inode.ensures.goes then c.mark_all.ensures.goes then c.mark_all-2.ensures.goes
 
 pub returns-clause-firm : goal.returns-clause-firm
-returns-clause-firm g c = firm_trans _ _ _ (firm_trans _ _ _ (firm_trans _ _ _ c.make_edits.ensures.firm c.edit_inode.ensures.firm) c.mark_all.ensures.firm) c.unmark_all.ensures.firm
+returns-clause-firm g c = firm_trans _ _ _ (firm_trans _ _ _ (firm_trans _ _ _ c.make_edits.ensures.firm c.edit_inode.ensures.firm) c.mark_all.ensures.firm) c.mark_all-2.ensures.firm
 
 pub make_edits-requires-clause-sound : goal.make_edits-requires-clause-sound
 make_edits-requires-clause-sound g c = c.requires.sound
@@ -125,11 +125,11 @@ mark_all-requires-clause-in_update g c = c.edit_inode.ensures.in_update
 pub mark_all-requires-clause-shape : goal.mark_all-requires-clause-shape
 mark_all-requires-clause-shape g c = c.edit_inode.ensures.shape
 
-pub unmark_all-requires-clause-sound : goal.unmark_all-requires-clause-sound
-unmark_all-requires-clause-sound g c = c.mark_all.ensures.sound
+pub mark_all-requires-2-clause-sound : goal.mark_all-requires-2-clause-sound
+mark_all-requires-2-clause-sound g c = c.mark_all.ensures.sound
 
-pub unmark_all-requires-clause-in_update : goal.unmark_all-requires-clause-in_update
-unmark_all-requires-clause-in_update g c = c.mark_all.ensures.in_update
+pub mark_all-requires-2-clause-in_update : goal.mark_all-requires-2-clause-in_update
+mark_all-requires-2-clause-in_update g c = c.mark_all.ensures.in_update
 
-pub unmark_all-requires-clause-shape : goal.unmark_all-requires-clause-shape
-unmark_all-requires-clause-shape g c = c.mark_all.ensures.shape
+pub mark_all-requires-2-clause-shape : goal.mark_all-requires-2-clause-shape
+mark_all-requires-2-clause-shape g c = c.mark_all.ensures.shape

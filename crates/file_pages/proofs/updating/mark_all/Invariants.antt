@@ -1,4 +1,5 @@
 use Rattle.file_pages.proofs.Common.{◌≡◌, ◌≤◌, None, Caches, HasShape, Goes, Firm, SameUpdate, numbers}
+use Rattle.block_alloc.specs.Words.{bit_of}
 use Rattle.file_pages.specs.Updating.{SetsBits}
 use Rattle.file_pages.proofs.updating.mark_all.Given as goal
 
@@ -8,7 +9,7 @@ invariant-loop-t g l =
     let kept = g.V.Volume.kept in
     let health = g.V.Blocks.health in
     record {
-      bits : SetsBits l.shape (seen l.fn.v).words (seen l.v).words (numbers l.blocks) l.t 1;
+      bits : SetsBits l.shape (seen l.fn.v).words (seen l.v).words (numbers l.blocks) l.t (bit_of l.used);
       update : SameUpdate (kept l.fn.v) (kept l.v);
       standing : (kept l.v).standing ≡ (kept l.fn.v).standing;
       firm : Firm (kept l.fn.v) (kept l.v);

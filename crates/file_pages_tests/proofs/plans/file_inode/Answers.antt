@@ -24,4 +24,4 @@ pub returns-clause-files : goal.returns-clause-files
 returns-clause-files g c =
     let h = c.requires.files in
     let call = c.read_inode.ensures in
-    files_looked c.args.shape.now _ _ _ _ _ _ _ _ h (looked_inode c.args.shape.now _ _ c.args.i.0 (can_look_up c.args.shape.now _ h.ready.has_shape h.ready.mapped h.ready.named) (test_ino c.args.shape.now _ _ c.args.i.0 h c.requires.file) call.looks call.caches) (g.met.V.Volume.passes_keeps _ _ call.passes)
+    files_looked c.args.shape.now _ _ _ _ _ _ _ _ h (looked_inode c.args.shape.now _ _ c.args.i.0 (can_look_up c.args.shape.now _ h.ready.order.has_shape h.ready.order.mapped h.ready.order.named) (test_ino c.args.shape.now _ _ c.args.i.0 h c.requires.file) call.looks call.caches) (g.met.V.Volume.passes_keeps _ _ call.passes)

@@ -1,6 +1,6 @@
 use Rattle.file_store.proofs.Common.{◌∙◌, sym, le_trans, arith, caches_by_trans, firm_trans, goes_trans}
-use Rattle.file_pages.proofs.Updated.{update_trans}
-use Rattle.file_store.proofs.Several.{all_made, caches_bitmap, can_update, touched_on, made_next}
+use Rattle.file_pages.proofs.Updated.{can_update, update_trans}
+use Rattle.file_store.proofs.Several.{all_made, caches_bitmap, touched_on, made_next}
 use Rattle.file_store.proofs.committing.make_changes.Goals as goal
 
 pub make_update-requires-clause-ino : goal.make_update-requires-clause-ino
@@ -10,7 +10,7 @@ pub make_update-requires-clause-touched : goal.make_update-requires-clause-touch
 make_update-requires-clause-touched g c = touched_on c.args.changes.now c.change-item.result _ _ _ (c.loop-change.change-index, c.loop-change-test.true, sym c.change-item.is) c.as_slice.ensures c.loop-change.invariant.update c.requires.touched
 
 pub make_update-requires-clause-can : goal.make_update-requires-clause-can
-make_update-requires-clause-can g c = can_update _ c.change-item.result _ _ _ c.as_slice.ensures c.as_slice-in-loop-change.ensures c.as_slice-in-loop-change-2.ensures (c.requires.can c.change-item.result (c.loop-change.change-index, c.loop-change-test.true, sym c.change-item.is))
+make_update-requires-clause-can g c = can_update _ _ _ _ _ _ _ c.as_slice.ensures c.as_slice-in-loop-change.ensures c.as_slice-in-loop-change-2.ensures (c.requires.can c.change-item.result (c.loop-change.change-index, c.loop-change-test.true, sym c.change-item.is)).can
 
 pub returns-in_err-make_update-clause-caches : goal.returns-in_err-make_update-clause-caches
 returns-in_err-make_update-clause-caches g c = caches_by_trans _ _ _ _ c.loop-change.invariant.caches (caches_bitmap _ _ _ c.make_update.ensures.caches)

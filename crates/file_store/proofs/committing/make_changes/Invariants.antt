@@ -1,6 +1,6 @@
 use Rattle.file_store.proofs.Common.{◌≡◌, ◌≤◌, true, drop, map, CachesBy, BlockWords, HasShape, Firm, Goes}
 use Rattle.rio_base.specs.Volume.{SameUpdate}
-use Rattle.file_store.specs.Changes.{AllApplied, IsTouchedBy, node_update}
+use Rattle.file_store.specs.Changes.{AllApplied, IsTouchedBy, change_update}
 use Rattle.file_store.proofs.committing.make_changes.Given as goal
 
 abbrev pub invariant-loop-change : goal.invariant-loop-change
@@ -9,7 +9,7 @@ invariant-loop-change g l =
     let kept = g.V.Volume.kept in
     let health = g.V.Blocks.health in
     record {
-      made : (h : BlockWords) → AllApplied l.shape (map node_update (drop l.change-index l.changes)) (seen l.v).words h → AllApplied l.shape (map node_update l.changes) (seen l.fn.v).words h;
+      made : (h : BlockWords) → AllApplied l.shape (map change_update (drop l.change-index l.changes)) (seen l.v).words h → AllApplied l.shape (map change_update l.changes) (seen l.fn.v).words h;
       update : SameUpdate (kept l.fn.v) (kept l.v);
       in_update : (kept l.v).updating ≡ true;
       standing : (kept l.v).standing ≡ (kept l.fn.v).standing;

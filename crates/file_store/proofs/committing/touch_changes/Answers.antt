@@ -1,4 +1,4 @@
-use Rattle.file_store.proofs.Common.{◌∙◌, arith, inl, inr, le_trans, sym, caches_by_trans, firm_trans, goes_trans, looks_trans}
+use Rattle.file_store.proofs.Common.{◌∙◌, arith, le_trans, sym, caches_by_trans, firm_trans, goes_trans, looks_trans}
 use Rattle.file_pages.proofs.Updated.{touched_now}
 use Rattle.file_store.proofs.Several.{all_are_touched, caches_bitmap, caches_node, can_make_on, shape_on, touched_none, touched_to_next, touches_most}
 use Rattle.file_store.proofs.committing.touch_changes.Goals as goal
@@ -11,7 +11,6 @@ loop-change-init g c =
       bitmap = touched_now _ _ _ now.ok;
       done = touched_none _ _;
       most = omega (arith, touches_most _ _ _ now.ok, c.requires.room);
-      begun = now.ok.begun;
       looks = call.looks;
       standing = call.standing;
       firm = call.firm;
@@ -44,7 +43,6 @@ loop-change-preserved g c =
       bitmap = now.more 1 inv.bitmap;
       done = touched_to_next _ _ _ _ c.change-item.result c.loop-change-test.true c.change-item.is inv.done now.more now.ok;
       most = omega (arith, inv.most, now.touches);
-      begun = elim now.begun [ inl stopped ↦ cc | inr same ↦ same ∙ inv.begun ];
       looks = looks_trans _ _ _ inv.looks call.looks;
       standing = call.standing ∙ inv.standing;
       firm = firm_trans _ _ _ inv.firm call.firm;

@@ -12,7 +12,6 @@ invariant-loop-change g l =
       bitmap : (kept l.v).touched 1 ≡ true;
       done : TouchedTo (kept l.v) l.changes l.change-index;
       most : (kept l.v).touches ≤ 1 + 4 * l.change-index;
-      begun : (kept l.v).begun ≡ (kept l.fn.v).begun;
       looks : Looks (seen l.fn.v) (seen l.v);
       standing : (kept l.v).standing ≡ (kept l.fn.v).standing;
       firm : Firm (kept l.fn.v) (kept l.v);

@@ -1,13 +1,14 @@
-use Rattle.file_store.proofs.Common.{◌≡◌, arith, ◌<◌, sym, subst, ◌∙◌, err_from_is_err_and, ◌then◌, held_of, names_of, walk, IsInode}
+use Rattle.file_store.proofs.Common.{◌≡◌, arith, ◌<◌, sym, ap, subst, ◌∙◌, err_from_is_err_and, ◌then◌, held_of, names_of, walk, IsInode}
 use Rattle.file_store.proofs.CallEnds.{after_well, ends_ok, ends_on, ends_refused, well}
 use Rattle.file_store.proofs.LookedAt.{file_dir, file_inode, file_left, file_region, file_walk, inode_kind_held}
 use Rattle.file_store.proofs.Unchanged.{leaves_then}
+use Rattle.file_store.specs.Walks.{ino_in}
 use Rattle.file_store.proofs.data.walk_to_file.Goals as goal
 
 pub returns-in_err-i-clause-value : goal.returns-in_err-i-clause-value
 returns-in_err-i-clause-value g c =
     let p = err_from_is_err_and c.from_residual.result c.from_residual.ensures.1 in
-    λ s reads. file_walk s (walk s 1 (names_of c.args.path.now)) c.walk.result c.from_residual.result _ p.0 c.in_err-i.was p.1 p.2 (c.walk.ensures.value s reads)
+    λ s reads. file_walk s (walk s 1 (names_of c.args.path.now)) c.walk.result (ino_in c.from_residual.result) _ p.0 c.in_err-i.was (ap ino_in p.1) p.2 (c.walk.ensures.value s reads)
 
 pub returns-in_err-i-clause-ends : goal.returns-in_err-i-clause-ends
 returns-in_err-i-clause-ends g c =
@@ -20,7 +21,7 @@ inode_of-requires-clause-used g c = subst (λ f. 0 < (held_of c.args.shape.now f
 pub returns-in_err-inode-clause-value : goal.returns-in_err-inode-clause-value
 returns-in_err-inode-clause-value g c =
     let p = err_from_is_err_and c.from_residual-in_err-inode.result c.from_residual-in_err-inode.ensures.1 in
-    λ s reads. file_inode s (walk s 1 (names_of c.args.path.now)) c.inode_of.result c.from_residual-in_err-inode.result _ p.0 c.in_err-inode.was p.1 p.2 c.inode_of.ensures.other
+    λ s reads. file_inode s (walk s 1 (names_of c.args.path.now)) c.inode_of.result (ino_in c.from_residual-in_err-inode.result) _ p.0 c.in_err-inode.was (ap ino_in p.1) p.2 c.inode_of.ensures.other
 
 pub returns-in_err-inode-clause-leaves : goal.returns-in_err-inode-clause-leaves
 returns-in_err-inode-clause-leaves g c = leaves_then c.args.shape.now _ _ _ _ _ _ c.walk.ensures.leaves c.walk.ensures.words c.inode_of.ensures.leaves
@@ -86,3 +87,9 @@ returns-in_default-clause-goes g c = c.walk.ensures.goes then c.inode_of.ensures
 
 pub returns-in_default-clause-ends : goal.returns-in_default-clause-ends
 returns-in_default-clause-ends g c = ends_ok _ _ _ (after_well _ _ _ _ _ (well _ _ c.walk.result _ c.in_ok-i.was c.walk.ensures.ends) (well _ _ c.inode_of.result _ c.in_ok-inode.was c.inode_of.ensures.ends))
+
+pub returns-in_default-clause-value : goal.returns-in_default-clause-value
+returns-in_default-clause-value g c = λ s reads. c.in_ok-i.ensures.value s reads
+
+pub returns-in_default-clause-inode : goal.returns-in_default-clause-inode
+returns-in_default-clause-inode g c = subst (λ f. IsInode f c.in_ok-i.i.0 c.in_ok-inode.inode) c.walk.ensures.words c.in_ok-inode.ensures.value

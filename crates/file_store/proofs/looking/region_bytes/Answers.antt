@@ -8,13 +8,13 @@ use Rattle.file_store.proofs.looking.region_bytes.Goals as goal
 pub block_of-requires-clause-can : goal.block_of-requires-clause-can
 block_of-requires-clause-can g c =
     let ready = c.requires.can.ready in
-    can_look_up c.args.shape.now (g.V.Blocks.seen c.args.v.now) ready.has_shape ready.mapped ready.named
+    can_look_up c.args.shape.now (g.V.Blocks.seen c.args.v.now) ready.order.has_shape ready.order.mapped ready.order.named
 
 pub block_of-requires-clause-ino : goal.block_of-requires-clause-ino
-block_of-requires-clause-ino g c = (has_header c.args.shape.now _ c.args.i.0 c.requires.can.ready.mapped c.requires.region).ino
+block_of-requires-clause-ino g c = (has_header c.args.shape.now _ c.args.i.0 c.requires.can.ready.order.mapped c.requires.region).ino
 
 pub block_of-requires-clause-page : goal.block_of-requires-clause-page
-block_of-requires-clause-page g c = (has_header c.args.shape.now _ c.args.i.0 c.requires.can.ready.mapped c.requires.region).page
+block_of-requires-clause-page g c = (has_header c.args.shape.now _ c.args.i.0 c.requires.can.ready.order.mapped c.requires.region).page
 
 pub returns-in_err-header-clause-leaves : goal.returns-in_err-header-clause-leaves
 returns-in_err-header-clause-leaves g c =
@@ -22,7 +22,7 @@ returns-in_err-header-clause-leaves g c =
     let x = g.V.Blocks.seen c.args.v.now in
     let ready = c.requires.can.ready in
     let call = c.block_of.ensures.looks in
-    leaves_read shape _ _ _ _ x (g.V.Blocks.seen c.block_of.new.v) _ _ ready call.looks call.still.has_shape (named_on shape x _ ready.mapped ready.named call) (g.met.V.Volume.passes_keeps _ _ c.block_of.ensures.passes)
+    leaves_read shape _ _ _ _ x (g.V.Blocks.seen c.block_of.new.v) _ _ ready call.looks call.still.has_shape (named_on shape x _ ready.order.mapped ready.order.named call) (g.met.V.Volume.passes_keeps _ _ c.block_of.ensures.passes)
 
 pub returns-in_err-header-clause-can : goal.returns-in_err-header-clause-can
 returns-in_err-header-clause-can g c = can_again c.args.shape.now (g.V.Blocks.seen c.args.v.now) (g.V.Volume.kept c.args.v.now) (g.V.Blocks.seen c.block_of.new.v) (g.V.Volume.kept c.block_of.new.v) c.requires.can (returns-in_err-header-clause-leaves g c) c.block_of.ensures.looks.looks.words
@@ -39,7 +39,7 @@ pub word-requires-clause-place : goal.word-requires-clause-place
 word-requires-clause-place g c =
     let shape = c.args.shape.now in
     let x = g.V.Blocks.seen c.args.v.now in
-    let mapped = c.requires.can.ready.mapped in
+    let mapped = c.requires.can.ready.order.mapped in
     record {
       block = header_block shape x.words (g.V.Blocks.seen c.block_of.new.v) c.args.i.0 _ mapped (has_header shape x.words c.args.i.0 mapped c.requires.region) c.block_of.ensures.looks.still.has_shape c.in_ok-header.ensures.value;
       word = omega arith;
@@ -50,7 +50,7 @@ word-requires-clause-name g c =
     let shape = c.args.shape.now in
     let x = g.V.Blocks.seen c.args.v.now in
     let ready = c.requires.can.ready in
-    header_name shape x.words (g.V.Blocks.seen c.block_of.new.v) c.args.i.0 _ _ ready.mapped (has_header shape x.words c.args.i.0 ready.mapped c.requires.region) (named_on shape x _ ready.mapped ready.named c.block_of.ensures.looks) c.in_ok-header.ensures.value (refl, refl, refl)
+    header_name shape x.words (g.V.Blocks.seen c.block_of.new.v) c.args.i.0 _ _ ready.order.mapped (has_header shape x.words c.args.i.0 ready.order.mapped c.requires.region) (named_on shape x _ ready.order.mapped ready.order.named c.block_of.ensures.looks) c.in_ok-header.ensures.value (refl, refl, refl)
 
 pub returns-in_err-pages-clause-leaves : goal.returns-in_err-pages-clause-leaves
 returns-in_err-pages-clause-leaves g c =
@@ -59,12 +59,12 @@ returns-in_err-pages-clause-leaves g c =
     let y = g.V.Blocks.seen c.block_of.new.v in
     let z = g.V.Blocks.seen c.word.new.self in
     let ready = c.requires.can.ready in
-    let mapped = ready.mapped in
+    let mapped = ready.order.mapped in
     let call = c.block_of.ensures.looks in
     let header = has_header shape x.words c.args.i.0 mapped c.requires.region in
     leaves_read shape _ _ _ _ x z _ _ ready (looks_trans x y z call.looks c.word.ensures.looks)
     (header_shape shape x.words y z c.args.i.0 _ _ mapped header call.still.has_shape c.in_ok-header.ensures.value c.word.ensures.looks c.word.ensures.caches)
-    (header_named shape x.words y z c.args.i.0 _ _ mapped header (named_on shape x y mapped ready.named call) c.in_ok-header.ensures.value (refl, refl, refl) c.word.ensures.caches)
+    (header_named shape x.words y z c.args.i.0 _ _ mapped header (named_on shape x y mapped ready.order.named call) c.in_ok-header.ensures.value (refl, refl, refl) c.word.ensures.caches)
     (g.met.V.Volume.passes_keeps _ _ (g.met.V.Blocks.passes_trans _ _ _ c.block_of.ensures.passes c.word.ensures.passes))
 
 pub returns-in_err-pages-clause-words : goal.returns-in_err-pages-clause-words
@@ -88,12 +88,12 @@ returns-clause-leaves g c =
     let y = g.V.Blocks.seen c.block_of.new.v in
     let z = g.V.Blocks.seen c.word.new.self in
     let ready = c.requires.can.ready in
-    let mapped = ready.mapped in
+    let mapped = ready.order.mapped in
     let call = c.block_of.ensures.looks in
     let header = has_header shape x.words c.args.i.0 mapped c.requires.region in
     leaves_read shape _ _ _ _ x z _ _ ready (looks_trans x y z call.looks c.word.ensures.looks)
     (header_shape shape x.words y z c.args.i.0 _ _ mapped header call.still.has_shape c.in_ok-header.ensures.value c.word.ensures.looks c.word.ensures.caches)
-    (header_named shape x.words y z c.args.i.0 _ _ mapped header (named_on shape x y mapped ready.named call) c.in_ok-header.ensures.value (refl, refl, refl) c.word.ensures.caches)
+    (header_named shape x.words y z c.args.i.0 _ _ mapped header (named_on shape x y mapped ready.order.named call) c.in_ok-header.ensures.value (refl, refl, refl) c.word.ensures.caches)
     (g.met.V.Volume.passes_keeps _ _ (g.met.V.Blocks.passes_trans _ _ _ c.block_of.ensures.passes c.word.ensures.passes))
 
 pub returns-clause-words : goal.returns-clause-words
@@ -113,7 +113,7 @@ returns-clause-value g c =
     let shape = c.args.shape.now in
     let x = g.V.Blocks.seen c.args.v.now in
     let b = c.in_ok-header in
-    let word = header_word shape x.words c.args.i.0 b.header.0 (has_header shape x.words c.args.i.0 c.requires.can.ready.mapped c.requires.region) b.ensures.value in
+    let word = header_word shape x.words c.args.i.0 b.header.0 (has_header shape x.words c.args.i.0 c.requires.can.ready.order.mapped c.requires.region) b.ensures.value in
     ap (λ n. 4096 * n) (c.in_ok-pages.ensures.value ∙ ap (λ (f : BlockWords). f b.header.0 2) c.block_of.ensures.looks.looks.words ∙ word)
 
 pub overflow_mul-result : goal.overflow_mul-result
@@ -121,6 +121,6 @@ overflow_mul-result g c =
     let shape = c.args.shape.now in
     let x = g.V.Blocks.seen c.args.v.now in
     let can = c.requires.can in
-    let small = header_small shape x.words can.state c.args.i.0 can.reads (has_header shape x.words c.args.i.0 can.ready.mapped c.requires.region) c.requires.region in
+    let small = header_small shape x.words can.state c.args.i.0 can.reads (has_header shape x.words c.args.i.0 can.ready.order.mapped c.requires.region) c.requires.region in
     let same = returns-clause-value g c in
     omega (arith, small, same)

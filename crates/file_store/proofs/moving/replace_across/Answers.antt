@@ -78,7 +78,7 @@ blocks_of-requires-clause-can g c =
     let by_u : LeavesInUse (volume_layout shape w.words) w p u q = c.plan_set.ensures.leaves in
     let to_u : LeavesInUse (volume_layout shape x.words) x k u q = leaves_trans shape x k w p u q c.requires.can.ready by_w by_u in
     let ready : Ready shape u q = ready_left shape x k u q c.requires.can.ready to_u in
-    can_look_up shape u ready.has_shape ready.mapped ready.named
+    can_look_up shape u ready.order.has_shape ready.order.mapped ready.order.named
 
 pub blocks_of-requires-clause-ino : goal.blocks_of-requires-clause-ino
 blocks_of-requires-clause-ino g c =

@@ -38,7 +38,7 @@ blocks_of-requires-clause-can g c =
     let p = g.V.Volume.kept c.plan_replace.new.v in
     let by_w : LeavesInUse (volume_layout shape x.words) x k w p = c.plan_replace.ensures.leaves in
     let ready : Ready shape w p = ready_left shape x k w p c.requires.can.ready by_w in
-    can_look_up shape w ready.has_shape ready.mapped ready.named
+    can_look_up shape w ready.order.has_shape ready.order.mapped ready.order.named
 
 pub blocks_of-requires-clause-ino : goal.blocks_of-requires-clause-ino
 blocks_of-requires-clause-ino g c =

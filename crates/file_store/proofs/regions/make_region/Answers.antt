@@ -62,20 +62,20 @@ returns-in_default-clause-leaves g c =
 pub returns-in_default-clause-ends : goal.returns-in_default-clause-ends
 returns-in_default-clause-ends g c = ends_refused _ _ 10 (well _ _ c.dir_without.result _ c.in_ok-dir.was c.dir_without.ensures.ends)
 
-pub make_new_region-requires-clause-can : goal.make_new_region-requires-clause-can
-make_new_region-requires-clause-can g c = c.dir_without.ensures.can
+pub make_new-requires-clause-can : goal.make_new-requires-clause-can
+make_new-requires-clause-can g c = c.dir_without.ensures.can
 
-pub make_new_region-requires-clause-dir : goal.make_new_region-requires-clause-dir
-make_new_region-requires-clause-dir g c = subst (λ f. (held_of c.args.shape.now f c.in_ok-dir.dir.0).kind ≡ 1) (sym c.dir_without.ensures.words) c.in_ok-dir.ensures.dir
+pub make_new-requires-clause-dir : goal.make_new-requires-clause-dir
+make_new-requires-clause-dir g c = subst (λ f. (held_of c.args.shape.now f c.in_ok-dir.dir.0).kind ≡ 1) (sym c.dir_without.ensures.words) c.in_ok-dir.ensures.dir
 
-pub make_new_region-requires-clause-is_name : goal.make_new_region-requires-clause-is_name
-make_new_region-requires-clause-is_name g c = c.cut_last.ensures.name
+pub make_new-requires-clause-is_name : goal.make_new-requires-clause-is_name
+make_new-requires-clause-is_name g c = c.cut_last.ensures.name
 
-pub make_new_region-requires-clause-absent : goal.make_new_region-requires-clause-absent
-make_new_region-requires-clause-absent g c = subst (λ f. (n : ℕ) → HasRow (held_of c.args.shape.now f c.in_ok-dir.dir.0) c.cut_last.result.1.now n → ⊥) (sym c.dir_without.ensures.words) c.in_ok-dir.ensures.absent
+pub make_new-requires-clause-absent : goal.make_new-requires-clause-absent
+make_new-requires-clause-absent g c = subst (λ f. (n : ℕ) → HasRow (held_of c.args.shape.now f c.in_ok-dir.dir.0) c.cut_last.result.1.now n → ⊥) (sym c.dir_without.ensures.words) c.in_ok-dir.ensures.absent
 
-pub make_new_region-requires-clause-sizes : goal.make_new_region-requires-clause-sizes
-make_new_region-requires-clause-sizes g c =
+pub make_new-requires-clause-node : goal.make_new-requires-clause-node
+make_new-requires-clause-node g c =
     let sized : SizesRegion c.args.undo_pages c.args.data_pages (Some c.in-Some.sizes) = rw c.in-Some.is at c.region_sizes.ensures in
     sized.2
 
@@ -92,21 +92,21 @@ returns-clause-leaves g c =
     let some = c.is_root.ensures.not c.if-is_root.false in
     let sizes = c.in-Some.sizes in
     let sized : SizesRegion c.args.undo_pages c.args.data_pages (Some sizes) = rw c.in-Some.is at c.region_sizes.ensures in
-    let y = g.V.Blocks.seen c.make_new_region.new.v in
-    let j = g.V.Volume.kept c.make_new_region.new.v in
-    λ s reads. ends_after SaysIno shape x k m l y j s (region_at s names c.args.data_pages c.args.undo_pages) (NoneDone s) c.make_new_region.result c.dir_without.ensures.leaves c.dir_without.ensures.words
-    (ends_as SaysIno shape m l y j s (region_at s names c.args.data_pages c.args.undo_pages) (make_new_of s c.in_ok-dir.dir.0 name (Region (new_region sizes.data_pages sizes.undo_pages)) (least_of s)) (NoneDone s) c.make_new_region.result
+    let y = g.V.Blocks.seen c.make_new.new.v in
+    let j = g.V.Volume.kept c.make_new.new.v in
+    λ s reads. ends_after SaysIno shape x k m l y j s (region_at s names c.args.data_pages c.args.undo_pages) (NoneDone s) c.make_new.result c.dir_without.ensures.leaves c.dir_without.ensures.words
+    (ends_as SaysIno shape m l y j s (region_at s names c.args.data_pages c.args.undo_pages) (make_new_of s c.in_ok-dir.dir.0 name (Region (new_region sizes.data_pages sizes.undo_pages)) (least_of s)) (NoneDone s) c.make_new.result
     (region_new s names front name c.args.data_pages c.args.undo_pages c.in_ok-dir.dir sizes some c.cut_last.ensures.front c.cut_last.ensures.last (c.in_ok-dir.ensures.value s reads) sized)
-    (c.make_new_region.ensures.leaves s (subst (λ f. ReadsAs shape f s) (sym c.dir_without.ensures.words) reads)))
+    (c.make_new.ensures.leaves s (subst (λ f. ReadsAs shape f s) (sym c.dir_without.ensures.words) reads)))
 
 pub returns-clause-forgets : goal.returns-clause-forgets
 returns-clause-forgets g c =
     let shape = c.args.shape.now in
-    let z = g.V.Blocks.seen c.make_new_region.new.v in
-    subst (λ f. OnOk c.make_new_region.result (Forgets (volume_layout shape f) (volume_layout shape z.words) z)) c.dir_without.ensures.words c.make_new_region.ensures.forgets
+    let z = g.V.Blocks.seen c.make_new.new.v in
+    subst (λ f. OnOk c.make_new.result (Forgets (volume_layout shape f) (volume_layout shape z.words) z)) c.dir_without.ensures.words c.make_new.ensures.forgets
 
 pub returns-clause-goes : goal.returns-clause-goes
-returns-clause-goes g c = c.dir_without.ensures.goes then c.make_new_region.ensures.goes
+returns-clause-goes g c = c.dir_without.ensures.goes then c.make_new.ensures.goes
 
 pub returns-clause-ends : goal.returns-clause-ends
-returns-clause-ends g c = after_well _ _ _ _ _ (well _ _ c.dir_without.result _ c.in_ok-dir.was c.dir_without.ensures.ends) c.make_new_region.ensures.ends
+returns-clause-ends g c = after_well _ _ _ _ _ (well _ _ c.dir_without.result _ c.in_ok-dir.was c.dir_without.ensures.ends) c.make_new.ensures.ends

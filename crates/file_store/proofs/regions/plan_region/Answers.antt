@@ -14,7 +14,7 @@ put_header-requires-clause-place g c =
     let given = c.empty_inode-inode.result in
     let skip = numbers c.args.skip.now in
     let change = c.in_ok-change.change in
-    let takes : TakesRegion shape x.words z l i.0 given r skip change = record { plan = c.in_ok-change.ensures.ok; fit = c.requires.sizes; mapped = c.requires.ready.mapped; free = c.requires.free; kind = c.empty_inode-inode.ensures.kind; size = c.empty_inode-inode.ensures.size; space = c.in_ok-change.ensures.space.1 } in
+    let takes : TakesRegion shape x.words z l i.0 given r skip change = record { plan = c.in_ok-change.ensures.ok; fit = c.requires.sizes; mapped = c.requires.ready.order.mapped; free = c.requires.free; kind = c.empty_inode-inode.ensures.kind; size = c.empty_inode-inode.ensures.size; space = c.in_ok-change.ensures.space.1 } in
     let at = header_at shape x.words z l i.0 given r skip change takes c.as_slice.result.now (record { 0 = 0 }) c.as_slice.ensures in
     header_place shape x.words z l i.0 given r skip change _ takes at c.plan_size.ensures.leaves.has_shape
 
@@ -30,7 +30,7 @@ put_header-requires-clause-name g c =
     let given = c.empty_inode-inode.result in
     let skip = numbers c.args.skip.now in
     let change = c.in_ok-change.change in
-    let takes : TakesRegion shape x.words z l i.0 given r skip change = record { plan = c.in_ok-change.ensures.ok; fit = c.requires.sizes; mapped = c.requires.ready.mapped; free = c.requires.free; kind = c.empty_inode-inode.ensures.kind; size = c.empty_inode-inode.ensures.size; space = c.in_ok-change.ensures.space.1 } in
+    let takes : TakesRegion shape x.words z l i.0 given r skip change = record { plan = c.in_ok-change.ensures.ok; fit = c.requires.sizes; mapped = c.requires.ready.order.mapped; free = c.requires.free; kind = c.empty_inode-inode.ensures.kind; size = c.empty_inode-inode.ensures.size; space = c.in_ok-change.ensures.space.1 } in
     let at = header_at shape x.words z l i.0 given r skip change takes c.as_slice.result.now (record { 0 = 0 }) c.as_slice.ensures in
     header_named shape x.words z l i given r skip change _ c.requires.ino takes at
 
@@ -46,7 +46,7 @@ returns-in_err-put_header-clause-leaves g c =
     let given = c.empty_inode-inode.result in
     let skip = numbers c.args.skip.now in
     let change = c.in_ok-change.change in
-    let takes : TakesRegion shape x.words z l i.0 given r skip change = record { plan = c.in_ok-change.ensures.ok; fit = c.requires.sizes; mapped = c.requires.ready.mapped; free = c.requires.free; kind = c.empty_inode-inode.ensures.kind; size = c.empty_inode-inode.ensures.size; space = c.in_ok-change.ensures.space.1 } in
+    let takes : TakesRegion shape x.words z l i.0 given r skip change = record { plan = c.in_ok-change.ensures.ok; fit = c.requires.sizes; mapped = c.requires.ready.order.mapped; free = c.requires.free; kind = c.empty_inode-inode.ensures.kind; size = c.empty_inode-inode.ensures.size; space = c.in_ok-change.ensures.space.1 } in
     let at = header_at shape x.words z l i.0 given r skip change takes c.as_slice.result.now (record { 0 = 0 }) c.as_slice.ensures in
     let y = g.V.Blocks.seen c.put_header.new.v in
     let j = g.V.Volume.kept c.put_header.new.v in
@@ -66,7 +66,7 @@ returns-in_err-put_header-clause-spared g c =
     let given = c.empty_inode-inode.result in
     let skip = numbers c.args.skip.now in
     let change = c.in_ok-change.change in
-    let takes : TakesRegion shape x.words z l i.0 given r skip change = record { plan = c.in_ok-change.ensures.ok; fit = c.requires.sizes; mapped = c.requires.ready.mapped; free = c.requires.free; kind = c.empty_inode-inode.ensures.kind; size = c.empty_inode-inode.ensures.size; space = c.in_ok-change.ensures.space.1 } in
+    let takes : TakesRegion shape x.words z l i.0 given r skip change = record { plan = c.in_ok-change.ensures.ok; fit = c.requires.sizes; mapped = c.requires.ready.order.mapped; free = c.requires.free; kind = c.empty_inode-inode.ensures.kind; size = c.empty_inode-inode.ensures.size; space = c.in_ok-change.ensures.space.1 } in
     let at = header_at shape x.words z l i.0 given r skip change takes c.as_slice.result.now (record { 0 = 0 }) c.as_slice.ensures in
     let y = g.V.Blocks.seen c.put_header.new.v in
     let j = g.V.Volume.kept c.put_header.new.v in
@@ -89,7 +89,7 @@ returns-clause-leaves g c =
     let given = c.empty_inode-inode.result in
     let skip = numbers c.args.skip.now in
     let change = c.in_ok-change.change in
-    let takes : TakesRegion shape x.words z l i.0 given r skip change = record { plan = c.in_ok-change.ensures.ok; fit = c.requires.sizes; mapped = c.requires.ready.mapped; free = c.requires.free; kind = c.empty_inode-inode.ensures.kind; size = c.empty_inode-inode.ensures.size; space = c.in_ok-change.ensures.space.1 } in
+    let takes : TakesRegion shape x.words z l i.0 given r skip change = record { plan = c.in_ok-change.ensures.ok; fit = c.requires.sizes; mapped = c.requires.ready.order.mapped; free = c.requires.free; kind = c.empty_inode-inode.ensures.kind; size = c.empty_inode-inode.ensures.size; space = c.in_ok-change.ensures.space.1 } in
     let at = header_at shape x.words z l i.0 given r skip change takes c.as_slice.result.now (record { 0 = 0 }) c.as_slice.ensures in
     let y = g.V.Blocks.seen c.put_header.new.v in
     let j = g.V.Volume.kept c.put_header.new.v in
@@ -109,7 +109,7 @@ returns-clause-spared g c =
     let given = c.empty_inode-inode.result in
     let skip = numbers c.args.skip.now in
     let change = c.in_ok-change.change in
-    let takes : TakesRegion shape x.words z l i.0 given r skip change = record { plan = c.in_ok-change.ensures.ok; fit = c.requires.sizes; mapped = c.requires.ready.mapped; free = c.requires.free; kind = c.empty_inode-inode.ensures.kind; size = c.empty_inode-inode.ensures.size; space = c.in_ok-change.ensures.space.1 } in
+    let takes : TakesRegion shape x.words z l i.0 given r skip change = record { plan = c.in_ok-change.ensures.ok; fit = c.requires.sizes; mapped = c.requires.ready.order.mapped; free = c.requires.free; kind = c.empty_inode-inode.ensures.kind; size = c.empty_inode-inode.ensures.size; space = c.in_ok-change.ensures.space.1 } in
     let at = header_at shape x.words z l i.0 given r skip change takes c.as_slice.result.now (record { 0 = 0 }) c.as_slice.ensures in
     let y = g.V.Blocks.seen c.put_header.new.v in
     let j = g.V.Volume.kept c.put_header.new.v in
@@ -132,7 +132,7 @@ returns-clause-ok g c =
     let given = c.empty_inode-inode.result in
     let skip = numbers c.args.skip.now in
     let change = c.in_ok-change.change in
-    let takes : TakesRegion shape x.words z l i.0 given r skip change = record { plan = c.in_ok-change.ensures.ok; fit = c.requires.sizes; mapped = c.requires.ready.mapped; free = c.requires.free; kind = c.empty_inode-inode.ensures.kind; size = c.empty_inode-inode.ensures.size; space = c.in_ok-change.ensures.space.1 } in
+    let takes : TakesRegion shape x.words z l i.0 given r skip change = record { plan = c.in_ok-change.ensures.ok; fit = c.requires.sizes; mapped = c.requires.ready.order.mapped; free = c.requires.free; kind = c.empty_inode-inode.ensures.kind; size = c.empty_inode-inode.ensures.size; space = c.in_ok-change.ensures.space.1 } in
     let at = header_at shape x.words z l i.0 given r skip change takes c.as_slice.result.now (record { 0 = 0 }) c.as_slice.ensures in
     let y = g.V.Blocks.seen c.put_header.new.v in
     let j = g.V.Volume.kept c.put_header.new.v in

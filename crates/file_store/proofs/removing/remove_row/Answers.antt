@@ -40,7 +40,7 @@ blocks_of-requires-clause-can g c =
     let w = g.V.Blocks.seen c.plan_remove.new.v in
     let p = g.V.Volume.kept c.plan_remove.new.v in
     let ready : Ready shape w p = ready_left shape x k w p c.requires.can.ready c.plan_remove.ensures.leaves in
-    can_look_up shape w ready.has_shape ready.mapped ready.named
+    can_look_up shape w ready.order.has_shape ready.order.mapped ready.order.named
 
 pub blocks_of-requires-clause-ino : goal.blocks_of-requires-clause-ino
 blocks_of-requires-clause-ino g c = used_ino c.args.shape.now (g.V.Blocks.seen c.args.v.now).words c.args.row.ino.0 c.requires.used

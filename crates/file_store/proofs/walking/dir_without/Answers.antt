@@ -18,13 +18,13 @@ returns-in_err-dir-clause-ends g c =
     ends_on _ _ c.dir_at.result c.from_residual.result _ p.0 c.in_err-dir.was p.1 p.2 c.dir_at.ensures.ends
 
 pub find_with-requires-clause-shape : goal.find_with-requires-clause-shape
-find_with-requires-clause-shape g c = c.dir_at.ensures.can.ready.has_shape
+find_with-requires-clause-shape g c = c.dir_at.ensures.can.ready.order.has_shape
 
 pub find_with-requires-clause-mapped : goal.find_with-requires-clause-mapped
-find_with-requires-clause-mapped g c = c.dir_at.ensures.can.ready.mapped
+find_with-requires-clause-mapped g c = c.dir_at.ensures.can.ready.order.mapped
 
 pub find_with-requires-clause-named : goal.find_with-requires-clause-named
-find_with-requires-clause-named g c = c.dir_at.ensures.can.ready.named
+find_with-requires-clause-named g c = c.dir_at.ensures.can.ready.order.named
 
 pub find_with-requires-clause-entries : goal.find_with-requires-clause-entries
 find_with-requires-clause-entries g c = c.dir_at.ensures.can.reads.entries

@@ -10,7 +10,7 @@ pub loop-at-init : goal.loop-at-init
 loop-at-init g c =
     let shape = c.args.shape.now in
     let x = g.V.Blocks.seen c.args.v.now in
-    let root = root_held shape x.words c.requires.can.ready.mapped in
+    let root = root_held shape x.words c.requires.can.ready.order.mapped in
     record {
       from = omega arith;
       walked = λ s reads. refl;

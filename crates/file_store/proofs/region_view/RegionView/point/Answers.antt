@@ -3,7 +3,7 @@ use Rattle.file_store.proofs.RegionStood.{few_bytes, on_region}
 use Rattle.file_store.proofs.region_view.RegionView.point.Goals as goal
 
 pub region_words-self-requires : goal.region_words-self-requires
-region_words-self-requires g c = record { few = few_bytes c.args.self.now.shape (g.V.Blocks.seen c.args.self.now.v).words c.args.i.0 c.in_ok-inode.inode c.requires.ready.mapped c.requires.region c.in_ok-inode.ensures.value }
+region_words-self-requires g c = record { few = few_bytes c.args.self.now.shape (g.V.Blocks.seen c.args.self.now.v).words c.args.i.0 c.in_ok-inode.inode c.requires.ready.order.mapped c.requires.region c.in_ok-inode.ensures.value }
 
 pub returns-clause-ok : goal.returns-clause-ok
 returns-clause-ok g c = (on_region c.args.self.now.shape (g.V.Blocks.seen c.args.self.now.v) (g.V.Blocks.seen c.region_inode.new.v) (g.V.Volume.kept c.region_inode.new.v) c.args.i.0 _ c.in_ok-inode.inode c.region_inode.ensures.ready c.region_inode.ensures.words c.requires.region c.in_ok-inode.ensures.value c.region_words-self.ensures, refl)

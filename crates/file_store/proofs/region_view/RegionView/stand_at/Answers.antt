@@ -15,7 +15,7 @@ returns-in_err-i-clause-ends g c =
     ends_on _ _ c.region_at.result c.from_residual.result _ p.0 c.in_err-i.was p.1 p.2 c.region_at.ensures.ends
 
 pub region_words-self-requires : goal.region_words-self-requires
-region_words-self-requires g c = record { few = few_bytes c.args.self.now.shape (g.V.Blocks.seen c.args.self.now.v).words c.in_ok-i.i.0 c.in_ok-i.inode c.requires.can.ready.mapped c.in_ok-i.ensures.region c.in_ok-i.ensures.inode }
+region_words-self-requires g c = record { few = few_bytes c.args.self.now.shape (g.V.Blocks.seen c.args.self.now.v).words c.in_ok-i.i.0 c.in_ok-i.inode c.requires.can.ready.order.mapped c.in_ok-i.ensures.region c.in_ok-i.ensures.inode }
 
 pub returns-clause-found : goal.returns-clause-found
 returns-clause-found g c = λ s reads. c.in_ok-i.ensures.found s reads
