@@ -34,9 +34,9 @@ pub leaves_all : (shape : VolumeShape) (x : Seen) (k : Kept) → Ready shape x k
 leaves_all shape x k h = record {
   words = record { low = λ b low w. refl; owned = λ i s own w. refl };
   standing = record { low = λ b low w. refl; owned = λ i s own w. refl };
-  has_shape = h.has_shape;
-  named = h.named;
-  firm = h.firm;
+  has_shape = h.order.has_shape;
+  named = h.order.named;
+  firm = h.order.firm;
   idle = h.idle;
 }
 
@@ -76,7 +76,7 @@ pub called_on : (shape : VolumeShape) (x z y : Seen) (k l j : Kept) (marks : Mar
 called_on shape x z y k l j marks s path i n serves words same finds on ready rest =
     let held : ReadsHeld shape z.words marks s = subst (λ w. ReadsHeld shape w marks s) (sym words) (serves_held shape x k marks s serves) in
     let leads = region_leads shape z.words marks s path i.0 finds.1.0 held same finds.0 finds.1.1 in
-    (leads.0, record { before = held; leads = leads.1; node = leads.2; kind = on.region; size = on.size; mapped = ready.mapped; rest = rest })
+    (leads.0, record { before = held; leads = leads.1; node = leads.2; kind = on.region; size = on.size; mapped = ready.order.mapped; rest = rest })
 
 -- its region fits the table before the call
 pub called_fits : (shape : VolumeShape) (f g : BlockWords) (marks : Marks) (s : State) (path : List ℕ) (i n : ℕ) (r : RegionNode) → CalledOn shape f g marks s path i n r → Fits marks i n (words_at shape f i)

@@ -29,7 +29,7 @@ view_words : (shape : VolumeShape) (i : Ino) (n : ℕ) (x : Seen) (l : Kept) (t 
 view_words shape i n x l t j m y k v = sym (ap (λ (q : VolumeShape). words_at q y.words j.0) v.rest.shape ∙ ap (λ (q : Ino). words_at shape y.words q.0) v.rest.ino)
 
 view_called : (shape : VolumeShape) (i : Ino) (n : ℕ) (x : Seen) (l : Kept) (t : VolumeShape) (j : Ino) (m : ℕ) (y : Seen) (k : Kept) → ViewStep shape i n x l t j m y k → (marks : Marks) (s : State) (path : List ℕ) (r : RegionNode) → CalledOn shape x.words x.words marks s path i.0 n r → CalledOn shape x.words y.words marks s path i.0 n r
-view_called shape i n x l t j m y k v marks s path r c = called_after shape x.words y.words marks s path i.0 n r c (view_ready shape i n x l t j m y k v).mapped v.rest.rest
+view_called shape i n x l t j m y k v marks s path r c = called_after shape x.words y.words marks s path i.0 n r c (view_ready shape i n x l t j m y k v).order.mapped v.rest.rest
 
 -- ---- by request
 

@@ -57,12 +57,12 @@ flush_leaves shape x k y j h looks standing firm drops idle = record {
   words = record { low = λ b w low. ap (λ (f : BlockWords). f b w) looks.words; owned = λ i t own w. ap (λ (f : BlockWords). f (((volume_layout shape x.words).node i).block t) w) looks.words };
   standing = record { low = λ b w low. ap (λ (f : BlockWords). f b w) standing; owned = λ i t own w. ap (λ (f : BlockWords). f (((volume_layout shape x.words).node i).block t) w) standing };
   has_shape = record {
-    sizes = h.has_shape.sizes;
-    count = looks.count ∙ h.has_shape.count;
-    unnamed = λ b low on. let was = drops.kept b on in was.1 ∙ h.has_shape.unnamed b low was.0;
+    sizes = h.order.has_shape.sizes;
+    count = looks.count ∙ h.order.has_shape.count;
+    unnamed = λ b low on. let was = drops.kept b on in was.1 ∙ h.order.has_shape.unnamed b low was.0;
   };
-  named = record { each = λ i ino s has on. let was = drops.kept (((volume_layout shape x.words).node i).block s) on in subst (Bears i ((volume_layout shape x.words).node i) s) (sym was.1) (h.named.each i ino s has was.0) };
-  firm = firm_on _ k j h.firm firm;
+  named = record { each = λ i ino s has on. let was = drops.kept (((volume_layout shape x.words).node i).block s) on in subst (Bears i ((volume_layout shape x.words).node i) s) (sym was.1) (h.order.named.each i ino s has was.0) };
+  firm = firm_on _ k j h.order.firm firm;
   idle = idle;
 }
 

@@ -8,7 +8,7 @@ ghost use Rattle.rio_base.specs.Volume.{Quiet, Runs};
 ghost use Rattle.rio_requests.specs.Requests.{IsRequest};
 ghost use Rattle.rio_requests.specs.declared.request.Request.TheVariants.{Arm, Flush, Sync, Txns, Wild};
 ghost use Rattle.rio_requests.specs.Went.{NoFlush, StoppedOn, Went};
-ghost use Rattle.rio_requests.specs.declared.reply.Reply.TheVariants.{Ok as Done};
+ghost use Rattle.rio_requests.specs.declared.reply.Reply.TheVariants.{Err as Refused, Ok as Done};
 ghost use Rattle.rio_model.specs.declared.state.State.{State};
 ghost use Rattle.rio_requests.specs.Crash.{crashed};
 ghost use Rattle.file_store.specs.Ends.{Stands};
@@ -86,7 +86,9 @@ pub fn answer_one<M: Machine>(
     ensures txns { request.now ≡ Txns → (reply : Reply) × (result ≡ Ok reply) × (core.new ≡ core.old) }
     ensures flushed { (count : ℕ) → request.now ≡ Flush count → result ≡ Ok Done → (j : ℕ) × Flushed count j (M.contents core.old.view.v.machine) (M.contents core.new.view.v.machine) }
     ensures struck { (at value : ℕ) → request.now ≡ Wild at value → result ≡ Ok Done → (M.contents core.new.view.v.machine ≡ M.contents core.old.view.v.machine) × (M.run core.new.view.v.machine ≡ after_wild Changed at value (M.run core.old.view.v.machine)) }
-    ensures armed { (step at value : ℕ) → request.now ≡ Arm step at value → result ≡ Ok Done → (M.contents core.new.view.v.machine ≡ M.contents core.old.view.v.machine) × (M.run core.new.view.v.machine ≡ record (M.run core.old.view.v.machine) { armed = Some at }) }
+    ensures armed { (step at value : ℕ) → request.now ≡ Arm step at value → result ≡ Ok Done → (M.contents core.new.view.v.machine ≡ M.contents core.old.view.v.machine) × (M.run core.new.view.v.machine ≡ record (M.run core.old.view.v.machine) { armed = Some at; armed_left = step; armed_value = value }) }
+    ensures unstruck { (at value : ℕ) → request.now ≡ Wild at value → result ≡ Ok (Refused 19) → core.new ≡ core.old }
+    ensures unarmed { (step at value : ℕ) → request.now ≡ Arm step at value → result ≡ Ok (Refused 19) → core.new ≡ core.old }
     ensures quiet { NoFlush request.now → Quiet (⟦<PageCache<M> as Volume>⟧.below core.old.view.v) (⟦<PageCache<M> as Volume>⟧.below core.new.view.v) }
     ensures ends { EndsBy (⟦<PageCache<M> as Blocks>⟧.health core.old.view.v) (⟦<PageCache<M> as Blocks>⟧.health core.new.view.v) (TellsFault result) (IsErr result) }
     ensures sound { ⟦<PageCache<M> as Blocks>⟧.sound core.new.view.v }
@@ -159,6 +161,7 @@ fn strike<M: Machine>(core: &mut Core<M>, at: u64, value: u64) -> Result<Reply, 
     ensures answered { (s : State) → Holds core.old.view.shape (⟦<PageCache<M> as Blocks>⟧.seen core.old.view.v) (⟦<PageCache<M> as Volume>⟧.kept core.old.view.v) (⟦<PageCache<M> as Blocks>⟧.health core.old.view.v) (⟦<PageCache<M> as Volume>⟧.below core.old.view.v) core.old.table s → Answering (Holds core.new.view.shape (⟦<PageCache<M> as Blocks>⟧.seen core.new.view.v) (⟦<PageCache<M> as Volume>⟧.kept core.new.view.v) (⟦<PageCache<M> as Blocks>⟧.health core.new.view.v) (⟦<PageCache<M> as Volume>⟧.below core.new.view.v) core.new.table) (λ t. Stands core.new.view.shape (⟦<PageCache<M> as Blocks>⟧.seen core.new.view.v) (⟦<PageCache<M> as Volume>⟧.kept core.new.view.v) (crashed t)) s (Wild at value) result }
     ensures went { IfOk result (λ reply. Went (Some (Wild at value) ∷ []) (reply ∷ []) (⟦<PageCache<M> as Blocks>⟧.health core.old.view.v) (⟦<PageCache<M> as Volume>⟧.below core.old.view.v) (⟦<PageCache<M> as Blocks>⟧.health core.new.view.v) (⟦<PageCache<M> as Volume>⟧.below core.new.view.v)) }
     ensures stopped_on { OnErr result (StoppedOn (Wild at value) (⟦<PageCache<M> as Blocks>⟧.health core.old.view.v) (⟦<PageCache<M> as Volume>⟧.below core.old.view.v) (⟦<PageCache<M> as Blocks>⟧.health core.new.view.v) (⟦<PageCache<M> as Volume>⟧.below core.new.view.v)) }
+    ensures unstruck { result ≡ Ok (Refused 19) → core.new ≡ core.old }
     ensures struck { result ≡ Ok Done → (M.contents core.new.view.v.machine ≡ M.contents core.old.view.v.machine) × (M.run core.new.view.v.machine ≡ after_wild Changed at value (M.run core.old.view.v.machine)) }
     ensures quiet { Quiet (⟦<PageCache<M> as Volume>⟧.below core.old.view.v) (⟦<PageCache<M> as Volume>⟧.below core.new.view.v) }
     ensures ends { EndsBy (⟦<PageCache<M> as Blocks>⟧.health core.old.view.v) (⟦<PageCache<M> as Blocks>⟧.health core.new.view.v) (TellsFault result) (IsErr result) }
@@ -181,7 +184,8 @@ fn arm_store<M: Machine>(core: &mut Core<M>, step: u64, at: u64, value: u64) -> 
     requires holds { (s : State) × Holds core.old.view.shape (⟦<PageCache<M> as Blocks>⟧.seen core.old.view.v) (⟦<PageCache<M> as Volume>⟧.kept core.old.view.v) (⟦<PageCache<M> as Blocks>⟧.health core.old.view.v) (⟦<PageCache<M> as Volume>⟧.below core.old.view.v) core.old.table s }
     ensures answered { (s : State) → Holds core.old.view.shape (⟦<PageCache<M> as Blocks>⟧.seen core.old.view.v) (⟦<PageCache<M> as Volume>⟧.kept core.old.view.v) (⟦<PageCache<M> as Blocks>⟧.health core.old.view.v) (⟦<PageCache<M> as Volume>⟧.below core.old.view.v) core.old.table s → Answering (Holds core.new.view.shape (⟦<PageCache<M> as Blocks>⟧.seen core.new.view.v) (⟦<PageCache<M> as Volume>⟧.kept core.new.view.v) (⟦<PageCache<M> as Blocks>⟧.health core.new.view.v) (⟦<PageCache<M> as Volume>⟧.below core.new.view.v) core.new.table) (λ t. Stands core.new.view.shape (⟦<PageCache<M> as Blocks>⟧.seen core.new.view.v) (⟦<PageCache<M> as Volume>⟧.kept core.new.view.v) (crashed t)) s (Arm step at value) (Ok result) }
     ensures went { Went (Some (Arm step at value) ∷ []) (result ∷ []) (⟦<PageCache<M> as Blocks>⟧.health core.old.view.v) (⟦<PageCache<M> as Volume>⟧.below core.old.view.v) (⟦<PageCache<M> as Blocks>⟧.health core.new.view.v) (⟦<PageCache<M> as Volume>⟧.below core.new.view.v) }
-    ensures armed { result ≡ Done → (M.contents core.new.view.v.machine ≡ M.contents core.old.view.v.machine) × (M.run core.new.view.v.machine ≡ record (M.run core.old.view.v.machine) { armed = Some at }) }
+    ensures unarmed { result ≡ Refused 19 → core.new ≡ core.old }
+    ensures armed { result ≡ Done → (M.contents core.new.view.v.machine ≡ M.contents core.old.view.v.machine) × (M.run core.new.view.v.machine ≡ record (M.run core.old.view.v.machine) { armed = Some at; armed_left = step; armed_value = value }) }
     ensures quiet { Quiet (⟦<PageCache<M> as Volume>⟧.below core.old.view.v) (⟦<PageCache<M> as Volume>⟧.below core.new.view.v) }
     ensures health { ⟦<PageCache<M> as Blocks>⟧.health core.new.view.v ≡ ⟦<PageCache<M> as Blocks>⟧.health core.old.view.v }
     ensures sound { ⟦<PageCache<M> as Blocks>⟧.sound core.new.view.v }

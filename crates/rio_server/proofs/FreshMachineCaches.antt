@@ -40,10 +40,12 @@ cache_reads frames shape c s k sizes disk started = fresh_reads shape s.words (i
 
 pub cache_ready : (shape : VolumeShape) (c : Contents) (s : Seen) (k : Kept) → IsServed shape → IsFreshDisk shape c.disk c.pending → Started c s k → s.count ≡ length c.disk → Ready shape s k
 cache_ready shape c s k sizes disk started count = record {
-  has_shape = record { sizes = sizes.sizes; count = count ∙ disk.count; unnamed = λ b low on. absurd (uncached b on) };
-  mapped = (fresh_reads shape s.words 0 0 (volume_read shape c s k sizes disk started)).mapped;
-  named = record { each = λ i ino slot has on. absurd (uncached _ on) };
-  firm = record { low = λ b low. firm b; owned = λ i slot own. firm _ };
+  order = record {
+    has_shape = record { sizes = sizes.sizes; count = count ∙ disk.count; unnamed = λ b low on. absurd (uncached b on) };
+    mapped = (fresh_reads shape s.words 0 0 (volume_read shape c s k sizes disk started)).mapped;
+    named = record { each = λ i ino slot has on. absurd (uncached _ on) };
+    firm = record { low = λ b low. firm b; owned = λ i slot own. firm _ };
+  };
   idle = started.updating;
 }
   where
