@@ -13,4 +13,6 @@ mod list_mem_tests;
 #[cfg(test)]
 mod mem_disk_tests;
 #[cfg(test)]
+mod memory_tests;
+#[cfg(test)]
 mod same;

@@ -1,1 +1,6 @@
+mod Lent
+mod Rows
+mod Sharing
 mod Spans
+mod Values
+mod Walks

@@ -1,1 +1,4 @@
 pub mod ListMem
+pub mod PhysMem
+pub mod RawWords
+pub mod WordsLent

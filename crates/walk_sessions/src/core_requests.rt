@@ -6,7 +6,7 @@ ghost use Rattle.rio_model.specs.declared.state.State.{State as StateOf};
 use crate::faults::{AnswersRequests, reply_of};
 use crate::plain_server::text_of;
 use request_codec::parse_line;
-use rio_base::{Machine, WordAt};
+use rio_base::{Machine, MemWords, WordAt};
 use rio_server::{fresh_core, fresh_disk};
 use std::alloc::{AllocError, Global};
 use test_servers::{Sizes, checked};
@@ -66,7 +66,10 @@ pub fn requests_of(
     let machine = core.into_machine();
     let trapped = machine.trapped();
     let (memory, _) = machine.into_parts();
-    let word = memory.into_words().get(at as usize).copied().unwrap_or(0);
+    let word = match u32::try_from(at) {
+        Ok(at) if at < memory.len() => memory.load(WordAt(at)),
+        _ => 0,
+    };
     Ok(Asked {
         text,
         stopped_on: asked?,
