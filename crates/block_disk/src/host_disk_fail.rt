@@ -9,7 +9,8 @@ pub enum HostDiskFail {
     /// There is no such file.
     #[error("there is no such file")]
     Absent,
-    /// The file's length is no number of whole blocks, or of fewer than 4 or more than 32,768. Nothing was read.
+    /// The file's length is no number of whole blocks, or of fewer than 4 or more than 32,768, and nothing was read;
+    /// or it became shorter while it was read.
     #[error("the file has no disk's length")]
     BadLength,
     /// The host refused a call.

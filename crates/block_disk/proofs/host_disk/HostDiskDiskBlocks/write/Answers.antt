@@ -6,6 +6,18 @@ use Rattle.block_disk.specs.HostDisks.{IsDiskLength, count_marks}
 use Rattle.block_disk.proofs.HostDiskRules.{contents_written, kept_given, pending_both, pending_more, torn_given}
 use Rattle.block_disk.proofs.host_disk.HostDiskDiskBlocks.write.Goals as goal
 
+-- What the disk has after the call stands first: a body that marks another block is then refused by that clause.
+
+pub returns-in-Ok-clause-writes : goal.returns-in-Ok-clause-writes
+returns-in-Ok-clause-writes g c =
+    let counted : c.saturating_add-self.result ≡ raised c.args.self.now.writes 1 = search rules in
+    contents_written _ _ (g.H.Host.faults c.args.self.now.host) _ _ _ _ _ _ _ _ c.args.b.0 c.in-Ok.ensures.around c.put_block_words.ensures.words c.requires.words (omega (arith, c.requires.block, blocks_many c.args.self.now.words.items)) c.mark.ensures counted _
+
+pub returns-in-Err-clause-writes : goal.returns-in-Err-clause-writes
+returns-in-Err-clause-writes g c =
+    let counted : c.saturating_add-self.result ≡ raised c.args.self.now.writes 1 = search rules in
+    (c.args.from.now, c.requires.words, contents_written _ _ (g.H.Host.faults c.args.self.now.host) _ _ _ _ _ _ _ _ c.args.b.0 c.in-Err.ensures.around c.put_block_words.ensures.words c.requires.words (omega (arith, c.requires.block, blocks_many c.args.self.now.words.items)) c.mark.ensures counted _)
+
 pub mark-requires : goal.mark-requires
 mark-requires g c = omega (arith, c.requires.block, count_marks _ _ c.args.self.now.marks)
 
@@ -50,13 +62,3 @@ invariant_of-self-in-Err g c =
       unwritten_pending = pending_both _ _ _ _ c.args.b.0 disk.unwritten_pending within within_unwritten c.mark-in-Err.ensures c.mark.ensures;
       room_bytes = ap length (with_items_is disk.room c.write_block.new.room (omega (arith, c.write_block.ensures.room, disk.room.ok.0, disk.room_bytes))) ∙ c.write_block.ensures.room;
     }
-
-pub returns-in-Ok-clause-writes : goal.returns-in-Ok-clause-writes
-returns-in-Ok-clause-writes g c =
-    let counted : c.saturating_add-self.result ≡ raised c.args.self.now.writes 1 = search rules in
-    contents_written _ _ (g.H.Host.faults c.args.self.now.host) _ _ _ _ _ _ _ _ c.args.b.0 c.in-Ok.ensures.around c.put_block_words.ensures.words c.requires.words (omega (arith, c.requires.block, blocks_many c.args.self.now.words.items)) c.mark.ensures counted _
-
-pub returns-in-Err-clause-writes : goal.returns-in-Err-clause-writes
-returns-in-Err-clause-writes g c =
-    let counted : c.saturating_add-self.result ≡ raised c.args.self.now.writes 1 = search rules in
-    (c.args.from.now, c.requires.words, contents_written _ _ (g.H.Host.faults c.args.self.now.host) _ _ _ _ _ _ _ _ c.args.b.0 c.in-Err.ensures.around c.put_block_words.ensures.words c.requires.words (omega (arith, c.requires.block, blocks_many c.args.self.now.words.items)) c.mark.ensures counted _)
