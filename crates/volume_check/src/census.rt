@@ -12,9 +12,10 @@ ghost use Rattle.rio_model.specs.VolumeReads.{ReadsAs};
 ghost use Rattle.volume_check.specs.Inodes.{HasInodes, SizesFit, said, said_blocks};
 
 use crate::inode_rules::{DIRECTORY, FILE, REGION};
-use crate::inodes::{DIRECT_PAGES, Inodes};
+use crate::inodes::Inodes;
 use crate::mark_rules::reserved_blocks;
 use crate::numbers::page_count;
+use inode_table::DIRECT_PAGES;
 use rio_base::Ino;
 use rio_model::Census;
 

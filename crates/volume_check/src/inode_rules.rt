@@ -11,9 +11,8 @@ ghost use Rattle.volume_check.specs.Rules.{FailsInodes};
 
 use crate::failures::CheckFail;
 use crate::inodes::Inodes;
-use crate::numbers::{LARGEST_SIZE, PAGE_BYTES};
-use inode_table::inode_block;
-use rio_base::Ino;
+use inode_table::{LARGEST_SIZE, inode_block};
+use rio_base::{Ino, PAGE_BYTES};
 
 /// The kinds of inodes that are used.
 pub const DIRECTORY: u64 = 1;

@@ -3,13 +3,8 @@
 ghost use Rattle.std.specs.Prelude.{◌≡◌, ◌*◌, ◌+◌, ◌/◌, ◌<◌, length};
 ghost use Rattle.rio_base.specs.Layout.{IsIno, half};
 
+use inode_table::INODE_WORDS;
 use rio_base::{Block, Ino, VolumeShape};
-
-/// Words of an inode.
-pub const INODE_WORDS: usize = 16;
-
-/// Pages of a node that are numbered in its inode.
-pub const DIRECT_PAGES: u32 = 24;
 
 /// The word of an inode that has its kind.
 const KIND: usize = 0;

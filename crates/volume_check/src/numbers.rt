@@ -16,20 +16,15 @@ ghost use Rattle.volume_check.specs.Rules.{FailsNumbers};
 
 use crate::failures::CheckFail;
 use crate::inode_rules::broken_at;
-use crate::inodes::{DIRECT_PAGES, Inodes, number_in};
+use crate::inodes::{Inodes, number_in};
 use crate::mark_rules::reserved_blocks;
 use crate::reading::{BLOCK_WORDS, read_words};
-use rio_base::{Block, Blocks, Ino, VolumeShape};
+use inode_table::DIRECT_PAGES;
+use rio_base::{Block, Blocks, Ino, PAGE_BYTES, VolumeShape};
 use std::alloc::{AllocError, Global};
-
-/// Bytes of a page.
-pub const PAGE_BYTES: u64 = 4096;
 
 /// Block numbers of an indirect block, two in each word.
 const TABLE_NUMBERS: u32 = 2 * BLOCK_WORDS as u32;
-
-/// The most bytes of a node: those of the pages that its inode and its indirect block number.
-pub const LARGEST_SIZE: u64 = PAGE_BYTES * (DIRECT_PAGES + TABLE_NUMBERS) as u64;
 
 /// How many pages a node of so many bytes has.
 pub fn page_count(size: u64) -> u32

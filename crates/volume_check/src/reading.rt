@@ -9,7 +9,8 @@ ghost use Rattle.volume_check.specs.Looking.{CanLook, Looked};
 ghost use Rattle.volume_check.specs.NodeWords.{PushesBlock};
 
 use crate::failures::CheckFail;
-use crate::inodes::{INODE_WORDS, Inodes};
+use crate::inodes::Inodes;
+use inode_table::{BLOCK_INODES, INODE_WORDS};
 use rio_base::{Block, Blocks, VolumeShape};
 use std::alloc::Global;
 
@@ -18,9 +19,6 @@ pub const BLOCK_WORDS: usize = 512;
 
 /// The first block of inodes.
 pub const FIRST_INODES: u32 = 2;
-
-/// Inodes of a block.
-pub const BLOCK_INODES: u32 = 32;
 
 /// Reads words of block `b`, from word `w` on, as many as `into` has.
 pub fn read_words<V: Blocks>(v: &mut V, b: Block, w: u16, into: &mut [u64]) -> Result<(), CheckFail>

@@ -4,8 +4,7 @@ ghost use Rattle.std.specs.Prelude.{◌≡◌, ◌↔◌, ℕ, ◌+◌, ◌-◌,
 ghost use Rattle.rio_model.specs.Undo.{Links, before_by, taken, undo_records, undo_word};
 ghost use Rattle.volume_check.specs.RegionWords.{HasRecords, IsRecordAt, put_over};
 
-/// The header's word that names the newest record: 0 where there is none, else 1 and the undo word at which it lies.
-const HEAD: usize = 3;
+use rio_base::UNDO_HEAD;
 
 /// Words before the undo pages: those of the header's page.
 const UNDO_FROM: usize = 512;
@@ -74,7 +73,7 @@ pub(crate) fn are_records(front: &[u64], places: u64) -> bool
     requires { 512 ≤ length front.now }
     ensures { IsTrue result ↔ HasRecords (slice_index front.now) (length front.now - 512) places }
 {
-    let head = front[HEAD];
+    let head = front[UNDO_HEAD as usize];
     let mut newest = 0;
     let mut end = 0;
     while newest != head {
@@ -107,7 +106,7 @@ pub(crate) fn put_back(front: &[u64], map: &mut [u64])
     requires fits { taken (undo_records (slice_index front.now)) ≤ length front.now - 512 }
     ensures { (q : ℕ) → q < length map.old → slice_index map.new q ≡ before_by (undo_records (slice_index front.now)) (slice_index map.old) q }
 {
-    let mut head = front[HEAD];
+    let mut head = front[UNDO_HEAD as usize];
     while head != 0 {
         let at = (head - 1) as usize;
         put_record(map, undo_word(front, at + 1), old_words(front, at));

@@ -9,9 +9,7 @@ ghost use Rattle.volume_check.specs.RegionWords.{Begins, HasPages};
 use crate::reading::BLOCK_WORDS;
 use crate::region_heap::is_of_blocks;
 use crate::region_records::{are_records, put_back};
-
-/// The header's first word: the bytes `VISTAREG`.
-const MAGIC: u64 = 0x4745_5241_5453_4956;
+use rio_base::REGION_MAGIC;
 
 /// How many pages a region has, by its header.
 #[derive(Clone, Copy)]
@@ -46,7 +44,7 @@ pub(crate) fn region_pages(header: &[u64], count: u32) -> Option<RegionPages>
     requires few { count < 2 ^ 30 }
     ensures { MatchOption result ((undo pages : ℕ) → ¬ HasPages (512 * count) (slice_index header.now) undo pages) (λ p. HasPages (512 * count) (slice_index header.now) p.undo p.pages) }
 {
-    if header[0] != MAGIC {
+    if header[0] != REGION_MAGIC {
         return None;
     }
     let most = u64::from(count);

@@ -10,11 +10,9 @@ ghost use Rattle.volume_check.specs.Looking.{CanLook, Looked};
 ghost use Rattle.volume_check.specs.Rules.{FailsShape};
 
 use crate::failures::CheckFail;
-use crate::reading::{BLOCK_INODES, BLOCK_WORDS, read_words};
-use rio_base::{Block, Blocks, VolumeShape};
-
-/// The text `RIOVOLUM` as a word.
-const MAGIC: u64 = 0x4d55_4c4f_564f_4952;
+use crate::reading::{BLOCK_WORDS, read_words};
+use inode_table::BLOCK_INODES;
+use rio_base::{Block, Blocks, VOLUME_MAGIC, VolumeShape};
 
 /// The version of the layout that is served.
 const VERSION: u32 = 1;
@@ -62,7 +60,7 @@ fn served_shape(inodes: u64, count: u32) -> Option<VolumeShape>
 fn shape_of(words: &[u64; SUPERBLOCK_WORDS], count: u32) -> Option<VolumeShape>
     ensures { (f : BlockWords) → IsRun f 0 0 4 words.now → MatchOption result ((shape : VolumeShape) → ¬ SaysShape f count shape) (SaysShape f count) }
 {
-    if words[0] != MAGIC {
+    if words[0] != VOLUME_MAGIC {
         return None;
     }
     if words[1] != VERSION as u64 {
