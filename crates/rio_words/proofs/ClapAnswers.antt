@@ -232,3 +232,22 @@ module _ (keys ids : List Text) (planned : ArePlanned keys ids) where
   pub takes_given : (words : List Text) (options : Options) (names : List Text) → Gives keys ids (drop 1 words) options names → AreNoFlags (map (λ o. o.1) options) → AreNoFlags names
       → fault_of (plan_app keys ids) words ≡ []
   takes_given words options names gives values no_names = no_fault words options names (given_runs (drop 1 words) options names gives values no_names)
+
+  -- ---- what a walk over the words finds, whatever options and names they give
+
+  abbrev pub walk_rows : List Text → List Row
+  walk_rows words = (settled (built_rules keys ids) (fold (walked (built_rules keys ids) []) (at [] None idle 1 false) words).held).rows
+
+  abbrev pub found_by : List Text → Text → Option Text
+  found_by words id = first_of id (walk_rows words)
+
+  pub given_finds : (words : List Text) (options : Options) (names : List Text) → Gives keys ids words options names → AreNoFlags (map (λ o. o.1) options) → AreNoFlags names
+      → Finds keys ids options names (found_by words)
+  given_finds words options names gives values no_names =
+      let runs = given_runs words options names gives values no_names in
+      let rows_are : walk_rows words ≡ runs.rows = ap (λ h. (settled (built_rules keys ids) h).rows) runs.ends ∙ runs.settles.rows_are in
+      let finds = rows_find runs.rows options names runs.are in
+      record {
+        of_key = λ key known. ap (first_of key) rows_are ∙ finds.of_key key known;
+        of_file = λ k id here. ap (first_of id) rows_are ∙ finds.of_file k id here;
+      }

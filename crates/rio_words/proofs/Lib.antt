@@ -6,5 +6,6 @@ mod ClapPlans
 mod ClapRows
 mod ClapRuns
 mod ClapSteps
+mod OneReading
 mod Ranges
 mod Readings

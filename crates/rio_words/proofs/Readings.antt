@@ -13,7 +13,7 @@ use Rattle.rio_words.specs.Clap.{IsMatched, Sorts}
 use Rattle.rio_words.specs.Files.{AreFiles, IsFile}
 use Rattle.rio_words.specs.Plans.{AreNoFlags, ArePlanned, Finds, Gives}
 use Rattle.rio_words.specs.Tokens.{AreTokens, Text, are_different, is_among, keys_of, value_of}
-use Rattle.rio_words.specs.Words.{Begins, HasDrill, HasNumber, HasSizes, IsFileName, IsLine, IsReading, Options, Reads, drill_keys, format_keys, given_by, texts_of}
+use Rattle.rio_words.specs.Words.{Begins, HasDrill, HasNumber, HasSizes, IsFileName, IsLine, IsReading, MayHaveNumber, Options, Reads, drill_keys, format_keys, given_by, texts_of}
 use Rattle.rio_words.specs.declared.command.RioCommand.{RioCommand}
 use Rattle.rio_words.specs.declared.command.RioCommand.TheVariants.{Format, Serve, Registry, Check, Drill}
 use Rattle.rio_words.specs.declared.fail.WordsFail.{WordsFail}
@@ -60,41 +60,45 @@ one_name words a b h k = (bytes_eq-Decides a b).1 (cc (sym h.1 ∙ k.1))
 other_name : (words : List Text) (a : Text) (c : RioCommand) → Begins a words → bytes_eq a (name_of c) ≡ false → Reads words c → ⊥
 other_name words a c h differ r = true≢false (sym (one_name words a (name_of c) h (reads_begins words c r)) ∙ differ)
 
-pub none_but_format : (words : List Text) → Begins (codes "format") words
-    → ((image disk : Text) (frames blocks inodes scratch : ℕ) → Reads words (Format image disk frames blocks inodes scratch) → ⊥) → (c : RioCommand) → Reads words c → ⊥
-none_but_format words h none (Format image disk frames blocks inodes scratch) r = none image disk frames blocks inodes scratch r
-none_but_format words h none (Serve image disk stop) r = other_name words (codes "format") (Serve image disk stop) h refl r
-none_but_format words h none (Registry image) r = other_name words (codes "format") (Registry image) h refl r
-none_but_format words h none (Check image disk) r = other_name words (codes "format") (Check image disk) h refl r
-none_but_format words h none (Drill seed boots requests) r = other_name words (codes "format") (Drill seed boots requests) h refl r
+pub only_format : (words : List Text) → Begins (codes "format") words → (P : RioCommand → Type 0)
+    → ((image disk : Text) (frames blocks inodes scratch : ℕ) → Reads words (Format image disk frames blocks inodes scratch) → P (Format image disk frames blocks inodes scratch)) → (c : RioCommand) → Reads words c → P c
+only_format words h P each (Format image disk frames blocks inodes scratch) r = each image disk frames blocks inodes scratch r
+only_format words h P each (Serve image disk stop) r = absurd (other_name words (codes "format") (Serve image disk stop) h refl r)
+only_format words h P each (Registry image) r = absurd (other_name words (codes "format") (Registry image) h refl r)
+only_format words h P each (Check image disk) r = absurd (other_name words (codes "format") (Check image disk) h refl r)
+only_format words h P each (Drill seed boots requests) r = absurd (other_name words (codes "format") (Drill seed boots requests) h refl r)
 
-pub none_but_serve : (words : List Text) → Begins (codes "serve") words → ((image disk : Text) (stop : Option ℕ) → Reads words (Serve image disk stop) → ⊥) → (c : RioCommand) → Reads words c → ⊥
-none_but_serve words h none (Serve image disk stop) r = none image disk stop r
-none_but_serve words h none (Format image disk frames blocks inodes scratch) r = other_name words (codes "serve") (Format image disk frames blocks inodes scratch) h refl r
-none_but_serve words h none (Registry image) r = other_name words (codes "serve") (Registry image) h refl r
-none_but_serve words h none (Check image disk) r = other_name words (codes "serve") (Check image disk) h refl r
-none_but_serve words h none (Drill seed boots requests) r = other_name words (codes "serve") (Drill seed boots requests) h refl r
+pub only_serve : (words : List Text) → Begins (codes "serve") words → (P : RioCommand → Type 0)
+    → ((image disk : Text) (stop : Option ℕ) → Reads words (Serve image disk stop) → P (Serve image disk stop)) → (c : RioCommand) → Reads words c → P c
+only_serve words h P each (Serve image disk stop) r = each image disk stop r
+only_serve words h P each (Format image disk frames blocks inodes scratch) r = absurd (other_name words (codes "serve") (Format image disk frames blocks inodes scratch) h refl r)
+only_serve words h P each (Registry image) r = absurd (other_name words (codes "serve") (Registry image) h refl r)
+only_serve words h P each (Check image disk) r = absurd (other_name words (codes "serve") (Check image disk) h refl r)
+only_serve words h P each (Drill seed boots requests) r = absurd (other_name words (codes "serve") (Drill seed boots requests) h refl r)
 
-pub none_but_registry : (words : List Text) → Begins (codes "registry") words → ((image : Text) → Reads words (Registry image) → ⊥) → (c : RioCommand) → Reads words c → ⊥
-none_but_registry words h none (Registry image) r = none image r
-none_but_registry words h none (Format image disk frames blocks inodes scratch) r = other_name words (codes "registry") (Format image disk frames blocks inodes scratch) h refl r
-none_but_registry words h none (Serve image disk stop) r = other_name words (codes "registry") (Serve image disk stop) h refl r
-none_but_registry words h none (Check image disk) r = other_name words (codes "registry") (Check image disk) h refl r
-none_but_registry words h none (Drill seed boots requests) r = other_name words (codes "registry") (Drill seed boots requests) h refl r
+pub only_registry : (words : List Text) → Begins (codes "registry") words → (P : RioCommand → Type 0) → ((image : Text) → Reads words (Registry image) → P (Registry image))
+    → (c : RioCommand) → Reads words c → P c
+only_registry words h P each (Registry image) r = each image r
+only_registry words h P each (Format image disk frames blocks inodes scratch) r = absurd (other_name words (codes "registry") (Format image disk frames blocks inodes scratch) h refl r)
+only_registry words h P each (Serve image disk stop) r = absurd (other_name words (codes "registry") (Serve image disk stop) h refl r)
+only_registry words h P each (Check image disk) r = absurd (other_name words (codes "registry") (Check image disk) h refl r)
+only_registry words h P each (Drill seed boots requests) r = absurd (other_name words (codes "registry") (Drill seed boots requests) h refl r)
 
-pub none_but_check : (words : List Text) → Begins (codes "check") words → ((image disk : Text) → Reads words (Check image disk) → ⊥) → (c : RioCommand) → Reads words c → ⊥
-none_but_check words h none (Check image disk) r = none image disk r
-none_but_check words h none (Format image disk frames blocks inodes scratch) r = other_name words (codes "check") (Format image disk frames blocks inodes scratch) h refl r
-none_but_check words h none (Serve image disk stop) r = other_name words (codes "check") (Serve image disk stop) h refl r
-none_but_check words h none (Registry image) r = other_name words (codes "check") (Registry image) h refl r
-none_but_check words h none (Drill seed boots requests) r = other_name words (codes "check") (Drill seed boots requests) h refl r
+pub only_check : (words : List Text) → Begins (codes "check") words → (P : RioCommand → Type 0) → ((image disk : Text) → Reads words (Check image disk) → P (Check image disk))
+    → (c : RioCommand) → Reads words c → P c
+only_check words h P each (Check image disk) r = each image disk r
+only_check words h P each (Format image disk frames blocks inodes scratch) r = absurd (other_name words (codes "check") (Format image disk frames blocks inodes scratch) h refl r)
+only_check words h P each (Serve image disk stop) r = absurd (other_name words (codes "check") (Serve image disk stop) h refl r)
+only_check words h P each (Registry image) r = absurd (other_name words (codes "check") (Registry image) h refl r)
+only_check words h P each (Drill seed boots requests) r = absurd (other_name words (codes "check") (Drill seed boots requests) h refl r)
 
-pub none_but_drill : (words : List Text) → Begins (codes "drill") words → ((seed boots requests : ℕ) → Reads words (Drill seed boots requests) → ⊥) → (c : RioCommand) → Reads words c → ⊥
-none_but_drill words h none (Drill seed boots requests) r = none seed boots requests r
-none_but_drill words h none (Format image disk frames blocks inodes scratch) r = other_name words (codes "drill") (Format image disk frames blocks inodes scratch) h refl r
-none_but_drill words h none (Serve image disk stop) r = other_name words (codes "drill") (Serve image disk stop) h refl r
-none_but_drill words h none (Registry image) r = other_name words (codes "drill") (Registry image) h refl r
-none_but_drill words h none (Check image disk) r = other_name words (codes "drill") (Check image disk) h refl r
+pub only_drill : (words : List Text) → Begins (codes "drill") words → (P : RioCommand → Type 0)
+    → ((seed boots requests : ℕ) → Reads words (Drill seed boots requests) → P (Drill seed boots requests)) → (c : RioCommand) → Reads words c → P c
+only_drill words h P each (Drill seed boots requests) r = each seed boots requests r
+only_drill words h P each (Format image disk frames blocks inodes scratch) r = absurd (other_name words (codes "drill") (Format image disk frames blocks inodes scratch) h refl r)
+only_drill words h P each (Serve image disk stop) r = absurd (other_name words (codes "drill") (Serve image disk stop) h refl r)
+only_drill words h P each (Registry image) r = absurd (other_name words (codes "drill") (Registry image) h refl r)
+only_drill words h P each (Check image disk) r = absurd (other_name words (codes "drill") (Check image disk) h refl r)
 
 -- ---- texts that begin with no `-`
 
@@ -337,7 +341,7 @@ format_given words image disk frames blocks inodes scratch r = record {
   no_flags = names_no_flags (image ∷ disk ∷ []) r.1.named;
 }
 
-format_alone : (words : List Text) (found : Text → Option Text) (image disk : Text) (frames blocks inodes scratch : ℕ) → Sorts format_keys pair_ids (drop 1 words) found
+pub format_alone : (words : List Text) (found : Text → Option Text) (image disk : Text) (frames blocks inodes scratch : ℕ) → Sorts format_keys pair_ids (drop 1 words) found
     → Reads words (Format image disk frames blocks inodes scratch) → AreFiles found image disk × HasSizes found frames blocks inodes scratch
 unfolding format_given
 format_alone words found image disk frames blocks inodes scratch s r =
@@ -350,26 +354,39 @@ format_alone words found image disk frames blocks inodes scratch s r =
 pub format_without_files : (words : List Text) (found : Text → Option Text) → Begins (codes "format") words → Sorts format_keys pair_ids (drop 1 words) found
     → ((image disk : Text) → AreFiles found image disk → ⊥) → (c : RioCommand) → Reads words c → ⊥
 format_without_files words found begins s none =
-    none_but_format words begins (λ image disk frames blocks inodes scratch r. none image disk (format_alone words found image disk frames blocks inodes scratch s r).0)
+    only_format words begins (λ c. ⊥) (λ image disk frames blocks inodes scratch r. none image disk (format_alone words found image disk frames blocks inodes scratch s r).0)
 
 pub format_without_sizes : (words : List Text) (found : Text → Option Text) → Begins (codes "format") words → Sorts format_keys pair_ids (drop 1 words) found
     → ((frames blocks inodes scratch : ℕ) → HasSizes found frames blocks inodes scratch → ⊥) → (c : RioCommand) → Reads words c → ⊥
 format_without_sizes words found begins s none =
-    none_but_format words begins (λ image disk frames blocks inodes scratch r. none frames blocks inodes scratch (format_alone words found image disk frames blocks inodes scratch s r).1)
+    only_format words begins (λ c. ⊥) (λ image disk frames blocks inodes scratch r. none frames blocks inodes scratch (format_alone words found image disk frames blocks inodes scratch s r).1)
 
 abbrev pub GivesNone : List Text → List Text → List Text → Type 0
 GivesNone keys ids words = (options : Options) (names : List Text) → Gives keys ids (drop 1 words) options names → AreNoFlags (map (λ o. o.1) options) → AreNoFlags names → ⊥
 
 pub not_format : (words : List Text) → Begins (codes "format") words → GivesNone format_keys pair_ids words → (c : RioCommand) → Reads words c → ⊥
-not_format words begins none = none_but_format words begins (λ image disk frames blocks inodes scratch r.
+not_format words begins none = only_format words begins (λ c. ⊥) (λ image disk frames blocks inodes scratch r.
     let given = format_given words image disk frames blocks inodes scratch r in
     none given.options given.names given.gives given.values given.no_flags)
 
+-- options of a command that has none give no stop
+none_given : (options : Options) (key : Text) → list_all (λ o. is_among [] o.0) options ≡ true → given_by options key ≡ None
+none_given [] key known = refl
+none_given (o ∷ options) key known = absurd (true≢false (sym known))
+
+pub no_stop : (options : Options) (stop : Option ℕ) → list_all (λ o. is_among [] o.0) options ≡ true → MayHaveNumber (given_by options) (codes "stop") stop → stop ≡ None
+no_stop options None known has = refl
+no_stop options (Some n) known has = absurd (cc (sym has.given ∙ none_given options (codes "stop") known))
+
 pub serve_read : (words : List Text) (found : Text → Option Text) (image disk : Text) → Begins (codes "serve") words → Sorts [] pair_ids (drop 1 words) found → AreFiles found image disk
     → Reads words (Serve image disk None)
-serve_read words found image disk begins s files = (s.options, pair_line (codes "serve") [] words found image disk begins s files, refl)
+serve_read words found image disk begins s files = (
+  s.options,
+  pair_line (codes "serve") [] words found image disk begins s files,
+  none_given s.options (codes "stop") s.gives.known,
+)
 
-pair_given : (command : Text) (words : List Text) (options : Options) (image disk : Text) → IsLine command [] words options (image ∷ disk ∷ []) → GivenAs [] pair_ids words
+pub pair_given : (command : Text) (words : List Text) (options : Options) (image disk : Text) → IsLine command [] words options (image ∷ disk ∷ []) → GivenAs [] pair_ids words
 pair_given command words options image disk line = record {
   options = options;
   names = image ∷ disk ∷ [];
@@ -378,7 +395,7 @@ pair_given command words options image disk line = record {
   no_flags = names_no_flags (image ∷ disk ∷ []) line.named;
 }
 
-pair_alone : (command : Text) (words : List Text) (found : Text → Option Text) (options : Options) (image disk : Text) → Sorts [] pair_ids (drop 1 words) found
+pub pair_alone : (command : Text) (words : List Text) (found : Text → Option Text) (options : Options) (image disk : Text) → Sorts [] pair_ids (drop 1 words) found
     → IsLine command [] words options (image ∷ disk ∷ []) → AreFiles found image disk
 unfolding pair_given
 pair_alone command words found options image disk s line =
@@ -387,10 +404,10 @@ pair_alone command words found options image disk s line =
 
 pub serve_without_files : (words : List Text) (found : Text → Option Text) → Begins (codes "serve") words → Sorts [] pair_ids (drop 1 words) found
     → ((image disk : Text) → AreFiles found image disk → ⊥) → (c : RioCommand) → Reads words c → ⊥
-serve_without_files words found begins s none = none_but_serve words begins (λ image disk stop r. none image disk (pair_alone (codes "serve") words found r.0 image disk s r.1))
+serve_without_files words found begins s none = only_serve words begins (λ c. ⊥) (λ image disk stop r. none image disk (pair_alone (codes "serve") words found r.0 image disk s r.1))
 
 pub not_serve : (words : List Text) → Begins (codes "serve") words → GivesNone [] pair_ids words → (c : RioCommand) → Reads words c → ⊥
-not_serve words begins none = none_but_serve words begins (λ image disk stop r.
+not_serve words begins none = only_serve words begins (λ c. ⊥) (λ image disk stop r.
     let given = pair_given (codes "serve") words r.0 image disk r.1 in
     none given.options given.names given.gives given.values given.no_flags)
 
@@ -400,10 +417,10 @@ check_read words found image disk begins s files = (s.options, pair_line (codes 
 
 pub check_without_files : (words : List Text) (found : Text → Option Text) → Begins (codes "check") words → Sorts [] pair_ids (drop 1 words) found
     → ((image disk : Text) → AreFiles found image disk → ⊥) → (c : RioCommand) → Reads words c → ⊥
-check_without_files words found begins s none = none_but_check words begins (λ image disk r. none image disk (pair_alone (codes "check") words found r.0 image disk s r.1))
+check_without_files words found begins s none = only_check words begins (λ c. ⊥) (λ image disk r. none image disk (pair_alone (codes "check") words found r.0 image disk s r.1))
 
 pub not_check : (words : List Text) → Begins (codes "check") words → GivesNone [] pair_ids words → (c : RioCommand) → Reads words c → ⊥
-not_check words begins none = none_but_check words begins (λ image disk r.
+not_check words begins none = only_check words begins (λ c. ⊥) (λ image disk r.
     let given = pair_given (codes "check") words r.0 image disk r.1 in
     none given.options given.names given.gives given.values given.no_flags)
 
@@ -411,7 +428,7 @@ pub registry_read : (words : List Text) (found : Text → Option Text) (image : 
     → Reads words (Registry image)
 registry_read words found image begins s file = (s.options, image_line (codes "registry") words found image begins s file)
 
-registry_given : (words : List Text) (image : Text) → Reads words (Registry image) → GivenAs [] image_ids words
+pub registry_given : (words : List Text) (image : Text) → Reads words (Registry image) → GivenAs [] image_ids words
 registry_given words image r = record {
   options = r.0;
   names = image ∷ [];
@@ -420,15 +437,18 @@ registry_given words image r = record {
   no_flags = names_no_flags (image ∷ []) r.1.named;
 }
 
+pub registry_alone : (words : List Text) (found : Text → Option Text) (image : Text) → Sorts [] image_ids (drop 1 words) found → Reads words (Registry image) → IsFile found (codes "image") image
+unfolding registry_given
+registry_alone words found image s r =
+    let given = registry_given words image r in
+    line_image (codes "registry") words r.0 image found r.1 (s.alone given.options given.names given.gives given.values given.no_flags)
+
 pub registry_without_file : (words : List Text) (found : Text → Option Text) → Begins (codes "registry") words → Sorts [] image_ids (drop 1 words) found
     → ((image : Text) → IsFile found (codes "image") image → ⊥) → (c : RioCommand) → Reads words c → ⊥
-unfolding registry_given
-registry_without_file words found begins s none = none_but_registry words begins (λ image r.
-    let given = registry_given words image r in
-    none image (line_image (codes "registry") words r.0 image found r.1 (s.alone given.options given.names given.gives given.values given.no_flags)))
+registry_without_file words found begins s none = only_registry words begins (λ c. ⊥) (λ image r. none image (registry_alone words found image s r))
 
 pub not_registry : (words : List Text) → Begins (codes "registry") words → GivesNone [] image_ids words → (c : RioCommand) → Reads words c → ⊥
-not_registry words begins none = none_but_registry words begins (λ image r.
+not_registry words begins none = only_registry words begins (λ c. ⊥) (λ image r.
     let given = registry_given words image r in
     none given.options given.names given.gives given.values given.no_flags)
 
@@ -440,7 +460,7 @@ drill_read words found seed boots requests begins s numbers = (
   drill_moved found (given_by s.options) seed boots requests (λ key known. sym (s.finds.of_key key known)) numbers,
 )
 
-drill_given : (words : List Text) (seed boots requests : ℕ) → Reads words (Drill seed boots requests) → GivenAs drill_keys [] words
+pub drill_given : (words : List Text) (seed boots requests : ℕ) → Reads words (Drill seed boots requests) → GivenAs drill_keys [] words
 drill_given words seed boots requests r = record {
   options = r.0;
   names = [];
@@ -449,16 +469,21 @@ drill_given words seed boots requests r = record {
   no_flags = names_no_flags [] r.1.named;
 }
 
-pub drill_without_numbers : (words : List Text) (found : Text → Option Text) → Begins (codes "drill") words → Sorts drill_keys [] (drop 1 words) found
-    → ((seed boots requests : ℕ) → HasDrill found seed boots requests → ⊥) → (c : RioCommand) → Reads words c → ⊥
+pub drill_alone : (words : List Text) (found : Text → Option Text) (seed boots requests : ℕ) → Sorts drill_keys [] (drop 1 words) found → Reads words (Drill seed boots requests)
+    → HasDrill found seed boots requests
 unfolding drill_given
-drill_without_numbers words found begins s none = none_but_drill words begins (λ seed boots requests r.
+drill_alone words found seed boots requests s r =
     let given = drill_given words seed boots requests r in
     let finds = s.alone given.options given.names given.gives given.values given.no_flags in
-    none seed boots requests (drill_moved (given_by r.0) found seed boots requests finds.of_key r.2))
+    drill_moved (given_by r.0) found seed boots requests finds.of_key r.2
+
+pub drill_without_numbers : (words : List Text) (found : Text → Option Text) → Begins (codes "drill") words → Sorts drill_keys [] (drop 1 words) found
+    → ((seed boots requests : ℕ) → HasDrill found seed boots requests → ⊥) → (c : RioCommand) → Reads words c → ⊥
+drill_without_numbers words found begins s none =
+    only_drill words begins (λ c. ⊥) (λ seed boots requests r. none seed boots requests (drill_alone words found seed boots requests s r))
 
 pub not_drill : (words : List Text) → Begins (codes "drill") words → GivesNone drill_keys [] words → (c : RioCommand) → Reads words c → ⊥
-not_drill words begins none = none_but_drill words begins (λ seed boots requests r.
+not_drill words begins none = only_drill words begins (λ c. ⊥) (λ seed boots requests r.
     let given = drill_given words seed boots requests r in
     none given.options given.names given.gives given.values given.no_flags)
 

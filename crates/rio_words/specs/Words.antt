@@ -1,5 +1,5 @@
 -- Words that are a command.
-use Rattle.std.specs.Prelude.{◌≡◌, ◌≢◌, ◌≤◌, ℕ, List, [], ◌∷◌, All, codes, true, map, slice_index, Option, Some, None, Result, Ok, Err, String}
+use Rattle.std.specs.Prelude.{◌≡◌, ◌≢◌, ◌≤◌, ℕ, List, [], ◌∷◌, All, codes, true, map, slice_index, Option, Some, None, Result, Ok, Err, IfOk, String}
 use Rattle.std.specs.Global.{Global}
 use Rattle.std.specs.List.{list_all}
 use Rattle.std.specs.String.{string_bytes}
@@ -34,6 +34,11 @@ pub record HasNumber (found : Text → Option Text) (key : Text) (n : ℕ) : Typ
   pub given : found key ≡ Some text
   pub number : IsNumber text n
 
+-- an option that may be missing has this number, or none
+abbrev pub MayHaveNumber : (Text → Option Text) → Text → Option ℕ → Type 0
+MayHaveNumber found key None = found key ≡ None
+MayHaveNumber found key (Some n) = HasNumber found key n
+
 -- the sizes of a fresh pair
 pub record HasSizes (found : Text → Option Text) (frames blocks inodes scratch : ℕ) : Type 0 where
   pub frames_are : HasNumber found (codes "frames") frames
@@ -63,6 +68,10 @@ pub record HasDrill (found : Text → Option Text) (seed boots requests : ℕ) :
 abbrev pub format_keys : List Text
 format_keys = codes "frames" ∷ codes "blocks" ∷ codes "inodes" ∷ codes "scratch" ∷ []
 
+-- none, as long as no stop can be asked for
+abbrev pub serve_keys : List Text
+serve_keys = []
+
 abbrev pub drill_keys : List Text
 drill_keys = codes "seed" ∷ codes "boots" ∷ codes "requests" ∷ []
 
@@ -77,7 +86,8 @@ given_by options key = value_of key options
 abbrev pub Reads : List Text → RioCommand → Type 0
 Reads words (Format image disk frames blocks inodes scratch) =
     (options : Options) × IsLine (codes "format") format_keys words options (image ∷ disk ∷ []) × HasSizes (given_by options) frames blocks inodes scratch
-Reads words (Serve image disk stop) = (options : Options) × IsLine (codes "serve") [] words options (image ∷ disk ∷ []) × (stop ≡ None)
+Reads words (Serve image disk stop) =
+    (options : Options) × IsLine (codes "serve") serve_keys words options (image ∷ disk ∷ []) × MayHaveNumber (given_by options) (codes "stop") stop
 Reads words (Registry image) = (options : Options) × IsLine (codes "registry") [] words options (image ∷ [])
 Reads words (Check image disk) = (options : Options) × IsLine (codes "check") [] words options (image ∷ disk ∷ [])
 Reads words (Drill seed boots requests) = (options : Options) × IsLine (codes "drill") drill_keys words options [] × HasDrill (given_by options) seed boots requests
@@ -87,6 +97,10 @@ abbrev pub IsReading : List Text → Result RioCommand WordsFail → Type 0
 IsReading words (Ok command) = Reads words command
 IsReading words (Err Usage) = (command : RioCommand) → Reads words command → ⊥
 IsReading words (Err Memory) = Unit {0}
+
+-- where a command is answered, the words are a form of no other
+abbrev pub IsOnlyReading : List Text → Result RioCommand WordsFail → Type 0
+IsOnlyReading words result = IfOk result (λ command. (other : RioCommand) → Reads words other → other ≡ command)
 
 -- words as texts
 abbrev pub texts_of : List (String Global) → List Text

@@ -1,7 +1,7 @@
 //! Words read as a command.
 
 ghost use Rattle.std.specs.Prelude.{◌≡◌, ◌∷◌, ℕ, List, codes, IfOk};
-ghost use Rattle.rio_words.specs.Words.{Begins, IsReading, texts_of};
+ghost use Rattle.rio_words.specs.Words.{Begins, IsOnlyReading, IsReading, texts_of};
 
 use crate::command::RioCommand;
 use crate::drill_words::{DRILL_OPTIONS, numbers_of};
@@ -24,9 +24,12 @@ const SERVE_OPTIONS: [&str; 0] = [];
 /// No options, and no files.
 const NONE: [&str; 0] = [];
 
-/// Reads the words behind the program's name. `Usage` is the answer exactly where they are no form of a command.
+/// Reads the words behind the program's name. `Usage` is the answer exactly where they are no form of a command, and a command
+/// is the only one that they are a form of.
+#[tactic(auto, using(crate::proofs::OneReading::only_reading))]
 pub fn read_words(alloc: Global, words: &Vec<String>) -> Result<RioCommand, WordsFail>
-    ensures { IsReading (texts_of words.now.items) result }
+    ensures reading { IsReading (texts_of words.now.items) result }
+    ensures only { IsOnlyReading (texts_of words.now.items) result }
 {
     let words = words.as_slice();
     let Some(command) = words.first() else {
