@@ -1,0 +1,122 @@
+-- What stands over the parts of a reboot, one after the other.
+use Rattle.warm_reboot.proofs.Common.{Err, false, length, refl, true, ℕ, ◌≡◌, ◌≢◌, ◌≤◌, ap, arith, subst, sym, ◌∙◌, Contents, Running, Endures, Restorable, none_apart}
+use Rattle.std.specs.Prelude.{Option, None, Some, ◌==◌}
+use Rattle.rio_base.specs.Blocks.{BlockWords, Ends, Home}
+use Rattle.rio_base.specs.Counts.{Rose}
+use Rattle.rio_base.specs.declared.failures.VolFail.{VolFail}
+use Rattle.rio_base.specs.declared.failures.VolFail.TheVariants.{Fault, Stopped}
+use Rattle.rio_base.specs.declared.places.VolumeShape.{VolumeShape}
+use Rattle.rio_base.specs.Volume.{Settled}
+use Rattle.rio_base.proofs.Rules.{rose_later}
+use Rattle.rio_model.specs.declared.state.State.{State}
+use Rattle.rio_model.specs.Cover.{home_of, reads}
+use Rattle.rio_model.specs.CoverStands.{stands_idle}
+use Rattle.rio_model.specs.Registry.{gate_of}
+use Rattle.rio_model.specs.Standing.{Sound, StandsFor}
+use Rattle.rio_model.specs.VolumeReads.{ReadsAs}
+use Rattle.rio_model.specs.VolumeReady.{Ready}
+use Rattle.rio_model.proofs.RebootSteps.{endures_read}
+use Rattle.rio_model.proofs.StandingStates.{AreWhole, SameLengths, one_shape, stands_for_could, stands_for_ready, stands_with_reads}
+use Rattle.registry.specs.Views.{Viewed}
+use Rattle.page_cache.specs.Caches.{CacheSound, Tells, cache_below, cache_health, cache_kept, cache_seen}
+use Rattle.page_cache.specs.Settled.{cache_settled, gate_shut}
+use Rattle.page_cache.specs.declared.tables.CacheTables.{CacheTables}
+use Rattle.region_recovery.proofs.ReadySound.{sound_ready}
+use Rattle.region_recovery.proofs.SameDisk.{same_disk}
+use Rattle.warm_reboot.specs.Boots.{IsCutOff, Survives}
+
+-- ---- one after the other
+
+pub survives_then : (a b c : Contents) (n m o : ℕ) → Survives a b n m → Survives b c m o → Survives a c n o
+survives_then a b c n m o h k = record { state = λ s st. k.state s (h.state s st); sound = λ s st so. k.sound s (h.state s st) (h.sound s st so) }
+
+-- nothing was stored
+pub survives_viewed : (old new : Contents) (r q : Running) → Viewed old new r q → Survives old new (length r.scratch) (length q.scratch)
+survives_viewed old new r q v = record {
+  state = λ s h. stands_for_could old new (length r.scratch) (length q.scratch) s lengths (subst (Restorable new) (sym lengths.scratch) (kept.image (length r.scratch) h.image)) kept.narrows kept.could h;
+  sound = λ s h. kept.sound s.shape;
+}
+  where
+    kept : Endures none_apart old new
+    kept = endures_read old new v.rest
+
+    lengths : SameLengths old new (length r.scratch) (length q.scratch)
+    lengths = record { words = ap (λ (c : Contents). length c.words) v.rest; blocks = ap (λ (c : Contents). length c.disk) v.rest; scratch = ap (λ (x : Running). length x.scratch) v.run }
+
+-- ---- it was cut off
+
+pub cut_by : (old new : Contents) (r q : Running) (e : VolFail) → (e ≡ Fault → Rose old.faults.count new.faults.count) → (e ≡ Stopped → q.stopped ≡ true) → Survives old new (length r.scratch) (length q.scratch) → IsCutOff old r new q e
+cut_by old new r q Fault rose stop h = (rose refl, h)
+cut_by old new r q Stopped rose stop h = (stop refl, h)
+
+pub cut_by_ends : {T : Type 0} (old new : Contents) (r q : Running) (e : VolFail) → Ends {T = T} (cache_health old r) (cache_health new q) (Err e) → Survives old new (length r.scratch) (length q.scratch) → IsCutOff old r new q e
+cut_by_ends old new r q Fault ends h = (ends.cause.0, h)
+cut_by_ends old new r q Stopped ends h = (ends.cause, h)
+
+-- after a part that was not
+pub cut_later : (a b c : Contents) (q r s : Running) (e : VolFail) → a.faults.count ≤ b.faults.count → Survives a b (length q.scratch) (length r.scratch) → IsCutOff b r c s e → IsCutOff a q c s e
+cut_later a b c q r s Fault less h k = (rose_later _ _ _ less k.0, survives_then a b c (length q.scratch) (length r.scratch) (length s.scratch) h k.1)
+cut_later a b c q r s Stopped less h k = (k.0, survives_then a b c (length q.scratch) (length r.scratch) (length s.scratch) h k.1)
+
+-- ---- over a cache that is ready
+
+-- the volume reads as what memory and disk stand for
+read_standing : (c : Contents) (n : ℕ) (t : CacheTables) (shape : VolumeShape) (s : State) → AreWhole c → Ready shape (cache_seen c) (cache_kept c t) → StandsFor c n s → (s.shape ≡ shape) × ReadsAs shape (reads c) s
+read_standing c n t shape s whole ready h = (same, subst (λ (sh : VolumeShape). ReadsAs sh (reads c) s) same reading)
+  where
+    reading : ReadsAs s.shape (reads c) s
+    reading = subst (λ (f : BlockWords). ReadsAs s.shape f s) (stands_idle c (gate_shut c.words ready.idle)) (stands_with_reads c n s whole h).reads
+
+    same : s.shape ≡ shape
+    same = one_shape (reads c) s.shape shape reading.mapped.superblock.words ready.order.mapped.superblock.words
+
+-- calls on a volume that leave what it reads as
+pub survives_ready : (old new : Contents) (r q : Running) (t u : CacheTables) (shape : VolumeShape) → AreWhole old → AreWhole new → length new.pending ≡ length new.disk → length new.words ≡ length old.words → length q.scratch ≡ length r.scratch
+    → CacheSound new (length q.scratch) u → Tells new q (cache_seen new) (cache_health new q) (cache_below new q) (cache_kept new u)
+    → Ready shape (cache_seen old) (cache_kept old t) → Ready shape (cache_seen new) (cache_kept new u) → ((s : State) → ReadsAs shape (reads old) s → ReadsAs shape (reads new) s) → Survives old new (length r.scratch) (length q.scratch)
+survives_ready old new r q t u shape whole still marks size scratch sound tells before after on = record {
+  state = λ s h.
+      let was = read_standing old (length r.scratch) t shape s whole before h in
+      stands_for_ready new (length q.scratch) s (cache_seen new) (cache_kept new u) tells.stands_as
+      (record { cached = λ b. refl; names = λ b. refl; count = refl })
+      (record { version = h.served.version; pages = omega (arith, h.pages, size, scratch); scratch = h.scratch_pages ∙ sym scratch })
+      settled
+      (subst (λ (sh : VolumeShape). Ready sh (cache_seen new) (cache_kept new u)) (sym was.0) after)
+      (subst (λ (sh : VolumeShape). ReadsAs sh (reads new) s) (sym was.0) (on s was.1));
+  sound = λ s h so.
+      let was = read_standing old (length r.scratch) t shape s whole before h in
+      subst (λ (sh : VolumeShape). Sound new sh) (sym was.0) (sound_ready new (length q.scratch) shape (cache_seen new) (cache_kept new u) marks still tells.stands_as tells.loose refl settled after);
+}
+  where
+    settled : Settled (cache_seen new) (cache_kept new u)
+    settled = cache_settled new (length q.scratch) u sound
+
+-- ---- the disk and the gate
+
+told_or : Home → Option Home → Home
+told_or h None = h
+told_or h (Some k) = k
+
+-- a disk that is told, told again
+home_told : (c d : Contents) → Some (home_of d) ≡ Some (home_of c) → home_of d ≡ home_of c
+unfolding told_or
+home_told c d e = ap (told_or (home_of c)) e
+
+pub disk_by_home : (old new : Contents) → AreWhole old → AreWhole new → length new.disk ≡ length old.disk → Some (home_of new) ≡ Some (home_of old) → new.disk ≡ old.disk
+disk_by_home old new whole still count e = same_disk old new whole still count (home_told old new e)
+
+pub gate_is_shut : (c : Contents) (n : ℕ) (t : CacheTables) → CacheSound c n t → (gate_of c.words == 1) ≡ false → gate_of c.words ≡ 0
+gate_is_shut c n t sound idle = not_one (gate_of c.words) sound.coherent.rules.gate (gate_shut c.words idle)
+  where
+    not_one : (g : ℕ) → g ≤ 1 → g ≢ 1 → g ≡ 0
+    not_one g most ne = omega (arith, most, ne)
+
+-- ---- a view of a cache
+
+-- what is said of one is said of an equal one
+pub by_eq : {V : Type 0} (v w : V) → w ≡ v → (p : V → Type 0) → p w → p v
+by_eq v w e p h = subst p e h
+
+-- what is said of the sizes and the volume that a view was made of is said of the view's
+pub by_view : {V : Type 0} (shape here : VolumeShape) (v w : V) → here ≡ shape → w ≡ v → (p : VolumeShape → V → Type 0) → p here w → p shape v
+by_view shape here v w e k p h = subst (λ (sh : VolumeShape). p sh v) e (subst (p here) k h)

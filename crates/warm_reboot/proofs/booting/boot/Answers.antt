@@ -1,0 +1,26 @@
+use Rattle.std.specs.Prelude.{length}
+use Rattle.warm_reboot.proofs.Examines.{tells_none}
+use Rattle.warm_reboot.proofs.Outcomes.{booted_viewed, either_as, err_as, examined_viewed, now_found, ok_always, ok_as, runs_viewed, unbooted_look, unbooted_viewed}
+use Rattle.rio_base.specs.Rules.{runs_trans}
+use Rattle.warm_reboot.proofs.booting.boot.Goals as goal
+
+pub returns-in-Err-clause-unbooted : goal.returns-in-Err-clause-unbooted
+returns-in-Err-clause-unbooted g c = unbooted_look _ _ _ _ _ c.in-Err.ensures.unexamined c.in-Err.ensures.untouched
+
+pub boot_looked-requires-clause-examined : goal.boot_looked-requires-clause-examined
+boot_looked-requires-clause-examined g c = examined_viewed _ _ _ _ c.in-Ok.examined.census c.in-Ok.ensures.untouched c.in-Ok.ensures.examined
+
+pub returns-in-Ok-clause-booted : goal.returns-in-Ok-clause-booted
+returns-in-Ok-clause-booted g c = ok_as c.boot_looked.result _ _ (λ b h s. booted_viewed _ _ _ _ s b.1 _ _ c.in-Ok.ensures.untouched (h s)) c.boot_looked.ensures.booted
+
+pub returns-in-Ok-clause-unbooted : goal.returns-in-Ok-clause-unbooted
+returns-in-Ok-clause-unbooted g c = err_as c.boot_looked.result _ _ (λ e h. unbooted_viewed _ _ _ _ _ _ e.fail c.in-Ok.ensures.untouched h) c.boot_looked.ensures.unbooted
+
+pub returns-in-Ok-clause-runs : goal.returns-in-Ok-clause-runs
+returns-in-Ok-clause-runs g c = either_as c.boot_looked.result _ _ _ _ (λ b h. runs_trans _ _ _ _ _ _ (runs_viewed _ _ _ _ c.in-Ok.ensures.untouched) h) (λ e h. runs_trans _ _ _ _ _ _ (runs_viewed _ _ _ _ c.in-Ok.ensures.untouched) h) c.boot_looked.ensures.runs
+
+pub returns-in-Err-clause-standing : goal.returns-in-Err-clause-standing
+returns-in-Err-clause-standing g c = λ s h. tells_none (g.M.Machine.contents c.args.machine) (g.M.Machine.contents c.in-Err.error.machine) (g.M.Machine.run c.in-Err.error.machine) (length (g.M.Machine.run c.args.machine).scratch) s c.in-Err.error.fail (g.met.M.Machine.whole_blocks c.args.machine) h c.in-Err.ensures.unexamined
+
+pub returns-in-Ok-clause-state : goal.returns-in-Ok-clause-state
+returns-in-Ok-clause-state g c = ok_always c.boot_looked.result _ (λ b. (c.in-Ok.ensures.examined.state, now_found _ _ c.in-Ok.ensures.examined))
