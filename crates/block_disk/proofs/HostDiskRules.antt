@@ -1,5 +1,5 @@
 -- What a disk that is a file keeps: the file has each block that isn't marked as unwritten.
-use Rattle.std.proofs.Common.{◌≡◌, ◌≢◌, ◌<◌, ◌≤◌, ℕ, ◌+◌, ◌-◌, ◌*◌, ◌/◌, Bool, true, false, List, [], length, take, drop, set, replicate, slice_index, Option, Some, None, is_some, unwrap_or, Ok, ◌⊎◌, inl, inr, refl, sym, ap, subst, ◌∙◌, arith, le_refl, length-drop, get_or-take, get_or-drop, get_or-set_same, get_or-set_other}
+use Rattle.std.proofs.Common.{◌≡◌, ◌≢◌, ◌<◌, ◌≤◌, ℕ, ◌+◌, ◌-◌, ◌*◌, ◌/◌, ◌^◌, Bool, true, false, List, [], length, take, drop, set, replicate, slice_index, Option, Some, None, is_some, unwrap_or, Ok, ◌⊎◌, inl, inr, refl, sym, ap, subst, ◌∙◌, arith, le_refl, length-drop, get_or-take, get_or-drop, get_or-set_same, get_or-set_other}
 use Rattle.std.specs.FinMap.{get}
 use Rattle.std.proofs.lemmas.Bool.{cases_Bool, cases_eq, cases_lt}
 use Rattle.std.proofs.lemmas.List.{ext_get_or, get_or_past, get_or-replicate, length-replicate, length-take-le}
@@ -10,7 +10,7 @@ use Rattle.rio_base.specs.Hosts.{Files, IsFile}
 use Rattle.rio_base.specs.Memory.{FrontStored}
 use Rattle.rio_base.specs.Rules.{true_false}
 use Rattle.rio_base.proofs.Bytes.{length-bytes_of}
-use Rattle.rio_base.proofs.WordBlocks.{block_is, block_words, blocks_many}
+use Rattle.rio_base.proofs.WordBlocks.{block_is, block_long, block_words, blocks_many, blocks_word}
 use Rattle.block_disk.specs.BlockLists.{Lists}
 use Rattle.block_disk.specs.HostDisks.{AreFileWords, FitsFile, HasBlock, HasSettled, IsDiskLength, OnHost, around_of, file_bytes, file_contents}
 use Rattle.block_disk.proofs.FileBlocks.{block_bytes, blocks_changed, others_changed}
@@ -154,6 +154,18 @@ settled told faults writes name words unwritten pending kept whole held = record
         (λ x lt. let small : x < 4096 = omega (arith, lt, long) in
         get_or-take 4096 (drop (4096 * b) bytes) x 0 small ∙ get_or-drop (4096 * b) bytes x 0 ∙ kept.written b clear files e x small ∙ block_bytes words b x within small)
         ∙ ap bytes_of (sym (block_is words b less))
+
+-- words of 64 bits make blocks of such
+pub blocks_fit : (words : List ℕ) → ((i : ℕ) → slice_index words i < 2 ^ 64) → (b w : ℕ) → slice_index (block_at (blocks_of words) b) w < 2 ^ 64
+blocks_fit words fit b w = at (cases_lt b (length words / 512)) (cases_lt w 512)
+  where
+    none : (n : ℕ) → n ≡ 0 → n < 2 ^ 64
+    none n e = omega (arith, e)
+
+    at : (b < length words / 512) ⊎ (length words / 512 ≤ b) → (w < 512) ⊎ (512 ≤ w) → slice_index (block_at (blocks_of words) b) w < 2 ^ 64
+    at (inl less) (inl small) = subst (λ n. n < 2 ^ 64) (sym (blocks_word words b w less small)) (fit (512 * b + w))
+    at (inl less) (inr past) = none (slice_index (block_at (blocks_of words) b) w) (ap (λ (l : List ℕ). slice_index l w) (block_is words b less) ∙ get_or_past (block_words words b) w 0 (omega (arith, past, block_long words b less)))
+    at (inr beyond) place = none (slice_index (block_at (blocks_of words) b) w) (ap (λ (l : List ℕ). slice_index l w) (get_or_past (blocks_of words) b [] (omega (arith, beyond, blocks_many words))))
 
 -- ---- faults
 

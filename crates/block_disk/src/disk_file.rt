@@ -117,7 +117,7 @@ fn rooms(alloc: Global, count: usize) -> Result<(Vec<u64>, Vec<u8>), AllocError>
 }
 
 /// Words have 64 bits.
-fn words_fit(words: &[u64])
+pub fn words_fit(words: &[u64])
     ensures { (i : ℕ) → slice_index words.now i < 2 ^ 64 }
 {}
 

@@ -1,6 +1,6 @@
 //! A disk that is a file of a host.
 
-ghost use Rattle.std.specs.Prelude.{◌≡◌, ◌<◌, ◌≤◌, ◌*◌, ◌+◌, ◌/◌, ◌^◌, ℕ, true, false, List, IsOk, IfOk, IfErr, OnOk, length, replicate};
+ghost use Rattle.std.specs.Prelude.{◌≡◌, ◌<◌, ◌≤◌, ◌*◌, ◌+◌, ◌/◌, ◌^◌, ℕ, true, false, List, IsOk, IfOk, IfErr, OnOk, length, replicate, slice_index};
 ghost use Rattle.std.specs.String.{string_bytes};
 ghost use Rattle.rio_base.specs.Counts.{Rose};
 ghost use Rattle.rio_base.specs.Disks.{HasFaultCause, block_at, blocks_of, is_pending};
@@ -8,7 +8,9 @@ ghost use Rattle.rio_base.specs.Memory.{FrontStored, page_at};
 ghost use Rattle.block_disk.specs.HostDisks.{AreFileWords, FailsAs, HasSettled, IsDiskLength, OnHost, around_of, file_contents};
 
 use crate::block_lists::BLOCK_WORDS;
-use crate::disk_file::{BLOCK_BYTES, count_words, read_words, write_block, write_marked};
+use crate::disk_file::{
+    BLOCK_BYTES, count_words, read_words, words_fit, write_block, write_marked,
+};
 use crate::host_disk_fail::HostDiskFail;
 use crate::pending::PendingBlocks;
 use rio_base::{Block, DiskBlocks, Failed, Host};
@@ -152,9 +154,11 @@ impl<H: Host> HostDisk<H> {
     /// The host, given back. Its file has the bytes of each block that isn't pending.
     pub fn into_host(self) -> H
         ensures file { HasSettled (H.files result) (string_bytes self.name) (⟦<HostDisk<H> as DiskBlocks>⟧.contents self) }
+        ensures fit { (b w : ℕ) → slice_index (block_at (⟦<HostDisk<H> as DiskBlocks>⟧.contents self).blocks b) w < 2 ^ 64 }
         ensures around { around_of (H.files result) (string_bytes self.name) ≡ (⟦<HostDisk<H> as DiskBlocks>⟧.contents self).around }
         ensures faults { H.faults result ≡ (⟦<HostDisk<H> as DiskBlocks>⟧.contents self).faults.count }
     {
+        words_fit(&self.words);
         let HostDisk {
             host,
             name: _,
