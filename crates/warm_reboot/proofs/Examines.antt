@@ -26,6 +26,7 @@ use Rattle.warm_reboot.specs.declared.report.BootFail.{BootFail}
 use Rattle.warm_reboot.specs.declared.report.BootFail.TheVariants.{BadImage, BadVolume, Fault, Memory, Stopped}
 use Rattle.registry.specs.Views.{view_seen}
 use Rattle.region_recovery.specs.RegionLists.{region_inos}
+use Rattle.warm_reboot.specs.Boots.{StandsNow}
 use Rattle.warm_reboot.specs.Examining.{IsExamined, IsLeastMisfit, TellsNoRule, Unexamined}
 use Rattle.warm_reboot.specs.Stale.{MarksStale}
 
@@ -120,15 +121,18 @@ marks_read old new l marks rest h = subst (λ (c : Contents). MarksStale l c.wor
 
 -- ---- where nothing is pending
 
-pub restorable_examined : (c : Contents) (scratch : List ℕ) (census : Census) → HasHeader c.words → HasLayout c.words scratch → IsExamined c census → Restorable c (length scratch)
-restorable_examined c scratch census header layout h = record {
+restorable_found : (c : Contents) (scratch : List ℕ) (s : State) → HasHeader c.words → HasLayout c.words scratch → KeepsRegistry c.words → SaysShape (stands c) (length c.disk) s.shape → StandsWith c s c.disk → Restorable c (length scratch)
+restorable_found c scratch s header layout rules says reads = record {
   header = header;
   sizes = layout.sizes;
   protected = layout.protected;
   scratch_pages = layout.scratch_pages;
-  rules = h.image;
-  on_disk = λ k v. subst (λ (n : ℕ). tag_block (tag_at c.words k) < n) (sym h.says.blocks) (h.reads.entries.each k v).within;
+  rules = rules;
+  on_disk = λ k v. subst (λ (n : ℕ). tag_block (tag_at c.words k) < n) (sym says.blocks) (reads.entries.each k v).within;
 }
+
+pub restorable_examined : (c : Contents) (scratch : List ℕ) (census : Census) → HasHeader c.words → HasLayout c.words scratch → IsExamined c census → Restorable c (length scratch)
+restorable_examined c scratch census header layout h = restorable_found c scratch h.state header layout h.image h.says h.reads
 
 tree_memory : (s : State) (pages scratch : ℕ) → TreeRule s → TreeRule (with_memory s pages scratch)
 unfolding with_memory
@@ -157,34 +161,41 @@ stands_settled_word c disk b w m told = cover_same (page_of_entry c.words) c.wor
   homes = λ x e small. ap (λ (l : List ℕ). slice_index l x) (m.kept b told);
 })
 
--- memory and disk stand for the state that they read as
-pub stands_settled : (c : Contents) (scratch : List ℕ) (census : Census) → HasHeader c.words → HasLayout c.words scratch → IsExamined c census → ((b : ℕ) → is_pending c.pending b ≡ false) → (s : State) × StandsFor c (length scratch) s × IsCensus s census
-unfolding with_memory
-stands_settled c scratch census header layout h none = (
-  with_memory h.state pages (scratch_of c.words),
-  record {
-    image = restorable_examined c scratch census header layout h;
-    served = h.says.served;
-    blocks = h.says.blocks;
-    pages = omega (arith, layout.protected, layout.scratch_pages);
-    scratch_pages = sym layout.scratch_pages;
-    each = λ disk m. record {
-      reads = subst (λ (f : BlockWords). ReadsAs h.state.shape f (with_memory h.state pages (scratch_of c.words))) (sym (same disk m)) (reads_memory h.state.shape (stands c) h.state pages (scratch_of c.words) h.reads.reads);
-      entries = subst (λ (f : BlockWords). EntriesFit (volume_layout h.state.shape f) c.words) (sym (same disk m)) h.reads.entries;
-    };
-  },
-  record { shape = h.counts.shape; dirs = h.counts.dirs; files = h.counts.files; regions = h.counts.regions; used = h.counts.used; free = h.counts.free },
-)
-  where
-    pages : ℕ
-    pages = 17 + registry_pages (frames_of c.words) + frames_of c.words + scratch_of c.words
+-- memory and disk stand for the state that they read as, with their sizes of memory
+abbrev memory_pages : Contents → ℕ
+memory_pages c = 17 + registry_pages (frames_of c.words) + frames_of c.words + scratch_of c.words
 
+stands_read : (c : Contents) (scratch : List ℕ) (s : State) → HasHeader c.words → HasLayout c.words scratch → KeepsRegistry c.words → SaysShape (stands c) (length c.disk) s.shape → StandsWith c s c.disk → ((b : ℕ) → is_pending c.pending b ≡ false) → StandsFor c (length scratch) (with_memory s (memory_pages c) (scratch_of c.words))
+unfolding with_memory
+stands_read c scratch s header layout rules says reads none = record {
+  image = restorable_found c scratch s header layout rules says reads;
+  served = says.served;
+  blocks = says.blocks;
+  pages = omega (arith, layout.protected, layout.scratch_pages);
+  scratch_pages = sym layout.scratch_pages;
+  each = λ disk m. record {
+    reads = subst (λ (f : BlockWords). ReadsAs s.shape f (with_memory s (memory_pages c) (scratch_of c.words))) (sym (same disk m)) (reads_memory s.shape (stands c) s (memory_pages c) (scratch_of c.words) reads.reads);
+    entries = subst (λ (f : BlockWords). EntriesFit (volume_layout s.shape f) c.words) (sym (same disk m)) reads.entries;
+  };
+}
+  where
     same : (disk : List (List ℕ)) → MayLeave c disk → stands_on c disk ≡ stands c
     same disk m = λ i b w. stands_settled_word c disk b w m (none b) i
 
+pub stands_found : (c : Contents) (scratch : List ℕ) (s : State) → HasHeader c.words → HasLayout c.words scratch → KeepsRegistry c.words → StandsNow c s → ((b : ℕ) → is_pending c.pending b ≡ false) → (t : State) × StandsFor c (length scratch) t
+stands_found c scratch s header layout rules h none = (with_memory s (memory_pages c) (scratch_of c.words), stands_read c scratch s header layout rules h.says h.reads none)
+
+pub stands_settled : (c : Contents) (scratch : List ℕ) (census : Census) → HasHeader c.words → HasLayout c.words scratch → IsExamined c census → ((b : ℕ) → is_pending c.pending b ≡ false) → (s : State) × StandsFor c (length scratch) s × IsCensus s census
+unfolding with_memory
+stands_settled c scratch census header layout h none = (
+  with_memory h.state (memory_pages c) (scratch_of c.words),
+  stands_read c scratch h.state header layout h.image h.says h.reads none,
+  record { shape = h.counts.shape; dirs = h.counts.dirs; files = h.counts.files; regions = h.counts.regions; used = h.counts.used; free = h.counts.free },
+)
+
 -- ---- where memory and disk stand for a state
 
-none_registry : (words : List ℕ) (r : ℕ) → KeepsRegistry words → FailsRegistry words r → ⊥
+pub none_registry : (words : List ℕ) (r : ℕ) → KeepsRegistry words → FailsRegistry words r → ⊥
 none_registry words r h (inl x) = x.1 h.gate
 none_registry words r h (inr (_, inl x)) = x.1 h.tags
 none_registry words r h (inr (_, inr (_, inl x))) = x.1 h.blocks

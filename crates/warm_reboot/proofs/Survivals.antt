@@ -1,5 +1,5 @@
 -- What stands over the parts of a reboot, one after the other.
-use Rattle.warm_reboot.proofs.Common.{Err, false, length, refl, true, ℕ, ◌≡◌, ◌≢◌, ◌≤◌, ap, arith, subst, sym, ◌∙◌, Contents, Running, Endures, Restorable, none_apart}
+use Rattle.warm_reboot.proofs.Common.{Err, false, length, refl, true, ℕ, ◌≡◌, ◌≢◌, ◌≤◌, ap, arith, subst, sym, ◌∙◌, is_pending, Contents, Running, Endures, Restorable, none_apart}
 use Rattle.std.specs.Prelude.{Option, None, Some, ◌==◌}
 use Rattle.rio_base.specs.Blocks.{BlockWords, Ends, Home}
 use Rattle.rio_base.specs.Counts.{Rose}
@@ -104,6 +104,10 @@ home_told c d e = ap (told_or (home_of c)) e
 
 pub disk_by_home : (old new : Contents) → AreWhole old → AreWhole new → length new.disk ≡ length old.disk → Some (home_of new) ≡ Some (home_of old) → new.disk ≡ old.disk
 disk_by_home old new whole still count e = same_disk old new whole still count (home_told old new e)
+
+-- and what is pending
+pub pending_by_home : (old new : Contents) → Some (home_of new) ≡ Some (home_of old) → (b : ℕ) → is_pending new.pending b ≡ is_pending old.pending b
+pending_by_home old new e b = ap (λ (h : Home). h.pending b) (home_told old new e)
 
 pub gate_is_shut : (c : Contents) (n : ℕ) (t : CacheTables) → CacheSound c n t → (gate_of c.words == 1) ≡ false → gate_of c.words ≡ 0
 gate_is_shut c n t sound idle = not_one (gate_of c.words) sound.coherent.rules.gate (gate_shut c.words idle)

@@ -1,6 +1,7 @@
 //! A reboot: what memory holds goes to the disk, a cache starts on it, and what no commit sealed is undone.
 
-ghost use Rattle.std.specs.Prelude.{◌≡◌, ◌<◌, ◌≤◌, None, IfErr, IfOk, MatchResult, false, length, true};
+ghost use Rattle.std.specs.Prelude.{◌≡◌, ◌<◌, ◌≤◌, ℕ, None, IfErr, IfOk, MatchResult, false, length, true};
+ghost use Rattle.rio_base.specs.Disks.{is_pending};
 ghost use Rattle.rio_base.specs.Image.{HasHeader};
 ghost use Rattle.rio_base.specs.Volume.{Runs};
 ghost use Rattle.rio_model.specs.declared.state.State.{State};
@@ -43,6 +44,7 @@ pub fn boot<M: Machine>(
     ensures state { IfOk result (λ b. (s : State) × StandsNow (M.contents machine) s) }
     ensures booted { IfOk result (λ b. (s : State) → StandsNow (M.contents machine) s → Booted (M.contents machine) s b.1 (cache_seen (M.contents b.0.machine)) (cache_kept (M.contents b.0.machine) b.0.tables)) }
     ensures restored { IfOk result (λ b. is_roomy (M.contents machine) ≡ true → Restored (volume_layout b.1.shape (stands (M.contents machine))) (M.contents machine).words (M.contents machine).disk (M.contents b.0.machine).disk) }
+    ensures synced { IfOk result (λ b. is_roomy (M.contents machine) ≡ true → (x : ℕ) → is_pending (M.contents b.0.machine).pending x ≡ false) }
     ensures shut { IfOk result (λ b. gate_of (M.contents b.0.machine).words ≡ 0) }
     ensures running { IfOk result (λ b. (M.run b.0.machine).stopped ≡ false) }
     ensures sound { IfOk result (λ b. CacheSound (M.contents b.0.machine) (length (M.run b.0.machine).scratch) b.0.tables) }
@@ -89,6 +91,7 @@ fn boot_looked<M: Machine>(
     requires regions { ino_numbers examined.now.regions.items ≡ region_inos examined.now.census.shape (stands (M.contents machine)) }
     ensures booted { IfOk result (λ b. (s : State) → StandsNow (M.contents machine) s → Booted (M.contents machine) s b.1 (cache_seen (M.contents b.0.machine)) (cache_kept (M.contents b.0.machine) b.0.tables)) }
     ensures restored { IfOk result (λ b. is_roomy (M.contents machine) ≡ true → Restored (volume_layout b.1.shape (stands (M.contents machine))) (M.contents machine).words (M.contents machine).disk (M.contents b.0.machine).disk) }
+    ensures synced { IfOk result (λ b. is_roomy (M.contents machine) ≡ true → (x : ℕ) → is_pending (M.contents b.0.machine).pending x ≡ false) }
     ensures shut { IfOk result (λ b. gate_of (M.contents b.0.machine).words ≡ 0) }
     ensures running { IfOk result (λ b. (M.run b.0.machine).stopped ≡ false) }
     ensures sound { IfOk result (λ b. CacheSound (M.contents b.0.machine) (length (M.run b.0.machine).scratch) b.0.tables) }
@@ -120,6 +123,7 @@ fn boot_examined<M: Machine>(
     requires regions { ino_numbers examined.now.regions.items ≡ region_inos examined.now.census.shape (stands (M.contents machine)) }
     ensures booted { IfOk result (λ b. (s : State) → StandsNow (M.contents machine) s → Booted (M.contents machine) s b.1 (cache_seen (M.contents b.0.machine)) (cache_kept (M.contents b.0.machine) b.0.tables)) }
     ensures restored { IfOk result (λ b. is_roomy (M.contents machine) ≡ true → Restored (volume_layout b.1.shape (stands (M.contents machine))) (M.contents machine).words (M.contents machine).disk (M.contents b.0.machine).disk) }
+    ensures synced { IfOk result (λ b. is_roomy (M.contents machine) ≡ true → (x : ℕ) → is_pending (M.contents b.0.machine).pending x ≡ false) }
     ensures shut { IfOk result (λ b. gate_of (M.contents b.0.machine).words ≡ 0) }
     ensures running { IfOk result (λ b. (M.run b.0.machine).stopped ≡ false) }
     ensures sound { IfOk result (λ b. CacheSound (M.contents b.0.machine) (length (M.run b.0.machine).scratch) b.0.tables) }
@@ -166,6 +170,7 @@ fn recover_cache<M: Machine>(
     requires regions { ino_numbers regions.now ≡ region_inos shape (cache_seen (M.contents cache.machine)).words }
     ensures recovers { IfOk result (λ b. Recovers shape (cache_seen (M.contents cache.machine)) (cache_seen (M.contents b.0.machine)) (cache_kept (M.contents b.0.machine) b.0.tables) b.1) }
     ensures disk { IfOk result (λ b. is_roomy (M.contents cache.machine) ≡ true → (M.contents b.0.machine).disk ≡ (M.contents cache.machine).disk) }
+    ensures pending { IfOk result (λ b. is_roomy (M.contents cache.machine) ≡ true → (x : ℕ) → is_pending (M.contents b.0.machine).pending x ≡ is_pending (M.contents cache.machine).pending x) }
     ensures running { IfOk result (λ b. (M.run b.0.machine).stopped ≡ (M.run cache.machine).stopped) }
     ensures shut { IfOk result (λ b. gate_of (M.contents b.0.machine).words ≡ 0) }
     ensures sound { IfOk result (λ b. CacheSound (M.contents b.0.machine) (length (M.run b.0.machine).scratch) b.0.tables) }

@@ -1,4 +1,6 @@
 use Rattle.std.specs.Prelude.{length}
+use Rattle.std.proofs.Common.{◌∙◌, ap}
+use Rattle.page_cache.specs.Caches.{is_roomy}
 use Rattle.warm_reboot.proofs.Examines.{tells_none}
 use Rattle.warm_reboot.proofs.Outcomes.{booted_viewed, either_as, err_as, examined_viewed, now_found, ok_always, ok_as, runs_viewed, unbooted_look, unbooted_viewed}
 use Rattle.rio_base.specs.Rules.{runs_trans}
@@ -12,6 +14,9 @@ boot_looked-requires-clause-examined g c = examined_viewed _ _ _ _ c.in-Ok.exami
 
 pub returns-in-Ok-clause-booted : goal.returns-in-Ok-clause-booted
 returns-in-Ok-clause-booted g c = ok_as c.boot_looked.result _ _ (λ b h s. booted_viewed _ _ _ _ s b.1 _ _ c.in-Ok.ensures.untouched (h s)) c.boot_looked.ensures.booted
+
+pub returns-in-Ok-clause-synced : goal.returns-in-Ok-clause-synced
+returns-in-Ok-clause-synced g c = ok_as c.boot_looked.result _ _ (λ b h roomy x. h (ap is_roomy c.in-Ok.ensures.untouched.rest ∙ roomy) x) c.boot_looked.ensures.synced
 
 pub returns-in-Ok-clause-unbooted : goal.returns-in-Ok-clause-unbooted
 returns-in-Ok-clause-unbooted g c = err_as c.boot_looked.result _ _ (λ e h. unbooted_viewed _ _ _ _ _ _ e.fail c.in-Ok.ensures.untouched h) c.boot_looked.ensures.unbooted

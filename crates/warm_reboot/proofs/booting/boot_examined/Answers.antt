@@ -50,6 +50,9 @@ returns-in-Ok-recover_cache-clause-restored g c = λ roomy.
     subst (λ (d : List (List ℕ)). Restored l (g.M.Machine.contents c.args.machine).words (g.M.Machine.contents c.args.machine).disk d) (sym (c.in-Ok-recover_cache.ensures.disk (c.in-Ok.ensures.runs.roomy ∙ roomy)))
     (c.in-Ok.ensures.restored l (entries_found (g.M.Machine.contents c.args.machine) c.args.examined.now.census c.requires.examined) marks)
 
+pub returns-in-Ok-recover_cache-clause-synced : goal.returns-in-Ok-recover_cache-clause-synced
+returns-in-Ok-recover_cache-clause-synced g c = λ roomy x. c.in-Ok-recover_cache.ensures.pending (c.in-Ok.ensures.runs.roomy ∙ roomy) x ∙ c.in-Ok.ensures.synced x
+
 pub returns-in-Ok-recover_cache-clause-running : goal.returns-in-Ok-recover_cache-clause-running
 returns-in-Ok-recover_cache-clause-running g c = c.in-Ok-recover_cache.ensures.running ∙ c.in-Ok.ensures.running
 

@@ -1,5 +1,6 @@
 use Rattle.std.proofs.Common.{◌≡◌, ◌∙◌, Err, ap, length, refl, subst, sym, ℕ}
 use Rattle.rio_base.specs.Blocks.{Ends}
+use Rattle.rio_base.specs.Disks.{is_pending}
 use Rattle.rio_base.specs.Volume.{Goes, MemorySizes, Runs}
 use Rattle.rio_base.specs.declared.places.VolumeShape.{VolumeShape}
 use Rattle.rio_model.specs.declared.state.State.{State}
@@ -11,7 +12,7 @@ use Rattle.page_cache.specs.Caches.{CacheSound, Tells, cache_below, cache_health
 use Rattle.region_recovery.specs.RegionLists.{ino_numbers, region_inos}
 use Rattle.warm_reboot.specs.Boots.{IsCutOff}
 use Rattle.warm_reboot.specs.Reboots.{Recovers}
-use Rattle.warm_reboot.proofs.Survivals.{by_eq, by_view, cut_by_ends, disk_by_home, gate_is_shut, survives_ready}
+use Rattle.warm_reboot.proofs.Survivals.{by_eq, by_view, cut_by_ends, disk_by_home, gate_is_shut, pending_by_home, survives_ready}
 use Rattle.warm_reboot.proofs.booting.recover_cache.Goals as goal
 
 -- ---- the view
@@ -49,6 +50,13 @@ returns-in-Ok-clause-disk g c = λ roomy.
     by_eq c.into_volume-cache.result c.recover_regions-undone.new.view.v (sym c.into_volume-cache.ensures) (λ w. (g.M.Machine.contents w.machine).disk ≡ (g.M.Machine.contents c.args.cache.machine).disk)
     (disk_by_home (g.M.Machine.contents c.args.cache.machine) (g.M.Machine.contents c.recover_regions-undone.new.view.v.machine) (g.met.M.Machine.whole_blocks c.args.cache.machine) (g.met.M.Machine.whole_blocks c.recover_regions-undone.new.view.v.machine)
     (r.ready.order.has_shape.count ∙ ap (λ (sh : VolumeShape). sh.blocks) c.over-view.ensures.shape ∙ sym c.requires.ready.order.has_shape.count) (goes.quiet.home roomy))
+
+pub returns-in-Ok-clause-pending : goal.returns-in-Ok-clause-pending
+returns-in-Ok-clause-pending g c = λ roomy x.
+    let r = c.in-Ok.ensures in
+    let goes = by_eq c.args.cache c.over-view.result.v c.over-view.ensures.volume (λ v. Goes (cache_health (g.M.Machine.contents v.machine) (g.M.Machine.run v.machine)) (cache_below (g.M.Machine.contents v.machine) (g.M.Machine.run v.machine)) (cache_health (g.M.Machine.contents c.recover_regions-undone.new.view.v.machine) (g.M.Machine.run c.recover_regions-undone.new.view.v.machine)) (cache_below (g.M.Machine.contents c.recover_regions-undone.new.view.v.machine) (g.M.Machine.run c.recover_regions-undone.new.view.v.machine))) r.goes in
+    by_eq c.into_volume-cache.result c.recover_regions-undone.new.view.v (sym c.into_volume-cache.ensures) (λ w. is_pending (g.M.Machine.contents w.machine).pending x ≡ is_pending (g.M.Machine.contents c.args.cache.machine).pending x)
+    (pending_by_home (g.M.Machine.contents c.args.cache.machine) (g.M.Machine.contents c.recover_regions-undone.new.view.v.machine) (goes.quiet.home roomy) x)
 
 pub returns-in-Ok-clause-running : goal.returns-in-Ok-clause-running
 returns-in-Ok-clause-running g c = by_eq c.args.cache c.over-view.result.v c.over-view.ensures.volume (λ v. (g.M.Machine.run c.into_volume-cache.result.machine).stopped ≡ (g.M.Machine.run v.machine).stopped) (by_eq c.into_volume-cache.result c.recover_regions-undone.new.view.v (sym c.into_volume-cache.ensures) (λ w. (g.M.Machine.run w.machine).stopped ≡ (g.M.Machine.run c.over-view.result.v.machine).stopped) c.in-Ok.ensures.ends.cause)
