@@ -1,0 +1,53 @@
+use Rattle.std.proofs.Common.{◌∙◌, arith, sym}
+use Rattle.pair_files.proofs.Endings.{ended_early}
+use Rattle.pair_files.proofs.StageRules.{is_booted, same_memory, some_booted}
+use Rattle.pair_files.proofs.running.work_made.Goals as goal
+
+pub work_booted-requires-clause-booted : goal.work_booted-requires-clause-booted
+work_booted-requires-clause-booted g c =
+    let old = c.args.machine in
+    let new = c.in-Ok.cache.machine in
+    let some = some_booted (g.B.M.Machine.contents old) (g.B.M.Machine.contents new) (g.B.M.Machine.run old) (g.B.M.Machine.run new) c.in-Ok.cache.tables c.in-Ok.report (g.met.B.M.Machine.whole_blocks old) c.requires.header c.requires.layout c.requires.keeps c.requires.settled (g.met.B.M.Machine.protected_words old) c.in-Ok.ensures.runs.memory c.in-Ok.ensures.running c.in-Ok.ensures.state c.in-Ok.ensures.booted in
+    (some.0, some.2)
+
+pub work_booted-requires-clause-bytes : goal.work_booted-requires-clause-bytes
+work_booted-requires-clause-bytes g c =
+    let old = c.args.machine in
+    let new = c.in-Ok.cache.machine in
+    let same = same_memory (g.B.M.Machine.contents old) (g.B.M.Machine.contents new) (g.B.M.Machine.run old) (g.B.M.Machine.run new) (g.met.B.M.Machine.protected_words old) (g.met.B.M.Machine.protected_words new) c.in-Ok.ensures.runs.memory in
+    omega (arith, same, c.requires.bytes)
+
+pub work_booted-requires-clause-pages : goal.work_booted-requires-clause-pages
+work_booted-requires-clause-pages g c =
+    let old = c.args.machine in
+    let new = c.in-Ok.cache.machine in
+    let same = same_memory (g.B.M.Machine.contents old) (g.B.M.Machine.contents new) (g.B.M.Machine.run old) (g.B.M.Machine.run new) (g.met.B.M.Machine.protected_words old) (g.met.B.M.Machine.protected_words new) c.in-Ok.ensures.runs.memory in
+    (c.requires.pages.0, c.requires.pages.1, c.requires.pages.2 ∙ sym same)
+
+pub returns-in-Ok-clause-ended : goal.returns-in-Ok-clause-ended
+returns-in-Ok-clause-ended g c = λ o of made.
+    let old = c.args.machine in
+    let new = c.in-Ok.cache.machine in
+    let some = some_booted (g.B.M.Machine.contents old) (g.B.M.Machine.contents new) (g.B.M.Machine.run old) (g.B.M.Machine.run new) c.in-Ok.cache.tables c.in-Ok.report (g.met.B.M.Machine.whole_blocks old) c.requires.header c.requires.layout c.requires.keeps c.requires.settled (g.met.B.M.Machine.protected_words old) c.in-Ok.ensures.runs.memory c.in-Ok.ensures.running c.in-Ok.ensures.state c.in-Ok.ensures.booted in
+    c.work_booted.ensures.ended o of (record {
+      old = g.B.M.Machine.contents old;
+      run = g.B.M.Machine.run old;
+      made = made;
+      runs = c.in-Ok.ensures.runs;
+      running = c.in-Ok.ensures.running;
+      found = (some.0, some.1);
+      booted = λ s st. is_booted (g.B.M.Machine.contents old) (g.B.M.Machine.contents new) (g.B.M.Machine.run old) (g.B.M.Machine.run new) c.in-Ok.cache.tables c.in-Ok.report s (g.met.B.M.Machine.whole_blocks old) (g.met.B.M.Machine.protected_words old) c.in-Ok.ensures.runs.memory c.in-Ok.ensures.running (c.in-Ok.ensures.booted s) st;
+      restored = c.in-Ok.ensures.restored;
+      synced = c.in-Ok.ensures.synced;
+    })
+
+pub returns-in-Err-clause-ended : goal.returns-in-Err-clause-ended
+returns-in-Err-clause-ended g c = λ o of made.
+    ended_early o (λ end before after. g.W.Work.does c.args.work.now before end after) _ _ (c.end_unbooted.ensures.ended o _ of (record {
+      old = g.B.M.Machine.contents c.args.machine;
+      run = g.B.M.Machine.run c.args.machine;
+      made = made;
+      unbooted = c.in-Err.ensures.unbooted;
+      runs = c.in-Err.ensures.runs;
+      standing = λ s st. c.in-Err.ensures.standing s st;
+    }))
