@@ -1,0 +1,5 @@
+mod Machines
+mod MachineRuns
+mod Quiet
+mod Scenes
+mod Sizes

@@ -1,0 +1,37 @@
+//! Serving as the work over a pair of files.
+
+ghost use Rattle.std.specs.Prelude.{◌≤◌};
+
+use crate::serving::serve_core;
+use page_cache::PageCache;
+use pair_files::Work;
+use rio_base::{Machine, Sink, Source, VolumeShape};
+use rio_core::Core;
+use rio_serving::ServeEnd;
+use std::alloc::Global;
+
+/// The work of serving the lines of a source until it ends, each reply written to the sink before the next line is read.
+#[derive(Clone, Copy, Debug, PartialEq, Eq)]
+pub struct Serving;
+
+impl Work for Serving {
+    ghost use Rattle.pair_serving.specs.ServedScenes.{Served};
+
+    type End = ServeEnd;
+
+    ghost does = { λ work a end b. Served a end b };
+
+    fn work<M: Machine, S: Source, K: Sink>(
+        &mut self,
+        alloc: Global,
+        cache: PageCache<M>,
+        shape: VolumeShape,
+        source: &mut S,
+        sink: &mut K,
+    ) -> (M, ServeEnd) {
+        match Core::new(alloc, cache, shape) {
+            Ok(core) => serve_core(alloc, core, source, sink),
+            Err((cache, _)) => (cache.into_machine(), ServeEnd::Memory),
+        }
+    }
+}
