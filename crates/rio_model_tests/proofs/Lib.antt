@@ -1,0 +1,2 @@
+pub mod FilePair
+pub mod FileVolume
