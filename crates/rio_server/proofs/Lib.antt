@@ -1,14 +1,12 @@
+pub mod Checking
+pub mod Commands
 pub mod Entries
-pub mod FormatForms
 pub mod Formatting
 pub mod FreshCores
 pub mod FreshMachineCaches
 pub mod FreshMachineDisks
 pub mod FreshMachineMemory
-pub mod ImageFile
 pub mod Listings
 pub mod MachineRuns
-pub mod RegistryWords
-pub mod ServeWords
 pub mod ServedRuns
 pub mod Telling

@@ -32,3 +32,29 @@ no_status image status host_rose sink_rose files written written_now lists = at 
     at Absent s = (λ e. omega (arith, s, e), λ e. omega (arith, s, e), λ e. omega (arith, s, e))
     at HostFault s = (λ e. omega (arith, s, e), λ e. omega (arith, s, e), λ e. omega (arith, s, e))
     at SinkFault s = (λ e. omega (arith, s, e), λ e. omega (arith, s, e), λ e. omega (arith, s, e))
+
+-- a listing that was cut, and what comes without a cause
+pub listing_cut : (image : List ℕ) (status : ℕ) (host_rose sink_rose : Type 0) (files : Option Files) (written written_now : Option (List ℕ))
+    → Lists image status host_rose sink_rose files written written_now → status ≡ 9 → sink_rose
+listing_cut image status host_rose sink_rose files written written_now lists is = at lists.end lists.status_is lists.ends
+  where
+    at : (e : RegistryEnd) → status ≡ registry_status e → EndsAs e image host_rose sink_rose files written written_now → sink_rose
+    at Listed s ends = absurd (omega (arith, s, is))
+    at (Refused rule) s ends = absurd (omega (arith, s, is))
+    at Memory s ends = absurd (omega (arith, s, is))
+    at Absent s ends = absurd (omega (arith, s, is))
+    at HostFault s ends = absurd (omega (arith, s, is))
+    at SinkFault s ends = ends.2.cause
+
+pub listing_complete : (image : List ℕ) (status : ℕ) (host_rose sink_rose : Type 0) (files : Option Files) (written written_now : Option (List ℕ))
+    → Lists image status host_rose sink_rose files written written_now → ¬ host_rose → ¬ sink_rose
+    → (status ≡ 0) ⊎ (status ≡ 3) ⊎ (status ≡ 6) ⊎ ((status ≡ 7) × IsAbsent files image)
+listing_complete image status host_rose sink_rose files written written_now lists no_host no_sink = at lists.end lists.status_is lists.ends
+  where
+    at : (e : RegistryEnd) → status ≡ registry_status e → EndsAs e image host_rose sink_rose files written written_now → (status ≡ 0) ⊎ (status ≡ 3) ⊎ (status ≡ 6) ⊎ ((status ≡ 7) × IsAbsent files image)
+    at Listed s ends = inl s
+    at (Refused rule) s ends = inr (inl s)
+    at Memory s ends = inr (inr (inl s))
+    at Absent s ends = inr (inr (inr (s, ends.0)))
+    at HostFault s ends = absurd (no_host ends.0)
+    at SinkFault s ends = absurd (no_sink ends.2.cause)

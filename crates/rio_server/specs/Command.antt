@@ -1,7 +1,5 @@
--- The words of a command, and how a run of the program ends.
-use Rattle.std.specs.Prelude.{◌≡◌, ◌≢◌, ◌≤◌, ℕ, List, [], ◌∷◌, length, take, map, codes, slice_index, Option, ◌⊎◌, String}
-use Rattle.std.specs.String.{string_bytes}
-use Rattle.std.specs.Global.{Global}
+-- How a run of the program ends.
+use Rattle.std.specs.Prelude.{◌≡◌, ◌≤◌, ℕ, List, [], length, take, codes, Option, ◌⊎◌}
 use Rattle.rio_base.specs.Streams.{appended}
 use Rattle.rio_model.specs.declared.state.State.{State}
 use Rattle.rio_serving.specs.declared.ends.ServeEnd.{ServeEnd}
@@ -9,17 +7,6 @@ use Rattle.rio_serving.specs.declared.ends.ServeEnd.TheVariants.{End, SourceFaul
 use Rattle.rio_requests.specs.Went.{faults_in}
 use Rattle.rio_core.specs.Lines.{core_protocol}
 use Rattle.rio_serving.specs.ServeRun.{Serves}
-
--- a file's name: a word that isn't empty and doesn't begin with `-`
-pub record IsFileName (name : List ℕ) : Type 0 where
-  pub some : name ≢ []
-  pub no_option : slice_index name 0 ≢ 45
-
--- `serve IMAGE DISK`
-pub record IsServe (words : List (String Global)) (image disk : List ℕ) : Type 0 where
-  pub are : map string_bytes words ≡ codes "serve" ∷ image ∷ disk ∷ []
-  pub image_name : IsFileName image
-  pub disk_name : IsFileName disk
 
 abbrev pub usage_line : List ℕ
 usage_line = codes "usage: rio format, serve, registry, check, drill\n"

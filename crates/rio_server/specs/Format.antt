@@ -1,50 +1,21 @@
--- The words of `format`, and what a run of it leaves.
-use Rattle.std.specs.Prelude.{◌≡◌, ◌≢◌, ℕ, List, [], ◌∷◌, ◌++◌, map, codes, Option, String}
+-- What a run of `format` leaves.
+use Rattle.std.specs.Prelude.{◌≡◌, ℕ, List, ◌++◌, codes, Option}
 use Rattle.std.specs.Fmt.{decimal}
 use Rattle.std.specs.String.{string_bytes}
-use Rattle.std.specs.Global.{Global}
 use Rattle.rio_base.specs.Hosts.{Files, with_file}
-use Rattle.rio_base.specs.Numbers.{IsNumber}
 use Rattle.rio_base.specs.Bytes.{bytes_of}
 use Rattle.image_codec.specs.Image.{fresh_image_words}
-use Rattle.rio_base.specs.Image.{AreImageSizes, image_pages}
+use Rattle.rio_base.specs.Image.{image_pages}
 use Rattle.image_codec.specs.Volume.{fresh_volume_words}
-use Rattle.rio_base.specs.Shapes.{IsServed}
 use Rattle.rio_server.specs.declared.ends.FormatEnd.{FormatEnd}
 use Rattle.rio_server.specs.declared.ends.FormatEnd.TheVariants.{Formatted, DiskFault, ImageFault, Memory}
 use Rattle.rio_server.specs.declared.format.FreshPair.{FreshPair}
-use Rattle.rio_server.specs.declared.format_words.FormatSizes.{FormatSizes}
-use Rattle.rio_server.specs.Command.{IsFileName, WritesLine}
+use Rattle.rio_server.specs.declared.format.FormatSizes.{FormatSizes}
+use Rattle.rio_server.specs.Command.{WritesLine}
 
--- these numbers, as sizes that a fresh pair can have
-pub record AreRanged (frames blocks inodes scratch : ℕ) (sizes : FormatSizes) : Type 0 where
-  pub frames_are : sizes.frames ≡ frames
-  pub blocks_are : sizes.shape.blocks ≡ blocks
-  pub inodes_are : sizes.shape.inodes ≡ inodes
-  pub scratch_is : sizes.scratch ≡ scratch
-  pub of_image : AreImageSizes sizes.frames sizes.scratch
-  pub of_volume : IsServed sizes.shape
-
--- four numbers are sizes that a fresh pair can have
-pub record AreSizes (frames blocks inodes scratch : List ℕ) (sizes : FormatSizes) : Type 0 where
-  pub frames_number : IsNumber frames sizes.frames
-  pub blocks_number : IsNumber blocks sizes.shape.blocks
-  pub inodes_number : IsNumber inodes sizes.shape.inodes
-  pub scratch_number : IsNumber scratch sizes.scratch
-  pub of_image : AreImageSizes sizes.frames sizes.scratch
-  pub of_volume : IsServed sizes.shape
-
--- `format IMAGE DISK --frames F --blocks B --inodes I --scratch C`
-pub record IsFormat (words : List (String Global)) (image disk : List ℕ) (sizes : FormatSizes) : Type 0 where
-  pub frames : List ℕ
-  pub blocks : List ℕ
-  pub inodes : List ℕ
-  pub scratch : List ℕ
-  pub are : map string_bytes words ≡ codes "format" ∷ image ∷ disk ∷ codes "--frames" ∷ frames ∷ codes "--blocks" ∷ blocks ∷ codes "--inodes" ∷ inodes ∷ codes "--scratch" ∷ scratch ∷ []
-  pub image_name : IsFileName image
-  pub disk_name : IsFileName disk
-  pub two : image ≢ disk
-  pub numbers : AreSizes frames blocks inodes scratch sizes
+-- so many frames and scratch pages, and a volume of so many blocks and inodes
+abbrev pub format_sizes : ℕ → ℕ → ℕ → ℕ → FormatSizes
+format_sizes frames blocks inodes scratch = record { frames = frames; scratch = scratch; shape = record { version = 1; blocks = blocks; inodes = inodes } }
 
 abbrev pub image_bytes : FormatSizes → List ℕ
 image_bytes sizes = bytes_of (fresh_image_words sizes.frames sizes.scratch)

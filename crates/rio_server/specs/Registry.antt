@@ -1,25 +1,18 @@
--- The words of `registry`, the lines that it lists, and what a run of it leaves.
-use Rattle.std.specs.Prelude.{◌≡◌, ◌≤◌, ◌<◌, ◌^◌, ℕ, List, [], ◌∷◌, ◌++◌, length, take, map, flat_map, codes, slice_index, if◌then◌else◌, Option, ◌⊎◌, String}
+-- The lines that `registry` lists, and what a run of it leaves.
+use Rattle.std.specs.Prelude.{◌≡◌, ◌≤◌, ℕ, List, [], ◌++◌, length, take, flat_map, codes, if◌then◌else◌, Option, ◌⊎◌}
 use Rattle.std.specs.Fmt.{decimal}
 use Rattle.std.specs.List.{range_with_len}
-use Rattle.std.specs.String.{string_bytes}
-use Rattle.std.specs.Global.{Global}
-use Rattle.rio_base.specs.Hosts.{Files, IsAbsent, IsFile}
+use Rattle.rio_base.specs.Hosts.{Files, IsAbsent}
 use Rattle.rio_base.specs.Streams.{appended}
-use Rattle.rio_model.specs.Registry.{FailsRegistry, HasLayout, KeepsRegistry, file_at, frames_of, gate_of, index_at, is_data, is_dirty, is_valid, scratch_of, shadow_at, size_at, tag_at, tag_block}
-use Rattle.rio_base.specs.Bytes.{bytes_of}
-use Rattle.image_codec.specs.Image.{FailsFirst, IsImage}
-use Rattle.image_codec.specs.declared.fault.ImageFault.TheVariants.{BadLength, BadMagic, BadVersion, BadGeometry}
+use Rattle.rio_model.specs.Registry.{file_at, frames_of, gate_of, index_at, is_data, is_dirty, is_valid, scratch_of, shadow_at, size_at, tag_at, tag_block}
+use Rattle.pair_files.specs.Images.{Breaks, HoldsImage}
+use Rattle.pair_files.specs.declared.failures.LoadFail.{LoadFail}
+use Rattle.pair_files.specs.declared.failures.LoadFail.TheVariants.{Absent as NotThere, BadImage, BadLength, Fault, Memory as NotLoaded}
 use Rattle.rio_server.specs.declared.ends.RegistryEnd.{RegistryEnd}
 use Rattle.rio_server.specs.declared.ends.RegistryEnd.TheVariants.{Listed, Refused, Absent, HostFault, SinkFault, Memory}
 use Rattle.rio_server.specs.declared.registry_lines.Row.{Row}
-use Rattle.rio_server.specs.Command.{IsFileName, WritesLine}
+use Rattle.rio_server.specs.Command.{WritesLine}
 use Rattle.rio_server.specs.Format.{host_fault_line}
-
--- `registry IMAGE`
-pub record IsRegistry (words : List (String Global)) (image : List ℕ) : Type 0 where
-  pub are : map string_bytes words ≡ codes "registry" ∷ image ∷ []
-  pub image_name : IsFileName image
 
 -- ---- the listing
 
@@ -63,41 +56,6 @@ header_line words = field (codes "frames ") (frames_of words) ++ field (codes " 
 abbrev pub registry_text : List ℕ → List ℕ
 registry_text words = header_line words ++ flat_map (entry_line words) (range_with_len 0 (frames_of words))
 
--- ---- the image
-
--- words of 64 bits that stand in these bytes and keep rules 1 to 4
-pub record IsImageOf (bytes words : List ℕ) : Type 0 where
-  pub fits : (i : ℕ) → slice_index words i < 2 ^ 64
-  pub bytes_are : bytes ≡ bytes_of words
-  pub image : IsImage words
-
--- the first rule of 1 to 12 that these bytes break. Rules from 5 on are of the words of the protected pages, behind which
--- those of the scratch pages lie
-abbrev pub FailsRule : List ℕ → ℕ → Type 0
-FailsRule bytes rule =
-    ((rule ≡ 1) × FailsFirst bytes BadLength) ⊎ ((rule ≡ 2) × FailsFirst bytes BadMagic)
-    ⊎ ((rule ≡ 3) × FailsFirst bytes BadVersion) ⊎ ((rule ≡ 4) × FailsFirst bytes BadGeometry)
-    ⊎ ((words scratch : List ℕ) × IsImageOf bytes (words ++ scratch) × HasLayout words scratch × FailsRegistry words rule)
-
--- the file breaks this rule first
-pub record Breaks (files : Option Files) (image : List ℕ) (rule : ℕ) : Type 0 where
-  pub bytes : List ℕ
-  pub file : IsFile files image bytes
-  pub fails : FailsRule bytes rule
-
--- the file keeps rules 1 to 4, and has these words
-pub record HoldsWords (files : Option Files) (image words : List ℕ) : Type 0 where
-  pub bytes : List ℕ
-  pub file : IsFile files image bytes
-  pub are : IsImageOf bytes words
-
--- the file keeps all rules, and these are the words of its protected pages
-pub record HoldsImage (files : Option Files) (image words : List ℕ) : Type 0 where
-  pub scratch : List ℕ
-  pub holds : HoldsWords files image (words ++ scratch)
-  pub layout : HasLayout words scratch
-  pub keeps : KeepsRegistry words
-
 -- ---- the ends
 
 -- the status of each end
@@ -109,12 +67,20 @@ registry_status Absent = 7
 registry_status HostFault = 7
 registry_status SinkFault = 9
 
+-- the line of an image that breaks this rule
+abbrev pub image_rule_line : ℕ → List ℕ
+image_rule_line rule = field (codes "image refused: rule ") rule ++ codes "\n"
+
+-- the line of a file that is not there
+abbrev pub absent_line : List ℕ → List ℕ
+absent_line name = codes "no such file: " ++ (name ++ codes "\n")
+
 -- the line that is written at an end where nothing is listed
 abbrev pub registry_line : RegistryEnd → List ℕ → List ℕ
 registry_line Listed image = []
-registry_line (Refused rule) image = field (codes "image refused: rule ") rule ++ codes "\n"
+registry_line (Refused rule) image = image_rule_line rule
 registry_line Memory image = codes "out of memory\n"
-registry_line Absent image = codes "no such file: " ++ (image ++ codes "\n")
+registry_line Absent image = absent_line image
 registry_line HostFault image = host_fault_line image
 registry_line SinkFault image = []
 
@@ -127,11 +93,13 @@ Misses Absent image host_rose files = IsAbsent files image
 Misses HostFault image host_rose files = host_rose
 Misses SinkFault image host_rose files = ⊥
 
--- the same of its bytes alone
-abbrev pub FailsAs : RegistryEnd → List ℕ → Type 0
-FailsAs (Refused rule) bytes = FailsRule bytes rule
-FailsAs Memory bytes = Unit {0}
-FailsAs _ bytes = ⊥
+-- how a look ends where no image is loaded. No image has a disk's length to fail
+abbrev pub unlisted_end : LoadFail → RegistryEnd
+unlisted_end (NotThere file) = Absent
+unlisted_end (BadImage rule) = Refused rule
+unlisted_end BadLength = Refused 1
+unlisted_end (Fault file) = HostFault
+unlisted_end NotLoaded = Memory
 
 -- a front of the listing was written
 pub record CutListing (words : List ℕ) (sink_rose : Type 0) (written written_now : Option (List ℕ)) : Type 0 where
@@ -139,11 +107,6 @@ pub record CutListing (words : List ℕ) (sink_rose : Type 0) (written written_n
   pub count : ℕ
   pub most : count ≤ length (registry_text words)
   pub front : written_now ≡ appended written (take count (registry_text words))
-
--- words as they lie in memory: those of the protected pages, and behind them those of the scratch pages
-pub record Lies (all words scratch : List ℕ) : Type 0 where
-  pub whole : all ≡ words ++ scratch
-  pub layout : HasLayout words scratch
 
 -- the listing of these words was written whole, or, only where the sink's count rose, a front of it
 abbrev pub Writes : List ℕ → ℕ → Type 0 → Option (List ℕ) → Option (List ℕ) → Type 0

@@ -8,14 +8,35 @@ ghost use Rattle.rio_base.specs.Counts.{Rose};
 ghost use Rattle.rio_server.specs.Format.{Formats, IsPrepared, files_after, format_status, format_line, image_bytes, disk_bytes, host_fault_line};
 
 use crate::ends::FormatEnd;
-use crate::format_words::{FormatSizes, FormatWords};
 use crate::last_line::say;
 use image_codec::{fresh_image, fresh_volume, write_image};
-use rio_base::{Host, Sink};
+use rio_base::{Host, Sink, VolumeShape};
 use std::alloc::{AllocError, Global};
 
 /// The words of a page.
 const PAGE_WORDS: usize = 512;
+
+/// The sizes of a fresh memory image and a fresh volume.
+#[derive(Clone, Copy, Debug, PartialEq, Eq)]
+pub struct FormatSizes {
+    /// The image's frames, from 32 to 8,192.
+    pub frames: u32,
+    /// The image's scratch pages, from 1 to 64.
+    pub scratch: u32,
+    /// The volume's blocks and inodes.
+    pub shape: VolumeShape,
+}
+
+/// The files and the sizes of a fresh pair.
+#[derive(Clone, Copy)]
+pub struct PairPlan<'a> {
+    /// The name of the memory image's file.
+    pub image: &'a String,
+    /// The name of the volume's file.
+    pub disk: &'a String,
+    /// The sizes of both.
+    pub sizes: FormatSizes,
+}
 
 /// The bytes of both files, and what can be said in the end. All memory is taken before a file is touched.
 #[derive(Drop)]
@@ -36,21 +57,21 @@ pub struct FreshPair {
 /// where there is no memory for the pair, 7 where a file could not be replaced.
 pub fn format<K: Sink, H: Host>(
     alloc: Global,
-    words: &FormatWords<'_>,
+    plan: &PairPlan<'_>,
     sink: &mut K,
     host: &mut H,
 ) -> u8
-    requires image { AreImageSizes words.now.sizes.frames words.now.sizes.scratch }
-    requires volume { IsServed words.now.sizes.shape }
-    ensures run { Formats (string_bytes words.now.image.now) (string_bytes words.now.disk.now) words.now.sizes result (Rose (K.faults sink.old) (K.faults sink.new)) (H.files host.old) (H.files host.new) (K.written sink.old) (K.written sink.new) }
+    requires image { AreImageSizes plan.now.sizes.frames plan.now.sizes.scratch }
+    requires volume { IsServed plan.now.sizes.shape }
+    ensures run { Formats (string_bytes plan.now.image.now) (string_bytes plan.now.disk.now) plan.now.sizes result (Rose (K.faults sink.old) (K.faults sink.new)) (H.files host.old) (H.files host.new) (K.written sink.old) (K.written sink.new) }
     ensures cause { result ≡ 7 → Rose (H.faults host.old) (H.faults host.new) }
     ensures later { H.faults host.old ≤ H.faults host.new }
     ensures sink_later { K.faults sink.old ≤ K.faults sink.new }
 {
-    let Ok(pair) = prepare(alloc, words) else {
+    let Ok(pair) = prepare(alloc, plan) else {
         return say(b"out of memory\n", 6, sink);
     };
-    match write_pair(&pair, words, host) {
+    match write_pair(&pair, plan, host) {
         FormatEnd::Formatted => say(pair.formatted.as_bytes(), 0, sink),
         FormatEnd::DiskFault => say(pair.disk_fault.as_bytes(), 7, sink),
         FormatEnd::ImageFault => say(pair.image_fault.as_bytes(), 7, sink),
@@ -59,20 +80,20 @@ pub fn format<K: Sink, H: Host>(
 }
 
 /// The fresh pair of these sizes.
-fn prepare(alloc: Global, words: &FormatWords<'_>) -> Result<FreshPair, AllocError>
-    requires image { AreImageSizes words.now.sizes.frames words.now.sizes.scratch }
-    requires volume { IsServed words.now.sizes.shape }
-    ensures { IfOk result (λ pair. IsPrepared pair (string_bytes words.now.image.now) (string_bytes words.now.disk.now) words.now.sizes) }
+fn prepare(alloc: Global, plan: &PairPlan<'_>) -> Result<FreshPair, AllocError>
+    requires image { AreImageSizes plan.now.sizes.frames plan.now.sizes.scratch }
+    requires volume { IsServed plan.now.sizes.shape }
+    ensures { IfOk result (λ pair. IsPrepared pair (string_bytes plan.now.image.now) (string_bytes plan.now.disk.now) plan.now.sizes) }
 {
-    let disk = disk_of(alloc, &words.sizes)?;
-    let (image, pages) = image_of(alloc, &words.sizes)?;
-    let blocks = words.sizes.shape.blocks;
+    let disk = disk_of(alloc, &plan.sizes)?;
+    let (image, pages) = image_of(alloc, &plan.sizes)?;
+    let blocks = plan.sizes.shape.blocks;
     Ok(FreshPair {
         image,
         disk,
         formatted: format!(in alloc; "formatted {pages} pages {blocks} blocks\n")?,
-        image_fault: host_fault(alloc, words.image)?,
-        disk_fault: host_fault(alloc, words.disk)?,
+        image_fault: host_fault(alloc, plan.image)?,
+        disk_fault: host_fault(alloc, plan.disk)?,
     })
 }
 
@@ -104,15 +125,15 @@ fn host_fault(alloc: Global, name: &String) -> Result<String, AllocError>
 }
 
 /// Writes both files, the volume first.
-fn write_pair<H: Host>(pair: &FreshPair, words: &FormatWords<'_>, host: &mut H) -> FormatEnd
-    ensures files { H.files host.new ≡ files_after result (string_bytes words.now.image.now) (string_bytes words.now.disk.now) pair.now.image.items pair.now.disk.items (H.files host.old) }
+fn write_pair<H: Host>(pair: &FreshPair, plan: &PairPlan<'_>, host: &mut H) -> FormatEnd
+    ensures files { H.files host.new ≡ files_after result (string_bytes plan.now.image.now) (string_bytes plan.now.disk.now) pair.now.image.items pair.now.disk.items (H.files host.old) }
     ensures cause { format_status result ≡ 7 → Rose (H.faults host.old) (H.faults host.new) }
     ensures later { H.faults host.old ≤ H.faults host.new }
 {
-    if host.replace(words.disk, pair.disk.as_slice()).is_err() {
+    if host.replace(plan.disk, pair.disk.as_slice()).is_err() {
         return FormatEnd::DiskFault;
     }
-    if host.replace(words.image, pair.image.as_slice()).is_err() {
+    if host.replace(plan.image, pair.image.as_slice()).is_err() {
         return FormatEnd::ImageFault;
     }
     FormatEnd::Formatted

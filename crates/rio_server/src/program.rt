@@ -1,27 +1,26 @@
 //! Whole runs of the program.
 
 ghost use Rattle.std.specs.Prelude.{◌≡◌, ◌≢◌, ◌≤◌, ◌<◌, ◌^◌, ◌⊎◌, ℕ, List, Some, None, false, length};
-ghost use Rattle.std.specs.String.{string_bytes};
 ghost use Rattle.rio_base.specs.Counts.{Rose};
-ghost use Rattle.rio_server.specs.Command.{IsServe, RunServes, WritesLine, last_line, status_of, usage_line};
-ghost use Rattle.rio_server.specs.declared.format_words.FormatSizes.{FormatSizes};
-ghost use Rattle.rio_server.specs.Commands.{IsCommand};
-ghost use Rattle.rio_server.specs.Format.{Formats, IsFormat};
-ghost use Rattle.rio_server.specs.Registry.{IsRegistry, Lists};
-ghost use Rattle.rio_base.specs.Hosts.{IsAbsent};
+ghost use Rattle.rio_words.specs.Tokens.{Text};
+ghost use Rattle.rio_words.specs.Words.{Reads, texts_of};
+ghost use Rattle.rio_words.specs.declared.command.RioCommand.TheVariants.{Check, Format, Registry, Serve};
+ghost use Rattle.rio_server.specs.Command.{RunServes, WritesLine, last_line, status_of, usage_line};
+ghost use Rattle.rio_server.specs.Commands.{CheckRuns, FormatRuns, IsCommand, NamesAbsent, Obeyed, RegistryRuns, ServeRuns, outside};
+ghost use Rattle.rio_server.specs.Format.{format_sizes};
 ghost use Rattle.rio_server.specs.Served.{served_fresh};
 
-use crate::format::format;
-use crate::format_words::format_of;
+use crate::check_command::check_pair;
+use crate::format::{FormatSizes, PairPlan, format};
 use crate::fresh_machine::served_core;
 use crate::last_line::say;
 use crate::registry_command::show_registry;
-use crate::registry_words::registry_of;
-use crate::serve_words::serve_of;
 use crate::serving::serve;
-use rio_base::{Host, Machine, Sink, Source};
+use pair_files::PairNames;
+use rio_base::{Host, Machine, Sink, Source, VolumeShape};
 use rio_core::Core;
 use rio_serving::{ServeEnd, Server};
+use rio_words::{RioCommand, WordsFail, read_words};
 use std::alloc::Global;
 
 /// What is printed where the words are no command.
@@ -39,13 +38,20 @@ const USAGE: &[u8; 49] = b"usage: rio format, serve, registry, check, drill\n";
 /// `registry IMAGE` writes the sizes and the gate of a memory image to the sink, and a line for each valid entry of its
 /// registry. It changes no file.
 ///
+/// `check IMAGE DISK` looks at the rules of a memory image and of the volume that it and a disk stand for, and writes a line on
+/// what there is on them. It changes no file.
+///
+/// An option is written `--name VALUE` or `--name=VALUE`, anywhere after the command. The files of one command have
+/// different names.
+///
 /// | Status | It comes where |
 /// |---|---|
-/// | 0 | the input was read to its end and every reply was written, or both files are written, or the registry is listed |
+/// | 0 | the input was read to its end and every reply was written, or both files are written, or the registry is listed, or the pair breaks no rule |
 /// | 2 | the words are no command |
 /// | 3 | the image breaks a rule |
+/// | 4 | the image breaks none, and the volume does |
 /// | 6 | there was no memory to go on |
-/// | 7 | a file could not be replaced or read, or there is no image |
+/// | 7 | a file could not be replaced or read, or is not there |
 /// | 8 | the source failed |
 /// | 9 | the sink refused a reply or a line of the listing |
 /// | 11 | more than 1,099,511,627,776 bytes of input came |
@@ -56,55 +62,91 @@ pub fn run<S: Source, K: Sink, H: Host>(
     sink: &mut K,
     host: H,
 ) -> (u8, H)
-    // 2 comes exactly where the words are no command, and then nothing is done.
-    ensures usage { (result.0 ≡ 2 → IsCommand words.now.items → ⊥) × ((IsCommand words.now.items → ⊥) → result.0 ≡ 2) }
-    ensures untouched { result.0 ≡ 2 → H.files result.1 ≡ H.files host }
+    // 2 comes where the words are no command, but for want of memory to read them, and nowhere else. Then nothing is done.
+    ensures usage { (result.0 ≡ 2 → IsCommand (texts_of words.now.items) → ⊥) × ((IsCommand (texts_of words.now.items) → ⊥) → (result.0 ≡ 2) ⊎ (result.0 ≡ 6)) }
+    ensures untouched { (IsCommand (texts_of words.now.items) → ⊥) → H.files result.1 ≡ H.files host }
     ensures told { result.0 ≡ 2 → WritesLine (Rose (K.faults sink.old) (K.faults sink.new)) (K.written sink.old) usage_line (K.written sink.new) }
 
-    // `serve` writes the bytes of a served run, from the root directory alone. Nothing else reads the source.
-    ensures served { (image disk : List ℕ) → IsServe words.now.items image disk → RunServes served_fresh result.0 (Rose (K.faults sink.old) (K.faults sink.new)) (S.left source.old) (S.left source.new) (K.written sink.old) (K.written sink.new) }
-    ensures kept { (image disk : List ℕ) → IsServe words.now.items image disk → H.files result.1 ≡ H.files host }
-    ensures unread { ((image disk : List ℕ) → IsServe words.now.items image disk → ⊥) → S.left source.new ≡ S.left source.old }
+    // What each command does.
+    ensures served { (image disk : List ℕ) → Reads (texts_of words.now.items) (Serve image disk None) → ServeRuns result.0 (outside (H.files host) (H.faults host) (S.left source.old) (S.faults source.old) (K.written sink.old) (K.faults sink.old)) (outside (H.files result.1) (H.faults result.1) (S.left source.new) (S.faults source.new) (K.written sink.new) (K.faults sink.new)) }
+    ensures formatted { (image disk : List ℕ) (frames blocks inodes scratch : ℕ) → Reads (texts_of words.now.items) (Format image disk frames blocks inodes scratch) → FormatRuns image disk (format_sizes frames blocks inodes scratch) result.0 (outside (H.files host) (H.faults host) (S.left source.old) (S.faults source.old) (K.written sink.old) (K.faults sink.old)) (outside (H.files result.1) (H.faults result.1) (S.left source.new) (S.faults source.new) (K.written sink.new) (K.faults sink.new)) }
+    ensures listed { (image : List ℕ) → Reads (texts_of words.now.items) (Registry image) → RegistryRuns image result.0 (outside (H.files host) (H.faults host) (S.left source.old) (S.faults source.old) (K.written sink.old) (K.faults sink.old)) (outside (H.files result.1) (H.faults result.1) (S.left source.new) (S.faults source.new) (K.written sink.new) (K.faults sink.new)) }
+    ensures checked { (image disk : List ℕ) → Reads (texts_of words.now.items) (Check image disk) → CheckRuns image disk result.0 (outside (H.files host) (H.faults host) (S.left source.old) (S.faults source.old) (K.written sink.old) (K.faults sink.old)) (outside (H.files result.1) (H.faults result.1) (S.left source.new) (S.faults source.new) (K.written sink.new) (K.faults sink.new)) }
 
-    // `format` leaves a fresh pair, or tells what could not be had.
-    ensures formatted { (image disk : List ℕ) (sizes : FormatSizes) → IsFormat words.now.items image disk sizes → Formats image disk sizes result.0 (Rose (K.faults sink.old) (K.faults sink.new)) (H.files host) (H.files result.1) (K.written sink.old) (K.written sink.new) }
+    // Nothing but `serve` reads the source.
+    ensures unread { ((image disk : List ℕ) → Reads (texts_of words.now.items) (Serve image disk None) → ⊥) → S.left source.new ≡ S.left source.old }
 
-    // `registry` lists the image's registry, or tells why there is none, and changes no file.
-    ensures listed { (image : List ℕ) → IsRegistry words.now.items image → Lists image result.0 (Rose (H.faults host) (H.faults result.1)) (Rose (K.faults sink.old) (K.faults sink.new)) (H.files host) (K.written sink.old) (K.written sink.new) }
-    ensures looked { (image : List ℕ) → IsRegistry words.now.items image → H.files result.1 ≡ H.files host }
-
-    // The cause of each status.
-    ensures host_fault { result.0 ≡ 7 → Rose (H.faults host) (H.faults result.1) ⊎ ((image : List ℕ) × IsRegistry words.now.items image × IsAbsent (H.files host) image) }
-    ensures format_fault { (image disk : List ℕ) (sizes : FormatSizes) → IsFormat words.now.items image disk sizes → result.0 ≡ 7 → Rose (H.faults host) (H.faults result.1) }
+    // The cause of each status, whatever the words are.
+    ensures host_fault { result.0 ≡ 7 → Rose (H.faults host) (H.faults result.1) ⊎ NamesAbsent (texts_of words.now.items) (H.files host) }
     ensures source_fault { result.0 ≡ 8 → Rose (S.faults source.old) (S.faults source.new) }
     ensures sink_fault { result.0 ≡ 9 → Rose (K.faults sink.old) (K.faults sink.new) }
-    ensures steady { (image disk : List ℕ) → IsServe words.now.items image disk → result.0 ≡ 0 → K.faults sink.new ≡ K.faults sink.old }
-    ensures steady_listing { (image : List ℕ) → IsRegistry words.now.items image → result.0 ≡ 0 → K.faults sink.new ≡ K.faults sink.old }
     ensures limit { (input : List ℕ) → S.left source.old ≡ Some input → result.0 ≡ 11 → 2 ^ 40 < length input }
-    ensures over { (image disk : List ℕ) → IsServe words.now.items image disk → (input : List ℕ) → S.left source.old ≡ Some input → 2 ^ 40 < length input → result.0 ≢ 0 }
-
-    // Without a cause a served run ends with 0, or for want of memory.
-    ensures complete { (image disk : List ℕ) → IsServe words.now.items image disk → (input : List ℕ) → S.left source.old ≡ Some input → length input ≤ 2 ^ 40
-        → (Rose (S.faults source.old) (S.faults source.new) → ⊥) → (Rose (K.faults sink.old) (K.faults sink.new) → ⊥) → (result.0 ≡ 0) ⊎ (result.0 ≡ 6) }
-
-    // Without a cause `registry` lists, or refuses the image, or finds no memory or no file.
-    ensures complete_listing { (image : List ℕ) → IsRegistry words.now.items image
-        → (Rose (H.faults host) (H.faults result.1) → ⊥) → (Rose (K.faults sink.old) (K.faults sink.new) → ⊥)
-        → (result.0 ≡ 0) ⊎ (result.0 ≡ 3) ⊎ (result.0 ≡ 6) ⊎ ((result.0 ≡ 7) × IsAbsent (H.files host) image) }
 {
-    if let Some(_) = serve_of(words.as_slice()) {
-        return (serve_from_root(alloc, source, sink), host);
+    match read_words(alloc, words) {
+        Ok(command) => obey(alloc, &command, source, sink, host),
+        Err(WordsFail::Usage) => (say(USAGE, 2, sink), host),
+        Err(WordsFail::Memory) => (end_without_memory(sink), host),
     }
+}
+
+/// Does what a command asks.
+fn obey<S: Source, K: Sink, H: Host>(
+    alloc: Global,
+    command: &RioCommand,
+    source: &mut S,
+    sink: &mut K,
+    host: H,
+) -> (u8, H)
+    requires read { (words : List Text) × Reads words command.now }
+    ensures { Obeyed command.now result.0 (outside (H.files host) (H.faults host) (S.left source.old) (S.faults source.old) (K.written sink.old) (K.faults sink.old)) (outside (H.files result.1) (H.faults result.1) (S.left source.new) (S.faults source.new) (K.written sink.new) (K.faults sink.new)) }
+{
     let mut host = host;
-    if let Some(format_words) = format_of(words.as_slice()) {
-        let status = format(alloc, &format_words, sink, &mut host);
-        return (status, host);
+    match command {
+        RioCommand::Serve { stop: None, .. } => (serve_from_root(alloc, source, sink), host),
+        RioCommand::Format {
+            image,
+            disk,
+            frames,
+            blocks,
+            inodes,
+            scratch,
+        } => {
+            let plan = PairPlan {
+                image: image.text(),
+                disk: disk.text(),
+                sizes: sizes_of(*frames, *blocks, *inodes, *scratch),
+            };
+            let status = format(alloc, &plan, sink, &mut host);
+            (status, host)
+        }
+        RioCommand::Registry { image } => {
+            let status = show_registry(alloc, image.text(), sink, &mut host);
+            (status, host)
+        }
+        RioCommand::Check { image, disk } => {
+            let names = PairNames {
+                image: image.text(),
+                disk: disk.text(),
+            };
+            check_pair(alloc, &names, sink, host)
+        }
+        _ => (say(USAGE, 2, sink), host),
     }
-    let Some(image) = registry_of(words.as_slice()) else {
-        return (say(USAGE, 2, sink), host);
-    };
-    let status = show_registry(alloc, image, sink, &mut host);
-    (status, host)
+}
+
+/// The sizes of a fresh pair that has a volume of version 1.
+fn sizes_of(frames: u32, blocks: u32, inodes: u32, scratch: u32) -> FormatSizes
+    ensures { result ≡ format_sizes frames blocks inodes scratch }
+{
+    FormatSizes {
+        frames,
+        scratch,
+        shape: VolumeShape {
+            version: 1,
+            blocks,
+            inodes,
+        },
+    }
 }
 
 /// Serves from the root directory alone, and writes the last line.

@@ -1,14 +1,19 @@
 //! The command `registry`: what an image's registry says, on the sink.
 
-ghost use Rattle.std.specs.Prelude.{◌≡◌, ◌≤◌};
+ghost use Rattle.std.specs.Prelude.{◌≡◌, ◌≤◌, IfOk, IfErr};
 ghost use Rattle.std.specs.String.{string_bytes};
 ghost use Rattle.rio_base.specs.Counts.{Rose};
 ghost use Rattle.rio_model.specs.Registry.{HasLayout};
-ghost use Rattle.rio_server.specs.Registry.{Lists, Writes};
+ghost use Rattle.pair_files.specs.Images.{HoldsImage};
+ghost use Rattle.rio_server.specs.Registry.{Lists, Misses, Writes, unlisted_end};
 
-use crate::image_board::find_board;
+use crate::ends::RegistryEnd;
 use crate::registry_lines::tell;
 use crate::registry_listing::list_registry;
+use block_disk::MemDisk;
+use board::Board;
+use pair_files::{LoadFail, board_of, load_image};
+use phys_memory::Memory;
 use request_codec::ROOM_BYTES;
 use rio_base::{Host, Machine, Sink};
 use std::alloc::Global;
@@ -32,6 +37,40 @@ pub fn show_registry<K: Sink, H: Host>(
     match find_board(alloc, image, host) {
         Ok(board) => list_board(&board, &mut room, sink),
         Err(end) => tell(end, image, &mut room, sink),
+    }
+}
+
+/// A machine with the words of an image that keeps all rules, or how the look at it ends.
+fn find_board<H: Host>(
+    alloc: Global,
+    name: &String,
+    host: &mut H,
+) -> Result<Board<Memory, MemDisk>, RegistryEnd>
+    ensures files { H.files host.new ≡ H.files host.old }
+    ensures image { IfOk result (λ board. HoldsImage (H.files host.old) (string_bytes name.now) (⟦<Board<Memory, MemDisk> as Machine>⟧.contents board).words) }
+    ensures layout { IfOk result (λ board. HasLayout (⟦<Board<Memory, MemDisk> as Machine>⟧.contents board).words (⟦<Board<Memory, MemDisk> as Machine>⟧.run board).scratch) }
+    ensures ends { IfErr result (λ end. Misses end (string_bytes name.now) (Rose (H.faults host.old) (H.faults host.new)) (H.files host.old)) }
+    ensures later { H.faults host.old ≤ H.faults host.new }
+{
+    match load_image(alloc, name, host) {
+        Ok(image) => match board_of(alloc, &image.words, image.scratch) {
+            Ok(board) => Ok(board),
+            Err(_) => Err(RegistryEnd::Memory),
+        },
+        Err(fail) => Err(unlisted(fail)),
+    }
+}
+
+/// How a look ends where no image is loaded. No image has a disk's length to fail.
+fn unlisted(fail: LoadFail) -> RegistryEnd
+    ensures { result ≡ unlisted_end fail }
+{
+    match fail {
+        LoadFail::Absent(_) => RegistryEnd::Absent,
+        LoadFail::BadImage(rule) => RegistryEnd::Refused(rule),
+        LoadFail::BadLength => RegistryEnd::Refused(1),
+        LoadFail::Fault(_) => RegistryEnd::HostFault,
+        LoadFail::Memory => RegistryEnd::Memory,
     }
 }
 

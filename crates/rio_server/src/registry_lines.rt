@@ -5,7 +5,7 @@ ghost use Rattle.std.specs.String.{string_bytes};
 ghost use Rattle.rio_base.specs.Counts.{Rose};
 ghost use Rattle.request_codec.specs.Sending.{Puts, Sends};
 ghost use Rattle.rio_server.specs.Command.{WritesLine};
-ghost use Rattle.rio_server.specs.Registry.{block_part, field, file_part, registry_line, registry_status, row_line};
+ghost use Rattle.rio_server.specs.Registry.{block_part, field, file_part, image_rule_line, registry_line, registry_status, row_line};
 
 use crate::ends::RegistryEnd;
 use crate::last_line::say;
@@ -128,9 +128,9 @@ pub fn tell<K: Sink>(end: RegistryEnd, image: &String, room: &mut [u8], sink: &m
 }
 
 /// Tells the first rule that an image breaks: status 3.
-fn tell_rule<K: Sink>(rule: u8, room: &mut [u8], sink: &mut K) -> u8
+pub fn tell_rule<K: Sink>(rule: u8, room: &mut [u8], sink: &mut K) -> u8
     ensures status { result ≡ 3 }
-    ensures line { WritesLine (Rose (K.faults sink.old) (K.faults sink.new)) (K.written sink.old) (field (codes "image refused: rule ") rule ++ codes "\n") (K.written sink.new) }
+    ensures line { WritesLine (Rose (K.faults sink.old) (K.faults sink.new)) (K.written sink.old) (image_rule_line rule) (K.written sink.new) }
     ensures later { K.faults sink.old ≤ K.faults sink.new }
 {
     match send_rule(u64::from(rule), room, sink) {
@@ -141,7 +141,7 @@ fn tell_rule<K: Sink>(rule: u8, room: &mut [u8], sink: &mut K) -> u8
 
 /// Sends the line of a rule.
 fn send_rule<K: Sink>(rule: u64, room: &mut [u8], sink: &mut K) -> Result<(), Failed>
-    ensures { Sends result (K.written sink.old) (K.faults sink.old) [] (field (codes "image refused: rule ") rule ++ codes "\n") (K.written sink.new) (K.faults sink.new) [] }
+    ensures { Sends result (K.written sink.old) (K.faults sink.old) [] (image_rule_line rule) (K.written sink.new) (K.faults sink.new) [] }
 {
     let body = put_number(b"image refused: rule ", rule, room, 0, sink)?;
     let line = put(b"\n", room, body, sink)?;
@@ -149,7 +149,7 @@ fn send_rule<K: Sink>(rule: u64, room: &mut [u8], sink: &mut K) -> Result<(), Fa
 }
 
 /// Tells that a file can't be read, and why: status 7.
-fn tell_name<K: Sink>(why: &[u8], name: &String, room: &mut [u8], sink: &mut K) -> u8
+pub fn tell_name<K: Sink>(why: &[u8], name: &String, room: &mut [u8], sink: &mut K) -> u8
     ensures status { result ≡ 7 }
     ensures line { WritesLine (Rose (K.faults sink.old) (K.faults sink.new)) (K.written sink.old) (why.now ++ string_bytes name.now ++ codes "\n") (K.written sink.new) }
     ensures later { K.faults sink.old ≤ K.faults sink.new }

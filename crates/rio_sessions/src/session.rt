@@ -2,7 +2,7 @@
 
 use crate::files::{Shelf, words_of};
 use rio_fakes::{MemSink, MemSource};
-use rio_server::{end_without_memory, format_of, run};
+use rio_server::{end_without_memory, run};
 use std::alloc::{AllocError, Global};
 use test_scripts::{expanded, first_word, numbers, tell, tell_line, tell_number, tell_shown};
 use test_servers::{BadBlock, NO_BAD_BLOCK, Sizes, serve_lines_of};
@@ -97,7 +97,6 @@ impl Session {
         match word {
             "writes" if self.writes > 0 => tell_line(out, b"some"),
             "writes" => tell_line(out, b"none"),
-            "takes" => self.tell_whether_taken(rest, out),
             "no-memory" => self.end_for_memory(out),
             _ => {
                 if !self.files.act(word, rest, out)? {
@@ -173,15 +172,6 @@ impl Session {
         self.writes = served.writes;
         tell(out, served.text.as_slice())?;
         tell_shown(out, &served.end)
-    }
-
-    /// Whether words are a `format`.
-    fn tell_whether_taken(&self, command: &str, out: &mut Vec<u8>) -> Result<(), AllocError> {
-        let words = words_of(self.alloc, command)?;
-        match format_of(words.as_slice()) {
-            Some(_) => tell_line(out, b"yes"),
-            None => tell_line(out, b"no"),
-        }
     }
 }
 

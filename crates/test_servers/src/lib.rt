@@ -3,4 +3,4 @@
 
 mod served;
 
-pub use served::{BadBlock, NO_BAD_BLOCK, Served, Sizes, checked, serve_lines_of};
+pub use served::{BadBlock, MachineSizes, NO_BAD_BLOCK, Served, Sizes, checked, serve_lines_of};

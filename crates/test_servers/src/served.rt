@@ -9,7 +9,7 @@ ghost use Rattle.rio_server.specs.FreshMachines.{IsFreshDisk};
 use block_disk::MemDisk;
 use rio_base::{Block, VolumeShape};
 use rio_fakes::{MemSink, MemSource};
-use rio_server::{FormatSizes, ServeEnd, fresh_core, fresh_disk, serve, sizes_of};
+use rio_server::{ServeEnd, fresh_core, fresh_disk, serve};
 use std::alloc::{AllocError, Global};
 
 /// A volume that is served, and the frames of the memory before it.
@@ -59,17 +59,39 @@ impl BadBlock {
     }
 }
 
+/// Sizes that a machine with one page of scratch can have, and the volume on its disk.
+#[derive(Clone, Copy, Debug)]
+pub struct MachineSizes {
+    pub frames: u32,
+    pub shape: VolumeShape,
+}
+
 /// These sizes, where there can be such a machine.
-pub fn checked(sizes: Sizes) -> Option<FormatSizes>
+pub fn checked(sizes: Sizes) -> Option<MachineSizes>
     ensures { IfSome result (λ found. AreImageSizes found.frames 1 × IsServed found.shape) }
 {
-    let frames = u64::from(sizes.frames);
-    let blocks = u64::from(sizes.blocks);
-    let inodes = u64::from(sizes.inodes);
-    match sizes_of(frames, blocks, inodes, 1) {
-        Some(found) => Some(found),
-        None => None,
+    let Sizes {
+        frames,
+        blocks,
+        inodes,
+    } = sizes;
+    if frames < 32 || 8192 < frames {
+        return None;
     }
+    if inodes < 32 || 32768 < inodes || inodes % 32 != 0 {
+        return None;
+    }
+    if blocks < 3 + inodes / 32 || 32768 < blocks {
+        return None;
+    }
+    Some(MachineSizes {
+        frames,
+        shape: VolumeShape {
+            version: 1,
+            blocks,
+            inodes,
+        },
+    })
 }
 
 /// What a served run left.

@@ -1,32 +1,82 @@
-use Rattle.std.proofs.Common.{List, subst, sym, inr}
-use Rattle.std.specs.Prelude.{String}
-use Rattle.std.specs.String.{string_bytes}
-use Rattle.std.specs.Global.{Global}
-use Rattle.rio_server.specs.Format.{IsFormat}
-use Rattle.rio_server.specs.Registry.{IsRegistry}
-use Rattle.rio_server.proofs.FormatForms.{one_format}
-use Rattle.rio_server.proofs.Formatting.{no_command}
-use Rattle.rio_server.proofs.Listings.{no_status}
+use Rattle.std.proofs.Common.{inl, refl, subst}
+use Rattle.std.specs.Prelude.{None}
+use Rattle.rio_words.specs.declared.command.RioCommand.TheVariants.{Check, Format, Registry, Serve}
+use Rattle.rio_server.specs.Commands.{IsBuilt}
+use Rattle.rio_server.proofs.Commands.{built_told, host_told, limit_told, no_form, obeys_as, sink_told, source_told, starved_obeys, unbuilt_told, unread_told, usage_told}
 use Rattle.rio_server.proofs.program.run.Goals as goal
 
-pub returns-in-Some-format_of-clause-formatted : goal.returns-in-Some-format_of-clause-formatted
-returns-in-Some-format_of-clause-formatted g c = λ image disk sizes is.
-    let one = one_format _ _ _ _ _ _ _ c.in-Some-format_of.ensures (subst (λ (words : List (String Global)). IsFormat words image disk sizes) (sym c.as_slice-2.ensures.value) is) in
-    rw (sym one.0, sym one.1, sym one.2) c.format-status.ensures.run
+-- ---- a command was read
 
-pub returns-in_default-registry_of-clause-usage : goal.returns-in_default-registry_of-clause-usage
-returns-in_default-registry_of-clause-usage g c = (
-  λ _. no_command c.args.words.now.items (rw c.as_slice.ensures.value at c.in_default.ensures) (rw c.as_slice-2.ensures.value at c.in_default-format_of.ensures)
-      (rw c.as_slice-3.ensures.value at c.in_default-registry_of.ensures),
-  λ _. c.say.ensures.status,
+pub returns-in-Ok-clause-usage : goal.returns-in-Ok-clause-usage
+returns-in-Ok-clause-usage g c = (
+  λ is command. built_told _ _ _ _ c.obey.ensures (subst IsBuilt (c.in-Ok.ensures.only command.command command.reads) command.built) is,
+  λ none. inl (unbuilt_told _ _ _ _ c.obey.ensures (λ built. none (record { command = c.in-Ok.command; reads = c.in-Ok.ensures.reading; built = built }))).status_is,
 )
 
-pub returns-in_default-registry_of-clause-formatted : goal.returns-in_default-registry_of-clause-formatted
-returns-in_default-registry_of-clause-formatted g c = λ image disk sizes is.
-    absurd (c.in_default-format_of.ensures image disk sizes (subst (λ (words : List (String Global)). IsFormat words image disk sizes) (sym c.as_slice-2.ensures.value) is))
+pub returns-in-Ok-clause-untouched : goal.returns-in-Ok-clause-untouched
+returns-in-Ok-clause-untouched g c = λ none.
+    (unbuilt_told _ _ _ _ c.obey.ensures (λ built. none (record { command = c.in-Ok.command; reads = c.in-Ok.ensures.reading; built = built }))).kept
 
-pub returns-clause-usage : goal.returns-clause-usage
-returns-clause-usage g c = (
-  λ is _. (no_status _ _ _ _ _ _ _ c.show_registry-status.ensures.run).0 is,
-  λ none. absurd (none (inr (inr (string_bytes c.in-Some-registry_of.image.now, subst (λ (words : List (String Global)). IsRegistry words (string_bytes c.in-Some-registry_of.image.now)) c.as_slice-3.ensures.value c.in-Some-registry_of.ensures)))),
-)
+pub returns-in-Ok-clause-told : goal.returns-in-Ok-clause-told
+returns-in-Ok-clause-told g c = λ is. (usage_told _ _ _ _ c.obey.ensures is).told
+
+pub returns-in-Ok-clause-served : goal.returns-in-Ok-clause-served
+returns-in-Ok-clause-served g c = λ image disk reads. obeys_as (Serve image disk None) _ _ _ _ (c.in-Ok.ensures.only _ reads) c.obey.ensures
+
+pub returns-in-Ok-clause-formatted : goal.returns-in-Ok-clause-formatted
+returns-in-Ok-clause-formatted g c = λ image disk frames blocks inodes scratch reads.
+    obeys_as (Format image disk frames blocks inodes scratch) _ _ _ _ (c.in-Ok.ensures.only _ reads) c.obey.ensures
+
+pub returns-in-Ok-clause-listed : goal.returns-in-Ok-clause-listed
+returns-in-Ok-clause-listed g c = λ image reads. obeys_as (Registry image) _ _ _ _ (c.in-Ok.ensures.only _ reads) c.obey.ensures
+
+pub returns-in-Ok-clause-checked : goal.returns-in-Ok-clause-checked
+returns-in-Ok-clause-checked g c = λ image disk reads. obeys_as (Check image disk) _ _ _ _ (c.in-Ok.ensures.only _ reads) c.obey.ensures
+
+pub returns-in-Ok-clause-unread : goal.returns-in-Ok-clause-unread
+returns-in-Ok-clause-unread g c = unread_told _ _ _ _ _ c.in-Ok.ensures.reading c.obey.ensures
+
+pub returns-in-Ok-clause-host_fault : goal.returns-in-Ok-clause-host_fault
+returns-in-Ok-clause-host_fault g c = host_told _ _ _ _ _ c.in-Ok.ensures.reading c.obey.ensures
+
+pub returns-in-Ok-clause-source_fault : goal.returns-in-Ok-clause-source_fault
+returns-in-Ok-clause-source_fault g c = source_told _ _ _ _ c.obey.ensures
+
+pub returns-in-Ok-clause-sink_fault : goal.returns-in-Ok-clause-sink_fault
+returns-in-Ok-clause-sink_fault g c = sink_told _ _ _ _ c.obey.ensures
+
+pub returns-in-Ok-clause-limit : goal.returns-in-Ok-clause-limit
+returns-in-Ok-clause-limit g c = limit_told _ _ _ _ c.obey.ensures
+
+-- ---- the words are none
+
+pub returns-in-Err-Usage-clause-served : goal.returns-in-Err-Usage-clause-served
+returns-in-Err-Usage-clause-served g c = λ image disk reads. absurd (no_form _ _ c.in-Err-Usage.field-0-is c.in-Err-Usage.ensures.reading (Serve image disk None) reads)
+
+pub returns-in-Err-Usage-clause-formatted : goal.returns-in-Err-Usage-clause-formatted
+returns-in-Err-Usage-clause-formatted g c = λ image disk frames blocks inodes scratch reads.
+    absurd (no_form _ _ c.in-Err-Usage.field-0-is c.in-Err-Usage.ensures.reading (Format image disk frames blocks inodes scratch) reads)
+
+pub returns-in-Err-Usage-clause-listed : goal.returns-in-Err-Usage-clause-listed
+returns-in-Err-Usage-clause-listed g c = λ image reads. absurd (no_form _ _ c.in-Err-Usage.field-0-is c.in-Err-Usage.ensures.reading (Registry image) reads)
+
+pub returns-in-Err-Usage-clause-checked : goal.returns-in-Err-Usage-clause-checked
+returns-in-Err-Usage-clause-checked g c = λ image disk reads. absurd (no_form _ _ c.in-Err-Usage.field-0-is c.in-Err-Usage.ensures.reading (Check image disk) reads)
+
+-- ---- there was no memory to read one
+
+pub returns-in-Err-Memory-clause-served : goal.returns-in-Err-Memory-clause-served
+returns-in-Err-Memory-clause-served g c = λ image disk reads.
+    starved_obeys (Serve image disk None) _ _ _ tt (record { is = c.end_without_memory.ensures.status; kept = refl; unread = refl; told = c.end_without_memory.ensures.told })
+
+pub returns-in-Err-Memory-clause-formatted : goal.returns-in-Err-Memory-clause-formatted
+returns-in-Err-Memory-clause-formatted g c = λ image disk frames blocks inodes scratch reads.
+    starved_obeys (Format image disk frames blocks inodes scratch) _ _ _ tt (record { is = c.end_without_memory.ensures.status; kept = refl; unread = refl; told = c.end_without_memory.ensures.told })
+
+pub returns-in-Err-Memory-clause-listed : goal.returns-in-Err-Memory-clause-listed
+returns-in-Err-Memory-clause-listed g c = λ image reads.
+    starved_obeys (Registry image) _ _ _ tt (record { is = c.end_without_memory.ensures.status; kept = refl; unread = refl; told = c.end_without_memory.ensures.told })
+
+pub returns-in-Err-Memory-clause-checked : goal.returns-in-Err-Memory-clause-checked
+returns-in-Err-Memory-clause-checked g c = λ image disk reads.
+    starved_obeys (Check image disk) _ _ _ tt (record { is = c.end_without_memory.ensures.status; kept = refl; unread = refl; told = c.end_without_memory.ensures.told })
