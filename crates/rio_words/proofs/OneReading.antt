@@ -4,13 +4,13 @@ use Rattle.rio_words.specs.Clap.{Sorts}
 use Rattle.rio_words.specs.Files.{IsFile}
 use Rattle.rio_words.specs.Plans.{ArePlanned}
 use Rattle.rio_words.specs.Tokens.{Text}
-use Rattle.rio_words.specs.Words.{IsOnlyReading, IsReading, Reads, drill_keys, format_keys}
+use Rattle.rio_words.specs.Words.{IsOnlyReading, IsReading, Reads, drill_keys, format_keys, serve_keys}
 use Rattle.rio_words.specs.declared.command.RioCommand.{RioCommand}
 use Rattle.rio_words.specs.declared.command.RioCommand.TheVariants.{Format, Serve, Registry, Check, Drill}
 use Rattle.rio_words.specs.declared.fail.WordsFail.{WordsFail}
 use Rattle.rio_words.proofs.ClapAnswers.{found_by, given_finds}
-use Rattle.rio_words.proofs.Ranges.{same_number}
-use Rattle.rio_words.proofs.Readings.{GivenAs, drill_alone, drill_given, drill_planned, format_alone, format_given, format_planned, image_ids, image_planned, no_stop, only_check, only_drill, only_format, only_registry, only_serve, pair_alone, pair_given, pair_ids, pair_planned, reads_begins, registry_alone, registry_given}
+use Rattle.rio_words.proofs.Ranges.{same_number, same_stop}
+use Rattle.rio_words.proofs.Readings.{GivenAs, drill_alone, drill_given, drill_planned, format_alone, format_given, format_planned, image_ids, image_planned, only_check, only_drill, only_format, only_registry, only_serve, pair_alone, pair_given, pair_ids, pair_planned, reads_begins, registry_alone, registry_given, serve_alone, serve_given, serve_planned}
 
 -- words that are given once are sorted by what a walk over them finds, so whoever else is given them is given the same
 sorts_given : (keys ids : List Text) (planned : ArePlanned keys ids) (words : List Text) → GivenAs keys ids words → Sorts keys ids (drop 1 words) (found_by keys ids planned (drop 1 words))
@@ -44,13 +44,13 @@ one_format words image disk frames blocks inodes scratch r image2 disk2 frames2 
 one_serve : (words : List Text) (image disk : Text) (stop : Option ℕ) → Reads words (Serve image disk stop) → (image2 disk2 : Text) (stop2 : Option ℕ) → Reads words (Serve image2 disk2 stop2)
     → Serve image2 disk2 stop2 ≡ Serve image disk stop
 one_serve words image disk stop r image2 disk2 stop2 r2 =
-    let found = found_by [] pair_ids pair_planned (drop 1 words) in
-    let s : Sorts [] pair_ids (drop 1 words) found = sorts_given [] pair_ids pair_planned words (pair_given (codes "serve") words r.0 image disk r.1) in
-    let a = pair_alone (codes "serve") words found r.0 image disk s r.1 in
-    let b = pair_alone (codes "serve") words found r2.0 image2 disk2 s r2.1 in
-    let images = one_file found (codes "image") image2 image b.image_is a.image_is in
-    let disks = one_file found (codes "disk") disk2 disk b.disk_is a.disk_is in
-    let stops : stop2 ≡ stop = no_stop r2.0 stop2 r2.1.known r2.2 ∙ sym (no_stop r.0 stop r.1.known r.2) in
+    let found = found_by serve_keys pair_ids serve_planned (drop 1 words) in
+    let s : Sorts serve_keys pair_ids (drop 1 words) found = sorts_given serve_keys pair_ids serve_planned words (serve_given words image disk stop r) in
+    let a = serve_alone words found image disk stop s r in
+    let b = serve_alone words found image2 disk2 stop2 s r2 in
+    let images = one_file found (codes "image") image2 image b.0.image_is a.0.image_is in
+    let disks = one_file found (codes "disk") disk2 disk b.0.disk_is a.0.disk_is in
+    let stops = same_stop found (codes "stop") stop2 stop b.1 a.1 in
     cc (images, disks, stops)
 
 one_check : (words : List Text) (image disk : Text) → Reads words (Check image disk) → (image2 disk2 : Text) → Reads words (Check image2 disk2) → Check image2 disk2 ≡ Check image disk

@@ -1,15 +1,22 @@
 -- Numbers that options have, and their ranges.
-use Rattle.std.proofs.Common.{◌≡◌, ◌≢◌, ◌∙◌, ◌≤◌, ◌+◌, ◌/◌, ◌%◌, ℕ, refl, sym, ap, subst, arith, codes, Option, inl}
+use Rattle.std.proofs.Common.{◌≡◌, ◌≢◌, ◌∙◌, ◌≤◌, ◌+◌, ◌/◌, ◌%◌, ℕ, refl, sym, ap, subst, arith, codes, Option, None, Some, inl}
 use Rattle.rio_base.proofs.DecimalDigits.{one_number}
 use Rattle.rio_base.specs.Numbers.{IsNumber}
 use Rattle.rio_words.specs.Tokens.{Text}
-use Rattle.rio_words.specs.Words.{HasDrill, HasNumber, HasSizes}
+use Rattle.rio_words.specs.Words.{HasDrill, HasNumber, HasSizes, MayHaveNumber, most_boots}
 
 -- an option has one number
 pub same_number : (found : Text → Option Text) (key : Text) (m n : ℕ) → HasNumber found key m → HasNumber found key n → m ≡ n
 same_number found key m n h k =
     let same : h.text ≡ k.text = cc (sym h.given ∙ k.given) in
     one_number k.text m n (subst (λ (t : Text). IsNumber t m) same h.number) k.number
+
+-- and so an option that may be missing has one number or none
+pub same_stop : (found : Text → Option Text) (key : Text) (a b : Option ℕ) → MayHaveNumber found key a → MayHaveNumber found key b → a ≡ b
+same_stop found key None None h k = refl
+same_stop found key None (Some n) h k = absurd (cc (sym h ∙ k.given))
+same_stop found key (Some m) None h k = absurd (cc (sym k ∙ h.given))
+same_stop found key (Some m) (Some n) h k = ap (λ i. Some i) (same_number found key m n h k)
 
 -- numbers that are in range are the sizes
 pub sizes_found : (found : Text → Option Text) (frames blocks inodes scratch : ℕ) → HasNumber found (codes "frames") frames × (32 ≤ frames) × (frames ≤ 8192)
@@ -47,7 +54,7 @@ other_blocks found n frames blocks inodes scratch has none sizes =
     none blocks sizes.blocks_are (subst (λ k. 3 + k / 32 ≤ blocks) (sym same) sizes.of_volume.sizes.blocks_from) sizes.of_volume.sizes.blocks_to
 
 pub drill_found : (found : Text → Option Text) (seed boots requests : ℕ) → HasNumber found (codes "seed") seed × (0 ≤ seed) × (seed ≤ 2147483647)
-    → HasNumber found (codes "boots") boots × (1 ≤ boots) × (boots ≤ 1) → HasNumber found (codes "requests") requests × (1 ≤ requests) × (requests ≤ 100000) → HasDrill found seed boots requests
+    → HasNumber found (codes "boots") boots × (1 ≤ boots) × (boots ≤ most_boots) → HasNumber found (codes "requests") requests × (1 ≤ requests) × (requests ≤ 100000) → HasDrill found seed boots requests
 drill_found found seed boots requests s b r = record {
   seed_is = s.0;
   boots_are = b.0;

@@ -13,7 +13,7 @@ use Rattle.rio_words.specs.Clap.{IsMatched, Sorts}
 use Rattle.rio_words.specs.Files.{AreFiles, IsFile}
 use Rattle.rio_words.specs.Plans.{AreNoFlags, ArePlanned, Finds, Gives}
 use Rattle.rio_words.specs.Tokens.{AreTokens, Text, are_different, is_among, keys_of, value_of}
-use Rattle.rio_words.specs.Words.{Begins, HasDrill, HasNumber, HasSizes, IsFileName, IsLine, IsReading, MayHaveNumber, Options, Reads, drill_keys, format_keys, given_by, texts_of}
+use Rattle.rio_words.specs.Words.{Begins, HasDrill, HasNumber, HasSizes, IsFileName, IsLine, IsReading, MayHaveNumber, Options, Reads, drill_keys, format_keys, given_by, serve_keys, texts_of}
 use Rattle.rio_words.specs.declared.command.RioCommand.{RioCommand}
 use Rattle.rio_words.specs.declared.command.RioCommand.TheVariants.{Format, Serve, Registry, Check, Drill}
 use Rattle.rio_words.specs.declared.fail.WordsFail.{WordsFail}
@@ -30,6 +30,9 @@ image_ids = codes "image" ∷ []
 
 pub format_planned : ArePlanned format_keys pair_ids
 format_planned = record { apart = refl; alone = refl; lacks = refl; some = refl; few = omega arith }
+
+pub serve_planned : ArePlanned serve_keys pair_ids
+serve_planned = record { apart = refl; alone = refl; lacks = refl; some = refl; few = omega arith }
 
 pub drill_planned : ArePlanned drill_keys []
 drill_planned = record { apart = refl; alone = refl; lacks = refl; some = refl; few = omega arith }
@@ -219,6 +222,26 @@ sizes_each found frames blocks inodes scratch has = ((frames, has.frames_are), (
 drill_each : (found : Text → Option Text) (seed boots requests : ℕ) → HasDrill found seed boots requests → EachNumber found drill_keys
 drill_each found seed boots requests has = ((seed, has.seed_is), ((boots, has.boots_are), ((requests, has.requests_are), tt)))
 
+pub stop_moved : (a b : Text → Option Text) (stop : Option ℕ) → b (codes "stop") ≡ a (codes "stop") → MayHaveNumber a (codes "stop") stop → MayHaveNumber b (codes "stop") stop
+stop_moved a b None same none = same ∙ none
+stop_moved a b (Some n) same has = number_moved a b (codes "stop") n same has
+
+-- a stop that is given is a number
+stop_no_flag : (found : Text → Option Text) (stop : Option ℕ) (v : Text) → MayHaveNumber found (codes "stop") stop → found (codes "stop") ≡ Some v → slice_index v 0 ≢ 45
+stop_no_flag found None v none e = absurd (cc (sym none ∙ e))
+stop_no_flag found (Some n) v has e =
+    let same : has.text ≡ v = cc (sym has.given ∙ e) in
+    subst (λ (t : Text). slice_index t 0 ≢ 45) same (number_no_flag has.text n has.number)
+
+stop_of_key : (found : Text → Option Text) (stop : Option ℕ) (key v : Text) → MayHaveNumber found (codes "stop") stop → is_among serve_keys key ≡ true → found key ≡ Some v → slice_index v 0 ≢ 45
+stop_of_key found stop key v has among e = go (bytes_eq (codes "stop") key) refl among
+  where
+    go : (b : Bool) → bytes_eq (codes "stop") key ≡ b → (b || false) ≡ true → slice_index v 0 ≢ 45
+    go false differs f = absurd (true≢false (sym f))
+    go true same f =
+        let is : codes "stop" ≡ key = (bytes_eq-Decides (codes "stop") key).0 same in
+        stop_no_flag found stop v has (ap found is ∙ e)
+
 -- ---- the files
 
 two_names : (names : List Text) (a b : Text) → slice_get names 0 ≡ Some a → slice_get names 1 ≡ Some b → length names ≤ 2 → names ≡ a ∷ b ∷ []
@@ -369,22 +392,32 @@ not_format words begins none = only_format words begins (λ c. ⊥) (λ image di
     let given = format_given words image disk frames blocks inodes scratch r in
     none given.options given.names given.gives given.values given.no_flags)
 
--- options of a command that has none give no stop
-none_given : (options : Options) (key : Text) → list_all (λ o. is_among [] o.0) options ≡ true → given_by options key ≡ None
-none_given [] key known = refl
-none_given (o ∷ options) key known = absurd (true≢false (sym known))
-
-pub no_stop : (options : Options) (stop : Option ℕ) → list_all (λ o. is_among [] o.0) options ≡ true → MayHaveNumber (given_by options) (codes "stop") stop → stop ≡ None
-no_stop options None known has = refl
-no_stop options (Some n) known has = absurd (cc (sym has.given ∙ none_given options (codes "stop") known))
-
-pub serve_read : (words : List Text) (found : Text → Option Text) (image disk : Text) → Begins (codes "serve") words → Sorts [] pair_ids (drop 1 words) found → AreFiles found image disk
-    → Reads words (Serve image disk None)
-serve_read words found image disk begins s files = (
+pub serve_read : (words : List Text) (found : Text → Option Text) (image disk : Text) (stop : Option ℕ) → Begins (codes "serve") words → Sorts serve_keys pair_ids (drop 1 words) found → AreFiles found image disk
+    → MayHaveNumber found (codes "stop") stop → Reads words (Serve image disk stop)
+serve_read words found image disk stop begins s files has = (
   s.options,
-  pair_line (codes "serve") [] words found image disk begins s files,
-  none_given s.options (codes "stop") s.gives.known,
+  pair_line (codes "serve") serve_keys words found image disk begins s files,
+  stop_moved found (given_by s.options) stop (sym (s.finds.of_key (codes "stop") refl)) has,
 )
+
+pub serve_given : (words : List Text) (image disk : Text) (stop : Option ℕ) → Reads words (Serve image disk stop) → GivenAs serve_keys pair_ids words
+serve_given words image disk stop r = record {
+  options = r.0;
+  names = image ∷ disk ∷ [];
+  gives = line_gives (codes "serve") serve_keys pair_ids words r.0 (image ∷ disk ∷ []) r.1 (omega arith);
+  values = values_no_flags serve_keys r.0 r.1.known r.1.once (λ key v among e. stop_of_key (given_by r.0) stop key v r.2 among e);
+  no_flags = names_no_flags (image ∷ disk ∷ []) r.1.named;
+}
+
+pub serve_alone : (words : List Text) (found : Text → Option Text) (image disk : Text) (stop : Option ℕ) → Sorts serve_keys pair_ids (drop 1 words) found
+    → Reads words (Serve image disk stop) → AreFiles found image disk × MayHaveNumber found (codes "stop") stop
+unfolding serve_given
+serve_alone words found image disk stop s r =
+    let given = serve_given words image disk stop r in
+    let finds = s.alone given.options given.names given.gives given.values given.no_flags in (
+      line_pair (codes "serve") serve_keys words r.0 image disk found r.1 finds,
+      stop_moved (given_by r.0) found stop (finds.of_key (codes "stop") refl) r.2,
+    )
 
 pub pair_given : (command : Text) (words : List Text) (options : Options) (image disk : Text) → IsLine command [] words options (image ∷ disk ∷ []) → GivenAs [] pair_ids words
 pair_given command words options image disk line = record {
@@ -402,13 +435,17 @@ pair_alone command words found options image disk s line =
     let given = pair_given command words options image disk line in
     line_pair command [] words options image disk found line (s.alone given.options given.names given.gives given.values given.no_flags)
 
-pub serve_without_files : (words : List Text) (found : Text → Option Text) → Begins (codes "serve") words → Sorts [] pair_ids (drop 1 words) found
+pub serve_without_files : (words : List Text) (found : Text → Option Text) → Begins (codes "serve") words → Sorts serve_keys pair_ids (drop 1 words) found
     → ((image disk : Text) → AreFiles found image disk → ⊥) → (c : RioCommand) → Reads words c → ⊥
-serve_without_files words found begins s none = only_serve words begins (λ c. ⊥) (λ image disk stop r. none image disk (pair_alone (codes "serve") words found r.0 image disk s r.1))
+serve_without_files words found begins s none = only_serve words begins (λ c. ⊥) (λ image disk stop r. none image disk (serve_alone words found image disk stop s r).0)
 
-pub not_serve : (words : List Text) → Begins (codes "serve") words → GivesNone [] pair_ids words → (c : RioCommand) → Reads words c → ⊥
+pub serve_without_stop : (words : List Text) (found : Text → Option Text) → Begins (codes "serve") words → Sorts serve_keys pair_ids (drop 1 words) found
+    → ((stop : Option ℕ) → MayHaveNumber found (codes "stop") stop → ⊥) → (c : RioCommand) → Reads words c → ⊥
+serve_without_stop words found begins s none = only_serve words begins (λ c. ⊥) (λ image disk stop r. none stop (serve_alone words found image disk stop s r).1)
+
+pub not_serve : (words : List Text) → Begins (codes "serve") words → GivesNone serve_keys pair_ids words → (c : RioCommand) → Reads words c → ⊥
 not_serve words begins none = only_serve words begins (λ c. ⊥) (λ image disk stop r.
-    let given = pair_given (codes "serve") words r.0 image disk r.1 in
+    let given = serve_given words image disk stop r in
     none given.options given.names given.gives given.values given.no_flags)
 
 pub check_read : (words : List Text) (found : Text → Option Text) (image disk : Text) → Begins (codes "check") words → Sorts [] pair_ids (drop 1 words) found → AreFiles found image disk

@@ -50,7 +50,7 @@ pub record HasSizes (found : Text → Option Text) (frames blocks inodes scratch
 
 -- the most boots of a drill
 abbrev pub most_boots : ℕ
-most_boots = 1
+most_boots = 1000
 
 -- the numbers of a drill
 pub record HasDrill (found : Text → Option Text) (seed boots requests : ℕ) : Type 0 where
@@ -68,9 +68,9 @@ pub record HasDrill (found : Text → Option Text) (seed boots requests : ℕ) :
 abbrev pub format_keys : List Text
 format_keys = codes "frames" ∷ codes "blocks" ∷ codes "inodes" ∷ codes "scratch" ∷ []
 
--- none, as long as no stop can be asked for
+-- it may be missing
 abbrev pub serve_keys : List Text
-serve_keys = []
+serve_keys = codes "stop" ∷ []
 
 abbrev pub drill_keys : List Text
 drill_keys = codes "seed" ∷ codes "boots" ∷ codes "requests" ∷ []

@@ -10,8 +10,8 @@ use clap::ArgMatches;
 /// The options of `drill`, without the `--` in front of each.
 pub const DRILL_OPTIONS: [&str; 3] = ["seed", "boots", "requests"];
 
-/// The most boots that a drill can be asked for: one, as long as no drill stops its machine.
-const MOST_BOOTS: u32 = 1;
+/// The most boots that a drill can be asked for.
+const MOST_BOOTS: u32 = 1_000;
 
 /// What the options of `drill` say.
 #[derive(Clone, Copy)]

@@ -10,6 +10,7 @@ mod format_words;
 mod matching;
 mod numbers;
 mod reading;
+mod serve_words;
 
 pub use command::RioCommand;
 pub use fail::WordsFail;

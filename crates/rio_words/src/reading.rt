@@ -10,6 +10,7 @@ use crate::file_name::FileName;
 use crate::files::{file_of, pair_of};
 use crate::format_words::{FORMAT_OPTIONS, sizes_of};
 use crate::matching::matches_of;
+use crate::serve_words::{SERVE_OPTIONS, stop_of};
 use std::alloc::Global;
 
 /// The files of a command on an image and a volume.
@@ -17,9 +18,6 @@ const PAIR: [&str; 2] = ["image", "disk"];
 
 /// The files of a command on an image alone.
 const IMAGE: [&str; 1] = ["image"];
-
-/// The options of `serve`: none, as long as no stop can be asked for.
-const SERVE_OPTIONS: [&str; 0] = [];
 
 /// No options, and no files.
 const NONE: [&str; 0] = [];
@@ -78,13 +76,12 @@ fn read_serve(alloc: Global, words: &[String]) -> Result<RioCommand, WordsFail>
     let Some(pair) = pair_of(&matches) else {
         return Err(WordsFail::Usage);
     };
+    let Some(stop) = stop_of(&matches) else {
+        return Err(WordsFail::Usage);
+    };
     let image = FileName::copied(alloc, pair.image)?;
     let disk = FileName::copied(alloc, pair.disk)?;
-    Ok(RioCommand::Serve {
-        image,
-        disk,
-        stop: None,
-    })
+    Ok(RioCommand::Serve { image, disk, stop })
 }
 
 /// Reads words that begin with `registry`.
