@@ -25,7 +25,7 @@ use Rattle.pair_files.specs.declared.failures.LoadFail.{LoadFail}
 use Rattle.pair_files.specs.declared.failures.LoadFail.TheVariants.{Absent, BadImage, BadLength, Fault, Memory as LoadMemory}
 use Rattle.pair_files.specs.declared.names.PairFile.TheVariants.{Image, Disk}
 use Rattle.pair_files.specs.Ends.{EndedEarly, Ended, EndsEarly, EndsNoBreach, EndsSound, IsSaved, IsSomePair, IsUnsaved, KeepsPair, Outcome, Outset, PairEnds, Untouched}
-use Rattle.pair_files.specs.Images.{IsImageOf}
+use Rattle.pair_files.specs.Images.{HoldsImage, IsImageOf}
 use Rattle.pair_files.specs.Loads.{IsDiskLoaded, Misses, TellsNoBreach}
 use Rattle.pair_files.specs.Pairs.{AreBlocksIn, BreaksVolume, HasPair, file_of}
 use Rattle.pair_files.specs.Saves.{Leaves, disk_of}
@@ -59,18 +59,18 @@ same_others o x name h = ap (λ (t : Option Files). file_of t name) h.files
 -- ---- nothing was loaded
 
 unloaded_ends : (E : Type 0) (o : Outset) (fail : LoadFail) (x : Outcome) → Untouched o x → x.pages ≡ None → Misses fail o.image o.disk (Rose o.faults x.faults) o.told → EndsEarly {E = E} o (end_of fail) x
-unloaded_ends E o (Absent Image) x u none (inl h) = (u, h)
+unloaded_ends E o (Absent Image) x u none (inl h) = (u, none, h)
 unloaded_ends E o (Absent Image) x u none (inr h) = absurd h.2
 unloaded_ends E o (Absent Disk) x u none (inl h) = absurd h
-unloaded_ends E o (Absent Disk) x u none (inr (words, holds, h)) = (u, words, holds, h)
+unloaded_ends E o (Absent Disk) x u none (inr (words, holds, h)) = (u, none, words, holds, h)
 unloaded_ends E o (BadImage rule) x u none (inl h) = (u, h)
 unloaded_ends E o (BadImage rule) x u none (inr h) = absurd h.2
 unloaded_ends E o BadLength x u none (inl h) = absurd h
 unloaded_ends E o BadLength x u none (inr (words, holds, (size, is, long))) = (u, record { words = words; holds = holds; fails = inl (refl, refl, size, is, long) })
-unloaded_ends E o (Fault Image) x u none (inl h) = (u, h)
+unloaded_ends E o (Fault Image) x u none (inl h) = (u, none, h)
 unloaded_ends E o (Fault Image) x u none (inr h) = absurd h.2
 unloaded_ends E o (Fault Disk) x u none (inl h) = absurd h
-unloaded_ends E o (Fault Disk) x u none (inr h) = (u, h.2)
+unloaded_ends E o (Fault Disk) x u none (inr h) = (u, none, h.2)
 unloaded_ends E o LoadMemory x u none h = (u, inl none)
 
 no_breach : (E : Type 0) (fail : LoadFail) → TellsNoBreach fail → EndsNoBreach {E = E} (end_of fail)
@@ -136,6 +136,10 @@ made_pair o c r s m h = λ files e. (
     pair = machine_pair m.bytes (bytes_of m.disk.words) s c.words r.scratch c.disk c (length r.scratch) m.are (made_in o c r m) (record { count = refl; whole = (made_in o c r m).whole; kept = λ b clear. refl }) refl refl h;
   },
 )
+
+-- its image keeps its rules
+made_holds : (o : Outset) (c : Contents) (r : Running) → IsMade o c r → HoldsImage o.told o.image c.words
+made_holds o c r m = record { scratch = r.scratch; holds = record { bytes = m.bytes; file = m.file; are = m.are }; layout = m.layout; keeps = m.keeps }
 
 -- ---- a machine was taken back
 
@@ -211,7 +215,7 @@ ended_volume o c r rule b x h leaves streams counted =
     breaks : BreaksVolume o.told o.image o.disk rule b.0
     breaks = record {
       words = h.old.words;
-      holds = record { scratch = h.run.scratch; holds = record { bytes = m.bytes; file = m.file; are = m.are }; layout = m.layout; keeps = m.keeps };
+      holds = made_holds o h.old h.run m;
       fails = inr (bytes_of m.disk.words, h.old.disk, m.disk.file.bytes, made_in o h.old h.run m, fails_pair h.old h.old.words h.old.disk rule b.0 refl refl h.unbooted.1);
     }
 
@@ -260,6 +264,7 @@ ended_memory o c r x h streams saved = record { ends = (u, inr (saved_is o c r x
 -- what was stood for is stood for
 kept_pair : (o : Outset) (c : Contents) (r : Running) (fail : BootFail) (x : Outcome) → (h : IsFailed o c r fail) → o.image ≢ o.disk → x.streams ≡ o.streams → SavedAs o c r x → ((s : State) → StandsFor h.old (length h.run.scratch) s → StandsFor c (length r.scratch) s) → KeepsPair o x
 kept_pair o c r fail x h two streams saved survives = record {
+  found = record { words = h.old.words; disk_words = h.made.disk.words; image_file = made_holds o h.old h.run h.made; disk_file = h.made.disk.file };
   unread = streams;
   is_saved = saved_is o c r x saved;
   pair = λ i k s pair.

@@ -18,7 +18,7 @@ use Rattle.rio_model.proofs.StandingStates.{AreWhole}
 use Rattle.page_cache.specs.Caches.{cache_below, cache_health, is_roomy}
 use Rattle.page_cache.specs.declared.tables.CacheTables.{CacheTables}
 use Rattle.pair_files.specs.declared.ends.PairEnd.TheVariants.{Unsaved, Worked}
-use Rattle.pair_files.specs.Ends.{Begins, Ended, Goes, Outcome, Outset, Works}
+use Rattle.pair_files.specs.Ends.{Begins, Ended, Goes, IsDone, Outcome, Outset, Works}
 use Rattle.pair_files.specs.Images.{IsImageOf}
 use Rattle.pair_files.specs.Pairs.{AreBlocksIn, HasPair, IsRestored, IsRoomy}
 use Rattle.pair_files.specs.Scenes.{IsBooted, LastsBelow, Scene, Streams, scene_of}
@@ -138,10 +138,21 @@ goes o does e shape c d r q t x streams s u h given booted leads lasts told = re
 
 pub ended_worked : {E : Type 0} (o : Outset) (does : E → Scene → Scene → Type 0) (e : E) (shape : VolumeShape) (c d : Contents) (r q : Running) (t : CacheTables) (x : Outcome) (streams : Streams) → AreWhole c → o.image ≢ o.disk → o.streams ≡ streams → IsStarted o shape c r t → WorkDone does e shape c r t streams d q x.streams → LastsBelow (cache_health c r) (cache_below c r) (cache_health d q) (cache_below d q) → SavedAs o d q x → Ended o does (Worked e) x
 ended_worked o does e shape c d r q t x streams whole two given h done lasts saved = record {
-  ends = (made_pair o h.old h.run h.found.0 h.made h.found.1, saved_is o d q x saved, works);
+  ends = (made_pair o h.old h.run h.found.0 h.made h.found.1, saved_is o d q x saved, gone, works);
   every = every_saved o d q x (Worked e) (omega (arith, lasts.later, h.runs.later, h.made.counted)) saved tt;
 }
   where
+    gone : IsDone o (does e) x
+    gone =
+        let booted = h.booted h.found.0 h.found.1 in
+        let led = done h.found.0 booted in
+        record {
+          state = h.found.0;
+          begin = scene_of h.found.0 c r streams;
+          after = scene_of led.0 d q x.streams;
+          goes = goes o does e shape c d r q t x streams h.found.0 led.0 h given booted led.1 lasts saved.told;
+        }
+
     works : (i k : List ℕ) (s : State) → HasPair o.told o.image o.disk i k s → Works o (does e) x i k s
     works i k s pair =
         let files = files_told o.told o.image i pair.image_file in
@@ -155,6 +166,7 @@ ended_worked o does e shape c d r q t x streams whole two given h done lasts sav
           image_now = now.image_now;
           disk_now = now.disk_now;
           pair = now.pair;
+          roomy = λ roomy. h.runs.roomy ∙ made_roomy o h.old h.run i k s h.made pair roomy;
           restored = λ roomy home same. restored o shape c d r q t x i k s led.0 whole h booted pair now led.2 roomy home same;
           counted = saved.counted;
         }

@@ -56,8 +56,16 @@ pub record IsSaved (o : Outset) (x : Outcome) : Type 0 where
 
 -- ---- a reboot that was cut off
 
+-- the files that a machine was made of: the image keeps its rules, and the disk has a disk's length
+pub record AreFound (o : Outset) : Type 0 where
+  pub words : List ℕ
+  pub disk_words : List ℕ
+  pub image_file : HoldsImage o.told o.image words
+  pub disk_file : AreFileWords o.told o.disk disk_words
+
 -- the image is saved, and what the files stood for they stand for
 pub record KeepsPair (o : Outset) (x : Outcome) : Type 0 where
+  pub found : AreFound o
   pub unread : x.streams ≡ o.streams
   pub is_saved : IsSaved o x
   pub pair : (i k : List ℕ) (s : State) → HasPair o.told o.image o.disk i k s → (j l : List ℕ) × HasPair x.told o.image o.disk j l s
@@ -85,6 +93,13 @@ pub record Goes (o : Outset) (does : Scene → Scene → Type 0) (x : Outcome) (
   pub lasts : LastsBelow begin.health begin.below after.health after.below
   pub left : x.tells ≡ true → (l : Leaving) × (x.left ≡ Some l) × (l.faults ≡ after.health.faults) × (l.stopped ≡ after.health.stopped) × (l.trapped ≡ after.below.causes.trapped)
 
+-- it went so from some state, which the machine stood for
+pub record IsDone (o : Outset) (does : Scene → Scene → Type 0) (x : Outcome) : Type 0 where
+  pub state : State
+  pub begin : Scene
+  pub after : Scene
+  pub goes : Goes o does x state begin after
+
 -- of a pair of these bytes, which stands for s: the files are a pair of the state that the work led to. Where there is a frame
 -- for each block, and the work left the disk as it was and the state its sizes, the disk is what the reboot made of it
 pub record Works (o : Outset) (does : Scene → Scene → Type 0) (x : Outcome) (i k : List ℕ) (s : State) : Type 0 where
@@ -94,6 +109,7 @@ pub record Works (o : Outset) (does : Scene → Scene → Type 0) (x : Outcome) 
   pub image_now : List ℕ
   pub disk_now : List ℕ
   pub pair : HasPair x.told o.image o.disk image_now disk_now after.state
+  pub roomy : IsRoomy i k → begin.below.roomy ≡ true
   pub restored : IsRoomy i k → after.below.home ≡ begin.below.home → after.state.shape ≡ s.shape → IsRestored i k disk_now s
   pub counted : after.health.faults ≤ x.faults
 
@@ -119,11 +135,11 @@ IsSomePair o = (files : Files) → o.told ≡ Some files → (i k : List ℕ) ×
 
 -- ends without a work
 abbrev pub EndsEarly : {E : Type 0} → Outset → PairEnd E → Outcome → Type 0
-EndsEarly o (Absent Image) x = Untouched o x × IsAbsent o.told o.image
-EndsEarly o (Absent Disk) x = Untouched o x × (words : List ℕ) × HoldsImage o.told o.image words × IsAbsent o.told o.disk
+EndsEarly o (Absent Image) x = Untouched o x × (x.pages ≡ None) × IsAbsent o.told o.image
+EndsEarly o (Absent Disk) x = Untouched o x × (x.pages ≡ None) × (words : List ℕ) × HoldsImage o.told o.image words × IsAbsent o.told o.disk
 EndsEarly o (BadImage rule) x = Untouched o x × Breaks o.told o.image rule
 EndsEarly o (BadVolume rule b) x = Untouched o x × BreaksVolume o.told o.image o.disk rule b.0
-EndsEarly o (HostFault file) x = Untouched o x × Rose o.faults x.faults
+EndsEarly o (HostFault file) x = Untouched o x × (x.pages ≡ None) × Rose o.faults x.faults
 EndsEarly o Memory x = Untouched o x × ((x.pages ≡ None) ⊎ IsSaved o x)
 EndsEarly o BootFault x = KeepsPair o x × Rose o.faults x.faults
 EndsEarly o BootStopped x = KeepsPair o x × (is_some o.stop ≡ true) × (x.tells ≡ true → (l : Leaving) × (x.left ≡ Some l) × (l.stopped ≡ true))
@@ -132,7 +148,7 @@ EndsEarly o (Unsaved None) x = IsUnsaved o x × (x.streams ≡ o.streams)
 EndsEarly o (Unsaved (Some e)) x = ⊥
 
 abbrev pub PairEnds : {E : Type 0} → Outset → (E → Scene → Scene → Type 0) → PairEnd E → Outcome → Type 0
-PairEnds {E} o does (Worked e) x = IsSomePair o × IsSaved o x × ((i k : List ℕ) (s : State) → HasPair o.told o.image o.disk i k s → Works o (does e) x i k s)
+PairEnds {E} o does (Worked e) x = IsSomePair o × IsSaved o x × IsDone o (does e) x × ((i k : List ℕ) (s : State) → HasPair o.told o.image o.disk i k s → Works o (does e) x i k s)
 PairEnds {E} o does (Unsaved (Some e)) x = IsUnsaved o x × ((i k : List ℕ) (s : State) → HasPair o.told o.image o.disk i k s → WorksUnsaved o (does e) x s)
 PairEnds {E} o does (Unsaved None) x = EndsEarly {E = E} o (Unsaved None) x
 PairEnds {E} o does end x = EndsEarly {E = E} o end x
