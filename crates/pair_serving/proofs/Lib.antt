@@ -1,5 +1,5 @@
-mod Machines
-mod MachineRuns
+pub mod Machines
+pub mod MachineRuns
 mod Quiet
 mod Scenes
-mod Sizes
+pub mod Sizes
