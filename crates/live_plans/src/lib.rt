@@ -1,0 +1,8 @@
+//! What a run of many boots is told, and what it tells: plans of boots, and transcripts.
+#![tactic(auto)]
+
+mod plan;
+mod transcript;
+
+pub use plan::{BootPlan, BootPlans, CallList, LivePlan, RequestList};
+pub use transcript::{AnsweredList, BootEnd, BootRun, BootRuns, Transcript};
