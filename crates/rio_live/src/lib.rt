@@ -1,0 +1,12 @@
+//! Many boots in one call: a fresh volume in memory is served boot after boot, and stops and fails as a plan says.
+#![tactic(auto)]
+
+mod booting;
+mod copies;
+mod counting;
+mod formatting;
+mod many_boots;
+mod parts;
+mod serving;
+
+pub use many_boots::live;
