@@ -1,0 +1,7 @@
+mod Drawing
+mod Few
+mod Listing
+mod Planned
+mod Runnable
+mod Tallies
+mod Telling
