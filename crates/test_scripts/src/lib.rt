@@ -1,6 +1,10 @@
-//! The lines of the scripts that programs of sessions read, in which a few characters may stand for many.
+//! The lines of the scripts that programs of sessions read, in which a few characters may stand for many; and drawn request
+//! lines.
 #![tactic(auto)]
 
+mod drawn_lines;
+
+pub use drawn_lines::{Draws, drawn_flush, drawn_line, reading_of_file};
 use std::alloc::{AllocError, Global};
 use std::fmt::Debug;
 

@@ -4,12 +4,13 @@ ghost use Rattle.std.specs.Prelude.{IfOk, IfSome};
 ghost use Rattle.block_disk.specs.MemDisks.{state_of};
 ghost use Rattle.rio_base.specs.Image.{AreImageSizes};
 ghost use Rattle.rio_base.specs.Shapes.{IsServed};
-ghost use Rattle.rio_server.specs.FreshMachines.{IsFreshDisk};
+ghost use Rattle.test_servers.specs.FreshMachines.{IsFreshDisk};
 
+use crate::fresh_machine::{fresh_core, fresh_disk};
 use block_disk::MemDisk;
+use pair_serving::{ServeEnd, serve};
 use rio_base::{Block, VolumeShape};
 use rio_fakes::{MemSink, MemSource};
-use rio_server::{ServeEnd, fresh_core, fresh_disk, serve};
 use std::alloc::{AllocError, Global};
 
 /// A volume that is served, and the frames of the memory before it.

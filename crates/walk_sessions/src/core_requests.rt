@@ -4,12 +4,10 @@ ghost use Rattle.std.specs.Prelude.{IfOk};
 ghost use Rattle.rio_model.specs.declared.state.State.{State as StateOf};
 
 use crate::faults::{AnswersRequests, reply_of};
-use crate::plain_server::text_of;
 use request_codec::parse_line;
 use rio_base::{Machine, MemWords, WordAt};
-use rio_server::{fresh_core, fresh_disk};
 use std::alloc::{AllocError, Global};
-use test_servers::{Sizes, checked};
+use test_servers::{Sizes, checked, fresh_core, fresh_disk, text_of};
 
 /// What came of requests made of a core.
 #[derive(Drop)]

@@ -5,19 +5,17 @@ ghost use Rattle.block_disk.specs.MemDisks.{state_of};
 ghost use Rattle.rio_base.specs.Shapes.{IsServed};
 ghost use Rattle.rio_requests.specs.Requests.{IsRequest};
 ghost use Rattle.rio_model.specs.declared.state.State.{State as StateOf};
-ghost use Rattle.rio_server.specs.FreshMachines.{IsFreshDisk};
+ghost use Rattle.test_servers.specs.FreshMachines.{IsFreshDisk};
 
-use crate::drawn_lines::{Draws, drawn_line, reading_of_file};
-use crate::plain_server::{Plain, text_of};
 use block_disk::MemDisk;
 use request_codec::parse_line;
 use rio_base::{Machine, Octets, Stopped, VolumeShape};
 use rio_core::{Core, answer_one};
 use rio_requests::{Reply, Request};
-use rio_server::{fresh_core, fresh_disk};
 use rio_serving::Server;
 use std::alloc::{AllocError, Global};
-use test_servers::{Sizes, checked};
+use test_scripts::{Draws, drawn_line, reading_of_file};
+use test_servers::{Plain, Sizes, checked, fresh_core, fresh_disk, text_of};
 
 /// A run from a fresh volume.
 #[derive(Drop)]

@@ -3,9 +3,7 @@
 #![tactic(auto)]
 
 mod core_requests;
-mod drawn_lines;
 mod faults;
-mod plain_server;
 mod session;
 mod walks;
 

@@ -3,7 +3,7 @@
 use crate::core_requests::{Asked, requests_of};
 use crate::faults::{Run, drawn_run, faults_of};
 use crate::walks::{Mix, Walk, line_that_differs, walk_of};
-use rio_server::ServeEnd;
+use pair_serving::ServeEnd;
 use std::alloc::{AllocError, Global};
 use test_scripts::{first_word, number, numbers, tell, tell_line, tell_number, tell_shown};
 use test_servers::{NO_BAD_BLOCK, Served, Sizes, serve_lines_of};

@@ -1,9 +1,8 @@
 //! Walks of drawn requests, whose replies are those of the plain definition.
 
-use crate::drawn_lines::{Draws, drawn_flush, drawn_line};
-use crate::plain_server::Plain;
 use std::alloc::{AllocError, Global};
-use test_servers::Sizes;
+use test_scripts::{Draws, drawn_flush, drawn_line};
+use test_servers::{Plain, Sizes};
 
 /// What is drawn.
 #[derive(Clone, Copy, Debug)]

@@ -1,5 +1,5 @@
 use Rattle.block_disk.specs.MemDisks.{state_of}
-use Rattle.rio_server.specs.FreshMachines.{IsFreshDisk}
+use Rattle.test_servers.specs.FreshMachines.{IsFreshDisk}
 use Rattle.walk_sessions.proofs.faults.failing_disk.Given as goal
 
 -- it has the fresh volume

@@ -1,12 +1,12 @@
 //! A server that answers by the plain definition, over the state alone.
 
+use crate::served::Sizes;
 use request_codec::{parse_line, write_reply};
 use rio_base::{Ino, Octets, VolumeShape};
 use rio_fakes::MemSink;
 use rio_model::{NameRows, Node, NodeRow, NodeRows, State, TxnList};
 use rio_requests::{Answered, Reply, Request, answer};
 use std::alloc::{AllocError, Global};
-use test_servers::Sizes;
 
 /// The state with the root directory alone.
 fn root_alone(alloc: Global, sizes: Sizes) -> Result<State, AllocError> {
@@ -89,6 +89,15 @@ impl Plain {
     pub fn new(alloc: Global, sizes: Sizes) -> Result<Plain, AllocError> {
         let s = root_alone(alloc, sizes)?;
         Ok(Plain { alloc, s })
+    }
+
+    /// A server that holds the same state.
+    pub fn copy(&self) -> Result<Plain, AllocError> {
+        let s = self.s.clone()?;
+        Ok(Plain {
+            alloc: self.alloc,
+            s,
+        })
     }
 
     /// The reply to a request that is not made.

@@ -1,0 +1,4 @@
+mod FreshCores
+mod FreshMachineCaches
+mod FreshMachineDisks
+mod FreshMachineMemory
