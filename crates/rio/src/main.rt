@@ -2,6 +2,7 @@
 //! standard output.
 #![tactic(auto)]
 
+use rio_bench::BoardBench;
 use rio_os::{InputSource, OsHost, OutputSink};
 use rio_server::{end_without_memory, run};
 use std::alloc::Global;
@@ -13,8 +14,9 @@ fn main(rt: HostRuntime) -> ExitCode {
     let mut source = InputSource::new(rt.stdin());
     let mut sink = OutputSink::new(rt.stdout());
     let host = OsHost::new(rt.alloc(), &rt);
+    let mut bench = BoardBench::new();
     let (status, _) = match words_of(&rt, rt.alloc()) {
-        Ok(words) => run(rt.alloc(), &words, &mut source, &mut sink, host),
+        Ok(words) => run(rt.alloc(), &words, &mut source, &mut sink, host, &mut bench),
         Err(fail) if fail.kind() == io::ErrorKind::OutOfMemory => {
             (end_without_memory(&mut sink), host)
         }
@@ -25,6 +27,7 @@ fn main(rt: HostRuntime) -> ExitCode {
             &mut source,
             &mut sink,
             host,
+            &mut bench,
         ),
     };
     ExitCode::from(status)

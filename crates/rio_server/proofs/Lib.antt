@@ -2,11 +2,9 @@ pub mod Checking
 pub mod Commands
 pub mod Entries
 pub mod Formatting
-pub mod FreshCores
-pub mod FreshMachineCaches
-pub mod FreshMachineDisks
-pub mod FreshMachineMemory
+pub mod FreshPairs
 pub mod Listings
-pub mod MachineRuns
-pub mod ServedRuns
+pub mod ServeEndings
+pub mod ServeRefusals
+pub mod ServedPairs
 pub mod Telling

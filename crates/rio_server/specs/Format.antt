@@ -12,6 +12,8 @@ use Rattle.rio_server.specs.declared.ends.FormatEnd.TheVariants.{Formatted, Disk
 use Rattle.rio_server.specs.declared.format.FreshPair.{FreshPair}
 use Rattle.rio_server.specs.declared.format.FormatSizes.{FormatSizes}
 use Rattle.rio_server.specs.Command.{WritesLine}
+use Rattle.rio_model.specs.declared.state.State.{State}
+use Rattle.rio_model.specs.Fresh.{fresh_state}
 
 -- so many frames and scratch pages, and a volume of so many blocks and inodes
 abbrev pub format_sizes : ℕ → ℕ → ℕ → ℕ → FormatSizes
@@ -22,6 +24,10 @@ image_bytes sizes = bytes_of (fresh_image_words sizes.frames sizes.scratch)
 
 abbrev pub disk_bytes : FormatSizes → List ℕ
 disk_bytes sizes = bytes_of (fresh_volume_words sizes.shape.blocks sizes.shape.inodes)
+
+-- the state that they stand for as a pair: the root directory alone
+abbrev pub root_state : FormatSizes → State
+root_state sizes = fresh_state sizes.shape (image_pages sizes.frames sizes.scratch) sizes.scratch
 
 -- the files at each end: DISK is replaced first, and a file whose replacing failed is as it was
 abbrev pub files_after : FormatEnd → List ℕ → List ℕ → List ℕ → List ℕ → Option Files → Option Files

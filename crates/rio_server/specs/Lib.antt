@@ -1,7 +1,7 @@
-pub mod Served
-pub mod FreshMachines
 pub mod Command
+pub mod Outside
 pub mod Format
 pub mod Registry
 pub mod Check
+pub mod Serve
 pub mod Commands

@@ -37,7 +37,7 @@ pub fn tell_check<K: Sink>(
 }
 
 /// The name of one of the two files.
-fn file_name<'a>(names: &PairNames<'a>, file: PairFile) -> &'a String
+pub fn file_name<'a>(names: &PairNames<'a>, file: PairFile) -> &'a String
     ensures { string_bytes result.now ≡ name_of file (string_bytes names.now.image.now) (string_bytes names.now.disk.now) }
 {
     match file {
@@ -92,7 +92,7 @@ fn put_free<K: Sink>(
 }
 
 /// Tells the first rule that a volume breaks, and its block: status 4.
-fn tell_volume_rule<K: Sink>(rule: u8, block: Block, room: &mut [u8], sink: &mut K) -> u8
+pub fn tell_volume_rule<K: Sink>(rule: u8, block: Block, room: &mut [u8], sink: &mut K) -> u8
     ensures status { result ≡ 4 }
     ensures line { WritesLine (Rose (K.faults sink.old) (K.faults sink.new)) (K.written sink.old) (volume_rule_line rule block.0) (K.written sink.new) }
     ensures later { K.faults sink.old ≤ K.faults sink.new }

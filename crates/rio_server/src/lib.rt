@@ -1,19 +1,17 @@
-//! Whole runs of the program: requests served one after another, and fresh files made.
+//! Whole runs of the program: requests served one after another over a pair of files, and what else is done with such files.
 #![tactic(auto)]
 
 mod check_command;
 mod check_lines;
 mod ends;
 mod format;
-mod fresh_machine;
 mod last_line;
 mod program;
 mod registry_command;
 mod registry_lines;
 mod registry_listing;
-mod serving;
+mod serve_command;
+mod serve_lines;
 
-pub use fresh_machine::{fresh_core, fresh_disk};
+pub use pair_serving::{ServeEnd, serve};
 pub use program::{end_without_memory, run};
-pub use rio_serving::ServeEnd;
-pub use serving::serve;

@@ -1,6 +1,7 @@
 //! The files of a session, in memory: what the script puts there, and what it asks about them.
 
 use rio_base::Host;
+use rio_bench::BoardBench;
 use rio_fakes::{MemHost, MemSink, MemSource};
 use rio_server::run;
 use std::alloc::{AllocError, Global};
@@ -9,6 +10,9 @@ use test_scripts::{first_word, number, tell_line, tell_number};
 
 /// A fresh pair of an image with 64 frames and a volume of 256 blocks.
 const FRESH: &str = "format m d --frames 64 --blocks 256 --inodes 64 --scratch 1";
+
+/// A fresh pair of an image with 32 frames and a volume of 16 blocks.
+const SMALL: &str = "format m d --frames 32 --blocks 16 --inodes 64 --scratch 1";
 
 /// Files in memory, and the bytes that one of them had when it was kept.
 #[derive(Drop)]
@@ -43,12 +47,14 @@ impl Shelf {
         let (name, value) = first_word(rest);
         let name = String::from_str(self.alloc, name)?;
         match word {
-            "fresh" => self.make_fresh_pair()?,
+            "fresh" => self.make_pair(FRESH)?,
+            "small" => self.make_pair(SMALL)?,
             "file" => self.host.put(&name, value.as_bytes())?,
             "patch" => self.patch(&name, value)?,
             "cut" => self.cut(&name, value)?,
             "lengthen" => self.lengthen(&name, value)?,
             "keep" => self.kept = self.bytes_of(&name)?,
+            "remove" => self.host.remove(&name),
             "host-fails" => self.host.fail_call(number(rest)?.max(1))?,
             _ => return self.tell_of(word, &name, value, out),
         }
@@ -74,6 +80,13 @@ impl Shelf {
         Ok(true)
     }
 
+    /// The bytes of the image and those of the disk, the files `m` and `d`.
+    pub fn pair(&self) -> Result<(Vec<u8>, Vec<u8>), AllocError> {
+        let image = String::from_str(self.alloc, "m")?;
+        let disk = String::from_str(self.alloc, "d")?;
+        Ok((self.bytes_of(&image)?, self.bytes_of(&disk)?))
+    }
+
     /// The bytes of a file, or none where there is no such file.
     fn bytes_of(&self, name: &String) -> Result<Vec<u8>, AllocError> {
         match self.host.file(name) {
@@ -82,13 +95,14 @@ impl Shelf {
         }
     }
 
-    /// Makes a fresh pair, `m` and `d`.
-    fn make_fresh_pair(&mut self) -> Result<(), AllocError> {
-        let words = words_of(self.alloc, FRESH)?;
+    /// Makes the fresh pair of a command, `m` and `d`.
+    fn make_pair(&mut self, command: &str) -> Result<(), AllocError> {
+        let words = words_of(self.alloc, command)?;
         let mut source = MemSource::new(self.alloc, b"", 1)?;
         let mut sink = MemSink::new(self.alloc);
         let host = self.take();
-        let (_, host) = run(self.alloc, &words, &mut source, &mut sink, host);
+        let mut bench = BoardBench::new();
+        let (_, host) = run(self.alloc, &words, &mut source, &mut sink, host, &mut bench);
         self.put_back(host);
         Ok(())
     }

@@ -1,8 +1,10 @@
 //! Sessions of the program over files in memory: what a script says is run, and what came is printed under each line.
 #![tactic(auto)]
 
+mod benches;
 mod files;
 mod session;
+mod walks;
 
 use crate::session::Session;
 use std::io::{self, BufRead, BufReader, BufWriter, Write};

@@ -1,6 +1,9 @@
 //! A session: lines of a script say what is at hand, run it, and ask what came.
 
+use crate::benches::tell_kept;
 use crate::files::{Shelf, words_of};
+use crate::walks::Walk;
+use rio_bench::{BoardBench, KeepBench};
 use rio_fakes::{MemSink, MemSource};
 use rio_server::{end_without_memory, run};
 use std::alloc::{AllocError, Global};
@@ -68,11 +71,18 @@ impl Session {
             ">" => self.take_line(rest, b"\n"),
             ">>" => self.take_line(rest, b""),
             "run" => self.run_command(rest, out),
+            "run-kept" => self.run_kept(rest, out),
+            "still" => self.run_still(rest, out),
+            "walk" => self.serve_walk(rest, out),
             "status-of" => self.tell_status_of(rest, out),
             "serve" => self.serve_lines(out),
             "on" | "bad-block" | "pieces" | "source-fails" | "sink-fails" => self.set(word, rest),
             "==" => {
                 *self = Session::new(self.alloc);
+                Ok(())
+            }
+            "next" => {
+                self.begin_next_run();
                 Ok(())
             }
             _ => self.answer(word, rest, out),
@@ -107,6 +117,14 @@ impl Session {
         }
     }
 
+    /// Forgets the lines and what fails, for a run after others over the same files.
+    fn begin_next_run(&mut self) {
+        self.input = Vec::new(self.alloc);
+        self.pieces = 4096;
+        self.source_fails = 0;
+        self.sink_fails = 0;
+    }
+
     /// Takes a line of input.
     fn take_line(&mut self, line: &str, end: &[u8]) -> Result<(), AllocError> {
         let bytes = expanded(self.alloc, line)?;
@@ -139,7 +157,8 @@ impl Session {
         let mut source = self.source()?;
         let mut sink = self.sink()?;
         let host = self.files.take();
-        let (status, host) = run(self.alloc, &words, &mut source, &mut sink, host);
+        let mut bench = BoardBench::new();
+        let (status, host) = run(self.alloc, &words, &mut source, &mut sink, host, &mut bench);
         self.files.put_back(host);
         Ok((status, sink))
     }
@@ -155,6 +174,58 @@ impl Session {
     fn tell_status_of(&mut self, command: &str, out: &mut Vec<u8>) -> Result<(), AllocError> {
         let (status, _) = self.run_words(command)?;
         tell_status(status, out)
+    }
+
+    /// Runs the program as `run_command` does, and tells whether both files of the pair are as they were.
+    fn run_still(&mut self, command: &str, out: &mut Vec<u8>) -> Result<(), AllocError> {
+        let (image, disk) = self.files.pair()?;
+        self.run_command(command, out)?;
+        let (image_now, disk_now) = self.files.pair()?;
+        if image_now.as_slice() != image.as_slice() {
+            return tell_line(out, b"another image");
+        }
+        if disk_now.as_slice() != disk.as_slice() {
+            return tell_line(out, b"another disk");
+        }
+        tell_line(out, b"both files as before")
+    }
+
+    /// Runs the program on the words of a command, over a bench that keeps what its machine began with and how it was left.
+    /// Tells what was written, the status, and what of the two is the image's.
+    fn run_kept(&mut self, command: &str, out: &mut Vec<u8>) -> Result<(), AllocError> {
+        let words = words_of(self.alloc, command)?;
+        let mut source = self.source()?;
+        let mut sink = self.sink()?;
+        let (before, _) = self.files.pair()?;
+        let host = self.files.take();
+        let mut bench = KeepBench::new();
+        let (status, host) = run(self.alloc, &words, &mut source, &mut sink, host, &mut bench);
+        self.files.put_back(host);
+        tell(out, sink.bytes().as_slice())?;
+        tell_status(status, out)?;
+        let (after, _) = self.files.pair()?;
+        tell_kept(&bench, before.as_slice(), after.as_slice(), out)
+    }
+
+    /// Serves drawn lines in several runs over the pair, whose sizes the session has. Tells whether the replies of all are those
+    /// of the plain definition. The rest of the line is the seed, how many lines are drawn, and how many runs there are.
+    fn serve_walk(&mut self, rest: &str, out: &mut Vec<u8>) -> Result<(), AllocError> {
+        let [seed, count, runs] = numbers(rest)?;
+        let mut walk = Walk::drawn(self.alloc, self.sizes, seed, count, runs)?;
+        let mut came = Vec::new(self.alloc);
+        for n in 0..runs {
+            self.input = walk.next_part(runs - n == 1)?;
+            let (status, sink) = self.run_words("serve m d")?;
+            came.extend_from_slice(sink.bytes().as_slice())?;
+            if status != 0 {
+                tell_number(out, "run ", n)?;
+                return tell_status(status, out);
+            }
+        }
+        match walk.line_that_differs(came.as_slice()) {
+            Some(line) => tell_number(out, "differs in line ", line as u64),
+            None => tell_line(out, b"as defined"),
+        }
     }
 
     /// Ends a run whose words found no memory, and tells what it wrote and its status.

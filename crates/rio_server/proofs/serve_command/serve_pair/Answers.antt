@@ -1,0 +1,6 @@
+use Rattle.rio_server.proofs.ServeEndings.{serve_runs_as}
+use Rattle.rio_server.proofs.serve_command.serve_pair.Goals as goal
+
+pub returns-clause-runs : goal.returns-clause-runs
+returns-clause-runs g c =
+    serve_runs_as _ _ _ _ _ _ _ _ _ c.work_on_pair-end.result.0 c.tell_end.ensures.status c.work_on_pair-end.ensures.ended c.tell_end.ensures.steady c.tell_end.ensures.later c.tell_end.ensures.line c.work_on_pair-end.ensures.began c.work_on_pair-end.ensures.parted
