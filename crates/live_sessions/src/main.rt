@@ -1,0 +1,52 @@
+//! Plans of drawn requests that are run, in one boot or two, over the volume of a drill. The script is the program's input. Its
+//! output has each line of it and below it, four spaces further in, what came of it:
+//!
+//! - `same SEED COUNT`: one boot of so many requests. `as defined` where it answered all of them as the plain definition
+//!   does; else the number of the first one that it did not, from 1.
+//! - `unreached SEED COUNT`: two boots of so many requests each, then the same with a stop, and then with a failing call, that
+//!   no boot reaches. `the same` where all three have one transcript; else which one differs.
+//! - `boots SEED COUNT STEPS`: two boots of so many requests each, of which the first stops after so many steps. How the first
+//!   one ended, and then whether the second one answered all its requests.
+//!
+//! An empty line, and one that begins with `#` or `==`, comes to nothing.
+#![tactic(auto)]
+
+mod comparing;
+mod defined;
+mod plans;
+
+use crate::comparing::{told_boots, told_same, told_unreached};
+use std::alloc::{AllocError, Global};
+use std::io;
+use test_scripts::{first_word, numbers};
+
+fn main(rt: HostRuntime) -> io::Result<()> {
+    let alloc = rt.alloc();
+    for line in rt.lines(alloc) {
+        let line = line?;
+        println!(rt; "{line}")?;
+        let told = told(alloc, line.as_str())?;
+        print!(rt; "{told}")?;
+    }
+    Ok(())
+}
+
+/// What a line of the script comes to.
+fn told(alloc: Global, line: &str) -> Result<String, AllocError> {
+    let (word, rest) = first_word(line);
+    match word {
+        "same" | "unreached" | "boots" => told_plan(alloc, word, rest),
+        _ => Ok(String::new(alloc)),
+    }
+}
+
+/// What a plan of these numbers comes to.
+fn told_plan(alloc: Global, word: &str, rest: &str) -> Result<String, AllocError> {
+    let [seed, count, steps] = numbers(rest)?;
+    let seed = u32::try_from(seed).unwrap_or(0);
+    match word {
+        "same" => told_same(alloc, seed, count),
+        "unreached" => told_unreached(alloc, seed, count),
+        _ => told_boots(alloc, seed, count, steps),
+    }
+}
