@@ -1,0 +1,59 @@
+//! Machines in memory that are stopped and booted again. The script is the program's input, and the output has each line of it and
+//! below it, four spaces further in, what it came to:
+//!
+//! - `== TITLE`: nothing. From here on there is a fresh pair of memory and disk, 32 frames, 32 blocks and 32 inodes.
+//! - `on FRAMES BLOCKS INODES`: nothing. There is a fresh pair of these sizes.
+//! - `word PLACE VALUE`: nothing. A word of memory is stored, by nobody that keeps a rule.
+//! - `block B W VALUE`: nothing. Word W of a block of the disk is.
+//! - `bad-block B N`: nothing. In the next reboot and what follows it, N reads of block B fail.
+//! - `boot`: what a reboot of the pair tells. Where it fails, whether it changed a word.
+//! - `examine`: what a look at the pair finds.
+//! - `> LINE`: nothing. The request of this line is one of those that `run` makes, or `each` before its own.
+//! - `run`: the replies to these requests after a reboot of the pair. Another line says so where the plain definition has others.
+//! - `replies`: the same where the disk fails, so that the plain definition has others. It ends what is at hand.
+//! - `? LINE`: nothing. The request of this line is read after each last reboot.
+//! - `undone PATH`: nothing. A stop undoes the transaction of the region at this path.
+//! - `deep N`: nothing. Of N stops one has its reboot stopped too, and some of these the next one.
+//! - `each LINE`: how the request of this line is found, after it was stopped before its steps (see `stops`) and the machine was
+//!   booted: as before it, as after it, or of a write with so many of its first bytes.
+//! - `faults LINE`: the same after a stop in its middle and a reboot of which each call on the disk fails in turn.
+//! - `drawn SEED FROM COUNT`: the same of COUNT drawn requests, behind FROM that are not stopped.
+//! - `machines-over N`: whether more than so many machines were booted that had been stopped since the title.
+//!
+//! `timed boot` tells how many milliseconds a reboot of the pair took, and is for no script whose output is compared. An empty
+//! line, and one that begins with `#`, comes to nothing.
+#![tactic(auto)]
+
+mod due;
+mod machines;
+mod pairs;
+mod session;
+mod stops;
+mod tallies;
+
+use crate::session::Session;
+use anyhow::Result;
+use std::io::{BufRead, BufReader, BufWriter, Write};
+use std::time::Instant;
+
+fn main(rt: HostRuntime) -> Result<()> {
+    let alloc = rt.alloc();
+    let mut session = Session::new(alloc)?;
+    let mut out = BufWriter::new(alloc, rt.stdout())?;
+    for line in BufReader::new(alloc, rt.stdin())?.lines(alloc) {
+        let line = line?;
+        if line.as_str() == "timed boot" {
+            let machine = session.machine()?;
+            let start = Instant::now(&rt)?;
+            let booted = machine.boot(alloc)?;
+            let taken = start.elapsed(&rt)?;
+            let told = session.told_in_time(&booted, taken)?;
+            out.write_all(told.as_slice())?;
+            continue;
+        }
+        let told = session.step(line.as_str())?;
+        out.write_all(told.as_slice())?;
+    }
+    out.flush()?;
+    Ok(())
+}
