@@ -1,9 +1,9 @@
-pub mod AsksRules
 pub mod CallEnds
 pub mod CallRules
 pub mod Common
 pub mod FileRequests
 pub mod FileSteps
+pub mod FormRules
 pub mod HeldRules
 pub mod Lookups
 pub mod ReadMoves

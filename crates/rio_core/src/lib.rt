@@ -2,7 +2,6 @@
 #![tactic(auto)]
 
 mod answering;
-mod lines;
 mod regions;
 mod replies;
 mod running_core;

@@ -4,15 +4,14 @@ ghost use Rattle.rio_model.specs.declared.state.State.{State as StateOf};
 ghost use Rattle.rio_requests.specs.Crash.{crashed};
 ghost use Rattle.rio_requests.proofs.WentRules.{went_more, went_none};
 ghost use Rattle.file_store.specs.Ends.{Stands};
-ghost use Rattle.rio_core.specs.LineLaws.{asks_none};
+ghost use Rattle.rio_core.specs.LineLaws.{long_none};
 ghost use Rattle.rio_core.specs.Lines.{core_protocol};
 ghost use Rattle.rio_core.specs.Serving.{Holds};
 
-use crate::lines::request_of;
 use crate::replies::BAD_REQUEST;
 use crate::running_core::{Core, answer_one};
 use page_cache::PageCache;
-use request_codec::write_reply_in;
+use request_codec::{parse_line, write_reply_in};
 use rio_base::{Blocks, Failed, Machine, Sink, Stopped, Volume};
 use rio_requests::{Reply, Request};
 use rio_serving::Server;
@@ -37,7 +36,7 @@ impl<M: Machine> Server for Core<M> {
 
     ghost below = { λ x. ⟦<PageCache<M> as Volume>⟧.below x.view.v };
 
-    ghost long = { asks_none };
+    ghost long = { long_none };
 
     ghost goes_none = { went_none };
 
@@ -46,7 +45,7 @@ impl<M: Machine> Server for Core<M> {
     ghost limited = { λ x most e. M.limited x.view.v.machine most e };
 
     fn parse(alloc: Global, line: &[u8]) -> Result<Option<Request>, AllocError> {
-        request_of(alloc, line)
+        parse_line(alloc, line)
     }
 
     fn answer(&mut self, alloc: Global, request: &Request) -> Result<Reply, Stopped> {
