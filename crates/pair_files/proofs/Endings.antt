@@ -278,23 +278,26 @@ ended_fault o c r x h two streams saved = record {
   every = every_saved o c r x BootFault (failed_counted o c r BootFaulted h) saved tt;
 }
 
--- what stopped a machine on which nothing was armed is its stop
-stop_given : (old new : Causes) (a b : Bool) → a ≡ false → b ≡ true → old.armed ≡ None → StopCause old new a b → old.stop_set ≡ true
+-- what stopped a machine on which nothing was armed is its stop, and nothing trapped
+stop_given : (old new : Causes) (a b : Bool) → a ≡ false → b ≡ true → old.armed ≡ None → StopCause old new a b → (new.trapped ≡ old.trapped) × (old.stop_set ≡ true)
 stop_given old new a b was is unarmed h = by (subst (λ (y : Bool). StopCause old new false y) is (subst (λ (y : Bool). StopCause old new y b) was h))
   where
-    by : StopCause old new false true → old.stop_set ≡ true
+    by : StopCause old new false true → (new.trapped ≡ old.trapped) × (old.stop_set ≡ true)
     by (inl (at, armed, low, trapped)) = absurd (none_some at old.armed unarmed armed)
-    by (inr (trapped, set)) = set
+    by (inr same) = same
 
 ended_stopped : {E : Type 0} (o : Outset) (c : Contents) (r : Running) (x : Outcome) → IsFailed o c r BootStop → o.image ≢ o.disk → x.streams ≡ o.streams → SavedAs o c r x → EndedEarly {E = E} o BootStopped x
 ended_stopped o c r x h two streams saved = record {
   ends = (
     kept_pair o c r BootStop x h two streams saved h.unbooted.1.state,
-    sym h.made.stop_set ∙ stop_given (causes_of h.run) (causes_of r) h.run.stopped r.stopped h.made.running h.unbooted.0 h.made.unarmed h.runs.cause,
-    λ e. (left_by c r, saved.told e, h.unbooted.0),
+    sym h.made.stop_set ∙ cause.1,
+    λ e. (left_by c r, saved.told e, h.unbooted.0, cause.0 ∙ h.made.untrapped),
   );
   every = every_saved o c r x BootStopped (failed_counted o c r BootStop h) saved tt;
 }
+  where
+    cause : ((causes_of r).trapped ≡ (causes_of h.run).trapped) × ((causes_of h.run).stop_set ≡ true)
+    cause = stop_given (causes_of h.run) (causes_of r) h.run.stopped r.stopped h.made.running h.unbooted.0 h.made.unarmed h.runs.cause
 
 -- either the image was saved, or it was not
 either : {E : Type 0} (o : Outset) (c : Contents) (r : Running) (x : Outcome) (end told : PairEnd E) → o.image ≢ o.disk → o.faults ≤ c.faults.count → x.streams ≡ o.streams → (SavedAs o c r x → EndedEarly o end x) → SavedOrNot end told o c r x → EndedEarly o told x
