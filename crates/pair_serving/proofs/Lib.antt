@@ -1,5 +1,5 @@
 pub mod Machines
-pub mod MachineRuns
+pub mod MachineLasts
 mod Quiet
 mod Scenes
 pub mod Sizes

@@ -8,12 +8,11 @@ use Rattle.rio_requests.specs.declared.reply.Reply.{Reply}
 use Rattle.rio_requests.specs.declared.request.Request.{Request}
 use Rattle.rio_requests.specs.declared.request.Request.TheVariants.{Flush}
 use Rattle.rio_requests.specs.Went.{NoFlush, NoFlushes, StoppedOn, Went}
-use Rattle.request_codec.specs.Form.{Form}
+use Rattle.request_codec.specs.Form.{Form, Means}
 use Rattle.request_codec.specs.Lines.{lines}
 use Rattle.rio_serving.specs.declared.ends.ServeEnd.{ServeEnd}
 use Rattle.rio_serving.specs.declared.ends.ServeEnd.TheVariants.{End, SourceFault, SinkFault, InputLimit, Memory, Stopped}
 use Rattle.rio_serving.specs.ServeRun.{AreFirst, EachMeans}
-use Rattle.rio_core.specs.Lines.{Asks}
 use Rattle.pair_files.specs.Scenes.{Scene}
 use Rattle.pair_serving.specs.ServedScenes.{AsksNoFlush, RunsFrom, taken_in}
 
@@ -40,11 +39,11 @@ all_last (y ∷ xs) x all = all_last xs x (all_tail y (xs ++ x ∷ []) all)
 
 -- ---- what they ask for
 
-asks_no_flush : (line : List ℕ) (r : Request) → Asks line (Some r) → IsNoFlush line → NoFlush r
-asks_no_flush line (Flush count) asks none = absurd (none count asks.0)
+asks_no_flush : (line : List ℕ) (r : Request) → Means line (Some r) → IsNoFlush line → NoFlush r
+asks_no_flush line (Flush count) asks none = absurd (none count asks)
 asks_no_flush line _ asks none = tt
 
-none_flush : (answered : List (List ℕ)) (requests : List (Option Request)) → EachMeans Asks answered requests → All IsNoFlush answered → NoFlushes requests
+none_flush : (answered : List (List ℕ)) (requests : List (Option Request)) → EachMeans Means answered requests → All IsNoFlush answered → NoFlushes requests
 none_flush [] [] mean none = tt
 none_flush (line ∷ answered) (None ∷ requests) mean none = none_flush answered requests mean.1 (all_tail line answered none)
 none_flush (line ∷ answered) (Some r ∷ requests) mean none = (asks_no_flush line r mean.0 (all_head line answered none), none_flush answered requests mean.1 (all_tail line answered none))
@@ -54,12 +53,12 @@ none_flush (line ∷ answered) [] mean none = absurd mean
 -- ---- the disk
 
 -- lines that were answered
-went_quiet : (taken : List ℕ) (left : Option (List ℕ)) (answered : List (List ℕ)) (requests : List (Option Request)) (replies : List Reply) (h : Health) (b : Below) (i : Health) (c : Below) → AreFirst taken left answered → EachMeans Asks answered requests → Went requests replies h b i c → AsksNoFlush taken → Quiet b c
+went_quiet : (taken : List ℕ) (left : Option (List ℕ)) (answered : List (List ℕ)) (requests : List (Option Request)) (replies : List Reply) (h : Health) (b : Below) (i : Health) (c : Below) → AreFirst taken left answered → EachMeans Means answered requests → Went requests replies h b i c → AsksNoFlush taken → Quiet b c
 went_quiet taken left answered requests replies h b i c first mean went none = went.quiet (none_flush answered requests mean (all_front answered first.more (lines taken) first.front none))
 
 -- and one that met a stop
 stop_quiet : (taken : List ℕ) (left : Option (List ℕ)) (answered : List (List ℕ)) (line : List ℕ) (requests : List (Option Request)) (replies : List Reply) (r : Request) (h : Health) (b : Below) (g : Health) (d : Below) (i : Health) (c : Below)
-    → AreFirst taken left (answered ++ line ∷ []) → EachMeans Asks answered requests → Asks line (Some r) → Went requests replies h b g d → StoppedOn r g d i c → AsksNoFlush taken → b.roomy ≡ true → c.home ≡ b.home
+    → AreFirst taken left (answered ++ line ∷ []) → EachMeans Means answered requests → Means line (Some r) → Went requests replies h b g d → StoppedOn r g d i c → AsksNoFlush taken → b.roomy ≡ true → c.home ≡ b.home
 stop_quiet taken left answered line requests replies r h b g d i c first mean asks went on none roomy =
     (on.quiet (asks_no_flush line r asks (all_last answered line all))).home (went.lasts.roomy ∙ roomy)
     ∙ (went.quiet (none_flush answered requests mean (all_front answered (line ∷ []) (answered ++ line ∷ []) refl all))).home roomy

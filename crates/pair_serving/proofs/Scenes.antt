@@ -1,10 +1,12 @@
 -- Runs that were served over a core, as scenes over its machine.
 use Rattle.std.proofs.Common.{◌≡◌, ◌≢◌, true, List, [], length, refl, sym, subst, ap, ◌∙◌}
+use Rattle.std.specs.Prelude.{Option, Some, None, option_map}
 use Rattle.rio_base.specs.declared.places.VolumeShape.{VolumeShape}
+use Rattle.rio_base.specs.declared.places.WordAt.{WordAt}
 use Rattle.rio_base.specs.Blocks.{Health, Seen}
 use Rattle.rio_base.specs.Counts.{Rose}
 use Rattle.rio_base.specs.Machine.{Contents, Running}
-use Rattle.rio_base.specs.Volume.{Below, Kept, Runs, Settled}
+use Rattle.rio_base.specs.Volume.{Below, Kept, Settled}
 use Rattle.rio_model.specs.declared.state.State.{State}
 use Rattle.rio_model.specs.declared.txn.Txn.{Txn}
 use Rattle.rio_model.specs.Standing.{StandsFor}
@@ -25,7 +27,8 @@ use Rattle.pair_files.specs.Scenes.{IsBooted, LastsBelow, Scene, Streams, scene_
 use Rattle.pair_serving.proofs.Machines.{booted_holds, booted_served, holds_fits, stands_held, stands_stopped}
 use Rattle.pair_serving.proofs.Quiet.{run_quiet}
 use Rattle.pair_serving.proofs.Sizes.{FitsMemory, fits_then, keeps_then, part_keeps, run_keeps}
-use Rattle.pair_serving.specs.ServedScenes.{IsLeftOf, RunsFrom, Served}
+use Rattle.pair_serving.specs.ServedScenes.{IsLeftOf, RunsFrom, Served, told_end}
+use Rattle.pair_serving.specs.declared.ends.LinesEnd.TheVariants.{Ended, Trapped}
 
 -- without transactions a stop leaves all as it is
 idle_crashed : (s : State) → s.txns ≡ [] → crashed s ≡ s
@@ -70,16 +73,27 @@ pub record EndsSo (end : ServeEnd) (p q : Streams) (i : Health) : Type 0 where
   pub steady : end ≢ SinkFault → q.sink_faults ≡ p.sink_faults
   pub stopped : end ≡ Stopped → i.stopped ≡ true
 
-served_by : (a : Scene) (end : ServeEnd) (b : Scene) → RunsFrom a end b → EndsSo end a.streams b.streams b.health → Served a end b
-served_by a end b run so = record { run = run; quiet = run_quiet a end b run; source_fault = so.source_fault; sink_fault = so.sink_fault; steady = so.steady; stopped = so.stopped }
+-- no wild store trapped, where the machine stopped
+ended_by : (a : Scene) (end : ServeEnd) (b : Scene) → RunsFrom a end b → EndsSo end a.streams b.streams b.health → (end ≡ Stopped → b.below.causes.trapped ≡ None) → Served a (Ended end) b
+ended_by a end b run so none = record { run = run; quiet = run_quiet a end b run; source_fault = so.source_fault; sink_fault = so.sink_fault; steady = so.steady; stopped = so.stopped; trapped = none }
 
--- a run over a core, of which a is the scene before, is one from a to a scene on the core's machine
-pub served_stands : (m : Contents) (r : Running) (shape : VolumeShape) (x : Seen) (k : Kept) (marks : Marks) (a : Scene) (end : ServeEnd) (q : Streams) (i : Health) (c : Below)
+-- t is the place of the store that trapped
+served_by : (a : Scene) (end : ServeEnd) (t : Option WordAt) (b : Scene) → RunsFrom a end b → EndsSo end a.streams b.streams b.health → b.below.causes.trapped ≡ option_map (λ at. at.0) t → Served a (told_end end t) b
+served_by a Stopped (Some at) b run so trapped = record { run = run; quiet = run_quiet a Stopped b run; source_fault = so.source_fault; sink_fault = so.sink_fault; steady = so.steady; stopped = so.stopped; trapped = λ e. trapped }
+served_by a Stopped None b run so trapped = ended_by a Stopped b run so (λ e. trapped)
+served_by a End t b run so trapped = ended_by a End b run so (λ e. cc)
+served_by a SourceFault t b run so trapped = ended_by a SourceFault b run so (λ e. cc)
+served_by a SinkFault t b run so trapped = ended_by a SinkFault b run so (λ e. cc)
+served_by a InputLimit t b run so trapped = ended_by a InputLimit b run so (λ e. cc)
+served_by a Memory t b run so trapped = ended_by a Memory b run so (λ e. cc)
+
+-- a run over a core, of which a is the scene before, is one from a to a scene on the core's machine, which tells what trapped
+pub served_stands : (m : Contents) (r : Running) (shape : VolumeShape) (x : Seen) (k : Kept) (marks : Marks) (a : Scene) (end : ServeEnd) (trap : Option WordAt) (q : Streams) (i : Health) (c : Below)
     → Settled x k → r.protected ≡ length m.words → Tells m r x i c k → FitsMemory a.state a.below → EndsSo end a.streams q i
     → RunOver (Holds shape x k i c marks) (λ t. Stands shape x k (crashed t)) a.state end a.streams q a.health a.below i c
-    → (t : State) × Served a end (scene_of t m r q) × StandsFor m (length r.scratch) t
-served_stands m r shape x k marks a end q i c settled size tells fits so run =
-    (left.0, served_by a end (scene_of left.0 m r q) on_machine (record { source_fault = so.source_fault; sink_fault = so.sink_fault; steady = so.steady; stopped = λ e. sym (ap (λ (h : Health). h.stopped) tells.health) ∙ so.stopped e }), left.2)
+    → r.trapped ≡ option_map (λ at. at.0) trap → (t : State) × Served a (told_end end trap) (scene_of t m r q) × StandsFor m (length r.scratch) t
+served_stands m r shape x k marks a end trap q i c settled size tells fits so run trapped =
+    (left.0, served_by a end trap (scene_of left.0 m r q) on_machine (record { source_fault = so.source_fault; sink_fault = so.sink_fault; steady = so.steady; stopped = λ e. sym (ap (λ (h : Health). h.stopped) tells.health) ∙ so.stopped e }) trapped, left.2)
   where
     left : LeavesState m r a.state end a.streams q a.health a.below i c
     left = run_leaves m r shape x k marks a.state end a.streams q a.health a.below i c settled size tells fits run
@@ -88,23 +102,20 @@ served_stands m r shape x k marks a end q i c settled size tells fits so run =
     on_machine = subst (λ (d : Below). RunOver (IsLeftOf left.0) (IsLeftOf left.0) a.state end a.streams q a.health a.below (cache_health m r) d) tells.below
         (subst (λ (h : Health). RunOver (IsLeftOf left.0) (IsLeftOf left.0) a.state end a.streams q a.health a.below h c) tells.health left.1)
 
-pub lasts_by : (h : Health) (b : Below) (i : Health) (c : Below) → Runs h b i c → LastsBelow h b i c
-lasts_by h b i c runs = record { later = runs.later; stays = runs.stays; written = runs.written; roomy = runs.roomy; around = runs.around; stop_set = runs.stop_set; protected = runs.protected; memory = runs.memory }
-
 -- what lasts of a core lasts of its machine
-pub lasts_told : (m : Contents) (r : Running) (x : Seen) (k : Kept) (h : Health) (b : Below) (i : Health) (c : Below) → Tells m r x i c k → Runs h b i c → LastsBelow h b (cache_health m r) (cache_below m r)
-lasts_told m r x k h b i c tells runs = subst (λ (d : Below). LastsBelow h b (cache_health m r) d) tells.below (subst (λ (g : Health). LastsBelow h b g c) tells.health (lasts_by h b i c runs))
+pub lasts_told : (m : Contents) (r : Running) (x : Seen) (k : Kept) (h : Health) (b : Below) (i : Health) (c : Below) → Tells m r x i c k → LastsBelow h b i c → LastsBelow h b (cache_health m r) (cache_below m r)
+lasts_told m r x k h b i c tells lasts = subst (λ (d : Below). LastsBelow h b (cache_health m r) d) tells.below (subst (λ (g : Health). LastsBelow h b g c) tells.health lasts)
 
 -- ---- nothing was served
 
-served_nothing : (a : Scene) → a.state ≡ crashed a.state → Served a Memory a
+served_nothing : (a : Scene) → a.state ≡ crashed a.state → Served a (Ended Memory) a
 unfolding nothing_served
-served_nothing a left = served_by a Memory a (a.state, left, nothing_served core_protocol a.state a.streams.left a.streams.written, went_none a.health a.below)
-    (record { source_fault = λ e. cc; sink_fault = λ e. cc; steady = λ e. refl; stopped = λ e. cc })
+served_nothing a left = ended_by a Memory a (a.state, left, nothing_served core_protocol a.state a.streams.left a.streams.written, went_none a.health a.below)
+    (record { source_fault = λ e. cc; sink_fault = λ e. cc; steady = λ e. refl; stopped = λ e. cc }) (λ e. cc)
 
 -- over the cache that a reboot left
 pub unserved : (shape : VolumeShape) (m : Contents) (r : Running) (tables : CacheTables) (s : State) (p : Streams) → IsBooted shape m r tables s → CacheSound m (length r.scratch) tables → r.protected ≡ length m.words → Tells m r (cache_seen m) (cache_health m r) (cache_below m r) (cache_kept m tables)
-    → (t : State) × Served (scene_of s m r p) Memory (scene_of t m r p) × StandsFor m (length r.scratch) t
+    → (t : State) × Served (scene_of s m r p) (Ended Memory) (scene_of t m r p) × StandsFor m (length r.scratch) t
 unserved shape m r tables s p booted sound size tells =
     (s, served_nothing (scene_of s m r p) (sym idle), subst (StandsFor m (length r.scratch)) idle (stands_held m r shape (cache_seen m) (cache_health m r) (cache_below m r) (cache_kept m tables) [] s (cache_settled m (length r.scratch) tables sound) size tells (holds_fits shape (cache_seen m) (cache_kept m tables) (cache_health m r) (cache_below m r) [] s holds (booted_served shape m r tables s booted).version) holds))
   where

@@ -1,1 +1,2 @@
 pub mod ServedScenes
+pub mod Strikes

@@ -1,6 +1,7 @@
 -- Lines served over a pair of files: from which scene to which they lead, and what they leave of the disk.
-use Rattle.std.specs.Prelude.{◌≡◌, ◌≢◌, ℕ, true, List, All}
+use Rattle.std.specs.Prelude.{◌≡◌, ◌≢◌, ℕ, true, List, All, Option, Some, None}
 use Rattle.rio_base.specs.Counts.{Rose}
+use Rattle.rio_base.specs.declared.places.WordAt.{WordAt}
 use Rattle.rio_model.specs.declared.state.State.{State}
 use Rattle.rio_requests.specs.Crash.{crashed}
 use Rattle.rio_requests.specs.declared.request.Request.TheVariants.{Flush}
@@ -11,6 +12,27 @@ use Rattle.rio_serving.specs.declared.ends.ServeEnd.TheVariants.{End, SourceFaul
 use Rattle.rio_serving.specs.ServeRun.{RunEnds}
 use Rattle.rio_core.specs.Lines.{core_protocol}
 use Rattle.pair_files.specs.Scenes.{Scene}
+use Rattle.pair_serving.specs.declared.ends.LinesEnd.{LinesEnd}
+use Rattle.pair_serving.specs.declared.ends.LinesEnd.TheVariants.{Ended, Trapped}
+
+-- ---- how it ends
+
+-- the end of the loop of lines
+abbrev pub loop_end : LinesEnd → ServeEnd
+loop_end (Ended end) = end
+loop_end (Trapped at) = Stopped
+
+-- the place of the wild store that is told to have trapped
+abbrev pub trap_of : LinesEnd → Option ℕ
+trap_of (Ended end) = None
+trap_of (Trapped at) = Some at.0
+
+-- how an end of the loop is told, and the place of the store that trapped, if one did
+abbrev pub told_end : ServeEnd → Option WordAt → LinesEnd
+told_end Stopped (Some at) = Trapped at
+told_end end trapped = Ended end
+
+-- ---- what it leads to
 
 -- t is what a stop leaves of u
 abbrev pub IsLeftOf : State → State → Type 0
@@ -35,11 +57,13 @@ abbrev pub AsksNoFlush : List ℕ → Type 0
 AsksNoFlush bytes = All (λ line. (count : ℕ) → Form line (Flush count) → ⊥) (lines bytes)
 
 -- lines were served from scene a to scene b
-pub record Served (a : Scene) (end : ServeEnd) (b : Scene) : Type 0 where
-  pub run : RunsFrom a end b
+pub record Served (a : Scene) (end : LinesEnd) (b : Scene) : Type 0 where
+  pub run : RunsFrom a (loop_end end) b
   -- where there is a frame for each block, lines of which none is a flush leave the disk, and what is pending on it, as it was
-  pub quiet : a.below.roomy ≡ true → AsksNoFlush (taken_in a end b run) → b.below.home ≡ a.below.home
-  pub source_fault : end ≡ SourceFault → Rose a.streams.source_faults b.streams.source_faults
-  pub sink_fault : end ≡ SinkFault → Rose a.streams.sink_faults b.streams.sink_faults
-  pub steady : end ≢ SinkFault → b.streams.sink_faults ≡ a.streams.sink_faults
-  pub stopped : end ≡ Stopped → b.health.stopped ≡ true
+  pub quiet : a.below.roomy ≡ true → AsksNoFlush (taken_in a (loop_end end) b run) → b.below.home ≡ a.below.home
+  pub source_fault : loop_end end ≡ SourceFault → Rose a.streams.source_faults b.streams.source_faults
+  pub sink_fault : loop_end end ≡ SinkFault → Rose a.streams.sink_faults b.streams.sink_faults
+  pub steady : loop_end end ≢ SinkFault → b.streams.sink_faults ≡ a.streams.sink_faults
+  pub stopped : loop_end end ≡ Stopped → b.health.stopped ≡ true
+  -- a trap is told exactly where the machine has one as it stopped
+  pub trapped : loop_end end ≡ Stopped → b.below.causes.trapped ≡ trap_of end

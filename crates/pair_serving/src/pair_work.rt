@@ -2,6 +2,7 @@
 
 ghost use Rattle.std.specs.Prelude.{◌≤◌};
 
+use crate::ends::LinesEnd;
 use crate::serving::serve_core;
 use page_cache::PageCache;
 use pair_files::Work;
@@ -17,7 +18,7 @@ pub struct Serving;
 impl Work for Serving {
     ghost use Rattle.pair_serving.specs.ServedScenes.{Served};
 
-    type End = ServeEnd;
+    type End = LinesEnd;
 
     ghost does = { λ work a end b. Served a end b };
 
@@ -28,10 +29,10 @@ impl Work for Serving {
         shape: VolumeShape,
         source: &mut S,
         sink: &mut K,
-    ) -> (M, ServeEnd) {
+    ) -> (M, LinesEnd) {
         match Core::new(alloc, cache, shape) {
             Ok(core) => serve_core(alloc, core, source, sink),
-            Err((cache, _)) => (cache.into_machine(), ServeEnd::Memory),
+            Err((cache, _)) => (cache.into_machine(), LinesEnd::Ended(ServeEnd::Memory)),
         }
     }
 }

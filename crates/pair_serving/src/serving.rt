@@ -3,7 +3,6 @@
 ghost use Rattle.std.specs.Prelude.{◌≡◌, ◌≢◌, ◌≤◌, ℕ, true, Some, length};
 ghost use Rattle.rio_base.specs.Counts.{Rose};
 ghost use Rattle.rio_base.specs.Shapes.{IsServed};
-ghost use Rattle.rio_base.specs.Volume.{Runs};
 ghost use Rattle.rio_model.specs.declared.state.State.{State};
 ghost use Rattle.rio_model.specs.Standing.{StandsFor};
 ghost use Rattle.rio_core.specs.Lines.{core_protocol};
@@ -12,6 +11,7 @@ ghost use Rattle.page_cache.specs.Caches.{cache_below, cache_health};
 ghost use Rattle.pair_files.specs.Scenes.{LastsBelow, scene_of, streams_of};
 ghost use Rattle.pair_serving.specs.ServedScenes.{Served};
 
+use crate::ends::{LinesEnd, end_of};
 use rio_base::{Machine, Sink, Source};
 use rio_core::Core;
 use rio_serving::{ServeEnd, Server, serve_with};
@@ -27,7 +27,7 @@ pub fn serve<M: Machine, S: Source, K: Sink>(
     requires sound { ⟦<Core<M> as Server>⟧.sound core.old }
     requires holds { (s : State) × ⟦<Core<M> as Server>⟧.holds core.old s }
     ensures run { (s : State) → ⟦<Core<M> as Server>⟧.holds core.old s → RunEnds core_protocol (⟦<Core<M> as Server>⟧.holds core.new) (⟦<Core<M> as Server>⟧.stands core.new) s result (S.left source.old) (S.left source.new) (K.written sink.old) (K.written sink.new) (⟦<Core<M> as Server>⟧.health core.old) (⟦<Core<M> as Server>⟧.below core.old) (⟦<Core<M> as Server>⟧.health core.new) (⟦<Core<M> as Server>⟧.below core.new) }
-    ensures runs { Runs (⟦<Core<M> as Server>⟧.health core.old) (⟦<Core<M> as Server>⟧.below core.old) (⟦<Core<M> as Server>⟧.health core.new) (⟦<Core<M> as Server>⟧.below core.new) }
+    ensures lasts { LastsBelow (⟦<Core<M> as Server>⟧.health core.old) (⟦<Core<M> as Server>⟧.below core.old) (⟦<Core<M> as Server>⟧.health core.new) (⟦<Core<M> as Server>⟧.below core.new) }
     ensures limited { (most : ℕ) → (⟦<Core<M> as Server>⟧.below core.old).limit ≡ Some most → (⟦<Core<M> as Server>⟧.health core.new).faults ≤ most }
     ensures sound { ⟦<Core<M> as Server>⟧.sound core.new }
     ensures source_fault { result ≡ ServeEnd.SourceFault → Rose (S.faults source.old) (S.faults source.new) }
@@ -40,14 +40,14 @@ pub fn serve<M: Machine, S: Source, K: Sink>(
     serve_with(alloc, core, source, sink)
 }
 
-/// Serves lines over a core, and takes its machine back. Memory and disk then stand for what a stop leaves of the state that
-/// the lines led to.
+/// Serves lines over a core, and takes its machine back, which tells whether a wild store trapped. Memory and disk then stand
+/// for what a stop leaves of the state that the lines led to.
 pub(crate) fn serve_core<M: Machine, S: Source, K: Sink>(
     alloc: Global,
     core: Core<M>,
     source: &mut S,
     sink: &mut K,
-) -> (M, ServeEnd)
+) -> (M, LinesEnd)
     requires sound { ⟦<Core<M> as Server>⟧.sound core }
     requires holds { (s : State) × ⟦<Core<M> as Server>⟧.holds core s × IsServed s.shape }
     ensures served { (s : State) → ⟦<Core<M> as Server>⟧.holds core s → IsServed s.shape → (t : State) × Served (record { state = s; health = ⟦<Core<M> as Server>⟧.health core; below = ⟦<Core<M> as Server>⟧.below core; streams = streams_of (S.left source.old) (K.written sink.old) (S.faults source.old) (K.faults sink.old) }) result.1 (scene_of t (M.contents result.0) (M.run result.0) (streams_of (S.left source.new) (K.written sink.new) (S.faults source.new) (K.faults sink.new))) × StandsFor (M.contents result.0) (length (M.run result.0).scratch) t }
@@ -57,5 +57,7 @@ pub(crate) fn serve_core<M: Machine, S: Source, K: Sink>(
 {
     let mut core = core;
     let end = serve(alloc, &mut core, source, sink);
-    (core.into_machine(), end)
+    let machine = core.into_machine();
+    let trapped = machine.trapped();
+    (machine, end_of(end, trapped))
 }

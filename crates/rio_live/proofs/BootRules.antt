@@ -17,7 +17,8 @@ use Rattle.live_plans.specs.declared.transcript.BootEnd.{BootEnd}
 use Rattle.live_plans.specs.declared.transcript.BootEnd.TheVariants.{Served, Stopped, BootFault}
 use Rattle.live_plans.specs.declared.transcript.BootRun.{BootRun}
 use Rattle.rio_live.specs.Boots.{MayStop, RunsBoot}
-use Rattle.rio_live.specs.Legal.{BootEnds, IsStrike, SetsStop, boot_faults, requests_of}
+use Rattle.rio_live.specs.Legal.{BootEnds, SetsStop, boot_faults, requests_of}
+use Rattle.pair_serving.specs.Strikes.{IsStrike}
 use Rattle.rio_live.specs.Parts.{armed_run}
 use Rattle.rio_live.proofs.Causes.{guarded_word, may_stop_before}
 

@@ -1,6 +1,6 @@
 -- Legal transcripts of a plan of boots. Every reply is the one that the definition gives, and each boot finds the files and
 -- regions after all requests that were answered before, the one that met a stop being absent, whole or a leading part.
-use Rattle.std.specs.Prelude.{◌≡◌, ◌⊎◌, ℕ, ◌+◌, ◌-◌, ◌*◌, ◌<◌, ◌≤◌, ◌++◌, All, Any, List, [], ◌∷◌, length, map, sum, Option, Some, None}
+use Rattle.std.specs.Prelude.{◌≡◌, ◌⊎◌, ℕ, ◌+◌, ◌<◌, ◌≤◌, ◌++◌, All, Any, List, [], ◌∷◌, length, map, sum, Option, Some, None}
 use Rattle.std.specs.List.{range_with_len}
 use Rattle.std.specs.FinMap.{get}
 use Rattle.rio_base.specs.Image.{image_pages}
@@ -12,12 +12,12 @@ use Rattle.rio_model.specs.Censuses.{IsCensus}
 use Rattle.rio_model.specs.Fresh.{fresh_state}
 use Rattle.rio_requests.specs.declared.reply.Reply.{Reply}
 use Rattle.rio_requests.specs.declared.request.Request.{Request}
-use Rattle.rio_requests.specs.declared.request.Request.TheVariants.{Wild, Arm}
 use Rattle.rio_requests.specs.Crash.{crashed}
 use Rattle.rio_requests.specs.Parts.{IsPart}
 use Rattle.rio_requests.specs.Requests.{IsRequest}
 use Rattle.rio_requests.specs.Run.{Run}
 use Rattle.rio_requests.specs.Went.{faults_in}
+use Rattle.pair_serving.specs.Strikes.{IsProtected, IsStrike}
 use Rattle.live_plans.specs.declared.plan.BootPlan.{BootPlan}
 use Rattle.live_plans.specs.declared.plan.LivePlan.{LivePlan}
 use Rattle.live_plans.specs.declared.transcript.BootEnd.{BootEnd}
@@ -56,19 +56,9 @@ AreFirst front requests = (rest : List Request) × (requests ≡ front ++ rest)
 
 -- ---- why a machine stops
 
--- a word of memory is protected
-abbrev pub IsProtected : State → ℕ → Type 0
-IsProtected s at = at < 512 * (s.pages - s.scratch)
-
 -- the plan sets a stop, or arms a wild store on a protected word
 abbrev pub SetsStop : State → BootPlan → Type 0
 SetsStop s plan = ((most : ℕ) × (plan.stop_after ≡ Some most)) ⊎ ((step : ℕ) × (at : ℕ) × (value : ℕ) × (plan.arm ≡ Some (step, at, value)) × IsProtected s at)
-
--- a wild store on a protected word, now or armed
-abbrev pub IsStrike : State → Request → Type 0
-IsStrike s (Wild at value) = IsProtected s at
-IsStrike s (Arm step at value) = IsProtected s at
-IsStrike s _ = ⊥
 
 -- ---- one boot, from state s to state t. `set` is that its plan sets a stop
 

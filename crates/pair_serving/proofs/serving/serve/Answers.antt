@@ -1,5 +1,5 @@
-use Rattle.pair_serving.proofs.MachineRuns.{serve_runs}
+use Rattle.pair_serving.proofs.MachineLasts.{serve_lasts}
 use Rattle.pair_serving.proofs.serving.serve.Goals as goal
 
-pub returns-clause-runs : goal.returns-clause-runs
-returns-clause-runs g c = serve_runs _ _ _ _ _ _ _ _ _ _ _ _ (c.serve_with.ensures.run c.requires.holds.0 c.requires.holds.1)
+pub returns-clause-lasts : goal.returns-clause-lasts
+returns-clause-lasts g c = serve_lasts _ _ _ _ _ _ _ _ _ _ _ _ (c.serve_with.ensures.run c.requires.holds.0 c.requires.holds.1)
