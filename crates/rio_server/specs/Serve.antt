@@ -19,7 +19,10 @@ use Rattle.pair_files.specs.Scenes.{Scene, streams_of}
 use Rattle.pair_files.specs.declared.ends.PairEnd.{PairEnd}
 use Rattle.pair_files.specs.declared.ends.PairEnd.TheVariants.{Absent, BadImage, BadVolume, BootFault, BootStopped, HostFault, Memory, Unsaved, Worked}
 use Rattle.pair_files.specs.declared.names.PairFile.TheVariants.{Image, Disk}
-use Rattle.pair_serving.specs.ServedScenes.{AsksNoFlush, Served}
+use Rattle.pair_serving.specs.ServedScenes.{AsksNoFlush, Served, loop_end, trap_of}
+use Rattle.pair_serving.specs.Strikes.{AsksNoStrike, StopsBy}
+use Rattle.pair_serving.specs.declared.ends.LinesEnd.{LinesEnd}
+use Rattle.pair_serving.specs.declared.ends.LinesEnd.TheVariants.{Ended as LoopEnded, Trapped}
 use Rattle.rio_server.specs.Check.{name_of, volume_rule_line}
 use Rattle.rio_server.specs.Command.{WritesLine, memory_line}
 use Rattle.rio_server.specs.Format.{host_fault_line}
@@ -36,9 +39,9 @@ lines_status SinkFault = 9
 lines_status Stopped = 10
 lines_status InputLimit = 11
 
--- the status of each end
-abbrev pub serve_status : PairEnd ServeEnd → ℕ
-serve_status (Worked end) = lines_status end
+-- the status of each end. A trap is a stop
+abbrev pub serve_status : PairEnd LinesEnd → ℕ
+serve_status (Worked end) = lines_status (loop_end end)
 serve_status (BadImage rule) = 3
 serve_status (BadVolume rule b) = 4
 serve_status BootFault = 5
@@ -49,20 +52,32 @@ serve_status (Unsaved end) = 7
 serve_status BootStopped = 10
 
 -- after how many steps the machine stopped
+abbrev pub stopped_line : ℕ → List ℕ
+stopped_line steps = field (codes "stopped ") steps ++ codes "\n"
+
+-- on which word a wild store trapped
+abbrev pub trapped_line : ℕ → List ℕ
+trapped_line at = field (codes "trapped ") at ++ codes "\n"
+
+-- without a stop that was given none is told: see `stopped` of ServeCauses
 abbrev pub stop_line : Option ℕ → List ℕ
-stop_line (Some steps) = field (codes "stopped ") steps ++ codes "\n"
+stop_line (Some steps) = stopped_line steps
 stop_line None = []
 
-abbrev pub lines_line : ServeEnd → Option ℕ → List ℕ
-lines_line End stop = []
-lines_line NoMemory stop = memory_line
-lines_line SourceFault stop = codes "source fault\n"
-lines_line SinkFault stop = []
-lines_line Stopped stop = stop_line stop
-lines_line InputLimit stop = codes "input limit\n"
+abbrev pub loop_line : ServeEnd → Option ℕ → List ℕ
+loop_line End stop = []
+loop_line NoMemory stop = memory_line
+loop_line SourceFault stop = codes "source fault\n"
+loop_line SinkFault stop = []
+loop_line Stopped stop = stop_line stop
+loop_line InputLimit stop = codes "input limit\n"
+
+abbrev pub lines_line : LinesEnd → Option ℕ → List ℕ
+lines_line (LoopEnded end) stop = loop_line end stop
+lines_line (Trapped at) stop = trapped_line at.0
 
 -- the line that is written at each end, behind the replies
-abbrev pub serve_line : PairEnd ServeEnd → List ℕ → List ℕ → Option ℕ → List ℕ
+abbrev pub serve_line : PairEnd LinesEnd → List ℕ → List ℕ → Option ℕ → List ℕ
 serve_line (Worked end) image disk stop = lines_line end stop
 serve_line (BadImage rule) image disk stop = image_rule_line rule
 serve_line (BadVolume rule b) image disk stop = volume_rule_line rule b.0
@@ -72,6 +87,11 @@ serve_line (Absent file) image disk stop = absent_line (name_of file image disk)
 serve_line (HostFault file) image disk stop = host_fault_line (name_of file image disk)
 serve_line (Unsaved end) image disk stop = host_fault_line image
 serve_line BootStopped image disk stop = stop_line stop
+
+-- the place of the wild store whose trap is told
+abbrev pub trap_told : PairEnd LinesEnd → Option ℕ
+trap_told (Worked end) = trap_of end
+trap_told _ = None
 
 -- ---- lines that were served, from state s. `after` is what the files stand for then, and `replied` what was written before the
 -- status's line
@@ -86,13 +106,15 @@ pub record ServesLines (end : ServeEnd) (s after : State) (old new : Outside) (r
   pub faultless : ¬ HostRose old new → faults_in serves.run.replies ≡ 0
 
 -- the machine stopped on the line behind those that have replies, and of its request a part stands
-pub record StopsLines (s after : State) (old new : Outside) (replied : Option (List ℕ)) : Type 0 where
+pub record StopsLines (end : LinesEnd) (s after : State) (old new : Outside) (replied : Option (List ℕ)) : Type 0 where
   pub state : State
   pub request : Request
   pub part : State
   pub stops : StopsOn core_protocol s state request old.left new.left old.written replied
   pub is_part : IsPart state request part
   pub leaves : after ≡ crashed part
+  -- a wild store trapped, which that line or the last of the lines that arm one asks for; or the stop came at a step of the request
+  pub stopped_by : StopsBy end s stops.replied.requests stops.replies request
   pub faults : RoseBy (faults_in stops.replies) old.host_faults new.host_faults
 
 -- no line was read
@@ -102,27 +124,29 @@ pub record ServesNone (s after : State) (old new : Outside) (replied : Option (L
   pub unwritten : replied ≡ old.written
 
 -- by the end
-abbrev pub RunServes : PairEnd ServeEnd → State → State → Outside → Outside → Option (List ℕ) → Type 0
-RunServes (Worked Stopped) s after old new replied = StopsLines s after old new replied
-RunServes (Worked end) s after old new replied = ServesLines end s after old new replied
+abbrev pub RunServes : PairEnd LinesEnd → State → State → Outside → Outside → Option (List ℕ) → Type 0
+RunServes (Worked (Trapped at)) s after old new replied = StopsLines (Trapped at) s after old new replied
+RunServes (Worked (LoopEnded Stopped)) s after old new replied = StopsLines (LoopEnded Stopped) s after old new replied
+RunServes (Worked (LoopEnded end)) s after old new replied = ServesLines end s after old new replied
 RunServes Memory s after old new replied = ServesNone s after old new replied
 RunServes BootFault s after old new replied = ServesNone s after old new replied
 RunServes BootStopped s after old new replied = ServesNone s after old new replied
 RunServes _ s after old new replied = ⊥
 
 -- lines were read of which none is a flush
-abbrev pub ReadsNoFlush : (end : PairEnd ServeEnd) (s after : State) (old new : Outside) (replied : Option (List ℕ)) → RunServes end s after old new replied → Type 0
-ReadsNoFlush (Worked Stopped) s after old new replied run = AsksNoFlush run.stops.taken
-ReadsNoFlush (Worked End) s after old new replied run = AsksNoFlush run.serves.taken
-ReadsNoFlush (Worked SourceFault) s after old new replied run = AsksNoFlush run.serves.taken
-ReadsNoFlush (Worked SinkFault) s after old new replied run = AsksNoFlush run.serves.taken
-ReadsNoFlush (Worked InputLimit) s after old new replied run = AsksNoFlush run.serves.taken
-ReadsNoFlush (Worked NoMemory) s after old new replied run = AsksNoFlush run.serves.taken
+abbrev pub ReadsNoFlush : (end : PairEnd LinesEnd) (s after : State) (old new : Outside) (replied : Option (List ℕ)) → RunServes end s after old new replied → Type 0
+ReadsNoFlush (Worked (Trapped at)) s after old new replied run = AsksNoFlush run.stops.taken
+ReadsNoFlush (Worked (LoopEnded Stopped)) s after old new replied run = AsksNoFlush run.stops.taken
+ReadsNoFlush (Worked (LoopEnded End)) s after old new replied run = AsksNoFlush run.serves.taken
+ReadsNoFlush (Worked (LoopEnded SourceFault)) s after old new replied run = AsksNoFlush run.serves.taken
+ReadsNoFlush (Worked (LoopEnded SinkFault)) s after old new replied run = AsksNoFlush run.serves.taken
+ReadsNoFlush (Worked (LoopEnded InputLimit)) s after old new replied run = AsksNoFlush run.serves.taken
+ReadsNoFlush (Worked (LoopEnded NoMemory)) s after old new replied run = AsksNoFlush run.serves.taken
 ReadsNoFlush _ s after old new replied run = ⊥
 
 -- of files that are a pair of these bytes, which stands for s: they are a pair of what the lines led to. Where memory has a frame
 -- for each block, and no line is a flush, the disk is what the reboot made of it: what the lines changed stands in memory alone
-pub record LeavesPair (end : PairEnd ServeEnd) (image disk image_was disk_was : List ℕ) (s : State) (old new : Outside) (replied : Option (List ℕ)) : Type 0 where
+pub record LeavesPair (end : PairEnd LinesEnd) (image disk image_was disk_was : List ℕ) (s : State) (old new : Outside) (replied : Option (List ℕ)) : Type 0 where
   pub after : State
   pub image_now : List ℕ
   pub disk_now : List ℕ
@@ -138,7 +162,7 @@ pub record Untouched (old new : Outside) (replied : Option (List ℕ)) : Type 0 
   pub unread : new.left ≡ old.left
   pub unwritten : replied ≡ old.written
 
-pub record ServeCauses (end : PairEnd ServeEnd) (image disk : List ℕ) (stop : Option ℕ) (status : ℕ) (old new : Outside) (replied : Option (List ℕ)) (bench : Benched) : Type 0 where
+pub record ServeCauses (end : PairEnd LinesEnd) (image disk : List ℕ) (stop : Option ℕ) (status : ℕ) (old new : Outside) (replied : Option (List ℕ)) (bench : Benched) : Type 0 where
   -- 0: the sink refused nothing
   pub steady : status ≡ 0 → new.sink_faults ≡ old.sink_faults
   -- 3, 4: a rule fails first, and nothing was done
@@ -150,9 +174,10 @@ pub record ServeCauses (end : PairEnd ServeEnd) (image disk : List ℕ) (stop : 
   pub image_kept : status ≡ 7 → file_of new.files image ≡ file_of old.files image
   pub source_fault : status ≡ 8 → SourceRose old new
   pub sink_fault : status ≡ 9 → SinkRose old new
-  -- 10: a stop was asked for, and the machine was stopped
-  pub stopped : status ≡ 10 → (steps : ℕ) × (stop ≡ Some steps)
-  pub left_stopped : status ≡ 10 → bench.tells ≡ true → (l : Leaving) × (bench.left ≡ Some l) × (l.stopped ≡ true)
+  -- 10: the number of a stop that was asked for is told, or where a wild store trapped; and the machine was stopped, with that trap or
+  -- with none
+  pub stopped : status ≡ 10 → ((steps : ℕ) × (stop ≡ Some steps) × (serve_line end image disk stop ≡ stopped_line steps)) ⊎ ((at : ℕ) × (trap_told end ≡ Some at) × (serve_line end image disk stop ≡ trapped_line at))
+  pub left_stopped : status ≡ 10 → bench.tells ≡ true → (l : Leaving) × (bench.left ≡ Some l) × (l.stopped ≡ true) × (l.trapped ≡ trap_told end)
   -- 11: more input came than is taken
   pub limit : (input : List ℕ) → old.left ≡ Some input → status ≡ 11 → 2 ^ 40 < length input
   pub over : (input : List ℕ) → old.left ≡ Some input → 2 ^ 40 < length input → status ≢ 0
@@ -164,7 +189,7 @@ abbrev pub Decided : Type 0 → ℕ → Outside → Outside → Type 0
 Decided told status old new = told ⊎ (status ≡ 6) ⊎ ((status ≡ 7) × HostRose old new)
 
 -- the other direction: what is so of files that are told decides the status
-pub record ServeRefusals (end : PairEnd ServeEnd) (image disk : List ℕ) (status : ℕ) (old new : Outside) : Type 0 where
+pub record ServeRefusals (end : PairEnd LinesEnd) (image disk : List ℕ) (status : ℕ) (old new : Outside) : Type 0 where
   pub no_image : IsAbsent old.files image → Decided (end ≡ Absent Image) status old new
   pub bad_image : (rule : ℕ) → Breaks old.files image rule → Decided (status ≡ 3) status old new
   pub no_disk : (words : List ℕ) → HoldsImage old.files image words → IsAbsent old.files disk → Decided (end ≡ Absent Disk) status old new
@@ -173,7 +198,7 @@ pub record ServeRefusals (end : PairEnd ServeEnd) (image disk : List ℕ) (statu
 
 -- ---- the work on the files
 
-abbrev pub does_serve : ServeEnd → Scene → Scene → Type 0
+abbrev pub does_serve : LinesEnd → Scene → Scene → Type 0
 does_serve end before after = Served before end after
 
 -- the outset and the outcome of the work on the files
@@ -202,7 +227,7 @@ pub record ServeBench (o : Outset) (x : Outcome) (status : ℕ) (bench : Benched
 
 pub record ServeRuns (image disk : List ℕ) (stop : Option ℕ) (status : ℕ) (old new : Outside) (bench : Benched) : Type 0 where
   -- how it ended, and what was written and how many calls of the sink had failed before the line of that
-  pub end : PairEnd ServeEnd
+  pub end : PairEnd LinesEnd
   pub replied : Option (List ℕ)
   pub replied_faults : ℕ
   pub status_is : status ≡ serve_status end
@@ -211,9 +236,10 @@ pub record ServeRuns (image disk : List ℕ) (stop : Option ℕ) (status : ℕ) 
   pub pair : (image_was disk_was : List ℕ) (s : State) → HasPair old.files image disk image_was disk_was s → status ≢ 7 → LeavesPair end image disk image_was disk_was s old new replied
   pub causes : ServeCauses end image disk stop status old new replied bench
   pub refusals : (files : Files) → old.files ≡ Some files → ServeRefusals end image disk status old new
-  -- of a pair, where nothing fails and no stop is asked for, it ends with 0, or for want of memory
+  -- of a pair, where nothing fails, no stop is asked for and no line asks for a wild store on a protected word, it ends with 0, or for
+  -- want of memory
   pub complete : (image_was disk_was : List ℕ) (s : State) (input : List ℕ) → HasPair old.files image disk image_was disk_was s → stop ≡ None → old.left ≡ Some input → length input ≤ 2 ^ 40
-      → ¬ HostRose old new → ¬ SourceRose old new → ¬ SinkRose old new → (status ≡ 0) ⊎ (status ≡ 6)
+      → AsksNoStrike s input → ¬ HostRose old new → ¬ SourceRose old new → ¬ SinkRose old new → (status ≡ 0) ⊎ (status ≡ 6)
   -- no other file is changed
   pub others : (name : List ℕ) → name ≢ image → name ≢ disk → file_of new.files name ≡ file_of old.files name
   pub machine : ServeBench (outset_at image disk stop old) (outcome_at new replied replied_faults bench) status bench

@@ -13,5 +13,5 @@ mod registry_listing;
 mod serve_command;
 mod serve_lines;
 
-pub use pair_serving::{ServeEnd, serve};
+pub use pair_serving::{LinesEnd, ServeEnd, serve};
 pub use program::{end_without_memory, run};
