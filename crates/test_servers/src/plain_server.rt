@@ -77,26 +77,32 @@ fn region_told(reply: Option<Reply>) -> Option<Ino> {
     }
 }
 
-/// A server that holds a state.
+/// A server that holds a state, until a wild store on a protected word stops it.
 #[derive(Drop)]
 pub struct Plain {
     alloc: Global,
     s: State,
+    stopped: bool,
 }
 
 impl Plain {
     /// It holds the root directory alone.
     pub fn new(alloc: Global, sizes: Sizes) -> Result<Plain, AllocError> {
         let s = root_alone(alloc, sizes)?;
-        Ok(Plain { alloc, s })
+        Ok(Plain {
+            alloc,
+            s,
+            stopped: false,
+        })
     }
 
-    /// A server that holds the same state.
+    /// A server that holds the same state, and runs.
     pub fn copy(&self) -> Result<Plain, AllocError> {
         let s = self.s.clone()?;
         Ok(Plain {
             alloc: self.alloc,
             s,
+            stopped: false,
         })
     }
 
@@ -139,8 +145,12 @@ impl Plain {
         Ok(())
     }
 
-    /// Answers a line, and puts its reply behind those before it. A line that is no request is refused.
+    /// Answers a line, and puts its reply behind those before it. A line that is no request is refused. A wild store on a
+    /// protected word has no reply, and neither have the lines behind it. An armed store does not fall here.
     pub fn answer_line(&mut self, line: &str, replies: &mut Vec<u8>) -> Result<(), AllocError> {
+        if self.stopped {
+            return Ok(());
+        }
         let request = parse_line(self.alloc, line.as_bytes())?;
         match &request {
             Some(request) => self.serve(request, replies),
@@ -148,14 +158,14 @@ impl Plain {
         }
     }
 
-    /// Answers the request of a line. A line that asks for a wild store is taken for no request.
+    /// Answers the request of a line.
     fn serve(&mut self, request: &Request, replies: &mut Vec<u8>) -> Result<(), AllocError> {
-        if matches!(request, Request::Wild { .. } | Request::Arm { .. }) {
-            return self.refuse(replies);
-        }
         match self.answer(request)? {
             Some(text) => replies.extend_from_slice(text.as_slice()),
-            None => Ok(()),
+            None => {
+                self.stopped = true;
+                Ok(())
+            }
         }
     }
 
