@@ -3,8 +3,10 @@ pub mod Commands
 pub mod Entries
 pub mod Formatting
 pub mod FreshPairs
+pub mod InputLines
 pub mod Listings
 pub mod ServeEndings
 pub mod ServeRefusals
 pub mod ServedPairs
+pub mod StopCauses
 pub mod Telling

@@ -1,11 +1,9 @@
 -- What a run of `serve` comes to, by how the work on its files ended, and what its status says.
 use Rattle.std.proofs.Common.{◌≡◌, ◌≢◌, ◌<◌, ◌≤◌, ◌^◌, ◌+◌, ◌++◌, ℕ, Bool, true, false, List, length, refl, sym, ap, subst, ◌∙◌, inl, inr, arith, length-append}
 use Rattle.std.specs.Prelude.{Option, Some, None, ◌⊎◌, is_some}
-use Rattle.rio_base.specs.Blocks.{Causes, Health}
 use Rattle.rio_base.specs.Counts.{Rose}
 use Rattle.rio_base.specs.Hosts.{Files, IsAbsent}
 use Rattle.rio_base.specs.Streams.{IsSpent, prepended}
-use Rattle.rio_base.specs.Volume.{Below, Runs, StopCause}
 use Rattle.rio_base.proofs.Rules.{rose_stays}
 use Rattle.rio_bench.specs.Benches.{Leaving}
 use Rattle.rio_model.specs.declared.state.State.{State}
@@ -18,13 +16,17 @@ use Rattle.pair_files.specs.Scenes.{Streams}
 use Rattle.pair_files.specs.declared.ends.PairEnd.{PairEnd}
 use Rattle.pair_files.specs.declared.ends.PairEnd.TheVariants.{Absent, BadImage, BadVolume, BootFault, BootStopped, HostFault, Memory, Unsaved, Worked}
 use Rattle.pair_files.specs.declared.names.PairFile.TheVariants.{Image, Disk}
-use Rattle.pair_serving.specs.ServedScenes.{IsLeftOf, Served}
-use Rattle.pair_serving.proofs.MachineRuns.{serve_runs}
+use Rattle.pair_serving.specs.ServedScenes.{Served, loop_end}
+use Rattle.pair_serving.specs.Strikes.{AsksNoStrike}
+use Rattle.pair_serving.specs.declared.ends.LinesEnd.{LinesEnd}
+use Rattle.pair_serving.specs.declared.ends.LinesEnd.TheVariants.{Ended as LoopEnded, Trapped}
 use Rattle.rio_server.specs.Command.{WritesLine}
 use Rattle.rio_server.specs.Outside.{Benched, HostRose, Outside, SinkRose, SourceRose}
-use Rattle.rio_server.specs.Serve.{MadeStatus, ServeCauses, ServeRuns, Untouched, does_serve, lines_status, outcome_at, outset_at, serve_line, serve_status}
+use Rattle.rio_server.specs.Serve.{MadeStatus, ServeCauses, ServeRuns, Untouched, does_serve, lines_status, loop_line, outcome_at, outset_at, serve_line, serve_status, stop_line, stopped_line, trap_told, trapped_line}
+use Rattle.rio_server.proofs.InputLines.{given_all}
 use Rattle.rio_server.proofs.ServeRefusals.{refusals}
 use Rattle.rio_server.proofs.ServedPairs.{leaves_pair, scene_with, served_as, streams_before, streams_behind}
+use Rattle.rio_server.proofs.StopCauses.{calm_at, no_trap, stop_given}
 
 -- ---- which end has a status
 
@@ -37,8 +39,8 @@ no_lines Stopped n is = (λ e. omega (arith, is, e), λ e. omega (arith, is, e),
 no_lines InputLimit n is = (λ e. omega (arith, is, e), λ e. omega (arith, is, e), λ e. omega (arith, is, e), λ e. omega (arith, is, e), λ e. omega (arith, is, e))
 
 -- words that are read are not refused
-pub serve_not_2 : (end : PairEnd ServeEnd) (n : ℕ) → n ≡ serve_status end → n ≢ 2
-serve_not_2 (Worked e) n is told = (no_lines e n is).0 told
+pub serve_not_2 : (end : PairEnd LinesEnd) (n : ℕ) → n ≡ serve_status end → n ≢ 2
+serve_not_2 (Worked e) n is told = (no_lines (loop_end e) n is).0 told
 serve_not_2 (BadImage rule) n is told = omega (arith, is, told)
 serve_not_2 (BadVolume rule b) n is told = omega (arith, is, told)
 serve_not_2 BootFault n is told = omega (arith, is, told)
@@ -58,14 +60,19 @@ lines_end SinkFault n is = (λ k. absurd (omega (arith, is, k)), λ k. absurd (o
 lines_end Stopped n is = (λ k. absurd (omega (arith, is, k)), λ k. absurd (omega (arith, is, k)), λ k. absurd (omega (arith, is, k)), λ k. absurd (omega (arith, is, k)), λ k. refl, λ k. absurd (omega (arith, is, k)))
 lines_end InputLimit n is = (λ k. absurd (omega (arith, is, k)), λ k. absurd (omega (arith, is, k)), λ k. absurd (omega (arith, is, k)), λ k. absurd (omega (arith, is, k)), λ k. absurd (omega (arith, is, k)), λ k. refl)
 
-worked : (e f : ServeEnd) → e ≡ f → Worked e ≡ Worked f
-worked e f is = ap (λ (g : ServeEnd). Worked g) is
+worked : (e f : LinesEnd) → e ≡ f → Worked e ≡ Worked f
+worked e f is = ap (λ (g : LinesEnd). Worked g) is
+
+-- any end of the loop but a stop is told as it is
+loop_is : (e : LinesEnd) (f : ServeEnd) → loop_end e ≡ f → f ≢ Stopped → Worked e ≡ Worked (LoopEnded f)
+loop_is (LoopEnded e) f is other = worked (LoopEnded e) (LoopEnded f) (ap (λ (g : ServeEnd). LoopEnded g) is)
+loop_is (Trapped at) f is other = absurd (other (sym is))
 
 -- a status of lines that no other end has
-of_lines : (end : PairEnd ServeEnd) (n : ℕ) → n ≡ serve_status end
-    → (n ≡ 0 → end ≡ Worked End) × (n ≡ 8 → end ≡ Worked SourceFault) × (n ≡ 9 → end ≡ Worked SinkFault) × (n ≡ 11 → end ≡ Worked InputLimit)
+of_lines : (end : PairEnd LinesEnd) (n : ℕ) → n ≡ serve_status end
+    → (n ≡ 0 → end ≡ Worked (LoopEnded End)) × (n ≡ 8 → end ≡ Worked (LoopEnded SourceFault)) × (n ≡ 9 → end ≡ Worked (LoopEnded SinkFault)) × (n ≡ 11 → end ≡ Worked (LoopEnded InputLimit))
 of_lines (Worked e) n is =
-    let at = lines_end e n is in (λ k. worked e End (at.0 k), λ k. worked e SourceFault (at.2 k), λ k. worked e SinkFault (at.3 k), λ k. worked e InputLimit (at.5 k))
+    let at = lines_end (loop_end e) n is in (λ k. loop_is e End (at.0 k) (λ x. cc), λ k. loop_is e SourceFault (at.2 k) (λ x. cc), λ k. loop_is e SinkFault (at.3 k) (λ x. cc), λ k. loop_is e InputLimit (at.5 k) (λ x. cc))
 of_lines (BadImage rule) n is = (λ k. absurd (omega (arith, is, k)), λ k. absurd (omega (arith, is, k)), λ k. absurd (omega (arith, is, k)), λ k. absurd (omega (arith, is, k)))
 of_lines (BadVolume rule b) n is = (λ k. absurd (omega (arith, is, k)), λ k. absurd (omega (arith, is, k)), λ k. absurd (omega (arith, is, k)), λ k. absurd (omega (arith, is, k)))
 of_lines BootFault n is = (λ k. absurd (omega (arith, is, k)), λ k. absurd (omega (arith, is, k)), λ k. absurd (omega (arith, is, k)), λ k. absurd (omega (arith, is, k)))
@@ -77,55 +84,45 @@ of_lines BootStopped n is = (λ k. absurd (omega (arith, is, k)), λ k. absurd (
 
 -- ---- how the work on the files ended
 
-abbrev EndedAs : List ℕ → List ℕ → Option ℕ → Outside → Outside → Option (List ℕ) → ℕ → Benched → PairEnd ServeEnd → Type 0
+abbrev EndedAs : List ℕ → List ℕ → Option ℕ → Outside → Outside → Option (List ℕ) → ℕ → Benched → PairEnd LinesEnd → Type 0
 EndedAs image disk stop old new replied faults bench end = Ended (outset_at image disk stop old) does_serve end (outcome_at new replied faults bench)
 
 -- lines that were served from some state
-served_some : (image disk : List ℕ) (stop : Option ℕ) (old new : Outside) (replied : Option (List ℕ)) (faults : ℕ) (bench : Benched) (e : ServeEnd) → (d : IsDone (outset_at image disk stop old) (does_serve e) (outcome_at new replied faults bench))
+served_some : (image disk : List ℕ) (stop : Option ℕ) (old new : Outside) (replied : Option (List ℕ)) (faults : ℕ) (bench : Benched) (e : LinesEnd) → (d : IsDone (outset_at image disk stop old) (does_serve e) (outcome_at new replied faults bench))
     → Served (scene_with d.state d.begin (streams_before old)) e (scene_with d.after.state d.after (streams_behind new replied faults))
 served_some image disk stop old new replied faults bench e d =
     served_as d.state (streams_before old) (streams_behind new replied faults) d.begin d.after e d.goes.begins.state d.goes.begins.unread d.goes.ends d.goes.leads
-
--- a machine that has no cause to doesn't stop
-never_stops : (old new : Causes) (was is : Bool) → StopCause old new was is → was ≡ false → is ≡ true → old.stop_set ≡ false → old.armed ≡ None → ⊥
-never_stops old new true is h running stopped unset unarmed = cc
-never_stops old new false false h running stopped unset unarmed = cc
-never_stops old new false true (inl (a, armed, page, fell)) running stopped unset unarmed = cc (armed, unarmed)
-never_stops old new false true (inr h) running stopped unset unarmed = let set = h.1 in cc (set, unset)
-
-stops_without : (h : Health) (b : Below) (i : Health) (c : Below) → Runs h b i c → h.stopped ≡ false → i.stopped ≡ true → b.causes.stop_set ≡ false → b.causes.armed ≡ None → ⊥
-stops_without h b i c runs running stopped unset unarmed = never_stops b.causes c.causes h.stopped i.stopped runs.cause running stopped unset unarmed
 
 stop_asked : (stop : Option ℕ) → is_some stop ≡ true → (steps : ℕ) × (stop ≡ Some steps)
 stop_asked (Some steps) is = (steps, refl)
 stop_asked None is = absurd (cc is)
 
--- lines stop the machine only where that was asked for
-lines_stop : (image disk : List ℕ) (stop : Option ℕ) (old new : Outside) (replied : Option (List ℕ)) (faults : ℕ) (bench : Benched) → IsDone (outset_at image disk stop old) (does_serve Stopped) (outcome_at new replied faults bench) → (steps : ℕ) × (stop ≡ Some steps)
-lines_stop image disk (Some steps) old new replied faults bench d = (steps, refl)
-lines_stop image disk None old new replied faults bench d =
-    let served = d.goes.leads in
-    let runs = serve_runs (IsLeftOf d.after.state) (IsLeftOf d.after.state) d.begin.state Stopped d.begin.streams.left d.after.streams.left d.begin.streams.written d.after.streams.written d.begin.health d.begin.below d.after.health d.after.below served.run in
-    absurd (stops_without d.begin.health d.begin.below d.after.health d.after.below runs d.goes.begins.running (served.stopped refl) d.goes.begins.stop_set d.goes.begins.unarmed)
+-- where no store trapped, lines stop the machine only where that was asked for
+lines_stop : (image disk : List ℕ) (stop : Option ℕ) (old new : Outside) (replied : Option (List ℕ)) (faults : ℕ) (bench : Benched) → IsDone (outset_at image disk stop old) (does_serve (LoopEnded Stopped)) (outcome_at new replied faults bench) → (steps : ℕ) × (stop ≡ Some steps)
+lines_stop image disk stop old new replied faults bench d =
+    let run = d.goes.leads.run in
+    stop_asked stop
+    (sym d.goes.begins.stop_set
+    ∙ stop_given d.state run.3.replied.requests run.3.replies run.1 d.begin.health d.begin.below run.6 run.7 d.after.health d.after.below (calm_at (outset_at image disk stop old) d.state d.begin d.goes.begins) run.8 run.9 (d.goes.leads.trapped refl))
 
 -- ---- causes
 
 module _ (image disk : List ℕ) (stop : Option ℕ) (status : ℕ) (old new : Outside) (replied : Option (List ℕ)) (faults : ℕ) (bench : Benched) where
-  abbrev Ends : PairEnd ServeEnd → Type 0
+  abbrev Ends : PairEnd LinesEnd → Type 0
   Ends end = EndedAs image disk stop old new replied faults bench end
 
   -- nothing was done
   untouched : new.files ≡ old.files → streams_behind new replied faults ≡ streams_before old → Untouched old new replied
   untouched files streams = record { files = files; unread = ap (λ (p : Streams). p.left) streams; unwritten = ap (λ (p : Streams). p.written) streams }
 
-  steady : (end : PairEnd ServeEnd) → status ≡ serve_status end → Ends end → status ≡ 0 → (status ≡ 0 → new.sink_faults ≡ faults) → new.sink_faults ≡ old.sink_faults
+  steady : (end : PairEnd LinesEnd) → status ≡ serve_status end → Ends end → status ≡ 0 → (status ≡ 0 → new.sink_faults ≡ faults) → new.sink_faults ≡ old.sink_faults
   steady end is h told line =
-      let at : Ends (Worked End) = subst Ends ((of_lines end status is).0 told) h in
-      line told ∙ (served_some image disk stop old new replied faults bench End at.ends.2).steady (λ e. cc e)
+      let at : Ends (Worked (LoopEnded End)) = subst Ends ((of_lines end status is).0 told) h in
+      line told ∙ (served_some image disk stop old new replied faults bench (LoopEnded End) at.ends.2).steady (λ e. cc e)
 
-  image_refused : (end : PairEnd ServeEnd) → status ≡ serve_status end → Ends end → status ≡ 3 → (rule : ℕ) × (serve_line end image disk stop ≡ serve_line (BadImage rule) image disk stop) × Breaks old.files image rule × Untouched old new replied
+  image_refused : (end : PairEnd LinesEnd) → status ≡ serve_status end → Ends end → status ≡ 3 → (rule : ℕ) × (serve_line end image disk stop ≡ serve_line (BadImage rule) image disk stop) × Breaks old.files image rule × Untouched old new replied
   image_refused (BadImage rule) is h told = (rule, refl, h.ends.1, untouched h.ends.0.files h.ends.0.unread)
-  image_refused (Worked e) is h told = absurd ((no_lines e status is).1 told)
+  image_refused (Worked e) is h told = absurd ((no_lines (loop_end e) status is).1 told)
   image_refused (BadVolume rule b) is h told = absurd (omega (arith, is, told))
   image_refused BootFault is h told = absurd (omega (arith, is, told))
   image_refused Memory is h told = absurd (omega (arith, is, told))
@@ -134,9 +131,9 @@ module _ (image disk : List ℕ) (stop : Option ℕ) (status : ℕ) (old new : O
   image_refused (Unsaved e) is h told = absurd (omega (arith, is, told))
   image_refused BootStopped is h told = absurd (omega (arith, is, told))
 
-  volume_refused : (end : PairEnd ServeEnd) → status ≡ serve_status end → Ends end → status ≡ 4 → (rule b : ℕ) × (serve_line end image disk stop ≡ serve_line (BadVolume rule (record { 0 = b })) image disk stop) × BreaksVolume old.files image disk rule b × Untouched old new replied
+  volume_refused : (end : PairEnd LinesEnd) → status ≡ serve_status end → Ends end → status ≡ 4 → (rule b : ℕ) × (serve_line end image disk stop ≡ serve_line (BadVolume rule (record { 0 = b })) image disk stop) × BreaksVolume old.files image disk rule b × Untouched old new replied
   volume_refused (BadVolume rule b) is h told = (rule, b.0, refl, h.ends.1, untouched h.ends.0.files h.ends.0.unread)
-  volume_refused (Worked e) is h told = absurd ((no_lines e status is).2 told)
+  volume_refused (Worked e) is h told = absurd ((no_lines (loop_end e) status is).2 told)
   volume_refused (BadImage rule) is h told = absurd (omega (arith, is, told))
   volume_refused BootFault is h told = absurd (omega (arith, is, told))
   volume_refused Memory is h told = absurd (omega (arith, is, told))
@@ -145,9 +142,9 @@ module _ (image disk : List ℕ) (stop : Option ℕ) (status : ℕ) (old new : O
   volume_refused (Unsaved e) is h told = absurd (omega (arith, is, told))
   volume_refused BootStopped is h told = absurd (omega (arith, is, told))
 
-  boot_fault : (end : PairEnd ServeEnd) → status ≡ serve_status end → Ends end → status ≡ 5 → HostRose old new
+  boot_fault : (end : PairEnd LinesEnd) → status ≡ serve_status end → Ends end → status ≡ 5 → HostRose old new
   boot_fault BootFault is h told = h.ends.1
-  boot_fault (Worked e) is h told = absurd ((no_lines e status is).3 told)
+  boot_fault (Worked e) is h told = absurd ((no_lines (loop_end e) status is).3 told)
   boot_fault (BadImage rule) is h told = absurd (omega (arith, is, told))
   boot_fault (BadVolume rule b) is h told = absurd (omega (arith, is, told))
   boot_fault Memory is h told = absurd (omega (arith, is, told))
@@ -160,32 +157,43 @@ module _ (image disk : List ℕ) (stop : Option ℕ) (status : ℕ) (old new : O
   abbrev Fails : Type 0
   Fails = (HostRose old new ⊎ (IsAbsent old.files image ⊎ IsAbsent old.files disk)) × (file_of new.files image ≡ file_of old.files image)
 
-  host_fault : (end : PairEnd ServeEnd) → status ≡ serve_status end → Ends end → status ≡ 7 → Fails
+  host_fault : (end : PairEnd LinesEnd) → status ≡ serve_status end → Ends end → status ≡ 7 → Fails
   host_fault (Absent Image) is h told = (inr (inl h.ends.2), ap (λ (files : Option Files). file_of files image) h.ends.0.files)
   host_fault (Absent Disk) is h told = (inr (inr h.ends.4), ap (λ (files : Option Files). file_of files image) h.ends.0.files)
   host_fault (HostFault file) is h told = (inl h.ends.2, ap (λ (files : Option Files). file_of files image) h.ends.0.files)
   host_fault (Unsaved None) is h told = (inl h.ends.0.rose, h.ends.0.image)
   host_fault (Unsaved (Some e)) is h told = (inl h.ends.0.rose, h.ends.0.image)
-  host_fault (Worked e) is h told = absurd ((no_lines e status is).4 told)
+  host_fault (Worked e) is h told = absurd ((no_lines (loop_end e) status is).4 told)
   host_fault (BadImage rule) is h told = absurd (omega (arith, is, told))
   host_fault (BadVolume rule b) is h told = absurd (omega (arith, is, told))
   host_fault BootFault is h told = absurd (omega (arith, is, told))
   host_fault Memory is h told = absurd (omega (arith, is, told))
   host_fault BootStopped is h told = absurd (omega (arith, is, told))
 
-  source_fault : (end : PairEnd ServeEnd) → status ≡ serve_status end → Ends end → status ≡ 8 → SourceRose old new
+  source_fault : (end : PairEnd LinesEnd) → status ≡ serve_status end → Ends end → status ≡ 8 → SourceRose old new
   source_fault end is h told =
-      let at : Ends (Worked SourceFault) = subst Ends ((of_lines end status is).1 told) h in
-      (served_some image disk stop old new replied faults bench SourceFault at.ends.2).source_fault refl
+      let at : Ends (Worked (LoopEnded SourceFault)) = subst Ends ((of_lines end status is).1 told) h in
+      (served_some image disk stop old new replied faults bench (LoopEnded SourceFault) at.ends.2).source_fault refl
 
-  sink_fault : (end : PairEnd ServeEnd) → status ≡ serve_status end → Ends end → faults ≤ new.sink_faults → status ≡ 9 → SinkRose old new
+  sink_fault : (end : PairEnd LinesEnd) → status ≡ serve_status end → Ends end → faults ≤ new.sink_faults → status ≡ 9 → SinkRose old new
   sink_fault end is h later told =
-      let at : Ends (Worked SinkFault) = subst Ends ((of_lines end status is).2 told) h in
-      rose_stays old.sink_faults faults new.sink_faults ((served_some image disk stop old new replied faults bench SinkFault at.ends.2).sink_fault refl) later
+      let at : Ends (Worked (LoopEnded SinkFault)) = subst Ends ((of_lines end status is).2 told) h in
+      rose_stays old.sink_faults faults new.sink_faults ((served_some image disk stop old new replied faults bench (LoopEnded SinkFault) at.ends.2).sink_fault refl) later
 
-  stopped : (end : PairEnd ServeEnd) → status ≡ serve_status end → Ends end → status ≡ 10 → (steps : ℕ) × (stop ≡ Some steps)
-  stopped BootStopped is h told = stop_asked stop h.ends.1
-  stopped (Worked e) is h told = lines_stop image disk stop old new replied faults bench (subst Ends (worked e Stopped ((lines_end e status is).4 told)) h).ends.2
+  -- 10: the number that was asked for is told, or where a store trapped
+  abbrev StopTold : PairEnd LinesEnd → Type 0
+  StopTold end = ((steps : ℕ) × (stop ≡ Some steps) × (serve_line end image disk stop ≡ stopped_line steps)) ⊎ ((at : ℕ) × (trap_told end ≡ Some at) × (serve_line end image disk stop ≡ trapped_line at))
+
+  number_told : (end : PairEnd LinesEnd) → serve_line end image disk stop ≡ stop_line stop → (steps : ℕ) × (stop ≡ Some steps) → StopTold end
+  number_told end line asked = inl (asked.0, asked.1, line ∙ ap (λ (o : Option ℕ). stop_line o) asked.1)
+
+  loop_stopped : (e : ServeEnd) → e ≡ Stopped → Ends (Worked (LoopEnded e)) → StopTold (Worked (LoopEnded e))
+  loop_stopped e same h = number_told (Worked (LoopEnded e)) (ap (λ (f : ServeEnd). loop_line f stop) same) (lines_stop image disk stop old new replied faults bench (subst (λ (f : ServeEnd). Ends (Worked (LoopEnded f))) same h).ends.2)
+
+  stopped : (end : PairEnd LinesEnd) → status ≡ serve_status end → Ends end → status ≡ 10 → StopTold end
+  stopped BootStopped is h told = number_told BootStopped refl (stop_asked stop h.ends.1)
+  stopped (Worked (LoopEnded e)) is h told = loop_stopped e ((lines_end e status is).4 told) h
+  stopped (Worked (Trapped at)) is h told = inr (at.0, refl, refl)
   stopped (BadImage rule) is h told = absurd (omega (arith, is, told))
   stopped (BadVolume rule b) is h told = absurd (omega (arith, is, told))
   stopped BootFault is h told = absurd (omega (arith, is, told))
@@ -194,16 +202,16 @@ module _ (image disk : List ℕ) (stop : Option ℕ) (status : ℕ) (old new : O
   stopped (HostFault file) is h told = absurd (omega (arith, is, told))
   stopped (Unsaved e) is h told = absurd (omega (arith, is, told))
 
-  -- the machine that was left was stopped
-  abbrev LeftStopped : Type 0
-  LeftStopped = bench.tells ≡ true → (l : Leaving) × (bench.left ≡ Some l) × (l.stopped ≡ true)
+  -- the machine that was left was stopped, and has the trap that is told, or none
+  abbrev LeftStopped : PairEnd LinesEnd → Type 0
+  LeftStopped end = bench.tells ≡ true → (l : Leaving) × (bench.left ≡ Some l) × (l.stopped ≡ true) × (l.trapped ≡ trap_told end)
 
-  lines_left : IsDone (outset_at image disk stop old) (does_serve Stopped) (outcome_at new replied faults bench) → LeftStopped
-  lines_left d tells = let l = d.goes.left tells in (l.0, l.1, l.3 ∙ d.goes.leads.stopped refl)
+  lines_left : (e : LinesEnd) → loop_end e ≡ Stopped → IsDone (outset_at image disk stop old) (does_serve e) (outcome_at new replied faults bench) → LeftStopped (Worked e)
+  lines_left e stopped d tells = let l = d.goes.left tells in (l.0, l.1, l.3 ∙ d.goes.leads.stopped stopped, l.4 ∙ d.goes.leads.trapped stopped)
 
-  left_stopped : (end : PairEnd ServeEnd) → status ≡ serve_status end → Ends end → status ≡ 10 → LeftStopped
+  left_stopped : (end : PairEnd LinesEnd) → status ≡ serve_status end → Ends end → status ≡ 10 → LeftStopped end
   left_stopped BootStopped is h told = h.ends.2
-  left_stopped (Worked e) is h told = lines_left (subst Ends (worked e Stopped ((lines_end e status is).4 told)) h).ends.2
+  left_stopped (Worked e) is h told = lines_left e ((lines_end (loop_end e) status is).4 told) h.ends.2
   left_stopped (BadImage rule) is h told = absurd (omega (arith, is, told))
   left_stopped (BadVolume rule b) is h told = absurd (omega (arith, is, told))
   left_stopped BootFault is h told = absurd (omega (arith, is, told))
@@ -213,10 +221,6 @@ module _ (image disk : List ℕ) (stop : Option ℕ) (status : ℕ) (old new : O
   left_stopped (Unsaved e) is h told = absurd (omega (arith, is, told))
 
   -- ---- how much input there was
-
-  given_all : (taken : List ℕ) (left_after : Option (List ℕ)) (input : List ℕ) → Some input ≡ prepended taken left_after → (rest : List ℕ) × (left_after ≡ Some rest) × (input ≡ taken ++ rest)
-  given_all taken None input e = cc
-  given_all taken (Some rest) input e = (rest, refl, cc)
 
   at_limit : (taken : List ℕ) (left_after : Option (List ℕ)) (input : List ℕ) → Some input ≡ prepended taken left_after → length taken ≡ 2 ^ 40 + 1 → 2 ^ 40 < length input
   at_limit taken left_after input gave size =
@@ -234,22 +238,22 @@ module _ (image disk : List ℕ) (stop : Option ℕ) (status : ℕ) (old new : O
       let size : length rest ≡ length all.0 = ap length same in
       omega (arith, whole, none, size, few)
 
-  past_limit : Ends (Worked InputLimit) → (input : List ℕ) → old.left ≡ Some input → 2 ^ 40 < length input
+  past_limit : Ends (Worked (LoopEnded InputLimit)) → (input : List ℕ) → old.left ≡ Some input → 2 ^ 40 < length input
   past_limit h input has =
-      let run = (served_some image disk stop old new replied faults bench InputLimit h.ends.2).run in
+      let run = (served_some image disk stop old new replied faults bench (LoopEnded InputLimit) h.ends.2).run in
       at_limit run.2.taken new.left input (sym has ∙ run.2.gave) run.2.run.finish.0
 
-  limit : (end : PairEnd ServeEnd) → status ≡ serve_status end → Ends end → (input : List ℕ) → old.left ≡ Some input → status ≡ 11 → 2 ^ 40 < length input
+  limit : (end : PairEnd LinesEnd) → status ≡ serve_status end → Ends end → (input : List ℕ) → old.left ≡ Some input → status ≡ 11 → 2 ^ 40 < length input
   limit end is h input has told = past_limit (subst Ends ((of_lines end status is).3 told) h) input has
 
-  over : (end : PairEnd ServeEnd) → status ≡ serve_status end → Ends end → (input : List ℕ) → old.left ≡ Some input → 2 ^ 40 < length input → status ≢ 0
+  over : (end : PairEnd LinesEnd) → status ≡ serve_status end → Ends end → (input : List ℕ) → old.left ≡ Some input → 2 ^ 40 < length input → status ≢ 0
   over end is h input has more told =
-      let at : Ends (Worked End) = subst Ends ((of_lines end status is).0 told) h in
-      let run = (served_some image disk stop old new replied faults bench End at.ends.2).run in
+      let at : Ends (Worked (LoopEnded End)) = subst Ends ((of_lines end status is).0 told) h in
+      let run = (served_some image disk stop old new replied faults bench (LoopEnded End) at.ends.2).run in
       let few = at_end run.2.taken new.left input (sym has ∙ run.2.gave) run.2.run.finish.0 run.2.run.finish.2 in
       omega (arith, few, more)
 
-  causes : (end : PairEnd ServeEnd) → status ≡ serve_status end → Ends end → (status ≡ 0 → new.sink_faults ≡ faults) → faults ≤ new.sink_faults → ServeCauses end image disk stop status old new replied bench
+  causes : (end : PairEnd LinesEnd) → status ≡ serve_status end → Ends end → (status ≡ 0 → new.sink_faults ≡ faults) → faults ≤ new.sink_faults → ServeCauses end image disk stop status old new replied bench
   causes end is h line later = record {
     steady = λ told. steady end is h told line;
     image_refused = image_refused end is h;
@@ -270,23 +274,25 @@ module _ (image disk : List ℕ) (stop : Option ℕ) (status : ℕ) (old new : O
   abbrev Complete : Type 0
   Complete = (status ≡ 0) ⊎ (status ≡ 6)
 
-  complete : (end : PairEnd ServeEnd) → status ≡ serve_status end → Ends end → faults ≤ new.sink_faults → (i k : List ℕ) (s : State) (input : List ℕ) → HasPair old.files image disk i k s → stop ≡ None → old.left ≡ Some input → length input ≤ 2 ^ 40
-      → ¬ HostRose old new → ¬ SourceRose old new → ¬ SinkRose old new → Complete
-  complete (Worked End) is h later i k s input pair none has few no_host no_source no_sink = inl is
-  complete (Worked NoMemory) is h later i k s input pair none has few no_host no_source no_sink = inr is
-  complete (Worked SourceFault) is h later i k s input pair none has few no_host no_source no_sink = absurd (no_source (source_fault (Worked SourceFault) is h is))
-  complete (Worked SinkFault) is h later i k s input pair none has few no_host no_source no_sink = absurd (no_sink (sink_fault (Worked SinkFault) is h later is))
-  complete (Worked InputLimit) is h later i k s input pair none has few no_host no_source no_sink = absurd (let more = past_limit h input has in omega (arith, few, more))
-  complete (Worked Stopped) is h later i k s input pair none has few no_host no_source no_sink = let set = stopped (Worked Stopped) is h is in absurd (let e = set.1 in cc (none, e))
-  complete Memory is h later i k s input pair none has few no_host no_source no_sink = inr is
-  complete BootFault is h later i k s input pair none has few no_host no_source no_sink = absurd (no_host h.ends.1)
-  complete BootStopped is h later i k s input pair none has few no_host no_source no_sink = let set = stopped BootStopped is h is in absurd (let e = set.1 in cc (none, e))
-  complete (HostFault file) is h later i k s input pair none has few no_host no_source no_sink = absurd (no_host h.ends.2)
-  complete (Unsaved None) is h later i k s input pair none has few no_host no_source no_sink = absurd (no_host h.ends.0.rose)
-  complete (Unsaved (Some e)) is h later i k s input pair none has few no_host no_source no_sink = absurd (no_host h.ends.0.rose)
-  complete (Absent file) is h later i k s input pair none has few no_host no_source no_sink = absurd (h.every.sound i k s pair)
-  complete (BadImage rule) is h later i k s input pair none has few no_host no_source no_sink = absurd (h.every.sound i k s pair)
-  complete (BadVolume rule b) is h later i k s input pair none has few no_host no_source no_sink = absurd (h.every.sound i k s pair)
+  complete : (end : PairEnd LinesEnd) → status ≡ serve_status end → Ends end → faults ≤ new.sink_faults → (i k : List ℕ) (s : State) (input : List ℕ) → HasPair old.files image disk i k s → stop ≡ None → old.left ≡ Some input → length input ≤ 2 ^ 40
+      → AsksNoStrike s input → ¬ HostRose old new → ¬ SourceRose old new → ¬ SinkRose old new → Complete
+  complete (Worked (LoopEnded End)) is h later i k s input pair none has few quiet no_host no_source no_sink = inl is
+  complete (Worked (LoopEnded NoMemory)) is h later i k s input pair none has few quiet no_host no_source no_sink = inr is
+  complete (Worked (LoopEnded SourceFault)) is h later i k s input pair none has few quiet no_host no_source no_sink = absurd (no_source (source_fault (Worked (LoopEnded SourceFault)) is h is))
+  complete (Worked (LoopEnded SinkFault)) is h later i k s input pair none has few quiet no_host no_source no_sink = absurd (no_sink (sink_fault (Worked (LoopEnded SinkFault)) is h later is))
+  complete (Worked (LoopEnded InputLimit)) is h later i k s input pair none has few quiet no_host no_source no_sink = absurd (let more = past_limit h input has in omega (arith, few, more))
+  complete (Worked (LoopEnded Stopped)) is h later i k s input pair none has few quiet no_host no_source no_sink = let set = lines_stop image disk stop old new replied faults bench h.ends.2 in absurd (let e = set.1 in cc (none, e))
+  complete (Worked (Trapped at)) is h later i k s input pair none has few quiet no_host no_source no_sink =
+      let left = leaves_pair image disk stop old new replied faults bench (Worked (Trapped at)) i k s h pair (λ e. omega (arith, e)) in absurd (no_trap at s left.after old new replied input left.serves has quiet)
+  complete Memory is h later i k s input pair none has few quiet no_host no_source no_sink = inr is
+  complete BootFault is h later i k s input pair none has few quiet no_host no_source no_sink = absurd (no_host h.ends.1)
+  complete BootStopped is h later i k s input pair none has few quiet no_host no_source no_sink = let set = stop_asked stop h.ends.1 in absurd (let e = set.1 in cc (none, e))
+  complete (HostFault file) is h later i k s input pair none has few quiet no_host no_source no_sink = absurd (no_host h.ends.2)
+  complete (Unsaved None) is h later i k s input pair none has few quiet no_host no_source no_sink = absurd (no_host h.ends.0.rose)
+  complete (Unsaved (Some e)) is h later i k s input pair none has few quiet no_host no_source no_sink = absurd (no_host h.ends.0.rose)
+  complete (Absent file) is h later i k s input pair none has few quiet no_host no_source no_sink = absurd (h.every.sound i k s pair)
+  complete (BadImage rule) is h later i k s input pair none has few quiet no_host no_source no_sink = absurd (h.every.sound i k s pair)
+  complete (BadVolume rule b) is h later i k s input pair none has few quiet no_host no_source no_sink = absurd (h.every.sound i k s pair)
 
   -- ---- the bench
 
@@ -304,7 +310,7 @@ module _ (image disk : List ℕ) (stop : Option ℕ) (status : ℕ) (old new : O
   not_made n is none (inr (inr (inr (inr (inl e))))) = none.4 (sym is ∙ e)
   not_made n is none (inr (inr (inr (inr (inr e))))) = none.5 (sym is ∙ e)
 
-  image_saved : (end : PairEnd ServeEnd) → status ≡ serve_status end → Ends end → MadeStatus status → IsSaved Found Left
+  image_saved : (end : PairEnd LinesEnd) → status ≡ serve_status end → Ends end → MadeStatus status → IsSaved Found Left
   image_saved (Worked e) is h made = h.ends.1
   image_saved BootFault is h made = h.ends.0.is_saved
   image_saved BootStopped is h made = h.ends.0.is_saved
@@ -322,7 +328,7 @@ module _ (image disk : List ℕ) (stop : Option ℕ) (status : ℕ) (old new : O
   either_way (inl none) files = inr (none, files)
   either_way (inr saved) files = inl saved
 
-  out_of_memory : (end : PairEnd ServeEnd) → status ≡ serve_status end → Ends end → status ≡ 6 → SavedOrUnmade
+  out_of_memory : (end : PairEnd LinesEnd) → status ≡ serve_status end → Ends end → status ≡ 6 → SavedOrUnmade
   out_of_memory Memory is h told = either_way h.ends.1 h.ends.0.files
   out_of_memory (Worked e) is h told = inl h.ends.1
   out_of_memory BootFault is h told = absurd (omega (arith, is, told))
@@ -337,13 +343,13 @@ module _ (image disk : List ℕ) (stop : Option ℕ) (status : ℕ) (old new : O
   abbrev FailedSince : Type 0
   FailedSince = bench.tells ≡ true → (l : Leaving) × (bench.left ≡ Some l) × Rose l.faults new.host_faults
 
-  unsaved : (end : PairEnd ServeEnd) → status ≡ serve_status end → Ends end → (n : ℕ) → status ≡ 7 → bench.pages ≡ Some n → FailedSince
+  unsaved : (end : PairEnd LinesEnd) → status ≡ serve_status end → Ends end → (n : ℕ) → status ≡ 7 → bench.pages ≡ Some n → FailedSince
   unsaved (Unsaved None) is h n told made = h.ends.0.left
   unsaved (Unsaved (Some e)) is h n told made = h.ends.0.left
   unsaved (Absent Image) is h n told made = absurd (let none = h.ends.1 in cc (none, made))
   unsaved (Absent Disk) is h n told made = absurd (let none = h.ends.1 in cc (none, made))
   unsaved (HostFault file) is h n told made = absurd (let none = h.ends.1 in cc (none, made))
-  unsaved (Worked e) is h n told made = absurd ((no_lines e status is).4 told)
+  unsaved (Worked e) is h n told made = absurd ((no_lines (loop_end e) status is).4 told)
   unsaved BootFault is h n told made = absurd (omega (arith, is, told))
   unsaved BootStopped is h n told made = absurd (omega (arith, is, told))
   unsaved (BadImage rule) is h n told made = absurd (omega (arith, is, told))
@@ -352,7 +358,7 @@ module _ (image disk : List ℕ) (stop : Option ℕ) (status : ℕ) (old new : O
 
   -- ---- the run
 
-  pub serve_runs_as : (end : PairEnd ServeEnd) → status ≡ serve_status end → Ends end → (status ≡ 0 → new.sink_faults ≡ faults) → faults ≤ new.sink_faults → WritesLine (Rose faults new.sink_faults) replied (serve_line end image disk stop) new.written
+  pub serve_runs_as : (end : PairEnd LinesEnd) → status ≡ serve_status end → Ends end → (status ≡ 0 → new.sink_faults ≡ faults) → faults ≤ new.sink_faults → WritesLine (Rose faults new.sink_faults) replied (serve_line end image disk stop) new.written
       → ((n : ℕ) → bench.pages ≡ Some n → bench.tells ≡ true → HasBegun Found bench.began) → ((n : ℕ) → bench.pages ≡ Some n → bench.parted ≡ true) → ServeRuns image disk stop status old new bench
   serve_runs_as end is h line later told began parted = record {
     end = end;
@@ -363,7 +369,7 @@ module _ (image disk : List ℕ) (stop : Option ℕ) (status : ℕ) (old new : O
     pair = λ i k s pair fine. leaves_pair image disk stop old new replied faults bench end i k s h pair (λ seven. fine (is ∙ seven));
     causes = causes end is h line later;
     refusals = λ files told_files. refusals image disk stop status old new replied faults bench files told_files end is h;
-    complete = λ i k s input pair none has few no_host no_source no_sink. complete end is h later i k s input pair none has few no_host no_source no_sink;
+    complete = λ i k s input pair none has few quiet no_host no_source no_sink. complete end is h later i k s input pair none has few quiet no_host no_source no_sink;
     others = h.every.others;
     machine = record { began = began; parted = parted; saved = image_saved end is h; memory = out_of_memory end is h; unsaved = unsaved end is h };
     ended = h;

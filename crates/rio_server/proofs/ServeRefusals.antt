@@ -4,7 +4,6 @@ use Rattle.std.specs.Prelude.{Option, Some, None, ◌⊎◌}
 use Rattle.rio_base.specs.Hosts.{Files, HasSize, IsAbsent, IsFile}
 use Rattle.block_disk.specs.HostDisks.{IsDiskLength}
 use Rattle.rio_model.specs.VolumeFails.{FailsPair}
-use Rattle.rio_serving.specs.declared.ends.ServeEnd.{ServeEnd}
 use Rattle.pair_files.specs.Ends.{Ended}
 use Rattle.pair_files.specs.Images.{Breaks, FailsRule, HoldsImage}
 use Rattle.pair_files.specs.Pairs.{AreBlocksIn, BreaksVolume, file_of, pair_machine}
@@ -12,6 +11,7 @@ use Rattle.pair_files.specs.declared.ends.PairEnd.{PairEnd}
 use Rattle.pair_files.specs.declared.ends.PairEnd.TheVariants.{Absent, BadImage, BadVolume, BootFault, BootStopped, HostFault, Memory, Unsaved, Worked}
 use Rattle.pair_files.specs.declared.names.PairFile.TheVariants.{Image, Disk}
 use Rattle.pair_files.proofs.PairRules.{breaks_none, none_breaks, volume_none}
+use Rattle.pair_serving.specs.declared.ends.LinesEnd.{LinesEnd}
 use Rattle.rio_server.specs.Outside.{Benched, Outside}
 use Rattle.rio_server.specs.Serve.{Decided, ServeRefusals, does_serve, outcome_at, outset_at, serve_status}
 
@@ -50,10 +50,10 @@ disk_there told files image disk rule b is x none = by x.fails
 -- ---- each end
 
 module _ (image disk : List ℕ) (stop : Option ℕ) (status : ℕ) (old new : Outside) (replied : Option (List ℕ)) (faults : ℕ) (bench : Benched) (files : Files) (told : old.files ≡ Some files) where
-  abbrev Ends : PairEnd ServeEnd → Type 0
+  abbrev Ends : PairEnd LinesEnd → Type 0
   Ends end = Ended (outset_at image disk stop old) does_serve end (outcome_at new replied faults bench)
 
-  no_image : (end : PairEnd ServeEnd) → status ≡ serve_status end → Ends end → IsAbsent old.files image → Decided (end ≡ Absent Image) status old new
+  no_image : (end : PairEnd LinesEnd) → status ≡ serve_status end → Ends end → IsAbsent old.files image → Decided (end ≡ Absent Image) status old new
   no_image (Absent Image) is h none = inl refl
   no_image (Absent Disk) is h none = let image_is = h.ends.3 in absurd (not_there old.files files image image_is.holds.bytes told image_is.holds.file none)
   no_image (BadImage rule) is h none = let x = h.ends.1 in absurd (not_there old.files files image x.bytes told x.file none)
@@ -66,7 +66,7 @@ module _ (image disk : List ℕ) (stop : Option ℕ) (status : ℕ) (old new : O
   no_image (Unsaved None) is h none = inr (inr (is, h.ends.0.rose))
   no_image (Unsaved (Some e)) is h none = inr (inr (is, h.ends.0.rose))
 
-  bad_image : (end : PairEnd ServeEnd) → status ≡ serve_status end → Ends end → (rule : ℕ) → Breaks old.files image rule → Decided (status ≡ 3) status old new
+  bad_image : (end : PairEnd LinesEnd) → status ≡ serve_status end → Ends end → (rule : ℕ) → Breaks old.files image rule → Decided (status ≡ 3) status old new
   bad_image (BadImage r) is h rule breaks = inl is
   bad_image (Absent Image) is h rule breaks = absurd (not_there old.files files image breaks.bytes told breaks.file h.ends.2)
   bad_image (Absent Disk) is h rule breaks = absurd (holds_breaks old.files files image h.ends.2 rule told h.ends.3 breaks)
@@ -79,7 +79,7 @@ module _ (image disk : List ℕ) (stop : Option ℕ) (status : ℕ) (old new : O
   bad_image (Unsaved None) is h rule breaks = inr (inr (is, h.ends.0.rose))
   bad_image (Unsaved (Some e)) is h rule breaks = inr (inr (is, h.ends.0.rose))
 
-  no_disk : (end : PairEnd ServeEnd) → status ≡ serve_status end → Ends end → (words : List ℕ) → HoldsImage old.files image words → IsAbsent old.files disk → Decided (end ≡ Absent Disk) status old new
+  no_disk : (end : PairEnd LinesEnd) → status ≡ serve_status end → Ends end → (words : List ℕ) → HoldsImage old.files image words → IsAbsent old.files disk → Decided (end ≡ Absent Disk) status old new
   no_disk (Absent Disk) is h words holds none = inl refl
   no_disk (Absent Image) is h words holds none = absurd (not_there old.files files image holds.holds.bytes told holds.holds.file h.ends.2)
   no_disk (BadImage rule) is h words holds none = absurd (holds_breaks old.files files image words rule told holds h.ends.1)
@@ -92,7 +92,7 @@ module _ (image disk : List ℕ) (stop : Option ℕ) (status : ℕ) (old new : O
   no_disk (Unsaved None) is h words holds none = inr (inr (is, h.ends.0.rose))
   no_disk (Unsaved (Some e)) is h words holds none = inr (inr (is, h.ends.0.rose))
 
-  bad_volume : (end : PairEnd ServeEnd) → status ≡ serve_status end → Ends end → (rule b : ℕ) → BreaksVolume old.files image disk rule b → Decided ((status ≡ 4) ⊎ (status ≡ 5) ⊎ (status ≡ 10)) status old new
+  bad_volume : (end : PairEnd LinesEnd) → status ≡ serve_status end → Ends end → (rule b : ℕ) → BreaksVolume old.files image disk rule b → Decided ((status ≡ 4) ⊎ (status ≡ 5) ⊎ (status ≡ 10)) status old new
   bad_volume (BadVolume r c) is h rule b breaks = inl (inl is)
   bad_volume BootFault is h rule b breaks = inl (inr (inl is))
   bad_volume BootStopped is h rule b breaks = inl (inr (inr is))
@@ -105,5 +105,5 @@ module _ (image disk : List ℕ) (stop : Option ℕ) (status : ℕ) (old new : O
   bad_volume (Unsaved None) is h rule b breaks = inr (inr (is, h.ends.0.rose))
   bad_volume (Unsaved (Some e)) is h rule b breaks = inr (inr (is, h.ends.0.rose))
 
-  pub refusals : (end : PairEnd ServeEnd) → status ≡ serve_status end → Ends end → ServeRefusals end image disk status old new
+  pub refusals : (end : PairEnd LinesEnd) → status ≡ serve_status end → Ends end → ServeRefusals end image disk status old new
   refusals end is h = record { no_image = no_image end is h; bad_image = bad_image end is h; no_disk = no_disk end is h; bad_volume = bad_volume end is h }

@@ -15,17 +15,20 @@ use Rattle.pair_files.specs.Pairs.{HasPair}
 use Rattle.pair_files.specs.Scenes.{Scene, Streams, streams_of}
 use Rattle.pair_files.specs.declared.ends.PairEnd.{PairEnd}
 use Rattle.pair_files.specs.declared.ends.PairEnd.TheVariants.{Absent, BadImage, BadVolume, BootFault, BootStopped, HostFault, Memory, Unsaved, Worked}
-use Rattle.pair_serving.specs.ServedScenes.{Served}
+use Rattle.pair_serving.specs.ServedScenes.{RunsFrom, Served, trap_of}
+use Rattle.pair_serving.specs.declared.ends.LinesEnd.{LinesEnd}
+use Rattle.pair_serving.specs.declared.ends.LinesEnd.TheVariants.{Ended as LoopEnded, Trapped}
 use Rattle.pair_serving.proofs.Sizes.{keeps_then, part_keeps, run_keeps}
 use Rattle.rio_server.specs.Outside.{Benched, Outside}
-use Rattle.rio_server.specs.Serve.{LeavesPair, ReadsNoFlush, RunServes, ServesLines, does_serve, outcome_at, outset_at, serve_status}
+use Rattle.rio_server.specs.Serve.{LeavesPair, ReadsNoFlush, RunServes, ServesLines, StopsLines, does_serve, outcome_at, outset_at, serve_status}
+use Rattle.rio_server.proofs.StopCauses.{IsCalm, calm_at, stops_by}
 
 -- ---- scenes, by what is known of them
 
 abbrev pub scene_with : State → Scene → Streams → Scene
 scene_with s a p = record { state = s; health = a.health; below = a.below; streams = p }
 
-pub served_as : (s : State) (p q : Streams) (a b : Scene) (e : ServeEnd) → a.state ≡ s → a.streams ≡ p → b.streams ≡ q → Served a e b → Served (scene_with s a p) e (scene_with b.state b q)
+pub served_as : (s : State) (p q : Streams) (a b : Scene) (e : LinesEnd) → a.state ≡ s → a.streams ≡ p → b.streams ≡ q → Served a e b → Served (scene_with s a p) e (scene_with b.state b q)
 served_as s p q a b e state before after h =
     subst (λ (u : State). Served (scene_with u a p) e (scene_with b.state b q)) state
     (subst (λ (r : Streams). Served (scene_with a.state a r) e (scene_with b.state b q)) before
@@ -61,44 +64,52 @@ lines_by e s t after old new replied serves low high left counted first last = r
   faultless = λ none. none_told (faults_in serves.run.replies) old.host_faults new.host_faults none (rose_within (faults_in serves.run.replies) old.host_faults low high new.host_faults first last counted);
 }
 
+-- lines that were stopped
+stop_lines : (e : LinesEnd) (s : State) (old new : Outside) (replied : Option (List ℕ)) (faults : ℕ) (a b : Scene) → IsCalm s a.below → RunsFrom (scene_with s a (streams_before old)) Stopped (scene_with b.state b (streams_behind new replied faults)) → b.below.causes.trapped ≡ trap_of e → old.host_faults ≤ a.health.faults → b.health.faults ≤ new.host_faults
+    → StopsLines e s b.state old new replied
+stop_lines e s old new replied faults a b calm run trapped low high = record {
+  state = run.0;
+  request = run.1;
+  part = run.2;
+  stops = run.3;
+  is_part = run.4;
+  leaves = run.5;
+  stopped_by = stops_by s run.3.replied.requests run.3.replies run.1 a.health a.below run.6 run.7 b.health b.below calm run.8 run.9 e trapped;
+  faults = let more = run.9.later in rose_within (faults_in run.3.replies) old.host_faults a.health.faults run.6.faults new.host_faults low (omega (arith, more, high)) run.8.counted;
+}
+
 -- the run, and that where no line is a flush the disk is as the reboot left it
-abbrev pub RunTold : ServeEnd → State → Outside → Outside → Option (List ℕ) → Scene → Scene → Type 0
+abbrev pub RunTold : LinesEnd → State → Outside → Outside → Option (List ℕ) → Scene → Scene → Type 0
 RunTold e s old new replied a b = (run : RunServes (Worked e) s b.state old new replied) × (a.below.roomy ≡ true → ReadsNoFlush (Worked e) s b.state old new replied run → b.below.home ≡ a.below.home)
 
-run_told : (e : ServeEnd) (s : State) (old new : Outside) (replied : Option (List ℕ)) (faults : ℕ) (a b : Scene) → Served (scene_with s a (streams_before old)) e (scene_with b.state b (streams_behind new replied faults)) → old.host_faults ≤ a.health.faults → b.health.faults ≤ new.host_faults
+run_told : (e : LinesEnd) (s : State) (old new : Outside) (replied : Option (List ℕ)) (faults : ℕ) (a b : Scene) → IsCalm s a.below → Served (scene_with s a (streams_before old)) e (scene_with b.state b (streams_behind new replied faults)) → old.host_faults ≤ a.health.faults → b.health.faults ≤ new.host_faults
     → RunTold e s old new replied a b
-run_told End s old new replied faults a b h low high = (lines_by End s h.run.0 b.state old new replied h.run.2 a.health.faults b.health.faults h.run.1 h.run.3.counted low high, λ roomy none. h.quiet roomy none)
-run_told SourceFault s old new replied faults a b h low high = (lines_by SourceFault s h.run.0 b.state old new replied h.run.2 a.health.faults b.health.faults h.run.1 h.run.3.counted low high, λ roomy none. h.quiet roomy none)
-run_told SinkFault s old new replied faults a b h low high = (lines_by SinkFault s h.run.0 b.state old new replied h.run.2 a.health.faults b.health.faults h.run.1 h.run.3.counted low high, λ roomy none. h.quiet roomy none)
-run_told InputLimit s old new replied faults a b h low high = (lines_by InputLimit s h.run.0 b.state old new replied h.run.2 a.health.faults b.health.faults h.run.1 h.run.3.counted low high, λ roomy none. h.quiet roomy none)
-run_told NoMemory s old new replied faults a b h low high = (lines_by NoMemory s h.run.0 b.state old new replied h.run.2 a.health.faults b.health.faults h.run.1 h.run.3.counted low high, λ roomy none. h.quiet roomy none)
-run_told Stopped s old new replied faults a b h low high = (
-  record {
-    state = h.run.0;
-    request = h.run.1;
-    part = h.run.2;
-    stops = h.run.3;
-    is_part = h.run.4;
-    leaves = h.run.5;
-    faults = let more = h.run.9.later in rose_within (faults_in h.run.3.replies) old.host_faults a.health.faults h.run.6.faults new.host_faults low (omega (arith, more, high)) h.run.8.counted;
-  },
-  λ roomy none. h.quiet roomy none,
-)
+run_told (LoopEnded End) s old new replied faults a b calm h low high = (lines_by End s h.run.0 b.state old new replied h.run.2 a.health.faults b.health.faults h.run.1 h.run.3.counted low high, λ roomy none. h.quiet roomy none)
+run_told (LoopEnded SourceFault) s old new replied faults a b calm h low high = (lines_by SourceFault s h.run.0 b.state old new replied h.run.2 a.health.faults b.health.faults h.run.1 h.run.3.counted low high, λ roomy none. h.quiet roomy none)
+run_told (LoopEnded SinkFault) s old new replied faults a b calm h low high = (lines_by SinkFault s h.run.0 b.state old new replied h.run.2 a.health.faults b.health.faults h.run.1 h.run.3.counted low high, λ roomy none. h.quiet roomy none)
+run_told (LoopEnded InputLimit) s old new replied faults a b calm h low high = (lines_by InputLimit s h.run.0 b.state old new replied h.run.2 a.health.faults b.health.faults h.run.1 h.run.3.counted low high, λ roomy none. h.quiet roomy none)
+run_told (LoopEnded NoMemory) s old new replied faults a b calm h low high = (lines_by NoMemory s h.run.0 b.state old new replied h.run.2 a.health.faults b.health.faults h.run.1 h.run.3.counted low high, λ roomy none. h.quiet roomy none)
+run_told (LoopEnded Stopped) s old new replied faults a b calm h low high = (stop_lines (LoopEnded Stopped) s old new replied faults a b calm h.run (h.trapped refl) low high, λ roomy none. h.quiet roomy none)
+run_told (Trapped at) s old new replied faults a b calm h low high = (stop_lines (Trapped at) s old new replied faults a b calm h.run (h.trapped refl) low high, λ roomy none. h.quiet roomy none)
 
 -- no request changes the volume's sizes
-shape_kept : (e : ServeEnd) (s after : State) (old new : Outside) (replied : Option (List ℕ)) → RunServes (Worked e) s after old new replied → after.shape ≡ s.shape
-shape_kept Stopped s after old new replied h = ap (λ (u : State). u.shape) h.leaves ∙ (keeps_then s h.state h.part (run_keeps s _ _ h.state h.stops.replied.run) (part_keeps h.state h.request h.part h.is_part)).shape
-shape_kept End s after old new replied h = ap (λ (u : State). u.shape) h.leaves ∙ (run_keeps s _ _ h.state h.serves.run.replied.run).shape
-shape_kept SourceFault s after old new replied h = ap (λ (u : State). u.shape) h.leaves ∙ (run_keeps s _ _ h.state h.serves.run.replied.run).shape
-shape_kept SinkFault s after old new replied h = ap (λ (u : State). u.shape) h.leaves ∙ (run_keeps s _ _ h.state h.serves.run.replied.run).shape
-shape_kept InputLimit s after old new replied h = ap (λ (u : State). u.shape) h.leaves ∙ (run_keeps s _ _ h.state h.serves.run.replied.run).shape
-shape_kept NoMemory s after old new replied h = ap (λ (u : State). u.shape) h.leaves ∙ (run_keeps s _ _ h.state h.serves.run.replied.run).shape
+stop_shape : (e : LinesEnd) (s after : State) (old new : Outside) (replied : Option (List ℕ)) → StopsLines e s after old new replied → after.shape ≡ s.shape
+stop_shape e s after old new replied h = ap (λ (u : State). u.shape) h.leaves ∙ (keeps_then s h.state h.part (run_keeps s _ _ h.state h.stops.replied.run) (part_keeps h.state h.request h.part h.is_part)).shape
+
+shape_kept : (e : LinesEnd) (s after : State) (old new : Outside) (replied : Option (List ℕ)) → RunServes (Worked e) s after old new replied → after.shape ≡ s.shape
+shape_kept (Trapped at) s after old new replied h = stop_shape (Trapped at) s after old new replied h
+shape_kept (LoopEnded Stopped) s after old new replied h = stop_shape (LoopEnded Stopped) s after old new replied h
+shape_kept (LoopEnded End) s after old new replied h = ap (λ (u : State). u.shape) h.leaves ∙ (run_keeps s _ _ h.state h.serves.run.replied.run).shape
+shape_kept (LoopEnded SourceFault) s after old new replied h = ap (λ (u : State). u.shape) h.leaves ∙ (run_keeps s _ _ h.state h.serves.run.replied.run).shape
+shape_kept (LoopEnded SinkFault) s after old new replied h = ap (λ (u : State). u.shape) h.leaves ∙ (run_keeps s _ _ h.state h.serves.run.replied.run).shape
+shape_kept (LoopEnded InputLimit) s after old new replied h = ap (λ (u : State). u.shape) h.leaves ∙ (run_keeps s _ _ h.state h.serves.run.replied.run).shape
+shape_kept (LoopEnded NoMemory) s after old new replied h = ap (λ (u : State). u.shape) h.leaves ∙ (run_keeps s _ _ h.state h.serves.run.replied.run).shape
 
 -- ---- the pair
 
-worked_pair : (image disk : List ℕ) (stop : Option ℕ) (old new : Outside) (replied : Option (List ℕ)) (faults : ℕ) (bench : Benched) (e : ServeEnd) (i k : List ℕ) (s : State)
+worked_pair : (image disk : List ℕ) (stop : Option ℕ) (old new : Outside) (replied : Option (List ℕ)) (faults : ℕ) (bench : Benched) (e : LinesEnd) (i k : List ℕ) (s : State)
     → Works (outset_at image disk stop old) (does_serve e) (outcome_at new replied faults bench) i k s → LeavesPair (Worked e) image disk i k s old new replied
-worked_pair image disk stop old new replied faults bench e i k s w = by (run_told e s old new replied faults w.begin w.after (served_as s (streams_before old) (streams_behind new replied faults) w.begin w.after e w.goes.begins.state w.goes.begins.unread w.goes.ends w.goes.leads) w.goes.begins.counted w.counted)
+worked_pair image disk stop old new replied faults bench e i k s w = by (run_told e s old new replied faults w.begin w.after (calm_at (outset_at image disk stop old) s w.begin w.goes.begins) (served_as s (streams_before old) (streams_behind new replied faults) w.begin w.after e w.goes.begins.state w.goes.begins.unread w.goes.ends w.goes.leads) w.goes.begins.counted w.counted)
   where
     by : RunTold e s old new replied w.begin w.after → LeavesPair (Worked e) image disk i k s old new replied
     by (run, quiet) = record {
@@ -110,7 +121,7 @@ worked_pair image disk stop old new replied faults bench e i k s w = by (run_tol
       restored = λ roomy none. w.restored roomy (quiet (w.roomy roomy) none) (shape_kept e s w.after.state old new replied run);
     }
 
-pub leaves_pair : (image disk : List ℕ) (stop : Option ℕ) (old new : Outside) (replied : Option (List ℕ)) (faults : ℕ) (bench : Benched) (end : PairEnd ServeEnd) (i k : List ℕ) (s : State)
+pub leaves_pair : (image disk : List ℕ) (stop : Option ℕ) (old new : Outside) (replied : Option (List ℕ)) (faults : ℕ) (bench : Benched) (end : PairEnd LinesEnd) (i k : List ℕ) (s : State)
     → Ended (outset_at image disk stop old) does_serve end (outcome_at new replied faults bench) → HasPair old.files image disk i k s → serve_status end ≢ 7 → LeavesPair end image disk i k s old new replied
 leaves_pair image disk stop old new replied faults bench (Worked e) i k s h pair fine = worked_pair image disk stop old new replied faults bench e i k s (h.ends.3 i k s pair)
 leaves_pair image disk stop old new replied faults bench Memory i k s h pair fine = record {
