@@ -370,8 +370,8 @@ sink_end p s t u start mid reader left told now written written_mid written_now 
 
 -- the machine stopped on a request
 pub stopped_end : {Request Reply State : Type 0} (p : Protocol Request Reply State) (s t : State) (start mid reader : Reading) (left told now written written_mid : Option (List ℕ)) (request : Option Request) (r : Request) (h : Health) (b : Below) (i : Health) (c : Below)
-    → start.held ≡ [] → Took p s t start left mid told written written_mid h b i c → AsksFor p.means mid told request reader now → request ≡ Some r → (stop : StopsOn p s t r left now written written_mid) × p.went stop.replied.requests stop.replies h b i c
-stopped_end p s t start mid reader left told now written written_mid request r h b i c fresh took asks is =
+    → start.held ≡ [] → start.taken ≡ 0 → Took p s t start left mid told written written_mid h b i c → AsksFor p.means mid told request reader now → request ≡ Some r → (stop : StopsOn p s t r left now written written_mid) × p.went stop.replied.requests stop.replies h b i c
+stopped_end p s t start mid reader left told now written written_mid request r h b i c fresh none took asks is =
     let fed = fed_more start mid reader left told now took.answered asks.line took.so_far asks.unended asks.takes in (
       record {
         taken = fed.passed.given;
@@ -381,6 +381,7 @@ stopped_end p s t start mid reader left told now written written_mid request r h
         line = asks.line;
         means = subst (p.means asks.line) is asks.asks;
         first = first_of start reader left now (took.answered ++ asks.line ∷ []) fed fresh asks.closed;
+        within = few_given start reader fed.passed.given none fed.passed.count asks.within;
         replied = took.replied;
         wrote = took.wrote;
       },

@@ -62,14 +62,14 @@ each_sink p held mid_holds holds stands start mid reader left told now written w
     run_ends p holds stands s step.0 SinkFault left now written written_now h b j d step.2 (sink_end p s before.0 step.0 start mid reader left told now written written_mid written_now request reply h b i c j d more fresh none before.2 asks step.1 went cut)
 
 -- the machine stopped on a request
-pub each_stop : {Request Reply State T E : Type 0} (q : Result T E) (p : Protocol Request Reply State) (held mid_holds holds stands : State → Type 0) (start mid reader : Reading) (left told now written written_mid : Option (List ℕ)) (request : Option Request) (h : Health) (b : Below) (i : Health) (c : Below) (j : Health) (d : Below) → start.held ≡ []
+pub each_stop : {Request Reply State T E : Type 0} (q : Result T E) (p : Protocol Request Reply State) (held mid_holds holds stands : State → Type 0) (start mid reader : Reading) (left told now written written_mid : Option (List ℕ)) (request : Option Request) (h : Health) (b : Below) (i : Health) (c : Below) (j : Health) (d : Below) → start.held ≡ [] → start.taken ≡ 0
     → TookEach p held mid_holds start left mid told written written_mid h b i c → AsksFor p.means mid told request reader now → ((s : State) → mid_holds s → (r : Request) × (request ≡ Some r) × (t : State) × p.part s r t × stands t)
     → ((r : Request) → request ≡ Some r → p.stopped_on r i c j d) → OnErr q ((s : State) → held s → RunEnds p holds stands s Stopped left now written written_mid h b j d)
-each_stop (Ok value) p held mid_holds holds stands start mid reader left told now written written_mid request h b i c j d fresh took asks stopped cause = tt
-each_stop (Err e) p held mid_holds holds stands start mid reader left told now written written_mid request h b i c j d fresh took asks stopped cause = λ s is.
+each_stop (Ok value) p held mid_holds holds stands start mid reader left told now written written_mid request h b i c j d fresh none took asks stopped cause = tt
+each_stop (Err e) p held mid_holds holds stands start mid reader left told now written written_mid request h b i c j d fresh none took asks stopped cause = λ s is.
     let before = took s is in
     let stop = stopped before.0 before.1 in
-    let ends = stopped_end p s before.0 start mid reader left told now written written_mid request stop.0 h b i c fresh before.2 asks stop.1 in
+    let ends = stopped_end p s before.0 start mid reader left told now written written_mid request stop.0 h b i c fresh none before.2 asks stop.1 in
     (before.0, stop.0, stop.2, ends.0, stop.3, stop.4, i, c, ends.1, cause stop.0 stop.1)
 
 -- there was no memory for the reader itself

@@ -83,7 +83,8 @@ pub record Serves {Request Reply State : Type 0} (p : Protocol Request Reply Sta
 
 -- ---- a run that was stopped on a request
 
--- t is the state after the answered lines. The line after them asks for r, and no reply to it was written
+-- t is the state after the answered lines. The line after them asks for r, and no reply to it was written. No more bytes were
+-- taken than the limit allows
 pub record StopsOn {Request Reply State : Type 0} (p : Protocol Request Reply State) (s t : State) (r : Request) (left left_after written written_after : Option (List ℕ)) : Type 0 where
   pub taken : List ℕ
   pub gave : left ≡ prepended taken left_after
@@ -92,6 +93,7 @@ pub record StopsOn {Request Reply State : Type 0} (p : Protocol Request Reply St
   pub line : List ℕ
   pub means : p.means line (Some r)
   pub first : AreFirst taken left_after (answered ++ line ∷ [])
+  pub within : length taken ≤ 2 ^ 40
   pub replied : Replied p s answered replies t
   pub wrote : written_after ≡ appended written (texts p.text replies)
 

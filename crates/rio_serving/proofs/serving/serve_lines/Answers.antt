@@ -43,7 +43,7 @@ returns-in_err-reply-clause-stopped g c =
     let mid = c.loop-request.core in
     let core = c.reply_to.new.core in
     each_stop c.from_residual.result server.protocol (server.holds old) (server.holds mid) (server.holds core) (server.stands core) c.args.reader.now c.loop-request.reader c.ask.new.reader (left c.args.source.now) (left c.loop-request.source) (left c.ask.new.source) (written c.args.sink.now) (written c.loop-request.sink) c.in-Ok.request (server.health old) (server.below old) (server.health mid) (server.below mid) (server.health core) (server.below core)
-    (ap (λ (r : Reading). r.held) c.requires.fresh) c.loop-request.invariant.took c.in-Ok.ensures.line c.in_err-reply.ensures.answered c.in_err-reply.ensures.stopped
+    (ap (λ (r : Reading). r.held) c.requires.fresh) (ap (λ (r : Reading). r.taken) c.requires.fresh) c.loop-request.invariant.took c.in-Ok.ensures.line c.in_err-reply.ensures.answered c.in_err-reply.ensures.stopped
 
 pub returns-in-Err-send-clause-run : goal.returns-in-Err-send-clause-run
 returns-in-Err-send-clause-run g c =
