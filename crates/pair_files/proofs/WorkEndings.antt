@@ -103,6 +103,7 @@ restored o shape c d r q t x i k s u whole h booted pair now st roomy home same 
   words = h.old.words;
   scratch = h.run.scratch;
   in_image = subst (λ (bs : List ℕ). IsImageOf bs (h.old.words ++ h.run.scratch)) (one_file o.told o.image i h.made.bytes pair.image_file h.made.file) h.made.are;
+  layout = h.made.layout;
   old = h.old.disk;
   new = now.blocks;
   in_disk = subst (λ (bs : List ℕ). AreBlocksIn bs h.old.disk) (one_file o.told o.disk k (bytes_of h.made.disk.words) pair.disk_file h.made.disk.file.bytes) (made_in o h.old h.run h.made);

@@ -9,6 +9,7 @@ use Rattle.block_disk.specs.HostDisks.{IsDiskLength}
 use Rattle.rio_model.specs.declared.state.State.{State}
 use Rattle.rio_model.specs.Cover.{stands}
 use Rattle.rio_model.specs.Placed.{volume_layout}
+use Rattle.rio_model.specs.Registry.{HasLayout}
 use Rattle.rio_model.specs.Standing.{Restored, StandsFor}
 use Rattle.rio_model.specs.VolumeFails.{FailsPair}
 use Rattle.pair_files.specs.Images.{HoldsImage, IsImageOf}
@@ -62,11 +63,13 @@ pub record BreaksVolume (told : Option Files) (image disk : List ℕ) (rule b : 
 abbrev pub IsRoomy : List ℕ → List ℕ → Type 0
 IsRoomy image disk = length disk ≤ 4096 * word_at image 2
 
--- of a pair that stands for s, the bytes `now` are those of the disk with each page that counts and is wanted put at its block
+-- of a pair that stands for s, the bytes `now` are those of the disk with each page that counts and is wanted put at its block.
+-- The entries are those of the words that the image's sizes say are protected
 pub record IsRestored (image disk now : List ℕ) (s : State) : Type 0 where
   pub words : List ℕ
   pub scratch : List ℕ
   pub in_image : IsImageOf image (words ++ scratch)
+  pub layout : HasLayout words scratch
   pub old : List (List ℕ)
   pub new : List (List ℕ)
   pub in_disk : AreBlocksIn disk old
