@@ -24,7 +24,7 @@ use Rattle.pair_files.specs.declared.ends.PairEnd.TheVariants.{Absent as NoFile,
 use Rattle.pair_files.specs.declared.failures.LoadFail.{LoadFail}
 use Rattle.pair_files.specs.declared.failures.LoadFail.TheVariants.{Absent, BadImage, BadLength, Fault, Memory as LoadMemory}
 use Rattle.pair_files.specs.declared.names.PairFile.TheVariants.{Image, Disk}
-use Rattle.pair_files.specs.Ends.{EndedEarly, Ended, EndsEarly, EndsNoBreach, EndsSound, IsSaved, IsSomePair, IsUnsaved, KeepsPair, Outcome, Outset, PairEnds, Untouched}
+use Rattle.pair_files.specs.Ends.{AreFound, EndedEarly, Ended, EndsEarly, EndsNoBreach, EndsSound, IsSaved, IsSomePair, IsUnsaved, KeepsPair, Outcome, Outset, PairEnds, Untouched}
 use Rattle.pair_files.specs.Images.{HoldsImage, IsImageOf}
 use Rattle.pair_files.specs.Loads.{IsDiskLoaded, Misses, TellsNoBreach}
 use Rattle.pair_files.specs.Pairs.{AreBlocksIn, BreaksVolume, HasPair, file_of}
@@ -70,7 +70,7 @@ unloaded_ends E o BadLength x u none (inr (words, holds, (size, is, long))) = (u
 unloaded_ends E o (Fault Image) x u none (inl h) = (u, none, h)
 unloaded_ends E o (Fault Image) x u none (inr h) = absurd h.2
 unloaded_ends E o (Fault Disk) x u none (inl h) = absurd h
-unloaded_ends E o (Fault Disk) x u none (inr h) = (u, none, h.2)
+unloaded_ends E o (Fault Disk) x u none (inr (words, holds, h)) = (u, none, h, words, holds)
 unloaded_ends E o LoadMemory x u none h = (u, inl none)
 
 no_breach : (E : Type 0) (fail : LoadFail) → TellsNoBreach fail → EndsNoBreach {E = E} (end_of fail)
@@ -140,6 +140,10 @@ made_pair o c r s m h = λ files e. (
 -- its image keeps its rules
 made_holds : (o : Outset) (c : Contents) (r : Running) → IsMade o c r → HoldsImage o.told o.image c.words
 made_holds o c r m = record { scratch = r.scratch; holds = record { bytes = m.bytes; file = m.file; are = m.are }; layout = m.layout; keeps = m.keeps }
+
+-- it was made of files that were found
+pub made_found : (o : Outset) (c : Contents) (r : Running) → IsMade o c r → AreFound o
+made_found o c r m = record { words = c.words; disk_words = m.disk.words; image_file = made_holds o c r m; disk_file = m.disk.file }
 
 -- ---- a machine was taken back
 
@@ -220,17 +224,18 @@ ended_volume o c r rule b x h leaves streams counted =
     }
 
 -- the image could not be saved
-pub unsaved_is : (o : Outset) (c : Contents) (r : Running) (x : Outcome) → o.image ≢ o.disk → o.faults ≤ c.faults.count → UnsavedAs o c r x → IsUnsaved o x
-unsaved_is o c r x two counted h = record {
+pub unsaved_is : (o : Outset) (c : Contents) (r : Running) (x : Outcome) → AreFound o → o.image ≢ o.disk → o.faults ≤ c.faults.count → UnsavedAs o c r x → IsUnsaved o x
+unsaved_is o c r x found two counted h = record {
+  found = found;
   image = others_unsaved o c x.told o.image h.leaves two;
   rose = rose_later o.faults c.faults.count x.faults counted h.rose;
   made = h.made;
   left = λ e. (left_by c r, h.told e, h.rose);
 }
 
-ended_unsaved : {E : Type 0} (o : Outset) (c : Contents) (r : Running) (x : Outcome) → o.image ≢ o.disk → o.faults ≤ c.faults.count → x.streams ≡ o.streams → UnsavedAs o c r x → EndedEarly {E = E} o (Unsaved None) x
-ended_unsaved o c r x two counted streams h = record {
-  ends = (unsaved_is o c r x two counted h, streams);
+ended_unsaved : {E : Type 0} (o : Outset) (c : Contents) (r : Running) (x : Outcome) → AreFound o → o.image ≢ o.disk → o.faults ≤ c.faults.count → x.streams ≡ o.streams → UnsavedAs o c r x → EndedEarly {E = E} o (Unsaved None) x
+ended_unsaved o c r x found two counted streams h = record {
+  ends = (unsaved_is o c r x found two counted h, streams);
   every = record { sound = λ i k s pair. tt; others = λ name image disk. others_unsaved o c x.told name h.leaves disk; counted = omega (arith, counted, h.counted) };
 }
 
@@ -264,7 +269,7 @@ ended_memory o c r x h streams saved = record { ends = (u, inr (saved_is o c r x
 -- what was stood for is stood for
 kept_pair : (o : Outset) (c : Contents) (r : Running) (fail : BootFail) (x : Outcome) → (h : IsFailed o c r fail) → o.image ≢ o.disk → x.streams ≡ o.streams → SavedAs o c r x → ((s : State) → StandsFor h.old (length h.run.scratch) s → StandsFor c (length r.scratch) s) → KeepsPair o x
 kept_pair o c r fail x h two streams saved survives = record {
-  found = record { words = h.old.words; disk_words = h.made.disk.words; image_file = made_holds o h.old h.run h.made; disk_file = h.made.disk.file };
+  found = made_found o h.old h.run h.made;
   unread = streams;
   is_saved = saved_is o c r x saved;
   pair = λ i k s pair.
@@ -300,15 +305,15 @@ ended_stopped o c r x h two streams saved = record {
     cause = stop_given (causes_of h.run) (causes_of r) h.run.stopped r.stopped h.made.running h.unbooted.0 h.made.unarmed h.runs.cause
 
 -- either the image was saved, or it was not
-either : {E : Type 0} (o : Outset) (c : Contents) (r : Running) (x : Outcome) (end told : PairEnd E) → o.image ≢ o.disk → o.faults ≤ c.faults.count → x.streams ≡ o.streams → (SavedAs o c r x → EndedEarly o end x) → SavedOrNot end told o c r x → EndedEarly o told x
-either {E} o c r x end told two counted streams on (inl (is, saved)) = subst (λ (y : PairEnd E). EndedEarly o y x) (sym is) (on saved)
-either {E} o c r x end told two counted streams on (inr (is, unsaved)) = subst (λ (y : PairEnd E). EndedEarly o y x) (sym is) (ended_unsaved o c r x two counted streams unsaved)
+either : {E : Type 0} (o : Outset) (c : Contents) (r : Running) (fail : BootFail) (x : Outcome) (end told : PairEnd E) → o.image ≢ o.disk → x.streams ≡ o.streams → IsFailed o c r fail → (SavedAs o c r x → EndedEarly o end x) → SavedOrNot end told o c r x → EndedEarly o told x
+either {E} o c r fail x end told two streams h on (inl (is, saved)) = subst (λ (y : PairEnd E). EndedEarly o y x) (sym is) (on saved)
+either {E} o c r fail x end told two streams h on (inr (is, unsaved)) = subst (λ (y : PairEnd E). EndedEarly o y x) (sym is) (ended_unsaved o c r x (made_found o h.old h.run h.made) two (failed_counted o c r fail h) streams unsaved)
 
 pub either_memory : {E : Type 0} (o : Outset) (c : Contents) (r : Running) (x : Outcome) (told : PairEnd E) → o.image ≢ o.disk → x.streams ≡ o.streams → IsFailed o c r BootMemory → SavedOrNot Memory told o c r x → EndedEarly o told x
-either_memory o c r x told two streams h = either o c r x Memory told two (failed_counted o c r BootMemory h) streams (ended_memory o c r x h streams)
+either_memory o c r x told two streams h = either o c r BootMemory x Memory told two streams h (ended_memory o c r x h streams)
 
 pub either_fault : {E : Type 0} (o : Outset) (c : Contents) (r : Running) (x : Outcome) (told : PairEnd E) → o.image ≢ o.disk → x.streams ≡ o.streams → IsFailed o c r BootFaulted → SavedOrNot BootFault told o c r x → EndedEarly o told x
-either_fault o c r x told two streams h = either o c r x BootFault told two (failed_counted o c r BootFaulted h) streams (ended_fault o c r x h two streams)
+either_fault o c r x told two streams h = either o c r BootFaulted x BootFault told two streams h (ended_fault o c r x h two streams)
 
 pub either_stopped : {E : Type 0} (o : Outset) (c : Contents) (r : Running) (x : Outcome) (told : PairEnd E) → o.image ≢ o.disk → x.streams ≡ o.streams → IsFailed o c r BootStop → SavedOrNot BootStopped told o c r x → EndedEarly o told x
-either_stopped o c r x told two streams h = either o c r x BootStopped told two (failed_counted o c r BootStop h) streams (ended_stopped o c r x h two streams)
+either_stopped o c r x told two streams h = either o c r BootStop x BootStopped told two streams h (ended_stopped o c r x h two streams)

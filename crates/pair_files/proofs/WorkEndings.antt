@@ -25,7 +25,7 @@ use Rattle.pair_files.specs.Scenes.{IsBooted, LastsBelow, Scene, Streams, scene_
 use Rattle.pair_files.specs.Stages.{IsMade, IsStarted, SavedAs, UnsavedAs}
 use Rattle.pair_files.proofs.BytesIn.{word_back}
 use Rattle.pair_files.proofs.LeftFiles.{files_told, one_file}
-use Rattle.pair_files.proofs.Endings.{PairNow, every_saved, made_in, made_pair, made_stands, others_unsaved, saved_is, saved_pair, unsaved_is}
+use Rattle.pair_files.proofs.Endings.{PairNow, every_saved, made_found, made_in, made_pair, made_stands, others_unsaved, saved_is, saved_pair, unsaved_is}
 
 -- ---- where it begins
 
@@ -175,7 +175,7 @@ ended_worked o does e shape c d r q t x streams whole two given h done lasts sav
 pub ended_unsaved_work : {E : Type 0} (o : Outset) (does : E → Scene → Scene → Type 0) (e : E) (shape : VolumeShape) (c d : Contents) (r q : Running) (t : CacheTables) (x : Outcome) (streams : Streams) → o.image ≢ o.disk → o.streams ≡ streams → IsStarted o shape c r t → WorkDone does e shape c r t streams d q x.streams → LastsBelow (cache_health c r) (cache_below c r) (cache_health d q) (cache_below d q) → UnsavedAs o d q x → Ended o does (Unsaved (Some e)) x
 ended_unsaved_work o does e shape c d r q t x streams two given h done lasts unsaved = record {
   ends = (
-    unsaved_is o d q x two counted unsaved,
+    unsaved_is o d q x (made_found o h.old h.run h.made) two counted unsaved,
     λ i k s pair.
         let booted = h.booted s (made_stands o h.old h.run i k s h.made pair) in
         let led = done s booted in

@@ -120,8 +120,9 @@ pub record WorksUnsaved (o : Outset) (does : Scene → Scene → Type 0) (x : Ou
   pub goes : Goes o does x s begin after
   pub rose : Rose after.health.faults x.faults
 
--- the image is as before, and the count of faults rose since the machine was left
+-- a machine was made of the files, the image is as before, and the count of faults rose since the machine was left
 pub record IsUnsaved (o : Outset) (x : Outcome) : Type 0 where
+  pub found : AreFound o
   pub image : file_of x.told o.image ≡ file_of o.told o.image
   pub rose : Rose o.faults x.faults
   pub made : (n : ℕ) × (x.pages ≡ Some n)
@@ -139,7 +140,8 @@ EndsEarly o (Absent Image) x = Untouched o x × (x.pages ≡ None) × IsAbsent o
 EndsEarly o (Absent Disk) x = Untouched o x × (x.pages ≡ None) × (words : List ℕ) × HoldsImage o.told o.image words × IsAbsent o.told o.disk
 EndsEarly o (BadImage rule) x = Untouched o x × Breaks o.told o.image rule
 EndsEarly o (BadVolume rule b) x = Untouched o x × BreaksVolume o.told o.image o.disk rule b.0
-EndsEarly o (HostFault file) x = Untouched o x × (x.pages ≡ None) × Rose o.faults x.faults
+EndsEarly o (HostFault Image) x = Untouched o x × (x.pages ≡ None) × Rose o.faults x.faults
+EndsEarly o (HostFault Disk) x = Untouched o x × (x.pages ≡ None) × Rose o.faults x.faults × (words : List ℕ) × HoldsImage o.told o.image words
 EndsEarly o Memory x = Untouched o x × ((x.pages ≡ None) ⊎ IsSaved o x)
 EndsEarly o BootFault x = KeepsPair o x × Rose o.faults x.faults
 EndsEarly o BootStopped x = KeepsPair o x × (is_some o.stop ≡ true) × (x.tells ≡ true → (l : Leaving) × (x.left ≡ Some l) × (l.stopped ≡ true) × (l.trapped ≡ None))
