@@ -48,7 +48,7 @@ disk_missed (Absent Disk) image disk words rose files holds h = (words, holds, h
 disk_missed (BadImage rule) image disk words rose files holds h = absurd h
 disk_missed BadLength image disk words rose files holds h = record { words = words; holds = holds; fails = inl (refl, refl, h.0, h.1, h.2) }
 disk_missed (Fault Image) image disk words rose files holds h = absurd h
-disk_missed (Fault Disk) image disk words rose files holds h = h
+disk_missed (Fault Disk) image disk words rose files holds h = (h, words, holds)
 disk_missed Memory image disk words rose files holds h = tt
 
 finds_unloaded : (fail : LoadFail) (image disk : List ℕ) (rose : Type 0) (files : Option Files) → Misses fail image disk rose files → Finds (unloaded_end fail) image disk rose files
@@ -66,7 +66,8 @@ finds_later (VolumeRefused rule at) image disk files a b c less h = h
 finds_later NoMemory image disk files a b c less h = h
 finds_later (NotThere Image) image disk files a b c less h = h
 finds_later (NotThere Disk) image disk files a b c less h = h
-finds_later (NotRead file) image disk files a b c less h = rose_later a b c less h
+finds_later (NotRead Image) image disk files a b c less h = rose_later a b c less h
+finds_later (NotRead Disk) image disk files a b c less (h, words, holds) = (rose_later a b c less h, words, holds)
 
 pub found_later : (a b c : ℕ) (end : CheckEnd) (image disk : List ℕ) (files : Option Files) → a ≤ b → Found end image disk (Rose b c) files → Found end image disk (Rose a c) files
 found_later a b c end image disk files less h = record { finds = finds_later end image disk files a b c less h.finds }
@@ -122,7 +123,8 @@ finds_examined (VolumeRefused rule b) told image disk bytes words scratch d c ne
   holds = loaded_holds told image bytes words scratch loaded;
   fails = inr (bytes_of on.words, blocks_of on.words, on.file.bytes, blocks_of_in on.words (length on.words / 512) (file_blocks on.words on.file.long) on.file.fit, fails_pair c (protected_of words scratch) (blocks_of on.words) rule b.0 words_are (blocks_are ∙ on.blocks) h);
 }
-finds_examined (NotRead file) told image disk bytes words scratch d c new n rose loaded on words_are blocks_are long later h = later h
+finds_examined (NotRead Image) told image disk bytes words scratch d c new n rose loaded on words_are blocks_are long later h = absurd h
+finds_examined (NotRead Disk) told image disk bytes words scratch d c new n rose loaded on words_are blocks_are long later h = (later h, protected_of words scratch, loaded_holds told image bytes words scratch loaded)
 finds_examined NoMemory told image disk bytes words scratch d c new n rose loaded on words_are blocks_are long later h = tt
 finds_examined (NotThere file) told image disk bytes words scratch d c new n rose loaded on words_are blocks_are long later h = absurd h
 
@@ -174,7 +176,8 @@ check_complete image disk status host_rose sink_rose files written written_now c
     at (VolumeRefused rule b) is finds = inr (inr (inl is))
     at NoMemory is finds = inr (inr (inr (inl is)))
     at (NotThere file) is finds = inr (inr (inr (inr (is, absent_one file image disk host_rose files finds))))
-    at (NotRead file) is finds = absurd (no_host finds)
+    at (NotRead Image) is finds = absurd (no_host finds)
+    at (NotRead Disk) is finds = absurd (no_host finds.0)
 
 pub check_fault : (image disk : List ℕ) (status : ℕ) (host_rose sink_rose : Type 0) (files : Option Files) (written written_now : Option (List ℕ))
     → Checks image disk status host_rose sink_rose files written written_now → status ≡ 7 → host_rose ⊎ (IsAbsent files image ⊎ IsAbsent files disk)
@@ -186,7 +189,8 @@ check_fault image disk status host_rose sink_rose files written written_now chec
     at (VolumeRefused rule b) is finds = absurd (omega (arith, is, told))
     at NoMemory is finds = absurd (omega (arith, is, told))
     at (NotThere file) is finds = inr (absent_one file image disk host_rose files finds)
-    at (NotRead file) is finds = inl finds
+    at (NotRead Image) is finds = inl finds
+    at (NotRead Disk) is finds = inl finds.0
 
 pub check_sound : (image disk : List ℕ) (status : ℕ) (host_rose sink_rose : Type 0) (files : Option Files) (written written_now : Option (List ℕ))
     → Checks image disk status host_rose sink_rose files written written_now
@@ -200,7 +204,8 @@ check_sound image disk status host_rose sink_rose files written written_now chec
     at (VolumeRefused rule b) is finds sure = absurd sure
     at NoMemory is finds sure = inr is
     at (NotThere file) is finds sure = absurd sure
-    at (NotRead file) is finds sure = absurd (no_host finds)
+    at (NotRead Image) is finds sure = absurd (no_host finds)
+    at (NotRead Disk) is finds sure = absurd (no_host finds.0)
 
 -- ---- the image of `registry`
 

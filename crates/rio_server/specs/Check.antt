@@ -87,7 +87,8 @@ Finds (BadVolume rule b) image disk rose files = BreaksVolume files image disk r
 Finds Memory image disk rose files = Unit {0}
 Finds (Absent Image) image disk rose files = IsAbsent files image
 Finds (Absent Disk) image disk rose files = (words : List ℕ) × HoldsImage files image words × IsAbsent files disk
-Finds (HostFault file) image disk rose files = rose
+Finds (HostFault Image) image disk rose files = rose
+Finds (HostFault Disk) image disk rose files = rose × (words : List ℕ) × HoldsImage files image words
 
 -- the same, as a record
 pub record Found (end : CheckEnd) (image disk : List ℕ) (rose : Type 0) (files : Option Files) : Type 0 where
@@ -137,7 +138,8 @@ abbrev pub Examines : CheckEnd → Contents → ℕ → Contents → Type 0
 Examines (Sound census) c scratch new = (s : State) × StandsFor c scratch s × IsCensus s census
 Examines (BadImage rule) c scratch new = FailsRegistry c.words rule
 Examines (BadVolume rule b) c scratch new = FailsPair c rule b.0
-Examines (HostFault file) c scratch new = Rose c.faults.count new.faults.count
+Examines (HostFault Image) c scratch new = ⊥
+Examines (HostFault Disk) c scratch new = Rose c.faults.count new.faults.count
 Examines Memory c scratch new = Unit {0}
 Examines (Absent file) c scratch new = ⊥
 
