@@ -18,7 +18,7 @@ use Rattle.rio_model.proofs.StandingStates.{AreWhole}
 use Rattle.page_cache.specs.Caches.{cache_below, cache_health, is_roomy}
 use Rattle.page_cache.specs.declared.tables.CacheTables.{CacheTables}
 use Rattle.pair_files.specs.declared.ends.PairEnd.TheVariants.{Unsaved, Worked}
-use Rattle.pair_files.specs.Ends.{Begins, Ended, Goes, IsDone, Outcome, Outset, Works}
+use Rattle.pair_files.specs.Ends.{Begins, Ended, Goes, IsDone, IsDoneUnsaved, Outcome, Outset, Works}
 use Rattle.pair_files.specs.Images.{IsImageOf}
 use Rattle.pair_files.specs.Pairs.{AreBlocksIn, HasPair, IsRestored, IsRoomy}
 use Rattle.pair_files.specs.Scenes.{IsBooted, LastsBelow, Scene, Streams, scene_of}
@@ -152,6 +152,7 @@ ended_worked o does e shape c d r q t x streams whole two given h done lasts sav
           begin = scene_of h.found.0 c r streams;
           after = scene_of led.0 d q x.streams;
           goes = goes o does e shape c d r q t x streams h.found.0 led.0 h given booted led.1 lasts saved.told;
+          counted = saved.counted;
         }
 
     works : (i k : List ℕ) (s : State) → HasPair o.told o.image o.disk i k s → Works o (does e) x i k s
@@ -176,6 +177,8 @@ pub ended_unsaved_work : {E : Type 0} (o : Outset) (does : E → Scene → Scene
 ended_unsaved_work o does e shape c d r q t x streams two given h done lasts unsaved = record {
   ends = (
     unsaved_is o d q x (made_found o h.old h.run h.made) two counted unsaved,
+    made_pair o h.old h.run h.found.0 h.made h.found.1,
+    gone,
     λ i k s pair.
         let booted = h.booted s (made_stands o h.old h.run i k s h.made pair) in
         let led = done s booted in
@@ -186,3 +189,15 @@ ended_unsaved_work o does e shape c d r q t x streams two given h done lasts uns
   where
     counted : o.faults ≤ d.faults.count
     counted = omega (arith, lasts.later, h.runs.later, h.made.counted)
+
+    gone : IsDoneUnsaved o (does e) x
+    gone =
+        let booted = h.booted h.found.0 h.found.1 in
+        let led = done h.found.0 booted in
+        record {
+          state = h.found.0;
+          begin = scene_of h.found.0 c r streams;
+          after = scene_of led.0 d q x.streams;
+          goes = goes o does e shape c d r q t x streams h.found.0 led.0 h given booted led.1 lasts unsaved.told;
+          rose = unsaved.rose;
+        }

@@ -99,6 +99,15 @@ pub record IsDone (o : Outset) (does : Scene → Scene → Type 0) (x : Outcome)
   pub begin : Scene
   pub after : Scene
   pub goes : Goes o does x state begin after
+  pub counted : after.health.faults ≤ x.faults
+
+-- the same where the image could not be saved
+pub record IsDoneUnsaved (o : Outset) (does : Scene → Scene → Type 0) (x : Outcome) : Type 0 where
+  pub state : State
+  pub begin : Scene
+  pub after : Scene
+  pub goes : Goes o does x state begin after
+  pub rose : Rose after.health.faults x.faults
 
 -- of a pair of these bytes, which stands for s: the files are a pair of the state that the work led to. Where there is a frame
 -- for each block, and the work left the disk as it was and the state its sizes, the disk is what the reboot made of it
@@ -151,7 +160,7 @@ EndsEarly o (Unsaved (Some e)) x = ⊥
 
 abbrev pub PairEnds : {E : Type 0} → Outset → (E → Scene → Scene → Type 0) → PairEnd E → Outcome → Type 0
 PairEnds {E} o does (Worked e) x = IsSomePair o × IsSaved o x × IsDone o (does e) x × ((i k : List ℕ) (s : State) → HasPair o.told o.image o.disk i k s → Works o (does e) x i k s)
-PairEnds {E} o does (Unsaved (Some e)) x = IsUnsaved o x × ((i k : List ℕ) (s : State) → HasPair o.told o.image o.disk i k s → WorksUnsaved o (does e) x s)
+PairEnds {E} o does (Unsaved (Some e)) x = IsUnsaved o x × IsSomePair o × IsDoneUnsaved o (does e) x × ((i k : List ℕ) (s : State) → HasPair o.told o.image o.disk i k s → WorksUnsaved o (does e) x s)
 PairEnds {E} o does (Unsaved None) x = EndsEarly {E = E} o (Unsaved None) x
 PairEnds {E} o does end x = EndsEarly {E = E} o end x
 
