@@ -148,15 +148,15 @@ pub unbooted_viewed : (old mid new : Contents) (r q t : Running) (e : BootFail) 
 unbooted_viewed old mid new r q t (BadImage rule) v h = (subst (λ (c : Contents). FailsRegistry c.words rule) v.rest h.0, viewed_trans old mid new r q t v h.1)
 unbooted_viewed old mid new r q t (BadVolume rule b) v h = (subst (λ (c : Contents). KeepsRegistry c.words) v.rest h.0, subst (λ (c : Contents). FailsPair c rule b.0) v.rest h.1, viewed_trans old mid new r q t v h.2)
 unbooted_viewed old mid new r q t Memory v h = viewed_trans old mid new r q t v h
-unbooted_viewed old mid new r q t BootFault v h = cut_later old mid new r q t Fault v.faults.later (survives_viewed old mid r q v) h
-unbooted_viewed old mid new r q t BootStopped v h = cut_later old mid new r q t Stopped v.faults.later (survives_viewed old mid r q v) h
+unbooted_viewed old mid new r q t BootFault v h = cut_later old mid new r q t Fault v.faults.later (ap (λ (x : Running). x.stopped) v.run) (survives_viewed old mid r q v) h
+unbooted_viewed old mid new r q t BootStopped v h = cut_later old mid new r q t Stopped v.faults.later (ap (λ (x : Running). x.stopped) v.run) (survives_viewed old mid r q v) h
 
 -- after a look that failed
 pub unbooted_look : (old new : Contents) (r t : Running) (e : BootFail) → Unexamined old new t e → Viewed old new r t → Unbooted old r new t e
 unbooted_look old new r t (BadImage rule) h v = (h, v)
 unbooted_look old new r t (BadVolume rule b) h v = (h.0, h.1, v)
 unbooted_look old new r t Memory h v = v
-unbooted_look old new r t BootFault h v = (h, survives_viewed old new r t v)
+unbooted_look old new r t BootFault h v = (h, survives_viewed old new r t v, ap (λ (x : Running). x.stopped) v.run)
 unbooted_look old new r t BootStopped h v = (h, survives_viewed old new r t v)
 
 -- the machine ran over it
@@ -182,6 +182,10 @@ ok_always (Err e) p h = tt
 pub err_as : {T E : Type 0} (r : Result T E) (p q : E → Type 0) → ((e : E) → p e → q e) → IfErr r p → IfErr r q
 err_as (Ok x) p q on h = tt
 err_as (Err e) p q on h = on e h
+
+pub err_always : {T E : Type 0} (r : Result T E) (p : E → Type 0) → ((e : E) → p e) → IfErr r p
+err_always (Ok x) p h = tt
+err_always (Err e) p h = h e
 
 pub either_as : {T E : Type 0} (r : Result T E) (p q : T → Type 0) (f h : E → Type 0) → ((x : T) → p x → q x) → ((e : E) → f e → h e) → MatchResult r p f → MatchResult r q h
 either_as (Ok x) p q f h on off k = on x k

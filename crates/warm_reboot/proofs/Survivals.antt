@@ -1,5 +1,5 @@
 -- What stands over the parts of a reboot, one after the other.
-use Rattle.warm_reboot.proofs.Common.{Err, false, length, refl, true, ℕ, ◌≡◌, ◌≢◌, ◌≤◌, ap, arith, subst, sym, ◌∙◌, is_pending, Contents, Running, Endures, Restorable, none_apart}
+use Rattle.warm_reboot.proofs.Common.{Bool, Err, false, length, refl, true, ℕ, ◌≡◌, ◌≢◌, ◌≤◌, ap, arith, subst, sym, ◌∙◌, is_pending, Contents, Running, Endures, Restorable, none_apart}
 use Rattle.std.specs.Prelude.{Option, None, Some, ◌==◌}
 use Rattle.rio_base.specs.Blocks.{BlockWords, Ends, Home}
 use Rattle.rio_base.specs.Counts.{Rose}
@@ -45,18 +45,27 @@ survives_viewed old new r q v = record {
 
 -- ---- it was cut off
 
-pub cut_by : (old new : Contents) (r q : Running) (e : VolFail) → (e ≡ Fault → Rose old.faults.count new.faults.count) → (e ≡ Stopped → q.stopped ≡ true) → Survives old new (length r.scratch) (length q.scratch) → IsCutOff old r new q e
-cut_by old new r q Fault rose stop h = (rose refl, h)
-cut_by old new r q Stopped rose stop h = (stop refl, h)
+-- a fault is no stop
+fault_no_stop : Fault ≡ Stopped → ⊥
+fault_no_stop e = cc
+
+pub cut_by : (old new : Contents) (r q : Running) (e : VolFail) → (e ≡ Fault → Rose old.faults.count new.faults.count) → (e ≡ Stopped → q.stopped ≡ true) → ((e ≡ Stopped → ⊥) → q.stopped ≡ r.stopped) → Survives old new (length r.scratch) (length q.scratch) → IsCutOff old r new q e
+cut_by old new r q Fault rose stop runs h = (rose refl, h, runs fault_no_stop)
+cut_by old new r q Stopped rose stop runs h = (stop refl, h)
 
 pub cut_by_ends : {T : Type 0} (old new : Contents) (r q : Running) (e : VolFail) → Ends {T = T} (cache_health old r) (cache_health new q) (Err e) → Survives old new (length r.scratch) (length q.scratch) → IsCutOff old r new q e
-cut_by_ends old new r q Fault ends h = (ends.cause.0, h)
+cut_by_ends old new r q Fault ends h = (ends.cause.0, h, ends.cause.1)
 cut_by_ends old new r q Stopped ends h = (ends.cause, h)
 
 -- after a part that was not
-pub cut_later : (a b c : Contents) (q r s : Running) (e : VolFail) → a.faults.count ≤ b.faults.count → Survives a b (length q.scratch) (length r.scratch) → IsCutOff b r c s e → IsCutOff a q c s e
-cut_later a b c q r s Fault less h k = (rose_later _ _ _ less k.0, survives_then a b c (length q.scratch) (length r.scratch) (length s.scratch) h k.1)
-cut_later a b c q r s Stopped less h k = (k.0, survives_then a b c (length q.scratch) (length r.scratch) (length s.scratch) h k.1)
+pub cut_later : (a b c : Contents) (q r s : Running) (e : VolFail) → a.faults.count ≤ b.faults.count → r.stopped ≡ q.stopped → Survives a b (length q.scratch) (length r.scratch) → IsCutOff b r c s e → IsCutOff a q c s e
+cut_later a b c q r s Fault less ran h k = (rose_later _ _ _ less k.0, survives_then a b c (length q.scratch) (length r.scratch) (length s.scratch) h k.1, k.2 ∙ ran)
+cut_later a b c q r s Stopped less ran h k = (k.0, survives_then a b c (length q.scratch) (length r.scratch) (length s.scratch) h k.1)
+
+-- a machine that runs after a part ran before
+pub ran_before : (was is : Bool) → (was ≡ true → is ≡ true) → is ≡ false → is ≡ was
+ran_before true is stays runs = absurd (let e = stays refl in cc (e, runs))
+ran_before false is stays runs = runs
 
 -- ---- over a cache that is ready
 

@@ -45,7 +45,7 @@ pub record Starts (c : Contents) (s : State) (x : Seen) (k : Kept) : Type 0 wher
 
 -- ---- a reboot that was cut off
 
--- it was cut off: what stood stands, so that it may be made again
+-- it was cut off: what stood stands, so that it may be made again. After a fault of the disk the machine runs if it ran
 abbrev pub IsCutOff : Contents → Running → Contents → Running → VolFail → Type 0
-IsCutOff old r new s Fault = Rose old.faults.count new.faults.count × Survives old new (length r.scratch) (length s.scratch)
+IsCutOff old r new s Fault = Rose old.faults.count new.faults.count × Survives old new (length r.scratch) (length s.scratch) × (s.stopped ≡ r.stopped)
 IsCutOff old r new s Stopped = (s.stopped ≡ true) × Survives old new (length r.scratch) (length s.scratch)

@@ -1,5 +1,5 @@
 -- How a reboot ends.
-use Rattle.std.specs.Prelude.{◌≡◌, ℕ, false, []}
+use Rattle.std.specs.Prelude.{◌≡◌, ◌⊎◌, ℕ, false, []}
 use Rattle.rio_base.specs.Blocks.{Seen}
 use Rattle.rio_base.specs.declared.failures.VolFail.TheVariants.{Fault as VolumeFault, Stopped as VolumeStopped}
 use Rattle.rio_base.specs.declared.places.VolumeShape.{VolumeShape}
@@ -17,7 +17,7 @@ use Rattle.region_recovery.specs.RegionLists.{AreRecovered, region_inos, undone_
 use Rattle.warm_reboot.specs.declared.report.BootFail.{BootFail}
 use Rattle.warm_reboot.specs.declared.report.BootFail.TheVariants.{BadImage, BadVolume, Fault, Memory, Stopped}
 use Rattle.warm_reboot.specs.declared.report.BootReport.{BootReport}
-use Rattle.warm_reboot.specs.Boots.{IsCutOff}
+use Rattle.warm_reboot.specs.Boots.{IsCutOff, StandsNow}
 use Rattle.warm_reboot.specs.Reports.{CountsPages}
 
 -- the undo lists of all regions are emptied: the volume reads as the state that it read as, and so many lists had a record.
@@ -47,3 +47,7 @@ Unbooted old r new s (BadVolume rule b) = KeepsRegistry old.words × FailsPair o
 Unbooted old r new s Memory = Viewed old new r s
 Unbooted old r new s Fault = IsCutOff old r new s VolumeFault
 Unbooted old r new s Stopped = IsCutOff old r new s VolumeStopped
+
+-- it failed after the look found that memory and disk stand for some state, or nothing was stored
+abbrev pub FailsLooked : Contents → Running → Contents → Running → Type 0
+FailsLooked old r new s = ((t : State) × StandsNow old t) ⊎ Viewed old new r s

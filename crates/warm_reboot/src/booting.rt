@@ -15,7 +15,7 @@ ghost use Rattle.page_cache.specs.Caches.{CacheSound, IsFresh, cache_below, cach
 ghost use Rattle.region_recovery.specs.RegionLists.{ino_numbers, region_inos};
 ghost use Rattle.warm_reboot.specs.Boots.{IsCutOff, StandsNow};
 ghost use Rattle.warm_reboot.specs.Examining.{IsExamined, TellsNoRule, handed};
-ghost use Rattle.warm_reboot.specs.Reboots.{Booted, Recovers, Unbooted};
+ghost use Rattle.warm_reboot.specs.Reboots.{Booted, FailsLooked, Recovers, Unbooted};
 ghost use Rattle.warm_reboot.specs.Stale.{MarksStale};
 
 use crate::examining::{Examined, look};
@@ -33,7 +33,8 @@ const BLOCK_WORDS: usize = 512;
 
 /// Finds the files and regions that memory and disk stand for after a stop at any step, brings them to the disk, undoes what no
 /// commit of a region sealed, and starts a cache on them. After a rule that fails and after `Memory` nothing was stored; after
-/// `Fault` and `Stopped` what stood stands still. The machine is handed back then, and the reboot may be made again.
+/// `Fault` and `Stopped` what stood stands still, and where memory and disk stand for no state nothing was stored. The machine is
+/// handed back then with no page open, and the reboot may be made again.
 pub fn boot<M: Machine>(
     alloc: Global,
     machine: M,
@@ -50,6 +51,8 @@ pub fn boot<M: Machine>(
     ensures sound { IfOk result (λ b. CacheSound (M.contents b.0.machine) (length (M.run b.0.machine).scratch) b.0.tables) }
     ensures standing { (s : State) → StandsFor (M.contents machine) (length (M.run machine).scratch) s → IfErr result (λ e. TellsNoRule e.fail) }
     ensures unbooted { IfErr result (λ e. Unbooted (M.contents machine) (M.run machine) (M.contents e.machine) (M.run e.machine) e.fail) }
+    ensures looked { IfErr result (λ e. FailsLooked (M.contents machine) (M.run machine) (M.contents e.machine) (M.run e.machine)) }
+    ensures closed { IfErr result (λ e. (M.contents e.machine).open_page ≡ None) }
     ensures runs { MatchResult result (λ b. Runs (cache_health (M.contents machine) (M.run machine)) (cache_below (M.contents machine) (M.run machine)) (cache_health (M.contents b.0.machine) (M.run b.0.machine)) (cache_below (M.contents b.0.machine) (M.run b.0.machine))) (λ e. Runs (cache_health (M.contents machine) (M.run machine)) (cache_below (M.contents machine) (M.run machine)) (cache_health (M.contents e.machine) (M.run e.machine)) (cache_below (M.contents e.machine) (M.run e.machine))) }
 {
     match look(alloc, machine) {
@@ -97,6 +100,7 @@ fn boot_looked<M: Machine>(
     ensures sound { IfOk result (λ b. CacheSound (M.contents b.0.machine) (length (M.run b.0.machine).scratch) b.0.tables) }
     ensures no_rule { IfErr result (λ e. TellsNoRule e.fail) }
     ensures unbooted { IfErr result (λ e. Unbooted (M.contents machine) (M.run machine) (M.contents e.machine) (M.run e.machine) e.fail) }
+    ensures closed { IfErr result (λ e. (M.contents e.machine).open_page ≡ None) }
     ensures runs { MatchResult result (λ b. Runs (cache_health (M.contents machine) (M.run machine)) (cache_below (M.contents machine) (M.run machine)) (cache_health (M.contents b.0.machine) (M.run b.0.machine)) (cache_below (M.contents b.0.machine) (M.run b.0.machine))) (λ e. Runs (cache_health (M.contents machine) (M.run machine)) (cache_below (M.contents machine) (M.run machine)) (cache_health (M.contents e.machine) (M.run e.machine)) (cache_below (M.contents e.machine) (M.run e.machine))) }
 {
     match take_room(alloc, &machine) {
@@ -128,6 +132,7 @@ fn boot_examined<M: Machine>(
     ensures running { IfOk result (λ b. (M.run b.0.machine).stopped ≡ false) }
     ensures sound { IfOk result (λ b. CacheSound (M.contents b.0.machine) (length (M.run b.0.machine).scratch) b.0.tables) }
     ensures cut { IfErr result (λ e. (fail : VolFail) × (e.fail ≡ handed fail) × IsCutOff (M.contents machine) (M.run machine) (M.contents e.machine) (M.run e.machine) fail) }
+    ensures closed { IfErr result (λ e. (M.contents e.machine).open_page ≡ None) }
     ensures runs { MatchResult result (λ b. Runs (cache_health (M.contents machine) (M.run machine)) (cache_below (M.contents machine) (M.run machine)) (cache_health (M.contents b.0.machine) (M.run b.0.machine)) (cache_below (M.contents b.0.machine) (M.run b.0.machine))) (λ e. Runs (cache_health (M.contents machine) (M.run machine)) (cache_below (M.contents machine) (M.run machine)) (cache_health (M.contents e.machine) (M.run e.machine)) (cache_below (M.contents e.machine) (M.run e.machine))) }
 {
     let Room { tables, block } = room;
@@ -175,6 +180,7 @@ fn recover_cache<M: Machine>(
     ensures shut { IfOk result (λ b. gate_of (M.contents b.0.machine).words ≡ 0) }
     ensures sound { IfOk result (λ b. CacheSound (M.contents b.0.machine) (length (M.run b.0.machine).scratch) b.0.tables) }
     ensures cut { IfErr result (λ e. IsCutOff (M.contents cache.machine) (M.run cache.machine) (M.contents e.0) (M.run e.0) e.1) }
+    ensures closed { IfErr result (λ e. (M.contents e.0).open_page ≡ None) }
     ensures runs { MatchResult result (λ b. Runs (cache_health (M.contents cache.machine) (M.run cache.machine)) (cache_below (M.contents cache.machine) (M.run cache.machine)) (cache_health (M.contents b.0.machine) (M.run b.0.machine)) (cache_below (M.contents b.0.machine) (M.run b.0.machine))) (λ e. Runs (cache_health (M.contents cache.machine) (M.run cache.machine)) (cache_below (M.contents cache.machine) (M.run cache.machine)) (cache_health (M.contents e.0) (M.run e.0)) (cache_below (M.contents e.0) (M.run e.0))) }
 {
     let mut view = RegionView::over(cache, shape);

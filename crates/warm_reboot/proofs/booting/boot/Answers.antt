@@ -1,8 +1,9 @@
 use Rattle.std.specs.Prelude.{length}
-use Rattle.std.proofs.Common.{◌∙◌, ap}
+use Rattle.std.proofs.Common.{◌∙◌, ap, inl, inr}
+use Rattle.rio_base.specs.Machine.{Contents}
 use Rattle.page_cache.specs.Caches.{is_roomy}
 use Rattle.warm_reboot.proofs.Examines.{tells_none}
-use Rattle.warm_reboot.proofs.Outcomes.{booted_viewed, either_as, err_as, examined_viewed, now_found, ok_always, ok_as, runs_viewed, unbooted_look, unbooted_viewed}
+use Rattle.warm_reboot.proofs.Outcomes.{booted_viewed, either_as, err_always, err_as, examined_viewed, now_found, ok_always, ok_as, runs_viewed, unbooted_look, unbooted_viewed}
 use Rattle.rio_base.specs.Rules.{runs_trans}
 use Rattle.warm_reboot.proofs.booting.boot.Goals as goal
 
@@ -29,3 +30,16 @@ returns-in-Err-clause-standing g c = λ s h. tells_none (g.M.Machine.contents c.
 
 pub returns-in-Ok-clause-state : goal.returns-in-Ok-clause-state
 returns-in-Ok-clause-state g c = ok_always c.boot_looked.result _ (λ b. (c.in-Ok.ensures.examined.state, now_found _ _ c.in-Ok.ensures.examined))
+
+-- ---- the look came first
+
+pub returns-in-Err-clause-looked : goal.returns-in-Err-clause-looked
+returns-in-Err-clause-looked g c = inr c.in-Err.ensures.untouched
+
+pub returns-in-Ok-clause-looked : goal.returns-in-Ok-clause-looked
+returns-in-Ok-clause-looked g c = err_always c.boot_looked.result _ (λ e. inl (c.in-Ok.ensures.examined.state, now_found _ _ c.in-Ok.ensures.examined))
+
+-- ---- no page is open
+
+pub returns-in-Err-clause-closed : goal.returns-in-Err-clause-closed
+returns-in-Err-clause-closed g c = ap (λ (x : Contents). x.open_page) c.in-Err.ensures.untouched.rest ∙ c.requires.closed

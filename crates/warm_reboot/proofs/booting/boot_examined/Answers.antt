@@ -7,7 +7,7 @@ use Rattle.rio_model.specs.Standing.{Restored}
 use Rattle.page_cache.specs.Caches.{cache_kept, cache_seen}
 use Rattle.region_recovery.specs.RegionLists.{ino_numbers}
 use Rattle.warm_reboot.proofs.Outcomes.{booted_by, entries_found, marked_found, reads_found, ready_found, regions_found}
-use Rattle.warm_reboot.proofs.Survivals.{cut_by, cut_later}
+use Rattle.warm_reboot.proofs.Survivals.{cut_by, cut_later, ran_before}
 use Rattle.warm_reboot.specs.Stale.{MarksStale}
 use Rattle.warm_reboot.proofs.booting.boot_examined.Goals as goal
 
@@ -66,7 +66,7 @@ returns-in-Ok-clause-cut g c =
     let marks = subst (λ (xs : List Bool). MarksStale (volume_layout c.args.examined.now.census.shape (stands (g.M.Machine.contents c.args.machine))) (g.M.Machine.contents c.args.machine).words xs) (sym c.deref.ensures.value) c.requires.marks in (
       c.in-Err-recover_cache.fail,
       c.from.ensures,
-      cut_later (g.M.Machine.contents c.args.machine) (g.M.Machine.contents c.in-Ok.cache.machine) (g.M.Machine.contents c.in-Err-recover_cache.machine) (g.M.Machine.run c.args.machine) (g.M.Machine.run c.in-Ok.cache.machine) (g.M.Machine.run c.in-Err-recover_cache.machine) c.in-Err-recover_cache.fail c.in-Ok.ensures.runs.later (c.in-Ok.ensures.survives (marked_found (g.M.Machine.contents c.args.machine) (length (g.M.Machine.run c.args.machine).scratch) c.args.examined.now.census c.deref.result.now (g.met.M.Machine.whole_blocks c.args.machine) c.requires.examined marks)) c.in-Err-recover_cache.ensures.cut,
+      cut_later (g.M.Machine.contents c.args.machine) (g.M.Machine.contents c.in-Ok.cache.machine) (g.M.Machine.contents c.in-Err-recover_cache.machine) (g.M.Machine.run c.args.machine) (g.M.Machine.run c.in-Ok.cache.machine) (g.M.Machine.run c.in-Err-recover_cache.machine) c.in-Err-recover_cache.fail c.in-Ok.ensures.runs.later (ran_before (g.M.Machine.run c.args.machine).stopped (g.M.Machine.run c.in-Ok.cache.machine).stopped c.in-Ok.ensures.runs.stays c.in-Ok.ensures.running) (c.in-Ok.ensures.survives (marked_found (g.M.Machine.contents c.args.machine) (length (g.M.Machine.run c.args.machine).scratch) c.args.examined.now.census c.deref.result.now (g.met.M.Machine.whole_blocks c.args.machine) c.requires.examined marks)) c.in-Err-recover_cache.ensures.cut,
     )
 
 pub returns-in-Ok-clause-runs : goal.returns-in-Ok-clause-runs
@@ -77,7 +77,7 @@ returns-clause-cut g c =
     let marks = subst (λ (xs : List Bool). MarksStale (volume_layout c.args.examined.now.census.shape (stands (g.M.Machine.contents c.args.machine))) (g.M.Machine.contents c.args.machine).words xs) (sym c.deref.ensures.value) c.requires.marks in (
       c.in-Err.fail,
       c.from-in-Err.ensures,
-      cut_by (g.M.Machine.contents c.args.machine) (g.M.Machine.contents c.in-Err.machine) (g.M.Machine.run c.args.machine) (g.M.Machine.run c.in-Err.machine) c.in-Err.fail c.in-Err.ensures.ends.cause c.in-Err.ensures.ends.ends.told (c.in-Err.ensures.survives (marked_found (g.M.Machine.contents c.args.machine) (length (g.M.Machine.run c.args.machine).scratch) c.args.examined.now.census c.deref.result.now (g.met.M.Machine.whole_blocks c.args.machine) c.requires.examined marks)),
+      cut_by (g.M.Machine.contents c.args.machine) (g.M.Machine.contents c.in-Err.machine) (g.M.Machine.run c.args.machine) (g.M.Machine.run c.in-Err.machine) c.in-Err.fail c.in-Err.ensures.ends.cause c.in-Err.ensures.ends.ends.told c.in-Err.ensures.ends.ends.runs (c.in-Err.ensures.survives (marked_found (g.M.Machine.contents c.args.machine) (length (g.M.Machine.run c.args.machine).scratch) c.args.examined.now.census c.deref.result.now (g.met.M.Machine.whole_blocks c.args.machine) c.requires.examined marks)),
     )
 
 pub returns-clause-runs : goal.returns-clause-runs

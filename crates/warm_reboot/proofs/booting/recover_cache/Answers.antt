@@ -1,4 +1,4 @@
-use Rattle.std.proofs.Common.{◌≡◌, ◌∙◌, Err, ap, length, refl, subst, sym, ℕ}
+use Rattle.std.proofs.Common.{◌≡◌, ◌∙◌, Err, None, ap, length, refl, subst, sym, ℕ}
 use Rattle.rio_base.specs.Blocks.{Ends}
 use Rattle.rio_base.specs.Disks.{is_pending}
 use Rattle.rio_base.specs.Volume.{Goes, MemorySizes, Runs}
@@ -91,3 +91,6 @@ returns-in-Err-clause-cut g c =
 
 pub returns-in-Err-clause-runs : goal.returns-in-Err-clause-runs
 returns-in-Err-clause-runs g c = subst (λ m. Runs (cache_health (g.M.Machine.contents c.args.cache.machine) (g.M.Machine.run c.args.cache.machine)) (cache_below (g.M.Machine.contents c.args.cache.machine) (g.M.Machine.run c.args.cache.machine)) (cache_health (g.M.Machine.contents m) (g.M.Machine.run m)) (cache_below (g.M.Machine.contents m) (g.M.Machine.run m))) (sym c.into_machine.ensures.machine) (by_eq c.args.cache c.over-view.result.v c.over-view.ensures.volume (λ v. Runs (cache_health (g.M.Machine.contents v.machine) (g.M.Machine.run v.machine)) (cache_below (g.M.Machine.contents v.machine) (g.M.Machine.run v.machine)) (cache_health (g.M.Machine.contents c.into_volume-cache.result.machine) (g.M.Machine.run c.into_volume-cache.result.machine)) (cache_below (g.M.Machine.contents c.into_volume-cache.result.machine) (g.M.Machine.run c.into_volume-cache.result.machine))) (by_eq c.into_volume-cache.result c.recover_regions-undone.new.view.v (sym c.into_volume-cache.ensures) (λ w. Runs (cache_health (g.M.Machine.contents c.over-view.result.v.machine) (g.M.Machine.run c.over-view.result.v.machine)) (cache_below (g.M.Machine.contents c.over-view.result.v.machine) (g.M.Machine.run c.over-view.result.v.machine)) (cache_health (g.M.Machine.contents w.machine) (g.M.Machine.run w.machine)) (cache_below (g.M.Machine.contents w.machine) (g.M.Machine.run w.machine))) c.in-Err.ensures.goes.runs))
+
+pub returns-in-Err-clause-closed : goal.returns-in-Err-clause-closed
+returns-in-Err-clause-closed g c = subst (λ m. (g.M.Machine.contents m).open_page ≡ None) (sym c.into_machine.ensures.machine) (by_eq c.into_volume-cache.result c.recover_regions-undone.new.view.v (sym c.into_volume-cache.ensures) (λ w. (g.M.Machine.contents w.machine).open_page ≡ None) c.in-Err.ensures.sound.closed)
