@@ -27,7 +27,7 @@ rose_none a b less = inl (omega (arith, less))
 -- the boot led nowhere
 pub failed_boot : (old new : Contents) (r q : Running) (fail : BootFail) (run : BootRun) (requests : List Request) (s : State) → EndsUnbooted fail run → Unbooted old r new q fail → Runs (cache_health old r) (cache_below old r) (cache_health new q) (cache_below new q) → r.stopped ≡ false → StandsFor old (length r.scratch) s
     → (t : State) × RunsBoot s requests run t (cache_health old r) (cache_below old r) (cache_health new q) (cache_below new q) × StandsFor new (length q.scratch) t
-failed_boot old new r q Fault run requests s is (rose, survives) runs ran st = (
+failed_boot old new r q Fault run requests s is (rose, survives, ran_on) runs ran st = (
   s,
   subst (λ (x : BootRun). RunsBoot s requests x s (cache_health old r) (cache_below old r) (cache_health new q) (cache_below new q)) (sym is) (record {
     ends = record { none = refl; same = refl };
