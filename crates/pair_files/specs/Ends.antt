@@ -54,6 +54,10 @@ pub record IsSaved (o : Outset) (x : Outcome) : Type 0 where
   pub made : (n : ℕ) × (x.pages ≡ Some n)
   pub saved : x.tells ≡ true → (l : Leaving) × (x.left ≡ Some l) × IsFile x.told o.image (bytes_of l.words)
 
+-- the bench does not tell of a machine that it made that it was stopped
+abbrev pub LeftRunning : Outcome → Type 0
+LeftRunning x = (n : ℕ) (l : Leaving) → x.pages ≡ Some n → x.tells ≡ true → x.left ≡ Some l → l.stopped ≡ false
+
 -- ---- a reboot that was cut off
 
 -- the files that a machine was made of: the image keeps its rules, and the disk has a disk's length
@@ -143,19 +147,23 @@ pub record IsUnsaved (o : Outset) (x : Outcome) : Type 0 where
 abbrev pub IsSomePair : Outset → Type 0
 IsSomePair o = (files : Files) → o.told ≡ Some files → (i k : List ℕ) × (s : State) × HasPair o.told o.image o.disk i k s
 
+-- they were a pair, or no file was changed
+abbrev pub IsPairOrKept : Outset → Outcome → Type 0
+IsPairOrKept o x = IsSomePair o ⊎ (x.told ≡ o.told)
+
 -- ends without a work
 abbrev pub EndsEarly : {E : Type 0} → Outset → PairEnd E → Outcome → Type 0
 EndsEarly o (Absent Image) x = Untouched o x × (x.pages ≡ None) × IsAbsent o.told o.image
 EndsEarly o (Absent Disk) x = Untouched o x × (x.pages ≡ None) × (words : List ℕ) × HoldsImage o.told o.image words × IsAbsent o.told o.disk
-EndsEarly o (BadImage rule) x = Untouched o x × Breaks o.told o.image rule
-EndsEarly o (BadVolume rule b) x = Untouched o x × BreaksVolume o.told o.image o.disk rule b.0
+EndsEarly o (BadImage rule) x = Untouched o x × Breaks o.told o.image rule × LeftRunning x
+EndsEarly o (BadVolume rule b) x = Untouched o x × BreaksVolume o.told o.image o.disk rule b.0 × LeftRunning x
 EndsEarly o (HostFault Image) x = Untouched o x × (x.pages ≡ None) × Rose o.faults x.faults
 EndsEarly o (HostFault Disk) x = Untouched o x × (x.pages ≡ None) × Rose o.faults x.faults × (words : List ℕ) × HoldsImage o.told o.image words
-EndsEarly o Memory x = Untouched o x × ((x.pages ≡ None) ⊎ IsSaved o x)
-EndsEarly o BootFault x = KeepsPair o x × Rose o.faults x.faults
-EndsEarly o BootStopped x = KeepsPair o x × (is_some o.stop ≡ true) × (x.tells ≡ true → (l : Leaving) × (x.left ≡ Some l) × (l.stopped ≡ true) × (l.trapped ≡ None))
+EndsEarly o Memory x = Untouched o x × ((x.pages ≡ None) ⊎ IsSaved o x) × LeftRunning x
+EndsEarly o BootFault x = KeepsPair o x × Rose o.faults x.faults × IsPairOrKept o x × LeftRunning x
+EndsEarly o BootStopped x = KeepsPair o x × (is_some o.stop ≡ true) × (x.tells ≡ true → (l : Leaving) × (x.left ≡ Some l) × (l.stopped ≡ true) × (l.trapped ≡ None)) × IsSomePair o
 EndsEarly o (Worked e) x = ⊥
-EndsEarly o (Unsaved None) x = IsUnsaved o x × (x.streams ≡ o.streams)
+EndsEarly o (Unsaved None) x = IsUnsaved o x × (x.streams ≡ o.streams) × IsPairOrKept o x
 EndsEarly o (Unsaved (Some e)) x = ⊥
 
 abbrev pub PairEnds : {E : Type 0} → Outset → (E → Scene → Scene → Type 0) → PairEnd E → Outcome → Type 0

@@ -17,7 +17,7 @@ use Rattle.rio_model.specs.Standing.{Restored, StandsFor}
 use Rattle.page_cache.specs.Caches.{cache_below, cache_health, is_roomy}
 use Rattle.page_cache.specs.declared.tables.CacheTables.{CacheTables}
 use Rattle.warm_reboot.specs.Examining.{TellsNoRule}
-use Rattle.warm_reboot.specs.Reboots.{Unbooted}
+use Rattle.warm_reboot.specs.Reboots.{FailsLooked, Unbooted}
 use Rattle.warm_reboot.specs.declared.report.BootFail.{BootFail}
 use Rattle.pair_files.specs.declared.ends.PairEnd.{PairEnd}
 use Rattle.pair_files.specs.declared.ends.PairEnd.TheVariants.{Absent as NoFile, BadImage as NoImage, BadVolume as NoVolume, HostFault, Memory as NoMemory, Unsaved}
@@ -74,6 +74,7 @@ pub record IsFailed (o : Outset) (c : Contents) (r : Running) (fail : BootFail) 
   pub run : Running
   pub made : IsMade o old run
   pub unbooted : Unbooted old run c r fail
+  pub looked : FailsLooked old run c r
   pub runs : Runs (cache_health old run) (cache_below old run) (cache_health c r) (cache_below c r)
   pub standing : (s : State) → StandsFor old (length run.scratch) s → TellsNoRule fail
 

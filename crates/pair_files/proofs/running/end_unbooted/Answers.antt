@@ -1,4 +1,4 @@
-use Rattle.std.proofs.Common.{arith, subst, sym}
+use Rattle.std.proofs.Common.{◌∙◌, arith, subst, sym}
 use Rattle.pair_files.specs.Stages.{IsFailed}
 use Rattle.pair_files.proofs.Endings.{either_fault, either_memory, either_stopped, ended_volume, failed_around}
 use Rattle.pair_files.proofs.running.end_unbooted.Goals as goal
@@ -7,7 +7,7 @@ pub returns-in-BadVolume-clause-ended : goal.returns-in-BadVolume-clause-ended
 returns-in-BadVolume-clause-ended g c = λ o streams of failed.
     let contents = g.B.M.Machine.contents c.args.machine in
     let run = g.B.M.Machine.run c.args.machine in
-    ended_volume o contents run c.in-BadVolume.rule c.in-BadVolume.block _ (subst (IsFailed o contents run) c.in-BadVolume.is failed) (c.hand_back-in-BadVolume.ensures.files o.told o.disk (failed_around o contents run c.args.fail failed)) (sym of.streams_are) (let count = c.hand_back-in-BadVolume.ensures.faults in omega (arith, count))
+    ended_volume o contents run c.in-BadVolume.rule c.in-BadVolume.block _ (subst (IsFailed o contents run) c.in-BadVolume.is failed) (c.hand_back-in-BadVolume.ensures.files o.told o.disk (failed_around o contents run c.args.fail failed)) (sym of.streams_are) (let count = c.hand_back-in-BadVolume.ensures.faults in omega (arith, count)) (λ e. c.hand_back-in-BadVolume.ensures.left (sym c.hand_back-in-BadVolume.ensures.tells ∙ e))
 
 pub returns-in-Memory-clause-ended : goal.returns-in-Memory-clause-ended
 returns-in-Memory-clause-ended g c = λ o streams of failed.

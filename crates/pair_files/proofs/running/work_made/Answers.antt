@@ -48,6 +48,7 @@ returns-in-Err-clause-ended g c = λ o of made.
       run = g.B.M.Machine.run c.args.machine;
       made = made;
       unbooted = c.in-Err.ensures.unbooted;
+      looked = c.in-Err.ensures.looked;
       runs = c.in-Err.ensures.runs;
       standing = λ s st. c.in-Err.ensures.standing s st;
     }))
