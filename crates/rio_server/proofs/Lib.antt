@@ -9,4 +9,5 @@ pub mod ServeEndings
 pub mod ServeRefusals
 pub mod ServedPairs
 pub mod StopCauses
+pub mod StoppedMachines
 pub mod Telling

@@ -26,6 +26,7 @@ use Rattle.rio_server.specs.Serve.{MadeStatus, ServeCauses, ServeRuns, Untouched
 use Rattle.rio_server.proofs.InputLines.{given_all}
 use Rattle.rio_server.proofs.ServeRefusals.{refusals}
 use Rattle.rio_server.proofs.ServedPairs.{leaves_pair, scene_with, served_as, streams_before, streams_behind}
+use Rattle.rio_server.proofs.StoppedMachines.{stopped_told}
 use Rattle.rio_server.proofs.StopCauses.{calm_at, no_trap, stop_given}
 
 -- ---- which end has a status
@@ -160,7 +161,8 @@ module _ (image disk : List ℕ) (stop : Option ℕ) (status : ℕ) (old new : O
   host_fault : (end : PairEnd LinesEnd) → status ≡ serve_status end → Ends end → status ≡ 7 → Fails
   host_fault (Absent Image) is h told = (inr (inl h.ends.2), ap (λ (files : Option Files). file_of files image) h.ends.0.files)
   host_fault (Absent Disk) is h told = (inr (inr h.ends.4), ap (λ (files : Option Files). file_of files image) h.ends.0.files)
-  host_fault (HostFault file) is h told = (inl h.ends.2, ap (λ (files : Option Files). file_of files image) h.ends.0.files)
+  host_fault (HostFault Image) is h told = (inl h.ends.2, ap (λ (files : Option Files). file_of files image) h.ends.0.files)
+  host_fault (HostFault Disk) is h told = (inl h.ends.2, ap (λ (files : Option Files). file_of files image) h.ends.0.files)
   host_fault (Unsaved None) is h told = (inl h.ends.0.rose, h.ends.0.image)
   host_fault (Unsaved (Some e)) is h told = (inl h.ends.0.rose, h.ends.0.image)
   host_fault (Worked e) is h told = absurd ((no_lines (loop_end e) status is).4 told)
@@ -265,6 +267,7 @@ module _ (image disk : List ℕ) (stop : Option ℕ) (status : ℕ) (old new : O
     sink_fault = sink_fault end is h later;
     stopped = stopped end is h;
     left_stopped = left_stopped end is h;
+    stopped_told = λ n l made tells left halted. stopped_told (outset_at image disk stop old) (outcome_at new replied faults bench) n l made tells left halted status end is h;
     limit = limit end is h;
     over = over end is h;
   }
@@ -287,7 +290,8 @@ module _ (image disk : List ℕ) (stop : Option ℕ) (status : ℕ) (old new : O
   complete Memory is h later i k s input pair none has few quiet no_host no_source no_sink = inr is
   complete BootFault is h later i k s input pair none has few quiet no_host no_source no_sink = absurd (no_host h.ends.1)
   complete BootStopped is h later i k s input pair none has few quiet no_host no_source no_sink = let set = stop_asked stop h.ends.1 in absurd (let e = set.1 in cc (none, e))
-  complete (HostFault file) is h later i k s input pair none has few quiet no_host no_source no_sink = absurd (no_host h.ends.2)
+  complete (HostFault Image) is h later i k s input pair none has few quiet no_host no_source no_sink = absurd (no_host h.ends.2)
+  complete (HostFault Disk) is h later i k s input pair none has few quiet no_host no_source no_sink = absurd (no_host h.ends.2)
   complete (Unsaved None) is h later i k s input pair none has few quiet no_host no_source no_sink = absurd (no_host h.ends.0.rose)
   complete (Unsaved (Some e)) is h later i k s input pair none has few quiet no_host no_source no_sink = absurd (no_host h.ends.0.rose)
   complete (Absent file) is h later i k s input pair none has few quiet no_host no_source no_sink = absurd (h.every.sound i k s pair)
@@ -348,7 +352,8 @@ module _ (image disk : List ℕ) (stop : Option ℕ) (status : ℕ) (old new : O
   unsaved (Unsaved (Some e)) is h n told made = h.ends.0.left
   unsaved (Absent Image) is h n told made = absurd (let none = h.ends.1 in cc (none, made))
   unsaved (Absent Disk) is h n told made = absurd (let none = h.ends.1 in cc (none, made))
-  unsaved (HostFault file) is h n told made = absurd (let none = h.ends.1 in cc (none, made))
+  unsaved (HostFault Image) is h n told made = absurd (let none = h.ends.1 in cc (none, made))
+  unsaved (HostFault Disk) is h n told made = absurd (let none = h.ends.1 in cc (none, made))
   unsaved (Worked e) is h n told made = absurd ((no_lines (loop_end e) status is).4 told)
   unsaved BootFault is h n told made = absurd (omega (arith, is, told))
   unsaved BootStopped is h n told made = absurd (omega (arith, is, told))
@@ -386,6 +391,6 @@ none_served image disk stop status old new bench is files left source host later
 
     ended : EndedAs image disk stop old new old.written old.sink_faults bench Memory
     ended = record {
-      ends = (record { files = files; unread = same }, inl none);
+      ends = (record { files = files; unread = same }, inl none, λ n l made tells left. absurd (cc (none, made)));
       every = record { sound = λ i k s pair. tt; others = λ name other two. ap (λ (f : Option Files). file_of f name) files; counted = omega (arith, host) };
     }

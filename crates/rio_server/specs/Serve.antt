@@ -178,6 +178,8 @@ pub record ServeCauses (end : PairEnd LinesEnd) (image disk : List ℕ) (stop : 
   -- with none
   pub stopped : status ≡ 10 → ((steps : ℕ) × (stop ≡ Some steps) × (serve_line end image disk stop ≡ stopped_line steps)) ⊎ ((at : ℕ) × (trap_told end ≡ Some at) × (serve_line end image disk stop ≡ trapped_line at))
   pub left_stopped : status ≡ 10 → bench.tells ≡ true → (l : Leaving) × (bench.left ≡ Some l) × (l.stopped ≡ true) × (l.trapped ≡ trap_told end)
+  -- a machine that was left stopped is told by 10, or by 7 where the image could not be saved
+  pub stopped_told : (n : ℕ) (l : Leaving) → bench.pages ≡ Some n → bench.tells ≡ true → bench.left ≡ Some l → l.stopped ≡ true → (status ≡ 10) ⊎ (status ≡ 7)
   -- 11: more input came than is taken
   pub limit : (input : List ℕ) → old.left ≡ Some input → status ≡ 11 → 2 ^ 40 < length input
   pub over : (input : List ℕ) → old.left ≡ Some input → 2 ^ 40 < length input → status ≢ 0
@@ -188,13 +190,17 @@ pub record ServeCauses (end : PairEnd LinesEnd) (image disk : List ℕ) (stop : 
 abbrev pub Decided : Type 0 → ℕ → Outside → Outside → Type 0
 Decided told status old new = told ⊎ (status ≡ 6) ⊎ ((status ≡ 7) × HostRose old new)
 
+-- the same of the image, where no call on the disk's file comes before
+abbrev pub DecidedByImage : Type 0 → PairEnd LinesEnd → ℕ → Outside → Outside → Type 0
+DecidedByImage told end status old new = told ⊎ (status ≡ 6) ⊎ ((end ≡ HostFault Image) × HostRose old new)
+
 -- the other direction: what is so of files that are told decides the status
 pub record ServeRefusals (end : PairEnd LinesEnd) (image disk : List ℕ) (status : ℕ) (old new : Outside) : Type 0 where
-  pub no_image : IsAbsent old.files image → Decided (end ≡ Absent Image) status old new
-  pub bad_image : (rule : ℕ) → Breaks old.files image rule → Decided (status ≡ 3) status old new
+  pub no_image : IsAbsent old.files image → DecidedByImage (end ≡ Absent Image) end status old new
+  pub bad_image : (rule : ℕ) → Breaks old.files image rule → DecidedByImage (status ≡ 3) end status old new
   pub no_disk : (words : List ℕ) → HoldsImage old.files image words → IsAbsent old.files disk → Decided (end ≡ Absent Disk) status old new
-  -- the reboot that looks at the volume may fail or stop before
-  pub bad_volume : (rule b : ℕ) → BreaksVolume old.files image disk rule b → Decided ((status ≡ 4) ⊎ (status ≡ 5) ⊎ (status ≡ 10)) status old new
+  -- the reboot that looks at the volume may meet a fault before. No file is changed at any status
+  pub bad_volume : (rule b : ℕ) → BreaksVolume old.files image disk rule b → Decided ((status ≡ 4) ⊎ (status ≡ 5)) status old new × (new.files ≡ old.files)
 
 -- ---- the work on the files
 
