@@ -2,7 +2,7 @@
 
 ghost use Rattle.std.specs.Prelude.{◌≡◌, ◌+◌, ◌<◌, ◌≤◌, ◌^◌, [], ◌∷◌, ℕ, Some, Ok, IsErr, IfErr, IfOk, MatchOption, OnErr};
 ghost use Rattle.rio_base.specs.Machine.{after_wild};
-ghost use Rattle.rio_base.specs.declared.wild.Wild.TheVariants.{Changed};
+ghost use Rattle.rio_base.specs.declared.wild.Wild.TheVariants.{Changed, Trapped};
 ghost use Rattle.rio_base.specs.Blocks.{EndsBy};
 ghost use Rattle.rio_base.specs.Volume.{Quiet, Runs};
 ghost use Rattle.rio_requests.specs.Requests.{IsRequest};
@@ -86,6 +86,7 @@ pub fn answer_one<M: Machine>(
     ensures txns { request.now ≡ Txns → (reply : Reply) × (result ≡ Ok reply) × (core.new ≡ core.old) }
     ensures flushed { (count : ℕ) → request.now ≡ Flush count → result ≡ Ok Done → (j : ℕ) × Flushed count j (M.contents core.old.view.v.machine) (M.contents core.new.view.v.machine) }
     ensures struck { (at value : ℕ) → request.now ≡ Wild at value → result ≡ Ok Done → (M.contents core.new.view.v.machine ≡ M.contents core.old.view.v.machine) × (M.run core.new.view.v.machine ≡ after_wild Changed at value (M.run core.old.view.v.machine)) }
+    ensures trapped { (at value : ℕ) → request.now ≡ Wild at value → OnErr result ((M.contents core.new.view.v.machine ≡ M.contents core.old.view.v.machine) × (M.run core.new.view.v.machine ≡ after_wild Trapped at value (M.run core.old.view.v.machine))) }
     ensures armed { (step at value : ℕ) → request.now ≡ Arm step at value → result ≡ Ok Done → (M.contents core.new.view.v.machine ≡ M.contents core.old.view.v.machine) × (M.run core.new.view.v.machine ≡ record (M.run core.old.view.v.machine) { armed = Some at; armed_left = step; armed_value = value }) }
     ensures unstruck { (at value : ℕ) → request.now ≡ Wild at value → result ≡ Ok (Refused 19) → core.new ≡ core.old }
     ensures unarmed { (step at value : ℕ) → request.now ≡ Arm step at value → result ≡ Ok (Refused 19) → core.new ≡ core.old }
@@ -162,6 +163,7 @@ fn strike<M: Machine>(core: &mut Core<M>, at: u64, value: u64) -> Result<Reply, 
     ensures went { IfOk result (λ reply. Went (Some (Wild at value) ∷ []) (reply ∷ []) (⟦<PageCache<M> as Blocks>⟧.health core.old.view.v) (⟦<PageCache<M> as Volume>⟧.below core.old.view.v) (⟦<PageCache<M> as Blocks>⟧.health core.new.view.v) (⟦<PageCache<M> as Volume>⟧.below core.new.view.v)) }
     ensures stopped_on { OnErr result (StoppedOn (Wild at value) (⟦<PageCache<M> as Blocks>⟧.health core.old.view.v) (⟦<PageCache<M> as Volume>⟧.below core.old.view.v) (⟦<PageCache<M> as Blocks>⟧.health core.new.view.v) (⟦<PageCache<M> as Volume>⟧.below core.new.view.v)) }
     ensures unstruck { result ≡ Ok (Refused 19) → core.new ≡ core.old }
+    ensures trapped { OnErr result ((M.contents core.new.view.v.machine ≡ M.contents core.old.view.v.machine) × (M.run core.new.view.v.machine ≡ after_wild Trapped at value (M.run core.old.view.v.machine))) }
     ensures struck { result ≡ Ok Done → (M.contents core.new.view.v.machine ≡ M.contents core.old.view.v.machine) × (M.run core.new.view.v.machine ≡ after_wild Changed at value (M.run core.old.view.v.machine)) }
     ensures quiet { Quiet (⟦<PageCache<M> as Volume>⟧.below core.old.view.v) (⟦<PageCache<M> as Volume>⟧.below core.new.view.v) }
     ensures ends { EndsBy (⟦<PageCache<M> as Blocks>⟧.health core.old.view.v) (⟦<PageCache<M> as Blocks>⟧.health core.new.view.v) (TellsFault result) (IsErr result) }
