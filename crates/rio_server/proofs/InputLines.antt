@@ -37,11 +37,11 @@ whole_onto b (line ∷ rest) other h = ((other, h.0), h.1)
 -- no line has an end in it
 whole_lines : (bytes : List ℕ) → AreWhole (lines bytes)
 whole_lines [] = tt
-whole_lines (b ∷ bytes) = by (b == 10) refl
+whole_lines (b ∷ bytes) = by (b == 10) refl (whole_lines bytes)
   where
-    by : (t : Bool) → (b == 10) ≡ t → AreWhole (lines (b ∷ bytes))
-    by true is = subst (λ (u : Bool). AreWhole (cond u ([] ∷ pieces 10 bytes) (onto b (pieces 10 bytes)))) (sym is) (tt, whole_lines bytes)
-    by false is = subst (λ (u : Bool). AreWhole (cond u ([] ∷ pieces 10 bytes) (onto b (pieces 10 bytes)))) (sym is) (whole_onto b (pieces 10 bytes) is (whole_lines bytes))
+    by : (t : Bool) → (b == 10) ≡ t → AreWhole (pieces 10 bytes) → AreWhole (lines (b ∷ bytes))
+    by true is h = subst (λ (u : Bool). AreWhole (cond u ([] ∷ pieces 10 bytes) (onto b (pieces 10 bytes)))) (sym is) (tt, h)
+    by false is h = subst (λ (u : Bool). AreWhole (cond u ([] ∷ pieces 10 bytes) (onto b (pieces 10 bytes)))) (sym is) (whole_onto b (pieces 10 bytes) is h)
 
 whole_front : (xs ys : List (List ℕ)) → AreWhole (xs ++ ys) → AreWhole xs
 whole_front [] ys h = tt

@@ -16,16 +16,16 @@ use Rattle.pair_files.specs.Scenes.{Streams}
 use Rattle.pair_files.specs.declared.ends.PairEnd.{PairEnd}
 use Rattle.pair_files.specs.declared.ends.PairEnd.TheVariants.{Absent, BadImage, BadVolume, BootFault, BootStopped, HostFault, Memory, Unsaved, Worked}
 use Rattle.pair_files.specs.declared.names.PairFile.TheVariants.{Image, Disk}
-use Rattle.pair_serving.specs.ServedScenes.{Served, loop_end}
+use Rattle.pair_serving.specs.ServedScenes.{RunsFrom, Served, loop_end}
 use Rattle.pair_serving.specs.Strikes.{AsksNoStrike}
 use Rattle.pair_serving.specs.declared.ends.LinesEnd.{LinesEnd}
 use Rattle.pair_serving.specs.declared.ends.LinesEnd.TheVariants.{Ended as LoopEnded, Trapped}
 use Rattle.rio_server.specs.Command.{WritesLine}
 use Rattle.rio_server.specs.Outside.{Benched, HostRose, Outside, SinkRose, SourceRose}
-use Rattle.rio_server.specs.Serve.{MadeStatus, ServeCauses, ServeRuns, Untouched, does_serve, lines_status, loop_line, outcome_at, outset_at, serve_line, serve_status, stop_line, stopped_line, trap_told, trapped_line}
+use Rattle.rio_server.specs.Serve.{MadeStatus, ServeCauses, ServeRuns, Stops, StopsAt, Untouched, does_serve, lines_status, loop_line, outcome_at, outset_at, serve_line, serve_status, stop_line, stopped_line, trap_told, trapped_line}
 use Rattle.rio_server.proofs.InputLines.{given_all}
 use Rattle.rio_server.proofs.ServeRefusals.{refusals}
-use Rattle.rio_server.proofs.ServedPairs.{leaves_pair, scene_with, served_as, streams_before, streams_behind}
+use Rattle.rio_server.proofs.ServedPairs.{leaves_pair, scene_with, served_as, stops_at, streams_before, streams_behind}
 use Rattle.rio_server.proofs.StoppedMachines.{stopped_told}
 use Rattle.rio_server.proofs.StopCauses.{calm_at, no_trap, stop_given}
 
@@ -105,6 +105,13 @@ lines_stop image disk stop old new replied faults bench d =
     stop_asked stop
     (sym d.goes.begins.stop_set
     ∙ stop_given d.state run.3.replied.requests run.3.replies run.1 d.begin.health d.begin.below run.6 run.7 d.after.health d.after.below (calm_at (outset_at image disk stop old) d.state d.begin d.goes.begins) run.8 run.9 (d.goes.leads.trapped refl))
+
+-- on which line
+line_stopped : (image disk : List ℕ) (stop : Option ℕ) (old new : Outside) (replied : Option (List ℕ)) (faults : ℕ) (bench : Benched) (e : LinesEnd) → loop_end e ≡ Stopped → IsDone (outset_at image disk stop old) (does_serve e) (outcome_at new replied faults bench) → (s : State) × StopsAt e s old new replied
+line_stopped image disk stop old new replied faults bench e is d =
+    let served = served_some image disk stop old new replied faults bench e d in
+    let run = subst (λ (l : ServeEnd). RunsFrom (scene_with d.state d.begin (streams_before old)) l (scene_with d.after.state d.after (streams_behind new replied faults))) is served.run in
+    (d.state, stops_at e d.state old new replied faults d.begin d.after (calm_at (outset_at image disk stop old) d.state d.begin d.goes.begins) run (served.trapped is))
 
 -- ---- causes
 
@@ -204,6 +211,17 @@ module _ (image disk : List ℕ) (stop : Option ℕ) (status : ℕ) (old new : O
   stopped (HostFault file) is h told = absurd (omega (arith, is, told))
   stopped (Unsaved e) is h told = absurd (omega (arith, is, told))
 
+  stopped_on : (end : PairEnd LinesEnd) → status ≡ serve_status end → Ends end → status ≡ 10 → Stops end old new replied
+  stopped_on BootStopped is h told = (ap (λ (p : Streams). p.left) h.ends.0.unread, ap (λ (p : Streams). p.written) h.ends.0.unread)
+  stopped_on (Worked e) is h told = line_stopped image disk stop old new replied faults bench e ((lines_end (loop_end e) status is).4 told) h.ends.2
+  stopped_on (BadImage rule) is h told = absurd (omega (arith, is, told))
+  stopped_on (BadVolume rule b) is h told = absurd (omega (arith, is, told))
+  stopped_on BootFault is h told = absurd (omega (arith, is, told))
+  stopped_on Memory is h told = absurd (omega (arith, is, told))
+  stopped_on (Absent file) is h told = absurd (omega (arith, is, told))
+  stopped_on (HostFault file) is h told = absurd (omega (arith, is, told))
+  stopped_on (Unsaved e) is h told = absurd (omega (arith, is, told))
+
   -- the machine that was left was stopped, and has the trap that is told, or none
   abbrev LeftStopped : PairEnd LinesEnd → Type 0
   LeftStopped end = bench.tells ≡ true → (l : Leaving) × (bench.left ≡ Some l) × (l.stopped ≡ true) × (l.trapped ≡ trap_told end)
@@ -266,6 +284,7 @@ module _ (image disk : List ℕ) (stop : Option ℕ) (status : ℕ) (old new : O
     source_fault = source_fault end is h;
     sink_fault = sink_fault end is h later;
     stopped = stopped end is h;
+    stopped_on = stopped_on end is h;
     left_stopped = left_stopped end is h;
     stopped_told = λ n l made tells left halted. stopped_told (outset_at image disk stop old) (outcome_at new replied faults bench) n l made tells left halted status end is h;
     limit = limit end is h;
@@ -286,7 +305,7 @@ module _ (image disk : List ℕ) (stop : Option ℕ) (status : ℕ) (old new : O
   complete (Worked (LoopEnded InputLimit)) is h later i k s input pair none has few quiet no_host no_source no_sink = absurd (let more = past_limit h input has in omega (arith, few, more))
   complete (Worked (LoopEnded Stopped)) is h later i k s input pair none has few quiet no_host no_source no_sink = let set = lines_stop image disk stop old new replied faults bench h.ends.2 in absurd (let e = set.1 in cc (none, e))
   complete (Worked (Trapped at)) is h later i k s input pair none has few quiet no_host no_source no_sink =
-      let left = leaves_pair image disk stop old new replied faults bench (Worked (Trapped at)) i k s h pair (λ e. omega (arith, e)) in absurd (no_trap at s left.after old new replied input left.serves has quiet)
+      let left = leaves_pair image disk stop old new replied faults bench (Worked (Trapped at)) i k s h pair (λ e. omega (arith, e)) in absurd (no_trap at s old new replied input left.serves.line has quiet)
   complete Memory is h later i k s input pair none has few quiet no_host no_source no_sink = inr is
   complete BootFault is h later i k s input pair none has few quiet no_host no_source no_sink = absurd (no_host h.ends.1)
   complete BootStopped is h later i k s input pair none has few quiet no_host no_source no_sink = let set = stop_asked stop h.ends.1 in absurd (let e = set.1 in cc (none, e))

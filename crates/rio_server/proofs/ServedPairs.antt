@@ -20,7 +20,7 @@ use Rattle.pair_serving.specs.declared.ends.LinesEnd.{LinesEnd}
 use Rattle.pair_serving.specs.declared.ends.LinesEnd.TheVariants.{Ended as LoopEnded, Trapped}
 use Rattle.pair_serving.proofs.Sizes.{keeps_then, part_keeps, run_keeps}
 use Rattle.rio_server.specs.Outside.{Benched, Outside}
-use Rattle.rio_server.specs.Serve.{LeavesPair, ReadsNoFlush, RunServes, ServesLines, StopsLines, does_serve, outcome_at, outset_at, serve_status}
+use Rattle.rio_server.specs.Serve.{LeavesPair, ReadsNoFlush, RunServes, ServesLines, StopsAt, StopsLines, does_serve, outcome_at, outset_at, serve_status}
 use Rattle.rio_server.proofs.StopCauses.{IsCalm, calm_at, stops_by}
 
 -- ---- scenes, by what is known of them
@@ -65,16 +65,21 @@ lines_by e s t after old new replied serves low high left counted first last = r
 }
 
 -- lines that were stopped
-stop_lines : (e : LinesEnd) (s : State) (old new : Outside) (replied : Option (List ℕ)) (faults : ℕ) (a b : Scene) → IsCalm s a.below → RunsFrom (scene_with s a (streams_before old)) Stopped (scene_with b.state b (streams_behind new replied faults)) → b.below.causes.trapped ≡ trap_of e → old.host_faults ≤ a.health.faults → b.health.faults ≤ new.host_faults
-    → StopsLines e s b.state old new replied
-stop_lines e s old new replied faults a b calm run trapped low high = record {
+abbrev pub stops_at : (e : LinesEnd) (s : State) (old new : Outside) (replied : Option (List ℕ)) (faults : ℕ) (a b : Scene) → IsCalm s a.below → RunsFrom (scene_with s a (streams_before old)) Stopped (scene_with b.state b (streams_behind new replied faults)) → b.below.causes.trapped ≡ trap_of e → StopsAt e s old new replied
+stops_at e s old new replied faults a b calm run trapped = record {
   state = run.0;
   request = run.1;
-  part = run.2;
   stops = run.3;
+  stopped_by = stops_by s run.3.replied.requests run.3.replies run.1 a.health a.below run.6 run.7 b.health b.below calm run.8 run.9 e trapped;
+}
+
+abbrev stop_lines : (e : LinesEnd) (s : State) (old new : Outside) (replied : Option (List ℕ)) (faults : ℕ) (a b : Scene) → IsCalm s a.below → RunsFrom (scene_with s a (streams_before old)) Stopped (scene_with b.state b (streams_behind new replied faults)) → b.below.causes.trapped ≡ trap_of e → old.host_faults ≤ a.health.faults → b.health.faults ≤ new.host_faults
+    → StopsLines e s b.state old new replied
+stop_lines e s old new replied faults a b calm run trapped low high = record {
+  line = stops_at e s old new replied faults a b calm run trapped;
+  part = run.2;
   is_part = run.4;
   leaves = run.5;
-  stopped_by = stops_by s run.3.replied.requests run.3.replies run.1 a.health a.below run.6 run.7 b.health b.below calm run.8 run.9 e trapped;
   faults = let more = run.9.later in rose_within (faults_in run.3.replies) old.host_faults a.health.faults run.6.faults new.host_faults low (omega (arith, more, high)) run.8.counted;
 }
 
@@ -94,7 +99,7 @@ run_told (Trapped at) s old new replied faults a b calm h low high = (stop_lines
 
 -- no request changes the volume's sizes
 stop_shape : (e : LinesEnd) (s after : State) (old new : Outside) (replied : Option (List ℕ)) → StopsLines e s after old new replied → after.shape ≡ s.shape
-stop_shape e s after old new replied h = ap (λ (u : State). u.shape) h.leaves ∙ (keeps_then s h.state h.part (run_keeps s _ _ h.state h.stops.replied.run) (part_keeps h.state h.request h.part h.is_part)).shape
+stop_shape e s after old new replied h = ap (λ (u : State). u.shape) h.leaves ∙ (keeps_then s h.line.state h.part (run_keeps s _ _ h.line.state h.line.stops.replied.run) (part_keeps h.line.state h.line.request h.part h.is_part)).shape
 
 shape_kept : (e : LinesEnd) (s after : State) (old new : Outside) (replied : Option (List ℕ)) → RunServes (Worked e) s after old new replied → after.shape ≡ s.shape
 shape_kept (Trapped at) s after old new replied h = stop_shape (Trapped at) s after old new replied h

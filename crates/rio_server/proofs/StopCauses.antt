@@ -22,7 +22,7 @@ use Rattle.pair_serving.specs.Strikes.{AsksNoStrike, Fell, IsProtected, IsStrike
 use Rattle.pair_serving.specs.declared.ends.LinesEnd.{LinesEnd}
 use Rattle.pair_serving.specs.declared.ends.LinesEnd.TheVariants.{Ended as LoopEnded, Trapped}
 use Rattle.rio_server.specs.Outside.{Outside}
-use Rattle.rio_server.specs.Serve.{StopsLines}
+use Rattle.rio_server.specs.Serve.{StopsAt}
 use Rattle.rio_server.proofs.InputLines.{all_front, all_head, all_last, all_tail, lines_taken}
 
 -- ---- where lines begin
@@ -103,8 +103,8 @@ armed_by_none s (line ∷ answered) (request ∷ requests) (reply ∷ replies) o
     armed_here s line request reply o at mean.0 (all_head (IsNoStrike s) line answered none) low (armed_by_none s answered requests replies (armed_by request reply o) at mean.1 (all_tail (IsNoStrike s) line answered none) low e)
 
 -- lines of which none asks for one make none trap
-pub no_trap : (at : WordAt) (s after : State) (old new : Outside) (replied : Option (List ℕ)) (input : List ℕ) → StopsLines (Trapped at) s after old new replied → old.left ≡ Some input → AsksNoStrike s input → ⊥
-no_trap at s after old new replied input h has none = by h.stopped_by.1
+pub no_trap : (at : WordAt) (s : State) (old new : Outside) (replied : Option (List ℕ)) (input : List ℕ) → StopsAt (Trapped at) s old new replied → old.left ≡ Some input → AsksNoStrike s input → ⊥
+no_trap at s old new replied input h has none = by h.stopped_by.1
   where
     taken : (more : List (List ℕ)) × (lines input ≡ (h.stops.answered ++ h.stops.line ∷ []) ++ more)
     taken = lines_taken h.stops.taken new.left input (h.stops.answered ++ h.stops.line ∷ []) (sym has ∙ h.stops.gave) h.stops.first

@@ -105,17 +105,21 @@ pub record ServesLines (end : ServeEnd) (s after : State) (old new : Outside) (r
   pub faults : RoseBy (faults_in serves.run.replies) old.host_faults new.host_faults
   pub faultless : ¬ HostRose old new → faults_in serves.run.replies ≡ 0
 
--- the machine stopped on the line behind those that have replies, and of its request a part stands
-pub record StopsLines (end : LinesEnd) (s after : State) (old new : Outside) (replied : Option (List ℕ)) : Type 0 where
+-- the machine stopped on the line behind those that have replies: a wild store trapped, for which that line asks or the last of those
+-- that arm one; or the stop came at a step of the request
+pub record StopsAt (end : LinesEnd) (s : State) (old new : Outside) (replied : Option (List ℕ)) : Type 0 where
   pub state : State
   pub request : Request
-  pub part : State
   pub stops : StopsOn core_protocol s state request old.left new.left old.written replied
-  pub is_part : IsPart state request part
-  pub leaves : after ≡ crashed part
-  -- a wild store trapped, which that line or the last of the lines that arm one asks for; or the stop came at a step of the request
   pub stopped_by : StopsBy end s stops.replied.requests stops.replies request
-  pub faults : RoseBy (faults_in stops.replies) old.host_faults new.host_faults
+
+-- and of its request a part stands
+pub record StopsLines (end : LinesEnd) (s after : State) (old new : Outside) (replied : Option (List ℕ)) : Type 0 where
+  pub line : StopsAt end s old new replied
+  pub part : State
+  pub is_part : IsPart line.state line.request part
+  pub leaves : after ≡ crashed part
+  pub faults : RoseBy (faults_in line.stops.replies) old.host_faults new.host_faults
 
 -- no line was read
 pub record ServesNone (s after : State) (old new : Outside) (replied : Option (List ℕ)) : Type 0 where
@@ -135,8 +139,8 @@ RunServes _ s after old new replied = ⊥
 
 -- lines were read of which none is a flush
 abbrev pub ReadsNoFlush : (end : PairEnd LinesEnd) (s after : State) (old new : Outside) (replied : Option (List ℕ)) → RunServes end s after old new replied → Type 0
-ReadsNoFlush (Worked (Trapped at)) s after old new replied run = AsksNoFlush run.stops.taken
-ReadsNoFlush (Worked (LoopEnded Stopped)) s after old new replied run = AsksNoFlush run.stops.taken
+ReadsNoFlush (Worked (Trapped at)) s after old new replied run = AsksNoFlush run.line.stops.taken
+ReadsNoFlush (Worked (LoopEnded Stopped)) s after old new replied run = AsksNoFlush run.line.stops.taken
 ReadsNoFlush (Worked (LoopEnded End)) s after old new replied run = AsksNoFlush run.serves.taken
 ReadsNoFlush (Worked (LoopEnded SourceFault)) s after old new replied run = AsksNoFlush run.serves.taken
 ReadsNoFlush (Worked (LoopEnded SinkFault)) s after old new replied run = AsksNoFlush run.serves.taken
@@ -162,6 +166,12 @@ pub record Untouched (old new : Outside) (replied : Option (List ℕ)) : Type 0 
   pub unread : new.left ≡ old.left
   pub unwritten : replied ≡ old.written
 
+-- on which line the machine stopped, from some state; or no line was read
+abbrev pub Stops : PairEnd LinesEnd → Outside → Outside → Option (List ℕ) → Type 0
+Stops (Worked end) old new replied = (s : State) × StopsAt end s old new replied
+Stops BootStopped old new replied = (new.left ≡ old.left) × (replied ≡ old.written)
+Stops _ old new replied = ⊥
+
 pub record ServeCauses (end : PairEnd LinesEnd) (image disk : List ℕ) (stop : Option ℕ) (status : ℕ) (old new : Outside) (replied : Option (List ℕ)) (bench : Benched) : Type 0 where
   -- 0: the sink refused nothing
   pub steady : status ≡ 0 → new.sink_faults ≡ old.sink_faults
@@ -177,6 +187,7 @@ pub record ServeCauses (end : PairEnd LinesEnd) (image disk : List ℕ) (stop : 
   -- 10: the number of a stop that was asked for is told, or where a wild store trapped; and the machine was stopped, with that trap or
   -- with none
   pub stopped : status ≡ 10 → ((steps : ℕ) × (stop ≡ Some steps) × (serve_line end image disk stop ≡ stopped_line steps)) ⊎ ((at : ℕ) × (trap_told end ≡ Some at) × (serve_line end image disk stop ≡ trapped_line at))
+  pub stopped_on : status ≡ 10 → Stops end old new replied
   pub left_stopped : status ≡ 10 → bench.tells ≡ true → (l : Leaving) × (bench.left ≡ Some l) × (l.stopped ≡ true) × (l.trapped ≡ trap_told end)
   -- a machine that was left stopped is told by 10, or by 7 where the image could not be saved
   pub stopped_told : (n : ℕ) (l : Leaving) → bench.pages ≡ Some n → bench.tells ≡ true → bench.left ≡ Some l → l.stopped ≡ true → (status ≡ 10) ⊎ (status ≡ 7)
