@@ -1,6 +1,6 @@
 -- Answers that are the same over two regions, and a state that moves as the words of one region do.
 use Rattle.std.specs.Prelude.{◌≡◌, ℕ, Bool, List, Option, Some, None}
-use Rattle.rio_core.proofs.Common.{get, RegionContent, Region, RegionNode, State, Txn, with_node, region_in, crashed, abort_on, alloc_on, begin_on, commit_on, free_on, get_on, put_on, range_on}
+use Rattle.rio_core.proofs.Common.{RegionContent, Region, RegionNode, State, Txn, with_node, region_in, crashed, abort_on, alloc_on, begin_on, commit_on, free_on, get_on, put_on, range_on}
 
 -- ---- one region
 
