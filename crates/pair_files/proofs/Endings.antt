@@ -288,7 +288,6 @@ unsaved_is o c r x found two counted h = record {
   left = λ e. (left_by c r, h.told e, h.rose);
 }
 
-
 pub every_saved : {E : Type 0} (o : Outset) (c : Contents) (r : Running) (x : Outcome) (end : PairEnd E) → o.faults ≤ c.faults.count → SavedAs o c r x → EndsNoBreach end → EndsSound o end x
 every_saved o c r x end counted h none = record { sound = λ i k s pair. none; others = λ name image disk. others_saved o c r x name h image disk; counted = omega (arith, counted, h.counted) }
 
