@@ -13,6 +13,7 @@ use machine_readers::save;
 use phys_memory::ListMem;
 use rio_base::{Block, DiskBlocks, Machine, MemWords, Page, Wild, WordAt};
 use std::alloc::Global;
+use std::process::Abort;
 use std::test::Fail;
 
 #[test]
@@ -162,18 +163,38 @@ fn first_words(alloc: Global, disk: &mut MemDisk) -> Result<[u64; 2], Fail>
     Ok([two, into[0]])
 }
 
+/// The first words of the blocks 2 and 3 after a stop within a write of block 3, and after the crash behind it. Each word of memory
+/// is its place. Block 3 had page 2 at the last sync, and page 3 was written to block 2 after it.
+fn around_a_crash(
+    rt: &impl Abort,
+    alloc: Global,
+    choice: DiskChoice,
+) -> Result<[[u64; 2]; 2], Fail> {
+    let rows = [
+        Row::Board("a write is stopped", Memory::Counted, Mishap::Stop(3)),
+        Row::Make(Call::Write(3, 2), Came::Done),
+        Row::Make(Call::Sync, Came::Done),
+        Row::Make(Call::Write(2, 3), Came::Done),
+        Row::Make(Call::Write(3, 4), Came::Stopped),
+    ];
+    let (_, mut disk) = check(rt, alloc, &rows)?.into_parts();
+    let before = first_words(alloc, &mut disk)?;
+    disk.after_crash(choice);
+    let after = first_words(alloc, &mut disk)?;
+    Ok([before, after])
+}
+
+/// A word that is filled with the byte 1.
+const ONES: u64 = 0x0101_0101_0101_0101;
+
 #[test]
 fn a_stopped_write_is_told_to_the_disk(rt: HostRuntime) -> Result<(), Fail> {
-    let rows = [
-        Row::Board("a write is stopped", Memory::Counted, Mishap::Stop(0)),
-        Row::Make(Call::Write(3, 2), Came::Stopped),
-    ];
-    let (_, mut disk) = check(&rt, rt.alloc(), &rows)?.into_parts();
-    let before = first_words(rt.alloc(), &mut disk)?;
-    disk.after_crash(DiskChoice::Filled(1));
-    let after = first_words(rt.alloc(), &mut disk)?;
-    let due = [[0, 0], [0, 0x0101_0101_0101_0101]];
-    same(&rt, "the disk", 0, &[before, after], &due);
+    let as_read = around_a_crash(&rt, rt.alloc(), DiskChoice::AsRead)?;
+    same(&rt, "as read", 0, &as_read, &[[1536, 1024], [1536, 1024]]);
+    let as_synced = around_a_crash(&rt, rt.alloc(), DiskChoice::AsSynced)?;
+    same(&rt, "as synced", 0, &as_synced, &[[1536, 1024], [0, 1024]]);
+    let filled = around_a_crash(&rt, rt.alloc(), DiskChoice::Filled(1))?;
+    same(&rt, "filled", 0, &filled, &[[1536, 1024], [ONES, ONES]]);
     Ok(())
 }
 
