@@ -75,6 +75,7 @@ impl Session {
             "still" => self.run_still(rest, out),
             "walk" => self.serve_walk(rest, out),
             "status-of" => self.tell_status_of(rest, out),
+            "twice" => self.run_twice(rest, out),
             "serve" => self.serve_lines(out),
             "on" | "bad-block" | "pieces" | "source-fails" | "sink-fails" => self.set(word, rest),
             "==" => {
@@ -174,6 +175,21 @@ impl Session {
     fn tell_status_of(&mut self, command: &str, out: &mut Vec<u8>) -> Result<(), AllocError> {
         let (status, _) = self.run_words(command)?;
         tell_status(status, out)
+    }
+
+    /// Runs the program twice on the words of a command. Tells the first status, and whether the second run wrote the same and
+    /// had the same status.
+    fn run_twice(&mut self, command: &str, out: &mut Vec<u8>) -> Result<(), AllocError> {
+        let (status, sink) = self.run_words(command)?;
+        let (status_again, sink_again) = self.run_words(command)?;
+        tell_status(status, out)?;
+        if status_again != status {
+            return tell_line(out, b"another status");
+        }
+        if sink_again.bytes().as_slice() != sink.bytes().as_slice() {
+            return tell_line(out, b"another text");
+        }
+        tell_line(out, b"the same twice")
     }
 
     /// Runs the program as `run_command` does, and tells whether both files of the pair are as they were.
