@@ -1,13 +1,19 @@
 //! What the plans of a script come to, as text.
 
 use crate::defined::{are_alike, first_difference};
-use crate::plans::{Mishap, run_one, run_two};
-use live_plans::{BootEnd, BootRun};
+use crate::mishaps::{failing, nothing, stop};
+use crate::plans::run;
+use block_disk::DiskChoice;
+use live_plans::{BootEnd, BootRun, Transcript};
+use rio_requests::Reply;
 use std::alloc::{AllocError, Global};
+
+/// How many calls of a disk fail in a boot of which some do.
+const FAILING: u64 = 2;
 
 /// Whether one boot answers its requests as defined.
 pub(crate) fn told_same(alloc: Global, seed: u32, count: u64) -> Result<String, AllocError> {
-    let transcript = run_one(alloc, seed, count)?;
+    let transcript = run(alloc, seed, count, &[nothing()])?;
     let [run] = transcript.boots.as_slice() else {
         return String::from_str(alloc, "    not one boot\n");
     };
@@ -23,15 +29,15 @@ pub(crate) fn told_same(alloc: Global, seed: u32, count: u64) -> Result<String, 
 
 /// Whether a stop and a failing call that no boot reaches change nothing.
 pub(crate) fn told_unreached(alloc: Global, seed: u32, count: u64) -> Result<String, AllocError> {
-    let stop = Mishap::Stop { steps: u64::MAX };
-    let call = Mishap::LastCallFails;
-    let plain = run_two(alloc, seed, count, Mishap::None, Mishap::None)?;
-    let stopping = run_two(alloc, seed, count, stop, stop)?;
-    if !are_alike(alloc, &plain, &stopping)? {
+    let late_stop = stop(u64::MAX, DiskChoice::Filled(0xa5));
+    let late_call = failing(u64::MAX, 1);
+    let plain = run(alloc, seed, count, &[nothing(), nothing()])?;
+    let with_stops = run(alloc, seed, count, &[late_stop, late_stop])?;
+    if !are_alike(alloc, &plain, &with_stops)? {
         return String::from_str(alloc, "    the stop differs\n");
     }
-    let failing = run_two(alloc, seed, count, call, call)?;
-    if !are_alike(alloc, &plain, &failing)? {
+    let with_calls = run(alloc, seed, count, &[late_call, late_call])?;
+    if !are_alike(alloc, &plain, &with_calls)? {
         return String::from_str(alloc, "    the failing call differs\n");
     }
     String::from_str(alloc, "    the same\n")
@@ -44,13 +50,72 @@ pub(crate) fn told_boots(
     count: u64,
     steps: u64,
 ) -> Result<String, AllocError> {
-    let transcript = run_two(alloc, seed, count, Mishap::Stop { steps }, Mishap::None)?;
+    let mishaps = [stop(steps, DiskChoice::AsRead), nothing()];
+    let transcript = run(alloc, seed, count, &mishaps)?;
     let [first, second] = transcript.boots.as_slice() else {
         return String::from_str(alloc, "    not two boots\n");
     };
     let end = end_word(first.end);
     let answers = answers_word(second, count);
     format!(in alloc; "    {end}\n    {answers}\n")
+}
+
+/// How three boots end, of which the second is to stop after so many steps, and whether they come to the same whatever the
+/// pending blocks hold after the stop.
+pub(crate) fn told_choices(
+    alloc: Global,
+    seed: u32,
+    count: u64,
+    steps: u64,
+) -> Result<String, AllocError> {
+    let as_read = run_stopped(alloc, seed, count, steps, DiskChoice::AsRead)?;
+    let as_synced = run_stopped(alloc, seed, count, steps, DiskChoice::AsSynced)?;
+    if !are_alike(alloc, &as_read, &as_synced)? {
+        return String::from_str(alloc, "    as synced differs\n");
+    }
+    let filled = run_stopped(alloc, seed, count, steps, DiskChoice::Filled(0xa5))?;
+    if !are_alike(alloc, &as_read, &filled)? {
+        return String::from_str(alloc, "    filled differs\n");
+    }
+    let mut told = told_ends(alloc, &as_read)?;
+    told.push_str("    the same\n")?;
+    Ok(told)
+}
+
+/// Runs three boots, of which the second stops after so many steps, with this choice for the pending blocks.
+fn run_stopped(
+    alloc: Global,
+    seed: u32,
+    count: u64,
+    steps: u64,
+    choice: DiskChoice,
+) -> Result<Transcript, AllocError> {
+    let mishaps = [nothing(), stop(steps, choice), nothing()];
+    run(alloc, seed, count, &mishaps)
+}
+
+/// How three boots end, and which of them tell of device faults. Calls of the disk fail in the first and in the third, from this
+/// one on.
+pub(crate) fn told_faults(
+    alloc: Global,
+    seed: u32,
+    count: u64,
+    first: u64,
+) -> Result<String, AllocError> {
+    let fails = failing(first, FAILING);
+    let transcript = run(alloc, seed, count, &[fails, nothing(), fails])?;
+    told_ends(alloc, &transcript)
+}
+
+/// A line for each boot.
+fn told_ends(alloc: Global, transcript: &Transcript) -> Result<String, AllocError> {
+    let mut told = String::new(alloc);
+    for run in transcript.boots.as_slice() {
+        let end = end_word(run.end);
+        let faults = faults_word(run);
+        told.push_str(format!(in alloc; "    {end}, {faults}\n")?.as_str())?;
+    }
+    Ok(told)
 }
 
 /// How a boot ended, in a word.
@@ -60,6 +125,23 @@ fn end_word(end: BootEnd) -> &'static str {
         BootEnd::Stopped => "stopped",
         BootEnd::BootFault => "fault at boot",
     }
+}
+
+/// Whether replies of a boot tell of device faults, and of more than it has failing calls.
+fn faults_word(run: &BootRun) -> &'static str {
+    let answered = run.answered.as_slice();
+    let faults = answered.iter().filter(|answer| is_fault(&answer.1)).count();
+    if faults == 0 {
+        return "no reply 30";
+    }
+    if faults as u64 <= FAILING {
+        return "replies 30";
+    }
+    "too many replies 30"
+}
+
+fn is_fault(reply: &Reply) -> bool {
+    matches!(reply, Reply::Fault(_))
 }
 
 /// Whether the second boot answered all of so many requests.

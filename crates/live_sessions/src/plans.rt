@@ -4,7 +4,7 @@ ghost use Rattle.std.specs.Prelude.{◌*◌, ◌≤◌, All, IfOk};
 ghost use Rattle.rio_base.specs.Image.{image_pages};
 ghost use Rattle.rio_live.specs.Legal.{IsBootPlan};
 
-use block_disk::DiskChoice;
+use crate::mishaps::Mishap;
 use live_plans::{BootPlan, CallList, LivePlan, Transcript};
 use rio_live::live;
 use std::alloc::{AllocError, Global};
@@ -18,45 +18,25 @@ pub(crate) const INODES: u32 = 1_024;
 
 pub(crate) const SCRATCH: u32 = 4;
 
-/// What befalls a boot.
-#[derive(Clone, Copy, Debug)]
-pub(crate) enum Mishap {
-    /// Nothing.
-    None,
-    /// Its machine stops once it has made so many steps.
-    Stop { steps: u64 },
-    /// The last call of the disk that can be counted fails.
-    LastCallFails,
-}
-
-/// Runs one boot of so many requests drawn from a seed.
-pub(crate) fn run_one(alloc: Global, seed: u32, count: u64) -> Result<Transcript, AllocError> {
-    let mut draws = Gen::new(seed);
-    let boot = drawn_boot(alloc, &mut draws, count, Mishap::None)?;
-    let mut boots = Vec::new(alloc);
-    boots.push(boot)?;
-    run(alloc, boots)
-}
-
-/// Runs two boots of so many requests each, drawn from a seed, that this befalls.
-pub(crate) fn run_two(
+/// Runs a boot for each of these mishaps, which befalls it. Each boot has so many requests, drawn from a seed one after the
+/// other.
+pub(crate) fn run(
     alloc: Global,
     seed: u32,
     count: u64,
-    first: Mishap,
-    second: Mishap,
+    mishaps: &[Mishap],
 ) -> Result<Transcript, AllocError> {
     let mut draws = Gen::new(seed);
-    let first = drawn_boot(alloc, &mut draws, count, first)?;
-    let second = drawn_boot(alloc, &mut draws, count, second)?;
     let mut boots = Vec::new(alloc);
-    boots.push(first)?;
-    boots.push(second)?;
-    run(alloc, boots)
+    for mishap in mishaps {
+        let boot = drawn_boot(alloc, &mut draws, count, *mishap)?;
+        boots.push(boot)?;
+    }
+    run_boots(alloc, boots)
 }
 
 /// Runs boots, the first one on a fresh volume.
-fn run(alloc: Global, boots: Vec<BootPlan>) -> Result<Transcript, AllocError>
+fn run_boots(alloc: Global, boots: Vec<BootPlan>) -> Result<Transcript, AllocError>
     requires { All (IsBootPlan (512 * image_pages 256 4)) boots.items }
 {
     let plan = LivePlan {
@@ -83,33 +63,23 @@ fn drawn_boot(
         let request = draws.next_request(alloc)?;
         requests.push(request)?;
     }
-    let fail = failing_calls(alloc, mishap)?;
+    let fail = failing_calls(alloc, mishap.first_call, mishap.calls)?;
     Ok(BootPlan {
         requests: requests.into(),
-        stop_after: stop_of(mishap),
+        stop_after: mishap.stop_after,
         arm: None,
         fail,
-        choice: DiskChoice::AsRead,
+        choice: mishap.choice,
     })
 }
 
-/// The calls of the disk that fail.
-fn failing_calls(alloc: Global, mishap: Mishap) -> Result<CallList, AllocError>
+/// So many calls of a disk, from this one on.
+fn failing_calls(alloc: Global, first: u64, count: u64) -> Result<CallList, AllocError>
     ensures { IfOk result (λ calls. All (λ n. 1 ≤ n) calls) }
 {
     let mut calls = Vec::new(alloc);
-    if let Mishap::LastCallFails = mishap {
-        calls.push(u64::MAX)?;
-        return Ok(calls.into());
+    for n in 0..count {
+        calls.push(first.saturating_add(n).max(1))?;
     }
     Ok(calls.into())
-}
-
-/// After how many steps the machine stops, if ever.
-fn stop_of(mishap: Mishap) -> Option<u64> {
-    match mishap {
-        Mishap::Stop { steps } => Some(steps),
-        Mishap::None => None,
-        Mishap::LastCallFails => None,
-    }
 }
