@@ -531,8 +531,8 @@ class Transaction:
 def format_pair(image, disk, frames, blocks, inodes, scratch, program=None):
     """Writes a fresh pair of files in place of any of these names, and returns its pages and blocks. It raises `Ended`.
 
-    A page and a block are 4,096 bytes. In range are frames from 32 to 8,192, inodes from 32 to 32,768 in multiples of 32, blocks from
-    `3 + inodes / 32` to 32,768, and scratch pages from 1 to 64.
+    A page and a block are 4,096 bytes. In range are frames from 32 to 8,192, inodes from 32 to 32,768 in multiples of 32,
+    blocks from `3 + inodes / 32` to 32,768, and scratch pages from 1 to 64.
     """
     sizes = {"frames": frames, "blocks": blocks, "inodes": inodes, "scratch": scratch}
     options = [f"--{name}={in_range(value, 0, MOST_NUMBER)}" for name, value in sizes.items()]
