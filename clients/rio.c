@@ -608,11 +608,12 @@ int rio_stat(rio *r, const char *path, struct rio_stat *found)
 /* An array of the items of a text, each with a space before it, in one block with them. */
 static char **split(const char *text, size_t length, size_t count)
 {
-    char **items = malloc(count * sizeof *items + length);
+    char **items = malloc(count * sizeof *items + length + 1);
     if (items == NULL) return NULL;
     char *at = (char *)(items + count);
     char *end = at + length;
     memcpy(at, text, length);
+    *end = '\0';
     for (size_t i = 0; i < count; i++) {
         *at = '\0';
         items[i] = at + 1;

@@ -83,7 +83,8 @@ enum rio_refusal {
     RIO_DEVICE_FAULT = 30,   /* the disk failed in this request */
     RIO_NO_MEMORY = 31,      /* the program had no memory for it; nothing changed */
 
-    RIO_ENDED = -1,      /* the program has ended: see rio_end and rio_last_line. The request is done or not, of a write perhaps in part */
+    /* The program has ended: see rio_end and rio_last_line. The request is done or not, or of a write a front of it. */
+    RIO_ENDED = -1,
     RIO_INVALID = -2,    /* an argument is outside of what its call allows; nothing was sent */
     RIO_SYSTEM = -3,     /* the request is done, and there was no memory for what it answers: see errno */
     RIO_WRONG_REPLY = -4 /* the reply is none that the request can have */
