@@ -1,4 +1,7 @@
-"""The parts of the test on the C client, which is compiled in the folder of the test, and run under valgrind where there is one."""
+"""The parts of the test on the C client, which is compiled in the folder of the test.
+
+Some of them run under valgrind, where there is one: those that are told apart in `run` by `watched`. It takes a second for each.
+"""
 import os
 import shutil
 import subprocess
@@ -7,7 +10,7 @@ from rio import MOST_BYTES
 from setting import FAKE, HERE, Differs, every_line, refused_pairs, same, sent, shown
 
 WARNINGS = ["-std=c11", "-Wall", "-Wextra", "-Wpedantic", "-Werror"]
-FOLLOWED = ["valgrind", "-q", "--error-exitcode=3", "--leak-check=full", "--track-fds=no", "--child-silent-after-fork=yes"]
+VALGRIND = ["valgrind", "-q", "--error-exitcode=3", "--leak-check=full", "--child-silent-after-fork=yes"]
 
 
 def compiled(setting):
@@ -25,10 +28,11 @@ def compiled(setting):
     return program
 
 
-def run(setting, part, program, files, told=""):
+def run(setting, part, program, files, told="", watched=False):
     """Runs a part of the program, which reads what it is told; what it prints are differences."""
-    watched = FOLLOWED if shutil.which("valgrind") else []
-    words = [*watched, compiled(setting), part, program, *files]
+    words = [compiled(setting), part, program, *files]
+    if watched and shutil.which("valgrind"):
+        words = VALGRIND + words
     ended = subprocess.run(words, input=told.encode(), stdout=subprocess.PIPE, stderr=subprocess.STDOUT, check=False)
     if ended.returncode != 0 or ended.stdout:
         raise Differs(f"status {ended.returncode}: {shown(ended.stdout.decode())}")
@@ -39,7 +43,7 @@ def compiles(setting):
 
 
 def every_call(setting):
-    run(setting, "requests", setting.program, setting.pair())
+    run(setting, "requests", setting.program, setting.pair(), watched=True)
 
 
 def refusals(setting):
@@ -60,10 +64,10 @@ def answers(setting):
 def wrong_answers(setting):
     bytes_ = ["ok 616161", "ok", "ok 6", "ok 6A", "ok 61"]
     stats = ["ok 2 file", "ok 2 link 4", "ok 2 file 4 5"]
-    names = ["ok", "ok 1", "ok 1 a b"]
+    items = ["ok", "ok 1", "ok 1 a b"]
     inodes = ["ok 1 x", "ok 2 3 "]
     numbers = ["ok ", "ok 18446744073709551616", "ok 2 "]
-    run(setting, "wrong_answers", FAKE, setting.script(*bytes_, *stats, *names, *inodes, *numbers))
+    run(setting, "wrong_answers", FAKE, setting.script(*bytes_, *stats, *items, *inodes, *numbers), watched=True)
 
 
 def invalid(setting):
@@ -71,7 +75,7 @@ def invalid(setting):
 
 
 def refused(setting):
-    for image, disk, status, line in refused_pairs(setting):
+    for image, disk, status, line in refused_pairs(setting)[::2]:
         run(setting, "refused", setting.program, (image, disk), f"{status} {line}")
 
 
@@ -80,11 +84,17 @@ def stops(setting):
 
 
 def other_ends(setting):
-    """After a large line and a large reply, both slow, the program ends in each of these ways."""
-    ends = {"exit 8 source fault": "8 source fault", "half ok 61": "9", "half o": "9", "half stopp": "9 stopp", "die": "-9"}
+    ends = {
+        "exit 6 out of memory": "6 out of memory", "exit 7 host fault: an image": "7 host fault: an image", "exit 9": "9",
+        "half ok 61": "9", "half o": "9", "half stopp": "9 stopp", "die": "-9", "okay": "0 okay",
+    }
     for line, end in ends.items():
-        script = setting.script(f"late ok {MOST_BYTES}", f"bytes {MOST_BYTES}", line)
-        run(setting, "slow", FAKE, script, end)
+        run(setting, "ended", FAKE, setting.script("ok", line), end)
+
+
+def slow(setting):
+    script = setting.script(f"late ok {MOST_BYTES}", f"bytes {MOST_BYTES}", "exit 8 source fault")
+    run(setting, "slow", FAKE, script, "8 source fault")
 
 
 def broken_pipe(setting):
@@ -99,11 +109,11 @@ def two_at_once(setting):
     first, second = setting.pair(), setting.pair()
     for source, name in zip(second, first):
         os.rename(source, name + "2")
-    run(setting, "two", setting.program, first)
+    run(setting, "two", setting.program, first, watched=True)
 
 
 def names(setting):
-    run(setting, "names", setting.program, setting.script())
+    run(setting, "names", setting.program, setting.script(), watched=True)
 
 
 def parts():
@@ -118,7 +128,8 @@ def parts():
         "rio.c: arguments out of range": invalid,
         "rio.c: pairs that are refused": refused,
         "rio.c: a stop, and a trap": stops,
-        "rio.c: other ends, and slow pipes": other_ends,
+        "rio.c: other ends": other_ends,
+        "rio.c: slow pipes": slow,
         "rio.c: a broken pipe": broken_pipe,
         "rio.c: the largest file": large,
         "rio.c: two programs at once": two_at_once,

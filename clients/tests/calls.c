@@ -334,7 +334,7 @@ static unsigned char *pattern(size_t length)
     return bytes;
 }
 
-/* The largest file, whole, on a pair with room for it; and beside it a second program of another pair, its files named IMAGE2, DISK2. */
+/* The largest file, whole, on a pair with room for it. */
 static void large(struct setting *s)
 {
     enum { LARGEST = 4292608 };
@@ -363,7 +363,7 @@ static void large(struct setting *s)
     ENDS(r, 0, "");
 }
 
-/* Two programs at once: each ends by itself, though the other was started while its pipes were open. */
+/* Two programs at once, the second of the pair IMAGE2 and DISK2: each ends by itself, though it was started while the first ran. */
 static void two(struct setting *s)
 {
     char image[4096];
@@ -393,6 +393,18 @@ static void refused(struct setting *s)
     SAME(rio_refusal_name(RIO_ENDED) != NULL, true);
     ENDS(r, status, wanted);
     r = opened(s);
+    ENDS(r, status, wanted);
+}
+
+/* Over a fake that ends at the second request, as stdin tells. */
+static void ended(struct setting *s)
+{
+    char wanted[200] = "";
+    int status = 0;
+    if (scanf("%d %199[^\n]", &status, wanted) < 1) exit(1);
+    rio *r = opened(s);
+    SAME(rio_sync(r), RIO_OK);
+    SAME(rio_sync(r), RIO_ENDED);
     ENDS(r, status, wanted);
 }
 
@@ -477,7 +489,7 @@ int main(int argc, char **argv)
     } parts[] = {
         {"requests", requests}, {"refusals", refusals}, {"lines", lines}, {"answers", answers},
         {"wrong_answers", wrong_answers}, {"invalid", invalid}, {"large", large}, {"two", two},
-        {"refused", refused}, {"broken_pipe", broken_pipe}, {"stops", stops}, {"slow", slow}, {"names", names},
+        {"refused", refused}, {"ended", ended}, {"broken_pipe", broken_pipe}, {"stops", stops}, {"slow", slow}, {"names", names},
     };
     struct setting s = {argv[argc > 2 ? 2 : 0], argv[argc > 3 ? 3 : 0], argv[argc > 4 ? 4 : 0], 0};
     for (size_t i = 0; argc == 5 && i < sizeof parts / sizeof parts[0]; i++) {

@@ -182,9 +182,9 @@ def refused_starts(setting):
         rio = Rio(image, disk, program=setting.program)
         same(raises(Ended, rio.sync).args, (status, line))
         same(rio.close(), End(status, line))
-        same(Rio(image, disk, program=setting.program).close(), End(status, line))
-        with raised(Ended, (status, line)), Rio(image, disk, program=setting.program):
-            pass
+    same(Rio(image, disk, program=setting.program).close(), End(status, line))
+    with raised(Ended, (status, line)), Rio(image, disk, program=setting.program):
+        pass
 
 
 @contextlib.contextmanager
@@ -393,7 +393,7 @@ def dropped(setting):
         Rio(image, disk, program=setting.program).create("/f")
         os.kill(os.getpid(), signal.SIGKILL)
     os.waitpid(child, 0)
-    wanted, limit = Census(1, 1, 0, 1, 251), time.monotonic() + 10
+    wanted, limit = Census(1, 1, 0, 1, 251), time.monotonic() + 60
     while check(image, disk, program=setting.program) != wanted:
         if time.monotonic() > limit:
             same(check(image, disk, program=setting.program), wanted)
