@@ -55,7 +55,7 @@ def answers(setting):
 def own_lines(setting):
     """The lines that are talk's alone, and whole files."""
     there, back = setting.path("file"), setting.path("file")
-    data = bytes(range(256)) * 5000
+    data = bytes(range(256)) * 400
     with open(there, "wb") as file:
         file.write(data)
     spaced = setting.path("my notes")
@@ -67,8 +67,8 @@ def own_lines(setting):
         (f'get /notes "{spaced}"', f"18 bytes to {spaced}"),
         (f'put "{spaced}" /copy', "18 bytes to /copy"),
         ("stat /copy", "ok 3 file 18"),
-        (f"put {there} /large", "1280000 bytes to /large"),
-        (f"get /large {back}", f"1280000 bytes to {back}"),
+        (f"put {there} /large", "102400 bytes to /large"),
+        (f"get /large {back}", f"102400 bytes to {back}"),
         (f"put {there} large", "err 1  bad request"),
         (f"put {there}.none /x", f"talk: [Errno 2] No such file or directory: '{there}.none'"),
         (f"put {there} /large/", "talk: no path: b'/large/'"),
@@ -83,7 +83,7 @@ def own_lines(setting):
         ('write /notes "\\xff"', "1 bytes to /notes"), ("get /notes", "ff"),
     ]
     lines = [line for line, _ in rows if line is not None]
-    same(talked(setting.program, setting.pair("large"), lines), (0, [reply for _, reply in rows]))
+    same(talked(setting.program, setting.pair(), lines), (0, [reply for _, reply in rows]))
     same(content(back) == data, True)
     same(content(spaced), b"Jello\n\tit's \"x\\y!\"")
 
