@@ -25,6 +25,13 @@ def talked(program, files, lines, *options):
     return ended.returncode, ended.stdout.decode().splitlines()
 
 
+def refused_words(program, files, *options):
+    """The status of talk where it begins nothing, what it prints, and whether it says why on the standard error."""
+    words = talk_words(program, files, *options)
+    ended = subprocess.run(words, stdin=subprocess.DEVNULL, capture_output=True, timeout=LONGEST, check=False)
+    return ended.returncode, ended.stdout, ended.stderr != b""
+
+
 def answers(setting):
     """Rio's own lines: as rio answers them, with names beside refusals and text beside bytes."""
     rows = [
@@ -106,8 +113,8 @@ def ends(setting):
         same(talked(setting.program, (image, disk), ["list /"]), (status, [line]))
     same(talked(setting.program, setting.pair(), ["list /"], "--stop", "0"), (10, ["stopped 0"]))
     same(talked(FAKE, setting.script("ok", "die"), ["sync", "sync"]), (137, []))
-    same(talked("/nowhere/rio", setting.pair(), [])[0], 1)
-    same(talked(FAKE, setting.script(), [], "--stop", "x")[0], 2)
+    same(refused_words("/nowhere/rio", setting.script()), (1, b"", True))
+    same(refused_words(FAKE, setting.script(), "--stop", "x"), (2, b"", True))
 
 
 def started(setting, files, **streams):
