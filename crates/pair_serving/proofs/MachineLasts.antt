@@ -1,5 +1,5 @@
 -- What a served run leaves of the machine below, which any work on it leaves so.
-use Rattle.std.proofs.Common.{◌≡◌, List, ℕ, sym, ◌∙◌, arith}
+use Rattle.std.proofs.Common.{List, ℕ, ◌∙◌, arith}
 use Rattle.std.specs.Prelude.{Option}
 use Rattle.rio_base.specs.Blocks.{Health}
 use Rattle.rio_base.specs.Volume.{Below}

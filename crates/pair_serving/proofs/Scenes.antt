@@ -28,7 +28,7 @@ use Rattle.pair_serving.proofs.Machines.{booted_holds, booted_served, holds_fits
 use Rattle.pair_serving.proofs.Quiet.{run_quiet}
 use Rattle.pair_serving.proofs.Sizes.{FitsMemory, fits_then, keeps_then, part_keeps, run_keeps}
 use Rattle.pair_serving.specs.ServedScenes.{IsLeftOf, RunsFrom, Served, told_end}
-use Rattle.pair_serving.specs.declared.ends.LinesEnd.TheVariants.{Ended, Trapped}
+use Rattle.pair_serving.specs.declared.ends.LinesEnd.TheVariants.{Ended}
 
 -- without transactions a stop leaves all as it is
 idle_crashed : (s : State) → s.txns ≡ [] → crashed s ≡ s
