@@ -59,8 +59,8 @@ pub struct Ran {
     pub replies: Vec<u8>,
     /// How many steps were made, those of the reboot among them.
     pub steps: u64,
-    /// How many blocks were written to the disk.
-    pub writes: u64,
+    /// The disk as it read before it crashed.
+    pub read: Vec<u64>,
     /// The memory and the disk that it left.
     pub pair: Pair,
 }
@@ -261,17 +261,65 @@ pub fn run(
     let machine = Bootable::new(alloc, pair, cut)?;
     let (end, machine) = machine.serve(alloc, &mut source, &mut sink);
     let steps = machine.steps();
-    let (memory, disk) = machine.into_parts();
-    let writes = disk.writes();
+    let (memory, mut disk) = machine.into_parts();
+    let read = all_words(alloc, &mut disk)?;
     let pair = pair_of(alloc, memory, disk, choice)?;
     let replies = Vec::from_slice(alloc, sink.bytes().as_slice())?;
     Ok(Ran {
         end,
         replies,
         steps,
-        writes,
+        read,
         pair,
     })
+}
+
+/// How a reboot ended that something befell, and the pairs that its machine may have left.
+#[derive(Drop)]
+pub struct Left {
+    /// How the reboot ended.
+    pub end: Ended,
+    /// One for each thing that the disk may make of what is pending, without those that are the same as one before.
+    pub pairs: Vec<Pair>,
+}
+
+/// Whether one of these pairs has the words of another.
+fn has(pairs: &[Pair], other: &Pair) -> bool {
+    for pair in pairs {
+        if pair.is(other) {
+            return true;
+        }
+    }
+    false
+}
+
+/// Boots the machine of a pair, which this befalls, serves lines, and answers what it may leave. Nothing is on its way to the
+/// disk where it reads the same after a crash that fills what is. No page of a script is full of that byte.
+pub fn leavings(alloc: Global, pair: &Pair, cut: Cut, input: &[u8]) -> Result<Left, AllocError> {
+    let first = run(
+        alloc,
+        pair.copy(alloc)?,
+        cut,
+        input,
+        DiskChoice::Filled(0xa5),
+    )?;
+    let Ran {
+        end,
+        read,
+        pair: filled,
+        ..
+    } = first;
+    let mut pairs = Vec::new(alloc);
+    if read.as_slice() != filled.disk.as_slice() {
+        let memory = Vec::from_slice(alloc, &filled.memory)?;
+        pairs.push(Pair { memory, disk: read })?;
+        let synced = run(alloc, pair.copy(alloc)?, cut, input, DiskChoice::AsSynced)?.pair;
+        if !has(&pairs, &synced) {
+            pairs.push(synced)?;
+        }
+    }
+    pairs.push(filled)?;
+    Ok(Left { end, pairs })
 }
 
 /// The words of a memory, and of a disk after it crashed so.
@@ -289,11 +337,16 @@ fn pair_of(
 /// The words of a disk after it crashed so.
 fn words_of(alloc: Global, disk: MemDisk, choice: DiskChoice) -> Result<Vec<u64>, AllocError> {
     let mut disk = disk;
-    disk.drop_fails();
     disk.after_crash(choice);
+    all_words(alloc, &mut disk)
+}
+
+/// The words of a disk as it reads. No call of it is to fail any more.
+fn all_words(alloc: Global, disk: &mut MemDisk) -> Result<Vec<u64>, AllocError> {
+    disk.drop_fails();
     let mut words = Vec::new(alloc);
     for b in 0..disk.count() {
-        let block = block_words(alloc, &mut disk, b)?;
+        let block = block_words(alloc, disk, b)?;
         words.extend_from_slice(&block)?;
     }
     Ok(words)

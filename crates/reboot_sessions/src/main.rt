@@ -13,10 +13,12 @@
 //! - `replies`: the same where the disk fails, so that the plain definition has others. It ends what is at hand.
 //! - `? LINE`: nothing. The request of this line is read after each last reboot.
 //! - `undone PATH`: nothing. A stop undoes the transaction of the region at this path.
-//! - `deep N`: nothing. Of N stops one has its reboot stopped too, and some of these the next one.
+//! - `deep N M`: nothing. Behind each stop, the reboot is stopped before one of N of its steps, or one of N of its calls on the
+//!   disk fails; behind one of M stops of a reboot the next one is stopped before each of its steps. 0 is none.
 //! - `each LINE`: how the request of this line is found, after it was stopped before its steps (see `stops`) and the machine was
 //!   booted: as before it, as after it, or of a write with so many of its first bytes.
-//! - `faults LINE`: the same after a stop in its middle and a reboot of which each call on the disk fails in turn.
+//! - `whole LINE`: the same, stopped before the steps of the whole run: its reboot and the lines at hand too.
+//! - `faults LINE`: the same after stops of the request, and a reboot of which calls on the disk fail in turn.
 //! - `drawn SEED FROM COUNT`: the same of COUNT drawn requests, behind FROM that are not stopped.
 //! - `machines-over N`: whether more than so many machines were booted that had been stopped since the title.
 //!

@@ -3,7 +3,7 @@
 use crate::due::{Due, Readings, input_of};
 use crate::machines::{Bootable, Booted, Cut, Ended, Looked, Ran, run};
 use crate::pairs::Pair;
-use crate::stops::Stops;
+use crate::stops::{Behind, Depth, Stops};
 use crate::tallies::Tally;
 use block_disk::DiskChoice;
 use rio_model::Census;
@@ -37,8 +37,8 @@ pub struct Session {
     readings: Readings,
     /// What befalls the next machine.
     cut: Cut,
-    /// Of so many stops one has its reboot stopped, or none where this is 0.
-    deep: u64,
+    /// How much is tried behind each stop.
+    depth: Depth,
     /// How many machines were booted that had been stopped.
     machines: u64,
 }
@@ -58,7 +58,10 @@ impl Session {
             lines: Vec::new(alloc),
             readings: Readings::new(alloc),
             cut: Cut::Nothing,
-            deep: 0,
+            depth: Depth {
+                second: 0,
+                third: 0,
+            },
             machines: 0,
         })
     }
@@ -93,15 +96,15 @@ impl Session {
             "undone" => self.readings.push_undone(self.alloc, rest),
             "word" | "block" | "bad-block" => self.damage(word, rest),
             "deep" => {
-                self.deep = number(rest)?;
+                let [second, third, _] = numbers(rest)?;
+                self.depth = Depth { second, third };
                 Ok(())
             }
             "boot" => self.boot(out),
             "examine" => self.examine(out),
             "run" => self.run(out),
             "replies" => self.run_alone(out),
-            "each" => self.stop_each(rest, out),
-            "faults" => self.fail_each(rest, out),
+            "each" | "whole" | "faults" => self.stop_each(word, rest, out),
             "drawn" => self.stop_drawn(rest, out),
             "machines-over" => self.tell_machines(rest, out),
             _ => tell_line(out, b"no such word"),
@@ -195,20 +198,16 @@ impl Session {
         Ok(replies)
     }
 
-    /// Stops a request before its steps, and tells how it is found. All is as it was afterwards, but there are no lines.
-    fn stop_each(&mut self, line: &str, out: &mut Vec<u8>) -> Result<(), AllocError> {
+    /// Stops a request before its steps, or its whole run, and tells how it is found after what the word says. All is as it was
+    /// afterwards, but there are no lines.
+    fn stop_each(&mut self, word: &str, line: &str, out: &mut Vec<u8>) -> Result<(), AllocError> {
         let line = line_of(self.alloc, line)?;
-        let tally = self.stops(line.as_str())?.tried()?;
-        self.count(&tally);
-        self.lines = Vec::new(self.alloc);
-        tally.tell(out)
-    }
-
-    /// Stops a request in its middle, lets each call on the disk of the reboot behind that fail, and tells how the request is
-    /// found after the next reboot. All is as it was afterwards, but there are no lines.
-    fn fail_each(&mut self, line: &str, out: &mut Vec<u8>) -> Result<(), AllocError> {
-        let line = line_of(self.alloc, line)?;
-        let tally = self.stops(line.as_str())?.failed()?;
+        let stops = self.stops(line.as_str())?;
+        let tally = match word {
+            "whole" => stops.from_the_start().tried(Behind::Stops)?,
+            "faults" => stops.tried(Behind::Faults)?,
+            _ => stops.tried(Behind::Stops)?,
+        };
         self.count(&tally);
         self.lines = Vec::new(self.alloc);
         tally.tell(out)
@@ -231,7 +230,7 @@ impl Session {
         let readings = self.readings.copy(alloc)?;
         let due = Due::new(alloc, &plain, line, &readings)?;
         let pair = self.pair.copy(alloc)?;
-        Stops::new(alloc, pair, &input, line, readings, due, self.deep)
+        Stops::new(alloc, pair, &input, line, readings, due, self.depth)
     }
 
     /// Draws requests: the first numbers are a seed and how many are made before; of so many further ones each is stopped before
@@ -245,7 +244,7 @@ impl Session {
         for _ in 0..count {
             self.draw(&mut draws, WARM)?;
             let line = drawn_line(self.alloc, &mut draws, REGIONS)?;
-            let tally = self.stops(line.as_str())?.tried()?;
+            let tally = self.stops(line.as_str())?.tried(Behind::Stops)?;
             self.count(&tally);
             if tally.is_wrong() {
                 tell_line(out, line.as_bytes())?;

@@ -6,23 +6,19 @@
 //! these are alike. Where blocks may be on their way to the disk, each stop is tried with the three things that the disk may make
 //! of them.
 //!
-//! Of every so many stops one has its reboot stopped too, before each of its steps, and of every third of these reboots the next
-//! one is.
+//! Behind each stop the reboot is stopped too, or its calls on the disk fail in turn: before each of its steps, or before one of so
+//! many, another one behind the next stop. Behind some stops of a reboot the next one is stopped before each of its steps.
+//!
+//! A stop that leaves the very words that the one before it left, as one within a copy of zeros over zeros does, is counted, and is
+//! not tried again: a reboot has these words alone.
 
 use crate::due::{Due, Found, Readings};
-use crate::machines::{Cut, Ran, run};
+use crate::machines::{Cut, Left, Ran, leavings, run};
 use crate::pairs::Pair;
 use crate::tallies::Tally;
 use block_disk::DiskChoice;
 use std::alloc::{AllocError, Global};
 use warm_reboot::BootFail;
-
-/// What a disk may make of the blocks that were on their way.
-const CHOICES: [DiskChoice; 3] = [
-    DiskChoice::AsRead,
-    DiskChoice::AsSynced,
-    DiskChoice::Filled(0xa5),
-];
 
 /// The most steps that are tried one and all.
 const SHORT: u64 = 20_000;
@@ -50,6 +46,24 @@ struct Piece {
     new: u64,
 }
 
+/// What is tried behind each stop.
+#[derive(Clone, Copy, Debug, PartialEq, Eq)]
+pub enum Behind {
+    /// The request is found after a reboot, and after reboots that are stopped as well.
+    Stops,
+    /// The calls on the disk of a reboot fail, and the request is found after the next one.
+    Faults,
+}
+
+/// How much is tried behind each stop.
+#[derive(Clone, Copy, Debug)]
+pub struct Depth {
+    /// Of so many steps or calls of a reboot one is tried, or none where this is 0.
+    pub second: u64,
+    /// Behind one of so many stops of a reboot the next one is stopped before each of its steps, or behind none where this is 0.
+    pub third: u64,
+}
+
 /// A request that is stopped, on a pair that is booted first.
 #[derive(Drop)]
 pub struct Stops {
@@ -60,10 +74,10 @@ pub struct Stops {
     /// The steps before the request, and those with it.
     from: u64,
     to: u64,
-    /// The blocks that were written before the request.
-    writes: u64,
-    /// Of so many stops one has its reboot stopped, or none where this is 0.
-    deep: u64,
+    behind: Behind,
+    depth: Depth,
+    /// What the stop left that was tried last.
+    last: Vec<Pair>,
     readings: Readings,
     /// The lines that are read, as the input of a core.
     reading: Vec<u8>,
@@ -80,7 +94,7 @@ impl Stops {
         line: &str,
         readings: Readings,
         due: Due,
-        deep: u64,
+        depth: Depth,
     ) -> Result<Stops, AllocError> {
         let mut input = Vec::from_slice(alloc, before)?;
         let first = whole(alloc, &pair, &input)?;
@@ -93,8 +107,9 @@ impl Stops {
             input,
             from: first.steps,
             to: last.steps,
-            writes: first.writes,
-            deep,
+            behind: Behind::Stops,
+            depth,
+            last: Vec::new(alloc),
             reading: readings.input(alloc)?,
             readings,
             due,
@@ -102,9 +117,17 @@ impl Stops {
         })
     }
 
-    /// Stops it before its steps, and finds it after all of them too.
-    pub fn tried(self) -> Result<Tally, AllocError> {
+    /// The stops from the first step of the reboot before the request on.
+    pub fn from_the_start(self) -> Stops {
         let mut stops = self;
+        stops.from = 0;
+        stops
+    }
+
+    /// Stops it before its steps, and tries this behind each stop. A stop behind all of its steps is one of them.
+    pub fn tried(self, behind: Behind) -> Result<Tally, AllocError> {
+        let mut stops = self;
+        stops.behind = behind;
         let from = stops.from;
         let to = stops.to;
         if to.saturating_sub(from) <= SHORT {
@@ -115,16 +138,6 @@ impl Stops {
             stops.try_each(to.saturating_sub(EDGE), to)?;
         }
         stops.try_at(to)?;
-        Ok(stops.tally)
-    }
-
-    /// Stops it in its middle, and lets each call on the disk of the reboot behind that fail in turn. The reboot is made again
-    /// then.
-    pub fn failed(self) -> Result<Tally, AllocError> {
-        let mut stops = self;
-        let steps = stops.from.saturating_add(stops.to) / 2;
-        let pair = stops.left(steps, DiskChoice::AsRead)?.pair;
-        stops.fail_calls(&pair, steps)?;
         Ok(stops.tally)
     }
 
@@ -181,13 +194,10 @@ impl Stops {
 
     /// The fingerprint of what a stop after so many steps leaves.
     fn fingerprint(&self, steps: u64) -> Result<u64, AllocError> {
-        Ok(self.left(steps, DiskChoice::AsRead)?.pair.fingerprint())
-    }
-
-    /// What a machine leaves that is stopped after so many steps.
-    fn left(&self, steps: u64, choice: DiskChoice) -> Result<Ran, AllocError> {
         let pair = self.pair.copy(self.alloc)?;
-        run(self.alloc, pair, Cut::Stop(steps), &self.input, choice)
+        let cut = Cut::Stop(steps);
+        let left = run(self.alloc, pair, cut, &self.input, DiskChoice::AsRead)?;
+        Ok(left.pair.fingerprint())
     }
 
     /// Stops after each of these numbers of steps.
@@ -213,36 +223,54 @@ impl Stops {
         Ok(())
     }
 
-    /// Stops after so many steps. Where blocks were written since the request began, each choice of the disk is tried.
+    /// Stops after so many steps, and tries each pair that is left.
     fn try_at(&mut self, steps: u64) -> Result<(), AllocError> {
-        let Ran { pair, writes, .. } = self.left(steps, DiskChoice::AsRead)?;
-        self.find(pair.copy(self.alloc)?, steps)?;
-        if writes != self.writes {
-            for choice in [DiskChoice::AsSynced, DiskChoice::Filled(0xa5)] {
-                let left = self.left(steps, choice)?;
-                self.find(left.pair, steps)?;
-            }
+        self.tally.stops = self.tally.stops.saturating_add(1);
+        let Left { pairs, .. } = leavings(self.alloc, &self.pair, Cut::Stop(steps), &self.input)?;
+        if are_same(&pairs, &self.last) {
+            return Ok(());
         }
-        if self.is_deep() {
-            self.stop_reboots(&pair, steps)?;
+        for pair in pairs.iter() {
+            self.try_pair(pair, steps)?;
         }
+        self.last = pairs;
         Ok(())
     }
 
-    /// Counts a stop. Whether its reboot is stopped too.
-    fn is_deep(&mut self) -> bool {
-        self.tally.stops = self.tally.stops.saturating_add(1);
-        if self.deep == 0 {
-            return false;
+    /// Tries a pair that a stop after so many steps left.
+    fn try_pair(&mut self, pair: &Pair, steps: u64) -> Result<(), AllocError> {
+        match self.behind {
+            Behind::Stops => {
+                self.find(pair, steps)?;
+                self.stop_reboots(pair, steps)
+            }
+            Behind::Faults => self.fail_calls(pair, steps),
         }
-        self.tally.stops % self.deep == self.deep / 2
     }
 
-    /// Boots a pair that a stop after so many steps left, and finds the request.
-    fn find(&mut self, pair: Pair, steps: u64) -> Result<(), AllocError> {
+    /// Whether step or call `n` of a reboot is tried behind the stop that was counted last.
+    fn is_tried(&self, n: u64) -> bool {
+        let one_of = self.depth.second;
+        if one_of == 0 {
+            return false;
+        }
+        n % one_of == self.tally.stops % one_of
+    }
+
+    /// Whether the next reboot is stopped behind a stop before step `n` of a reboot.
+    fn is_third(&self, n: u64) -> bool {
+        let one_of = self.depth.third;
+        if one_of == 0 {
+            return false;
+        }
+        n % one_of == one_of / 2
+    }
+
+    /// Boots a pair that a stop after so many steps led to, and finds the request.
+    fn find(&mut self, pair: &Pair, steps: u64) -> Result<(), AllocError> {
         let ran = run(
             self.alloc,
-            pair,
+            pair.copy(self.alloc)?,
             Cut::Nothing,
             &self.reading,
             DiskChoice::AsRead,
@@ -254,36 +282,78 @@ impl Stops {
         self.tally.count(found, steps)
     }
 
-    /// Boots a pair, stopped before each of the reboot's steps, and every third time the next reboot as well.
+    /// Boots a pair, stopped before the reboot's steps, and finds the request after the next one.
     fn stop_reboots(&mut self, pair: &Pair, steps: u64) -> Result<(), AllocError> {
-        let alloc = self.alloc;
-        let all = whole(alloc, pair, &[])?.steps;
+        let all = whole(self.alloc, pair, &[])?.steps;
+        let mut last = Vec::new(self.alloc);
         for n in 0..all.min(MOST) {
-            let choice = CHOICES[(n % 3) as usize];
-            let left = run(alloc, pair.copy(alloc)?, Cut::Stop(n), &[], choice)?.pair;
-            if n % 3 == 2 {
-                let next = run(alloc, left.copy(alloc)?, Cut::Stop(n / 2), &[], choice)?.pair;
-                self.find(next, steps)?;
+            if !self.is_tried(n) {
+                continue;
             }
-            self.find(left, steps)?;
+            let Left { pairs, .. } = leavings(self.alloc, pair, Cut::Stop(n), &[])?;
+            if !are_same(&pairs, &last) {
+                let third = self.is_third(n);
+                self.find_each(&pairs, third, steps)?;
+            }
+            last = pairs;
         }
         Ok(())
     }
 
-    /// Boots a pair once for each call on the disk that the reboot makes, which fails, and then again.
+    /// Finds the request in each pair that a stopped reboot left, and where this is to be tried too behind the next one, stopped
+    /// before each of its steps.
+    fn find_each(&mut self, pairs: &[Pair], third: bool, steps: u64) -> Result<(), AllocError> {
+        for pair in pairs {
+            self.find(pair, steps)?;
+            if third {
+                self.stop_next(pair, steps)?;
+            }
+        }
+        Ok(())
+    }
+
+    /// Boots a pair that a stopped reboot left, stopped before each of its steps, and finds the request after the one behind it.
+    fn stop_next(&mut self, pair: &Pair, steps: u64) -> Result<(), AllocError> {
+        let all = whole(self.alloc, pair, &[])?.steps;
+        let mut last = Vec::new(self.alloc);
+        for n in 0..all.min(MOST) {
+            let Left { pairs, .. } = leavings(self.alloc, pair, Cut::Stop(n), &[])?;
+            if !are_same(&pairs, &last) {
+                self.find_each(&pairs, false, steps)?;
+            }
+            last = pairs;
+        }
+        Ok(())
+    }
+
+    /// Boots a pair once for each of the reboot's calls on the disk that is tried, which fails, and then again.
     fn fail_calls(&mut self, pair: &Pair, steps: u64) -> Result<(), AllocError> {
-        let alloc = self.alloc;
         for n in 1..MOST {
-            let choice = CHOICES[(n % 3) as usize];
-            let Ran { end, pair, .. } = run(alloc, pair.copy(alloc)?, Cut::Call(n), &[], choice)?;
+            if !self.is_tried(n) {
+                continue;
+            }
+            let Left { end, pairs } = leavings(self.alloc, pair, Cut::Call(n), &[])?;
             match end {
                 Ok(_) => break,
-                Err(BootFail::Fault) => self.find(pair, steps)?,
+                Err(BootFail::Fault) => self.find_each(&pairs, false, steps)?,
                 Err(_) => self.tally.count(Found::Otherwise, steps)?,
             }
         }
         Ok(())
     }
+}
+
+/// Whether both are the same pairs, in order.
+fn are_same(some: &[Pair], others: &[Pair]) -> bool {
+    if some.len() != others.len() {
+        return false;
+    }
+    for (one, other) in some.iter().zip(others.iter()) {
+        if !one.is(other) {
+            return false;
+        }
+    }
+    true
 }
 
 /// What a machine leaves whose pair is booted and served to the end.
