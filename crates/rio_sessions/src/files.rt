@@ -1,5 +1,6 @@
 //! The files of a session, in memory: what the script puts there, and what it asks about them.
 
+use crate::stops::PairBytes;
 use rio_base::Host;
 use rio_bench::BoardBench;
 use rio_fakes::{MemHost, MemSink, MemSource};
@@ -81,18 +82,13 @@ impl Shelf {
     }
 
     /// The bytes of the image and those of the disk, the files `m` and `d`.
-    pub fn pair(&self) -> Result<(Vec<u8>, Vec<u8>), AllocError> {
-        let image = String::from_str(self.alloc, "m")?;
-        let disk = String::from_str(self.alloc, "d")?;
-        Ok((self.bytes_of(&image)?, self.bytes_of(&disk)?))
+    pub fn pair(&self) -> Result<PairBytes, AllocError> {
+        pair_in(self.alloc, &self.host)
     }
 
     /// The bytes of a file, or none where there is no such file.
     fn bytes_of(&self, name: &String) -> Result<Vec<u8>, AllocError> {
-        match self.host.file(name) {
-            Some(bytes) => Vec::from_slice(self.alloc, bytes.as_slice()),
-            None => Ok(Vec::new(self.alloc)),
-        }
+        bytes_in(self.alloc, &self.host, name)
     }
 
     /// Makes the fresh pair of a command, `m` and `d`.
@@ -162,6 +158,34 @@ impl Shelf {
         }
         tell_line(out, text.as_bytes())
     }
+}
+
+/// The bytes of a file, or none where there is no such file.
+fn bytes_in(alloc: Global, host: &MemHost, name: &String) -> Result<Vec<u8>, AllocError> {
+    match host.file(name) {
+        Some(bytes) => Vec::from_slice(alloc, bytes.as_slice()),
+        None => Ok(Vec::new(alloc)),
+    }
+}
+
+/// The bytes of the image and those of the disk, the files `m` and `d`.
+pub fn pair_in(alloc: Global, host: &MemHost) -> Result<PairBytes, AllocError> {
+    let image = String::from_str(alloc, "m")?;
+    let disk = String::from_str(alloc, "d")?;
+    Ok(PairBytes {
+        image: bytes_in(alloc, host, &image)?,
+        disk: bytes_in(alloc, host, &disk)?,
+    })
+}
+
+/// Files `m` and `d` with the bytes of a pair.
+pub fn host_of(alloc: Global, pair: &PairBytes) -> Result<MemHost, AllocError> {
+    let image = String::from_str(alloc, "m")?;
+    let disk = String::from_str(alloc, "d")?;
+    let mut host = MemHost::new(alloc);
+    host.put(&image, pair.image.as_slice())?;
+    host.put(&disk, pair.disk.as_slice())?;
+    Ok(host)
 }
 
 /// The words of a command, which has one space between them. An empty one has none.

@@ -4,6 +4,7 @@
 mod benches;
 mod files;
 mod session;
+mod stops;
 mod walks;
 
 use crate::session::Session;

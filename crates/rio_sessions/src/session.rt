@@ -2,6 +2,7 @@
 
 use crate::benches::tell_kept;
 use crate::files::{Shelf, words_of};
+use crate::stops::StoppedRun;
 use crate::walks::Walk;
 use rio_bench::{BoardBench, KeepBench};
 use rio_fakes::{MemSink, MemSource};
@@ -31,6 +32,8 @@ pub struct Session {
     sink_fails: u64,
     /// The bytes of the lines that a run reads.
     input: Vec<u8>,
+    /// The bytes of the lines that are read behind a stop.
+    reading: Vec<u8>,
     files: Shelf,
     /// How many blocks the last run of `serve` wrote.
     writes: u64,
@@ -47,6 +50,7 @@ impl Session {
             source_fails: 0,
             sink_fails: 0,
             input: Vec::new(alloc),
+            reading: Vec::new(alloc),
             files: Shelf::new(alloc),
             writes: 0,
         }
@@ -70,10 +74,12 @@ impl Session {
         match word {
             ">" => self.take_line(rest, b"\n"),
             ">>" => self.take_line(rest, b""),
+            "?" => self.take_reading(rest),
             "run" => self.run_command(rest, out),
             "run-kept" => self.run_kept(rest, out),
             "still" => self.run_still(rest, out),
             "walk" => self.serve_walk(rest, out),
+            "stops" => self.stop_run(rest, out),
             "status-of" => self.tell_status_of(rest, out),
             "twice" => self.run_twice(rest, out),
             "serve" => self.serve_lines(out),
@@ -131,6 +137,12 @@ impl Session {
         let bytes = expanded(self.alloc, line)?;
         self.input.extend_from_slice(bytes.as_slice())?;
         self.input.extend_from_slice(end)
+    }
+
+    /// Takes a line that is read behind a stop.
+    fn take_reading(&mut self, line: &str) -> Result<(), AllocError> {
+        self.reading.extend_from_slice(line.as_bytes())?;
+        Ok(self.reading.push(b'\n')?)
     }
 
     /// A source with the input, which fails where the session says.
@@ -194,13 +206,13 @@ impl Session {
 
     /// Runs the program as `run_command` does, and tells whether both files of the pair are as they were.
     fn run_still(&mut self, command: &str, out: &mut Vec<u8>) -> Result<(), AllocError> {
-        let (image, disk) = self.files.pair()?;
+        let before = self.files.pair()?;
         self.run_command(command, out)?;
-        let (image_now, disk_now) = self.files.pair()?;
-        if image_now.as_slice() != image.as_slice() {
+        let now = self.files.pair()?;
+        if now.image.as_slice() != before.image.as_slice() {
             return tell_line(out, b"another image");
         }
-        if disk_now.as_slice() != disk.as_slice() {
+        if now.disk.as_slice() != before.disk.as_slice() {
             return tell_line(out, b"another disk");
         }
         tell_line(out, b"both files as before")
@@ -212,14 +224,14 @@ impl Session {
         let words = words_of(self.alloc, command)?;
         let mut source = self.source()?;
         let mut sink = self.sink()?;
-        let (before, _) = self.files.pair()?;
+        let before = self.files.pair()?.image;
         let host = self.files.take();
         let mut bench = KeepBench::new();
         let (status, host) = run(self.alloc, &words, &mut source, &mut sink, host, &mut bench);
         self.files.put_back(host);
         tell(out, sink.bytes().as_slice())?;
         tell_status(status, out)?;
-        let (after, _) = self.files.pair()?;
+        let after = self.files.pair()?.image;
         tell_kept(&bench, before.as_slice(), after.as_slice(), out)
     }
 
@@ -242,6 +254,17 @@ impl Session {
             Some(line) => tell_number(out, "differs in line ", line as u64),
             None => tell_line(out, b"as defined"),
         }
+    }
+
+    /// Stops a run of the lines before each of its steps, and tells what is read behind that. The run behind it is stopped before one
+    /// of so many of its steps as the rest of the line says. The pair stays as it is.
+    fn stop_run(&mut self, rest: &str, out: &mut Vec<u8>) -> Result<(), AllocError> {
+        let [second, _, _] = numbers(rest)?;
+        let pair = self.files.pair()?;
+        let input = self.input.as_slice();
+        let mut stopped = StoppedRun::new(self.alloc, input, &self.reading, second)?;
+        stopped.stop(&pair)?;
+        stopped.tell(out)
     }
 
     /// Ends a run whose words found no memory, and tells what it wrote and its status.
