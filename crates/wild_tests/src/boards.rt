@@ -46,7 +46,7 @@ fn board(alloc: Global) -> Result<MemBoard, AllocError>
     ensures running { IfOk result (λ b. (⟦<Board<ListMem, MemDisk> as Machine>⟧.run b).stopped ≡ false) }
 {
     let mem = ListMem::new(alloc, 3)?;
-    let disk = MemDisk::new(alloc, 4)?;
+    let disk = MemDisk::new(alloc, 1)?;
     Ok(Board::new(mem, disk, 1, None))
 }
 
@@ -69,7 +69,7 @@ fn opened(alloc: Global, open: Option<u32>) -> Result<MemBoard, AllocError>
     }
 }
 
-/// What is found of a board after a wild store to this place, with so many words before it changed by nobody.
+/// What is found of a board after a wild store to this place.
 fn found(board: MemBoard, at: u32, met: Option<Wild>, stored: Option<bool>) -> Struck {
     let stopped = board.stopped();
     let trapped = board.trapped();
