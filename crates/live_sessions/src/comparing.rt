@@ -94,16 +94,16 @@ fn run_stopped(
     run(alloc, seed, count, &mishaps)
 }
 
-/// How three boots end, and which of them tell of device faults. Calls of the disk fail in the first and in the third, from this
-/// one on.
+/// How three boots end, and which of them tell of device faults. Calls of the disk fail in the first, from this one on, and in the
+/// third, from its first one on.
 pub(crate) fn told_faults(
     alloc: Global,
     seed: u32,
     count: u64,
     first: u64,
 ) -> Result<String, AllocError> {
-    let fails = failing(first, FAILING);
-    let transcript = run(alloc, seed, count, &[fails, nothing(), fails])?;
+    let mishaps = [failing(first, FAILING), nothing(), failing(1, FAILING)];
+    let transcript = run(alloc, seed, count, &mishaps)?;
     told_ends(alloc, &transcript)
 }
 
