@@ -11,7 +11,7 @@ use Rattle.rio_requests.specs.Went.{Halting, MakesSteps, StoppedOn, Went, armed_
 use Rattle.rio_requests.specs.declared.reply.Reply.{Reply}
 use Rattle.rio_requests.specs.declared.reply.Reply.TheVariants.{Ok as Done}
 use Rattle.rio_requests.specs.declared.request.Request.{Request}
-use Rattle.rio_requests.specs.declared.request.Request.TheVariants.{Arm, Wild}
+use Rattle.rio_requests.specs.declared.request.Request.TheVariants.{Arm}
 use Rattle.request_codec.specs.Form.{Form, Means}
 use Rattle.request_codec.specs.Lines.{lines}
 use Rattle.rio_serving.specs.ServeRun.{EachMeans}

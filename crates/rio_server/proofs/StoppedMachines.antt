@@ -1,5 +1,5 @@
 -- A machine that the bench tells to have been left stopped is told by its status.
-use Rattle.std.proofs.Common.{◌≡◌, ℕ, Bool, true, false, List, sym, ap, ◌∙◌, inl, inr}
+use Rattle.std.proofs.Common.{◌≡◌, ℕ, Bool, true, false, sym, ap, ◌∙◌, inl, inr}
 use Rattle.std.specs.Prelude.{Option, Some, None, ◌⊎◌}
 use Rattle.rio_base.specs.Rules.{true_false}
 use Rattle.rio_bench.specs.Benches.{Leaving}
