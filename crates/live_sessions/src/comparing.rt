@@ -1,7 +1,7 @@
 //! What the plans of a script come to, as text.
 
 use crate::defined::{are_alike, first_difference};
-use crate::mishaps::{failing, nothing, stop};
+use crate::mishaps::{Mishap, failing, nothing, stop};
 use crate::plans::run;
 use block_disk::DiskChoice;
 use live_plans::{BootEnd, BootRun, Transcript};
@@ -29,18 +29,26 @@ pub(crate) fn told_same(alloc: Global, seed: u32, count: u64) -> Result<String, 
 
 /// Whether a stop and a failing call that no boot reaches change nothing.
 pub(crate) fn told_unreached(alloc: Global, seed: u32, count: u64) -> Result<String, AllocError> {
-    let late_stop = stop(u64::MAX, DiskChoice::Filled(0xa5));
-    let late_call = failing(u64::MAX, 1);
-    let plain = run(alloc, seed, count, &[nothing(), nothing()])?;
-    let with_stops = run(alloc, seed, count, &[late_stop, late_stop])?;
+    let plain = run_both(alloc, seed, count, nothing())?;
+    let with_stops = run_both(alloc, seed, count, stop(u64::MAX, DiskChoice::Filled(0xa5)))?;
     if !are_alike(alloc, &plain, &with_stops)? {
         return String::from_str(alloc, "    the stop differs\n");
     }
-    let with_calls = run(alloc, seed, count, &[late_call, late_call])?;
+    let with_calls = run_both(alloc, seed, count, failing(u64::MAX, 1))?;
     if !are_alike(alloc, &plain, &with_calls)? {
         return String::from_str(alloc, "    the failing call differs\n");
     }
     String::from_str(alloc, "    the same\n")
+}
+
+/// Runs two boots, both of which this befalls.
+fn run_both(
+    alloc: Global,
+    seed: u32,
+    count: u64,
+    mishap: Mishap,
+) -> Result<Transcript, AllocError> {
+    run(alloc, seed, count, &[mishap, mishap])
 }
 
 /// How the first of two boots ends that is to stop after so many steps, and what the second one answers.
