@@ -293,7 +293,7 @@ impl Stops {
             let Left { pairs, .. } = leavings(self.alloc, pair, Cut::Stop(n), &[])?;
             if !are_same(&pairs, &last) {
                 let third = self.is_third(n);
-                self.find_each(&pairs, third, steps)?;
+                self.find_behind(&pairs, third, steps)?;
             }
             last = pairs;
         }
@@ -302,12 +302,21 @@ impl Stops {
 
     /// Finds the request in each pair that a stopped reboot left, and where this is to be tried too behind the next one, stopped
     /// before each of its steps.
-    fn find_each(&mut self, pairs: &[Pair], third: bool, steps: u64) -> Result<(), AllocError> {
+    fn find_behind(&mut self, pairs: &[Pair], third: bool, steps: u64) -> Result<(), AllocError> {
+        self.find_each(pairs, steps)?;
+        if !third {
+            return Ok(());
+        }
+        for pair in pairs {
+            self.stop_next(pair, steps)?;
+        }
+        Ok(())
+    }
+
+    /// Finds the request in each pair that a stopped reboot left.
+    fn find_each(&mut self, pairs: &[Pair], steps: u64) -> Result<(), AllocError> {
         for pair in pairs {
             self.find(pair, steps)?;
-            if third {
-                self.stop_next(pair, steps)?;
-            }
         }
         Ok(())
     }
@@ -319,7 +328,7 @@ impl Stops {
         for n in 0..all.min(MOST) {
             let Left { pairs, .. } = leavings(self.alloc, pair, Cut::Stop(n), &[])?;
             if !are_same(&pairs, &last) {
-                self.find_each(&pairs, false, steps)?;
+                self.find_each(&pairs, steps)?;
             }
             last = pairs;
         }
@@ -335,7 +344,7 @@ impl Stops {
             let Left { end, pairs } = leavings(self.alloc, pair, Cut::Call(n), &[])?;
             match end {
                 Ok(_) => break,
-                Err(BootFail::Fault) => self.find_each(&pairs, false, steps)?,
+                Err(BootFail::Fault) => self.find_each(&pairs, steps)?,
                 Err(_) => self.tally.count(Found::Otherwise, steps)?,
             }
         }
