@@ -31,9 +31,13 @@
  * Memory. What a caller passes stays the caller's, and is not kept. What a call has allocated for the caller is one block,
  * which the caller gives to free. A rio has some 4 MB of its own, and makes no other allocation while a request is on its way.
  *
+ * The end. rio_end tells the program's status, and docs/FORMATS.md which there are. After a status 7 because the image could
+ * not be saved, and where a signal killed the program, nothing is promised of the pair.
+ *
  * Signals and threads. The program runs in a session of its own, so Ctrl-C reaches the client alone. No call leaves a
  * SIGPIPE behind, and calls that a signal interrupts go on. Where the client ends or is killed, the program meets the end of
- * its input and saves the image. A rio is for one thread at a time.
+ * its input and saves the image; the request on its way then is done or not, or of a write a front of it. A rio is for one
+ * thread at a time.
  */
 #ifndef RIO_H
 #define RIO_H

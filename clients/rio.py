@@ -31,11 +31,13 @@ docs/SEMANTICS.md tells which request is refused when.
 is no reply. Leaving the `with` block closes too, and raises `Ended` where the status is not 0 and no call told it. Where the
 program ends in a call, the call raises `Ended`, with `.status` and `.last_line`: `Ended(3, "image refused: rule 7")`,
 `Ended(10, "stopped 3500")`. Its request is done or not, or of a `write` a front of it. A status below 0 is the signal that
-killed the program. Nothing waits for the program to begin: a pair that it refuses is told by the first call, or by `close`.
+killed the program. After that, and after a status 7 because the image could not be saved, nothing is promised of the pair.
+Nothing waits for the program to begin: a pair that it refuses is told by the first call, or by `close`.
 
 **Signals and threads.** The program runs in a session of its own, so Ctrl-C interrupts the client alone. After an exception
 in the middle of a call (KeyboardInterrupt) only `close` is left. Where the client is killed, the program meets the end of its
-input and saves the image. A Rio is for one thread at a time.
+input and saves the image; the request on its way then is done or not, or of a `write` a front of it. A Rio is for one thread
+at a time.
 """
 import binascii
 import collections
