@@ -192,11 +192,18 @@ class Terminal:
             except OSError as error:
                 raise Differs(f"the terminal was left with {self.seen!r}, wanted {wanted!r}") from error
 
-    def status(self):
-        """Waits for the end."""
-        status = os.waitpid(self.pid, 0)[1]
-        os.close(self.screen)
-        return os.WEXITSTATUS(status) if os.WIFEXITED(status) else -os.WTERMSIG(status)
+    def ends(self, keys):
+        """Types keys until it ends, and returns the status. A Ctrl-C that comes just as the prompt is shown may be passed over."""
+        for _ in range(LONGEST):
+            os.write(self.screen, keys)
+            limit = time.monotonic() + 1
+            while time.monotonic() < limit:
+                pid, status = os.waitpid(self.pid, os.WNOHANG)
+                if pid:
+                    os.close(self.screen)
+                    return os.waitstatus_to_exitcode(status)
+                time.sleep(0.02)
+        raise Differs(f"it goes on after {keys!r}")
 
 
 def terminals(setting):
@@ -207,8 +214,7 @@ def terminals(setting):
         terminal.types(b"", b"rio> ")
         terminal.types(b"create /f\n", b"ok 2")
         terminal.types(b"create /f\n", b"err 3  exists\r\nrio> ")
-        os.write(terminal.screen, keys)
-        same(terminal.status(), status)
+        same(terminal.ends(keys), status)
         saved(setting, files)
 
 
