@@ -36,7 +36,7 @@ fn due_before_store(at: u32, page: u32) -> Struck {
     let traps = !scratch && !open;
     let word = if scratch {
         WILD
-    } else if at == page * 512 {
+    } else if open && at % 512 == 0 {
         STORED
     } else {
         0
