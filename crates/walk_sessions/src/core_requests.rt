@@ -1,4 +1,4 @@
-//! Requests made of a core itself, wild stores among them, which no line asks of it.
+//! Requests made of a core itself, wild stores among them, one after the other.
 
 ghost use Rattle.std.specs.Prelude.{IfOk};
 ghost use Rattle.rio_model.specs.declared.state.State.{State as StateOf};

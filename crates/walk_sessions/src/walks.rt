@@ -70,9 +70,29 @@ pub fn walk_of(
             walk.push(&mut plain, line)?;
         }
         let line = drawn_line(alloc, &mut draws, mix.regions)?;
-        walk.push(&mut plain, line)?;
+        walk.push(&mut plain, on_scratch(alloc, sizes, line)?)?;
     }
     Ok(walk)
+}
+
+/// The line with its wild store, if it draws one, on the first word of scratch. On word 0, which is protected, it would stop the
+/// machine, and the walk with it; on scratch no reply knows of it.
+fn on_scratch(alloc: Global, sizes: Sizes, line: String) -> Result<String, AllocError> {
+    let at = first_of_scratch(sizes.frames);
+    match line.as_str() {
+        "wild 0 0000000000000000" => format!(in alloc; "wild {at} 00000000000000ff"),
+        "arm 0 0 0000000000000000" => format!(in alloc; "arm 3 {at} 00000000000000ff"),
+        _ => Ok(line),
+    }
+}
+
+/// The first word of the pages of scratch, which lie behind the header, the registry of 102 entries a page, 16 shadow pages and
+/// the frames.
+fn first_of_scratch(frames: u32) -> u64 {
+    let frames = u64::from(frames);
+    let registry = frames.saturating_add(101) / 102;
+    let pages = frames.saturating_add(registry).saturating_add(17);
+    pages.saturating_mul(512)
 }
 
 /// The number of the first line, from 1, in which two texts differ, or `None` where they are the same.
