@@ -6,7 +6,6 @@ pub mod Bytes
 pub mod DecimalDigits
 pub mod HostPieces
 pub mod MachineRules
-pub mod PageCopies
 pub mod RegionRules
 pub mod RegionRuns
 pub mod Rules

@@ -1,5 +1,5 @@
 -- The rules of a machine's calls compose: what holds of each call holds of any number of them.
-use Rattle.std.specs.Prelude.{◌≡◌, ◌≢◌, ℕ, ◌+◌, ◌-◌, ◌/◌, ◌<◌, ◌≤◌, Bool, true, false, ◌⊎◌, length, slice_index, Option, Some, None, refl}
+use Rattle.std.specs.Prelude.{◌≡◌, ◌≢◌, ℕ, ◌+◌, ◌-◌, ◌/◌, ◌<◌, ◌≤◌, Bool, true, false, ◌⊎◌, length, slice_index, Option, Some, None, Result, Ok, Err, IsErrOf, refl}
 use Rattle.rio_base.specs.Disks.{FaultCount, FaultsLast, raised}
 use Rattle.rio_base.specs.declared.wild.Wild.{Wild}
 use Rattle.rio_base.specs.declared.wild.Wild.TheVariants.{Changed, Trapped, Spared}
@@ -209,6 +209,30 @@ ends_after a b c stop h same k = record {
 -- no call at all
 pub ends_none : (r : Running) (stop : Type 0) → (stop → ⊥) → StepEnds r r stop
 ends_none r stop n = record { steps = steps_refl r; told = λ s. absurd (n s); runs = λ n. refl }
+
+-- a call that did not answer Stopped, and then another
+pub ends_then : (a b c : Running) (none stop : Type 0) → (none → ⊥) → StepEnds a b none → StepEnds b c stop → StepEnds a c stop
+ends_then a b c none stop n h k = ends_after a b c stop h.steps (h.runs n) k
+
+-- the same, where another answer stands for that of the second call, and says Stopped just where it does
+pub ends_as : (a b c : Running) (none stop answer : Type 0) → (none → ⊥) → StepEnds a b none → StepEnds b c stop → (answer → stop) → (stop → answer) → StepEnds a c answer
+ends_as a b c none stop answer n h k f g = record {
+  steps = steps_trans a b c h.steps k.steps;
+  told = λ x. k.told (f x);
+  runs = λ x. k.runs (λ s. x (g s)) ∙ h.runs n;
+}
+
+-- any calls, and then one that was stopped, which another answer tells
+pub ends_err : (a b c : Running) (stop told : Type 0) → stop → told → Steps a b → StepEnds b c stop → StepEnds a c told
+ends_err a b c stop told is tells h k = record { steps = steps_trans a b c h k.steps; told = λ x. k.told is; runs = λ n. absurd (n tells) }
+
+-- the same failure, as an answer with values of another type gives it
+pub ends_told : {T U E : Type 0} (a b : Running) (e stop : E) (answer : Result U E) → answer ≡ Err e → StepEnds a b (IsErrOf {T = T} (Err e) stop) → StepEnds a b (IsErrOf answer stop)
+ends_told a b e stop answer same h = record { steps = h.steps; told = λ x. h.told cc; runs = λ n. h.runs (λ x. n cc) }
+
+-- an answer with a value is no failure
+pub never : {T E : Type 0} (x : T) (e : E) → IsErrOf (Ok x) e → ⊥
+never x e same = cc
 
 -- where the armed store falls, if it does, in two calls with one page open
 pub falls_refl : (o : Option ℕ) (r : Running) → Falls o r r

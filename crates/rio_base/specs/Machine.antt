@@ -112,13 +112,15 @@ pub record Copied (from to n : ℕ) (old new : List ℕ) : Type 0 where
   pub below : (i : ℕ) → i < 512 * to → slice_index new i ≡ slice_index old i
   pub above : (i : ℕ) → 512 * to + n ≤ i → slice_index new i ≡ slice_index old i
 
--- the word that a place of scratch had, or what the armed store that fell there stored
-abbrev pub FromScratch : ℕ → ℕ → Running → Running → Type 0
-FromScratch word at old new = (word ≡ slice_index old.scratch (at - old.protected)) ⊎ ((old.armed ≡ Some at) × (new.armed ≡ None) × (word ≡ old.armed_value))
+-- a word of scratch as the step that follows i others reads it: what the armed store left there, where it fell before that
+-- step, and else the word that it was
+pub record FromScratch (word at i : ℕ) (old : Running) : Type 0 where
+  pub stored : old.armed ≡ Some at → old.armed_left ≤ i → word ≡ old.armed_value
+  pub kept : (old.armed ≢ Some at) ⊎ (i < old.armed_left) → word ≡ slice_index old.scratch (at - old.protected)
 
--- where page `from` is of scratch, the first n words of page `to` are those that it had
-pub record CopiedScratch (from to n : ℕ) (old new : Running) (words : List ℕ) : Type 0 where
-  pub front : old.protected ≤ 512 * from → (i : ℕ) → i < n → FromScratch (slice_index words (512 * to + i)) (512 * from + i) old new
+-- where page `from` is of scratch, the first n words of page `to` are its words, each as a step of its own reads it
+pub record CopiedScratch (from to n : ℕ) (old : Running) (words : List ℕ) : Type 0 where
+  pub front : old.protected ≤ 512 * from → (i : ℕ) → i < n → FromScratch (slice_index words (512 * to + i)) (512 * from + i) i old
 
 -- what a write of block b leaves so, however it ends
 pub record WritesBlock (b : ℕ) (old new : Contents) : Type 0 where

@@ -1,4 +1,4 @@
-//! Words of the formats on disk and in memory that more than one crate knows.
+//! Words and sizes of the formats on disk and in memory that more than one crate knows.
 
 /// The first word of a machine's memory: the text `RIOCACHE`, its first byte lowest.
 pub const IMAGE_MAGIC: u64 = 0x4548_4341_434f_4952;
@@ -14,3 +14,9 @@ pub const UNDO_HEAD: u32 = 3;
 
 /// Bytes of a page, and of a block.
 pub const PAGE_BYTES: u64 = 4096;
+
+/// Words of a page, and of a block: how far apart the first words of two pages in a row lie in memory.
+pub const PAGE_WORDS: u32 = 512;
+
+/// The same, as the length of a list of words.
+pub const BLOCK_WORDS: usize = 512;

@@ -21,7 +21,9 @@ mod wild;
 pub use blocks::Blocks;
 pub use disk_blocks::DiskBlocks;
 pub use failures::{DiskFail, Failed, ReadFail, RunFail, Stopped, VolFail};
-pub use formats::{IMAGE_MAGIC, PAGE_BYTES, REGION_MAGIC, UNDO_HEAD, VOLUME_MAGIC};
+pub use formats::{
+    BLOCK_WORDS, IMAGE_MAGIC, PAGE_BYTES, PAGE_WORDS, REGION_MAGIC, UNDO_HEAD, VOLUME_MAGIC,
+};
 pub use host::Host;
 pub use host_reading::{read_from, rose};
 pub use lists::{BlockList, HeapList, InoList, Items, NameList, Octets, RangeList, Words};
