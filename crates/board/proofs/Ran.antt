@@ -6,8 +6,8 @@ use Rattle.rio_base.proofs.MachineRules.{falls_trans, lasts_refl, steps_trans}
 use Rattle.rio_base.specs.Memory.{FrontStored}
 use Rattle.board.specs.declared.guard.Guard.{Guard}
 use Rattle.board.specs.Boards.{contents_of, protected_count, protected_of, running_of, scratch_of}
-use Rattle.board.specs.Guards.{HaltsSooner, MakesSteps, page_of}
-use Rattle.board.proofs.StepRuns.{makes_more, sooner_more}
+use Rattle.board.specs.Guards.{Halted, HaltsSooner, HaltsWithin, MakesSteps, StopsAfter, page_of}
+use Rattle.board.proofs.StepRuns.{makes_more, never_at_once, sooner_more}
 use Rattle.board.proofs.WordRuns.{running_front}
 
 -- what k steps leave, beside the words that they stored
@@ -55,6 +55,16 @@ ran_stored k at n from words pages disk g mid now then after new some f fits h =
       sooner = h.sooner;
       made = subst (λ (r : Running). MakesSteps k (protected_count words pages) (scratch_of words pages) g r.scratch new) same h.made;
     }
+
+-- the step that follows them answers Stopped, and no word changes in it
+pub ran_stops : (k : ℕ) (words : List ℕ) (pages : ℕ) (disk : DiskContents) (g : Guard) (mid : List ℕ) (pages_mid : ℕ) (disk_mid : DiskContents) (g_mid : Guard) (now : List ℕ) (then : ℕ) (new : Guard) → Ran k words pages disk g mid pages_mid disk_mid g_mid → now ≡ mid → then ≡ pages_mid → Halted (protected_count mid pages_mid) g_mid new → StopsAfter k (protected_count words pages) (scratch_of words pages) g (scratch_of now then) new
+ran_stops k words pages disk g mid pages_mid disk_mid g_mid now then new h same pages_same stop = record {
+  none_before = λ e. never_at_once g_mid (protected_count words pages) ((h.sooner 0).1 (subst (λ n. HaltsWithin g n (protected_count words pages)) (omega arith) e));
+  stops = (g_mid, subst (λ (s : List ℕ). MakesSteps k (protected_count words pages) (scratch_of words pages) g s g_mid) (sym scratch) h.made, subst (λ s. Halted s g_mid new) h.steps.protected stop);
+}
+  where
+    scratch : scratch_of now then ≡ scratch_of mid pages_mid
+    scratch = ap (λ (ws : List ℕ). scratch_of ws then) same ∙ ap (λ (p : ℕ). scratch_of mid p) pages_same
 
 pub lasts_rest : (old new : Contents) → new ≡ record old { words = new.words } → length new.words ≡ length old.words → Lasts old new
 lasts_rest old new e size = record {

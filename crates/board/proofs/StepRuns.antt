@@ -6,7 +6,7 @@ use Rattle.rio_base.specs.Rules.{true_false}
 use Rattle.rio_base.specs.declared.wild.Wild.TheVariants.{Trapped, Spared}
 use Rattle.board.specs.declared.guard.Armed.{Armed}
 use Rattle.board.specs.declared.guard.Guard.{Guard}
-use Rattle.board.specs.Guards.{FallsBy, FallsWithin, Halts, HaltsSooner, HaltsWithin, IsClear, IsDue, IsOver, Lands, Makes, MakesSteps, Proceeds, counted, later, with_fallen}
+use Rattle.board.specs.Guards.{FallsBy, FallsWithin, Halts, HaltsSooner, HaltsWithin, IsClear, IsDue, IsOver, Lands, Makes, MakesSteps, Proceeds, counted, later, left_of, with_fallen}
 
 -- a stop that is given is a u64
 abbrev pub StopFits : Guard → Type 0
@@ -203,3 +203,21 @@ makes_one size first last old new h = record { made = (h.made.0, falls_one size 
 
 pub makes_clear : (n size : ℕ) (words : List ℕ) (old new : Guard) → IsClear old n → new ≡ counted n old → MakesSteps n size words old words new
 makes_clear n size words old new clear e = record { made = (None, inl (clear.armed, e), refl) }
+
+-- a step before which the armed store falls, if it is due, and then n before which nothing comes
+pub clear_behind : (n size : ℕ) (fallen : Option Armed) (old mid : Guard) → Proceeds size fallen old mid → IsClear mid n → 0 < left_of old.armed → 1 + n ≤ left_of old.armed
+clear_behind n size fallen old mid h clear more = from fallen h.between.1
+  where
+    not_due : (a : Armed) → IsDue old a → ⊥
+    not_due a due = let left : left_of old.armed ≡ a.left = ap left_of due.0 in omega (arith, left, due.1, more)
+
+    waits : (o : Option Armed) → 0 < left_of o → ((a : Armed) → later 1 o ≡ Some a → n ≤ a.left) → 1 + n ≤ left_of o
+    waits None some c = absurd (omega (arith, some))
+    waits (Some a) some c = omega (arith, some, c (record a { left = a.left - 1 }) refl)
+
+    from : (f : Option Armed) → FallsBy size f old h.between.0 → 1 + n ≤ left_of old.armed
+    from (Some a) f = absurd (not_due a f.0)
+    from None (inl f) =
+        let armed : mid.armed ≡ later 1 old.armed = ap (λ (g : Guard). g.armed) (h.between.2 ∙ ap (counted 1) f.1) in
+        waits old.armed more (λ a e. clear.armed a (armed ∙ e))
+    from None (inr f) = absurd (not_due f.0 f.1)

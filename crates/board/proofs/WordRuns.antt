@@ -3,9 +3,8 @@ use Rattle.std.proofs.Common.{◌≡◌, ◌≢◌, ℕ, ◌+◌, ◌-◌, ◌*�
 use Rattle.std.proofs.lemmas.Bool.{cases_lt}
 use Rattle.std.proofs.lemmas.Grind.{same_number_lists}
 use Rattle.std.proofs.lemmas.List.{get_or_append_left, get_or-append_right, get_or-take, get_or-drop, get_or_past, length-take-le}
-use Rattle.rio_base.specs.Machine.{Copied, CopiedScratch, FromScratch, Running, Steps}
+use Rattle.rio_base.specs.Machine.{Copied}
 use Rattle.rio_base.specs.Memory.{FrontStored, copied_words}
-use Rattle.rio_base.proofs.PageCopies.{scratch_later, scratch_word}
 use Rattle.board.specs.declared.guard.Guard.{Guard}
 use Rattle.board.specs.Boards.{protected_count, protected_of, running_of, scratch_of}
 use Rattle.board.specs.BoardLaws.{count_protected}
@@ -95,38 +94,3 @@ copied_more from to k n run old mid new two small h i value = record {
 -- the words of a run that is copied from protected words
 pub run_value : (words : List ℕ) (pages from n i : ℕ) → i < n → from + n ≤ protected_count words pages → slice_index (take n (drop from words)) i ≡ slice_index (protected_of words pages) (from + i)
 run_value words pages from n i less fits = get_or-take n (drop from words) i 0 less ∙ get_or-drop from words i 0 ∙ sym (get_or-take (protected_count words pages) words (from + i) 0 (omega (arith, less, fits)))
-
--- a part of a page of scratch, behind the front that is copied
-pub scratch_more : (from to k n : ℕ) (run mid new : List ℕ) (old then now : Running) → FrontStored (512 * to + k) n run mid new → (old.protected ≤ 512 * from → (i : ℕ) → i < n → FromScratch (slice_index run i) (512 * from + k + i) old now) → Steps then now → CopiedScratch from to k old then mid → CopiedScratch from to (k + n) old now new
-scratch_more from to k n run mid new old then now i value steps h = record { front = λ past j less. front past j less (cases_lt j k) }
-  where
-    before : CopiedScratch from to k old now mid
-    before = scratch_later from to k old then now mid steps h
-
-    front : old.protected ≤ 512 * from → (j : ℕ) → j < k + n → (j < k) ⊎ (k ≤ j) → FromScratch (slice_index new (512 * to + j)) (512 * from + j) old now
-    front past j less (inl small) = subst (λ w. FromScratch w (512 * from + j) old now) (sym (i.below (512 * to + j) (omega (arith, small)))) (before.front past j small)
-    front past j less (inr behind) =
-        let within : j - k < n = omega (arith, less, behind) in
-        let place : 512 * to + k + (j - k) ≡ 512 * to + j = omega (arith, behind) in
-        let source : 512 * from + k + (j - k) ≡ 512 * from + j = omega (arith, behind) in
-        let stored : slice_index run (j - k) ≡ slice_index new (512 * to + j) = sym (i.front (j - k) within) ∙ ap (slice_index new) place in
-        subst (λ w. FromScratch w (512 * from + j) old now) stored (subst (λ at. FromScratch (slice_index run (j - k)) at old now) source (value past (j - k) within))
-
--- the words of a run that is copied from words of scratch
-pub run_scratch : (words first : List ℕ) (pages pages_first from n i : ℕ) (g first_guard : Guard) → i < n → Steps (running_of first pages_first first_guard) (running_of words pages g) → protected_count first pages_first ≤ from → from + n ≤ length first → FromScratch (slice_index (take n (drop from words)) i) (from + i) (running_of first pages_first first_guard) (running_of words pages g)
-run_scratch words first pages pages_first from n i g first_guard less steps past fits =
-    subst (λ w. FromScratch w (from + i) (running_of first pages_first first_guard) (running_of words pages g)) (sym read)
-    (scratch_word (running_of first pages_first first_guard) (running_of words pages g) (from + i) (omega (arith, past)) (omega (arith, past, fits, less, length-drop (protected_count first pages_first) first)) steps)
-  where
-    size : protected_count words pages ≡ protected_count first pages_first
-    size = steps.protected
-
-    place : from + i ≡ protected_count words pages + (from + i - protected_count first pages_first)
-    place = omega (arith, past, size)
-
-    read : slice_index (take n (drop from words)) i ≡ slice_index (scratch_of words pages) (from + i - protected_count first pages_first)
-    read = get_or-take n (drop from words) i 0 less ∙ get_or-drop from words i 0 ∙ ap (slice_index words) place ∙ sym (get_or-drop (protected_count words pages) words (from + i - protected_count first pages_first) 0)
-
--- a front that is copied, after a step that answered Stopped
-pub scratch_ended : (from to n : ℕ) (old mid end : Running) (words now : List ℕ) → now ≡ words → Steps mid end → CopiedScratch from to n old mid words → CopiedScratch from to n old end now
-scratch_ended from to n old mid end words now same steps h = subst (λ (ws : List ℕ). CopiedScratch from to n old end ws) (sym same) (scratch_later from to n old mid end words steps h)

@@ -119,3 +119,8 @@ FallsWithin n size None old new =
 -- n steps that are made, with what they do to the words of scratch
 pub record MakesSteps (n size : ℕ) (old_scratch : List ℕ) (old : Guard) (new_scratch : List ℕ) (new : Guard) : Type 0 where
   pub made : (fallen : Option Armed) × FallsWithin n size fallen old new × (new_scratch ≡ with_fallen size fallen old_scratch)
+
+-- n steps are made, and the one that follows them answers Stopped
+pub record StopsAfter (n size : ℕ) (old_scratch : List ℕ) (old : Guard) (new_scratch : List ℕ) (new : Guard) : Type 0 where
+  pub none_before : HaltsWithin old n size → ⊥
+  pub stops : (mid : Guard) × MakesSteps n size old_scratch old new_scratch mid × Halted size mid new

@@ -5,21 +5,21 @@ ghost use Rattle.rio_base.specs.Machine.{Advances, Contents, Copied, CopiedScrat
 ghost use Rattle.rio_base.specs.Disks.{block_at, raised};
 ghost use Rattle.rio_base.specs.Memory.{FrontStored, page_at};
 ghost use Rattle.board.specs.Boards.{contents_of, protected_count, protected_of, running_of, scratch_of};
-ghost use Rattle.board.specs.Guards.{Halted, Halts, HaltsSooner, HaltsWithin, Makes, MakesSteps, after_store, page_of};
+ghost use Rattle.board.specs.Guards.{Halted, Halts, HaltsSooner, HaltsWithin, Makes, MakesSteps, StopsAfter, after_store, left_of, page_of};
 ghost use Rattle.board.specs.declared.guard.Armed.{Armed};
 
 use crate::guard::{Armed, Guard};
-use rio_base::{Block, DiskBlocks, DiskFail, Machine, MemWords, Page, Stopped, Wild, WordAt};
-
-/// Words in a page.
-const PAGE_WORDS: u32 = 512;
+use rio_base::{
+    Block, DiskBlocks, DiskFail, Machine, MemWords, PAGE_WORDS, Page, Stopped, Wild, WordAt,
+};
 
 /// A machine over words of memory and a disk.
 ///
 /// **Steps.** Each store of a word, block write and sync does this, in order. On a stopped board it answers `Stopped`.
 /// Where the steps that were given are used up, the board stops. Where an armed store is due, it falls: on a word of
 /// scratch it is made, on the open page it is skipped and counted, and elsewhere it traps, which stops the board. Then
-/// the step is counted and made. A page that is copied and a run of words are so many stores in a row.
+/// the step is counted and made. A page that is copied and a run of words are so many stores in a row. Each step of a copy
+/// reads its word once it has begun.
 ///
 /// **Stopped writes.** The disk is told of a write that stopped the board. Its block reads as before, and is pending.
 #[derive(Drop)]
@@ -130,7 +130,9 @@ impl<F: MemWords, D: DiskBlocks> Board<F, D> {
         ensures scratch { self.new.scratch ≡ self.old.scratch }
         ensures protected { protected_of (F.words self.new.mem) self.new.scratch ≡ protected_of (F.words self.old.mem) self.old.scratch }
         ensures count { length (F.words self.new.mem) ≡ length (F.words self.old.mem) }
+        ensures unmoved { OnErr result (F.words self.new.mem ≡ F.words self.old.mem) }
         ensures open_page { page_of self.new.guard ≡ page_of self.old.guard }
+        ensures at_first { IfOk result (λ n. 0 < left_of self.old.guard.armed → n ≤ left_of self.old.guard.armed) }
         ensures running { OnOk result ((self.old.guard.stopped ≡ false) × (self.new.guard.stopped ≡ false)) }
         ensures falls { Falls (page_of self.old.guard) (running_of (F.words self.old.mem) self.old.scratch self.old.guard) (running_of (F.words self.new.mem) self.new.scratch self.new.guard) }
         ensures halts { OnErr result (HaltsWithin self.old.guard most (protected_count (F.words self.old.mem) self.old.scratch)) }
@@ -228,15 +230,15 @@ impl<F: MemWords, D: DiskBlocks> Machine for Board<F, D> {
         Ok(())
     }
 
-    #[tactic(auto, using(crate::proofs::StepRuns::makes_none, crate::proofs::StepRuns::sooner_none, rio_base::proofs::MachineRules::steps_refl, rio_base::proofs::MachineRules::steps_trans, rio_base::proofs::MachineRules::ends_after, rio_base::proofs::MachineRules::falls_refl, rio_base::proofs::MachineRules::falls_trans, rio_base::proofs::PageCopies::scratch_none))]
+    #[tactic(auto, using(crate::proofs::StepRuns::makes_none, crate::proofs::StepRuns::sooner_none, rio_base::proofs::MachineRules::steps_refl, rio_base::proofs::MachineRules::steps_trans, rio_base::proofs::MachineRules::ends_after, rio_base::proofs::MachineRules::falls_refl, rio_base::proofs::MachineRules::falls_trans, crate::proofs::ScratchWords::scratch_none))]
     fn copy_page(&mut self, from: Page, to: Page) -> Result<(), Stopped>
         requires from { 512 * from.0 < length (⟦<Board<F, D> as Machine>⟧.contents self.old).words + length (⟦<Board<F, D> as Machine>⟧.run self.old).scratch }
         requires to { (⟦<Board<F, D> as Machine>⟧.contents self.old).open_page ≡ Some to.0 }
         requires two { from.0 ≢ to.0 }
         ensures copied { OnOk result (Copied from.0 to.0 512 (⟦<Board<F, D> as Machine>⟧.contents self.old).words (⟦<Board<F, D> as Machine>⟧.contents self.new).words) }
-        ensures scratch { OnOk result (CopiedScratch from.0 to.0 512 (⟦<Board<F, D> as Machine>⟧.run self.old) (⟦<Board<F, D> as Machine>⟧.run self.new) (⟦<Board<F, D> as Machine>⟧.contents self.new).words) }
+        ensures scratch { OnOk result (CopiedScratch from.0 to.0 512 (⟦<Board<F, D> as Machine>⟧.run self.old) (⟦<Board<F, D> as Machine>⟧.contents self.new).words) }
         ensures counted { OnOk result (Advances 512 (⟦<Board<F, D> as Machine>⟧.run self.old) (⟦<Board<F, D> as Machine>⟧.run self.new)) }
-        ensures front { OnErr result ((n : ℕ) × (n < 512) × Copied from.0 to.0 n (⟦<Board<F, D> as Machine>⟧.contents self.old).words (⟦<Board<F, D> as Machine>⟧.contents self.new).words × CopiedScratch from.0 to.0 n (⟦<Board<F, D> as Machine>⟧.run self.old) (⟦<Board<F, D> as Machine>⟧.run self.new) (⟦<Board<F, D> as Machine>⟧.contents self.new).words × Advances n (⟦<Board<F, D> as Machine>⟧.run self.old) (⟦<Board<F, D> as Machine>⟧.run self.new)) }
+        ensures front { OnErr result ((n : ℕ) × (n < 512) × Copied from.0 to.0 n (⟦<Board<F, D> as Machine>⟧.contents self.old).words (⟦<Board<F, D> as Machine>⟧.contents self.new).words × CopiedScratch from.0 to.0 n (⟦<Board<F, D> as Machine>⟧.run self.old) (⟦<Board<F, D> as Machine>⟧.contents self.new).words × Advances n (⟦<Board<F, D> as Machine>⟧.run self.old) (⟦<Board<F, D> as Machine>⟧.run self.new)) }
         ensures rest { ⟦<Board<F, D> as Machine>⟧.contents self.new ≡ record (⟦<Board<F, D> as Machine>⟧.contents self.old) { words = (⟦<Board<F, D> as Machine>⟧.contents self.new).words } }
         ensures frozen { (⟦<Board<F, D> as Machine>⟧.run self.old).stopped ≡ true → ⟦<Board<F, D> as Machine>⟧.contents self.new ≡ ⟦<Board<F, D> as Machine>⟧.contents self.old }
         ensures lasts { Lasts (⟦<Board<F, D> as Machine>⟧.contents self.old) (⟦<Board<F, D> as Machine>⟧.contents self.new) }
@@ -245,6 +247,7 @@ impl<F: MemWords, D: DiskBlocks> Machine for Board<F, D> {
         ensures ends { StepEnds (⟦<Board<F, D> as Machine>⟧.run self.old) (⟦<Board<F, D> as Machine>⟧.run self.new) (IsErr result) }
         ensures stops { IsErr result ↔ HaltsWithin (guard_of self.old) 512 (⟦<Board<F, D> as Machine>⟧.run self.old).protected }
         ensures begun { IsOk result → MakesSteps 512 (⟦<Board<F, D> as Machine>⟧.run self.old).protected (⟦<Board<F, D> as Machine>⟧.run self.old).scratch (guard_of self.old) (⟦<Board<F, D> as Machine>⟧.run self.new).scratch (guard_of self.new) }
+        ensures cut { OnErr result ((n : ℕ) × (n < 512) × Copied from.0 to.0 n (⟦<Board<F, D> as Machine>⟧.contents self.old).words (⟦<Board<F, D> as Machine>⟧.contents self.new).words × CopiedScratch from.0 to.0 n (⟦<Board<F, D> as Machine>⟧.run self.old) (⟦<Board<F, D> as Machine>⟧.contents self.new).words × StopsAfter n (⟦<Board<F, D> as Machine>⟧.run self.old).protected (⟦<Board<F, D> as Machine>⟧.run self.old).scratch (guard_of self.old) (⟦<Board<F, D> as Machine>⟧.run self.new).scratch (guard_of self.new)) }
     {
         let mut done = 0;
         while done < PAGE_WORDS {
@@ -271,6 +274,7 @@ impl<F: MemWords, D: DiskBlocks> Machine for Board<F, D> {
         ensures ends { StepEnds (⟦<Board<F, D> as Machine>⟧.run self.old) (⟦<Board<F, D> as Machine>⟧.run self.new) (IsErr result) }
         ensures stops { IsErr result ↔ HaltsWithin (guard_of self.old) (length from.now) (⟦<Board<F, D> as Machine>⟧.run self.old).protected }
         ensures begun { IsOk result → MakesSteps (length from.now) (⟦<Board<F, D> as Machine>⟧.run self.old).protected (⟦<Board<F, D> as Machine>⟧.run self.old).scratch (guard_of self.old) (⟦<Board<F, D> as Machine>⟧.run self.new).scratch (guard_of self.new) }
+        ensures cut { OnErr result ((n : ℕ) × (n < length from.now) × FrontStored at.0 n from.now (⟦<Board<F, D> as Machine>⟧.contents self.old).words (⟦<Board<F, D> as Machine>⟧.contents self.new).words × StopsAfter n (⟦<Board<F, D> as Machine>⟧.run self.old).protected (⟦<Board<F, D> as Machine>⟧.run self.old).scratch (guard_of self.old) (⟦<Board<F, D> as Machine>⟧.run self.new).scratch (guard_of self.new)) }
     {
         let mut done = 0;
         while done < from.len() {

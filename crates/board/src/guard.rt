@@ -4,10 +4,7 @@ ghost use Rattle.std.specs.Prelude.{ℕ, ◌^◌, ◌≡◌, ◌≢◌, ◌<◌,
 ghost use Rattle.rio_base.specs.Disks.{raised};
 ghost use Rattle.board.specs.Guards.{Halted, Halts, HasFallen, IsClear, IsDue, IsOver, Lands, Proceeds, Traps, after_store, counted, page_of};
 
-use rio_base::{Page, Stopped, Wild, WordAt};
-
-/// Words in a page.
-const PAGE_WORDS: u32 = 512;
+use rio_base::{PAGE_WORDS, Page, Stopped, Wild, WordAt};
 
 /// A wild store that is armed.
 #[derive(Clone, Copy)]

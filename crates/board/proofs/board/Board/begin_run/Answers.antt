@@ -6,7 +6,7 @@ use Rattle.board.specs.declared.guard.Guard.{Guard}
 use Rattle.board.specs.Guards.{HaltsWithin}
 use Rattle.board.specs.Boards.{protected_count, running_of, scratch_of}
 use Rattle.board.proofs.Runs.{passed_ends}
-use Rattle.board.proofs.StepRuns.{begun_fits, halts_within, makes_clear, makes_more, makes_one, sooner_begun, sooner_clear, sooner_more}
+use Rattle.board.proofs.StepRuns.{begun_fits, clear_behind, halts_within, makes_clear, makes_more, makes_one, sooner_begun, sooner_clear, sooner_more}
 use Rattle.board.proofs.board.Board.begin_run.Goals as goal
 
 pub returns-clause-sooner : goal.returns-clause-sooner
@@ -32,6 +32,12 @@ returns-clause-made g c =
     makes_more 1 c.pass-further.result size first last last old.guard mid.guard c.pass-further.new.self
     (makes_one size first last old.guard mid.guard c.in_ok-begin.ensures.made)
     (makes_clear c.pass-further.result size last mid.guard c.pass-further.new.self c.pass-further.ensures.clear c.pass-further.ensures.counted)
+
+pub returns-clause-at_first : goal.returns-clause-at_first
+returns-clause-at_first g c =
+    let old = c.args.self.now in
+    let made = c.in_ok-begin.ensures.made.made in
+    clear_behind c.pass-further.result (protected_count (g.F.MemWords.words old.mem) old.scratch) made.0 old.guard c.begin.new.self.guard made.1 c.pass-further.ensures.clear
 
 pub returns-clause-ends : goal.returns-clause-ends
 returns-clause-ends g c =

@@ -1,16 +1,17 @@
 use Rattle.std.proofs.Common.{ℕ, ◌≡◌, ◌≤◌, ◌<◌, ◌+◌, ◌-◌, ◌*◌, ◌%◌, List, length, refl, take, drop, slice_index, ◌∙◌, sym, ap, subst, arith}
-use Rattle.rio_base.specs.Machine.{Advances, Contents, Copied, CopiedScratch, Running}
+use Rattle.rio_base.specs.Machine.{Advances, Contents, Copied, CopiedScratch}
 use Rattle.rio_base.proofs.MachineRules.{steps_trans}
 use Rattle.rio_base.specs.Memory.{FrontStored}
 use Rattle.rio_base.specs.Rules.{true_false}
 use Rattle.board.specs.BoardLaws.{count_protected, pages_protected}
 use Rattle.board.specs.Boards.{protected_count, protected_of, running_of, scratch_of}
-use Rattle.board.specs.Guards.{HaltsWithin, MakesSteps}
+use Rattle.board.specs.Guards.{HaltsWithin, MakesSteps, StopsAfter}
 use Rattle.board.proofs.Places.{page_in_memory}
-use Rattle.board.proofs.Ran.{Ran, lasts_rest, ran_more, ran_stored, same_rest}
+use Rattle.board.proofs.Ran.{Ran, lasts_rest, ran_more, ran_stops, ran_stored, same_rest}
 use Rattle.board.proofs.Runs.{advances_halted, steps_advance}
 use Rattle.board.proofs.StepRuns.{never_at_once}
-use Rattle.board.proofs.WordRuns.{copied_front, copied_more, protected_front, run_scratch, run_value, running_front, scratch_ended, scratch_more}
+use Rattle.board.proofs.ScratchWords.{falls_first, run_scratch, scratch_more}
+use Rattle.board.proofs.WordRuns.{copied_front, copied_more, protected_front, run_value}
 use Rattle.board.proofs.board.BoardMachine.copy_page.Goals as goal
 
 pub returns-in_err-n-clause-lasts : goal.returns-in_err-n-clause-lasts
@@ -95,16 +96,17 @@ loop-done-preserved g c =
       sooner = b.sooner;
       made = b.made;
     } in
-    let r = ran_stored (k + n) to n run (words old.mem) old.scratch (disk old.disk) old.guard (words begun.mem) (words c.copy_words.new.self) begun.scratch (disk begun.disk) begun.guard (omega (arith, b.some.0)) whole room
-    (ran_more k n (words old.mem) old.scratch (disk old.disk) old.guard (words mid.mem) mid.scratch (disk mid.disk) mid.guard (words begun.mem) begun.scratch (disk begun.disk) begun.guard before next) in
+    let both = ran_more k n (words old.mem) old.scratch (disk old.disk) old.guard (words mid.mem) mid.scratch (disk mid.disk) mid.guard (words begun.mem) begun.scratch (disk begun.disk) begun.guard before next in
+    let r = ran_stored (k + n) to n run (words old.mem) old.scratch (disk old.disk) old.guard (words begun.mem) (words c.copy_words.new.self) begun.scratch (disk begun.disk) begun.guard (omega (arith, b.some.0)) whole room both in
+    let made : Advances k first (running_of (words mid.mem) mid.scratch mid.guard) = steps_advance k _ _ _ old.guard mid.guard (words old.mem) (words mid.mem) old.scratch mid.scratch i.made in
+    let all : Advances (k + n) first (running_of (words begun.mem) begun.scratch begun.guard) = steps_advance (k + n) _ _ _ old.guard begun.guard (words old.mem) (words begun.mem) old.scratch begun.scratch both.made in
     record {
       within = small;
       copied = copied_more c.args.from.0 c.args.to.0 k n run (protected_of (words old.mem) old.scratch) (protected_of (words mid.mem) mid.scratch) (protected_of (words c.copy_words.new.self) begun.scratch) c.requires.two small i.copied part
           (λ known j less. run_value (words begun.mem) begun.scratch from n j less (omega (arith, size, small, known, pages_protected (words old.mem) old.scratch old.whole old.room, count_protected (words old.mem) old.scratch)) ∙ ap (λ (ws : List _). slice_index ws (from + j)) b.protected);
-      scratch = subst (λ (u : Running). CopiedScratch c.args.from.0 c.args.to.0 (k + n) first u (protected_of (words c.copy_words.new.self) begun.scratch)) (sym (running_front to n begun.scratch run (words begun.mem) (words c.copy_words.new.self) begun.guard whole room))
-          (scratch_more c.args.from.0 c.args.to.0 k n run (protected_of (words mid.mem) mid.scratch) (protected_of (words c.copy_words.new.self) begun.scratch) first (running_of (words mid.mem) mid.scratch mid.guard) (running_of (words begun.mem) begun.scratch begun.guard) part
-          (λ past j less. run_scratch (words begun.mem) (words old.mem) begun.scratch old.scratch from n j begun.guard old.guard less (steps_trans _ _ _ i.steps b.ends.steps) (omega (arith, past)) (omega (arith, source, small)))
-          b.ends.steps i.scratch);
+      scratch = scratch_more c.args.from.0 c.args.to.0 k n run (protected_of (words mid.mem) mid.scratch) (protected_of (words c.copy_words.new.self) begun.scratch) first part
+          (λ past j less. run_scratch (words begun.mem) (words old.mem) begun.scratch old.scratch from k n j begun.guard old.guard less both.steps all b.running.1 (falls_first k n first (running_of (words mid.mem) mid.scratch mid.guard) i.steps made b.at_first) (omega (arith, past)) (omega (arith, source, small)))
+          i.scratch;
       count = r.count;
       rest = r.rest;
       steps = r.steps;
@@ -158,14 +160,38 @@ returns-in_err-n-clause-front g c =
     let before = protected_of (words old.mem) old.scratch in
     let now = protected_of (words end.mem) end.scratch in
     let steps : Advances k first last = advances_halted k _ _ _ _ old.guard mid.guard end.guard (words old.mem) (words mid.mem) (words end.mem) old.scratch mid.scratch end.scratch i.steps b.ends.steps i.made b.stops in
-    let front : (n : ℕ) × (n < 512) × Copied c.args.from.0 c.args.to.0 n before now × CopiedScratch c.args.from.0 c.args.to.0 n first last now × Advances n first last = (
+    let front : (n : ℕ) × (n < 512) × Copied c.args.from.0 c.args.to.0 n before now × CopiedScratch c.args.from.0 c.args.to.0 n first now × Advances n first last = (
       k,
       c.loop-done-test.true,
       subst (λ (ws : List _). Copied c.args.from.0 c.args.to.0 k before ws) (sym b.protected) i.copied,
-      scratch_ended c.args.from.0 c.args.to.0 k first (running_of (words mid.mem) mid.scratch mid.guard) last (protected_of (words mid.mem) mid.scratch) now b.protected b.ends.steps i.scratch,
+      subst (λ (ws : List _). CopiedScratch c.args.from.0 c.args.to.0 k first ws) (sym b.protected) i.scratch,
       steps,
     ) in
     grind (arith, front)
+
+pub returns-in_err-n-clause-cut : goal.returns-in_err-n-clause-cut
+returns-in_err-n-clause-cut g c =
+    let i = c.loop-done.invariant in
+    let b = c.in_err-n.ensures in
+    let words = g.F.MemWords.words in
+    let disk = g.D.DiskBlocks.contents in
+    let old = c.args.self.now in
+    let mid = c.loop-done.self in
+    let end = c.begin_run.new.self in
+    let k = c.loop-done.done in
+    let first = running_of (words old.mem) old.scratch old.guard in
+    let before = protected_of (words old.mem) old.scratch in
+    let now = protected_of (words end.mem) end.scratch in
+    let ran : Ran k (words old.mem) old.scratch (disk old.disk) old.guard (words mid.mem) mid.scratch (disk mid.disk) mid.guard =
+    record { count = i.count; rest = i.rest; steps = i.steps; falls = i.falls; frozen = i.frozen; runs = i.runs; sooner = i.sooner; made = i.made } in
+    let cut : (n : ℕ) × (n < 512) × Copied c.args.from.0 c.args.to.0 n before now × CopiedScratch c.args.from.0 c.args.to.0 n first now × StopsAfter n (protected_count (words old.mem) old.scratch) (scratch_of (words old.mem) old.scratch) old.guard (scratch_of (words end.mem) end.scratch) end.guard = (
+      k,
+      c.loop-done-test.true,
+      subst (λ (ws : List _). Copied c.args.from.0 c.args.to.0 k before ws) (sym b.protected) i.copied,
+      subst (λ (ws : List _). CopiedScratch c.args.from.0 c.args.to.0 k first ws) (sym b.protected) i.scratch,
+      ran_stops k (words old.mem) old.scratch (disk old.disk) old.guard (words mid.mem) mid.scratch (disk mid.disk) mid.guard (words end.mem) end.scratch end.guard ran b.unmoved b.scratch b.stops,
+    ) in
+    grind (arith, cut)
 
 pub returns-in_err-n-clause-ends : goal.returns-in_err-n-clause-ends
 returns-in_err-n-clause-ends g c =

@@ -15,7 +15,7 @@ invariant-loop-done g l =
     record {
       within : l.done ≤ 512;
       copied : Copied l.from.0 l.to.0 l.done (protected_of (words old.mem) old.scratch) (protected_of (words now.mem) now.scratch);
-      scratch : CopiedScratch l.from.0 l.to.0 l.done (running_of (words old.mem) old.scratch old.guard) (running_of (words now.mem) now.scratch now.guard) (protected_of (words now.mem) now.scratch);
+      scratch : CopiedScratch l.from.0 l.to.0 l.done (running_of (words old.mem) old.scratch old.guard) (protected_of (words now.mem) now.scratch);
       count : length (words now.mem) ≡ length (words old.mem);
       rest : contents_of (words now.mem) now.scratch (disk now.disk) now.guard ≡ record (contents_of (words old.mem) old.scratch (disk old.disk) old.guard) { words = protected_of (words now.mem) now.scratch };
       steps : Steps (running_of (words old.mem) old.scratch old.guard) (running_of (words now.mem) now.scratch now.guard);

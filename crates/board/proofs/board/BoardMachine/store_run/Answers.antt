@@ -4,8 +4,8 @@ use Rattle.rio_base.proofs.MachineRules.{steps_trans}
 use Rattle.rio_base.specs.Memory.{FrontStored}
 use Rattle.rio_base.specs.Rules.{true_false}
 use Rattle.board.specs.Boards.{protected_count, protected_of, running_of, scratch_of}
-use Rattle.board.specs.Guards.{HaltsWithin, MakesSteps}
-use Rattle.board.proofs.Ran.{Ran, lasts_rest, ran_more, ran_stored, same_rest}
+use Rattle.board.specs.Guards.{HaltsWithin, MakesSteps, StopsAfter}
+use Rattle.board.proofs.Ran.{Ran, lasts_rest, ran_more, ran_stops, ran_stored, same_rest}
 use Rattle.board.proofs.Runs.{advances_halted, steps_advance}
 use Rattle.board.proofs.StepRuns.{never_at_once}
 use Rattle.board.proofs.WordRuns.{front_more, protected_front, run_part}
@@ -133,6 +133,28 @@ returns-in_err-n-clause-front g c =
       steps,
     ) in
     grind (arith, front)
+
+pub returns-in_err-n-clause-cut : goal.returns-in_err-n-clause-cut
+returns-in_err-n-clause-cut g c =
+    let i = c.loop-done.invariant in
+    let b = c.in_err-n.ensures in
+    let words = g.F.MemWords.words in
+    let disk = g.D.DiskBlocks.contents in
+    let old = c.args.self.now in
+    let mid = c.loop-done.self in
+    let end = c.begin_run.new.self in
+    let k = c.loop-done.done in
+    let before = protected_of (words old.mem) old.scratch in
+    let now = protected_of (words end.mem) end.scratch in
+    let ran : Ran k (words old.mem) old.scratch (disk old.disk) old.guard (words mid.mem) mid.scratch (disk mid.disk) mid.guard =
+    record { count = i.count; rest = i.rest; steps = i.steps; falls = i.falls; frozen = i.frozen; runs = i.runs; sooner = i.sooner; made = i.made } in
+    let cut : (n : ℕ) × (n < length c.args.from.now) × FrontStored c.args.at.0 n c.args.from.now before now × StopsAfter n (protected_count (words old.mem) old.scratch) (scratch_of (words old.mem) old.scratch) old.guard (scratch_of (words end.mem) end.scratch) end.guard = (
+      k,
+      c.loop-done-test.true,
+      subst (λ (ws : List _). FrontStored c.args.at.0 k c.args.from.now before ws) (sym b.protected) i.stored,
+      ran_stops k (words old.mem) old.scratch (disk old.disk) old.guard (words mid.mem) mid.scratch (disk mid.disk) mid.guard (words end.mem) end.scratch end.guard ran b.unmoved b.scratch b.stops,
+    ) in
+    grind (arith, cut)
 
 pub returns-in_err-n-clause-ends : goal.returns-in_err-n-clause-ends
 returns-in_err-n-clause-ends g c =
