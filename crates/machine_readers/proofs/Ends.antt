@@ -1,28 +1,16 @@
 -- How calls of a machine end, one after another.
-use Rattle.std.specs.Prelude.{◌≡◌, ℕ, Option, Result, Ok, Err, IsErrOf}
+use Rattle.std.specs.Prelude.{◌≡◌, ℕ, Option}
 use Rattle.std.proofs.Common.{refl, sym, subst, true}
-use Rattle.rio_base.specs.declared.failures.DiskFail.{DiskFail}
 use Rattle.rio_base.specs.Machine.{Contents, Lasts, Running, StepEnds}
-use Rattle.rio_base.proofs.MachineRules.{ends_after, lasts_refl, lasts_trans, steps_refl}
+use Rattle.rio_base.proofs.MachineRules.{lasts_refl, lasts_trans, steps_refl}
 
 -- a store between two calls that are no steps
 pub ends_within : (a b c d : Running) (stop : Type 0) → b ≡ a → StepEnds b c stop → d ≡ c → StepEnds a d stop
 ends_within a b c d stop e h k = subst (λ x. StepEnds x d stop) e (subst (λ y. StepEnds b y stop) (sym k) h)
 
--- a call that did not answer DiskFail.Stopped, and then another
-pub ends_then : (a b c : Running) (none stop : Type 0) → (none → ⊥) → StepEnds a b none → StepEnds b c stop → StepEnds a c stop
-ends_then a b c none stop n h k = ends_after a b c stop h.steps (h.runs n) k
-
--- the same failure, as another answer gives it
-pub ends_told : {T U : Type 0} (a b : Running) (e : DiskFail) (answer : Result U DiskFail) → answer ≡ Err e → StepEnds a b (IsErrOf {T = T} (Err e) DiskFail.Stopped) → StepEnds a b (IsErrOf answer DiskFail.Stopped)
-ends_told a b e answer same h = record { steps = h.steps; told = λ x. h.told cc; runs = λ n. h.runs (λ x. n cc) }
-
 -- a call that is no step
 pub ends_still : (a b : Running) (stop : Type 0) → b ≡ a → (stop → a.stopped ≡ true) → StepEnds a b stop
 ends_still a b stop e h = subst (λ x. StepEnds a x stop) (sym e) (record { steps = steps_refl a; told = h; runs = λ n. refl })
-
-pub never : {T : Type 0} (x : T) (e : DiskFail) → IsErrOf (Ok x) e → ⊥
-never x e same = cc
 
 -- a call that opens or closes a page
 pub lasts_opened : (a b : Contents) (o : Option ℕ) → b ≡ record a { open_page = o } → Lasts a b

@@ -3,14 +3,11 @@
 ghost use Rattle.std.specs.Prelude.{◌≡◌, ◌≤◌, ◌+◌, ◌*◌, IfOk, length};
 ghost use Rattle.rio_base.specs.Memory.{FrontStored};
 
-use rio_base::Block;
+use rio_base::{BLOCK_WORDS, Block};
 use std::alloc::{AllocError, Global};
 
 /// How many blocks a walked volume has.
 pub const BLOCKS: u32 = 64;
-
-/// Words in a block.
-pub const BLOCK_WORDS: usize = 512;
 
 /// Words in all blocks.
 pub const ALL_WORDS: usize = 32_768;

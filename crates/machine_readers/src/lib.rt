@@ -6,6 +6,6 @@ mod block_lists;
 mod saving;
 mod standing;
 
-pub use block_lists::{ALL_WORDS, BLOCK_WORDS, BLOCKS, put_block, zeros};
+pub use block_lists::{ALL_WORDS, BLOCKS, put_block, zeros};
 pub use saving::save;
 pub use standing::{Unread, reading_words, standing_words};

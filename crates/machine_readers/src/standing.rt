@@ -10,9 +10,9 @@ ghost use Rattle.rio_model.specs.Cover.{cover_by, entry_of_block, frame_page, ho
 ghost use Rattle.rio_model.specs.Registry.{frames_of, is_valid, page_of_entry, shadow_at, tag_block};
 ghost use Rattle.machine_readers.specs.Covers.{AreBlocks, InLimits, PutsBlock, blocks_by, page_by};
 
-use crate::block_lists::{ALL_WORDS, BLOCK_WORDS, BLOCKS, put_block, zeros};
+use crate::block_lists::{ALL_WORDS, BLOCKS, put_block, zeros};
 use block_disk::MemDisk;
-use rio_base::{Block, DiskBlocks, Failed};
+use rio_base::{BLOCK_WORDS, Block, DiskBlocks, Failed};
 use std::alloc::{AllocError, Global};
 use thiserror::Error;
 

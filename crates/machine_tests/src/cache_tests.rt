@@ -8,8 +8,8 @@ use crate::cache_walks::cache_of;
 use crate::crashes::crashed;
 use crate::same::same;
 use block_disk::{DiskChoice, MemDisk};
-use machine_readers::{BLOCK_WORDS, BLOCKS};
-use rio_base::{Block, Blocks, VolFail, Volume};
+use machine_readers::BLOCKS;
+use rio_base::{BLOCK_WORDS, Block, Blocks, VolFail, Volume};
 use std::alloc::Global;
 use std::test::Fail;
 

@@ -119,6 +119,35 @@ fn a_page_of_scratch_is_copied_as_it_is_when_its_words_are_read(
         Row::Make(Call::Copy(82, 2), Came::Done),
         Row::Tell(Look::Word(1074), Came::Number(42_034)),
         Row::Tell(Look::Word(42_034), Came::Number(9)),
+        Row::Board(
+            "a store before the first word",
+            Memory::Counted,
+            Mishap::Nothing,
+        ),
+        Row::Make(Call::Open(2), Came::Done),
+        Row::Make(Call::Arm(0, 41_984, 9), Came::Done),
+        Row::Make(Call::Copy(82, 2), Came::Done),
+        Row::Tell(Look::Word(1024), Came::Number(9)),
+        Row::Tell(Look::Word(1025), Came::Number(41_985)),
+        Row::Board(
+            "a store before the step of its word",
+            Memory::Counted,
+            Mishap::Nothing,
+        ),
+        Row::Make(Call::Open(2), Came::Done),
+        Row::Make(Call::Arm(100, 42_084, 9), Came::Done),
+        Row::Make(Call::Copy(82, 2), Came::Done),
+        Row::Tell(Look::Word(1124), Came::Number(9)),
+        Row::Board(
+            "a store behind the step of its word",
+            Memory::Counted,
+            Mishap::Nothing,
+        ),
+        Row::Make(Call::Open(2), Came::Done),
+        Row::Make(Call::Arm(101, 42_084, 9), Came::Done),
+        Row::Make(Call::Copy(82, 2), Came::Done),
+        Row::Tell(Look::Word(1124), Came::Number(42_084)),
+        Row::Tell(Look::Word(42_084), Came::Number(9)),
     ];
     check(&rt, rt.alloc(), &rows)?;
     Ok(())

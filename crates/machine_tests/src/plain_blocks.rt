@@ -2,8 +2,8 @@
 
 ghost use Rattle.std.specs.Prelude.{◌≡◌, ◌+◌, ◌<◌, ◌≤◌, IfOk, length};
 
-use machine_readers::{ALL_WORDS, BLOCK_WORDS, BLOCKS, zeros};
-use rio_base::Block;
+use machine_readers::{ALL_WORDS, BLOCKS, zeros};
+use rio_base::{BLOCK_WORDS, Block};
 use std::alloc::{AllocError, AllocFailed, Global};
 
 /// How many of the stores of the running action may stand where a stop cuts it off.

@@ -9,11 +9,8 @@ use block_disk::MemDisk;
 use board::Board;
 use page_protect::{Window, put_run, put_word};
 use phys_memory::ListMem;
-use rio_base::{Block, DiskFail, Machine, Page, Stopped, Wild, WordAt};
+use rio_base::{BLOCK_WORDS, Block, DiskFail, Machine, Page, Stopped, Wild, WordAt};
 use std::alloc::{AllocError, Global};
-
-/// Words in a page.
-const PAGE_WORDS: usize = 512;
 
 /// The most words that a board's memory has.
 const MOST_WORDS: usize = 42_496;
@@ -256,7 +253,7 @@ impl Rig {
         if self.page != Some(at / 512) {
             return Came::OutOfPlace;
         }
-        if PAGE_WORDS - (at as usize) % PAGE_WORDS < words.len() {
+        if BLOCK_WORDS - (at as usize) % BLOCK_WORDS < words.len() {
             return Came::OutOfPlace;
         }
         Came::from(self.board.store_run(WordAt(at), words))
@@ -334,7 +331,7 @@ impl Rig {
         if self.page.is_some() || 512 < w || !self.is_page(p) {
             return Came::OutOfPlace;
         }
-        if PAGE_WORDS - (w as usize) < words.len() {
+        if BLOCK_WORDS - (w as usize) < words.len() {
             return Came::OutOfPlace;
         }
         Came::from(put_run(&mut self.board, Page(p), w, words))

@@ -12,10 +12,10 @@ use crate::machines::MemBoard;
 use crate::same::same;
 use block_disk::{DiskChoice, MemDisk};
 use board::Board;
-use machine_readers::{BLOCK_WORDS, BLOCKS};
+use machine_readers::BLOCKS;
 use page_cache::PageCache;
 use phys_memory::ListMem;
-use rio_base::{Block, Blocks, Machine, RunFail, VolFail, Volume, Wild, WordAt};
+use rio_base::{BLOCK_WORDS, Block, Blocks, Machine, RunFail, VolFail, Volume, Wild, WordAt};
 use std::alloc::Global;
 use std::test::Fail;
 
