@@ -1,5 +1,5 @@
 -- A walk from the old end past pinned frames.
-use Rattle.std.specs.Prelude.{◌≡◌, ◌≢◌, ℕ, suc, ◌+◌, ◌-◌, ◌<◌, ◌≤◌, Bool, true, false, not, List, [], ◌∷◌, ◌++◌, cond, filter, find, if◌then◌else◌, slice_index_or, Option, Some, None, is_none, refl}
+use Rattle.std.specs.Prelude.{◌≡◌, ◌≢◌, ℕ, suc, ◌+◌, ◌-◌, ◌<◌, ◌≤◌, ◌⊎◌, Bool, true, false, not, List, [], ◌∷◌, ◌++◌, cond, filter, find, if◌then◌else◌, slice_index_or, Option, Some, None, is_none, refl}
 use Rattle.std.proofs.Common.{◌∙◌, ap, sym, subst, ⊎_elim, inl, inr, arith}
 use Rattle.std.proofs.lemmas.Bool.{cases_Bool, cases_eq, lt-ltb}
 use Rattle.rio_base.specs.Rules.{true_false}
@@ -7,7 +7,7 @@ use Rattle.frame_pool.specs.declared.frame.Frame.{Frame}
 use Rattle.frame_pool.specs.declared.frame_pool.FramePool.{FramePool}
 use Rattle.frame_pool.specs.Frames.{free_at, order_at, pinned_at, walk, younger_at}
 use Rattle.frame_pool.specs.Orders.{StandFirst, count_below, times}
-use Rattle.frame_pool.specs.Pools.{IsVictim, NoneFree, block_of, is_pinned, least_recent, order_of}
+use Rattle.frame_pool.specs.Pools.{IsVictim, NoneFree, block_of, frames_in, is_pinned, least_recent, order_of}
 use Rattle.frame_pool.specs.Rings.{HasEachOnce}
 use Rattle.frame_pool.proofs.Counts.{count_all}
 use Rattle.frame_pool.proofs.Holding.{read_here}
@@ -26,7 +26,6 @@ pub record Passed (frames : List Frame) (n i k : ℕ) : Type 0 where
 pub record Reached (p : FramePool) (i k : ℕ) : Type 0 where
   pub passed : Passed p.frames.items p.count i k
   pub within : i < p.count → k < p.count
-  pub first : i < p.count → pinned_at p.frames.items k ≡ false → least_recent p ≡ Some k
   pub victim : i < p.count → pinned_at p.frames.items k ≡ false → IsVictim p k
 
 -- the same, of so many frames that are left
@@ -71,6 +70,10 @@ left_found frames n m k h pinned = sym h.rest ∙ ap (λ b. cond (not b) (Some k
 
 passed_found : (frames : List Frame) (n i k : ℕ) → Passed frames n i k → i < n → pinned_at frames k ≡ false → find (unpinned_at frames) (order_at frames n) ≡ Some k
 passed_found frames n i k h less pinned = left_found frames n (n - (i + 1)) k (left frames n i k (suc (n - (i + 1))) h (omega (arith, less))) pinned
+
+not_true : (b : Bool) → not b ≡ true → b ≡ false
+not_true true e = absurd (true_false (sym e))
+not_true false e = refl
 
 not_false : (b : Bool) → not b ≡ false → b ≡ true
 not_false true e = refl
@@ -160,20 +163,19 @@ module _ (p : FramePool) (k : ℕ) (first : least_recent p ≡ Some k) (bound : 
           let at : Some x ≡ Some k = sym (ap (λ b. cond (not b) (Some x) (find (λ j. not (is_pinned p j)) xs)) e) ∙ found in
           cc
 
-is_victim : (p : FramePool) (k : ℕ) → least_recent p ≡ Some k → IsVictim p k
-is_victim p k first = by (block_of p k) refl
+is_victim : (p : FramePool) (k : ℕ) → k < frames_in p → is_pinned p k ≡ false → least_recent p ≡ Some k → IsVictim p k
+is_victim p k within unpinned first = record { within = within; unpinned = unpinned; first = first; free = by (block_of p k) refl }
   where
-    by : (o : Option ℕ) → block_of p k ≡ o → IsVictim p k
+    by : (o : Option ℕ) → block_of p k ≡ o → (block_of p k ≡ None) ⊎ NoneFree p
     by None e = inl e
-    by (Some b) e = inr (none_free_in p k first (λ f. some_none b (sym e ∙ f)) (order_of p) refl, first)
+    by (Some b) e = inr (none_free_in p k first (λ f. some_none b (sym e ∙ f)) (order_of p) refl)
 
 -- ---- the frame that a walk reads
 reached : (p : FramePool) (i k : ℕ) → Passed p.frames.items p.count i k → Reached p i k
 reached p i k h = record {
   passed = h;
   within = passed_within p.frames.items p.count i k p.once h;
-  first = passed_found p.frames.items p.count i k h;
-  victim = λ less free. is_victim p k (passed_found p.frames.items p.count i k h less free);
+  victim = λ less free. is_victim p k (passed_within p.frames.items p.count i k p.once h less) free (passed_found p.frames.items p.count i k h less free);
 }
 
 pub read_pinned : (p : FramePool) (i k : ℕ) (f : Frame) → Reached p i k → i < p.count → f ≡ slice_index_or p.frames.items k f → not f.pinned ≡ false → Reached p (i + 1) f.younger
@@ -181,6 +183,12 @@ read_pinned p i k f h less is e =
     let here = read_here p k f (omega (arith, h.within less)) is in
     let pinned : pinned_at p.frames.items k ≡ true = ap (λ (g : Frame). g.pinned) (sym here) ∙ not_false f.pinned e in
     subst (Reached p (i + 1)) (sym (ap (λ (g : Frame). g.younger) here)) (reached p (i + 1) (younger_at p.frames.items k) (passed_more p.frames.items p.count i k h.passed less pinned))
+
+-- a frame that isn't pinned
+pub read_victim : (p : FramePool) (i k : ℕ) (f : Frame) → Reached p i k → i < p.count → f ≡ slice_index_or p.frames.items k f → not f.pinned ≡ true → IsVictim p k
+read_victim p i k f h less is e =
+    let here = read_here p k f (omega (arith, h.within less)) is in
+    h.victim less (ap (λ (g : Frame). g.pinned) (sym here) ∙ not_true f.pinned e)
 
 pub read_first : (p : FramePool) (f : Frame) → f ≡ slice_index_or p.frames.items p.count f → Reached p 0 f.younger
 read_first p f is = subst (Reached p 0) (sym (ap (λ (g : Frame). g.younger) (read_here p p.count f (omega arith) is))) (reached p 0 (younger_at p.frames.items p.count) (passed_none p.frames.items p.count))

@@ -1,5 +1,5 @@
 -- What callers see of a frame pool.
-use Rattle.std.specs.Prelude.{◌≡◌, ◌≢◌, ℕ, ◌<◌, Bool, not, ◌⊎◌, List, length, find, Option, Some, None}
+use Rattle.std.specs.Prelude.{◌≡◌, ◌≢◌, ℕ, ◌<◌, Bool, false, not, ◌⊎◌, List, length, find, Option, Some, None}
 use Rattle.frame_pool.specs.declared.frame_pool.FramePool.{FramePool}
 use Rattle.frame_pool.specs.Frames.{block_at, order_at, pinned_at}
 use Rattle.frame_pool.specs.Orders.{count_below}
@@ -33,6 +33,10 @@ NoneFree p = (j : ℕ) → j < frames_in p → block_of p j ≢ None
 abbrev pub least_recent : FramePool → Option ℕ
 least_recent p = find (λ j. not (is_pinned p j)) (order_of p)
 
--- a free frame, or else, of those that aren't pinned, the one that was used least recently
-abbrev pub IsVictim : FramePool → ℕ → Type 0
-IsVictim p k = (block_of p k ≡ None) ⊎ (NoneFree p × (least_recent p ≡ Some k))
+-- frame k is to be used next: of the frames that aren't pinned, the one that was used least recently. It is free, unless
+-- none is
+pub record IsVictim (p : FramePool) (k : ℕ) : Type 0 where
+  pub within : k < frames_in p
+  pub unpinned : is_pinned p k ≡ false
+  pub first : least_recent p ≡ Some k
+  pub free : (block_of p k ≡ None) ⊎ NoneFree p

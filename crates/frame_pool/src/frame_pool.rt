@@ -37,7 +37,7 @@ pub struct FramePool {
 impl FramePool {
     ghost use Rattle.std.specs.List.{range_with_len};
     ghost use Rattle.frame_pool.specs.Orders.{freed_first, used_last};
-    ghost use Rattle.frame_pool.specs.Pools.{IsVictim, block_of, blocks_in, frames_in, is_pinned, least_recent, order_of, pins_in};
+    ghost use Rattle.frame_pool.specs.Pools.{IsVictim, block_of, blocks_in, frames_in, is_pinned, order_of, pins_in};
 
     /// A pool of so many free frames, frame 0 to be used first, for blocks below `blocks`. `Err` where no memory is left.
     pub fn new(alloc: Global, frames: u32, blocks: u32) -> Result<FramePool, AllocError>
@@ -80,10 +80,7 @@ impl FramePool {
     /// The frame to be used next: a free one, or else the one that was used least recently and isn't pinned.
     pub fn victim(&self) -> u32
         requires most { pins_in self.now < frames_in self.now }
-        ensures within { result < frames_in self.now }
-        ensures victim { IsVictim self.now result }
-        ensures unpinned { is_pinned self.now result ≡ false }
-        ensures first { least_recent self.now ≡ Some result }
+        ensures { IsVictim self.now result }
     {
         let mut k = self.frames[self.count as usize].younger;
         for _passed in 0..self.count {
