@@ -9,11 +9,8 @@ ghost use Rattle.registry.specs.Views.{ListsEntries, ViewSound, Viewed, entry_ma
 
 use crate::entry::load_tag;
 use crate::pages::{counted_page_of, frame_count};
-use rio_base::{Block, Blocks, DiskFail, Machine, PageName, VolFail};
+use rio_base::{BLOCK_WORDS, Block, Blocks, DiskFail, Machine, PageName, VolFail};
 use std::alloc::{AllocError, Global};
-
-/// The words of a page and of a block.
-const PAGE_WORDS: usize = 512;
 
 /// A machine, read as the blocks that its memory and its disk stand for: a block that has a valid entry reads as the page
 /// that counts for this entry, whether it is dirty or clean, and any other block as the disk's.
@@ -211,7 +208,7 @@ fn view_tables<M: Machine>(alloc: Global, m: &M) -> Result<(Vec<u32>, Vec<u64>),
     ensures room { IfOk result (λ made. length made.1.items ≡ 512) }
 {
     let mut entries = vec![in alloc; 0; m.disk_blocks() as usize]?;
-    let block = vec![in alloc; 0; PAGE_WORDS]?;
+    let block = vec![in alloc; 0; BLOCK_WORDS]?;
     note_entries(m, &mut entries);
     Ok((entries, block))
 }

@@ -9,10 +9,7 @@ ghost use Rattle.registry.specs.Entries.{IsFree, entry_of, new_entry, with_entry
 use crate::entry::{Entry, load_tag, place_of};
 use crate::tag::Tag;
 use page_protect::put_word;
-use rio_base::{Block, Machine, Page, PageName, Stopped};
-
-/// The words of a page.
-const PAGE_WORDS: u32 = 512;
+use rio_base::{Block, Machine, PAGE_WORDS, Page, PageName, Stopped};
 
 /// Stores word `w` of entry `k`, `w` below 5. `Stopped` changes nothing.
 #[tactic(auto, using(crate::proofs::Places::entry_within, crate::proofs::Places::one_word, crate::proofs::Changes::entry_with))]
