@@ -1,4 +1,3 @@
-pub mod Exits
 pub mod Gates
 pub mod Restores
 pub mod Shadows

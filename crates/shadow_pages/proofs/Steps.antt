@@ -3,8 +3,8 @@ use Rattle.std.specs.Prelude.{◌≡◌, ◌≢◌, ℕ, ◌+◌, ◌*◌, ◌<�
 use Rattle.std.proofs.Common.{◌∙◌, ap, sym, subst, inl, inr, arith}
 use Rattle.std.proofs.lemmas.Bool.{cases_eq}
 use Rattle.rio_base.specs.Image.{registry_pages}
-use Rattle.rio_base.specs.Machine.{Contents, Copied, Running, StepEnds}
-use Rattle.rio_base.proofs.MachineRules.{ends_after, lasts_refl, lasts_trans}
+use Rattle.rio_base.specs.Machine.{Contents, Copied}
+use Rattle.rio_base.proofs.MachineRules.{lasts_refl, lasts_trans}
 use Rattle.rio_base.specs.Rules.{true_false}
 use Rattle.rio_model.specs.Cover.{Coherent, Keeps, SameNames, frame_page}
 use Rattle.rio_model.proofs.CoverChanges.{frame_behind, frame_entries, header_same, off_page}
@@ -21,10 +21,6 @@ not_stopped e = true_false (sym e)
 
 pub layout_now : (c : Contents) (scratch : List ℕ) → Coherent c (length scratch) → HasLayout c.words scratch
 layout_now c scratch s = layout_is c scratch s
-
--- a call that did not answer Stopped, and then another
-pub ends_then : (a b c : Running) (none stop : Type 0) → (none → ⊥) → StepEnds a b none → StepEnds b c stop → StepEnds a c stop
-ends_then a b c none stop n h k = ends_after a b c stop h.steps (h.runs n) k
 
 pub coherent_then : (a b : Contents) (n m : ℕ) → Coherent a n → Keeps a b → m ≡ n → Coherent b m
 coherent_then a b n m s h e = coherent_on b n m e (h.coherent n s)

@@ -86,7 +86,7 @@ fn open_gate<M: Machine>(m: &mut M) -> Result<(), Stopped>
 /// Opens an update that has no shadow yet. `shadowed` lists the entries that may have a shadow from an earlier update;
 /// those of them that are not valid, or have no shadow, are passed over. `Stopped` changes nothing that reads or stands,
 /// and no update is open then.
-#[tactic(auto, using(crate::proofs::Steps::stores_trans, crate::proofs::Steps::ends_then, rio_model::proofs::CoverStands::same_names_trans))]
+#[tactic(auto, using(crate::proofs::Steps::stores_trans, rio_base::proofs::MachineRules::ends_then, rio_model::proofs::CoverStands::same_names_trans))]
 pub fn begin<M: Machine>(m: &mut M, shadowed: &[u32]) -> Result<(), Stopped>
     requires coherent { Coherent (M.contents m.old) (length (M.run m.old).scratch) }
     requires closed { (M.contents m.old).open_page ≡ None }

@@ -53,7 +53,7 @@ fn give_shadow<M: Machine>(m: &mut M, k: u32, s: u32) -> Result<(), Stopped>
 /// Gives entry `k`, which is of metadata and has no shadow, the shadow `s`, from 1 to 16, which no valid entry has. What
 /// counts for the entry while an update is open is then a copy of its frame: the frame can be edited. `Stopped` leaves
 /// the entry without a shadow.
-#[tactic(auto, using(crate::proofs::Steps::keeps_then, crate::proofs::Steps::stores_trans, crate::proofs::Steps::ends_then, rio_model::proofs::CoverStands::same_names_trans))]
+#[tactic(auto, using(crate::proofs::Steps::keeps_then, crate::proofs::Steps::stores_trans, rio_base::proofs::MachineRules::ends_then, rio_model::proofs::CoverStands::same_names_trans))]
 pub fn shadow<M: Machine>(m: &mut M, k: u32, s: u32) -> Result<(), Stopped>
     requires coherent { Coherent (M.contents m.old) (length (M.run m.old).scratch) }
     requires closed { (M.contents m.old).open_page ≡ None }

@@ -71,7 +71,7 @@ fn restore_frames<M: Machine>(m: &mut M, shadowed: &[u32]) -> Result<(), Stopped
 /// Takes an update back: memory reads again as it read when the update began. `shadowed` lists the entries that may have
 /// a shadow; those of them that are not valid, or have no shadow, are passed over. `Stopped` leaves the update open, and
 /// its edits taken back in part: what stands is the same at each moment.
-#[tactic(auto, using(crate::proofs::Steps::ends_then, crate::proofs::Restores::restores_gate, crate::proofs::Restores::restores_names, crate::proofs::Restores::restores_shadows))]
+#[tactic(auto, using(rio_base::proofs::MachineRules::ends_then, crate::proofs::Restores::restores_gate, crate::proofs::Restores::restores_names, crate::proofs::Restores::restores_shadows))]
 pub fn undo<M: Machine>(m: &mut M, shadowed: &[u32]) -> Result<(), Stopped>
     requires coherent { Coherent (M.contents m.old) (length (M.run m.old).scratch) }
     requires closed { (M.contents m.old).open_page ≡ None }

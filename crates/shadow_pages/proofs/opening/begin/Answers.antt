@@ -1,6 +1,6 @@
 use Rattle.std.proofs.Common.{arith, refl, sym}
 use Rattle.rio_base.specs.Rules.{true_false}
-use Rattle.shadow_pages.proofs.Exits.{ends_err, ends_ok}
+use Rattle.rio_base.proofs.MachineRules.{ends_err, ends_then}
 use Rattle.shadow_pages.proofs.Steps.{coherent_then}
 use Rattle.shadow_pages.proofs.opening.begin.Goals as goal
 
@@ -17,4 +17,4 @@ pub returns-in_err-open_gate-clause-ends : goal.returns-in_err-open_gate-clause-
 returns-in_err-open_gate-clause-ends g c = ends_err _ _ _ _ _ refl (grind (arith, c.from_residual-in_err-open_gate.ensures)) c.in_ok-clear_shadows.ensures.ends.steps c.in_err-open_gate.ensures.ends
 
 pub returns-clause-ends : goal.returns-clause-ends
-returns-clause-ends g c = ends_ok _ _ _ _ _ (λ e. true_false (sym e)) c.in_ok-clear_shadows.ensures.ends c.in_ok-open_gate.ensures.ends
+returns-clause-ends g c = ends_then _ _ _ _ _ (λ e. true_false (sym e)) c.in_ok-clear_shadows.ensures.ends c.in_ok-open_gate.ensures.ends

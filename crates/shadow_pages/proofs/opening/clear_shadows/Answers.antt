@@ -1,7 +1,7 @@
 use Rattle.std.proofs.Common.{◌∙◌, arith, refl}
 use Rattle.rio_base.proofs.MachineRules.{steps_trans}
 use Rattle.shadow_pages.proofs.Steps.{clears_trans, cleared_next, coherent_then, not_stopped}
-use Rattle.shadow_pages.proofs.Exits.{ends_err}
+use Rattle.rio_base.proofs.MachineRules.{ends_err}
 use Rattle.shadow_pages.proofs.opening.clear_shadows.Goals as goal
 
 pub clear_shadow-requires-clause-coherent : goal.clear_shadow-requires-clause-coherent

@@ -2,7 +2,7 @@ use Rattle.std.proofs.Common.{◌∙◌, arith, refl}
 use Rattle.rio_base.proofs.MachineRules.{steps_trans}
 use Rattle.shadow_pages.proofs.Restores.{restores_trans}
 use Rattle.shadow_pages.proofs.Steps.{coherent_restored, not_stopped, restored_next, stores_trans}
-use Rattle.shadow_pages.proofs.Exits.{ends_err}
+use Rattle.rio_base.proofs.MachineRules.{ends_err}
 use Rattle.shadow_pages.proofs.undoing.restore_frames.Goals as goal
 
 pub restore_frame-requires-clause-coherent : goal.restore_frame-requires-clause-coherent

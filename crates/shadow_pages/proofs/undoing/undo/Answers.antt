@@ -1,6 +1,6 @@
 use Rattle.std.proofs.Common.{arith, refl, sym}
 use Rattle.rio_base.specs.Rules.{true_false}
-use Rattle.shadow_pages.proofs.Exits.{ends_err, ends_ok}
+use Rattle.rio_base.proofs.MachineRules.{ends_err, ends_then}
 use Rattle.std.proofs.Common.{◌∙◌, ap}
 use Rattle.rio_base.specs.Blocks.{BlockWords}
 use Rattle.rio_base.specs.Machine.{Contents}
@@ -59,4 +59,4 @@ pub returns-in_err-commit-clause-ends : goal.returns-in_err-commit-clause-ends
 returns-in_err-commit-clause-ends g c = ends_err _ _ _ _ _ refl (grind (arith, c.from_residual-in_err-commit.ensures)) c.in_ok-restore_frames.ensures.ends.steps c.in_err-commit.ensures.ends
 
 pub returns-clause-ends : goal.returns-clause-ends
-returns-clause-ends g c = ends_ok _ _ _ _ _ (λ e. true_false (sym e)) c.in_ok-restore_frames.ensures.ends c.in_ok-commit.ensures.ends
+returns-clause-ends g c = ends_then _ _ _ _ _ (λ e. true_false (sym e)) c.in_ok-restore_frames.ensures.ends c.in_ok-commit.ensures.ends
