@@ -1,13 +1,10 @@
 -- What the calls below are as steps, and that steps compose.
-use Rattle.std.specs.Prelude.{◌≡◌, ◌≢◌, ℕ, ◌+◌, ◌-◌, ◌*◌, ◌/◌, ◌<◌, ◌≤◌, List, length, slice_index, drop, Result, Ok, Err, IsErrOf}
+use Rattle.std.specs.Prelude.{◌≡◌, ◌≢◌, ℕ, ◌+◌, ◌-◌, ◌*◌, ◌/◌, ◌<◌, ◌≤◌, List, length, slice_index, drop}
 use Rattle.std.proofs.Common.{◌∙◌, ap, sym, subst, arith}
 use Rattle.std.proofs.lemmas.List.{get_or-take, get_or-drop}
-use Rattle.rio_base.specs.declared.failures.VolFail.{VolFail}
-use Rattle.rio_base.specs.declared.failures.VolFail.TheVariants.{Stopped}
 use Rattle.rio_base.specs.Disks.{block_at}
 use Rattle.rio_base.specs.Image.{registry_pages}
-use Rattle.rio_base.specs.Machine.{Contents, Running, StepEnds, WritesBlock}
-use Rattle.rio_base.proofs.MachineRules.{ends_after, steps_trans}
+use Rattle.rio_base.specs.Machine.{Contents, WritesBlock}
 use Rattle.rio_base.specs.Memory.{page_at}
 use Rattle.rio_model.specs.Cover.{Coherent, HeldEntry, Keeps, OnDisk, frame_page, home_word}
 use Rattle.rio_model.proofs.CoverSteps.{coherent_on, hold_cleaned, keeps_trans, layout_is}
@@ -70,30 +67,3 @@ keeps_then a b c h k = keeps_trans a b c h k
 
 pub coherent_then : (a b : Contents) (n m : ℕ) → Coherent a n → Keeps a b → m ≡ n → Coherent b m
 coherent_then a b n m s h e = coherent_on b n m e (h.coherent n s)
-
--- a call that did not answer Stopped, and then another
-pub ends_then : (a b c : Running) (none stop : Type 0) → (none → ⊥) → StepEnds a b none → StepEnds b c stop → StepEnds a c stop
-ends_then a b c none stop n h k = ends_after a b c stop h.steps (h.runs n) k
-
--- the same, where the second call says by another answer that it was stopped
-pub ends_as : (a b c : Running) (none stop answer : Type 0) → (none → ⊥) → StepEnds a b none → StepEnds b c stop → (answer → stop) → (stop → answer) → StepEnds a c answer
-ends_as a b c none stop answer n h k f g = record {
-  steps = steps_trans a b c h.steps k.steps;
-  told = λ x. k.told (f x);
-  runs = λ x. k.runs (λ s. x (g s)) ∙ h.runs n;
-}
-
-pub well : (e : VolFail) → IsErrOf {T = Unit {0}} (Ok tt) e → ⊥
-well e same = cc
-
--- no answer with a value is a failure
-pub never : {T : Type 0} (x : T) (e : VolFail) → IsErrOf (Ok x) e → ⊥
-never x e same = cc
-
--- a step that was stopped
-pub ends_stopped : (a b c : Running) (none stop : Type 0) (answer : Result (Unit {0}) VolFail) → (none → ⊥) → StepEnds a b none → StepEnds b c stop → stop → answer ≡ Err Stopped → StepEnds a c (IsErrOf answer Stopped)
-ends_stopped a b c none stop answer n h k s e = ends_as a b c none stop _ n h k (λ x. s) (λ x. e)
-
--- the same failure, as another answer gives it
-pub ends_told : {T U : Type 0} (a b : Running) (e : VolFail) (answer : Result U VolFail) → answer ≡ Err e → StepEnds a b (IsErrOf {T = T} (Err e) Stopped) → StepEnds a b (IsErrOf answer Stopped)
-ends_told a b e answer same h = record { steps = h.steps; told = λ x. h.told cc; runs = λ n. h.runs (λ x. n cc) }

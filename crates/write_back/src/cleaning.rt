@@ -79,7 +79,7 @@ pub(crate) fn mark_clean<M: Machine>(m: &mut M, k: u32) -> Result<(), Stopped>
 /// Brings the page of entry `k` to the disk, if it is dirty, and marks it clean once the disk has it. A clean entry's
 /// page is neither written nor synced. `Fault`: the disk refused the write or the sync. `Fault` and `Stopped` leave all
 /// words as they were.
-#[tactic(auto, using(crate::proofs::Steps::keeps_then, crate::proofs::Steps::ends_then, crate::proofs::Steps::still_valid, crate::proofs::Steps::coherent_then, rio_model::proofs::HeldEntries::held_same, rio_model::proofs::HeldEntries::held_then))]
+#[tactic(auto, using(crate::proofs::Steps::keeps_then, rio_base::proofs::MachineRules::ends_then, crate::proofs::Steps::still_valid, crate::proofs::Steps::coherent_then, rio_model::proofs::HeldEntries::held_same, rio_model::proofs::HeldEntries::held_then))]
 pub fn clean<M: Machine>(m: &mut M, k: u32) -> Result<(), VolFail>
     requires coherent { Coherent (M.contents m.old) (length (M.run m.old).scratch) }
     requires closed { (M.contents m.old).open_page ≡ None }
@@ -118,6 +118,7 @@ fn drop_entry<M: Machine>(m: &mut M, k: u32) -> Result<(), Stopped>
     ensures keeps { Keeps (M.contents m.old) (M.contents m.new) }
     ensures gone { OnOk result (tag_at (M.contents m.new).words k ≡ 0) }
     ensures rest { M.contents m.new ≡ record (M.contents m.old) { words = (M.contents m.new).words } }
+    ensures same { OnErr result ((M.contents m.new).words ≡ (M.contents m.old).words) }
     ensures held { OnErr result (HeldEntry k (M.contents m.old).words (M.contents m.new).words) }
     ensures one_entry { OneEntry k (M.contents m.old).words (M.contents m.new).words }
     ensures closed { (M.contents m.new).open_page ≡ None }
@@ -129,8 +130,8 @@ fn drop_entry<M: Machine>(m: &mut M, k: u32) -> Result<(), Stopped>
 }
 
 /// Makes entry `k` invalid, after its page is on the disk. A clean entry's page is neither written nor synced. `Fault`
-/// and `Stopped`: the entry has its block still.
-#[tactic(auto, using(crate::proofs::Steps::keeps_then, crate::proofs::Steps::ends_then, rio_model::proofs::HeldEntries::one_entry_then, crate::proofs::Steps::coherent_then, rio_model::proofs::HeldEntries::held_then))]
+/// and `Stopped`: the entry has its block still, and may be clean by then.
+#[tactic(auto, using(crate::proofs::Steps::keeps_then, rio_base::proofs::MachineRules::ends_then, rio_model::proofs::HeldEntries::one_entry_then, crate::proofs::Steps::coherent_then, rio_model::proofs::HeldEntries::held_then))]
 pub fn evict<M: Machine>(m: &mut M, k: u32) -> Result<(), VolFail>
     requires coherent { Coherent (M.contents m.old) (length (M.run m.old).scratch) }
     requires closed { (M.contents m.old).open_page ≡ None }
@@ -140,6 +141,7 @@ pub fn evict<M: Machine>(m: &mut M, k: u32) -> Result<(), VolFail>
     ensures gone { OnOk result (tag_at (M.contents m.new).words k ≡ 0) }
     ensures held { OnErr result (HeldEntry k (M.contents m.old).words (M.contents m.new).words) }
     ensures one_entry { OneEntry k (M.contents m.old).words (M.contents m.new).words }
+    ensures marks { is_dirty (tag_at (M.contents m.new).words k) ≡ true → is_dirty (tag_at (M.contents m.old).words k) ≡ true }
     ensures narrows { Narrows (M.contents m.old).words (M.contents m.new).words }
     ensures clean_entry { is_dirty (tag_at (M.contents m.old).words k) ≡ false → SameDisk (M.contents m.old) (M.contents m.new) }
     ensures one_write { (M.contents m.new).writes ≤ raised (M.contents m.old).writes 1 }

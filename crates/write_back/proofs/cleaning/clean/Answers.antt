@@ -2,8 +2,8 @@ use Rattle.std.proofs.Common.{◌∙◌, Err, ap, arith, refl, sym}
 use Rattle.std.proofs.lemmas.Result.{err_from_is_err_and}
 use Rattle.rio_base.specs.declared.failures.VolFail.TheVariants.{Stopped}
 use Rattle.rio_base.specs.Rules.{true_false}
-use Rattle.rio_base.proofs.MachineRules.{lasts_trans}
-use Rattle.write_back.proofs.Steps.{coherent_then, ends_as, ends_stopped, ends_then, ends_told, well}
+use Rattle.rio_base.proofs.MachineRules.{ends_as, ends_err, ends_then, ends_told, lasts_trans, never, steps_trans}
+use Rattle.write_back.proofs.Steps.{coherent_then}
 use Rattle.rio_model.proofs.HeldEntries.{narrows_after}
 use Rattle.write_back.proofs.cleaning.clean.Goals as goal
 
@@ -22,15 +22,15 @@ returns-clause-narrows g c =
 pub returns-in_err-mark_clean-clause-ends : goal.returns-in_err-mark_clean-clause-ends
 returns-in_err-mark_clean-clause-ends g c =
     let p = err_from_is_err_and c.from_residual-in_err-mark_clean.result c.from_residual-in_err-mark_clean.ensures.1 in
-    ends_stopped _ _ _ _ _ _ (well Stopped) (ends_then _ _ _ _ _ (well Stopped) c.in_ok-write_entry.ensures.ends c.in_ok-sync_disk.ensures.ends) c.in_err-mark_clean.ensures.ends refl (p.1 ∙ ap Err p.2)
+    ends_err _ _ _ _ _ refl (p.1 ∙ ap Err p.2) (steps_trans _ _ _ c.write_entry.ensures.ends.steps c.sync_disk.ensures.ends.steps) c.in_err-mark_clean.ensures.ends
 
 pub returns-clause-ends : goal.returns-clause-ends
 returns-clause-ends g c =
-    ends_as _ _ _ _ _ _ (well Stopped) (ends_then _ _ _ _ _ (well Stopped) c.in_ok-write_entry.ensures.ends c.in_ok-sync_disk.ensures.ends) c.in_ok-mark_clean.ensures.ends (λ e. absurd (well Stopped e)) (λ e. absurd (true_false (sym e)))
+    ends_as _ _ _ _ _ _ (never _ Stopped) (ends_then _ _ _ _ _ (never _ Stopped) c.in_ok-write_entry.ensures.ends c.in_ok-sync_disk.ensures.ends) c.in_ok-mark_clean.ensures.ends (λ e. absurd (never _ Stopped e)) (λ e. absurd (true_false (sym e)))
 
 pub returns-in_err-sync_disk-clause-ends : goal.returns-in_err-sync_disk-clause-ends
 returns-in_err-sync_disk-clause-ends g c =
-    ends_then _ _ _ _ _ (well Stopped) c.in_ok-write_entry.ensures.ends (ends_told _ _ _ _ (grind (arith, c.from_residual-in_err-sync_disk.ensures)) c.in_err-sync_disk.ensures.ends)
+    ends_then _ _ _ _ _ (never _ Stopped) c.in_ok-write_entry.ensures.ends (ends_told _ _ _ _ _ (grind (arith, c.from_residual-in_err-sync_disk.ensures)) c.in_err-sync_disk.ensures.ends)
 
 pub returns-in_err-mark_clean-clause-lasts : goal.returns-in_err-mark_clean-clause-lasts
 returns-in_err-mark_clean-clause-lasts g c = lasts_trans _ _ _ (lasts_trans _ _ _ c.write_entry.ensures.lasts c.sync_disk.ensures.lasts) c.mark_clean.ensures.lasts

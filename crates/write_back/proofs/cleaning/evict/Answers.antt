@@ -2,8 +2,10 @@ use Rattle.std.proofs.Common.{◌∙◌, Err, ap, refl, sym}
 use Rattle.std.proofs.lemmas.Result.{err_from_is_err_and}
 use Rattle.rio_base.specs.Rules.{true_false}
 use Rattle.rio_base.specs.declared.failures.VolFail.TheVariants.{Stopped}
-use Rattle.write_back.proofs.Steps.{coherent_then, ends_as, ends_stopped, well}
+use Rattle.rio_base.proofs.MachineRules.{ends_as, ends_err, never}
+use Rattle.write_back.proofs.Steps.{coherent_then}
 use Rattle.rio_model.proofs.HeldEntries.{held_then, narrows_gone, narrows_held, one_entry_then}
+use Rattle.rio_model.specs.Registry.{is_dirty, tag_at}
 use Rattle.write_back.proofs.cleaning.evict.Goals as goal
 
 pub drop_entry-requires-clause-coherent : goal.drop_entry-requires-clause-coherent
@@ -20,8 +22,17 @@ returns-clause-narrows g c =
 pub returns-in_err-drop_entry-clause-ends : goal.returns-in_err-drop_entry-clause-ends
 returns-in_err-drop_entry-clause-ends g c =
     let p = err_from_is_err_and c.from_residual-in_err-drop_entry.result c.from_residual-in_err-drop_entry.ensures.1 in
-    ends_stopped _ _ _ _ _ _ (well Stopped) c.in_ok-clean.ensures.ends c.in_err-drop_entry.ensures.ends refl (p.1 ∙ ap Err p.2)
+    ends_err _ _ _ _ _ refl (p.1 ∙ ap Err p.2) c.clean.ensures.ends.steps c.in_err-drop_entry.ensures.ends
 
 pub returns-clause-ends : goal.returns-clause-ends
 returns-clause-ends g c =
-    ends_as _ _ _ _ _ _ (well Stopped) c.in_ok-clean.ensures.ends c.in_ok-drop_entry.ensures.ends (λ e. absurd (well Stopped e)) (λ e. absurd (true_false (sym e)))
+    ends_as _ _ _ _ _ _ (never _ Stopped) c.in_ok-clean.ensures.ends c.in_ok-drop_entry.ensures.ends (λ e. absurd (never _ Stopped e)) (λ e. absurd (true_false (sym e)))
+
+pub returns-in_err-clean-clause-marks : goal.returns-in_err-clean-clause-marks
+returns-in_err-clean-clause-marks g c = λ dirty. ap (λ ws. is_dirty (tag_at ws c.args.k)) (sym c.in_err-clean.ensures.same) ∙ dirty
+
+pub returns-in_err-drop_entry-clause-marks : goal.returns-in_err-drop_entry-clause-marks
+returns-in_err-drop_entry-clause-marks g c = λ dirty. absurd (true_false (sym dirty ∙ ap (λ ws. is_dirty (tag_at ws c.args.k)) c.in_err-drop_entry.ensures.same ∙ c.in_ok-clean.ensures.cleaned.clean))
+
+pub returns-clause-marks : goal.returns-clause-marks
+returns-clause-marks g c = λ dirty. absurd (true_false (sym dirty ∙ ap is_dirty c.in_ok-drop_entry.ensures.gone))

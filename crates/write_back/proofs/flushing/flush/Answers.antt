@@ -1,7 +1,8 @@
 use Rattle.std.proofs.Common.{◌∙◌, arith}
 use Rattle.rio_base.specs.declared.failures.VolFail.TheVariants.{Stopped}
 use Rattle.rio_model.proofs.CoverSteps.{keeps_trans}
-use Rattle.write_back.proofs.Steps.{coherent_then, ends_as, ends_then, ends_told, never}
+use Rattle.rio_base.proofs.MachineRules.{ends_as, ends_then, ends_told, never}
+use Rattle.write_back.proofs.Steps.{coherent_then}
 use Rattle.rio_model.proofs.HeldEntries.{narrows_all}
 use Rattle.write_back.proofs.flushing.flush.Goals as goal
 
@@ -30,11 +31,11 @@ returns-clause-narrows g c =
 
 pub returns-in_err-sync_disk-clause-ends : goal.returns-in_err-sync_disk-clause-ends
 returns-in_err-sync_disk-clause-ends g c =
-    ends_then _ _ _ _ _ (never _ Stopped) c.in_ok-written.ensures.ends (ends_told _ _ _ _ (grind (arith, c.from_residual-in_err-sync_disk.ensures)) c.in_err-sync_disk.ensures.ends)
+    ends_then _ _ _ _ _ (never _ Stopped) c.in_ok-written.ensures.ends (ends_told _ _ _ _ _ (grind (arith, c.from_residual-in_err-sync_disk.ensures)) c.in_err-sync_disk.ensures.ends)
 
 pub returns-in_err-mark_first-clause-ends : goal.returns-in_err-mark_first-clause-ends
 returns-in_err-mark_first-clause-ends g c =
-    ends_then _ _ _ _ _ (never _ Stopped) (ends_then _ _ _ _ _ (never _ Stopped) c.in_ok-written.ensures.ends c.in_ok-sync_disk.ensures.ends) (ends_told _ _ _ _ (grind (arith, c.from_residual-in_err-mark_first.ensures)) c.in_err-mark_first.ensures.ends)
+    ends_then _ _ _ _ _ (never _ Stopped) (ends_then _ _ _ _ _ (never _ Stopped) c.in_ok-written.ensures.ends c.in_ok-sync_disk.ensures.ends) (ends_told _ _ _ _ _ (grind (arith, c.from_residual-in_err-mark_first.ensures)) c.in_err-mark_first.ensures.ends)
 
 pub returns-clause-ends : goal.returns-clause-ends
 returns-clause-ends g c =

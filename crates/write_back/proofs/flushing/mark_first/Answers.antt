@@ -1,8 +1,8 @@
 use Rattle.std.proofs.Common.{◌∙◌, Err, ◌<◌, ap, subst}
 use Rattle.std.proofs.lemmas.Result.{err_from_is_err_and}
-use Rattle.rio_base.proofs.MachineRules.{ends_after}
+use Rattle.rio_base.proofs.MachineRules.{ends_after, ends_told}
 use Rattle.rio_model.proofs.CoverSteps.{keeps_trans}
-use Rattle.write_back.proofs.Steps.{coherent_then, ends_told}
+use Rattle.write_back.proofs.Steps.{coherent_then}
 use Rattle.rio_model.proofs.HeldEntries.{held_each, held_then}
 use Rattle.write_back.proofs.Marks.{Marks, marked_next, marked_none, marked_on_disk}
 use Rattle.write_back.proofs.flushing.mark_first.Goals as goal
@@ -26,7 +26,7 @@ returns-in_err-dirty-clause-held g c = λ j. held_then j _ _ _ (c.loop-k.invaria
 pub returns-in_err-dirty-clause-ends : goal.returns-in_err-dirty-clause-ends
 returns-in_err-dirty-clause-ends g c =
     let p = err_from_is_err_and c.from_residual.result c.from_residual.ensures.1 in
-    ends_told _ _ _ _ (p.1 ∙ ap Err p.2) (ends_after _ _ _ _ c.loop-k.invariant.steps c.loop-k.invariant.runs c.in_err-dirty.ensures.ends)
+    ends_told _ _ _ _ _ (p.1 ∙ ap Err p.2) (ends_after _ _ _ _ c.loop-k.invariant.steps c.loop-k.invariant.runs c.in_err-dirty.ensures.ends)
 
 pub loop-k-preserved : goal.loop-k-preserved
 loop-k-preserved g c =

@@ -1,7 +1,7 @@
 use Rattle.std.proofs.Common.{◌∙◌, ◌<◌, ◌≤◌, arith, inl, subst, sym}
-use Rattle.rio_base.proofs.MachineRules.{ends_after}
+use Rattle.rio_base.proofs.MachineRules.{ends_after, ends_told}
 use Rattle.rio_model.proofs.CoverSteps.{keeps_trans}
-use Rattle.write_back.proofs.Steps.{coherent_then, ends_told, frame_next}
+use Rattle.write_back.proofs.Steps.{coherent_then, frame_next}
 use Rattle.write_back.proofs.Walks.{Writes, counts_small, once_small, wrote_by, wrote_first, wrote_next, wrote_none}
 use Rattle.write_back.proofs.flushing.write_first.Goals as goal
 
@@ -44,4 +44,4 @@ loop-k-preserved g c =
 
 pub returns-in_err-dirty-clause-ends : goal.returns-in_err-dirty-clause-ends
 returns-in_err-dirty-clause-ends g c =
-    ends_after _ _ _ _ c.loop-k.invariant.steps c.loop-k.invariant.runs (ends_told _ _ _ _ (grind (arith, c.from_residual.ensures)) c.in_err-dirty.ensures.ends)
+    ends_after _ _ _ _ c.loop-k.invariant.steps c.loop-k.invariant.runs (ends_told _ _ _ _ _ (grind (arith, c.from_residual.ensures)) c.in_err-dirty.ensures.ends)
