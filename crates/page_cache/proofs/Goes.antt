@@ -1,10 +1,11 @@
 -- What the machine's rules are for the volume.
-use Rattle.page_cache.proofs.Common.{◌≡◌, ℕ, ◌*◌, ◌/◌, ◌≤◌, not, Bool, true, false, ◌⊎◌, length, Some, refl, ◌∙◌, ap, sym, inl, inr, arith, Stopped, Contents, Lasts, Running, StepEnds, Steps, ends_after, steps_trans, true_false, Goes, frames_of}
+use Rattle.page_cache.proofs.Common.{◌≡◌, ℕ, ◌*◌, ◌/◌, ◌≤◌, not, Bool, true, false, ◌⊎◌, length, Some, refl, ◌∙◌, ap, sym, inl, inr, arith, Stopped, Contents, Lasts, Running, StepEnds, Steps, true_false, Goes, frames_of}
 use Rattle.std.specs.Prelude.{nat_lt, Result, Ok, Err, IsErrOf}
 use Rattle.std.proofs.lemmas.Bool.{ltb-false, lt-ltb}
 use Rattle.rio_base.specs.declared.failures.VolFail.{VolFail}
 use Rattle.rio_base.specs.declared.failures.VolFail.TheVariants.{Fault}
 use Rattle.rio_base.specs.Blocks.{Ends}
+use Rattle.rio_base.proofs.MachineRules.{ends_as, ends_err}
 use Rattle.rio_base.specs.Machine.{FaultCause, StopReason}
 use Rattle.rio_base.specs.Volume.{Quiet, Runs, StopCause}
 use Rattle.rio_model.specs.Cover.{causes_of}
@@ -53,17 +54,9 @@ goes_few b t c d r s l h frames few = record { runs = runs_of c d r s l h frames
 
 -- ---- how two calls end
 
--- a call that did not answer Stopped, and then another
-pub ends_then : (a b c : Running) (none stop : Type 0) → (none → ⊥) → StepEnds a b none → StepEnds b c stop → StepEnds a c stop
-ends_then a b c none stop n h k = ends_after a b c stop h.steps (h.runs n) k
-
 -- two calls that did not answer Stopped
 pub ends_ok : (a b c : Running) (one two stop : Type 0) → (one → ⊥) → (two → ⊥) → (stop → ⊥) → StepEnds a b one → StepEnds b c two → StepEnds a c stop
-ends_ok a b c one two stop n m o h k = record { steps = steps_trans a b c h.steps k.steps; told = λ s. absurd (o s); runs = λ s. k.runs m ∙ h.runs n }
-
--- a call that did not answer Stopped, and then one that did, whose answer is handed on
-pub ends_stop : (a b c : Running) (none one stop : Type 0) → (none → ⊥) → one → stop → StepEnds a b none → StepEnds b c one → StepEnds a c stop
-ends_stop a b c none one stop n o s h k = record { steps = steps_trans a b c h.steps k.steps; told = λ x. k.told o; runs = λ m. absurd (m s) }
+ends_ok a b c one two stop n m o h k = ends_as a b c one two stop n h k (λ s. absurd (o s)) (λ s. absurd (m s))
 
 -- ---- how a call ends, for the volume
 
@@ -77,7 +70,7 @@ unlike answer s f = cc
 
 -- two calls, of which the second was stopped
 pub ends_stopped : {T : Type 0} (old new : Contents) (r m s : Running) (none one : Type 0) (answer : Result T VolFail) → IsErrOf answer Stopped → (none → ⊥) → one → Lasts old new → StepEnds r m none → StepEnds m s one → Ends (cache_health old r) (cache_health new s) answer
-ends_stopped old new r m s none one answer stop n o l h k = ends_of old new r s answer l (λ q. absurd (unlike answer stop q)) (ends_stop r m s none one (IsErrOf answer Stopped) n o stop h k)
+ends_stopped old new r m s none one answer stop n o l h k = ends_of old new r s answer l (λ q. absurd (unlike answer stop q)) (ends_err r m s one (IsErrOf answer Stopped) o stop h.steps k)
 
 -- two calls that answered Ok
 pub ends_both : {T : Type 0} (x : T) (old new : Contents) (r m s : Running) (one two : Type 0) → (one → ⊥) → (two → ⊥) → Lasts old new → StepEnds r m one → StepEnds m s two → Ends {T = T} (cache_health old r) (cache_health new s) (Ok x)

@@ -1,5 +1,7 @@
 pub mod Common
+pub mod DirtyMarks
 pub mod Edits
+pub mod FailedUses
 pub mod Fills
 pub mod Flushes
 pub mod Frames

@@ -65,10 +65,10 @@ touches_begun k n old new s h one gone same = touches_one k old.words new.words 
 pub touches_made : (k b n : ℕ) (old new : Contents) → Coherent old n → Keeps old new → Made k b false old.words new.words → SameTouches old.words new.words
 touches_made k b n old new s h made = touches_one k old.words new.words made.one s.rules.blocks (h.coherent n s).rules.blocks (λ v. absurd (true_false (sym v.valid ∙ made.was))) (λ v. inr made.shadow)
 
-at_first : (old mid : Contents) (k : ℕ) (new : List ℕ) → mid.words ≡ old.words → OnePage (frame_page mid.words k) mid.words new → OnePage (frame_page old.words k) old.words new
+pub at_first : (old mid : Contents) (k : ℕ) (new : List ℕ) → mid.words ≡ old.words → OnePage (frame_page mid.words k) mid.words new → OnePage (frame_page old.words k) old.words new
 at_first old mid k new e one = subst (λ ws. OnePage (frame_page ws k) ws new) e one
 
-page_same : (words new : List ℕ) (k : ℕ) → OnePage (frame_page words k) words new → SameEntries words new
+pub page_same : (words new : List ℕ) (k : ℕ) → OnePage (frame_page words k) words new → SameEntries words new
 page_same words new k one = same_entries (frame_page words k) words new one (frame_past words k)
 
 -- no entry changed

@@ -1,7 +1,7 @@
 -- With a frame for each block, a frame is free while a block isn't cached.
 use Rattle.page_cache.proofs.Common.{◌≡◌, ◌≢◌, ℕ, suc, ◌<◌, ◌≤◌, ◌==◌, Bool, true, false, ◌⊎◌, if◌then◌else◌, List, length, Some, None, is_some, refl, ◌∙◌, ap, sym, subst, inl, inr, arith, cases_eq, eq-eqb, ne_eqb, Contents, none_some, true_false, IsValid, frames_of, is_valid, tag_at, tag_block, block_of, entry_of_block}
 use Rattle.rio_base.specs.Disks.{raised}
-use Rattle.frame_pool.specs.Pools.{IsVictim, least_recent}
+use Rattle.frame_pool.specs.Pools.{IsVictim, NoneFree}
 use Rattle.rio_model.specs.Registry.{is_dirty}
 use Rattle.rio_model.proofs.CoverLookups.{found_none}
 use Rattle.write_back.specs.Writing.{SameDisk}
@@ -25,7 +25,7 @@ bound_is : (valid : Bool) (block : ℕ) → ((if valid then Some block else None
 bound_is true block h = refl
 bound_is false block h = absurd (h refl)
 
-pub roomy_free : (b n k : ℕ) (c : Contents) (t : CacheTables) → CacheSound c n t → entry_of_block c.words b ≡ None → b < length c.disk → length c.disk ≤ frames_of c.words → IsVictim t.pool k → block_of t.pool k ≡ None
+pub roomy_free : (b n k : ℕ) (c : Contents) (t : CacheTables) → CacheSound c n t → entry_of_block c.words b ≡ None → b < length c.disk → length c.disk ≤ frames_of c.words → (block_of t.pool k ≡ None) ⊎ NoneFree t.pool → block_of t.pool k ≡ None
 roomy_free b n k c t s none there roomy (inl e) = e
 roomy_free b n k c t s none there roomy (inr h) = absurd (omega (arith, roomy, pigeons f (suc (frames_of c.words)) (length c.disk) (record { below = λ j less. below j less (cases_eq j (frames_of c.words)); apart = λ i j x y e. apart i j x y e (cases_eq i (frames_of c.words)) (cases_eq j (frames_of c.words)) })))
   where
@@ -33,7 +33,7 @@ roomy_free b n k c t s none there roomy (inr h) = absurd (omega (arith, roomy, p
     f = block_by c.words (frames_of c.words) b
 
     valid : (j : ℕ) → j < frames_of c.words → IsValid c.words j
-    valid j less = record { within = less; valid = bound_is (is_valid (tag_at c.words j)) (tag_block (tag_at c.words j)) (λ e. h.0 j (subst (λ m. j < m) (sym s.frames) less) (s.bound j less ∙ e)) }
+    valid j less = record { within = less; valid = bound_is (is_valid (tag_at c.words j)) (tag_block (tag_at c.words j)) (λ e. h j (subst (λ m. j < m) (sym s.frames) less) (s.bound j less ∙ e)) }
 
     below : (j : ℕ) → j < suc (frames_of c.words) → (j ≡ frames_of c.words) ⊎ (j ≢ frames_of c.words) → block_by c.words (frames_of c.words) b j < length c.disk
     below j less (inl e) = subst (λ x. x < length c.disk) (sym (at_end c.words (frames_of c.words) b j e)) there
@@ -46,19 +46,19 @@ roomy_free b n k c t s none there roomy (inr h) = absurd (omega (arith, roomy, p
     apart i j x y e (inr ne) (inr no_end) = s.coherent.rules.blocks i j (valid i (omega (arith, x, ne))) (valid j (omega (arith, y, no_end))) (sym (before_end c.words (frames_of c.words) b i ne) ∙ e ∙ before_end c.words (frames_of c.words) b j no_end)
 
 -- a valid victim: no frame is free
-pub none_free : (k n : ℕ) (c : Contents) (t : CacheTables) → CacheSound c n t → IsVictim t.pool k → IsValid c.words k → (j : ℕ) → j < frames_of c.words → is_valid (tag_at c.words j) ≡ false → ⊥
+pub none_free : (k n : ℕ) (c : Contents) (t : CacheTables) → CacheSound c n t → (block_of t.pool k ≡ None) ⊎ NoneFree t.pool → IsValid c.words k → (j : ℕ) → j < frames_of c.words → is_valid (tag_at c.words j) ≡ false → ⊥
 none_free k n c t s (inl e) v j less gone = none_some (tag_block (tag_at c.words k)) (block_of t.pool k) e (s.bound k v.within ∙ rw v.valid refl)
-none_free k n c t s (inr h) v j less gone = h.0 j (subst (λ m. j < m) (sym s.frames) less) (s.bound j less ∙ rw gone refl)
+none_free k n c t s (inr h) v j less gone = h j (subst (λ m. j < m) (sym s.frames) less) (s.bound j less ∙ rw gone refl)
 
 some_inj : (x y : ℕ) → Some x ≡ Some y → x ≡ y
 some_inj x y e = cc
 
 -- a valid victim, while b isn't cached: no frame is free, and there are fewer frames than blocks
-pub few_evicted : (b n k : ℕ) (c d : Contents) (t : CacheTables) → CacheSound c n t → entry_of_block c.words b ≡ None → b < length c.disk → IsVictim t.pool k → IsValid c.words k → least_recent t.pool ≡ Some k → d.writes ≤ raised c.writes 1 → (is_dirty (tag_at c.words k) ≡ false → SameDisk c d) → FewWrites b t c d
-few_evicted b n k c d t s none there victim v oldest one clean = record {
+pub few_evicted : (b n k : ℕ) (c d : Contents) (t : CacheTables) → CacheSound c n t → entry_of_block c.words b ≡ None → b < length c.disk → IsVictim t.pool k → IsValid c.words k → d.writes ≤ raised c.writes 1 → (is_dirty (tag_at c.words k) ≡ false → SameDisk c d) → FewWrites b t c d
+few_evicted b n k c d t s none there victim v one clean = record {
   one = one;
   cached = λ e. absurd (true_false (sym e ∙ ap is_some none));
-  free = λ j less gone. absurd (none_free k n c t s victim v j less gone);
-  roomy = λ r. absurd (none_some (tag_block (tag_at c.words k)) (block_of t.pool k) (roomy_free b n k c t s none there r victim) (s.bound k v.within ∙ rw v.valid refl));
-  clean = λ j e bright. clean (subst (λ i. is_dirty (tag_at c.words i) ≡ false) (some_inj j k (sym e ∙ oldest)) bright);
+  free = λ j less gone. absurd (none_free k n c t s victim.free v j less gone);
+  roomy = λ r. absurd (none_some (tag_block (tag_at c.words k)) (block_of t.pool k) (roomy_free b n k c t s none there r victim.free) (s.bound k v.within ∙ rw v.valid refl));
+  clean = λ j e bright. clean (subst (λ i. is_dirty (tag_at c.words i) ≡ false) (some_inj j k (sym e ∙ victim.first)) bright);
 }

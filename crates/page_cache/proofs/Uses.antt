@@ -1,12 +1,13 @@
 -- The order of use, and blocks that leave.
-use Rattle.page_cache.proofs.Common.{◌≡◌, ◌≢◌, ℕ, ◌<◌, ◌==◌, not, ◌⊎◌, Bool, true, false, if◌then◌else◌, List, Option, Some, None, refl, ◌∙◌, ap, sym, subst, inl, inr, cases_Bool, cases_eq, eq-eqb, Contents, none_some, true_false, used_last, block_of, frames_in, order_of, BlockRule, OneEntry, is_dirty, is_valid, tag_at, tag_block, Coherent, Keeps, entry_of_block, OnePage, found_entries, found_kept, found_other, same_entries, Made, frame_past, found_at, frames_one, tag_one, found_is}
+use Rattle.page_cache.proofs.Common.{◌≡◌, ◌≢◌, ℕ, ◌<◌, ◌==◌, not, ◌⊎◌, Bool, true, false, if◌then◌else◌, List, Option, Some, None, refl, ◌∙◌, ap, sym, subst, inl, inr, cases_Bool, cases_eq, eq-eqb, Contents, none_some, true_false, used_last, block_of, frames_in, order_of, BlockRule, OneEntry, frames_of, HeldEntry, is_valid, tag_at, tag_block, Coherent, Keeps, entry_of_block, OnePage, found_entries, found_kept, found_other, same_entries, Made, frame_past, found_at, frames_one, tag_one, found_is}
 use Rattle.std.specs.Prelude.{◌++◌, [], ◌∷◌, filter}
 use Rattle.frame_pool.specs.Orders.{freed_first, without}
 use Rattle.frame_pool.specs.Pools.{least_recent}
 use Rattle.rio_model.specs.Cover.{frame_page}
+use Rattle.rio_model.proofs.CoverLookups.{found_same}
 use Rattle.page_cache.specs.declared.tables.CacheTables.{CacheTables}
 use Rattle.page_cache.specs.Caches.{CacheSound}
-use Rattle.page_cache.specs.Uses.{AllStay, FetchedClean, LeavesFrame, LeavesOldest, SameOrderBut, UsedLast, freed_order}
+use Rattle.page_cache.specs.Uses.{AllStay, LeavesFrame, LeavesOldest, OthersStay, SameOrderBut, UsedLast, freed_order}
 use Rattle.page_cache.proofs.Rooms.{some_bound}
 
 -- ---- blocks that leave
@@ -53,6 +54,21 @@ stay_made k b dirty old new made = record { stay = λ c j e. let f = found_is ol
 -- a frame was filled
 pub stay_filled : (old mid : Contents) (k : ℕ) (new : List ℕ) → mid.words ≡ old.words → OnePage (frame_page mid.words k) mid.words new → AllStay old.words new
 stay_filled old mid k new e one = stay_found old.words new (λ c. found_entries mid.words new c (same_entries (frame_page mid.words k) mid.words new one (frame_past mid.words k)) ∙ ap (λ ws. entry_of_block ws c) e)
+
+-- nothing changed
+pub stay_hit : (old new : Contents) → new ≡ old → AllStay old.words new.words
+stay_hit old new same = stay_words old.words new.words (ap (λ (m : Contents). m.words) same)
+
+-- entries say of their pages what they said
+pub stay_held : (old new : List ℕ) → frames_of new ≡ frames_of old → ((k : ℕ) → k < frames_of old → HeldEntry k old new) → AllStay old new
+stay_held old new frames held = stay_found old new (λ c. found_same old new c frames (λ j less. let h = held j less in rw (h.valid, h.block) refl))
+
+pub others_stay : (b : ℕ) (old new : List ℕ) → AllStay old new → OthersStay b old new
+others_stay b old new h = record { stay = λ c k ne e. h.stay c k e }
+
+-- entry k, which is of block b, alone changed
+pub others_one : (b k : ℕ) (old new : List ℕ) → OneEntry k old new → BlockRule new → entry_of_block old b ≡ Some k → OthersStay b old new
+others_one b k old new one rule found = record { stay = λ c j ne e. found_still k c j old new one rule (λ q. ne (sym (found_is old c j e).1 ∙ ap (λ x. tag_block (tag_at old x)) q ∙ (found_is old b k found).1)) e }
 
 pub leaves_then : (t : CacheTables) (a c d : List ℕ) → LeavesOldest t a c → AllStay c d → LeavesOldest t a d
 leaves_then t a c d h i = record { left = λ x k e none. from x k e none (entry_of_block c x) refl }
@@ -120,14 +136,3 @@ freed_none b words t u none e = e ∙ sym (ap (λ (o : Option ℕ). freed_order 
 -- it was in frame k
 pub freed_some : (b k : ℕ) (words : List ℕ) (t u v : CacheTables) → entry_of_block words b ≡ Some k → order_of u.pool ≡ order_of t.pool → order_of v.pool ≡ freed_first k (order_of u.pool) → order_of v.pool ≡ freed_order (entry_of_block words b) (order_of t.pool)
 freed_some b k words t u v found same e = e ∙ ap (freed_first k) same ∙ sym (ap (λ (o : Option ℕ). freed_order o (order_of t.pool)) found)
-
--- ---- entries that are made for a fetched block
-
-pub clean_hit : (b : ℕ) (old new : List ℕ) → new ≡ old → FetchedClean b old new
-clean_hit b old new same = record { clean = λ k none e. absurd (none_some k (entry_of_block old b) none (sym (ap (λ ws. entry_of_block ws b) same) ∙ e)) }
-
-pub clean_made : (b k : ℕ) (old new : List ℕ) → entry_of_block new b ≡ Some k → is_dirty (tag_at new k) ≡ false → FetchedClean b old new
-clean_made b k old new found clean = record { clean = λ j none e. subst (λ n. is_dirty (tag_at new n) ≡ false) (some_same k j (sym found ∙ e)) clean }
-  where
-    some_same : (x y : ℕ) → Some x ≡ Some y → x ≡ y
-    some_same x y e = cc

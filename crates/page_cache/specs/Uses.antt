@@ -1,5 +1,5 @@
--- In which order blocks were used, and which of them leaves for another.
-use Rattle.std.specs.Prelude.{◌≡◌, ℕ, false, List, Option, Some, None}
+-- In which order blocks were used, which of them leaves for another, and which entries become dirty.
+use Rattle.std.specs.Prelude.{◌≡◌, ◌≢◌, ◌⊎◌, ℕ, true, List, Option, Some, None, is_some}
 use Rattle.frame_pool.specs.Orders.{freed_first, used_last, without}
 use Rattle.frame_pool.specs.Pools.{least_recent, order_of}
 use Rattle.rio_model.specs.Cover.{entry_of_block}
@@ -24,6 +24,10 @@ pub record LeavesFrame (k : ℕ) (old new : List ℕ) : Type 0 where
 pub record AllStay (old new : List ℕ) : Type 0 where
   pub stay : (c k : ℕ) → entry_of_block old c ≡ Some k → entry_of_block new c ≡ Some k
 
+-- each cached block but b is still in its frame
+pub record OthersStay (b : ℕ) (old new : List ℕ) : Type 0 where
+  pub stay : (c k : ℕ) → c ≢ b → entry_of_block old c ≡ Some k → entry_of_block new c ≡ Some k
+
 -- the frames but k stay in their order of use
 pub record SameOrderBut (k : ℕ) (t u : CacheTables) : Type 0 where
   pub others : without k (order_of u.pool) ≡ without k (order_of t.pool)
@@ -33,6 +37,17 @@ abbrev pub freed_order : Option ℕ → List ℕ → List ℕ
 freed_order None frames = frames
 freed_order (Some k) frames = freed_first k frames
 
--- the entry of block b, where it had none before, is clean
-pub record FetchedClean (b : ℕ) (old new : List ℕ) : Type 0 where
-  pub clean : (k : ℕ) → entry_of_block old b ≡ None → entry_of_block new b ≡ Some k → is_dirty (tag_at new k) ≡ false
+-- the order of use is as before, or the frame to be used next was freed, and is the first
+pub record FreesNext (t u : CacheTables) : Type 0 where
+  pub order : (order_of u.pool ≡ order_of t.pool) ⊎ (order_of u.pool ≡ freed_order (least_recent t.pool) (order_of t.pool))
+
+-- the order of use after a call that failed: where block b is cached, it was used last; where it isn't, a frame was freed for
+-- it at most
+pub record FailedUse (b : ℕ) (words : List ℕ) (t u : CacheTables) : Type 0 where
+  pub came : is_some (entry_of_block words b) ≡ true → UsedLast b words t u
+  pub missed : entry_of_block words b ≡ None → FreesNext t u
+
+-- no entry is dirty that wasn't, but that of this block, if one is named: a dirty entry of another block was this block's
+-- before, and dirty
+pub record DirtiesOnly (block : Option ℕ) (old new : List ℕ) : Type 0 where
+  pub was : (c k : ℕ) → block ≢ Some c → entry_of_block new c ≡ Some k → is_dirty (tag_at new k) ≡ true → (entry_of_block old c ≡ Some k) × (is_dirty (tag_at old k) ≡ true)

@@ -1,7 +1,7 @@
 //! Blocks come into frames, and leave them.
 
-ghost use Rattle.frame_pool.specs.Orders.{used_last};
-ghost use Rattle.page_cache.specs.Uses.{AllStay, FetchedClean, LeavesFrame, LeavesOldest, SameOrderBut, UsedLast};
+ghost use Rattle.frame_pool.specs.Orders.{freed_first, used_last};
+ghost use Rattle.page_cache.specs.Uses.{AllStay, DirtiesOnly, FailedUse, FreesNext, LeavesFrame, LeavesOldest, SameOrderBut, UsedLast};
 ghost use Rattle.std.specs.Prelude.{◌≡◌, ◌<◌, ◌≤◌, ◌+◌, ◌*◌, ℕ, true, false, Some, None, IfOk, OnOk, IsErr, IsErrOf, is_some, length, slice_index};
 ghost use Rattle.rio_base.specs.Blocks.{InRange};
 ghost use Rattle.rio_base.specs.Disks.{raised};
@@ -34,7 +34,9 @@ impl<M: Machine> PageCache<M> {
         ensures touches { SameTouches (M.contents self.old.machine).words (M.contents self.new.machine).words }
         ensures tables { SameTables self.old.tables self.new.tables }
         ensures leaves { LeavesFrame k (M.contents self.old.machine).words (M.contents self.new.machine).words }
-        ensures order { OnOk result (SameOrderBut k self.old.tables self.new.tables) }
+        ensures marks { DirtiesOnly None (M.contents self.old.machine).words (M.contents self.new.machine).words }
+        ensures order { IsErr result → order_of self.new.tables.pool ≡ order_of self.old.tables.pool }
+        ensures freed { OnOk result (order_of self.new.tables.pool ≡ freed_first k (order_of self.old.tables.pool)) }
         ensures lasts { Lasts (M.contents self.old.machine) (M.contents self.new.machine) }
         ensures fault { FaultCause (M.contents self.old.machine) (M.contents self.new.machine) (IsErrOf result VolFail.Fault) }
         ensures ends { StepEnds (M.run self.old.machine) (M.run self.new.machine) (IsErrOf result VolFail.Stopped) }
@@ -59,7 +61,9 @@ impl<M: Machine> PageCache<M> {
         ensures tables { SameTables self.old.tables self.new.tables }
         ensures chosen { IfOk result (λ k. least_recent self.old.tables.pool ≡ Some k) }
         ensures leaves { LeavesOldest self.old.tables (M.contents self.old.machine).words (M.contents self.new.machine).words }
+        ensures marks { DirtiesOnly None (M.contents self.old.machine).words (M.contents self.new.machine).words }
         ensures order { IfOk result (λ k. SameOrderBut k self.old.tables self.new.tables) }
+        ensures freed { FreesNext self.old.tables self.new.tables }
         ensures lasts { Lasts (M.contents self.old.machine) (M.contents self.new.machine) }
         ensures fault { FaultCause (M.contents self.old.machine) (M.contents self.new.machine) (IsErrOf result VolFail.Fault) }
         ensures ends { StepEnds (M.run self.old.machine) (M.run self.new.machine) (IsErrOf result VolFail.Stopped) }
@@ -83,7 +87,7 @@ impl<M: Machine> PageCache<M> {
     }
 
     /// Reads block `b` into frame `k`, which is free: no entry has it yet.
-    #[tactic(auto, using(crate::proofs::Rooms::keeps_then, crate::proofs::Goes::ends_then, crate::proofs::Rooms::lasts_then, crate::proofs::Touched::touches_words, crate::proofs::Stills::still_trans, crate::proofs::Stills::still_rest, crate::proofs::Uses::stay_words))]
+    #[tactic(auto, using(crate::proofs::Rooms::keeps_then, rio_base::proofs::MachineRules::ends_then, crate::proofs::Rooms::lasts_then, crate::proofs::Touched::touches_words, crate::proofs::Stills::still_trans, crate::proofs::Stills::still_rest, crate::proofs::Uses::stay_words))]
     fn fill_frame(&mut self, k: u32, b: Block) -> Result<(), VolFail>
         requires sound { CacheSound (M.contents self.old.machine) (length (M.run self.old.machine).scratch) self.old.tables }
         requires entry { k < frames_of (M.contents self.old.machine).words }
@@ -98,6 +102,7 @@ impl<M: Machine> PageCache<M> {
         ensures touches { SameTouches (M.contents self.old.machine).words (M.contents self.new.machine).words }
         ensures tables { SameTables self.old.tables self.new.tables }
         ensures stay { AllStay (M.contents self.old.machine).words (M.contents self.new.machine).words }
+        ensures marks { DirtiesOnly None (M.contents self.old.machine).words (M.contents self.new.machine).words }
         ensures pool { self.new.tables.pool ≡ self.old.tables.pool }
         ensures lasts { Lasts (M.contents self.old.machine) (M.contents self.new.machine) }
         ensures fault { FaultCause (M.contents self.old.machine) (M.contents self.new.machine) (IsErrOf result VolFail.Fault) }
@@ -122,12 +127,14 @@ impl<M: Machine> PageCache<M> {
         ensures keeps { Keeps (M.contents self.old.machine) (M.contents self.new.machine) }
         ensures adds { Adds b.0 name (M.contents self.old.machine).words (M.contents self.new.machine).words }
         ensures found { OnOk result (entry_of_block (M.contents self.new.machine).words b.0 ≡ Some k) }
-        ensures clean { OnOk result (is_dirty (tag_at (M.contents self.new.machine).words k) ≡ false) }
+        ensures unmade { IsErr result → entry_of_block (M.contents self.new.machine).words b.0 ≡ None }
         ensures still { SameDisk (M.contents self.old.machine) (M.contents self.new.machine) }
         ensures touches { SameTouches (M.contents self.old.machine).words (M.contents self.new.machine).words }
         ensures tables { SameTables self.old.tables self.new.tables }
         ensures stay { AllStay (M.contents self.old.machine).words (M.contents self.new.machine).words }
+        ensures marks { DirtiesOnly None (M.contents self.old.machine).words (M.contents self.new.machine).words }
         ensures order { OnOk result (order_of self.new.tables.pool ≡ used_last k (order_of self.old.tables.pool)) }
+        ensures still_order { IsErr result → order_of self.new.tables.pool ≡ order_of self.old.tables.pool }
         ensures lasts { Lasts (M.contents self.old.machine) (M.contents self.new.machine) }
         ensures ends { StepEnds (M.run self.old.machine) (M.run self.new.machine) (IsErr result) }
     {
@@ -137,7 +144,7 @@ impl<M: Machine> PageCache<M> {
     }
 
     /// Brings block `b` into frame `k`, which is free.
-    #[tactic(auto, using(crate::proofs::Rooms::keeps_then, crate::proofs::Goes::ends_then, crate::proofs::Rooms::lasts_then, crate::proofs::Rooms::adds_narrows, crate::proofs::Rooms::adds_after, crate::proofs::Rooms::none_still, crate::proofs::Stills::still_trans, crate::proofs::Touched::touches_trans, crate::proofs::Kept::tables_trans, crate::proofs::Uses::stay_trans))]
+    #[tactic(auto, using(crate::proofs::Rooms::keeps_then, rio_base::proofs::MachineRules::ends_then, crate::proofs::Rooms::lasts_then, crate::proofs::Rooms::adds_narrows, crate::proofs::Rooms::adds_after, crate::proofs::Rooms::none_still, crate::proofs::Stills::still_trans, crate::proofs::Touched::touches_trans, crate::proofs::Kept::tables_trans, crate::proofs::Uses::stay_trans))]
     fn bring(&mut self, k: u32, b: Block, name: Option<PageName>) -> Result<(), VolFail>
         requires sound { CacheSound (M.contents self.old.machine) (length (M.run self.old.machine).scratch) self.old.tables }
         requires entry { k < frames_of (M.contents self.old.machine).words }
@@ -149,13 +156,15 @@ impl<M: Machine> PageCache<M> {
         ensures keeps { Keeps (M.contents self.old.machine) (M.contents self.new.machine) }
         ensures adds { Adds b.0 name (M.contents self.old.machine).words (M.contents self.new.machine).words }
         ensures found { OnOk result (entry_of_block (M.contents self.new.machine).words b.0 ≡ Some k) }
-        ensures clean { OnOk result (is_dirty (tag_at (M.contents self.new.machine).words k) ≡ false) }
+        ensures unmade { IsErr result → entry_of_block (M.contents self.new.machine).words b.0 ≡ None }
         ensures unfetched { IsErrOf result VolFail.Fault → Narrows (M.contents self.old.machine).words (M.contents self.new.machine).words }
         ensures still { SameDisk (M.contents self.old.machine) (M.contents self.new.machine) }
         ensures touches { SameTouches (M.contents self.old.machine).words (M.contents self.new.machine).words }
         ensures tables { SameTables self.old.tables self.new.tables }
         ensures stay { AllStay (M.contents self.old.machine).words (M.contents self.new.machine).words }
+        ensures marks { DirtiesOnly None (M.contents self.old.machine).words (M.contents self.new.machine).words }
         ensures order { OnOk result (order_of self.new.tables.pool ≡ used_last k (order_of self.old.tables.pool)) }
+        ensures still_order { IsErr result → order_of self.new.tables.pool ≡ order_of self.old.tables.pool }
         ensures lasts { Lasts (M.contents self.old.machine) (M.contents self.new.machine) }
         ensures fault { FaultCause (M.contents self.old.machine) (M.contents self.new.machine) (IsErrOf result VolFail.Fault) }
         ensures ends { StepEnds (M.run self.old.machine) (M.run self.new.machine) (IsErrOf result VolFail.Stopped) }
@@ -166,7 +175,7 @@ impl<M: Machine> PageCache<M> {
     }
 
     /// The frame of block `b`, which is fetched if it isn't cached: then under this name. It counts as a use.
-    #[tactic(auto, using(crate::proofs::Rooms::keeps_then, crate::proofs::Goes::ends_then, crate::proofs::Rooms::lasts_then, crate::proofs::Rooms::adds_narrows, crate::proofs::Rooms::adds_after, crate::proofs::Rooms::none_still, crate::proofs::Rooms::none_bound, crate::proofs::Rooms::some_bound, rio_model::proofs::CoverSteps::keeps_refl, rio_base::proofs::MachineRules::steps_refl, rio_base::proofs::MachineRules::lasts_refl, rio_model::proofs::CoverStands::narrows_refl, crate::proofs::Stills::still_refl, crate::proofs::Stills::few_still, crate::proofs::Stills::few_then, crate::proofs::Touched::touches_refl, crate::proofs::Touched::touches_trans, crate::proofs::Kept::tables_refl, crate::proofs::Kept::tables_trans, crate::proofs::Uses::leaves_refl, crate::proofs::Uses::leaves_then))]
+    #[tactic(auto, using(crate::proofs::Rooms::keeps_then, rio_base::proofs::MachineRules::ends_then, crate::proofs::Rooms::lasts_then, crate::proofs::Rooms::adds_narrows, crate::proofs::Rooms::adds_after, crate::proofs::Rooms::none_still, crate::proofs::Rooms::none_bound, crate::proofs::Rooms::some_bound, rio_model::proofs::CoverSteps::keeps_refl, rio_base::proofs::MachineRules::steps_refl, rio_base::proofs::MachineRules::lasts_refl, rio_model::proofs::CoverStands::narrows_refl, crate::proofs::Stills::still_refl, crate::proofs::Stills::few_still, crate::proofs::Stills::few_then, crate::proofs::Touched::touches_refl, crate::proofs::Touched::touches_trans, crate::proofs::Kept::tables_refl, crate::proofs::Kept::tables_trans, crate::proofs::Uses::leaves_refl, crate::proofs::Uses::leaves_then))]
     pub(crate) fn fetch(&mut self, b: Block, name: Option<PageName>) -> Result<u32, VolFail>
         requires sound { CacheSound (M.contents self.old.machine) (length (M.run self.old.machine).scratch) self.old.tables }
         requires block { b.0 < length (M.contents self.old.machine).disk }
@@ -178,10 +187,11 @@ impl<M: Machine> PageCache<M> {
         ensures touches { SameTouches (M.contents self.old.machine).words (M.contents self.new.machine).words }
         ensures tables { SameTables self.old.tables self.new.tables }
         ensures used { OnOk result (UsedLast b.0 (M.contents self.new.machine).words self.old.tables self.new.tables) }
+        ensures failed { IsErr result → FailedUse b.0 (M.contents self.new.machine).words self.old.tables self.new.tables }
         ensures leaves { LeavesOldest self.old.tables (M.contents self.old.machine).words (M.contents self.new.machine).words }
         ensures writes { FewWrites b.0 self.old.tables (M.contents self.old.machine) (M.contents self.new.machine) }
         ensures hit { is_some (entry_of_block (M.contents self.old.machine).words b.0) ≡ true → self.new.machine ≡ self.old.machine }
-        ensures clean { OnOk result (FetchedClean b.0 (M.contents self.old.machine).words (M.contents self.new.machine).words) }
+        ensures marks { DirtiesOnly None (M.contents self.old.machine).words (M.contents self.new.machine).words }
         ensures unfetched { IsErrOf result VolFail.Fault → Narrows (M.contents self.old.machine).words (M.contents self.new.machine).words }
         ensures sure { IsErrOf result VolFail.Fault → entry_of_block (M.contents self.old.machine).words b.0 ≡ None }
         ensures lasts { Lasts (M.contents self.old.machine) (M.contents self.new.machine) }

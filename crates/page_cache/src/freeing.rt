@@ -2,7 +2,7 @@
 
 ghost use Rattle.frame_pool.specs.Orders.{freed_first, used_last};
 ghost use Rattle.frame_pool.specs.Pools.{order_of};
-ghost use Rattle.page_cache.specs.Uses.{AllStay};
+ghost use Rattle.page_cache.specs.Uses.{AllStay, DirtiesOnly, OthersStay};
 ghost use Rattle.std.specs.Prelude.{◌≡◌, ◌<◌, ◌+◌, ◌*◌, ℕ, true, false, None, Some, OnErr, OnOk, IsErr, length, slice_index};
 ghost use Rattle.rio_base.specs.Blocks.{InRange};
 ghost use Rattle.rio_base.specs.Machine.{Lasts, StepEnds};
@@ -15,12 +15,12 @@ ghost use Rattle.page_cache.specs.Stores.{Frees, Marks, SameCached};
 
 use crate::cache::PageCache;
 use crate::filling::fill;
-use crate::tables::{CacheTables, PAGE_WORDS};
+use crate::tables::CacheTables;
 use registry::{clear, install};
-use rio_base::{Block, Machine, PageName, Stopped, VolFail};
+use rio_base::{BLOCK_WORDS, Block, Machine, PageName, Stopped, VolFail};
 
 /// The words of a new page.
-const ZEROS: [u64; PAGE_WORDS] = [0; PAGE_WORDS];
+const ZEROS: [u64; BLOCK_WORDS] = [0; BLOCK_WORDS];
 
 impl CacheTables {
     /// Marks block `b` as forgotten, or takes the mark away.
@@ -43,7 +43,10 @@ impl<M: Machine> PageCache<M> {
         ensures sound { CacheSound (M.contents self.new.machine) (length (M.run self.new.machine).scratch) self.new.tables }
         ensures frees { Frees b.0 (M.contents self.old.machine) (M.contents self.new.machine) }
         ensures gone { OnOk result (entry_of_block (M.contents self.new.machine).words b.0 ≡ None) }
+        ensures same { IsErr result → M.contents self.new.machine ≡ M.contents self.old.machine }
+        ensures stay { OthersStay b.0 (M.contents self.old.machine).words (M.contents self.new.machine).words }
         ensures narrows { Narrows (M.contents self.old.machine).words (M.contents self.new.machine).words }
+        ensures marks { DirtiesOnly None (M.contents self.old.machine).words (M.contents self.new.machine).words }
         ensures tables { SameTables self.old.tables self.new.tables }
         ensures order { OnErr result (order_of self.new.tables.pool ≡ order_of self.old.tables.pool) }
         ensures freed { OnOk result (order_of self.new.tables.pool ≡ freed_first k (order_of self.old.tables.pool)) }
@@ -67,6 +70,7 @@ impl<M: Machine> PageCache<M> {
         ensures zeros { OnOk result ((w : ℕ) → w < 512 → slice_index (M.contents self.new.machine).words (512 * frame_page (M.contents self.new.machine).words k + w) ≡ 0) }
         ensures tag { tag_at (M.contents self.new.machine).words k ≡ tag_at (M.contents self.old.machine).words k }
         ensures cached { SameCached (M.contents self.old.machine).words (M.contents self.new.machine).words }
+        ensures marks { DirtiesOnly None (M.contents self.old.machine).words (M.contents self.new.machine).words }
         ensures tables { self.new.tables ≡ self.old.tables }
         ensures still { SameDisk (M.contents self.old.machine) (M.contents self.new.machine) }
         ensures lasts { Lasts (M.contents self.old.machine) (M.contents self.new.machine) }
@@ -95,8 +99,11 @@ impl<M: Machine> PageCache<M> {
         ensures adds { Adds b.0 name (M.contents self.old.machine).words (M.contents self.new.machine).words }
         ensures tables { SameTables self.old.tables self.new.tables }
         ensures found { OnOk result (entry_of_block (M.contents self.new.machine).words b.0 ≡ Some k) }
+        ensures unmade { IsErr result → entry_of_block (M.contents self.new.machine).words b.0 ≡ None }
         ensures stay { AllStay (M.contents self.old.machine).words (M.contents self.new.machine).words }
+        ensures marks { DirtiesOnly (Some b.0) (M.contents self.old.machine).words (M.contents self.new.machine).words }
         ensures order { OnOk result (order_of self.new.tables.pool ≡ used_last k (order_of self.old.tables.pool)) }
+        ensures still_order { IsErr result → order_of self.new.tables.pool ≡ order_of self.old.tables.pool }
         ensures still { SameDisk (M.contents self.old.machine) (M.contents self.new.machine) }
         ensures lasts { Lasts (M.contents self.old.machine) (M.contents self.new.machine) }
         ensures ends { StepEnds (M.run self.old.machine) (M.run self.new.machine) (IsErr result) }
@@ -127,8 +134,11 @@ impl<M: Machine> PageCache<M> {
         ensures adds { Adds b.0 name (M.contents self.old.machine).words (M.contents self.new.machine).words }
         ensures tables { SameTables self.old.tables self.new.tables }
         ensures found { OnOk result (entry_of_block (M.contents self.new.machine).words b.0 ≡ Some k) }
+        ensures unmade { IsErr result → entry_of_block (M.contents self.new.machine).words b.0 ≡ None }
         ensures stay { AllStay (M.contents self.old.machine).words (M.contents self.new.machine).words }
+        ensures marks { DirtiesOnly (Some b.0) (M.contents self.old.machine).words (M.contents self.new.machine).words }
         ensures order { OnOk result (order_of self.new.tables.pool ≡ used_last k (order_of self.old.tables.pool)) }
+        ensures still_order { IsErr result → order_of self.new.tables.pool ≡ order_of self.old.tables.pool }
         ensures still { SameDisk (M.contents self.old.machine) (M.contents self.new.machine) }
         ensures lasts { Lasts (M.contents self.old.machine) (M.contents self.new.machine) }
         ensures ends { StepEnds (M.run self.old.machine) (M.run self.new.machine) (IsErr result) }

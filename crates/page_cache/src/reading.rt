@@ -1,7 +1,7 @@
 //! Blocks are read: a word is loaded from its block's frame, and a whole page is lent.
 
-ghost use Rattle.page_cache.specs.Uses.{FetchedClean, LeavesOldest, UsedLast};
-ghost use Rattle.std.specs.Prelude.{◌≡◌, ◌<◌, ◌≤◌, ◌+◌, ◌*◌, true, IfOk, OnOk, IsErrOf, length, take, drop};
+ghost use Rattle.page_cache.specs.Uses.{DirtiesOnly, FailedUse, LeavesOldest, UsedLast};
+ghost use Rattle.std.specs.Prelude.{◌≡◌, ◌<◌, ◌≤◌, ◌+◌, ◌*◌, true, None, IfOk, OnOk, IsErr, IsErrOf, length, take, drop};
 ghost use Rattle.rio_base.specs.Blocks.{CanName, Caches, Ends, IsPlace, IsRun, IsSpan, Looks};
 ghost use Rattle.rio_base.specs.Rules.{passes_on, passes_same};
 ghost use Rattle.rio_base.specs.Volume.{Passes};
@@ -61,9 +61,10 @@ impl<M: Machine> Blocks for PageCache<M> {
         ensures passes { Passes (cache_health (M.contents self.old.machine) (M.run self.old.machine)) (cache_below (M.contents self.old.machine) (M.run self.old.machine)) (cache_kept (M.contents self.old.machine) self.old.tables) (cache_health (M.contents self.new.machine) (M.run self.new.machine)) (cache_below (M.contents self.new.machine) (M.run self.new.machine)) (cache_kept (M.contents self.new.machine) self.new.tables) }
         ensures writes { FewWrites b.0 self.old.tables (M.contents self.old.machine) (M.contents self.new.machine) }
         ensures used { OnOk result (UsedLast b.0 (M.contents self.new.machine).words self.old.tables self.new.tables) }
+        ensures failed { IsErr result → FailedUse b.0 (M.contents self.new.machine).words self.old.tables self.new.tables }
         ensures leaves { LeavesOldest self.old.tables (M.contents self.old.machine).words (M.contents self.new.machine).words }
         ensures hit { (cache_seen (M.contents self.old.machine)).cached b.0 ≡ true → self.new.machine ≡ self.old.machine }
-        ensures clean { OnOk result (FetchedClean b.0 (M.contents self.old.machine).words (M.contents self.new.machine).words) }
+        ensures marks { DirtiesOnly None (M.contents self.old.machine).words (M.contents self.new.machine).words }
         ensures ends { Ends (cache_health (M.contents self.old.machine) (M.run self.old.machine)) (cache_health (M.contents self.new.machine) (M.run self.new.machine)) result }
         ensures sure { IsErrOf result VolFail.Fault → is_touched (M.contents self.old.machine).words b.0 ≡ true → ⊥ }
         ensures sound { CacheSound (M.contents self.new.machine) (length (M.run self.new.machine).scratch) self.new.tables }
@@ -93,9 +94,10 @@ impl<M: Machine> Blocks for PageCache<M> {
         ensures passes { Passes (cache_health (M.contents self.old.machine) (M.run self.old.machine)) (cache_below (M.contents self.old.machine) (M.run self.old.machine)) (cache_kept (M.contents self.old.machine) self.old.tables) (cache_health (M.contents self.new.machine) (M.run self.new.machine)) (cache_below (M.contents self.new.machine) (M.run self.new.machine)) (cache_kept (M.contents self.new.machine) self.new.tables) }
         ensures writes { FewWrites b.0 self.old.tables (M.contents self.old.machine) (M.contents self.new.machine) }
         ensures used { OnOk result (UsedLast b.0 (M.contents self.new.machine).words self.old.tables self.new.tables) }
+        ensures failed { IsErr result → FailedUse b.0 (M.contents self.new.machine).words self.old.tables self.new.tables }
         ensures leaves { LeavesOldest self.old.tables (M.contents self.old.machine).words (M.contents self.new.machine).words }
         ensures hit { (cache_seen (M.contents self.old.machine)).cached b.0 ≡ true → self.new.machine ≡ self.old.machine }
-        ensures clean { OnOk result (FetchedClean b.0 (M.contents self.old.machine).words (M.contents self.new.machine).words) }
+        ensures marks { DirtiesOnly None (M.contents self.old.machine).words (M.contents self.new.machine).words }
         ensures ends { Ends (cache_health (M.contents self.old.machine) (M.run self.old.machine)) (cache_health (M.contents self.new.machine) (M.run self.new.machine)) result }
         ensures sure { IsErrOf result VolFail.Fault → is_touched (M.contents self.old.machine).words b.0 ≡ true → ⊥ }
         ensures sound { CacheSound (M.contents self.new.machine) (length (M.run self.new.machine).scratch) self.new.tables }

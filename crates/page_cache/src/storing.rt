@@ -1,12 +1,12 @@
 //! Words are stored into blocks, while no update is open. A page is marked dirty before the first word is stored into
 //! it, and its size is stored before the word too, so that a stop between two steps loses nothing.
 
-ghost use Rattle.page_cache.specs.Uses.{LeavesOldest, UsedLast};
-ghost use Rattle.std.specs.Prelude.{◌≡◌, ◌<◌, ◌≤◌, ◌+◌, ℕ, true, Some, IfOk, OnOk, OnErr, IsErr, IsErrOf, length};
+ghost use Rattle.page_cache.specs.Uses.{AllStay, DirtiesOnly, FailedUse, LeavesOldest, UsedLast};
+ghost use Rattle.std.specs.Prelude.{◌≡◌, ◌<◌, ◌≤◌, ◌+◌, ℕ, true, None, Some, IfOk, OnOk, OnErr, IsErr, IsErrOf, is_some, length};
 ghost use Rattle.rio_base.specs.Blocks.{Drops, InRange};
 ghost use Rattle.rio_base.specs.Machine.{FaultCause, Lasts, StepEnds};
 ghost use Rattle.rio_base.specs.Volume.{CachesStored, put, put_run, stored_name, widened};
-ghost use Rattle.rio_model.specs.Registry.{IsValid, OneEntry, is_dirty, tag_at};
+ghost use Rattle.rio_model.specs.Registry.{IsValid, OneEntry, is_dirty, tag_at, tag_block};
 ghost use Rattle.rio_model.specs.Cover.{HeldEntry, Keeps, entry_of_block, name_in, reads};
 ghost use Rattle.write_back.specs.Writing.{SameDisk};
 ghost use Rattle.page_cache.specs.Caches.{CacheSound, FewWrites, SameTables, cache_seen};
@@ -53,6 +53,7 @@ impl<M: Machine> PageCache<M> {
         ensures widens { Widens k name (M.contents self.old.machine).words (M.contents self.new.machine).words }
         ensures named { OnOk result (name_in (M.contents self.new.machine).words (Some k) ≡ widened (name_in (M.contents self.old.machine).words (Some k)) name) }
         ensures tag { tag_at (M.contents self.new.machine).words k ≡ tag_at (M.contents self.old.machine).words k }
+        ensures marks { DirtiesOnly None (M.contents self.old.machine).words (M.contents self.new.machine).words }
         ensures tables { self.new.tables ≡ self.old.tables }
         ensures still { SameDisk (M.contents self.old.machine) (M.contents self.new.machine) }
         ensures lasts { Lasts (M.contents self.old.machine) (M.contents self.new.machine) }
@@ -69,7 +70,7 @@ impl<M: Machine> PageCache<M> {
     }
 
     /// Makes the page of entry `k` ready for a store under this name: dirty, and of the larger size.
-    #[tactic(auto, using(crate::proofs::StoreCalls::valid_cached, crate::proofs::StoreCalls::dirty_after, rio_model::proofs::CoverSteps::keeps_trans, crate::proofs::Stills::still_trans, crate::proofs::Goes::ends_then, rio_base::proofs::MachineRules::lasts_trans))]
+    #[tactic(auto, using(crate::proofs::StoreCalls::valid_cached, crate::proofs::StoreCalls::dirty_after, rio_model::proofs::CoverSteps::keeps_trans, crate::proofs::Stills::still_trans, rio_base::proofs::MachineRules::ends_then, rio_base::proofs::MachineRules::lasts_trans))]
     fn make_ready(&mut self, k: u32, name: Option<PageName>) -> Result<(), Stopped>
         requires sound { CacheSound (M.contents self.old.machine) (length (M.run self.old.machine).scratch) self.old.tables }
         requires valid { IsValid (M.contents self.old.machine).words k }
@@ -79,6 +80,7 @@ impl<M: Machine> PageCache<M> {
         ensures widens { Widens k name (M.contents self.old.machine).words (M.contents self.new.machine).words }
         ensures named { OnOk result (name_in (M.contents self.new.machine).words (Some k) ≡ widened (name_in (M.contents self.old.machine).words (Some k)) name) }
         ensures dirty { OnOk result (is_dirty (tag_at (M.contents self.new.machine).words k) ≡ true) }
+        ensures marks { DirtiesOnly (Some (tag_block (tag_at (M.contents self.old.machine).words k))) (M.contents self.old.machine).words (M.contents self.new.machine).words }
         ensures tables { self.new.tables ≡ self.old.tables }
         ensures still { SameDisk (M.contents self.old.machine) (M.contents self.new.machine) }
         ensures lasts { Lasts (M.contents self.old.machine) (M.contents self.new.machine) }
@@ -91,7 +93,7 @@ impl<M: Machine> PageCache<M> {
 
     /// The frame of block `b`, fetched if it isn't cached, and ready for a store under this name: dirty, and of the
     /// larger size.
-    #[tactic(auto, using(crate::proofs::StoreCalls::drops_narrows, crate::proofs::Goes::ends_then, rio_model::proofs::CoverSteps::keeps_trans, rio_base::proofs::MachineRules::lasts_trans))]
+    #[tactic(auto, using(crate::proofs::StoreCalls::drops_narrows, rio_base::proofs::MachineRules::ends_then, rio_model::proofs::CoverSteps::keeps_trans, rio_base::proofs::MachineRules::lasts_trans))]
     pub(crate) fn ready(&mut self, b: Block, name: Option<PageName>) -> Result<u32, VolFail>
         requires sound { CacheSound (M.contents self.old.machine) (length (M.run self.old.machine).scratch) self.old.tables }
         requires block { b.0 < length (M.contents self.old.machine).disk }
@@ -105,7 +107,10 @@ impl<M: Machine> PageCache<M> {
         ensures drops { IsErrOf result VolFail.Fault → Drops (cache_seen (M.contents self.old.machine)) (cache_seen (M.contents self.new.machine)) }
         ensures tables { SameTables self.old.tables self.new.tables }
         ensures used { OnOk result (UsedLast b.0 (M.contents self.new.machine).words self.old.tables self.new.tables) }
+        ensures failed { IsErr result → FailedUse b.0 (M.contents self.new.machine).words self.old.tables self.new.tables }
         ensures leaves { LeavesOldest self.old.tables (M.contents self.old.machine).words (M.contents self.new.machine).words }
+        ensures stay { is_some (entry_of_block (M.contents self.old.machine).words b.0) ≡ true → AllStay (M.contents self.old.machine).words (M.contents self.new.machine).words }
+        ensures marks { DirtiesOnly (Some b.0) (M.contents self.old.machine).words (M.contents self.new.machine).words }
         ensures writes { FewWrites b.0 self.old.tables (M.contents self.old.machine) (M.contents self.new.machine) }
         ensures lasts { Lasts (M.contents self.old.machine) (M.contents self.new.machine) }
         ensures fault { FaultCause (M.contents self.old.machine) (M.contents self.new.machine) (IsErrOf result VolFail.Fault) }
@@ -127,6 +132,7 @@ impl<M: Machine> PageCache<M> {
         ensures rewrites { OnOk result (Rewrites (put (reads (M.contents self.old.machine)) b.0 w v) (M.contents self.old.machine) (M.contents self.new.machine)) }
         ensures same { OnErr result (M.contents self.new.machine ≡ M.contents self.old.machine) }
         ensures cached { SameCached (M.contents self.old.machine).words (M.contents self.new.machine).words }
+        ensures marks { DirtiesOnly None (M.contents self.old.machine).words (M.contents self.new.machine).words }
         ensures tables { self.new.tables ≡ self.old.tables }
         ensures still { SameDisk (M.contents self.old.machine) (M.contents self.new.machine) }
         ensures lasts { Lasts (M.contents self.old.machine) (M.contents self.new.machine) }
@@ -155,6 +161,7 @@ impl<M: Machine> PageCache<M> {
         ensures rewrites { OnOk result (Rewrites (put_run (reads (M.contents self.old.machine)) b.0 w (length from.now) from.now) (M.contents self.old.machine) (M.contents self.new.machine)) }
         ensures front { OnErr result ((n : ℕ) × (n ≤ length from.now) × Rewrites (put_run (reads (M.contents self.old.machine)) b.0 w n from.now) (M.contents self.old.machine) (M.contents self.new.machine)) }
         ensures cached { SameCached (M.contents self.old.machine).words (M.contents self.new.machine).words }
+        ensures marks { DirtiesOnly None (M.contents self.old.machine).words (M.contents self.new.machine).words }
         ensures tables { self.new.tables ≡ self.old.tables }
         ensures still { SameDisk (M.contents self.old.machine) (M.contents self.new.machine) }
         ensures lasts { Lasts (M.contents self.old.machine) (M.contents self.new.machine) }

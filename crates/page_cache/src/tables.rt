@@ -4,13 +4,11 @@ ghost use Rattle.std.specs.Prelude.{◌≤◌, IfOk};
 ghost use Rattle.page_cache.specs.Caches.{IsFresh};
 
 use frame_pool::FramePool;
+use rio_base::BLOCK_WORDS;
 use std::alloc::{AllocError, Global};
 
 /// How many shadow pages there are, and so how many blocks an update may touch.
 pub(crate) const SHADOWS: usize = 16;
-
-/// The words of a page.
-pub(crate) const PAGE_WORDS: usize = 512;
 
 /// The tables of a cache, made before it starts: no call of a cache takes memory.
 #[derive(Drop)]
@@ -38,7 +36,7 @@ impl CacheTables {
     {
         let pool = FramePool::new(alloc, frames, blocks)?;
         let forgotten = vec![in alloc; false; blocks as usize]?;
-        let buffer = vec![in alloc; 0; PAGE_WORDS]?;
+        let buffer = vec![in alloc; 0; BLOCK_WORDS]?;
         Ok(CacheTables {
             pool,
             forgotten,

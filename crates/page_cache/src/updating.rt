@@ -1,6 +1,6 @@
 //! Updates of several blocks that stand at once.
 
-ghost use Rattle.std.specs.Prelude.{◌≡◌, ◌≢◌, ◌⊎◌, ◌+◌, ◌<◌, ◌≤◌, ℕ, true, false, None, OnErr, OnOk, IsErr, length, slice_index};
+ghost use Rattle.std.specs.Prelude.{◌≡◌, ◌≢◌, ◌⊎◌, ◌+◌, ◌<◌, ◌≤◌, ℕ, true, false, None, Some, OnErr, OnOk, IsErr, length, slice_index};
 ghost use Rattle.rio_base.specs.Machine.{Lasts, StepEnds};
 ghost use Rattle.rio_model.specs.Cover.{Coherent, Keeps, SameNames, frame_page};
 ghost use Rattle.rio_model.specs.CoverChanges.{SameEntries};
@@ -9,6 +9,7 @@ ghost use Rattle.rio_model.specs.Registry.{IsValid, frames_of, gate_of, is_data,
 ghost use Rattle.frame_pool.specs.Pools.{frames_in, is_pinned, order_of};
 ghost use Rattle.write_back.specs.Writing.{SameDisk};
 ghost use Rattle.page_cache.specs.Caches.{CacheSound, IsListed, SameTables};
+ghost use Rattle.page_cache.specs.Uses.{DirtiesOnly};
 ghost use Rattle.page_cache.specs.Updating.{GivesShadow, SameButPins, SamePages};
 
 use crate::cache::PageCache;
@@ -123,7 +124,7 @@ impl<M: Machine> PageCache<M> {
     }
 
     /// Gives entry `k`, which is of metadata, a shadow, if it has none.
-    #[tactic(auto, using(crate::proofs::Rooms::keeps_then, crate::proofs::Rooms::lasts_then, crate::proofs::Goes::ends_then, crate::proofs::Goes::ends_ok, crate::proofs::Stills::still_trans, rio_model::proofs::CoverSteps::keeps_refl, rio_base::proofs::MachineRules::lasts_refl, crate::proofs::Uses::order_same))]
+    #[tactic(auto, using(crate::proofs::Rooms::keeps_then, crate::proofs::Rooms::lasts_then, rio_base::proofs::MachineRules::ends_then, crate::proofs::Goes::ends_ok, crate::proofs::Stills::still_trans, rio_model::proofs::CoverSteps::keeps_refl, rio_base::proofs::MachineRules::lasts_refl, crate::proofs::Uses::order_same))]
     pub(crate) fn shadow_frame(&mut self, k: u32) -> Result<(), Stopped>
         requires sound { CacheSound (M.contents self.old.machine) (length (M.run self.old.machine).scratch) self.old.tables }
         requires updating { gate_of (M.contents self.old.machine).words ≡ 1 }
@@ -134,6 +135,7 @@ impl<M: Machine> PageCache<M> {
         ensures keeps { Keeps (M.contents self.old.machine) (M.contents self.new.machine) }
         ensures pages { SamePages (M.contents self.old.machine).words (M.contents self.new.machine).words }
         ensures gives { OnOk result (GivesShadow k (M.contents self.old.machine).words (M.contents self.new.machine).words self.old.tables self.new.tables) }
+        ensures marks { DirtiesOnly (Some (tag_block (tag_at (M.contents self.old.machine).words k))) (M.contents self.old.machine).words (M.contents self.new.machine).words }
         ensures forgotten { self.new.tables.forgotten ≡ self.old.tables.forgotten }
         ensures order { order_of self.new.tables.pool ≡ order_of self.old.tables.pool }
         ensures still { SameDisk (M.contents self.old.machine) (M.contents self.new.machine) }

@@ -1,7 +1,7 @@
 //! The cache as a volume: stores, updates, blocks made anew and forgotten, and flushes.
 
 ghost use Rattle.frame_pool.specs.Pools.{order_of};
-ghost use Rattle.page_cache.specs.Uses.{LeavesOldest, UsedLast, freed_order};
+ghost use Rattle.page_cache.specs.Uses.{AllStay, DirtiesOnly, FailedUse, LeavesOldest, OthersStay, UsedLast, freed_order};
 ghost use Rattle.write_back.specs.Writing.{SameDisk};
 ghost use Rattle.page_cache.specs.Caches.{CacheSound, FewWrites, cache_below, cache_health, cache_kept, cache_seen};
 ghost use Rattle.page_cache.specs.Settled.{cache_settled};
@@ -50,7 +50,9 @@ impl<M: Machine> Volume for PageCache<M> {
         ensures sound { CacheSound (M.contents self.new.machine) (length (M.run self.new.machine).scratch) self.new.tables }
         ensures writes { FewWrites b.0 self.old.tables (M.contents self.old.machine) (M.contents self.new.machine) }
         ensures used { OnOk result (UsedLast b.0 (M.contents self.new.machine).words self.old.tables self.new.tables) }
+        ensures failed { IsErr result → FailedUse b.0 (M.contents self.new.machine).words self.old.tables self.new.tables }
         ensures leaves { LeavesOldest self.old.tables (M.contents self.old.machine).words (M.contents self.new.machine).words }
+        ensures marks { DirtiesOnly (Some b.0) (M.contents self.old.machine).words (M.contents self.new.machine).words }
     {
         let k = self.make_room(b)?;
         self.bring_zeros(k, b, name)?;
@@ -80,7 +82,10 @@ impl<M: Machine> Volume for PageCache<M> {
         ensures sound { CacheSound (M.contents self.new.machine) (length (M.run self.new.machine).scratch) self.new.tables }
         ensures writes { FewWrites b.0 self.old.tables (M.contents self.old.machine) (M.contents self.new.machine) }
         ensures used { OnOk result (UsedLast b.0 (M.contents self.new.machine).words self.old.tables self.new.tables) }
+        ensures failed { IsErr result → FailedUse b.0 (M.contents self.new.machine).words self.old.tables self.new.tables }
         ensures leaves { LeavesOldest self.old.tables (M.contents self.old.machine).words (M.contents self.new.machine).words }
+        ensures stay { (cache_seen (M.contents self.old.machine)).cached b.0 ≡ true → AllStay (M.contents self.old.machine).words (M.contents self.new.machine).words }
+        ensures marks { DirtiesOnly (Some b.0) (M.contents self.old.machine).words (M.contents self.new.machine).words }
     {
         let k = self.ready(b, name)?;
         self.put_frame(k, b, w, v)?;
@@ -115,7 +120,10 @@ impl<M: Machine> Volume for PageCache<M> {
         ensures sound { CacheSound (M.contents self.new.machine) (length (M.run self.new.machine).scratch) self.new.tables }
         ensures writes { FewWrites b.0 self.old.tables (M.contents self.old.machine) (M.contents self.new.machine) }
         ensures used { OnOk result (0 < length from.now → UsedLast b.0 (M.contents self.new.machine).words self.old.tables self.new.tables) }
+        ensures failed { IsErr result → FailedUse b.0 (M.contents self.new.machine).words self.old.tables self.new.tables }
         ensures leaves { LeavesOldest self.old.tables (M.contents self.old.machine).words (M.contents self.new.machine).words }
+        ensures stay { (cache_seen (M.contents self.old.machine)).cached b.0 ≡ true → AllStay (M.contents self.old.machine).words (M.contents self.new.machine).words }
+        ensures marks { DirtiesOnly (Some b.0) (M.contents self.old.machine).words (M.contents self.new.machine).words }
     {
         if from.is_empty() {
             return Ok(());
@@ -153,7 +161,7 @@ impl<M: Machine> Volume for PageCache<M> {
     }
 
     /// Makes a block of metadata part of the open update, as [`rio_base::Volume::touch`].
-    #[tactic(auto, using(crate::proofs::Rooms::keeps_then, crate::proofs::Rooms::lasts_then, crate::proofs::Goes::ends_then, crate::proofs::Goes::ends_of, crate::proofs::Stills::few_then))]
+    #[tactic(auto, using(crate::proofs::Rooms::keeps_then, crate::proofs::Rooms::lasts_then, rio_base::proofs::MachineRules::ends_then, crate::proofs::Goes::ends_of, crate::proofs::Stills::few_then))]
     fn touch(&mut self, b: Block) -> Result<(), VolFail>
         requires sound { CacheSound (M.contents self.old.machine) (length (M.run self.old.machine).scratch) self.old.tables }
         requires place { b.0 < (cache_seen (M.contents self.old.machine)).count }
@@ -172,7 +180,10 @@ impl<M: Machine> Volume for PageCache<M> {
         ensures sound { CacheSound (M.contents self.new.machine) (length (M.run self.new.machine).scratch) self.new.tables }
         ensures writes { FewWrites b.0 self.old.tables (M.contents self.old.machine) (M.contents self.new.machine) }
         ensures used { OnOk result (UsedLast b.0 (M.contents self.new.machine).words self.old.tables self.new.tables) }
+        ensures failed { IsErr result → FailedUse b.0 (M.contents self.new.machine).words self.old.tables self.new.tables }
         ensures leaves { LeavesOldest self.old.tables (M.contents self.old.machine).words (M.contents self.new.machine).words }
+        ensures stay { (cache_seen (M.contents self.old.machine)).cached b.0 ≡ true → AllStay (M.contents self.old.machine).words (M.contents self.new.machine).words }
+        ensures marks { DirtiesOnly (Some b.0) (M.contents self.old.machine).words (M.contents self.new.machine).words }
     {
         let k = self.fetch(b, None)?;
         self.shadow_frame(k)?;
@@ -271,6 +282,9 @@ impl<M: Machine> Volume for PageCache<M> {
         ensures still { SameDisk (M.contents self.old.machine) (M.contents self.new.machine) }
         ensures order { IsErr result → order_of self.new.tables.pool ≡ order_of self.old.tables.pool }
         ensures freed { OnOk result (order_of self.new.tables.pool ≡ freed_order (entry_of_block (M.contents self.old.machine).words b.0) (order_of self.old.tables.pool)) }
+        ensures stay { OthersStay b.0 (M.contents self.old.machine).words (M.contents self.new.machine).words }
+        ensures kept { IsErr result → AllStay (M.contents self.old.machine).words (M.contents self.new.machine).words }
+        ensures marks { DirtiesOnly None (M.contents self.old.machine).words (M.contents self.new.machine).words }
     {
         self.tables.mark(b, true);
         let Some(k) = self.tables.pool.find(b) else {
@@ -294,6 +308,8 @@ impl<M: Machine> Volume for PageCache<M> {
         ensures ends { Ends (cache_health (M.contents self.old.machine) (M.run self.old.machine)) (cache_health (M.contents self.new.machine) (M.run self.new.machine)) result }
         ensures sound { CacheSound (M.contents self.new.machine) (length (M.run self.new.machine).scratch) self.new.tables }
         ensures flushed { IfOk result (λ j. Flushed k j (M.contents self.old.machine) (M.contents self.new.machine)) }
+        ensures stay { AllStay (M.contents self.old.machine).words (M.contents self.new.machine).words }
+        ensures unmarked { IsErrOf result VolFail.Fault → (M.contents self.new.machine).words ≡ (M.contents self.old.machine).words }
         ensures order { order_of self.new.tables.pool ≡ order_of self.old.tables.pool }
     {
         let j = write_back::flush(&mut self.machine, k)?;

@@ -2,6 +2,9 @@ use Rattle.std.proofs.Common.{false, refl}
 use Rattle.page_cache.proofs.Rooms.{adds_made, adds_narrows, begun_narrows, begun_sound, bound_made, found_new, frame_free, free_of, name_made, touches_begun, touches_made, unbound}
 use Rattle.page_cache.proofs.cache.PageCache.bind_frame.Goals as goal
 use Rattle.page_cache.proofs.Uses.{stay_begun, stay_made}
+use Rattle.page_cache.proofs.DirtyMarks.{marks_begun, marks_clean}
+use Rattle.page_cache.proofs.Common.{None}
+use Rattle.page_cache.proofs.Rooms.{none_still}
 
 pub install_clean-requires-clause-free : goal.install_clean-requires-clause-free
 install_clean-requires-clause-free g c = free_of c.args.b.0 (g.M.Machine.contents c.args.self.now.machine).words c.requires.uncached
@@ -39,5 +42,23 @@ returns-in_err-install_clean-clause-stay g c = stay_begun c.args.k _ _ c.install
 pub returns-clause-stay : goal.returns-clause-stay
 returns-clause-stay g c = stay_made c.args.k c.args.b.0 false _ _ c.in_ok-install_clean.ensures.made
 
-pub returns-clause-clean : goal.returns-clause-clean
-returns-clause-clean g c = c.in_ok-install_clean.ensures.made.is
+pub returns-in_err-install_clean-clause-marks : goal.returns-in_err-install_clean-clause-marks
+returns-in_err-install_clean-clause-marks g c = marks_begun None c.args.k _ _ c.install_clean.ensures.one_entry c.in_err-install_clean.ensures.tag
+
+pub returns-clause-marks : goal.returns-clause-marks
+returns-clause-marks g c =
+    let made = c.in_ok-install_clean.ensures.made in
+    let rule = (c.install_clean.ensures.keeps.coherent _ c.requires.sound.coherent).rules.blocks in
+    marks_clean c.args.b.0 c.args.k c.args.name _ _ (adds_made c.args.k c.args.b.0 c.args.name _ _ made rule (name_made c.args.k c.args.b.0 c.args.name _ c.in_ok-install_clean.ensures.entry)) made.one (found_new c.args.k c.args.b.0 _ _ made rule) made.is
+
+pub returns-in_err-install_clean-clause-unmade : goal.returns-in_err-install_clean-clause-unmade
+returns-in_err-install_clean-clause-unmade g c q = none_still c.args.b.0 _ _ (begun_narrows c.args.k _ _ c.install_clean.ensures.one_entry c.in_err-install_clean.ensures.tag c.requires.invalid) c.requires.uncached
+
+pub returns-clause-unmade : goal.returns-clause-unmade
+returns-clause-unmade g c q = absurd cc
+
+pub returns-in_err-install_clean-clause-still_order : goal.returns-in_err-install_clean-clause-still_order
+returns-in_err-install_clean-clause-still_order g c q = refl
+
+pub returns-clause-still_order : goal.returns-clause-still_order
+returns-clause-still_order g c q = absurd cc

@@ -4,6 +4,9 @@ use Rattle.page_cache.proofs.Rooms.{adds_narrows, begun_narrows, begun_sound, fr
 use Rattle.page_cache.proofs.Zeros.{begun_keeps, frees_keeps, new_made, zeros_adds, zeros_frees, zeros_sound, made_found}
 use Rattle.page_cache.proofs.cache.PageCache.bind_zeros.Goals as goal
 use Rattle.page_cache.proofs.Uses.{stay_begun, stay_made}
+use Rattle.page_cache.proofs.DirtyMarks.{marks_begun, marks_made}
+use Rattle.page_cache.proofs.Common.{Some}
+use Rattle.page_cache.proofs.Rooms.{none_still}
 
 pub install-requires-clause-free : goal.install-requires-clause-free
 install-requires-clause-free g c = free_of c.args.b.0 (g.M.Machine.contents c.args.self.now.machine).words c.requires.uncached
@@ -46,3 +49,25 @@ returns-clause-stay g c = stay_made c.args.k c.args.b.0 true _ _ (new_made c.arg
 
 pub returns-clause-found : goal.returns-clause-found
 returns-clause-found g c = made_found c.args.k c.args.b.0 (g.M.Machine.contents c.args.self.now.machine) (g.M.Machine.contents c.install.new.m) _ c.requires.sound.coherent (new_made c.args.k c.args.b.0 c.args.name (g.M.Machine.contents c.args.self.now.machine) (g.M.Machine.contents c.install.new.m) c.install.ensures.changes.one_entry c.requires.entry c.requires.invalid c.requires.uncached c.requires.name c.in_ok-install.ensures.entry)
+
+pub returns-in_err-install-clause-marks : goal.returns-in_err-install-clause-marks
+returns-in_err-install-clause-marks g c = marks_begun (Some c.args.b.0) c.args.k _ _ c.install.ensures.changes.one_entry c.in_err-install.ensures.begun
+
+pub returns-clause-marks : goal.returns-clause-marks
+returns-clause-marks g c =
+    let old = g.M.Machine.contents c.args.self.now.machine in
+    let new = g.M.Machine.contents c.install.new.m in
+    let made = new_made c.args.k c.args.b.0 c.args.name (g.M.Machine.contents c.args.self.now.machine) (g.M.Machine.contents c.install.new.m) c.install.ensures.changes.one_entry c.requires.entry c.requires.invalid c.requires.uncached c.requires.name c.in_ok-install.ensures.entry in
+    marks_made c.args.b.0 c.args.k c.args.name _ _ (zeros_adds _ c.args.k c.args.b.0 c.args.name old new c.requires.sound.coherent made c.in_ok-install.ensures.entry) c.install.ensures.changes.one_entry (made_found c.args.k c.args.b.0 old new _ c.requires.sound.coherent made)
+
+pub returns-in_err-install-clause-unmade : goal.returns-in_err-install-clause-unmade
+returns-in_err-install-clause-unmade g c q = none_still c.args.b.0 _ _ (begun_narrows c.args.k _ _ c.install.ensures.changes.one_entry c.in_err-install.ensures.begun c.requires.invalid) c.requires.uncached
+
+pub returns-clause-unmade : goal.returns-clause-unmade
+returns-clause-unmade g c q = absurd cc
+
+pub returns-in_err-install-clause-still_order : goal.returns-in_err-install-clause-still_order
+returns-in_err-install-clause-still_order g c q = refl
+
+pub returns-clause-still_order : goal.returns-clause-still_order
+returns-clause-still_order g c q = absurd cc

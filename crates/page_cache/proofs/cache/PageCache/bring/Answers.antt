@@ -1,18 +1,21 @@
+use Rattle.rio_base.proofs.MachineRules.{ends_err}
 use Rattle.page_cache.proofs.Common.{IsErrOf, arith, ◌∙◌, ap, Stopped, used_last, order_of, FramePool}
 use Rattle.std.proofs.Common.{refl}
 use Rattle.page_cache.proofs.cache.PageCache.bring.Goals as goal
-use Rattle.page_cache.proofs.Goes.{ends_ok, ends_stop}
+use Rattle.page_cache.proofs.Goes.{ends_ok}
 use Rattle.page_cache.proofs.Common.{sym, subst, is_valid, ◌<◌}
 use Rattle.page_cache.proofs.Rooms.{adds_narrows, adds_after, none_still, keeps_then, lasts_then}
 use Rattle.page_cache.proofs.Stills.{still_trans}
 use Rattle.page_cache.proofs.Touched.{touches_trans}
 use Rattle.page_cache.proofs.Kept.{tables_trans}
 use Rattle.page_cache.proofs.Uses.{stay_trans}
+use Rattle.page_cache.proofs.DirtyMarks.{marks_trans}
+use Rattle.page_cache.proofs.Common.{None}
 
 pub returns-in_err-bind_frame-clause-ends : goal.returns-in_err-bind_frame-clause-ends
 returns-in_err-bind_frame-clause-ends g c =
     let stop : IsErrOf c.from_residual-in_err-bind_frame.result Stopped = grind (arith, c.from_residual-in_err-bind_frame.ensures) in
-    ends_stop _ _ _ _ _ _ (λ q. cc) refl stop c.in_ok-fill_frame.ensures.ends c.in_err-bind_frame.ensures.ends
+    ends_err _ _ _ _ _ refl stop c.in_ok-fill_frame.ensures.ends.steps c.in_err-bind_frame.ensures.ends
 
 pub returns-clause-ends : goal.returns-clause-ends
 returns-clause-ends g c = ends_ok _ _ _ _ _ _ (λ q. cc) (λ q. cc) (λ q. cc) c.in_ok-fill_frame.ensures.ends c.in_ok-bind_frame.ensures.ends
@@ -125,5 +128,29 @@ returns-clause-unfetched g c q = absurd cc
 pub returns-clause-fault : goal.returns-clause-fault
 returns-clause-fault g c q = absurd cc
 
-pub returns-clause-clean : goal.returns-clause-clean
-returns-clause-clean g c = c.in_ok-bind_frame.ensures.clean
+pub returns-in_err-fill_frame-clause-marks : goal.returns-in_err-fill_frame-clause-marks
+returns-in_err-fill_frame-clause-marks g c = c.fill_frame.ensures.marks
+
+pub returns-in_err-bind_frame-clause-marks : goal.returns-in_err-bind_frame-clause-marks
+returns-in_err-bind_frame-clause-marks g c = marks_trans None _ _ _ c.fill_frame.ensures.marks c.bind_frame.ensures.marks
+
+pub returns-clause-marks : goal.returns-clause-marks
+returns-clause-marks g c = marks_trans None _ _ _ c.fill_frame.ensures.marks c.bind_frame.ensures.marks
+
+pub returns-in_err-fill_frame-clause-unmade : goal.returns-in_err-fill_frame-clause-unmade
+returns-in_err-fill_frame-clause-unmade g c q = none_still _ _ _ c.fill_frame.ensures.narrows c.requires.uncached
+
+pub returns-in_err-bind_frame-clause-unmade : goal.returns-in_err-bind_frame-clause-unmade
+returns-in_err-bind_frame-clause-unmade g c q = c.in_err-bind_frame.ensures.unmade refl
+
+pub returns-clause-unmade : goal.returns-clause-unmade
+returns-clause-unmade g c q = absurd cc
+
+pub returns-in_err-fill_frame-clause-still_order : goal.returns-in_err-fill_frame-clause-still_order
+returns-in_err-fill_frame-clause-still_order g c q = ap (λ (p : FramePool). order_of p) c.fill_frame.ensures.pool
+
+pub returns-in_err-bind_frame-clause-still_order : goal.returns-in_err-bind_frame-clause-still_order
+returns-in_err-bind_frame-clause-still_order g c q = c.in_err-bind_frame.ensures.still_order refl ∙ ap (λ (p : FramePool). order_of p) c.fill_frame.ensures.pool
+
+pub returns-clause-still_order : goal.returns-clause-still_order
+returns-clause-still_order g c q = absurd cc

@@ -11,6 +11,8 @@ use Rattle.page_cache.proofs.Common.{lasts_trans}
 use Rattle.page_cache.specs.Caches.{SameTables}
 use Rattle.page_cache.proofs.Stills.{still_trans}
 use Rattle.page_cache.proofs.Kept.{tables_refl}
+use Rattle.page_cache.proofs.DirtyMarks.{marks_any, marks_trans}
+use Rattle.page_cache.proofs.Common.{Some, refl}
 
 pub bind_zeros-requires-clause-entry : goal.bind_zeros-requires-clause-entry
 bind_zeros-requires-clause-entry g c = subst (λ f. c.args.k < f) (sym (c.zero_frame.ensures.keeps.header 2 (omega arith))) c.requires.entry
@@ -124,3 +126,30 @@ returns-clause-firm g c = c.in_ok-bind_zeros.ensures.firm
 
 pub returns-clause-found : goal.returns-clause-found
 returns-clause-found g c = c.in_ok-bind_zeros.ensures.found
+
+pub returns-in_err-zero_frame-clause-marks : goal.returns-in_err-zero_frame-clause-marks
+returns-in_err-zero_frame-clause-marks g c = marks_any (Some c.args.b.0) _ _ c.zero_frame.ensures.marks
+
+pub returns-in_err-bind_zeros-clause-marks : goal.returns-in_err-bind_zeros-clause-marks
+returns-in_err-bind_zeros-clause-marks g c = marks_trans (Some c.args.b.0) _ _ _ (marks_any (Some c.args.b.0) _ _ c.zero_frame.ensures.marks) c.bind_zeros.ensures.marks
+
+pub returns-clause-marks : goal.returns-clause-marks
+returns-clause-marks g c = marks_trans (Some c.args.b.0) _ _ _ (marks_any (Some c.args.b.0) _ _ c.zero_frame.ensures.marks) c.bind_zeros.ensures.marks
+
+pub returns-in_err-zero_frame-clause-unmade : goal.returns-in_err-zero_frame-clause-unmade
+returns-in_err-zero_frame-clause-unmade g c q = c.zero_frame.ensures.cached.found c.args.b.0 ∙ c.requires.uncached
+
+pub returns-in_err-bind_zeros-clause-unmade : goal.returns-in_err-bind_zeros-clause-unmade
+returns-in_err-bind_zeros-clause-unmade g c q = c.in_err-bind_zeros.ensures.unmade refl
+
+pub returns-clause-unmade : goal.returns-clause-unmade
+returns-clause-unmade g c q = absurd cc
+
+pub returns-in_err-zero_frame-clause-still_order : goal.returns-in_err-zero_frame-clause-still_order
+returns-in_err-zero_frame-clause-still_order g c q = ap (λ (t : CacheTables). order_of t.pool) c.zero_frame.ensures.tables
+
+pub returns-in_err-bind_zeros-clause-still_order : goal.returns-in_err-bind_zeros-clause-still_order
+returns-in_err-bind_zeros-clause-still_order g c q = c.in_err-bind_zeros.ensures.still_order refl ∙ ap (λ (t : CacheTables). order_of t.pool) c.zero_frame.ensures.tables
+
+pub returns-clause-still_order : goal.returns-clause-still_order
+returns-clause-still_order g c q = absurd cc

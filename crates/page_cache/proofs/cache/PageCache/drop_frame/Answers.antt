@@ -4,6 +4,9 @@ use Rattle.page_cache.proofs.Stores.{sound_same}
 use Rattle.page_cache.proofs.Rooms.{frame_bound, narrows_gone}
 use Rattle.page_cache.proofs.Freed.{cleared_frees, cleared_lost, cleared_sound, frees_same, narrows_same, unpinned_idle}
 use Rattle.page_cache.proofs.cache.PageCache.drop_frame.Goals as goal
+use Rattle.page_cache.proofs.DirtyMarks.{marks_gone, marks_same}
+use Rattle.page_cache.proofs.Uses.{others_one, others_stay, stay_hit}
+use Rattle.page_cache.proofs.Common.{None}
 
 pub unbind-requires-clause-bound : goal.unbind-requires-clause-bound
 unbind-requires-clause-bound g c = frame_bound c.args.k _ (g.M.Machine.contents c.args.self.now.machine) _ c.requires.sound (found_is _ _ _ c.requires.found).0
@@ -39,3 +42,26 @@ returns-clause-sound g c =
 
 pub returns-clause-freed : goal.returns-clause-freed
 returns-clause-freed g c = c.unbind.ensures.order
+
+pub returns-in_err-clear-clause-same : goal.returns-in_err-clear-clause-same
+returns-in_err-clear-clause-same g c q = c.in_err-clear.ensures.same
+
+pub returns-clause-same : goal.returns-clause-same
+returns-clause-same g c q = absurd cc
+
+pub returns-in_err-clear-clause-stay : goal.returns-in_err-clear-clause-stay
+returns-in_err-clear-clause-stay g c = others_stay c.args.b.0 _ _ (stay_hit (g.M.Machine.contents c.args.self.now.machine) (g.M.Machine.contents c.clear.new.m) c.in_err-clear.ensures.same)
+
+pub returns-clause-stay : goal.returns-clause-stay
+returns-clause-stay g c =
+    let e = c.clear.ensures.changes in
+    let frees = cleared_frees _ c.args.k c.args.b.0 (g.M.Machine.contents c.args.self.now.machine) (g.M.Machine.contents c.clear.new.m) c.requires.sound.coherent e.rest e.one_entry (ap (λ (x : Entry). x.tag) c.in_ok-clear.ensures.entry) c.requires.found in
+    others_one c.args.b.0 c.args.k _ _ e.one_entry (frees.coherent _ c.requires.sound.coherent).rules.blocks c.requires.found
+
+pub returns-in_err-clear-clause-marks : goal.returns-in_err-clear-clause-marks
+returns-in_err-clear-clause-marks g c = marks_same None _ _ (ap (λ (m : Contents). m.words) c.in_err-clear.ensures.same)
+
+pub returns-clause-marks : goal.returns-clause-marks
+returns-clause-marks g c =
+    let tag = ap (λ (x : Entry). x.tag) c.in_ok-clear.ensures.entry in
+    marks_gone None c.args.k _ _ (narrows_gone c.args.k _ (g.M.Machine.contents c.args.self.now.machine) _ c.requires.sound.coherent c.clear.ensures.changes.one_entry tag) c.clear.ensures.changes.one_entry tag

@@ -6,7 +6,7 @@ use Rattle.page_cache.proofs.Rooms.{none_bound, none_still, some_bound}
 use Rattle.page_cache.proofs.Stills.{few_then}
 use Rattle.page_cache.proofs.cache.PageCache.fetch.Goals as goal
 use Rattle.page_cache.proofs.Goes.{ends_ok}
-use Rattle.page_cache.proofs.Uses.{clean_hit, clean_made, leaves_then, used_bound, used_hit}
+use Rattle.page_cache.proofs.Uses.{leaves_then, used_bound, used_hit}
 use Rattle.page_cache.proofs.Common.{subst, ◌<◌}
 use Rattle.rio_model.proofs.CoverStands.{narrows_refl}
 use Rattle.rio_model.proofs.CoverSteps.{keeps_refl}
@@ -16,6 +16,12 @@ use Rattle.page_cache.proofs.Stills.{still_refl, few_still}
 use Rattle.page_cache.proofs.Touched.{touches_refl, touches_trans}
 use Rattle.page_cache.proofs.Kept.{tables_trans}
 use Rattle.page_cache.proofs.Uses.{leaves_refl}
+use Rattle.page_cache.proofs.DirtyMarks.{marks_refl, marks_trans}
+use Rattle.page_cache.proofs.FailedUses.{failed_missed, next_then}
+use Rattle.page_cache.proofs.Common.{None}
+
+pub returns-clause-marks : goal.returns-clause-marks
+returns-clause-marks g c = marks_trans None _ _ _ c.make_room.ensures.marks c.bring.ensures.marks
 
 pub make_room-requires-clause-uncached : goal.make_room-requires-clause-uncached
 make_room-requires-clause-uncached g c = none_bound _ _ _ _ c.requires.sound (c.in_default.ensures.none refl)
@@ -198,8 +204,23 @@ returns-clause-lasts g c = lasts_then _ _ _ c.make_room.ensures.lasts c.bring.en
 pub returns-clause-found : goal.returns-clause-found
 returns-clause-found g c = c.in_ok-bring.ensures.found
 
-pub returns-in-Some-clause-clean : goal.returns-in-Some-clause-clean
-returns-in-Some-clause-clean g c = clean_hit _ _ _ refl
+pub returns-in-Some-clause-marks : goal.returns-in-Some-clause-marks
+returns-in-Some-clause-marks g c = marks_refl None _
 
-pub returns-clause-clean : goal.returns-clause-clean
-returns-clause-clean g c = clean_made _ c.in_ok-k.k _ _ c.in_ok-bring.ensures.found c.in_ok-bring.ensures.clean
+pub returns-in_err-k-clause-marks : goal.returns-in_err-k-clause-marks
+returns-in_err-k-clause-marks g c = c.make_room.ensures.marks
+
+pub returns-in_err-bring-clause-marks : goal.returns-in_err-bring-clause-marks
+returns-in_err-bring-clause-marks g c = marks_trans None _ _ _ c.make_room.ensures.marks c.bring.ensures.marks
+
+pub returns-in-Some-clause-failed : goal.returns-in-Some-clause-failed
+returns-in-Some-clause-failed g c q = absurd cc
+
+pub returns-in_err-k-clause-failed : goal.returns-in_err-k-clause-failed
+returns-in_err-k-clause-failed g c q = failed_missed c.args.b.0 _ c.args.self.now.tables c.make_room.new.self.tables (none_still _ _ _ c.make_room.ensures.narrows (none_bound _ _ _ _ c.requires.sound (c.in_default.ensures.none refl))) c.make_room.ensures.freed
+
+pub returns-in_err-bring-clause-failed : goal.returns-in_err-bring-clause-failed
+returns-in_err-bring-clause-failed g c q = failed_missed c.args.b.0 _ c.args.self.now.tables c.bring.new.self.tables (c.in_err-bring.ensures.unmade refl) (next_then c.args.self.now.tables c.make_room.new.self.tables c.bring.new.self.tables c.make_room.ensures.freed (c.in_err-bring.ensures.still_order refl))
+
+pub returns-clause-failed : goal.returns-clause-failed
+returns-clause-failed g c q = absurd cc

@@ -1,3 +1,4 @@
+use Rattle.rio_base.proofs.MachineRules.{ends_err}
 use Rattle.page_cache.proofs.Common.{◌∙◌, ap, sym, coherent_on, Contents}
 use Rattle.page_cache.proofs.Fills.{layout_now}
 use Rattle.std.proofs.Common.{refl}
@@ -10,9 +11,11 @@ use Rattle.page_cache.proofs.Rooms.{keeps_then, lasts_then}
 use Rattle.page_cache.proofs.Stills.{still_trans, still_rest}
 use Rattle.page_cache.proofs.Touched.{touches_words}
 use Rattle.page_cache.proofs.Uses.{stay_words}
-use Rattle.page_cache.proofs.Goes.{ends_ok, ends_stop}
+use Rattle.page_cache.proofs.Goes.{ends_ok}
 use Rattle.std.specs.Prelude.{IsErrOf}
 use Rattle.page_cache.proofs.Common.{Stopped, arith}
+use Rattle.page_cache.proofs.DirtyMarks.{marks_filled, marks_same}
+use Rattle.page_cache.proofs.Common.{None}
 
 pub returns-in_err-read_home-clause-sound : goal.returns-in_err-read_home-clause-sound
 returns-in_err-read_home-clause-sound g c = read_sound _ _ _ _ _ _ c.requires.sound c.read_home.ensures.keeps c.read_home.ensures.lasts c.read_home.ensures.ends.steps.scratch_count c.read_home.ensures.closed c.read_home.ensures.memory (record { same = record { forgotten = refl; shadowed = refl; shadows = refl }; pool = record { frames = refl; blocks = refl; pins = λ k. refl; count = refl }; first = refl; buffer = c.read_home.ensures.room ∙ sym c.requires.sound.buffer }) (λ j. refl)
@@ -140,4 +143,13 @@ returns-clause-ends g c = ends_ok _ _ _ _ _ _ (λ q. cc) (λ q. cc) (λ q. cc) c
 pub returns-in_err-fill-clause-ends : goal.returns-in_err-fill-clause-ends
 returns-in_err-fill-clause-ends g c =
     let stop : IsErrOf c.from_residual-in_err-fill.result Stopped = grind (arith, c.from_residual-in_err-fill.ensures) in
-    ends_stop _ _ _ _ _ _ (λ q. cc) refl stop c.in_ok-read_home.ensures.ends c.in_err-fill.ensures.ends
+    ends_err _ _ _ _ _ refl stop c.in_ok-read_home.ensures.ends.steps c.in_err-fill.ensures.ends
+
+pub returns-in_err-read_home-clause-marks : goal.returns-in_err-read_home-clause-marks
+returns-in_err-read_home-clause-marks g c = marks_same None _ _ c.read_home.ensures.memory
+
+pub returns-in_err-fill-clause-marks : goal.returns-in_err-fill-clause-marks
+returns-in_err-fill-clause-marks g c = marks_filled None (g.M.Machine.contents c.args.self.now.machine) (g.M.Machine.contents c.read_home.new.m) c.args.k _ c.read_home.ensures.memory c.fill.ensures.one_page
+
+pub returns-clause-marks : goal.returns-clause-marks
+returns-clause-marks g c = marks_filled None (g.M.Machine.contents c.args.self.now.machine) (g.M.Machine.contents c.read_home.new.m) c.args.k _ c.read_home.ensures.memory c.fill.ensures.one_page

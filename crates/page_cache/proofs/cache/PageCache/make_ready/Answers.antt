@@ -6,6 +6,7 @@ use Rattle.page_cache.proofs.Common.{◌∙◌, lasts_trans}
 use Rattle.rio_model.proofs.CoverSteps.{keeps_trans}
 use Rattle.page_cache.proofs.Stills.{still_trans}
 use Rattle.page_cache.proofs.StoreCalls.{valid_cached, dirty_after}
+use Rattle.page_cache.proofs.DirtyMarks.{marks_any, marks_held, marks_trans}
 
 pub returns-in_err-mark_dirty-clause-widens : goal.returns-in_err-mark_dirty-clause-widens
 returns-in_err-mark_dirty-clause-widens g c = widens_cached _ c.args.k c.args.name (g.M.Machine.contents c.args.self.now.machine) (g.M.Machine.contents c.mark_dirty.new.self.machine) c.requires.sound.coherent c.requires.valid c.mark_dirty.ensures.cached
@@ -89,3 +90,12 @@ returns-clause-lasts g c = lasts_trans _ _ _ c.mark_dirty.ensures.lasts c.widen.
 
 pub returns-clause-dirty : goal.returns-clause-dirty
 returns-clause-dirty g c = dirty_after c.args.k (g.M.Machine.contents c.mark_dirty.new.self.machine).words _ c.widen.ensures.tag c.in_ok-mark_dirty.ensures.dirty
+
+pub returns-in_err-mark_dirty-clause-marks : goal.returns-in_err-mark_dirty-clause-marks
+returns-in_err-mark_dirty-clause-marks g c = marks_held c.args.k _ _ c.mark_dirty.ensures.cached c.mark_dirty.ensures.one_entry c.mark_dirty.ensures.held
+
+pub returns-in_err-widen-clause-marks : goal.returns-in_err-widen-clause-marks
+returns-in_err-widen-clause-marks g c = marks_trans _ _ _ _ (marks_held c.args.k _ _ c.mark_dirty.ensures.cached c.mark_dirty.ensures.one_entry c.mark_dirty.ensures.held) (marks_any _ _ _ c.widen.ensures.marks)
+
+pub returns-clause-marks : goal.returns-clause-marks
+returns-clause-marks g c = marks_trans _ _ _ _ (marks_held c.args.k _ _ c.mark_dirty.ensures.cached c.mark_dirty.ensures.one_entry c.mark_dirty.ensures.held) (marks_any _ _ _ c.widen.ensures.marks)

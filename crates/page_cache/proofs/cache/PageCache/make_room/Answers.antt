@@ -1,19 +1,64 @@
-use Rattle.page_cache.proofs.Common.{rules, ◌∙◌, ap, arith, subst, sym, is_valid, tag_at}
+use Rattle.page_cache.proofs.Common.{◌∙◌, ap, arith, subst, sym, is_valid, tag_at}
 use Rattle.std.proofs.Common.{◌≡◌, ◌<◌, true}
 use Rattle.page_cache.proofs.Roomy.{few_evicted}
 use Rattle.page_cache.proofs.cache.PageCache.make_room.Goals as goal
+use Rattle.page_cache.proofs.FailedUses.{next_freed, next_same}
+use Rattle.page_cache.proofs.Uses.{order_freed}
+use Rattle.page_cache.proofs.Common.{refl}
+use Rattle.page_cache.proofs.DirtyMarks.{marks_refl}
+use Rattle.page_cache.proofs.FailedUses.{next_refl}
+use Rattle.page_cache.proofs.Common.{None}
 
 pub returns-clause-chosen : goal.returns-clause-chosen
-returns-clause-chosen g c = search rules
+returns-clause-chosen g c = c.victim-k.ensures.first
 
 pub returns-in_err-evict_frame-clause-writes : goal.returns-in_err-evict_frame-clause-writes
 returns-in_err-evict_frame-clause-writes g c =
     let words = (g.M.Machine.contents c.args.self.now.machine).words in
     let valid : is_valid (tag_at words c.victim-k.result) ≡ true = ap is_valid (sym c.tag_of.ensures) ∙ sym c.is_valid.ensures ∙ grind (arith, c.if-not-is_valid.false) in
-    few_evicted c.args.b.0 _ c.victim-k.result _ _ _ c.requires.sound c.requires.uncached c.requires.block c.victim-k.ensures.victim (record { within = subst (λ f. c.victim-k.result < f) c.requires.sound.frames c.victim-k.ensures.within; valid = valid }) c.victim-k.ensures.first c.evict_frame.ensures.one_write c.evict_frame.ensures.clean_entry
+    few_evicted c.args.b.0 _ c.victim-k.result _ _ _ c.requires.sound c.requires.uncached c.requires.block c.victim-k.ensures (record { within = subst (λ f. c.victim-k.result < f) c.requires.sound.frames c.victim-k.ensures.within; valid = valid }) c.evict_frame.ensures.one_write c.evict_frame.ensures.clean_entry
 
 pub returns-clause-writes : goal.returns-clause-writes
 returns-clause-writes g c =
     let words = (g.M.Machine.contents c.args.self.now.machine).words in
     let valid : is_valid (tag_at words c.victim-k.result) ≡ true = ap is_valid (sym c.tag_of.ensures) ∙ sym c.is_valid.ensures ∙ grind (arith, c.if-not-is_valid.false) in
-    few_evicted c.args.b.0 _ c.victim-k.result _ _ _ c.requires.sound c.requires.uncached c.requires.block c.victim-k.ensures.victim (record { within = subst (λ f. c.victim-k.result < f) c.requires.sound.frames c.victim-k.ensures.within; valid = valid }) c.victim-k.ensures.first c.evict_frame.ensures.one_write c.evict_frame.ensures.clean_entry
+    few_evicted c.args.b.0 _ c.victim-k.result _ _ _ c.requires.sound c.requires.uncached c.requires.block c.victim-k.ensures (record { within = subst (λ f. c.victim-k.result < f) c.requires.sound.frames c.victim-k.ensures.within; valid = valid }) c.evict_frame.ensures.one_write c.evict_frame.ensures.clean_entry
+
+pub returns-in_err-evict_frame-clause-marks : goal.returns-in_err-evict_frame-clause-marks
+returns-in_err-evict_frame-clause-marks g c = c.evict_frame.ensures.marks
+
+pub returns-clause-marks : goal.returns-clause-marks
+returns-clause-marks g c = c.evict_frame.ensures.marks
+
+pub returns-in_err-evict_frame-clause-freed : goal.returns-in_err-evict_frame-clause-freed
+returns-in_err-evict_frame-clause-freed g c = next_same c.args.self.now.tables c.evict_frame.new.self.tables (c.in_err-evict_frame.ensures.order refl)
+
+pub returns-clause-freed : goal.returns-clause-freed
+returns-clause-freed g c = next_freed c.victim-k.result c.args.self.now.tables c.evict_frame.new.self.tables c.victim-k.ensures.first c.in_ok-evict_frame.ensures.freed
+
+pub returns-clause-order : goal.returns-clause-order
+returns-clause-order g c = order_freed c.victim-k.result c.args.self.now.tables c.evict_frame.new.self.tables c.in_ok-evict_frame.ensures.freed
+
+pub returns-then-not-is_valid-clause-marks : goal.returns-then-not-is_valid-clause-marks
+returns-then-not-is_valid-clause-marks g c = marks_refl None _
+
+pub returns-then-not-is_valid-clause-freed : goal.returns-then-not-is_valid-clause-freed
+returns-then-not-is_valid-clause-freed g c = next_refl _
+
+pub tag_of-requires-clause-entry : goal.tag_of-requires-clause-entry
+tag_of-requires-clause-entry g c = subst (λ f. c.victim-k.result < f) c.requires.sound.frames c.victim-k.ensures.within
+
+pub evict_frame-requires-clause-valid : goal.evict_frame-requires-clause-valid
+evict_frame-requires-clause-valid g c = record { within = subst (λ f. c.victim-k.result < f) c.requires.sound.frames c.victim-k.ensures.within; valid = ap is_valid (sym c.tag_of.ensures) ∙ sym c.is_valid.ensures ∙ grind (arith, c.if-not-is_valid.false) }
+
+pub evict_frame-requires-clause-unpinned : goal.evict_frame-requires-clause-unpinned
+evict_frame-requires-clause-unpinned g c = c.victim-k.ensures.unpinned
+
+pub returns-then-not-is_valid-clause-chosen : goal.returns-then-not-is_valid-clause-chosen
+returns-then-not-is_valid-clause-chosen g c = c.victim-k.ensures.first
+
+pub returns-then-not-is_valid-clause-room : goal.returns-then-not-is_valid-clause-room
+returns-then-not-is_valid-clause-room g c = (subst (λ f. c.victim-k.result < f) c.requires.sound.frames c.victim-k.ensures.within, ap is_valid (sym c.tag_of.ensures) ∙ sym c.is_valid.ensures ∙ grind (arith, c.if-not-is_valid.true))
+
+pub returns-clause-room : goal.returns-clause-room
+returns-clause-room g c = (subst (λ f. c.victim-k.result < f) (sym (c.evict_frame.ensures.keeps.header 2 (omega arith))) (subst (λ f. c.victim-k.result < f) c.requires.sound.frames c.victim-k.ensures.within), ap is_valid c.in_ok-evict_frame.ensures.gone)

@@ -2,6 +2,8 @@ use Rattle.page_cache.proofs.Common.{◌∙◌, ap, Contents, found_is}
 use Rattle.page_cache.proofs.Stores.{cached_entries}
 use Rattle.page_cache.proofs.Runs.{put_entries, put_rewrites, rewrites_sound}
 use Rattle.page_cache.proofs.cache.PageCache.put_frame.Goals as goal
+use Rattle.page_cache.proofs.DirtyMarks.{marks_entries, marks_same}
+use Rattle.page_cache.proofs.Common.{None}
 
 pub page_of-page-requires-clause-entry : goal.page_of-page-requires-clause-entry
 page_of-page-requires-clause-entry g c = (found_is _ _ _ c.requires.found).0.within
@@ -18,3 +20,9 @@ returns-clause-rewrites g c = put_rewrites _ c.args.k c.args.b.0 _ c.args.w c.ar
 
 pub returns-clause-cached : goal.returns-clause-cached
 returns-clause-cached g c = cached_entries _ _ (put_entries c.args.k _ c.args.w c.args.v (g.M.Machine.contents c.args.self.now.machine) _ c.in_ok-put_word.ensures.stored c.page_of-page.ensures.page c.requires.word)
+
+pub returns-in_err-put_word-clause-marks : goal.returns-in_err-put_word-clause-marks
+returns-in_err-put_word-clause-marks g c = marks_same None _ _ (ap (λ (m : Contents). m.words) c.in_err-put_word.ensures.same)
+
+pub returns-clause-marks : goal.returns-clause-marks
+returns-clause-marks g c = marks_entries None _ _ (put_entries c.args.k _ c.args.w c.args.v (g.M.Machine.contents c.args.self.now.machine) _ c.in_ok-put_word.ensures.stored c.page_of-page.ensures.page c.requires.word)

@@ -4,6 +4,8 @@ use Rattle.page_cache.specs.Stores.{Rewrites}
 use Rattle.page_cache.proofs.Stores.{cached_entries}
 use Rattle.page_cache.proofs.Runs.{run_entries, run_rewrites, run_sound}
 use Rattle.page_cache.proofs.cache.PageCache.put_frame_run.Goals as goal
+use Rattle.page_cache.proofs.DirtyMarks.{marks_entries}
+use Rattle.page_cache.proofs.Common.{None}
 
 pub page_of-page-requires-clause-entry : goal.page_of-page-requires-clause-entry
 page_of-page-requires-clause-entry g c = (found_is _ _ _ c.requires.found).0.within
@@ -34,3 +36,11 @@ returns-clause-rewrites g c = run_rewrites _ c.args.k c.args.b.0 _ c.args.w (len
 
 pub returns-clause-cached : goal.returns-clause-cached
 returns-clause-cached g c = cached_entries _ _ (run_entries c.args.k _ c.args.w (length c.args.from.now) c.args.from.now _ _ c.page_of-page.ensures.page c.requires.within c.in_ok-put_run.ensures.stored)
+
+pub returns-in_err-put_run-clause-marks : goal.returns-in_err-put_run-clause-marks
+returns-in_err-put_run-clause-marks g c =
+    let f = c.in_err-put_run.ensures.front in
+    marks_entries None _ _ (run_entries c.args.k _ c.args.w f.0 c.args.from.now _ _ c.page_of-page.ensures.page (omega (arith, c.requires.within, f.1)) f.2)
+
+pub returns-clause-marks : goal.returns-clause-marks
+returns-clause-marks g c = marks_entries None _ _ (run_entries c.args.k _ c.args.w (length c.args.from.now) c.args.from.now _ _ c.page_of-page.ensures.page c.requires.within c.in_ok-put_run.ensures.stored)

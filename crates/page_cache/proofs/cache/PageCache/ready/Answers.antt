@@ -1,13 +1,21 @@
+use Rattle.rio_base.proofs.MachineRules.{ends_err}
 use Rattle.page_cache.proofs.Common.{IsErrOf, arith, Stopped, found_is}
 use Rattle.std.proofs.Common.{refl}
 use Rattle.page_cache.proofs.StoreCalls.{found_ready, named_ready, stored_adds, stored_ready}
 use Rattle.page_cache.proofs.cache.PageCache.ready.Goals as goal
-use Rattle.page_cache.proofs.Goes.{ends_ok, ends_stop}
+use Rattle.page_cache.proofs.Goes.{ends_ok}
 use Rattle.page_cache.proofs.Stills.{few_then}
 use Rattle.page_cache.proofs.Uses.{leaves_then, order_same, stay_found, used_then}
 use Rattle.page_cache.proofs.Common.{ap, subst, sym, lasts_trans}
 use Rattle.rio_model.proofs.CoverSteps.{keeps_trans}
 use Rattle.page_cache.specs.Caches.{SameTables}
+use Rattle.page_cache.proofs.DirtyMarks.{marks_any, marks_of, marks_trans}
+use Rattle.page_cache.proofs.FailedUses.{failed_used}
+use Rattle.page_cache.proofs.Uses.{stay_hit, stay_trans}
+use Rattle.page_cache.proofs.Common.{Some}
+
+pub returns-clause-stay : goal.returns-clause-stay
+returns-clause-stay g c cached = stay_trans _ _ _ (stay_hit (g.M.Machine.contents c.args.self.now.machine) (g.M.Machine.contents c.fetch.new.self.machine) (ap g.M.Machine.contents (c.fetch.ensures.hit cached))) (stay_found _ _ c.make_ready.ensures.widens.found)
 
 pub make_ready-requires-clause-valid : goal.make_ready-requires-clause-valid
 make_ready-requires-clause-valid g c = (found_is _ _ _ c.in_ok-k.ensures.found).0
@@ -39,7 +47,7 @@ returns-clause-ends g c = ends_ok _ _ _ _ _ _ (λ q. cc) (λ q. cc) (λ q. cc) c
 pub returns-in_err-make_ready-clause-ends : goal.returns-in_err-make_ready-clause-ends
 returns-in_err-make_ready-clause-ends g c =
     let stop : IsErrOf c.from_residual-in_err-make_ready.result Stopped = grind (arith, c.from_residual-in_err-make_ready.ensures) in
-    ends_stop _ _ _ _ _ _ (λ q. cc) refl stop c.in_ok-k.ensures.ends c.in_err-make_ready.ensures.ends
+    ends_err _ _ _ _ _ refl stop c.in_ok-k.ensures.ends.steps c.in_err-make_ready.ensures.ends
 
 pub returns-clause-used : goal.returns-clause-used
 returns-clause-used g c = used_then c.args.b.0 (g.M.Machine.contents c.fetch.new.self.machine).words (g.M.Machine.contents c.make_ready.new.self.machine).words c.args.self.now.tables c.fetch.new.self.tables c.make_ready.new.self.tables c.in_ok-k.ensures.used (stay_found _ _ c.make_ready.ensures.widens.found) (order_same _ _ c.make_ready.ensures.tables)
@@ -106,3 +114,27 @@ returns-clause-drops g c q = absurd cc
 
 pub returns-clause-fault : goal.returns-clause-fault
 returns-clause-fault g c q = absurd cc
+
+pub returns-in_err-k-clause-marks : goal.returns-in_err-k-clause-marks
+returns-in_err-k-clause-marks g c = marks_any (Some c.args.b.0) _ _ c.fetch.ensures.marks
+
+pub returns-in_err-make_ready-clause-marks : goal.returns-in_err-make_ready-clause-marks
+returns-in_err-make_ready-clause-marks g c = marks_trans (Some c.args.b.0) _ _ _ (marks_any (Some c.args.b.0) _ _ c.fetch.ensures.marks) (marks_of c.args.b.0 c.in_ok-k.k _ _ _ c.in_ok-k.ensures.found c.make_ready.ensures.marks)
+
+pub returns-clause-marks : goal.returns-clause-marks
+returns-clause-marks g c = marks_trans (Some c.args.b.0) _ _ _ (marks_any (Some c.args.b.0) _ _ c.fetch.ensures.marks) (marks_of c.args.b.0 c.in_ok-k.k _ _ _ c.in_ok-k.ensures.found c.make_ready.ensures.marks)
+
+pub returns-in_err-k-clause-stay : goal.returns-in_err-k-clause-stay
+returns-in_err-k-clause-stay g c cached = stay_hit (g.M.Machine.contents c.args.self.now.machine) (g.M.Machine.contents c.fetch.new.self.machine) (ap g.M.Machine.contents (c.fetch.ensures.hit cached))
+
+pub returns-in_err-make_ready-clause-stay : goal.returns-in_err-make_ready-clause-stay
+returns-in_err-make_ready-clause-stay g c cached = stay_trans _ _ _ (stay_hit (g.M.Machine.contents c.args.self.now.machine) (g.M.Machine.contents c.fetch.new.self.machine) (ap g.M.Machine.contents (c.fetch.ensures.hit cached))) (stay_found _ _ c.make_ready.ensures.widens.found)
+
+pub returns-in_err-k-clause-failed : goal.returns-in_err-k-clause-failed
+returns-in_err-k-clause-failed g c q = c.in_err-k.ensures.failed refl
+
+pub returns-in_err-make_ready-clause-failed : goal.returns-in_err-make_ready-clause-failed
+returns-in_err-make_ready-clause-failed g c q = failed_used c.args.b.0 _ c.args.self.now.tables c.make_ready.new.self.tables (used_then c.args.b.0 (g.M.Machine.contents c.fetch.new.self.machine).words (g.M.Machine.contents c.make_ready.new.self.machine).words c.args.self.now.tables c.fetch.new.self.tables c.make_ready.new.self.tables c.in_ok-k.ensures.used (stay_found _ _ c.make_ready.ensures.widens.found) (order_same _ _ c.make_ready.ensures.tables))
+
+pub returns-clause-failed : goal.returns-clause-failed
+returns-clause-failed g c q = absurd cc

@@ -7,6 +7,8 @@ use Rattle.page_cache.proofs.Goes.{ends_ok}
 use Rattle.page_cache.proofs.Uses.{order_same}
 use Rattle.page_cache.proofs.Rooms.{keeps_then, lasts_then}
 use Rattle.page_cache.proofs.Stills.{still_trans}
+use Rattle.page_cache.proofs.DirtyMarks.{marks_held, marks_named, marks_trans}
+use Rattle.page_cache.proofs.DirtyMarks.{marks_refl}
 
 pub returns-in_err-mark_dirty-clause-pages : goal.returns-in_err-mark_dirty-clause-pages
 returns-in_err-mark_dirty-clause-pages g c = pages_held c.args.k _ _ c.mark_dirty.ensures.one_entry c.mark_dirty.ensures.held
@@ -93,3 +95,15 @@ returns-clause-still g c = still_trans _ _ _ c.mark_dirty.ensures.still c.give_s
 
 pub returns-clause-lasts : goal.returns-clause-lasts
 returns-clause-lasts g c = lasts_then _ _ _ c.mark_dirty.ensures.lasts c.give_shadow.ensures.lasts
+
+pub returns-in_err-mark_dirty-clause-marks : goal.returns-in_err-mark_dirty-clause-marks
+returns-in_err-mark_dirty-clause-marks g c = marks_held c.args.k _ _ c.mark_dirty.ensures.cached c.mark_dirty.ensures.one_entry c.mark_dirty.ensures.held
+
+pub returns-in_err-give_shadow-clause-marks : goal.returns-in_err-give_shadow-clause-marks
+returns-in_err-give_shadow-clause-marks g c = marks_trans _ _ _ _ (marks_held c.args.k _ _ c.mark_dirty.ensures.cached c.mark_dirty.ensures.one_entry c.mark_dirty.ensures.held) (marks_named _ _ _ c.give_shadow.ensures.names)
+
+pub returns-clause-marks : goal.returns-clause-marks
+returns-clause-marks g c = marks_trans _ _ _ _ (marks_held c.args.k _ _ c.mark_dirty.ensures.cached c.mark_dirty.ensures.one_entry c.mark_dirty.ensures.held) (marks_named _ _ _ c.give_shadow.ensures.names)
+
+pub returns-then-shadow_of_entry-ne0-clause-marks : goal.returns-then-shadow_of_entry-ne0-clause-marks
+returns-then-shadow_of_entry-ne0-clause-marks g c = marks_refl _ _

@@ -4,6 +4,8 @@ use Rattle.std.proofs.lemmas.List.{get_or-replicate}
 use Rattle.page_cache.proofs.Fills.{tag_stays}
 use Rattle.page_cache.proofs.Zeros.{filled_cached, filled_same, filled_sound}
 use Rattle.page_cache.proofs.cache.PageCache.zero_frame.Goals as goal
+use Rattle.page_cache.proofs.DirtyMarks.{marks_page}
+use Rattle.page_cache.proofs.Common.{None}
 
 pub returns-in_err-fill-clause-sound : goal.returns-in_err-fill-clause-sound
 returns-in_err-fill-clause-sound g c = filled_sound _ _ c.args.k (g.M.Machine.contents c.args.self.now.machine) (g.M.Machine.contents c.fill.new.m) _ c.requires.sound c.fill.ensures.keeps c.fill.ensures.rest c.fill.ensures.one_page c.fill.ensures.ends.steps.scratch_count
@@ -25,3 +27,9 @@ returns-clause-cached g c = filled_cached c.args.k _ _ c.fill.ensures.one_page
 
 pub returns-clause-zeros : goal.returns-clause-zeros
 returns-clause-zeros g c = λ w less. ap (λ p. slice_index (g.M.Machine.contents c.fill.new.m).words (512 * p + w)) (filled_same c.args.k _ _ c.fill.ensures.one_page) ∙ c.in_ok-fill.ensures.filled w less ∙ get_or-replicate 512 w 0 0 less
+
+pub returns-in_err-fill-clause-marks : goal.returns-in_err-fill-clause-marks
+returns-in_err-fill-clause-marks g c = marks_page None c.args.k _ _ c.fill.ensures.one_page
+
+pub returns-clause-marks : goal.returns-clause-marks
+returns-clause-marks g c = marks_page None c.args.k _ _ c.fill.ensures.one_page

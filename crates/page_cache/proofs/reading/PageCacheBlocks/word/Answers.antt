@@ -3,6 +3,7 @@ use Rattle.std.proofs.Common.{◌≡◌}
 use Rattle.page_cache.proofs.Rooms.{passes_of, word_read}
 use Rattle.page_cache.proofs.reading.PageCacheBlocks.word.Goals as goal
 use Rattle.page_cache.proofs.Rooms.{looks_keeps, caches_adds}
+use Rattle.page_cache.proofs.Common.{refl}
 
 pub page_of-page-requires-clause-entry : goal.page_of-page-requires-clause-entry
 page_of-page-requires-clause-entry g c = (found_is _ _ _ c.in_ok-k.ensures.found).0.within
@@ -66,5 +67,14 @@ returns-in_err-k-clause-hit g c = c.fetch.ensures.hit
 pub returns-clause-hit : goal.returns-clause-hit
 returns-clause-hit g c = c.fetch.ensures.hit
 
-pub returns-clause-clean : goal.returns-clause-clean
-returns-clause-clean g c = c.in_ok-k.ensures.clean
+pub returns-in_err-k-clause-marks : goal.returns-in_err-k-clause-marks
+returns-in_err-k-clause-marks g c = c.fetch.ensures.marks
+
+pub returns-clause-marks : goal.returns-clause-marks
+returns-clause-marks g c = c.fetch.ensures.marks
+
+pub returns-in_err-k-clause-failed : goal.returns-in_err-k-clause-failed
+returns-in_err-k-clause-failed g c q = c.in_err-k.ensures.failed refl
+
+pub returns-clause-failed : goal.returns-clause-failed
+returns-clause-failed g c q = absurd cc

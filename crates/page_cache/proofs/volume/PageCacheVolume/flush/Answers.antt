@@ -1,6 +1,9 @@
 use Rattle.std.proofs.Common.{refl}
 use Rattle.page_cache.proofs.Flushes.{flushed_sound, shut_by}
 use Rattle.page_cache.proofs.volume.PageCacheVolume.flush.Goals as goal
+use Rattle.page_cache.proofs.Uses.{stay_held}
+use Rattle.page_cache.proofs.Common.{arith, IsErrOf}
+use Rattle.rio_base.specs.declared.failures.VolFail.TheVariants.{Fault}
 
 pub flush-requires-clause-coherent : goal.flush-requires-clause-coherent
 flush-requires-clause-coherent g c = c.requires.sound.coherent
@@ -22,3 +25,17 @@ returns-in_err-j-clause-order g c = refl
 
 pub returns-clause-order : goal.returns-clause-order
 returns-clause-order g c = refl
+
+pub returns-in_err-j-clause-stay : goal.returns-in_err-j-clause-stay
+returns-in_err-j-clause-stay g c = stay_held _ _ (c.flush.ensures.keeps.header 2 (omega arith)) c.flush.ensures.held
+
+pub returns-clause-stay : goal.returns-clause-stay
+returns-clause-stay g c = stay_held _ _ (c.flush.ensures.keeps.header 2 (omega arith)) c.flush.ensures.held
+
+pub returns-in_err-j-clause-unmarked : goal.returns-in_err-j-clause-unmarked
+returns-in_err-j-clause-unmarked g c fault =
+    let was : IsErrOf c.flush.result Fault = grind (arith, c.from_residual.ensures, fault) in
+    c.flush.ensures.unmarked was
+
+pub returns-clause-unmarked : goal.returns-clause-unmarked
+returns-clause-unmarked g c fault = absurd cc

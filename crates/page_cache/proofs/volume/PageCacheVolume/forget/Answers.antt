@@ -8,6 +8,9 @@ use Rattle.page_cache.proofs.Freed.{frees_same, halts_of, loose_marked, marked_s
 use Rattle.page_cache.proofs.Stills.{few_still, still_same}
 use Rattle.page_cache.proofs.Uses.{freed_none, freed_some, marked_order}
 use Rattle.page_cache.proofs.volume.PageCacheVolume.forget.Goals as goal
+use Rattle.page_cache.proofs.DirtyMarks.{marks_refl}
+use Rattle.page_cache.proofs.Uses.{others_stay, stay_hit}
+use Rattle.page_cache.proofs.Common.{None}
 
 pub mark-requires : goal.mark-requires
 mark-requires g c = record { place = subst (λ n. c.args.b.0 < n) (sym c.requires.sound.marks) c.requires.place }
@@ -116,3 +119,30 @@ returns-in_default-clause-order g c q = absurd cc
 
 pub returns-clause-order : goal.returns-clause-order
 returns-clause-order g c q = absurd cc
+
+pub returns-in_default-clause-stay : goal.returns-in_default-clause-stay
+returns-in_default-clause-stay g c = others_stay c.args.b.0 _ _ (stay_hit (g.M.Machine.contents c.args.self.now.machine) (g.M.Machine.contents c.args.self.now.machine) refl)
+
+pub returns-in_err-drop_frame-clause-stay : goal.returns-in_err-drop_frame-clause-stay
+returns-in_err-drop_frame-clause-stay g c = c.drop_frame.ensures.stay
+
+pub returns-clause-stay : goal.returns-clause-stay
+returns-clause-stay g c = c.drop_frame.ensures.stay
+
+pub returns-in_default-clause-kept : goal.returns-in_default-clause-kept
+returns-in_default-clause-kept g c q = absurd cc
+
+pub returns-in_err-drop_frame-clause-kept : goal.returns-in_err-drop_frame-clause-kept
+returns-in_err-drop_frame-clause-kept g c q = stay_hit (g.M.Machine.contents c.args.self.now.machine) (g.M.Machine.contents c.drop_frame.new.self.machine) (c.in_err-drop_frame.ensures.same refl)
+
+pub returns-clause-kept : goal.returns-clause-kept
+returns-clause-kept g c q = absurd cc
+
+pub returns-in_default-clause-marks : goal.returns-in_default-clause-marks
+returns-in_default-clause-marks g c = marks_refl None _
+
+pub returns-in_err-drop_frame-clause-marks : goal.returns-in_err-drop_frame-clause-marks
+returns-in_err-drop_frame-clause-marks g c = c.drop_frame.ensures.marks
+
+pub returns-clause-marks : goal.returns-clause-marks
+returns-clause-marks g c = c.drop_frame.ensures.marks

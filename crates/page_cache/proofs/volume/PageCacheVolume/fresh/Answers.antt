@@ -10,6 +10,9 @@ use Rattle.page_cache.proofs.Uses.{leaves_then, used_bound}
 use Rattle.page_cache.proofs.Goes.{ends_of, ends_ok}
 use Rattle.page_cache.proofs.Stills.{few_then}
 use Rattle.page_cache.specs.declared.tables.CacheTables.{CacheTables}
+use Rattle.page_cache.proofs.DirtyMarks.{marks_any, marks_trans}
+use Rattle.page_cache.proofs.FailedUses.{failed_missed, next_then}
+use Rattle.page_cache.proofs.Common.{Some, refl}
 
 pub make_room-requires-clause-uncached : goal.make_room-requires-clause-uncached
 make_room-requires-clause-uncached g c = cached_none _ c.requires.uncached
@@ -118,3 +121,21 @@ returns-in_err-bring_zeros-clause-leaves g c = leaves_then _ _ _ _ c.make_room.e
 
 pub returns-clause-leaves : goal.returns-clause-leaves
 returns-clause-leaves g c = leaves_then _ _ _ _ c.make_room.ensures.leaves c.bring_zeros.ensures.stay
+
+pub returns-in_err-k-clause-marks : goal.returns-in_err-k-clause-marks
+returns-in_err-k-clause-marks g c = marks_any (Some c.args.b.0) _ _ c.make_room.ensures.marks
+
+pub returns-in_err-bring_zeros-clause-marks : goal.returns-in_err-bring_zeros-clause-marks
+returns-in_err-bring_zeros-clause-marks g c = marks_trans (Some c.args.b.0) _ _ _ (marks_any (Some c.args.b.0) _ _ c.make_room.ensures.marks) c.bring_zeros.ensures.marks
+
+pub returns-clause-marks : goal.returns-clause-marks
+returns-clause-marks g c = marks_trans (Some c.args.b.0) _ _ _ (marks_any (Some c.args.b.0) _ _ c.make_room.ensures.marks) c.bring_zeros.ensures.marks
+
+pub returns-in_err-k-clause-failed : goal.returns-in_err-k-clause-failed
+returns-in_err-k-clause-failed g c q = failed_missed c.args.b.0 _ c.args.self.now.tables c.make_room.new.self.tables (none_still c.args.b.0 _ _ c.make_room.ensures.narrows (cached_none _ c.requires.uncached)) c.make_room.ensures.freed
+
+pub returns-in_err-bring_zeros-clause-failed : goal.returns-in_err-bring_zeros-clause-failed
+returns-in_err-bring_zeros-clause-failed g c q = failed_missed c.args.b.0 _ c.args.self.now.tables c.bring_zeros.new.self.tables (c.in_err-bring_zeros.ensures.unmade refl) (next_then c.args.self.now.tables c.make_room.new.self.tables c.bring_zeros.new.self.tables c.make_room.ensures.freed (c.in_err-bring_zeros.ensures.still_order refl))
+
+pub returns-clause-failed : goal.returns-clause-failed
+returns-clause-failed g c q = absurd cc

@@ -7,6 +7,10 @@ use Rattle.page_cache.proofs.volume.PageCacheVolume.store.Goals as goal
 use Rattle.page_cache.proofs.Goes.{ends_of, ends_ok, ends_stopped}
 use Rattle.page_cache.proofs.Stills.{few_then}
 use Rattle.page_cache.proofs.Uses.{leaves_then, order_same, stay_found, used_then}
+use Rattle.page_cache.proofs.DirtyMarks.{marks_any, marks_trans}
+use Rattle.page_cache.proofs.FailedUses.{failed_used}
+use Rattle.page_cache.proofs.Uses.{stay_trans}
+use Rattle.page_cache.proofs.Common.{Some}
 
 pub returns-clause-writes : goal.returns-clause-writes
 returns-clause-writes g c = few_then c.args.b.0 _ (g.M.Machine.contents c.args.self.now.machine) (g.M.Machine.contents c.ready.new.self.machine) _ c.ready.ensures.writes (search rules)
@@ -96,3 +100,30 @@ pub returns-in_err-put_frame-clause-ends : goal.returns-in_err-put_frame-clause-
 returns-in_err-put_frame-clause-ends g c =
     let stop : IsErrOf c.from_residual-in_err-put_frame.result Stopped = grind (arith, c.from_residual-in_err-put_frame.ensures) in
     ends_stopped _ _ _ _ _ _ _ _ stop (λ q. cc) refl (lasts_trans (g.M.Machine.contents c.args.self.now.machine) (g.M.Machine.contents c.ready.new.self.machine) (g.M.Machine.contents c.put_frame.new.self.machine) c.ready.ensures.lasts c.put_frame.ensures.lasts) c.in_ok-k.ensures.ends c.in_err-put_frame.ensures.ends
+
+pub returns-in_err-k-clause-marks : goal.returns-in_err-k-clause-marks
+returns-in_err-k-clause-marks g c = c.ready.ensures.marks
+
+pub returns-in_err-put_frame-clause-marks : goal.returns-in_err-put_frame-clause-marks
+returns-in_err-put_frame-clause-marks g c = marks_trans (Some c.args.b.0) _ _ _ c.ready.ensures.marks (marks_any (Some c.args.b.0) _ _ c.put_frame.ensures.marks)
+
+pub returns-clause-marks : goal.returns-clause-marks
+returns-clause-marks g c = marks_trans (Some c.args.b.0) _ _ _ c.ready.ensures.marks (marks_any (Some c.args.b.0) _ _ c.put_frame.ensures.marks)
+
+pub returns-in_err-k-clause-stay : goal.returns-in_err-k-clause-stay
+returns-in_err-k-clause-stay g c cached = c.ready.ensures.stay cached
+
+pub returns-in_err-put_frame-clause-stay : goal.returns-in_err-put_frame-clause-stay
+returns-in_err-put_frame-clause-stay g c cached = stay_trans _ _ _ (c.ready.ensures.stay cached) (stay_found _ _ c.put_frame.ensures.cached.found)
+
+pub returns-clause-stay : goal.returns-clause-stay
+returns-clause-stay g c cached = stay_trans _ _ _ (c.ready.ensures.stay cached) (stay_found _ _ c.put_frame.ensures.cached.found)
+
+pub returns-in_err-k-clause-failed : goal.returns-in_err-k-clause-failed
+returns-in_err-k-clause-failed g c q = c.in_err-k.ensures.failed refl
+
+pub returns-in_err-put_frame-clause-failed : goal.returns-in_err-put_frame-clause-failed
+returns-in_err-put_frame-clause-failed g c q = failed_used c.args.b.0 _ c.args.self.now.tables c.put_frame.new.self.tables (used_then c.args.b.0 (g.M.Machine.contents c.ready.new.self.machine).words (g.M.Machine.contents c.put_frame.new.self.machine).words c.args.self.now.tables c.ready.new.self.tables c.put_frame.new.self.tables c.in_ok-k.ensures.used (stay_found _ _ c.put_frame.ensures.cached.found) (order_same _ _ c.put_frame.ensures.tables))
+
+pub returns-clause-failed : goal.returns-clause-failed
+returns-clause-failed g c q = absurd cc

@@ -8,6 +8,12 @@ use Rattle.page_cache.proofs.Settling.{run_front, run_then, same_run, settles, s
 use Rattle.page_cache.proofs.volume.PageCacheVolume.store_run.Goals as goal
 use Rattle.page_cache.proofs.Stills.{few_then}
 use Rattle.page_cache.proofs.Uses.{leaves_then, order_same, stay_found, used_then}
+use Rattle.page_cache.proofs.DirtyMarks.{marks_any, marks_trans}
+use Rattle.page_cache.proofs.FailedUses.{failed_used}
+use Rattle.page_cache.proofs.Uses.{stay_trans}
+use Rattle.page_cache.proofs.Common.{Some}
+use Rattle.page_cache.proofs.DirtyMarks.{marks_refl}
+use Rattle.page_cache.proofs.Uses.{stay_hit}
 
 pub returns-in-Err-Fault-clause-front : goal.returns-in-Err-Fault-clause-front
 returns-in-Err-Fault-clause-front g c = run_front c.args.b.0 c.args.w (length c.args.from.now) c.args.from.now (g.M.Machine.contents c.args.self.now.machine) (g.M.Machine.contents c.ready.new.self.machine) c.ready.ensures.keeps
@@ -102,3 +108,48 @@ returns-in-Err-clause-idle g c = (settles c.args.b.0 _ (g.M.Machine.contents c.a
 
 pub returns-in-Err-clause-ends : goal.returns-in-Err-clause-ends
 returns-in-Err-clause-ends g c = ends_stopped _ _ _ _ _ _ _ (Err Stopped) refl (λ q. cc) refl (lasts_trans (g.M.Machine.contents c.args.self.now.machine) (g.M.Machine.contents c.ready.new.self.machine) (g.M.Machine.contents c.put_frame_run.new.self.machine) c.ready.ensures.lasts c.put_frame_run.ensures.lasts) c.in-Ok.ensures.ends c.in-Err.ensures.ends
+
+pub returns-in-Err-Fault-clause-marks : goal.returns-in-Err-Fault-clause-marks
+returns-in-Err-Fault-clause-marks g c = c.ready.ensures.marks
+
+pub returns-in-Err-Stopped-clause-marks : goal.returns-in-Err-Stopped-clause-marks
+returns-in-Err-Stopped-clause-marks g c = c.ready.ensures.marks
+
+pub returns-in-Ok-put_frame_run-clause-marks : goal.returns-in-Ok-put_frame_run-clause-marks
+returns-in-Ok-put_frame_run-clause-marks g c = marks_trans (Some c.args.b.0) _ _ _ c.ready.ensures.marks (marks_any (Some c.args.b.0) _ _ c.put_frame_run.ensures.marks)
+
+pub returns-in-Err-clause-marks : goal.returns-in-Err-clause-marks
+returns-in-Err-clause-marks g c = marks_trans (Some c.args.b.0) _ _ _ c.ready.ensures.marks (marks_any (Some c.args.b.0) _ _ c.put_frame_run.ensures.marks)
+
+pub returns-in-Err-Fault-clause-stay : goal.returns-in-Err-Fault-clause-stay
+returns-in-Err-Fault-clause-stay g c cached = c.ready.ensures.stay cached
+
+pub returns-in-Err-Stopped-clause-stay : goal.returns-in-Err-Stopped-clause-stay
+returns-in-Err-Stopped-clause-stay g c cached = c.ready.ensures.stay cached
+
+pub returns-in-Ok-put_frame_run-clause-stay : goal.returns-in-Ok-put_frame_run-clause-stay
+returns-in-Ok-put_frame_run-clause-stay g c cached = stay_trans _ _ _ (c.ready.ensures.stay cached) (stay_found _ _ c.put_frame_run.ensures.cached.found)
+
+pub returns-in-Err-clause-stay : goal.returns-in-Err-clause-stay
+returns-in-Err-clause-stay g c cached = stay_trans _ _ _ (c.ready.ensures.stay cached) (stay_found _ _ c.put_frame_run.ensures.cached.found)
+
+pub returns-in-Err-Fault-clause-failed : goal.returns-in-Err-Fault-clause-failed
+returns-in-Err-Fault-clause-failed g c q = c.in-Err-Fault.ensures.failed refl
+
+pub returns-in-Err-Stopped-clause-failed : goal.returns-in-Err-Stopped-clause-failed
+returns-in-Err-Stopped-clause-failed g c q = c.in-Err-Stopped.ensures.failed refl
+
+pub returns-in-Ok-put_frame_run-clause-failed : goal.returns-in-Ok-put_frame_run-clause-failed
+returns-in-Ok-put_frame_run-clause-failed g c q = absurd cc
+
+pub returns-in-Err-clause-failed : goal.returns-in-Err-clause-failed
+returns-in-Err-clause-failed g c q = failed_used c.args.b.0 _ c.args.self.now.tables c.put_frame_run.new.self.tables (used_then c.args.b.0 (g.M.Machine.contents c.ready.new.self.machine).words (g.M.Machine.contents c.put_frame_run.new.self.machine).words c.args.self.now.tables c.ready.new.self.tables c.put_frame_run.new.self.tables c.in-Ok.ensures.used (stay_found _ _ c.put_frame_run.ensures.cached.found) (order_same _ _ c.put_frame_run.ensures.tables))
+
+pub returns-then-is_empty-clause-marks : goal.returns-then-is_empty-clause-marks
+returns-then-is_empty-clause-marks g c = marks_refl (Some c.args.b.0) _
+
+pub returns-then-is_empty-clause-stay : goal.returns-then-is_empty-clause-stay
+returns-then-is_empty-clause-stay g c cached = stay_hit (g.M.Machine.contents c.args.self.now.machine) (g.M.Machine.contents c.args.self.now.machine) refl
+
+pub returns-then-is_empty-clause-failed : goal.returns-then-is_empty-clause-failed
+returns-then-is_empty-clause-failed g c q = absurd cc

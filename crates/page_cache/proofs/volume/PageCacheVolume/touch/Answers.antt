@@ -9,6 +9,10 @@ use Rattle.page_cache.proofs.Touches.{adds_pages, firm_forgotten, metadata_of, r
 use Rattle.page_cache.proofs.volume.PageCacheVolume.touch.Goals as goal
 use Rattle.page_cache.proofs.Uses.{leaves_then, stay_found, used_then}
 use Rattle.page_cache.proofs.Rooms.{looks_keeps}
+use Rattle.page_cache.proofs.DirtyMarks.{marks_any, marks_of, marks_trans}
+use Rattle.page_cache.proofs.FailedUses.{failed_used}
+use Rattle.page_cache.proofs.Uses.{stay_hit, stay_trans}
+use Rattle.page_cache.proofs.Common.{Some, ap}
 
 pub returns-in_err-k-clause-caches : goal.returns-in_err-k-clause-caches
 returns-in_err-k-clause-caches g c = caches_adds c.args.b.0 _ (g.M.Machine.contents c.args.self.now.machine) (g.M.Machine.contents c.fetch.new.self.machine) c.fetch.ensures.adds
@@ -107,3 +111,30 @@ returns-in_err-shadow_frame-clause-ends g c =
 
 pub returns-clause-ends : goal.returns-clause-ends
 returns-clause-ends g c = ends_both tt _ _ _ _ _ _ _ (λ q. cc) (λ q. cc) (lasts_trans _ _ _ c.fetch.ensures.lasts c.shadow_frame.ensures.lasts) c.in_ok-k.ensures.ends c.in_ok-shadow_frame.ensures.ends
+
+pub returns-in_err-k-clause-marks : goal.returns-in_err-k-clause-marks
+returns-in_err-k-clause-marks g c = marks_any (Some c.args.b.0) _ _ c.fetch.ensures.marks
+
+pub returns-in_err-shadow_frame-clause-marks : goal.returns-in_err-shadow_frame-clause-marks
+returns-in_err-shadow_frame-clause-marks g c = marks_trans (Some c.args.b.0) _ _ _ (marks_any (Some c.args.b.0) _ _ c.fetch.ensures.marks) (marks_of c.args.b.0 c.in_ok-k.k _ _ _ c.in_ok-k.ensures.found c.shadow_frame.ensures.marks)
+
+pub returns-clause-marks : goal.returns-clause-marks
+returns-clause-marks g c = marks_trans (Some c.args.b.0) _ _ _ (marks_any (Some c.args.b.0) _ _ c.fetch.ensures.marks) (marks_of c.args.b.0 c.in_ok-k.k _ _ _ c.in_ok-k.ensures.found c.shadow_frame.ensures.marks)
+
+pub returns-in_err-k-clause-stay : goal.returns-in_err-k-clause-stay
+returns-in_err-k-clause-stay g c cached = stay_hit (g.M.Machine.contents c.args.self.now.machine) (g.M.Machine.contents c.fetch.new.self.machine) (ap g.M.Machine.contents (c.fetch.ensures.hit cached))
+
+pub returns-in_err-shadow_frame-clause-stay : goal.returns-in_err-shadow_frame-clause-stay
+returns-in_err-shadow_frame-clause-stay g c cached = stay_trans _ _ _ (stay_hit (g.M.Machine.contents c.args.self.now.machine) (g.M.Machine.contents c.fetch.new.self.machine) (ap g.M.Machine.contents (c.fetch.ensures.hit cached))) (stay_found _ _ c.shadow_frame.ensures.pages.found)
+
+pub returns-clause-stay : goal.returns-clause-stay
+returns-clause-stay g c cached = stay_trans _ _ _ (stay_hit (g.M.Machine.contents c.args.self.now.machine) (g.M.Machine.contents c.fetch.new.self.machine) (ap g.M.Machine.contents (c.fetch.ensures.hit cached))) (stay_found _ _ c.shadow_frame.ensures.pages.found)
+
+pub returns-in_err-k-clause-failed : goal.returns-in_err-k-clause-failed
+returns-in_err-k-clause-failed g c q = c.in_err-k.ensures.failed refl
+
+pub returns-in_err-shadow_frame-clause-failed : goal.returns-in_err-shadow_frame-clause-failed
+returns-in_err-shadow_frame-clause-failed g c q = failed_used c.args.b.0 _ c.args.self.now.tables c.shadow_frame.new.self.tables (used_then c.args.b.0 (g.M.Machine.contents c.fetch.new.self.machine).words (g.M.Machine.contents c.shadow_frame.new.self.machine).words c.args.self.now.tables c.fetch.new.self.tables c.shadow_frame.new.self.tables c.in_ok-k.ensures.used (stay_found _ _ c.shadow_frame.ensures.pages.found) c.shadow_frame.ensures.order)
+
+pub returns-clause-failed : goal.returns-clause-failed
+returns-clause-failed g c q = absurd cc
