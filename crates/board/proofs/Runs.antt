@@ -1,5 +1,5 @@
 -- What the guard's steps are for the board as a machine.
-use Rattle.std.proofs.Common.{◌≡◌, ℕ, ◌+◌, ◌-◌, ◌*◌, ◌/◌, ◌<◌, ◌≤◌, true, false, ◌⊎◌, List, length, drop, slice_index, slice_set, Option, Some, None, refl, le_refl, sym, ◌∙◌, ap, subst, inl, inr, arith, get_or-set_other, get_or-set_same, is_some}
+use Rattle.std.proofs.Common.{◌≡◌, ℕ, ◌+◌, ◌-◌, ◌*◌, ◌/◌, ◌<◌, ◌≤◌, true, false, ◌⊎◌, List, drop, slice_index, slice_set, Option, Some, None, refl, le_refl, sym, ◌∙◌, ap, subst, inl, inr, arith, get_or-set_other, get_or-set_same, is_some}
 use Rattle.std.specs.Option.{option_map}
 use Rattle.std.proofs.lemmas.List.{length-set}
 use Rattle.rio_base.specs.Disks.{raised}
@@ -7,7 +7,7 @@ use Rattle.rio_base.specs.Machine.{Advances, StepEnds, Steps}
 use Rattle.rio_base.proofs.MachineRules.{advances_stop}
 use Rattle.rio_base.specs.Rules.{none_some, true_false}
 use Rattle.rio_base.specs.declared.places.WordAt.{WordAt}
-use Rattle.rio_base.specs.declared.wild.Wild.TheVariants.{Spared, Trapped}
+use Rattle.rio_base.specs.declared.wild.Wild.TheVariants.{Trapped}
 use Rattle.board.specs.declared.guard.Armed.{Armed}
 use Rattle.board.specs.declared.guard.Guard.{Guard}
 use Rattle.board.specs.Boards.{protected_count, running_of, scratch_of}
