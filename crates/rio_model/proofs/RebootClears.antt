@@ -11,11 +11,10 @@ use Rattle.rio_model.specs.Registry.{IsValid, KeepsRegistry, frames_of, gate_of,
 use Rattle.rio_model.specs.Standing.{Endures, IsHome, Restorable, Sound, is_stale, none_apart, stale_block}
 use Rattle.rio_model.proofs.CoverChanges.{found_cleared, found_other, page_word_one}
 use Rattle.rio_model.proofs.CoverLookups.{found_at, found_free}
-use Rattle.rio_model.proofs.CoverSteps.{Retagged, disk_same, pending_same}
+use Rattle.rio_model.proofs.CoverSteps.{Retagged, disk_same, pending_same, registry_cleared}
 use Rattle.rio_model.proofs.Gates.{frames_word, gated, tag_word}
 use Rattle.rio_model.proofs.HeldEntries.{narrows_gone}
 use Rattle.rio_model.proofs.RebootSteps.{clean_other, endures_trans, endures_wider, image_one, leaves_words}
-use Rattle.rio_model.proofs.RegistryRules.{registry_one}
 
 small_or : (w : ℕ) → (w < 512) ⊎ (512 ≤ w)
 small_or w = grind arith
@@ -47,19 +46,6 @@ cleared_at apart k old new rules v home r d same c w out = at c w out (small_or 
       pages = λ j x f small. page_word_one k j x old.words new.words r.one v.within (λ e. r.shadow);
       homes = λ x f small. refl;
     })
-
--- the rules hold without it
-pub registry_cleared : (k : ℕ) (old new : List ℕ) → KeepsRegistry old → Retagged k 0 old new → KeepsRegistry new
-registry_cleared k old new rules r = registry_one k old new rules r.one (record {
-  tag = record { invalid = λ e. r.tag; bits = λ e. absurd (true_false (sym e ∙ gone)) };
-  metadata = record { of_file = λ e. absurd (true_false (sym e ∙ gone)); at_index = λ e. absurd (true_false (sym e ∙ gone)); of_size = λ e. absurd (true_false (sym e ∙ gone)) };
-  name = record { file_from = λ e. absurd (true_false (sym e ∙ gone)); file_to = λ e. absurd (true_false (sym e ∙ gone)); index_to = λ e. absurd (true_false (sym e ∙ gone)) };
-  size = λ e. absurd (true_false (sym e ∙ gone));
-  shadow = record { most = λ e. absurd (true_false (sym e ∙ gone)); of_data = λ e. absurd (true_false (sym e ∙ gone)) };
-}) (record { blocks = λ j ne w x. absurd (true_false (sym x.valid ∙ gone)); shadows = λ j ne w x. absurd (true_false (sym x.valid ∙ gone)) })
-  where
-    gone : is_valid (tag_at new k) ≡ false
-    gone = ap is_valid r.tag
 
 sound_cleared : (k : ℕ) (old new : Contents) (shape : VolumeShape) → new ≡ record old { words = new.words } → IsValid old.words k → ((b : ℕ) → is_pending old.pending b ≡ false) → Retagged k 0 old.words new.words → Sound old shape → Sound new shape
 sound_cleared k old new shape rest v none r s = record {
