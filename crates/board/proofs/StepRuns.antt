@@ -1,6 +1,7 @@
 -- Several steps in a row: what stops the board among them, and what they leave.
 use Rattle.std.proofs.Common.{◌≡◌, ℕ, ◌+◌, ◌-◌, ◌^◌, ◌<◌, ◌≤◌, true, false, ◌⊎◌, List, slice_set, Option, Some, None, refl, sym, ◌∙◌, ap, subst, inl, inr, arith}
 use Rattle.std.proofs.lemmas.Bool.{cases_lt}
+use Rattle.rio_base.proofs.MachineRules.{raised_more}
 use Rattle.rio_base.specs.Disks.{raised}
 use Rattle.rio_base.specs.Rules.{true_false}
 use Rattle.rio_base.specs.declared.wild.Wild.TheVariants.{Trapped, Spared}
@@ -13,9 +14,6 @@ abbrev pub StopFits : Guard → Type 0
 StopFits g = (most : ℕ) → g.stop_after ≡ Some most → most < 2 ^ 64
 
 -- ---- counts
-
-pub raised_more : (count k n : ℕ) → raised (raised count k) n ≡ raised count (k + n)
-raised_more count k n = omega arith
 
 later_more : (k n : ℕ) (o : Option Armed) → later n (later k o) ≡ later (k + n) o
 later_more k n None = refl
