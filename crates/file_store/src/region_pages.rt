@@ -15,10 +15,9 @@ ghost use Rattle.rio_model.specs.RegionMoves.{RestHeld};
 
 use file_pages::block_of;
 use inode_table::{DIRECT_PAGES, Inode, read_inode};
-use rio_base::{Block, Ino, PAGE_BYTES, PageName, RunFail, VolFail, Volume, VolumeShape};
-
-/// Words of a page.
-const PAGE_WORDS: u32 = 512;
+use rio_base::{
+    Block, Ino, PAGE_BYTES, PAGE_WORDS, PageName, RunFail, VolFail, Volume, VolumeShape,
+};
 
 /// Bytes of a word.
 const WORD_BYTES: u64 = 8;

@@ -7,7 +7,7 @@ ghost use Rattle.rio_base.specs.Shapes.{IsServed, reserved};
 ghost use Rattle.rio_base.specs.Bytes.{bytes_of};
 ghost use Rattle.image_codec.specs.Volume.{bitmap_word, block_words, fresh_volume_words};
 
-use rio_base::{VOLUME_MAGIC, VolumeShape};
+use rio_base::{BLOCK_WORDS, VOLUME_MAGIC, VolumeShape};
 use std::alloc::{AllocError, Global};
 
 /// The version of the volume's layout.
@@ -15,9 +15,6 @@ const VOLUME_VERSION: u64 = 1;
 
 /// The kind of an inode that is a directory.
 const KIND_DIRECTORY: u64 = 1;
-
-/// Words of a block.
-const BLOCK_WORDS: usize = 512;
 
 /// Word `at` of a bitmap whose first `count` blocks are used.
 fn used_word(count: u32, at: usize) -> u64

@@ -9,3 +9,6 @@ mod raw_words;
 pub use list_mem::ListMem;
 pub use memory::{Memory, memory_of};
 pub use phys_mem::PhysMem;
+
+/// The most pages whose words a `u32` counts.
+pub(crate) const MOST_PAGES: u32 = 8_388_607;

@@ -2,11 +2,9 @@
 
 ghost use Rattle.std.specs.Prelude.{◌≡◌, ◌<◌, ◌*◌, ◌^◌, IfOk, length, replicate};
 
+use crate::MOST_PAGES;
 use rio_base::{MemWords, Page, WordAt};
 use std::alloc::{AllocError, Global};
-
-/// The most pages whose words a `u32` counts.
-const MOST_PAGES: u32 = 8_388_607;
 
 /// Memory that is a list of words, fewer than 4,294,967,296. [`ListMem::new`] alone takes memory, and no other call fails.
 #[derive(Drop)]

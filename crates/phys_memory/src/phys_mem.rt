@@ -3,12 +3,10 @@
 ghost use Rattle.std.specs.Prelude.{◌≡◌, ◌<◌, ◌≤◌, ◌+◌, ◌*◌, ◌^◌, IfOk, length, replicate};
 ghost use Rattle.rio_base.specs.Memory.{AreApart, copied_words};
 
+use crate::MOST_PAGES;
 use crate::raw_words::{Lease, RawWords};
 use rio_base::{MemWords, Page, WordAt};
 use std::alloc::{AllocError, Global};
-
-/// The most pages whose words a `u32` counts.
-const MOST_PAGES: u32 = 8_388_607;
 
 /// Memory in one raw block of words, fewer than 4,294,967,296, which goes back to the allocator where the memory is dropped.
 /// [`PhysMem::new`] and [`PhysMem::of_words`] alone take memory, and no other call fails.

@@ -6,11 +6,8 @@ use crate::bench::Bench;
 use crate::making::make_board;
 use board::Board;
 use phys_memory::Memory;
-use rio_base::DiskBlocks;
+use rio_base::{BLOCK_WORDS, DiskBlocks};
 use std::alloc::{AllocError, Global};
-
-/// Words in a page.
-const PAGE_WORDS: usize = 512;
 
 /// A bench that makes a board, and keeps nothing of it.
 #[derive(Drop)]
@@ -56,7 +53,7 @@ impl<D: DiskBlocks> Bench<D> for BoardBench {
         stop_after: Option<u64>,
     ) -> Result<Board<Memory, D>, (D, AllocError)> {
         let board = make_board(alloc, words, disk, scratch, stop_after)?;
-        self.pages = Some((words.len() / PAGE_WORDS) as u32);
+        self.pages = Some((words.len() / BLOCK_WORDS) as u32);
         self.parted = false;
         Ok(board)
     }

@@ -7,11 +7,8 @@ ghost use Rattle.rio_bench.specs.KeptMachines.{began_of, left_of};
 
 use block_disk::HostDisk;
 use phys_memory::Memory;
-use rio_base::{Block, DiskBlocks, Host, MemWords, Page, WordAt};
+use rio_base::{BLOCK_WORDS, Block, DiskBlocks, Host, MemWords, Page, WordAt};
 use std::alloc::{AllocError, Global};
-
-/// Words in a block.
-const BLOCK_WORDS: usize = 512;
 
 /// How a machine began.
 #[derive(Drop)]

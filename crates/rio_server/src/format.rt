@@ -10,11 +10,8 @@ ghost use Rattle.rio_server.specs.Format.{Formats, IsPrepared, files_after, form
 use crate::ends::FormatEnd;
 use crate::last_line::say;
 use image_codec::{fresh_image, fresh_volume, write_image};
-use rio_base::{Host, Sink, VolumeShape};
+use rio_base::{BLOCK_WORDS, Host, Sink, VolumeShape};
 use std::alloc::{AllocError, Global};
-
-/// The words of a page.
-const PAGE_WORDS: usize = 512;
 
 /// The sizes of a fresh memory image and a fresh volume.
 #[derive(Clone, Copy, Debug, PartialEq, Eq)]
@@ -113,7 +110,7 @@ fn image_of(alloc: Global, sizes: &FormatSizes) -> Result<(Vec<u8>, usize), Allo
     ensures pages { IfOk result (λ image. image.1 ≡ image_pages sizes.now.frames sizes.now.scratch) }
 {
     let words = fresh_image(alloc, sizes.frames, sizes.scratch)?;
-    let pages = words.len() / PAGE_WORDS;
+    let pages = words.len() / BLOCK_WORDS;
     Ok((write_image(alloc, words.as_slice())?, pages))
 }
 

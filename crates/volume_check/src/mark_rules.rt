@@ -13,10 +13,10 @@ ghost use Rattle.volume_check.specs.Looking.{CanLook, Looked};
 use crate::bitmap::Bitmap;
 use crate::failures::CheckFail;
 use crate::owners::has_owner;
-use crate::reading::{BLOCK_WORDS, FIRST_INODES, push_block};
+use crate::reading::{FIRST_INODES, push_block};
 use crate::superblock::BLOCK_BITS;
 use inode_table::BLOCK_INODES;
-use rio_base::{Block, Blocks, VolumeShape};
+use rio_base::{BLOCK_WORDS, Block, Blocks, VolumeShape};
 use rio_model::Owner;
 use std::alloc::Global;
 

@@ -13,8 +13,8 @@ ghost use Rattle.volume_check.specs.NodeWords.{HasFront};
 use crate::failures::CheckFail;
 use crate::inodes::Inodes;
 use crate::numbers::read_numbers;
-use crate::reading::{BLOCK_WORDS, push_block};
-use rio_base::{Blocks, Ino};
+use crate::reading::push_block;
+use rio_base::{BLOCK_WORDS, Blocks, Ino};
 use std::alloc::Global;
 
 /// The words of the first `count` pages of node `i`. Those past its size may be anything.

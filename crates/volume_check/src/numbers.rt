@@ -18,9 +18,9 @@ use crate::failures::CheckFail;
 use crate::inode_rules::broken_at;
 use crate::inodes::{Inodes, number_in};
 use crate::mark_rules::reserved_blocks;
-use crate::reading::{BLOCK_WORDS, read_words};
+use crate::reading::read_words;
 use inode_table::DIRECT_PAGES;
-use rio_base::{Block, Blocks, Ino, PAGE_BYTES, VolumeShape};
+use rio_base::{BLOCK_WORDS, Block, Blocks, Ino, PAGE_BYTES, VolumeShape};
 use std::alloc::{AllocError, Global};
 
 /// Block numbers of an indirect block, two in each word.

@@ -11,11 +11,8 @@ ghost use Rattle.volume_check.specs.NodeWords.{PushesBlock};
 use crate::failures::CheckFail;
 use crate::inodes::Inodes;
 use inode_table::{BLOCK_INODES, INODE_WORDS};
-use rio_base::{Block, Blocks, VolumeShape};
+use rio_base::{BLOCK_WORDS, Block, Blocks, VolumeShape};
 use std::alloc::Global;
-
-/// Words of a block.
-pub const BLOCK_WORDS: usize = 512;
 
 /// The first block of inodes.
 pub const FIRST_INODES: u32 = 2;

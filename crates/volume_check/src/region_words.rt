@@ -6,10 +6,9 @@ ghost use Rattle.rio_model.specs.Heap.{IsSoundRegion};
 ghost use Rattle.rio_model.specs.Undo.{map_pages};
 ghost use Rattle.volume_check.specs.RegionWords.{Begins, HasPages};
 
-use crate::reading::BLOCK_WORDS;
 use crate::region_heap::is_of_blocks;
 use crate::region_records::{are_records, put_back};
-use rio_base::REGION_MAGIC;
+use rio_base::{BLOCK_WORDS, REGION_MAGIC};
 
 /// How many pages a region has, by its header.
 #[derive(Clone, Copy)]

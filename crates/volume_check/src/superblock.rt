@@ -10,9 +10,9 @@ ghost use Rattle.volume_check.specs.Looking.{CanLook, Looked};
 ghost use Rattle.volume_check.specs.Rules.{FailsShape};
 
 use crate::failures::CheckFail;
-use crate::reading::{BLOCK_WORDS, read_words};
+use crate::reading::read_words;
 use inode_table::BLOCK_INODES;
-use rio_base::{Block, Blocks, VOLUME_MAGIC, VolumeShape};
+use rio_base::{BLOCK_WORDS, Block, Blocks, VOLUME_MAGIC, VolumeShape};
 
 /// The version of the layout that is served.
 const VERSION: u32 = 1;

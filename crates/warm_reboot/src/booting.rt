@@ -25,11 +25,8 @@ use file_store::RegionView;
 use page_cache::{CacheTables, PageCache};
 use region_recovery::recover_regions;
 use registry::frame_count;
-use rio_base::{Ino, Machine, VolFail, VolumeShape};
+use rio_base::{BLOCK_WORDS, Ino, Machine, VolFail, VolumeShape};
 use std::alloc::{AllocError, Global};
-
-/// The words of a block.
-const BLOCK_WORDS: usize = 512;
 
 /// Finds the files and regions that memory and disk stand for after a stop at any step, brings them to the disk, undoes what no
 /// commit of a region sealed, and starts a cache on them. After a rule that fails and after `Memory` nothing was stored; after

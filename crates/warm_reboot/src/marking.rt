@@ -15,23 +15,17 @@ ghost use Rattle.inode_table.specs.Inodes.{IsInode, IsMetadata};
 ghost use Rattle.registry.specs.Entries.{entry_of};
 ghost use Rattle.warm_reboot.specs.Stale.{MarksStale, SaysStale};
 
-use inode_table::{Inode, read_inode};
+use inode_table::{BLOCK_INODES, Inode, read_inode};
 use registry::{Entry, Tag, frame_count, load_tag};
-use rio_base::{Blocks, Ino, Machine, VolFail, VolumeShape};
+use rio_base::{Blocks, Ino, Machine, PAGE_BYTES, VolFail, VolumeShape};
 use rio_model::Owner;
 use std::alloc::{AllocError, Global};
 
 /// The kind of a directory's inode.
 const DIRECTORY: u8 = 1;
 
-/// The bytes of a page.
-const PAGE_BYTES: u64 = 4096;
-
 /// The blocks of superblock and bitmap.
 const FIRST_BLOCKS: u32 = 2;
-
-/// The inodes of a block.
-const BLOCK_INODES: u32 = 32;
 
 // ---- stale pages
 
