@@ -46,8 +46,10 @@ pub dir_may : (shape : VolumeShape) (x y : Seen) (j : Kept) (d : ℕ) (becomes :
 dir_may shape x y j d becomes c mapped ino h = record {
   fits = stood_fits shape x y j d becomes c mapped ino h;
   can = record {
-    ino = subst (IsIno shape) (sym h.plan.dir) ino;
-    can = plan_applies shape h.was h.seen h.kept d becomes c h.plan;
+    fits = record {
+      ino = subst (IsIno shape) (sym h.plan.dir) ino;
+      can = plan_applies shape h.was h.seen h.kept d becomes c h.plan;
+    };
     few = h.plan.few;
     unnamed = λ e on. unnamed e (plan_edits shape h.was h.seen h.kept d becomes c h.plan e.block.0 (e, on, refl));
   };
@@ -64,14 +66,16 @@ bare_may : (shape : VolumeShape) (y : Seen) (c : NodeChange) → IsMapped shape 
 bare_may shape y c mapped none fits = record {
   fits = fits;
   can = record {
-    ino = fits.ino;
-    can = record {
-      words = λ e on. absurd (away e on);
-      from = λ e on. absurd (away e on);
-      to = λ e on. absurd (away e on);
-      taken = λ b on. (fits.takes b on).to;
-      freed = λ b on. owned_below (volume_layout shape y.words) b mapped.laid.numbers (fits.frees b on);
-      apart = λ b on off. (fits.takes b on).free (fits.frees b off);
+    fits = record {
+      ino = fits.ino;
+      can = record {
+        words = λ e on. absurd (away e on);
+        from = λ e on. absurd (away e on);
+        to = λ e on. absurd (away e on);
+        taken = λ b on. (fits.takes b on).to;
+        freed = λ b on. owned_below (volume_layout shape y.words) b mapped.laid.numbers (fits.frees b on);
+        apart = λ b on off. (fits.takes b on).free (fits.frees b off);
+      };
     };
     few = record { table = 0; first = 0; second = 0; each = λ e on. absurd (away e on) };
     unnamed = λ e on. absurd (away e on);

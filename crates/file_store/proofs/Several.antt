@@ -213,7 +213,7 @@ all_made shape cs t f g end made = made g (subst (λ xs. AllApplied shape (map c
 pub node_edits_fit : (shape : VolumeShape) (x y : Seen) (c : NodeChange) (es : List Edit) (b : ℕ) → HasShape shape x → y.count ≡ x.count → CanMakeNode shape x c → es ≡ c.edits → Caches x y b None → ((e : Edit) → Contains es e → e.block.0 < y.count) × ((e : Edit) → Contains es e → y.cached e.block.0 ≡ true → y.names e.block.0 ≡ None)
 node_edits_fit shape x y c es b h count can is caches =
     let theirs : (e : Edit) → Contains es e → Contains c.edits e = λ e on. subst (λ xs. Contains xs e) is on in (
-      λ e on. subst (λ n. e.block.0 < n) (sym (count ∙ h.count)) (can.can.to e (theirs e on)),
+      λ e on. subst (λ n. e.block.0 < n) (sym (count ∙ h.count)) (can.fits.can.to e (theirs e on)),
       λ e on. unnamed_on x y b e.block.0 caches (can.unnamed e (theirs e on)),
     )
 
@@ -239,8 +239,7 @@ touched_unnamed cs x y b h was = unnamed_kept (IsTouchedBy cs) x y b (λ name e.
 
 pub can_make_on : (shape : VolumeShape) (cs : List NodeChange) (c : NodeChange) (x y : Seen) → CachesBy (IsTouchedBy cs) x y → CanMakeNode shape x c → CanMakeNode shape y c
 can_make_on shape cs c x y h can = record {
-  ino = can.ino;
-  can = can.can;
+  fits = can.fits;
   few = can.few;
   unnamed = λ e on. touched_unnamed cs x y e.block.0 h (can.unnamed e on);
 }
@@ -280,10 +279,10 @@ pub can_on_drops : (shape : VolumeShape) (cs : List NodeChange) (x y : Seen) →
 can_on_drops shape cs x y drops can = record { few = can.few; each = λ c on. can_make_on shape cs c x y (caches_by_drops (IsTouchedBy cs) x y drops) (can.each c on) }
 
 pub makes_fit : (shape : VolumeShape) (x : Seen) (cs : List NodeChange) → CanCommit shape x cs → (c : NodeChange) → Contains cs c → MakesFit shape c
-makes_fit shape x cs can c on = let h = can.each c on in record { ino = h.ino; can = h.can }
+makes_fit shape x cs can c on = (can.each c on).fits
 
 pub freed_place : (shape : VolumeShape) (x y : Seen) (cs : List NodeChange) → CanCommit shape x cs → HasShape shape y → (b : ℕ) → IsFreed cs b → b < y.count
-freed_place shape x y cs can h b (c, on, freed) = subst (λ n. b < n) (sym h.count) ((can.each c on).can.freed b freed)
+freed_place shape x y cs can h b (c, on, freed) = subst (λ n. b < n) (sym h.count) ((can.each c on).fits.can.freed b freed)
 
 -- the changes stand, and then blocks that they free are dropped
 pub makes_all : (shape : VolumeShape) (cs : List NodeChange) (f : BlockWords) (k j l : Kept) → AllApplied shape (map change_update cs) f j.standing → Firm k j → SameOutside (IsFreed cs) j.standing l.standing → FirmOutside (IsFreed cs) j l → Makes shape cs f k l

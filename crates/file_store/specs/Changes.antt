@@ -38,8 +38,7 @@ pub record MakesFit (shape : VolumeShape) (c : NodeChange) : Type 0 where
 
 -- and what is asked before its blocks are touched: its edits are in three blocks at most, that may be asked for as metadata
 pub record CanMakeNode (shape : VolumeShape) (x : Seen) (c : NodeChange) : Type 0 where
-  pub ino : IsIno shape c.ino.0
-  pub can : CanUpdate shape c.edits (numbers c.taken) (numbers c.freed)
+  pub fits : MakesFit shape c
   pub few : InThreeBlocks c.edits
   pub unnamed : (e : Edit) → Contains c.edits e → x.cached e.block.0 ≡ true → x.names e.block.0 ≡ None
 
