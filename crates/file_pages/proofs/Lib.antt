@@ -3,6 +3,7 @@ pub mod Changed
 pub mod Common
 pub mod Dropped
 pub mod Ends
+pub mod EndsOn
 pub mod Extended
 pub mod Extension
 pub mod ExtensionBytes

@@ -1,5 +1,5 @@
 -- Calls of one update, one after the other, and what the whole of it does.
-use Rattle.file_pages.proofs.Common.{◌≡◌, ◌≢◌, ℕ, suc, ◌+◌, ◌/◌, ◌%◌, ◌<◌, ◌≤◌, ◌==◌, ◌||◌, Bool, inl, inr, true, false, List, [], ◌∷◌, length, map, drop, refl, sym, ap, subst, ◌∙◌, arith, slice_index_or, slice_index, Option, None, OnOk, AllByRecursion, Contains, cases_eq, cases_lt, nat_tests, Block, PageName, VolumeShape, used_bit, CachesBy, caches_by_one, BlockWords, Caches, CanName, SamePage, Seen, IsIno, inode_block, reserved, Kept, SameUpdate, numbers, inode_low, Applied, WordEdit, edited, Inode}
+use Rattle.file_pages.proofs.Common.{◌≡◌, ◌≢◌, ℕ, suc, ◌+◌, ◌/◌, ◌%◌, ◌<◌, ◌≤◌, ◌==◌, ◌||◌, Bool, inl, inr, true, false, List, [], ◌∷◌, length, map, drop, refl, sym, ap, subst, ◌∙◌, arith, slice_index_or, slice_index, Option, None, OnOk, AllByRecursion, Contains, cases_eq, cases_lt, nat_tests, Block, PageName, VolumeShape, used_bit, CachesBy, caches_by_one, BlockWords, Caches, CanName, SamePage, Seen, IsIno, inode_block, HasShape, reserved, Kept, SameUpdate, numbers, inode_low, Applied, WordEdit, edited, Inode}
 use Rattle.std.proofs.Common.{Result}
 use Rattle.std.specs.Int.{bit_at}
 use Rattle.std.proofs.lemmas.List.{get_or_default}
@@ -16,9 +16,8 @@ use Rattle.rio_model.specs.Updates.{with_inode}
 use Rattle.rio_model.specs.VolumeRules.{bitmap_bits}
 use Rattle.inode_table.specs.Inodes.{inode_words}
 use Rattle.file_pages.specs.Changes.{node_update, word_edit}
-use Rattle.file_pages.specs.Updating.{CanUpdate, SetsBits}
+use Rattle.file_pages.specs.Updating.{CanUpdate, IsUpdated, SetsBits}
 use Rattle.file_pages.specs.declared.changes.Edit.{Edit}
-use Rattle.file_pages.specs.declared.changes.SizeChange.{SizeChange}
 use Rattle.file_pages.proofs.Listed.{place_of}
 
 pub update_trans : (k l m : Kept) → SameUpdate k l → SameUpdate l m → SameUpdate k m
@@ -133,6 +132,10 @@ can_touch y b none = record { in_range = tt; agrees = λ on. subst (λ o. SamePa
 -- a block stays unnamed where another is cached as metadata
 pub unnamed_on : (x y : Seen) (a b : ℕ) → Caches x y a None → (x.cached b ≡ true → x.names b ≡ None) → y.cached b ≡ true → y.names b ≡ None
 unnamed_on x y a b h was = unnamed_kept (λ c name. name ≡ None) x y b (λ name e. e) (caches_by_one _ x y a None h refl) was
+
+-- the reserved blocks stay unnamed where the blocks of an update are cached
+pub shape_updated : (shape : VolumeShape) (x y : Seen) (i : ℕ) (es : List Edit) → HasShape shape x → y.count ≡ x.count → CachesBy (IsUpdated i es) x y → HasShape shape y
+shape_updated shape x y i es h count caches = record { sizes = h.sizes; count = count ∙ h.count; unnamed = λ b within on. unnamed_kept (IsUpdated i es) x y b (λ name new. new.1) caches (h.unnamed b within) on }
 
 -- the first of edits that are all in one block
 pub first_place : (es : List Edit) (n count : ℕ) (d : Edit) → 0 < length es → ((e : Edit) → Contains es e → e.block.0 < n) → count ≡ n → (slice_index_or es 0 d).block.0 < count

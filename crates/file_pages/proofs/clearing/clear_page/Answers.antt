@@ -2,6 +2,7 @@ use Rattle.file_pages.proofs.Common.{◌/◌, ◌∙◌, refl, sym, ap, subst, a
 use Rattle.file_pages.proofs.Stored.{names_grown, stores_page, stores_run, stored_read}
 use Rattle.file_pages.specs.Storing.{KeepsFront}
 use Rattle.file_pages.proofs.Tails.{clears_run, run_front, run_whole, run_zeros}
+use Rattle.file_pages.specs.PageBytes.{block_byte}
 use Rattle.file_pages.proofs.clearing.clear_page.Goals as goal
 
 pub returns-in_err-word-clause-stores : goal.returns-in_err-word-clause-stores
@@ -58,3 +59,42 @@ returns-in-Err-Stopped-clause-front g c =
 
 pub returns-in-Ok-clause-cleared : goal.returns-in-Ok-clause-cleared
 returns-in-Ok-clause-cleared g c = run_zeros (g.V.Blocks.seen c.word.new.self).words (g.V.Blocks.seen c.store_run.new.self).words c.args.b.0 c.args.at _ _ (clears_run _ c.args.b.0 c.args.at _ _ _ (omega (arith, c.requires.place)) (c.in_ok-word.ensures.value ∙ sym (ap (λ f. f c.args.b.0 (c.args.at / 8)) c.word.ensures.looks.words)) c.cleared_words-run.ensures.first c.cleared_words-run.ensures.rest) (run_whole (c.args.at / 8) c.cleared_words-run.result (omega (arith, c.requires.place)) c.cleared_words-run.ensures.len) c.in-Ok.ensures.ok
+
+pub returns-in_err-word-clause-goes : goal.returns-in_err-word-clause-goes
+returns-in_err-word-clause-goes g c = (g.met.V.Volume.passes_keeps _ _ c.word.ensures.passes).goes
+
+pub returns-in_err-word-clause-sound : goal.returns-in_err-word-clause-sound
+returns-in_err-word-clause-sound g c = c.word.ensures.sound
+
+pub returns-in-Ok-clause-sound : goal.returns-in-Ok-clause-sound
+returns-in-Ok-clause-sound g c = c.store_run.ensures.sound
+
+pub returns-in-Err-Fault-clause-cleared : goal.returns-in-Err-Fault-clause-cleared
+returns-in-Err-Fault-clause-cleared g c = tt
+
+pub returns-in-Err-Fault-clause-named : goal.returns-in-Err-Fault-clause-named
+returns-in-Err-Fault-clause-named g c = tt
+
+pub returns-in-Err-Fault-clause-sound : goal.returns-in-Err-Fault-clause-sound
+returns-in-Err-Fault-clause-sound g c = c.store_run.ensures.sound
+
+pub returns-in-Err-Stopped-clause-cleared : goal.returns-in-Err-Stopped-clause-cleared
+returns-in-Err-Stopped-clause-cleared g c = tt
+
+pub returns-in-Err-Stopped-clause-named : goal.returns-in-Err-Stopped-clause-named
+returns-in-Err-Stopped-clause-named g c = tt
+
+pub returns-in-Err-Stopped-clause-sound : goal.returns-in-Err-Stopped-clause-sound
+returns-in-Err-Stopped-clause-sound g c = c.store_run.ensures.sound
+
+pub word-requires-clause-sound : goal.word-requires-clause-sound
+word-requires-clause-sound g c = c.requires.sound
+
+pub store_run-requires-clause-sound : goal.store_run-requires-clause-sound
+store_run-requires-clause-sound g c = c.word.ensures.sound
+
+pub returns-in_err-word-clause-front : goal.returns-in_err-word-clause-front
+returns-in_err-word-clause-front g c = record { others = λ b w away. ap (λ f. f b w) c.word.ensures.looks.words; front = λ y less. ap (λ f. block_byte f c.args.b.0 y) c.word.ensures.looks.words }
+
+pub store_run-requires-clause-idle : goal.store_run-requires-clause-idle
+store_run-requires-clause-idle g c = (g.met.V.Volume.passes_keeps _ _ c.word.ensures.passes).updating ∙ c.requires.ready.idle

@@ -33,3 +33,21 @@ returns-clause-stores g c = stores_after c.args.shape.now _ _ _ _ _ _ _ _ _ _ c.
 
 pub returns-clause-goes : goal.returns-clause-goes
 returns-clause-goes g c = (g.met.V.Volume.passes_keeps _ _ c.block_of.ensures.passes).goes then c.clear_page.ensures.goes
+
+pub returns-in_err-b-clause-sound : goal.returns-in_err-b-clause-sound
+returns-in_err-b-clause-sound g c = c.block_of.ensures.sound
+
+pub returns-clause-sound : goal.returns-clause-sound
+returns-clause-sound g c = c.clear_page.ensures.sound
+
+pub returns-in_err-b-clause-goes : goal.returns-in_err-b-clause-goes
+returns-in_err-b-clause-goes g c = (g.met.V.Volume.passes_keeps _ _ c.block_of.ensures.passes).goes
+
+pub block_of-requires-clause-sound : goal.block_of-requires-clause-sound
+block_of-requires-clause-sound g c = c.requires.sound
+
+pub block_of-requires-clause-ino : goal.block_of-requires-clause-ino
+block_of-requires-clause-ino g c = c.requires.ino
+
+pub clear_page-requires-clause-sound : goal.clear_page-requires-clause-sound
+clear_page-requires-clause-sound g c = c.block_of.ensures.sound

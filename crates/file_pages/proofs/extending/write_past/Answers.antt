@@ -309,3 +309,57 @@ returns-clause-ends g c =
     ends_by_after _ _ _ _ _ c.plan_extension.ensures.ends.later (c.in_ok-change.ensures.ends.runs (λ a. cc))
     (ends_by_after _ _ _ _ _ c.clear_tail.ensures.ends.later c.in_ok-clear_tail.ensures.ends.cause
     (ends_by_after _ _ _ _ _ c.store_parts.ensures.ends.later (c.in_ok-store_parts.ensures.ends.runs (λ a. cc)) c.commit_written.ensures.ends))
+
+pub returns-in_err-change-clause-sound : goal.returns-in_err-change-clause-sound
+returns-in_err-change-clause-sound g c = c.plan_extension.ensures.sound
+
+pub returns-in_err-clear_tail-clause-sound : goal.returns-in_err-clear_tail-clause-sound
+returns-in_err-clear_tail-clause-sound g c = c.clear_tail.ensures.sound
+
+pub returns-in_err-store_parts-clause-sound : goal.returns-in_err-store_parts-clause-sound
+returns-in_err-store_parts-clause-sound g c = c.store_parts.ensures.sound
+
+pub returns-clause-sound : goal.returns-clause-sound
+returns-clause-sound g c = c.commit_written.ensures.sound
+
+pub returns-in_err-change-clause-goes : goal.returns-in_err-change-clause-goes
+returns-in_err-change-clause-goes g c = c.plan_extension.ensures.goes
+
+pub plan_extension-requires-clause-sound : goal.plan_extension-requires-clause-sound
+plan_extension-requires-clause-sound g c = c.requires.sound
+
+pub plan_extension-requires-clause-ready : goal.plan_extension-requires-clause-ready
+plan_extension-requires-clause-ready g c = c.requires.ready
+
+pub plan_extension-requires-clause-ino : goal.plan_extension-requires-clause-ino
+plan_extension-requires-clause-ino g c = c.requires.ino
+
+pub plan_extension-requires-clause-inode : goal.plan_extension-requires-clause-inode
+plan_extension-requires-clause-inode g c = c.requires.inode
+
+pub plan_extension-requires-clause-file : goal.plan_extension-requires-clause-file
+plan_extension-requires-clause-file g c = c.requires.file
+
+pub plan_extension-requires-clause-most : goal.plan_extension-requires-clause-most
+plan_extension-requires-clause-most g c = c.requires.most
+
+pub clear_tail-requires-clause-sound : goal.clear_tail-requires-clause-sound
+clear_tail-requires-clause-sound g c = c.plan_extension.ensures.sound
+
+pub clear_tail-requires-clause-ino : goal.clear_tail-requires-clause-ino
+clear_tail-requires-clause-ino g c = c.requires.ino
+
+pub store_parts-requires-clause-sound : goal.store_parts-requires-clause-sound
+store_parts-requires-clause-sound g c = c.clear_tail.ensures.sound
+
+pub commit_written-requires-clause-sound : goal.commit_written-requires-clause-sound
+commit_written-requires-clause-sound g c = c.store_parts.ensures.sound
+
+pub commit_written-requires-clause-idle : goal.commit_written-requires-clause-idle
+commit_written-requires-clause-idle g c = c.store_parts.ensures.idle
+
+pub commit_written-requires-clause-ino : goal.commit_written-requires-clause-ino
+commit_written-requires-clause-ino g c = c.requires.ino
+
+pub returns-clause-small : goal.returns-clause-small
+returns-clause-small g c = c.commit_written.ensures.small

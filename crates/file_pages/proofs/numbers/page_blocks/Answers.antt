@@ -1,3 +1,4 @@
+use Rattle.rio_base.proofs.Rules.{ends_by_well}
 use Rattle.file_pages.proofs.Common.{◌-◌, ◌<◌, ◌≤◌, ◌++◌, ◌∙◌, ap, arith, AtPage, AtTable, placed_at, first_table, pages, numbers, err_from_is_err_and}
 use Rattle.file_pages.specs.Changes.{given_node}
 use Rattle.file_pages.specs.LookingUp.{page_blocks}
@@ -63,3 +64,36 @@ pub returns-in_err-blocks-clause-ends : goal.returns-in_err-blocks-clause-ends
 returns-in_err-blocks-clause-ends g c =
     let p = err_from_is_err_and c.from_residual-in_err-blocks.result c.from_residual-in_err-blocks.ensures.1 in
     ends_read _ _ _ c.from_residual-in_err-blocks.result _ p.0 c.in_err-blocks.was p.1 p.2 c.push_later.ensures.ends
+
+pub returns-in_err-blocks-clause-looks : goal.returns-in_err-blocks-clause-looks
+returns-in_err-blocks-clause-looks g c = c.push_later.ensures.looks
+
+pub returns-in_err-blocks-clause-passes : goal.returns-in_err-blocks-clause-passes
+returns-in_err-blocks-clause-passes g c = c.push_later.ensures.passes
+
+pub returns-in_err-blocks-clause-sound : goal.returns-in_err-blocks-clause-sound
+returns-in_err-blocks-clause-sound g c = c.push_later.ensures.sound
+
+pub returns-clause-looks : goal.returns-clause-looks
+returns-clause-looks g c = c.push_later.ensures.looks
+
+pub returns-clause-passes : goal.returns-clause-passes
+returns-clause-passes g c = c.push_later.ensures.passes
+
+pub returns-clause-sound : goal.returns-clause-sound
+returns-clause-sound g c = c.push_later.ensures.sound
+
+pub returns-in_err-push_direct-clause-sound : goal.returns-in_err-push_direct-clause-sound
+returns-in_err-push_direct-clause-sound g c = c.requires.sound
+
+pub returns-then-middle-end-clause-sound : goal.returns-then-middle-end-clause-sound
+returns-then-middle-end-clause-sound g c = c.requires.sound
+
+pub returns-clause-ends : goal.returns-clause-ends
+returns-clause-ends g c = ends_by_well _ _ _ _ c.push_later.ensures.ends.later (c.in_ok-blocks.ensures.ends.runs (λ a. cc)) (λ a. cc) (λ a. cc)
+
+pub push_later-requires-clause-sound : goal.push_later-requires-clause-sound
+push_later-requires-clause-sound g c = c.requires.sound
+
+pub push_later-requires-clause-can : goal.push_later-requires-clause-can
+push_later-requires-clause-can g c = c.requires.can

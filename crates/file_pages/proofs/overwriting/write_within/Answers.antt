@@ -138,3 +138,24 @@ pub returns-in_err-store_span-clause-ends : goal.returns-in_err-store_span-claus
 returns-in_err-store_span-clause-ends g c =
     let p = err_from_is_err_and c.from_residual-in_err-store_span.result c.from_residual-in_err-store_span.ensures.1 in
     ends_by_after _ _ _ _ _ c.page_blocks.ensures.ends.later (c.in_ok-blocks.ensures.ends.runs (λ a. cc)) (ends_write _ _ c.store_span.result c.from_residual-in_err-store_span.result _ p.0 c.in_err-store_span.was p.1 p.2 c.store_span.ensures.ends)
+
+pub returns-in_err-blocks-clause-sound : goal.returns-in_err-blocks-clause-sound
+returns-in_err-blocks-clause-sound g c = c.page_blocks.ensures.sound
+
+pub returns-in_err-blocks-clause-goes : goal.returns-in_err-blocks-clause-goes
+returns-in_err-blocks-clause-goes g c = (g.met.V.Volume.passes_keeps _ _ c.page_blocks.ensures.passes).goes
+
+pub returns-in_err-store_span-clause-sound : goal.returns-in_err-store_span-clause-sound
+returns-in_err-store_span-clause-sound g c = c.store_span.ensures.sound
+
+pub returns-clause-sound : goal.returns-clause-sound
+returns-clause-sound g c = c.store_span.ensures.sound
+
+pub page_blocks-requires-clause-sound : goal.page_blocks-requires-clause-sound
+page_blocks-requires-clause-sound g c = c.requires.sound
+
+pub page_blocks-requires-clause-ino : goal.page_blocks-requires-clause-ino
+page_blocks-requires-clause-ino g c = c.requires.ino
+
+pub store_span-requires-clause-sound : goal.store_span-requires-clause-sound
+store_span-requires-clause-sound g c = c.page_blocks.ensures.sound

@@ -1,5 +1,7 @@
-use Rattle.file_pages.proofs.Common.{refl, ◌then◌}
+use Rattle.file_pages.proofs.Common.{refl, ◌then◌, SameBut, ap, firm_trans, subst, ◌∙◌}
 use Rattle.file_pages.proofs.PutPieces.{makes, puts_all, puts_front, puts_told}
+use Rattle.rio_base.proofs.BlockRules.{can_name_on, stored_trans}
+use Rattle.file_pages.proofs.Stored.{stored_read}
 use Rattle.file_pages.proofs.pieces.store_words.Goals as goal
 
 pub returns-in-Ok-clause-ok : goal.returns-in-Ok-clause-ok
@@ -25,3 +27,114 @@ returns-in-Err-Stopped-clause-front g c = puts_front _ _ _ c.args.b.0 c.args.at 
 
 pub returns-in-Err-Stopped-clause-goes : goal.returns-in-Err-Stopped-clause-goes
 returns-in-Err-Stopped-clause-goes g c = (g.met.V.Volume.passes_keeps _ _ c.end_words.ensures.passes).goes then c.store_run.ensures.goes
+
+pub returns-in_err-first-clause-firm : goal.returns-in_err-first-clause-firm
+returns-in_err-first-clause-firm g c = (g.met.V.Volume.passes_keeps _ _ c.end_words.ensures.passes).firm
+
+pub returns-in_err-first-clause-count : goal.returns-in_err-first-clause-count
+returns-in_err-first-clause-count g c = c.end_words.ensures.looks.count
+
+pub returns-in_err-first-clause-idle : goal.returns-in_err-first-clause-idle
+returns-in_err-first-clause-idle g c = (g.met.V.Volume.passes_keeps _ _ c.end_words.ensures.passes).updating ∙ c.requires.idle
+
+pub returns-in_err-first-clause-goes : goal.returns-in_err-first-clause-goes
+returns-in_err-first-clause-goes g c = (g.met.V.Volume.passes_keeps _ _ c.end_words.ensures.passes).goes
+
+pub returns-in_err-first-clause-sound : goal.returns-in_err-first-clause-sound
+returns-in_err-first-clause-sound g c = c.end_words.ensures.sound
+
+pub returns-in-Ok-clause-fault : goal.returns-in-Ok-clause-fault
+returns-in-Ok-clause-fault g c = λ k is. absurd cc
+
+pub returns-in-Ok-clause-firm : goal.returns-in-Ok-clause-firm
+returns-in-Ok-clause-firm g c = firm_trans _ _ _ (g.met.V.Volume.passes_keeps _ _ c.end_words.ensures.passes).firm c.store_run.ensures.firm
+
+pub returns-in-Ok-clause-count : goal.returns-in-Ok-clause-count
+returns-in-Ok-clause-count g c = c.store_run.ensures.count ∙ c.end_words.ensures.looks.count
+
+pub returns-in-Ok-clause-idle : goal.returns-in-Ok-clause-idle
+returns-in-Ok-clause-idle g c = c.store_run.ensures.idle
+
+pub returns-in-Ok-clause-sound : goal.returns-in-Ok-clause-sound
+returns-in-Ok-clause-sound g c = c.store_run.ensures.sound
+
+pub returns-in-Err-Fault-clause-ok : goal.returns-in-Err-Fault-clause-ok
+returns-in-Err-Fault-clause-ok g c = tt
+
+pub returns-in-Err-Fault-clause-firm : goal.returns-in-Err-Fault-clause-firm
+returns-in-Err-Fault-clause-firm g c = firm_trans _ _ _ (g.met.V.Volume.passes_keeps _ _ c.end_words.ensures.passes).firm c.store_run.ensures.firm
+
+pub returns-in-Err-Fault-clause-count : goal.returns-in-Err-Fault-clause-count
+returns-in-Err-Fault-clause-count g c = c.store_run.ensures.count ∙ c.end_words.ensures.looks.count
+
+pub returns-in-Err-Fault-clause-idle : goal.returns-in-Err-Fault-clause-idle
+returns-in-Err-Fault-clause-idle g c = c.store_run.ensures.idle
+
+pub returns-in-Err-Fault-clause-sound : goal.returns-in-Err-Fault-clause-sound
+returns-in-Err-Fault-clause-sound g c = c.store_run.ensures.sound
+
+pub returns-in-Err-Stopped-clause-ok : goal.returns-in-Err-Stopped-clause-ok
+returns-in-Err-Stopped-clause-ok g c = tt
+
+pub returns-in-Err-Stopped-clause-fault : goal.returns-in-Err-Stopped-clause-fault
+returns-in-Err-Stopped-clause-fault g c = λ k is. absurd cc
+
+pub returns-in-Err-Stopped-clause-firm : goal.returns-in-Err-Stopped-clause-firm
+returns-in-Err-Stopped-clause-firm g c = firm_trans _ _ _ (g.met.V.Volume.passes_keeps _ _ c.end_words.ensures.passes).firm c.store_run.ensures.firm
+
+pub returns-in-Err-Stopped-clause-count : goal.returns-in-Err-Stopped-clause-count
+returns-in-Err-Stopped-clause-count g c = c.store_run.ensures.count ∙ c.end_words.ensures.looks.count
+
+pub returns-in-Err-Stopped-clause-idle : goal.returns-in-Err-Stopped-clause-idle
+returns-in-Err-Stopped-clause-idle g c = c.store_run.ensures.idle
+
+pub returns-in-Err-Stopped-clause-sound : goal.returns-in-Err-Stopped-clause-sound
+returns-in-Err-Stopped-clause-sound g c = c.store_run.ensures.sound
+
+pub end_words-requires-clause-sound : goal.end_words-requires-clause-sound
+end_words-requires-clause-sound g c = c.requires.sound
+
+pub end_words-requires-clause-block : goal.end_words-requires-clause-block
+end_words-requires-clause-block g c = c.requires.block
+
+pub end_words-requires-clause-name : goal.end_words-requires-clause-name
+end_words-requires-clause-name g c = c.requires.name
+
+pub end_words-requires-clause-some : goal.end_words-requires-clause-some
+end_words-requires-clause-some g c = c.requires.some
+
+pub end_words-requires-clause-within : goal.end_words-requires-clause-within
+end_words-requires-clause-within g c = c.requires.within
+
+pub store_run-requires-clause-sound : goal.store_run-requires-clause-sound
+store_run-requires-clause-sound g c = c.end_words.ensures.sound
+
+pub store_run-requires-clause-name : goal.store_run-requires-clause-name
+store_run-requires-clause-name g c = can_name_on _ _ _ _ c.requires.name c.end_words.ensures.caches
+
+pub store_run-requires-clause-idle : goal.store_run-requires-clause-idle
+store_run-requires-clause-idle g c = (g.met.V.Volume.passes_keeps _ _ c.end_words.ensures.passes).updating ∙ c.requires.idle
+
+pub returns-in_err-first-clause-caches : goal.returns-in_err-first-clause-caches
+returns-in_err-first-clause-caches g c = stored_read _ _ _ _ c.end_words.ensures.caches
+
+pub returns-in-Ok-clause-caches : goal.returns-in-Ok-clause-caches
+returns-in-Ok-clause-caches g c = stored_trans _ _ _ _ _ (stored_read _ _ _ _ c.end_words.ensures.caches) c.store_run.ensures.caches
+
+pub returns-in-Err-Fault-clause-caches : goal.returns-in-Err-Fault-clause-caches
+returns-in-Err-Fault-clause-caches g c = stored_trans _ _ _ _ _ (stored_read _ _ _ _ c.end_words.ensures.caches) c.store_run.ensures.caches
+
+pub returns-in-Err-Stopped-clause-caches : goal.returns-in-Err-Stopped-clause-caches
+returns-in-Err-Stopped-clause-caches g c = stored_trans _ _ _ _ _ (stored_read _ _ _ _ c.end_words.ensures.caches) c.store_run.ensures.caches
+
+pub returns-in-Ok-clause-standing : goal.returns-in-Ok-clause-standing
+returns-in-Ok-clause-standing g c = subst (λ f. SameBut c.args.b.0 f (g.V.Volume.kept c.store_run.new.self).standing) (g.met.V.Volume.passes_keeps _ _ c.end_words.ensures.passes).standing c.store_run.ensures.standing
+
+pub returns-in-Err-Fault-clause-standing : goal.returns-in-Err-Fault-clause-standing
+returns-in-Err-Fault-clause-standing g c = subst (λ f. SameBut c.args.b.0 f (g.V.Volume.kept c.store_run.new.self).standing) (g.met.V.Volume.passes_keeps _ _ c.end_words.ensures.passes).standing c.store_run.ensures.standing
+
+pub returns-in-Err-Stopped-clause-standing : goal.returns-in-Err-Stopped-clause-standing
+returns-in-Err-Stopped-clause-standing g c = subst (λ f. SameBut c.args.b.0 f (g.V.Volume.kept c.store_run.new.self).standing) (g.met.V.Volume.passes_keeps _ _ c.end_words.ensures.passes).standing c.store_run.ensures.standing
+
+pub returns-in_err-first-clause-standing : goal.returns-in_err-first-clause-standing
+returns-in_err-first-clause-standing g c = record { others = λ b w away. ap (λ f. f b w) (g.met.V.Volume.passes_keeps _ _ c.end_words.ensures.passes).standing }

@@ -153,3 +153,30 @@ returns-in_err-edits-clause-free g c = keeps_staged c.args.shape.now _ _ _ _ c.a
 
 pub returns-clause-free : goal.returns-clause-free
 returns-clause-free g c = keeps_staged c.args.shape.now _ _ _ _ c.as_slice-blocks.result.now c.args.taken _ _ _ _ _ _ c.last_number.ensures.looks (g.met.V.Volume.passes_keeps _ _ c.last_number.ensures.passes) c.as_slice-blocks.ensures c.stage_blocks.ensures.beside
+
+pub returns-in_err-last-clause-sound : goal.returns-in_err-last-clause-sound
+returns-in_err-last-clause-sound g c = c.last_number.ensures.sound
+
+pub returns-in_err-stage_blocks-clause-sound : goal.returns-in_err-stage_blocks-clause-sound
+returns-in_err-stage_blocks-clause-sound g c = c.stage_blocks.ensures.sound
+
+pub returns-in_err-edits-clause-sound : goal.returns-in_err-edits-clause-sound
+returns-in_err-edits-clause-sound g c = c.stage_blocks.ensures.sound
+
+pub returns-clause-sound : goal.returns-clause-sound
+returns-clause-sound g c = c.stage_blocks.ensures.sound
+
+pub returns-in_err-last-clause-goes : goal.returns-in_err-last-clause-goes
+returns-in_err-last-clause-goes g c = (g.met.V.Volume.passes_keeps _ _ c.last_number.ensures.passes).goes
+
+pub last_number-requires-clause-sound : goal.last_number-requires-clause-sound
+last_number-requires-clause-sound g c = c.requires.sound
+
+pub last_number-requires-clause-ino : goal.last_number-requires-clause-ino
+last_number-requires-clause-ino g c = c.requires.ino
+
+pub last_number-requires-clause-inode : goal.last_number-requires-clause-inode
+last_number-requires-clause-inode g c = c.requires.inode
+
+pub stage_blocks-requires-clause-sound : goal.stage_blocks-requires-clause-sound
+stage_blocks-requires-clause-sound g c = c.last_number.ensures.sound

@@ -1,6 +1,8 @@
-use Rattle.file_pages.proofs.Common.{◌/◌, ◌∙◌, length, sym, ap, subst, arith, placed_at, volume_layout, AllNamed, numbers}
+use Rattle.rio_base.proofs.Rules.{ends_by_well}
+use Rattle.file_pages.proofs.Ends.{ends_read}
+use Rattle.file_pages.proofs.Common.{◌/◌, ◌∙◌, length, sym, ap, subst, arith, placed_at, volume_layout, AllNamed, numbers, err_from_is_err_and, ends_by_after, le_trans}
 use Rattle.file_pages.specs.LookingUp.{page_blocks}
-use Rattle.file_pages.proofs.LookingUpRules.{look_trans, named_on}
+use Rattle.file_pages.proofs.LookingUpRules.{look_trans, named_on, can_look_up}
 use Rattle.file_pages.proofs.PageRead.{many_blocks}
 use Rattle.file_pages.proofs.reading.read_bytes.Goals as goal
 
@@ -32,3 +34,60 @@ returns-in_err-push_pages-clause-looks g c = look_trans _ _ _ _ c.page_blocks.en
 
 pub returns-clause-looks : goal.returns-clause-looks
 returns-clause-looks g c = look_trans _ _ _ _ c.page_blocks.ensures.looks c.push_pages.ensures.looks
+
+pub page_blocks-requires-clause-sound : goal.page_blocks-requires-clause-sound
+page_blocks-requires-clause-sound g c = c.requires.sound
+
+pub page_blocks-requires-clause-ino : goal.page_blocks-requires-clause-ino
+page_blocks-requires-clause-ino g c = c.requires.ino
+
+pub page_blocks-requires-clause-can : goal.page_blocks-requires-clause-can
+page_blocks-requires-clause-can g c = can_look_up c.args.shape.now _ c.requires.shape c.requires.mapped c.requires.named
+
+pub push_pages-requires-clause-ino : goal.push_pages-requires-clause-ino
+push_pages-requires-clause-ino g c = c.requires.ino
+
+pub push_pages-requires-clause-most : goal.push_pages-requires-clause-most
+push_pages-requires-clause-most g c = c.requires.most
+
+pub push_pages-requires-clause-within : goal.push_pages-requires-clause-within
+push_pages-requires-clause-within g c = c.requires.within
+
+pub push_pages-requires-clause-sound : goal.push_pages-requires-clause-sound
+push_pages-requires-clause-sound g c = c.page_blocks.ensures.sound
+
+pub returns-in_err-out-clause-sound : goal.returns-in_err-out-clause-sound
+returns-in_err-out-clause-sound g c = c.requires.sound
+
+pub returns-then-off-end-clause-sound : goal.returns-then-off-end-clause-sound
+returns-then-off-end-clause-sound g c = c.requires.sound
+
+pub returns-in_err-blocks-clause-looks : goal.returns-in_err-blocks-clause-looks
+returns-in_err-blocks-clause-looks g c = c.page_blocks.ensures.looks
+
+pub returns-in_err-blocks-clause-passes : goal.returns-in_err-blocks-clause-passes
+returns-in_err-blocks-clause-passes g c = c.page_blocks.ensures.passes
+
+pub returns-in_err-blocks-clause-sound : goal.returns-in_err-blocks-clause-sound
+returns-in_err-blocks-clause-sound g c = c.page_blocks.ensures.sound
+
+pub returns-in_err-blocks-clause-ends : goal.returns-in_err-blocks-clause-ends
+returns-in_err-blocks-clause-ends g c = let p = err_from_is_err_and c.from_residual-in_err-blocks.result c.from_residual-in_err-blocks.ensures.1 in ends_read _ _ _ c.from_residual-in_err-blocks.result _ p.0 c.in_err-blocks.was p.1 p.2 c.page_blocks.ensures.ends
+
+pub returns-in_err-push_pages-clause-passes : goal.returns-in_err-push_pages-clause-passes
+returns-in_err-push_pages-clause-passes g c = g.met.V.Blocks.passes_trans _ _ _ c.page_blocks.ensures.passes c.push_pages.ensures.passes
+
+pub returns-in_err-push_pages-clause-sound : goal.returns-in_err-push_pages-clause-sound
+returns-in_err-push_pages-clause-sound g c = c.push_pages.ensures.sound
+
+pub returns-clause-passes : goal.returns-clause-passes
+returns-clause-passes g c = g.met.V.Blocks.passes_trans _ _ _ c.page_blocks.ensures.passes c.push_pages.ensures.passes
+
+pub returns-clause-sound : goal.returns-clause-sound
+returns-clause-sound g c = c.push_pages.ensures.sound
+
+pub returns-in_err-push_pages-clause-ends : goal.returns-in_err-push_pages-clause-ends
+returns-in_err-push_pages-clause-ends g c = let p = err_from_is_err_and c.from_residual-in_err-push_pages.result c.from_residual-in_err-push_pages.ensures.1 in ends_by_after _ _ _ _ _ c.page_blocks.ensures.ends.later (c.in_ok-blocks.ensures.ends.runs (λ a. cc)) (ends_read _ _ _ c.from_residual-in_err-push_pages.result _ p.0 c.in_err-push_pages.was p.1 p.2 c.push_pages.ensures.ends)
+
+pub returns-clause-ends : goal.returns-clause-ends
+returns-clause-ends g c = ends_by_well _ _ _ _ (le_trans c.page_blocks.ensures.ends.later c.push_pages.ensures.ends.later) (c.in_ok-push_pages.ensures.ends.runs (λ a. cc) ∙ c.in_ok-blocks.ensures.ends.runs (λ a. cc)) (λ a. cc) (λ a. cc)

@@ -1,11 +1,11 @@
-use Rattle.file_pages.proofs.Common.{◌<◌, ◌∙◌, ℕ, length, subst, arith, inl, inr, err_from_is_err_and, ◌then◌, numbers, volume_layout, LeavesInUse, free_blocks}
+use Rattle.file_pages.proofs.Common.{◌<◌, ◌∙◌, ℕ, length, subst, arith, inl, inr, err_from_is_err_and, ◌then◌, numbers, volume_layout, LeavesInUse, free_blocks, ends_by_after}
 use Rattle.rio_model.proofs.PlacedRules.{layout_refl}
 use Rattle.file_pages.specs.Changes.{Grows, planned_node}
 use Rattle.file_pages.specs.Files.{SetsBoth, file_bytes}
 use Rattle.file_pages.proofs.OrderRules.{leaves_looked, leaves_trans, ready_left}
 use Rattle.file_pages.specs.Preparing.{Prepared}
 use Rattle.file_pages.proofs.Dropped.{file_kind}
-use Rattle.file_pages.proofs.Ends.{err_handed, size_err, unrefused_err}
+use Rattle.file_pages.proofs.Ends.{err_handed, size_err, unrefused_err, size_then, ends_vol_size}
 use Rattle.file_pages.specs.declared.failures.SizeFail.TheVariants.{NoSpace, TooLarge}
 use Rattle.file_pages.proofs.Extended.{grow_new, grow_old, grow_prepared}
 use Rattle.file_pages.proofs.Forgotten.{grown_frees, prepared_forgets}
@@ -298,3 +298,57 @@ returns-in_err-commit_change-clause-goes g c =
 pub returns-clause-goes : goal.returns-clause-goes
 returns-clause-goes g c =
     (g.met.V.Volume.passes_keeps _ _ c.take_lowest.ensures.passes).goes then c.plan_growth.ensures.goes then c.clear_tail.ensures.goes then c.commit_change.ensures.goes
+
+pub returns-in_err-taken-clause-sound : goal.returns-in_err-taken-clause-sound
+returns-in_err-taken-clause-sound g c = c.take_lowest.ensures.sound
+
+pub returns-in_err-change-clause-sound : goal.returns-in_err-change-clause-sound
+returns-in_err-change-clause-sound g c = c.plan_growth.ensures.sound
+
+pub returns-in_err-clear_tail-clause-sound : goal.returns-in_err-clear_tail-clause-sound
+returns-in_err-clear_tail-clause-sound g c = c.clear_tail.ensures.sound
+
+pub returns-in_err-commit_change-clause-sound : goal.returns-in_err-commit_change-clause-sound
+returns-in_err-commit_change-clause-sound g c = c.commit_change.ensures.sound
+
+pub returns-clause-sound : goal.returns-clause-sound
+returns-clause-sound g c = c.commit_change.ensures.sound
+
+pub returns-in_err-change-clause-ends : goal.returns-in_err-change-clause-ends
+returns-in_err-change-clause-ends g c = let p = err_from_is_err_and c.from_residual-in_err-change.result c.from_residual-in_err-change.ensures.1 in size_then _ _ _ c.take_lowest.result _ _ c.in_ok-taken.was c.take_lowest.ensures.ends (size_err _ _ _ c.from_residual-in_err-change.result _ _ c.in_err-change.was p.1 p.2 c.plan_growth.ensures.ends)
+
+pub returns-in_err-clear_tail-clause-ends : goal.returns-in_err-clear_tail-clause-ends
+returns-in_err-clear_tail-clause-ends g c = let p = err_from_is_err_and c.from_residual-in_err-clear_tail.result c.from_residual-in_err-clear_tail.ensures.1 in size_then _ _ _ c.take_lowest.result _ _ c.in_ok-taken.was c.take_lowest.ensures.ends (size_then _ _ _ c.plan_growth.result _ _ c.in_ok-change.was c.plan_growth.ensures.ends (ends_vol_size _ _ _ c.from_residual-in_err-clear_tail.result _ p.0 c.in_err-clear_tail.was p.1 p.2 c.clear_tail.ensures.ends))
+
+pub returns-in_err-commit_change-clause-ends : goal.returns-in_err-commit_change-clause-ends
+returns-in_err-commit_change-clause-ends g c = let p = err_from_is_err_and c.from_residual-in_err-commit_change.result c.from_residual-in_err-commit_change.ensures.1 in size_then _ _ _ c.take_lowest.result _ _ c.in_ok-taken.was c.take_lowest.ensures.ends (size_then _ _ _ c.plan_growth.result _ _ c.in_ok-change.was c.plan_growth.ensures.ends (ends_by_after _ _ _ _ _ c.clear_tail.ensures.ends.later c.in_ok-clear_tail.ensures.ends.cause (size_err _ _ _ c.from_residual-in_err-commit_change.result _ _ c.in_err-commit_change.was p.1 p.2 c.commit_change.ensures.ends)))
+
+pub take_lowest-requires-clause-sound : goal.take_lowest-requires-clause-sound
+take_lowest-requires-clause-sound g c = c.requires.sound
+
+pub take_lowest-requires-clause-ready : goal.take_lowest-requires-clause-ready
+take_lowest-requires-clause-ready g c = c.requires.ready
+
+pub plan_growth-requires-clause-sound : goal.plan_growth-requires-clause-sound
+plan_growth-requires-clause-sound g c = c.take_lowest.ensures.sound
+
+pub plan_growth-requires-clause-ino : goal.plan_growth-requires-clause-ino
+plan_growth-requires-clause-ino g c = c.requires.ino
+
+pub plan_growth-requires-clause-grows : goal.plan_growth-requires-clause-grows
+plan_growth-requires-clause-grows g c = c.requires.grows
+
+pub plan_growth-requires-clause-apart : goal.plan_growth-requires-clause-apart
+plan_growth-requires-clause-apart g c = c.in_ok-taken.ensures.apart
+
+pub clear_tail-requires-clause-sound : goal.clear_tail-requires-clause-sound
+clear_tail-requires-clause-sound g c = c.plan_growth.ensures.sound
+
+pub clear_tail-requires-clause-ino : goal.clear_tail-requires-clause-ino
+clear_tail-requires-clause-ino g c = c.requires.ino
+
+pub commit_change-requires-clause-sound : goal.commit_change-requires-clause-sound
+commit_change-requires-clause-sound g c = c.clear_tail.ensures.sound
+
+pub commit_change-requires-clause-ino : goal.commit_change-requires-clause-ino
+commit_change-requires-clause-ino g c = c.requires.ino

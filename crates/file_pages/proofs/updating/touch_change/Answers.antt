@@ -1,5 +1,8 @@
-use Rattle.file_pages.proofs.Common.{sym, subst, Contains}
-use Rattle.file_pages.specs.Updating.{InOneBlock}
+use Rattle.file_pages.proofs.Common.{sym, subst, Contains, arith, caches_by_one, firm_trans, inl, inr, refl, ◌then◌, ◌∙◌}
+use Rattle.file_pages.specs.Updating.{InOneBlock, IsEdited}
+use Rattle.rio_base.proofs.BlockSets.{caches_by_trans, caches_by_wider}
+use Rattle.rio_base.proofs.BlockRules.{ends_later, still_unnamed}
+use Rattle.rio_base.proofs.Rules.{looks_trans}
 use Rattle.file_pages.proofs.updating.touch_change.Goals as goal
 
 pub touch_table-requires-clause-within : goal.touch_table-requires-clause-within
@@ -7,3 +10,114 @@ touch_table-requires-clause-within g c = λ e on. c.requires.can.makes.to e (sub
 
 pub touch_table-requires-clause-one : goal.touch_table-requires-clause-one
 touch_table-requires-clause-one g c = subst InOneBlock (sym c.as_slice.ensures) c.requires.can.one
+
+pub returns-in_err-touch-clause-looks : goal.returns-in_err-touch-clause-looks
+returns-in_err-touch-clause-looks g c = c.touch.ensures.looks
+
+pub returns-in_err-touch-clause-standing : goal.returns-in_err-touch-clause-standing
+returns-in_err-touch-clause-standing g c = c.touch.ensures.standing
+
+pub returns-in_err-touch-clause-firm : goal.returns-in_err-touch-clause-firm
+returns-in_err-touch-clause-firm g c = c.touch.ensures.firm
+
+pub returns-in_err-touch-clause-in_update : goal.returns-in_err-touch-clause-in_update
+returns-in_err-touch-clause-in_update g c = c.touch.ensures.in_update
+
+pub returns-in_err-touch-clause-goes : goal.returns-in_err-touch-clause-goes
+returns-in_err-touch-clause-goes g c = c.touch.ensures.goes
+
+pub returns-in_err-touch-clause-sound : goal.returns-in_err-touch-clause-sound
+returns-in_err-touch-clause-sound g c = c.touch.ensures.sound
+
+pub returns-in_err-touch-2-clause-looks : goal.returns-in_err-touch-2-clause-looks
+returns-in_err-touch-2-clause-looks g c = looks_trans _ _ _ c.touch.ensures.looks c.touch-2.ensures.looks
+
+pub returns-in_err-touch-2-clause-standing : goal.returns-in_err-touch-2-clause-standing
+returns-in_err-touch-2-clause-standing g c = c.touch-2.ensures.standing ∙ c.touch.ensures.standing
+
+pub returns-in_err-touch-2-clause-firm : goal.returns-in_err-touch-2-clause-firm
+returns-in_err-touch-2-clause-firm g c = firm_trans _ _ _ c.touch.ensures.firm c.touch-2.ensures.firm
+
+pub returns-in_err-touch-2-clause-in_update : goal.returns-in_err-touch-2-clause-in_update
+returns-in_err-touch-2-clause-in_update g c = c.touch-2.ensures.in_update
+
+pub returns-in_err-touch-2-clause-goes : goal.returns-in_err-touch-2-clause-goes
+returns-in_err-touch-2-clause-goes g c = c.touch.ensures.goes then c.touch-2.ensures.goes
+
+pub returns-in_err-touch-2-clause-sound : goal.returns-in_err-touch-2-clause-sound
+returns-in_err-touch-2-clause-sound g c = c.touch-2.ensures.sound
+
+pub returns-in_err-touch_table-clause-looks : goal.returns-in_err-touch_table-clause-looks
+returns-in_err-touch_table-clause-looks g c = looks_trans _ _ _ (looks_trans _ _ _ c.touch.ensures.looks c.touch-2.ensures.looks) c.touch_table.ensures.looks
+
+pub returns-in_err-touch_table-clause-standing : goal.returns-in_err-touch_table-clause-standing
+returns-in_err-touch_table-clause-standing g c = c.touch_table.ensures.standing ∙ c.touch-2.ensures.standing ∙ c.touch.ensures.standing
+
+pub returns-in_err-touch_table-clause-firm : goal.returns-in_err-touch_table-clause-firm
+returns-in_err-touch_table-clause-firm g c = firm_trans _ _ _ (firm_trans _ _ _ c.touch.ensures.firm c.touch-2.ensures.firm) c.touch_table.ensures.firm
+
+pub returns-in_err-touch_table-clause-in_update : goal.returns-in_err-touch_table-clause-in_update
+returns-in_err-touch_table-clause-in_update g c = c.touch_table.ensures.in_update
+
+pub returns-in_err-touch_table-clause-goes : goal.returns-in_err-touch_table-clause-goes
+returns-in_err-touch_table-clause-goes g c = c.touch.ensures.goes then c.touch-2.ensures.goes then c.touch_table.ensures.goes
+
+pub returns-in_err-touch_table-clause-sound : goal.returns-in_err-touch_table-clause-sound
+returns-in_err-touch_table-clause-sound g c = c.touch_table.ensures.sound
+
+pub returns-clause-looks : goal.returns-clause-looks
+returns-clause-looks g c = looks_trans _ _ _ (looks_trans _ _ _ c.touch.ensures.looks c.touch-2.ensures.looks) c.touch_table.ensures.looks
+
+pub returns-clause-standing : goal.returns-clause-standing
+returns-clause-standing g c = c.touch_table.ensures.standing ∙ c.touch-2.ensures.standing ∙ c.touch.ensures.standing
+
+pub returns-clause-firm : goal.returns-clause-firm
+returns-clause-firm g c = firm_trans _ _ _ (firm_trans _ _ _ c.touch.ensures.firm c.touch-2.ensures.firm) c.touch_table.ensures.firm
+
+pub returns-clause-in_update : goal.returns-clause-in_update
+returns-clause-in_update g c = c.touch_table.ensures.in_update
+
+pub returns-clause-goes : goal.returns-clause-goes
+returns-clause-goes g c = c.touch.ensures.goes then c.touch-2.ensures.goes then c.touch_table.ensures.goes
+
+pub returns-clause-ends : goal.returns-clause-ends
+returns-clause-ends g c = ends_later _ _ _ _ c.touch.ensures.ends.later c.in_ok-touch.ensures.ends.cause (ends_later _ _ _ _ c.touch-2.ensures.ends.later c.in_ok-touch-2.ensures.ends.cause c.in_ok-touch_table.ensures.ends)
+
+pub returns-clause-sound : goal.returns-clause-sound
+returns-clause-sound g c = c.touch_table.ensures.sound
+
+pub touch-requires-clause-sound : goal.touch-requires-clause-sound
+touch-requires-clause-sound g c = c.requires.sound
+
+pub touch-requires-clause-in_update : goal.touch-requires-clause-in_update
+touch-requires-clause-in_update g c = c.requires.in_update
+
+pub touch-requires-clause-room : goal.touch-requires-clause-room
+touch-requires-clause-room g c = inr (omega (arith, c.requires.room))
+
+pub touch-requires-2-clause-sound : goal.touch-requires-2-clause-sound
+touch-requires-2-clause-sound g c = c.touch.ensures.sound
+
+pub touch-requires-2-clause-in_update : goal.touch-requires-2-clause-in_update
+touch-requires-2-clause-in_update g c = c.touch.ensures.in_update
+
+pub touch_table-requires-clause-sound : goal.touch_table-requires-clause-sound
+touch_table-requires-clause-sound g c = c.touch-2.ensures.sound
+
+pub touch_table-requires-clause-shape : goal.touch_table-requires-clause-shape
+touch_table-requires-clause-shape g c = still_unnamed _ _ _ _ (still_unnamed _ _ _ _ c.requires.shape c.touch.ensures.looks.count c.touch.ensures.caches) c.touch-2.ensures.looks.count c.touch-2.ensures.caches
+
+pub touch_table-requires-clause-in_update : goal.touch_table-requires-clause-in_update
+touch_table-requires-clause-in_update g c = c.touch-2.ensures.in_update
+
+pub returns-in_err-touch-clause-caches : goal.returns-in_err-touch-clause-caches
+returns-in_err-touch-clause-caches g c = caches_by_one _ _ _ _ _ c.touch.ensures.caches (inl refl, refl)
+
+pub returns-in_err-touch-2-clause-caches : goal.returns-in_err-touch-2-clause-caches
+returns-in_err-touch-2-clause-caches g c = caches_by_trans _ _ _ _ (caches_by_one _ _ _ _ _ c.touch.ensures.caches (inl refl, refl)) (caches_by_one _ _ _ _ _ c.touch-2.ensures.caches (inr (inl c.inode_block.ensures), refl))
+
+pub returns-in_err-touch_table-clause-caches : goal.returns-in_err-touch_table-clause-caches
+returns-in_err-touch_table-clause-caches g c = caches_by_trans _ _ _ _ (caches_by_one _ _ _ _ _ c.touch.ensures.caches (inl refl, refl)) (caches_by_trans _ _ _ _ (caches_by_one _ _ _ _ _ c.touch-2.ensures.caches (inr (inl c.inode_block.ensures), refl)) (caches_by_wider _ _ _ _ (λ b name h. (inr (inr (subst (λ es. IsEdited es b) c.as_slice.ensures h.0)), h.1)) c.touch_table.ensures.caches))
+
+pub returns-clause-caches : goal.returns-clause-caches
+returns-clause-caches g c = caches_by_trans _ _ _ _ (caches_by_one _ _ _ _ _ c.touch.ensures.caches (inl refl, refl)) (caches_by_trans _ _ _ _ (caches_by_one _ _ _ _ _ c.touch-2.ensures.caches (inr (inl c.inode_block.ensures), refl)) (caches_by_wider _ _ _ _ (λ b name h. (inr (inr (subst (λ es. IsEdited es b) c.as_slice.ensures h.0)), h.1)) c.touch_table.ensures.caches))

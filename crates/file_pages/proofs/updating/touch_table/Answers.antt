@@ -7,3 +7,54 @@ touch-requires-clause-place g c = first_place c.args.edits.now _ _ _ (some_lengt
 
 pub returns-clause-ok : goal.returns-clause-ok
 returns-clause-ok g c = λ e on. first_touched c.args.edits.now _ e _ _ (some_length _ (sym c.is_empty.ensures ∙ c.if-is_empty.false)) c.requires.one c.in_ok-touch.ensures.ok on
+
+pub returns-in_err-touch-clause-looks : goal.returns-in_err-touch-clause-looks
+returns-in_err-touch-clause-looks g c = c.touch.ensures.looks
+
+pub returns-in_err-touch-clause-standing : goal.returns-in_err-touch-clause-standing
+returns-in_err-touch-clause-standing g c = c.touch.ensures.standing
+
+pub returns-in_err-touch-clause-firm : goal.returns-in_err-touch-clause-firm
+returns-in_err-touch-clause-firm g c = c.touch.ensures.firm
+
+pub returns-in_err-touch-clause-in_update : goal.returns-in_err-touch-clause-in_update
+returns-in_err-touch-clause-in_update g c = c.touch.ensures.in_update
+
+pub returns-in_err-touch-clause-goes : goal.returns-in_err-touch-clause-goes
+returns-in_err-touch-clause-goes g c = c.touch.ensures.goes
+
+pub returns-in_err-touch-clause-sound : goal.returns-in_err-touch-clause-sound
+returns-in_err-touch-clause-sound g c = c.touch.ensures.sound
+
+pub returns-clause-looks : goal.returns-clause-looks
+returns-clause-looks g c = c.touch.ensures.looks
+
+pub returns-clause-standing : goal.returns-clause-standing
+returns-clause-standing g c = c.touch.ensures.standing
+
+pub returns-clause-firm : goal.returns-clause-firm
+returns-clause-firm g c = c.touch.ensures.firm
+
+pub returns-clause-in_update : goal.returns-clause-in_update
+returns-clause-in_update g c = c.touch.ensures.in_update
+
+pub returns-clause-goes : goal.returns-clause-goes
+returns-clause-goes g c = c.touch.ensures.goes
+
+pub returns-clause-sound : goal.returns-clause-sound
+returns-clause-sound g c = c.touch.ensures.sound
+
+pub returns-clause-ends : goal.returns-clause-ends
+returns-clause-ends g c = c.in_ok-touch.ensures.ends
+
+pub returns-then-is_empty-clause-sound : goal.returns-then-is_empty-clause-sound
+returns-then-is_empty-clause-sound g c = c.requires.sound
+
+pub returns-then-is_empty-clause-in_update : goal.returns-then-is_empty-clause-in_update
+returns-then-is_empty-clause-in_update g c = c.requires.in_update
+
+pub touch-requires-clause-sound : goal.touch-requires-clause-sound
+touch-requires-clause-sound g c = c.requires.sound
+
+pub touch-requires-clause-in_update : goal.touch-requires-clause-in_update
+touch-requires-clause-in_update g c = c.requires.in_update

@@ -1,7 +1,7 @@
 use Rattle.file_pages.proofs.Common.{◌≡◌, ◌+◌, ◌<◌, ◌∙◌, length, sym, subst, arith, err_from_is_err_and, free_blocks, IsIno, placed_at}
 use Rattle.file_pages.specs.Changes.{wanted_blocks}
 use Rattle.file_pages.specs.Files.{HasSpace, file_bytes}
-use Rattle.file_pages.specs.declared.failures.WriteFail.TheVariants.{NoSpace}
+use Rattle.file_pages.specs.declared.failures.WriteFail.TheVariants.{NoSpace, TooLarge}
 use Rattle.file_pages.proofs.Resized.{file_ino, file_placed, file_size}
 use Rattle.file_pages.proofs.Updated.{some_length}
 use Rattle.file_pages.proofs.Written.{ends_same, ends_write_ok, leaves_same, no_length, none_both, was_err, write_fault, write_ready, write_refused, write_stopped}
@@ -72,3 +72,39 @@ returns-clause-space g c =
 
 pub returns-clause-ends : goal.returns-clause-ends
 returns-clause-ends g c = ends_write_ok _ _ c.write_at.result _ _ c.in_ok-write_at.was c.write_at.ensures.ends
+
+pub returns-in_err-write_at-clause-goes : goal.returns-in_err-write_at-clause-goes
+returns-in_err-write_at-clause-goes g c = c.write_at.ensures.goes
+
+pub returns-in_err-write_at-clause-sound : goal.returns-in_err-write_at-clause-sound
+returns-in_err-write_at-clause-sound g c = c.write_at.ensures.sound
+
+pub returns-clause-goes : goal.returns-clause-goes
+returns-clause-goes g c = c.write_at.ensures.goes
+
+pub returns-clause-sound : goal.returns-clause-sound
+returns-clause-sound g c = c.write_at.ensures.sound
+
+pub write_at-requires-clause-sound : goal.write_at-requires-clause-sound
+write_at-requires-clause-sound g c = c.requires.sound
+
+pub write_at-requires-clause-ready : goal.write_at-requires-clause-ready
+write_at-requires-clause-ready g c = c.requires.ready
+
+pub returns-then-is_empty-clause-sound : goal.returns-then-is_empty-clause-sound
+returns-then-is_empty-clause-sound g c = c.requires.sound
+
+pub returns-clause-too_large : goal.returns-clause-too_large
+returns-clause-too_large g c = λ is. absurd cc
+
+pub returns-clause-no_space : goal.returns-clause-no_space
+returns-clause-no_space g c = λ is. absurd cc
+
+pub returns-clause-stopped : goal.returns-clause-stopped
+returns-clause-stopped g c = λ is. absurd cc
+
+pub returns-clause-fault : goal.returns-clause-fault
+returns-clause-fault g c = λ k is. absurd cc
+
+pub returns-in_err-write_at-clause-too_large : goal.returns-in_err-write_at-clause-too_large
+returns-in_err-write_at-clause-too_large g c = let p = err_from_is_err_and c.from_residual.result c.from_residual.ensures.1 in λ is. absurd (c.write_at.ensures.small (was_err c.write_at.result c.from_residual.result _ _ TooLarge c.in_err-write_at.was p.1 p.2 is))
