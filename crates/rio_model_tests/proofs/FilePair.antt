@@ -34,19 +34,19 @@ pub record IsFilePair (c : Contents) : Type 0 where
 
 -- ---- its entries. The registry has one page, so frame k is page 18 + k
 
-first_valid : (words : List ℕ) → HasPages words → IsValid words 0
+pub first_valid : (words : List ℕ) → HasPages words → IsValid words 0
 first_valid words h = record { within = omega (arith, h.frames); valid = ap (λ t. is_valid t) h.first }
 
-second_valid : (words : List ℕ) → HasPages words → IsValid words 1
+pub second_valid : (words : List ℕ) → HasPages words → IsValid words 1
 second_valid words h = record { within = omega (arith, h.frames); valid = ap (λ t. is_valid t) h.second }
 
-of_four : (words : List ℕ) → HasPages words → tag_block (tag_at words 0) ≡ 4
+pub of_four : (words : List ℕ) → HasPages words → tag_block (tag_at words 0) ≡ 4
 of_four words h = ap (λ t. tag_block t) h.first
 
-of_five : (words : List ℕ) → HasPages words → tag_block (tag_at words 1) ≡ 5
+pub of_five : (words : List ℕ) → HasPages words → tag_block (tag_at words 1) ≡ 5
 of_five words h = ap (λ t. tag_block t) h.second
 
-valid_two : (words : List ℕ) (k : ℕ) → HasPages words → IsValid words k → (k ≡ 0) ⊎ (k ≡ 1)
+pub valid_two : (words : List ℕ) (k : ℕ) → HasPages words → IsValid words k → (k ≡ 0) ⊎ (k ≡ 1)
 valid_two words k h v = by (cases_eq k 0) (cases_eq k 1)
   where
     by : (k ≡ 0) ⊎ (k ≢ 0) → (k ≡ 1) ⊎ (k ≢ 1) → (k ≡ 0) ⊎ (k ≡ 1)
@@ -70,7 +70,7 @@ frame_is : (words : List ℕ) (k : ℕ) → HasPages words → page_of_entry wor
 unfolding frame_page registry_pages
 frame_is words k h = place_bare words k (inl (λ e. absurd (omega (arith, e, h.shut)))) ∙ omega (arith, h.frames)
 
-first_found : (words : List ℕ) → HasPages words → entry_of_block words 4 ≡ Some 0
+pub first_found : (words : List ℕ) → HasPages words → entry_of_block words 4 ≡ Some 0
 first_found words h = found_at words 4 0 (blocks_apart words h) (first_valid words h) (of_four words h)
 
 -- ---- pages that the disk has

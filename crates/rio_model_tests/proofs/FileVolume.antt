@@ -44,7 +44,7 @@ file_layout f = volume_layout file_shape f
 
 -- ---- its blocks
 
-reserved_is : reserved file_shape ≡ 3
+pub reserved_is : reserved file_shape ≡ 3
 unfolding more_bitmap
 reserved_is = refl
 
@@ -79,10 +79,10 @@ pub owns_second : (f : BlockWords) → HasFile f → Owns (file_layout f) 2 (AtP
 owns_second f h = owns_page f 1 h (omega arith)
 
 -- the slots that count
-abbrev IsSlot : ℕ → Slot → Type 0
+abbrev pub IsSlot : ℕ → Slot → Type 0
 IsSlot i s = ((i ≡ 1) × (s ≡ AtPage 0)) ⊎ (((i ≡ 2) × (s ≡ AtPage 0)) ⊎ ((i ≡ 2) × (s ≡ AtPage 1)))
 
-slots : (f : BlockWords) (i : ℕ) (s : Slot) → HasFile f → Owns (file_layout f) i s → IsSlot i s
+pub slots : (f : BlockWords) (i : ℕ) (s : Slot) → HasFile f → Owns (file_layout f) i s → IsSlot i s
 slots f i s h own = by (cases_eq i 1) (cases_eq i 2)
   where
     in_root : (s : Slot) → Within 64 s → s ≡ AtPage 0
@@ -112,7 +112,7 @@ slots f i s h own = by (cases_eq i 1) (cases_eq i 2)
         omega (arith, some))
 
 -- the block of one of them
-slot_block : (f : BlockWords) (i j : ℕ) (s t : Slot) → i ≡ j → s ≡ t → ((file_layout f).node i).block s ≡ ((file_layout f).node j).block t
+pub slot_block : (f : BlockWords) (i j : ℕ) (s t : Slot) → i ≡ j → s ≡ t → ((file_layout f).node i).block s ≡ ((file_layout f).node j).block t
 slot_block f i j s t e d = ap (λ x. ((file_layout f).node x).block s) e ∙ ap (λ x. ((file_layout f).node j).block x) d
 
 pub owned_is : (f : BlockWords) (b : ℕ) → HasFile f → Owned (file_layout f) b → (b ≡ 3) ⊎ ((b ≡ 4) ⊎ (b ≡ 5))
@@ -231,22 +231,26 @@ no_owner_fails f owners h none has = subst (OwnerIs (file_layout f) 4) none (has
 
 -- ---- the state that is read
 
-held_kind : (f : BlockWords) (d : ℕ) → HasFile f → (held_of file_shape f d).kind ≡ 1 → d ≡ 1
-held_kind f d h one = by (cases_eq d 1) (cases_eq d 2)
+-- any other inode, and any number that is none, holds nothing
+pub held_none : (f : BlockWords) (d : ℕ) → HasFile f → d ≢ 1 → d ≢ 2 → (held_of file_shape f d).kind ≡ 0
+held_none f d h a b = by (nat_le 1 d && nat_le d 32) refl
   where
     low : (d n : ℕ) → (nat_le 1 d && nat_le d n) ≡ true → d ≢ 1 → d ≢ 2 → (2 < d) × (d ≤ n)
     low d n e a b = let from : 1 ≤ d = grind (arith, nat_tests) in let to : d ≤ n = grind (arith, nat_tests) in (omega (arith, from, a, b), to)
 
-    none : (t : Bool) → (nat_le 1 d && nat_le d 32) ≡ t → d ≢ 1 → d ≢ 2 → (held_of file_shape f d).kind ≡ 0
-    none true e a b = let within = low d 32 e a b in ap (λ t. (cond t (held f (placed_at f d)) nothing).kind) e ∙ h.others d within.0 within.1
-    none false e a b = ap (λ t. (cond t (held f (placed_at f d)) nothing).kind) e
+    by : (t : Bool) → (nat_le 1 d && nat_le d 32) ≡ t → (held_of file_shape f d).kind ≡ 0
+    by true e = let within = low d 32 e a b in ap (λ t. (cond t (held f (placed_at f d)) nothing).kind) e ∙ h.others d within.0 within.1
+    by false e = ap (λ t. (cond t (held f (placed_at f d)) nothing).kind) e
 
+pub held_kind : (f : BlockWords) (d : ℕ) → HasFile f → (held_of file_shape f d).kind ≡ 1 → d ≡ 1
+held_kind f d h one = by (cases_eq d 1) (cases_eq d 2)
+  where
     by : (d ≡ 1) ⊎ (d ≢ 1) → (d ≡ 2) ⊎ (d ≢ 2) → d ≡ 1
     by (inl e) x = e
     by (inr a) (inl e) = absurd (let two : 2 ≡ 1 = sym (ap (λ x. (held_of file_shape f x).kind) e ∙ h.kind) ∙ one in omega (arith, two))
-    by (inr a) (inr b) = absurd (let zero : 0 ≡ 1 = sym (none _ refl a b) ∙ one in omega (arith, zero))
+    by (inr a) (inr b) = absurd (let zero : 0 ≡ 1 = sym (held_none f d h a b) ∙ one in omega (arith, zero))
 
-root_held_size : (f : BlockWords) → HasFile f → (held_of file_shape f 1).size ≡ 64
+pub root_held_size : (f : BlockWords) → HasFile f → (held_of file_shape f 1).size ≡ 64
 root_held_size f h = ap (λ k. cond (nat_lt 0 k) (inode_size f 1) 0) h.root_kind ∙ h.root_size
 
 -- the root has one entry
@@ -272,9 +276,13 @@ no_node_read f pages scratch h = (reads_made file_shape pages scratch (held_of f
 in_word : BlockWords → ℕ → ℕ → ℕ → ℕ → ℕ
 in_word f kind size b y = if nat_lt 0 kind && nat_lt (8 * y) size then f b (y % 512) else 0
 
-root_word : (f : BlockWords) → HasFile f → (held_of file_shape f 1).word 0 ≡ f 3 0
+pub root_word : (f : BlockWords) → HasFile f → (held_of file_shape f 1).word 0 ≡ f 3 0
 unfolding in_word
 root_word f h = ap (λ k. in_word f k (inode_size f 1) (((file_layout f).node 1).block (AtPage 0)) 0) h.root_kind ∙ ap (λ z. in_word f 1 z (((file_layout f).node 1).block (AtPage 0)) 0) h.root_size ∙ ap (λ b. in_word f 1 64 b 0) (root_block f h)
+
+pub root_next : (f : BlockWords) → HasFile f → (held_of file_shape f 1).word 1 ≡ f 3 1
+unfolding in_word
+root_next f h = ap (λ k. in_word f k (inode_size f 1) (((file_layout f).node 1).block (AtPage 0)) 1) h.root_kind ∙ ap (λ z. in_word f 1 z (((file_layout f).node 1).block (AtPage 0)) 1) h.root_size ∙ ap (λ b. in_word f 1 64 b 1) (root_block f h)
 
 -- the entry's name is found with the file's number
 pub file_name_read : (f : BlockWords) (pages scratch : ℕ) → HasFile f → get (file_read f pages scratch).names (1, entry_name (held_of file_shape f 1) 0) ≡ Some 2
