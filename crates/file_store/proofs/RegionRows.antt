@@ -137,14 +137,16 @@ region_may shape m l y j i r skip n ready leaves ino free p = record {
     frees = λ b on. absurd (no_own m.words i (p.turns.freed b on).0.0 free (p.turns.freed b on).0.1);
   };
   can = record {
-    ino = subst (IsIno shape) (sym p.ino) ino;
-    can = record {
-      words = λ e on. (edit_of p.node n.edits e p.tables on).1;
-      from = λ e on. (let at = table e on in subst (λ b. reserved shape ≤ b) at.2 (p.turns.new_fits.from (AtTable at.0) at.1));
-      to = λ e on. (let at = table e on in subst (λ b. b < shape.blocks) at.2 (p.turns.new_fits.to (AtTable at.0) at.1));
-      taken = λ b on. (taken_free b (p.turns.taken b on).0).to;
-      freed = λ b on. absurd (no_own m.words i (p.turns.freed b on).0.0 free (p.turns.freed b on).0.1);
-      apart = λ b on off. absurd (no_own m.words i (p.turns.freed b off).0.0 free (p.turns.freed b off).0.1);
+    fits = record {
+      ino = subst (IsIno shape) (sym p.ino) ino;
+      can = record {
+        words = λ e on. (edit_of p.node n.edits e p.tables on).1;
+        from = λ e on. (let at = table e on in subst (λ b. reserved shape ≤ b) at.2 (p.turns.new_fits.from (AtTable at.0) at.1));
+        to = λ e on. (let at = table e on in subst (λ b. b < shape.blocks) at.2 (p.turns.new_fits.to (AtTable at.0) at.1));
+        taken = λ b on. (taken_free b (p.turns.taken b on).0).to;
+        freed = λ b on. absurd (no_own m.words i (p.turns.freed b on).0.0 free (p.turns.freed b on).0.1);
+        apart = λ b on off. absurd (no_own m.words i (p.turns.freed b off).0.0 free (p.turns.freed b off).0.1);
+      };
     };
     few = record { table = p.node.block (AtTable 0); first = 0; second = 0; each = λ e on. inl (the_table e on) };
     unnamed = λ e on cached. (let at = table e on in subst (λ b. y.names b ≡ None) at.2 (p.unnamed at.0 at.1 (subst (λ b. y.cached b ≡ true) (sym at.2) cached)));
