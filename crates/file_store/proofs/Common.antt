@@ -79,6 +79,6 @@ pub use Rattle.rio_model.specs.declared.state.State.{State}
 pub use Rattle.rio_requests.specs.Answer.{answered, at_inode, on_file, refused}
 pub use Rattle.rio_requests.specs.Answers.{at_row, empty_node, found, is_below, is_open, make_new, moved, new_region, replaced, row_wanted, truncate_in, with_room, with_size, without}
 pub use Rattle.rio_requests.specs.Parts.{NoneDone, WriteDone}
-pub use Rattle.rio_requests.specs.declared.plain.Answered.{Answered}
+pub use Rattle.rio_requests.specs.declared.answered.Answered.{Answered}
 pub use Rattle.rio_requests.specs.declared.reply.Reply.{Reply}
 pub use Rattle.rio_requests.specs.declared.reply.Reply.TheVariants.{Number}

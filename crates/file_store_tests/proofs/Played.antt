@@ -6,7 +6,7 @@ use Rattle.rio_base.specs.declared.places.VolumeShape.{VolumeShape}
 use Rattle.rio_base.specs.Blocks.{BlockWords, Caches, Health, Looks, Seen}
 use Rattle.rio_base.specs.Rules.{true_false}
 use Rattle.rio_base.specs.Volume.{Below, Kept, Passes}
-use Rattle.rio_requests.specs.declared.plain.Answered.{Answered}
+use Rattle.rio_requests.specs.declared.answered.Answered.{Answered}
 use Rattle.rio_requests.specs.declared.reply.Reply.{Reply}
 use Rattle.rio_model.specs.declared.state.State.{State}
 use Rattle.rio_model.specs.Fresh.{fresh_state}

@@ -1,9 +1,10 @@
 //! The plain definition of the server, beside what a boot answered.
 
 use crate::plans::{BLOCKS, INODES, SCRATCH};
+use plain_requests::answer;
 use rio_base::{Ino, VolumeShape};
 use rio_model::{NameRows, Node, NodeRow, NodeRows, State, TxnList};
-use rio_requests::{Answered, Reply, Request, answer};
+use rio_requests::{Answered, Reply, Request};
 use std::alloc::{AllocError, Global};
 use std::fmt::Debug;
 use work_gen::Gen;

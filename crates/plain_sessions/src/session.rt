@@ -4,9 +4,10 @@ use crate::replies::{put_reply, reply_of};
 use crate::rows::put_row;
 use crate::sinks::put_writing;
 use crate::states::{doomed, root_alone};
+use plain_requests::answer;
 use request_codec::parse_line;
 use rio_model::State;
-use rio_requests::{Answered, Reply, Request, answer};
+use rio_requests::{Answered, Reply, Request};
 use std::alloc::{AllocError, Global};
 use test_scripts::{expanded, first_word};
 

@@ -35,7 +35,7 @@ pub use Rattle.rio_requests.specs.Crash.{OneEach, crashed}
 pub use Rattle.rio_requests.specs.Parts.{FaultStep}
 pub use Rattle.rio_requests.specs.RegionAnswers.{abort_on, alloc_on, begin_on, commit_on, free_on, get_on, put_on, range_on}
 pub use Rattle.rio_requests.specs.Transactions.{changed, txn_at, with_region}
-pub use Rattle.rio_requests.specs.declared.plain.Answered.{Answered}
+pub use Rattle.rio_requests.specs.declared.answered.Answered.{Answered}
 pub use Rattle.rio_requests.specs.declared.reply.Reply.{Reply}
 pub use Rattle.rio_requests.specs.declared.reply.Reply.TheVariants.{Bytes}
 pub use Rattle.rio_requests.specs.declared.request.Request.{Request}

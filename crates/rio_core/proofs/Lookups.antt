@@ -15,7 +15,7 @@ use Rattle.rio_model.proofs.VolumeReadRules.{reads_dir, reads_file, reads_none}
 use Rattle.rio_model.specs.VolumeRules.{KindRule}
 use Rattle.rio_requests.specs.declared.reply.Reply.TheVariants.{Err as RefusedBy, Fault as Faulted}
 use Rattle.rio_requests.specs.Answer.{at_inode, refused}
-use Rattle.rio_requests.specs.Transactions.{at_region, looked, on_region, open_inos}
+use Rattle.rio_requests.specs.Transactions.{at_region, looked, on_region}
 use Rattle.rio_core.proofs.CallEnds.{CallEnds}
 use Rattle.rio_core.specs.CallEnds.{IsAt, ReadsHeld}
 use Rattle.rio_core.specs.Regions.{marks_of}
@@ -200,7 +200,7 @@ same_inos (i ∷ list) (t ∷ txns) e =
     ap (λ (j : Ino). j ∷ list) same ∙ ap (λ (js : List Ino). t.ino ∷ js) (same_inos list txns rest)
 
 -- a list of the rows is one of the open transactions
-pub inos_open : (list : List Ino) (marks : Marks) (s : State) → marks ≡ marks_of s.txns → map (λ (i : Ino). i.0) list ≡ map (λ m. m.0) marks → list ≡ open_inos s
+pub inos_open : (list : List Ino) (marks : Marks) (s : State) → marks ≡ marks_of s.txns → map (λ (i : Ino). i.0) list ≡ map (λ m. m.0) marks → list ≡ map (λ (t : Txn). t.ino) s.txns
 inos_open list marks s is e = same_inos list s.txns (e ∙ ap (λ (ms : Marks). map (λ m. m.0) ms) is)
 
 -- ---- no request on a region

@@ -1,7 +1,7 @@
 -- What no request changes: the sizes of the volume and of memory.
 use Rattle.rio_requests.proofs.Common.{sym, subst, ap, inl, inr, Result, Ok, Err, nat_lt, get, Node, Dir, File, Region, RegionNode, State, front_of, last_of, least_free, names_in, is_dir, walk, walk_to_dir, free_count, largest_size, open_inodes, region_words, Txn}
 use Rattle.std.specs.Prelude.{◌≡◌, ◌==◌, ◌+◌, ◌*◌, ℕ, Bool, true, false, cond, List, [], ◌∷◌, length, Option, Some, None, refl, ◌||◌, not}
-use Rattle.rio_requests.specs.declared.plain.Answered.{Answered}
+use Rattle.rio_requests.specs.declared.answered.Answered.{Answered}
 use Rattle.rio_requests.specs.declared.reply.Reply.{Reply}
 use Rattle.rio_requests.specs.declared.reply.Reply.TheVariants.{Ok as Done}
 use Rattle.rio_requests.specs.declared.request.Request.{Request}

@@ -6,7 +6,7 @@ use Rattle.rio_base.specs.Rules.{true_false}
 use Rattle.rio_model.specs.FileParts.{LeadsTo, written}
 use Rattle.rio_model.specs.Paths.{names_of}
 use Rattle.rio_model.specs.States.{bytes_from}
-use Rattle.rio_requests.specs.declared.plain.Answered.{Answered}
+use Rattle.rio_requests.specs.declared.answered.Answered.{Answered}
 use Rattle.rio_requests.specs.declared.reply.Reply.{Reply}
 use Rattle.rio_requests.specs.declared.reply.Reply.TheVariants.{Ok as Done, Number, Bytes, Stat, Names as NamesOf}
 use Rattle.rio_requests.specs.declared.request.Request.{Request}

@@ -1,11 +1,5 @@
 pub mod AnswerRules
-pub mod AnswerSteps
 pub mod Common
 pub mod CrashFiles
 pub mod CrashRules
-pub mod FileAnswers
-pub mod FreeInodes
-pub mod Listing
-pub mod RegionSteps
-pub mod Room
 pub mod WentRules

@@ -5,7 +5,7 @@ use Rattle.rio_model.specs.declared.node.Node.TheVariants.{Dir, File, Region}
 use Rattle.rio_model.specs.declared.state.State.{State}
 use Rattle.rio_requests.specs.declared.reply.Reply.{Reply}
 use Rattle.rio_requests.specs.declared.reply.Reply.TheVariants.{Err as Refused}
-use Rattle.rio_requests.specs.declared.plain.Answered.{Answered}
+use Rattle.rio_requests.specs.declared.answered.Answered.{Answered}
 
 -- refused by this number: nothing changes
 abbrev pub refused : State → ℕ → Answered

@@ -9,7 +9,7 @@ use Rattle.rio_model.specs.declared.node.RegionNode.{RegionNode}
 use Rattle.rio_requests.specs.declared.request.Request.{Request}
 use Rattle.rio_requests.specs.declared.request.Request.TheVariants.{Mkdir, Create, Region as MakeRegion, Write, Read, Truncate, Unlink, Rmdir, Rename, Stat as StatOf, List as ListOf, Sync, Begin, Range, Put, Get, Alloc, Free, Commit, Abort, Txns, Flush, Wild, Arm}
 use Rattle.rio_model.specs.declared.state.State.{State}
-use Rattle.rio_requests.specs.declared.plain.Answered.{Answered}
+use Rattle.rio_requests.specs.declared.answered.Answered.{Answered}
 use Rattle.rio_requests.specs.declared.reply.Reply.TheVariants.{Ok as Done, Number, Bytes, Stat, Names as NamesOf}
 use Rattle.rio_requests.specs.Answer.{answered, at_inode, on_file, refused}
 use Rattle.rio_model.specs.States.{bytes_from, front_of, last_of, least_free, names_in, with_new, with_node}

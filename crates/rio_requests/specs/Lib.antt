@@ -2,7 +2,6 @@ pub mod Answer
 pub mod Answers
 pub mod Crash
 pub mod CrashFiles
-pub mod OnRegions
 pub mod Parts
 pub mod RegionAnswers
 pub mod Requests

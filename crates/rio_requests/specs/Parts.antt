@@ -7,7 +7,7 @@ use Rattle.rio_model.specs.declared.state.State.{State}
 use Rattle.rio_model.specs.declared.txn.Txn.{Txn}
 use Rattle.rio_model.specs.FileParts.{LeadsTo}
 use Rattle.rio_model.specs.Paths.{names_of, walk}
-use Rattle.rio_requests.specs.declared.plain.Answered.{Answered}
+use Rattle.rio_requests.specs.declared.answered.Answered.{Answered}
 use Rattle.rio_requests.specs.declared.reply.Reply.TheVariants.{Number}
 use Rattle.rio_requests.specs.declared.request.Request.{Request}
 use Rattle.rio_requests.specs.declared.request.Request.TheVariants.{Write, Put, Alloc, Free, Abort, Sync, Txns, Wild, Arm}

@@ -1,14 +1,13 @@
 -- Requests on the region at a path, with the transaction that is open on it.
 use Rattle.std.specs.Prelude.{◌==◌, ◌*◌, ◌-◌, ℕ, List, [], ◌∷◌, map, nat_le, nat_lt, Option, Some, None, Ok, Err, if◌then◌else◌}
 use Rattle.std.specs.FinMap.{get, insert}
-use Rattle.rio_base.specs.declared.places.Ino.{Ino}
 use Rattle.rio_model.specs.declared.node.Node.{Node}
 use Rattle.rio_model.specs.declared.node.Node.TheVariants.{Dir, File, Region}
 use Rattle.rio_model.specs.declared.node.RegionNode.{RegionNode}
 use Rattle.rio_model.specs.declared.state.State.{State}
 use Rattle.rio_model.specs.declared.txn.Txn.{Txn}
 use Rattle.rio_model.specs.Paths.{names_of, walk}
-use Rattle.rio_requests.specs.declared.plain.Answered.{Answered}
+use Rattle.rio_requests.specs.declared.answered.Answered.{Answered}
 use Rattle.rio_requests.specs.declared.reply.Reply.TheVariants.{Ok as Done, Inos}
 use Rattle.rio_requests.specs.Answer.{answered, at_inode, refused}
 use Rattle.rio_requests.specs.RegionAnswers.{Outcome}
@@ -29,9 +28,6 @@ txn_before (Some t) txns = t ∷ txns
 abbrev pub set_txn : List Txn → ℕ → Option Txn → List Txn
 set_txn [] i o = txn_before o []
 set_txn (t ∷ txns) i o = if t.ino.0 == i then txn_before o txns else t ∷ set_txn txns i o
-
-abbrev pub open_inos : State → List Ino
-open_inos s = map (λ (t : Txn). t.ino) s.txns
 
 -- ---- a region and its transaction
 
@@ -58,8 +54,9 @@ on_region s None go = refused s 2
 abbrev pub at_region : State → List ℕ → (ℕ → RegionNode → Option Txn → Answered) → Answered
 at_region s path go = at_inode s (walk s 1 (names_of path)) (λ i. on_region s (get s.nodes i) (λ r. go i r (txn_at s.txns i)))
 
+-- the regions that have one, in order of `begin`
 abbrev pub txns : State → Answered
-txns s = answered s (Inos (open_inos s))
+txns s = answered s (Inos (map (λ (t : Txn). t.ino) s.txns))
 
 -- ---- wild stores
 

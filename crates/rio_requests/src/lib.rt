@@ -1,12 +1,12 @@
-//! The requests to a file server and their replies, what each request is answered, and the plain program that answers it.
+//! The requests to a file server and their replies, and what each request is answered, as a definition.
 #![tactic(auto)]
 
-mod plain;
+mod answered;
 mod region_answer;
 mod reply;
 mod request;
 
-pub use plain::{Answered, answer};
+pub use answered::Answered;
 pub use region_answer::RegionAnswer;
 pub use reply::Reply;
 pub use request::Request;

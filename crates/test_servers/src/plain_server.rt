@@ -1,11 +1,12 @@
 //! A server that answers by the plain definition, over the state alone.
 
 use crate::served::Sizes;
+use plain_requests::answer;
 use request_codec::{parse_line, write_reply};
 use rio_base::{Ino, Octets, VolumeShape};
 use rio_fakes::MemSink;
 use rio_model::{NameRows, Node, NodeRow, NodeRows, State, TxnList};
-use rio_requests::{Answered, Reply, Request, answer};
+use rio_requests::{Answered, Reply, Request};
 use std::alloc::{AllocError, Global};
 
 /// The state with the root directory alone.

@@ -1,0 +1,7 @@
+pub mod AnswerSteps
+pub mod Common
+pub mod FileAnswers
+pub mod FreeInodes
+pub mod Listing
+pub mod RegionSteps
+pub mod Room

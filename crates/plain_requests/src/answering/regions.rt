@@ -1,0 +1,266 @@
+//! Requests on the region at a path, with the transaction that is open on it.
+
+ghost use Rattle.std.specs.Prelude.{◌≡◌, ◌+◌, ◌<◌, ◌++◌, length, take, drop, IfOk, Ok as Good};
+ghost use Rattle.rio_requests.specs.RegionAnswers.{abort_on, alloc_on, begin_on, commit_on, free_on, get_on, put_on, range_on};
+ghost use Rattle.rio_requests.specs.Transactions.{at_region as at_region_of, changed as changed_of, looked as looked_of, set_txn as set_txn_of, txn_at as txn_at_of, txn_before, txns as txns_of};
+ghost use Rattle.plain_requests.specs.OnRegions.{FindsRegion, IsRegionAt};
+
+use super::paths::{names_of, walk};
+use super::transactions::Outcome;
+use super::{data, heap, refused, transactions, unchanged};
+use rio_base::{Ino, InoList};
+use rio_model::{Node, NodeRow, RegionNode, State, Txn, TxnList};
+use rio_requests::{Answered, RegionAnswer, Reply};
+use std::alloc::{AllocError, Global};
+
+/// A region, and the transaction that is open on it.
+#[derive(Drop)]
+pub struct OnRegion<'s> {
+    pub ino: Ino,
+    pub region: &'s RegionNode,
+    pub txn: Option<Txn>,
+}
+
+/// Begins a transaction on a region.
+pub fn begin(alloc: Global, s: &State, path: &[u8]) -> Result<Answered, AllocError>
+    ensures { IfOk result (λ a. a ≡ at_region_of s.now path.now (λ i r o. changed_of s.now i (begin_on i r o))) }
+{
+    match region_at(s, path, alloc)? {
+        Ok(at) => {
+            let outcome = transactions::begin(alloc, at.ino, at.region, at.txn)?;
+            changed(s, at.ino, outcome)
+        }
+        Err(number) => refused(s, number),
+    }
+}
+
+/// Lets the transaction on a region change a range of bytes.
+pub fn range(
+    alloc: Global,
+    s: &State,
+    path: &[u8],
+    off: u64,
+    len: u64,
+) -> Result<Answered, AllocError>
+    ensures { IfOk result (λ a. a ≡ at_region_of s.now path.now (λ i r o. changed_of s.now i (range_on r o off len))) }
+{
+    match region_at(s, path, alloc)? {
+        Ok(at) => {
+            let outcome = data::range(at.region, at.txn, off, len)?;
+            changed(s, at.ino, outcome)
+        }
+        Err(number) => refused(s, number),
+    }
+}
+
+/// Puts bytes into ranges of the transaction on a region.
+pub fn put(
+    alloc: Global,
+    s: &State,
+    path: &[u8],
+    off: u64,
+    bytes: &[u8],
+) -> Result<Answered, AllocError>
+    ensures { IfOk result (λ a. a ≡ at_region_of s.now path.now (λ i r o. changed_of s.now i (put_on r o off bytes.now))) }
+{
+    match region_at(s, path, alloc)? {
+        Ok(at) => {
+            let outcome = data::put(alloc, at.region, at.txn, off, bytes)?;
+            changed(s, at.ino, outcome)
+        }
+        Err(number) => refused(s, number),
+    }
+}
+
+/// Reads bytes of a region.
+pub fn get(
+    alloc: Global,
+    s: &State,
+    path: &[u8],
+    off: u64,
+    len: u64,
+) -> Result<Answered, AllocError>
+    ensures { IfOk result (λ a. a ≡ at_region_of s.now path.now (λ i r o. looked_of s.now (get_on r o off len))) }
+{
+    match region_at(s, path, alloc)? {
+        Ok(at) => {
+            let outcome = data::get(alloc, at.region, at.txn, off, len)?;
+            looked(s, outcome)
+        }
+        Err(number) => refused(s, number),
+    }
+}
+
+/// Takes a block of a region's heap.
+pub fn alloc_units(
+    alloc: Global,
+    s: &State,
+    path: &[u8],
+    units: u64,
+) -> Result<Answered, AllocError>
+    ensures { IfOk result (λ a. a ≡ at_region_of s.now path.now (λ i r o. changed_of s.now i (alloc_on r o units))) }
+{
+    match region_at(s, path, alloc)? {
+        Ok(at) => {
+            let outcome = heap::alloc(at.region, at.txn, units)?;
+            changed(s, at.ino, outcome)
+        }
+        Err(number) => refused(s, number),
+    }
+}
+
+/// Gives back a block of a region's heap.
+pub fn free(alloc: Global, s: &State, path: &[u8], place: u64) -> Result<Answered, AllocError>
+    ensures { IfOk result (λ a. a ≡ at_region_of s.now path.now (λ i r o. changed_of s.now i (free_on r o place))) }
+{
+    match region_at(s, path, alloc)? {
+        Ok(at) => {
+            let outcome = heap::free(at.region, at.txn, place)?;
+            changed(s, at.ino, outcome)
+        }
+        Err(number) => refused(s, number),
+    }
+}
+
+/// Ends the transaction on a region and keeps its changes.
+pub fn commit(alloc: Global, s: &State, path: &[u8]) -> Result<Answered, AllocError>
+    ensures { IfOk result (λ a. a ≡ at_region_of s.now path.now (λ i r o. changed_of s.now i (commit_on r o))) }
+{
+    match region_at(s, path, alloc)? {
+        Ok(at) => {
+            let outcome = transactions::commit(at.region, at.txn)?;
+            changed(s, at.ino, outcome)
+        }
+        Err(number) => refused(s, number),
+    }
+}
+
+/// Ends the transaction on a region and undoes its changes.
+pub fn abort(alloc: Global, s: &State, path: &[u8]) -> Result<Answered, AllocError>
+    ensures { IfOk result (λ a. a ≡ at_region_of s.now path.now (λ i r o. changed_of s.now i (abort_on r o))) }
+{
+    match region_at(s, path, alloc)? {
+        Ok(at) => {
+            let outcome = transactions::abort(at.region, at.txn)?;
+            changed(s, at.ino, outcome)
+        }
+        Err(number) => refused(s, number),
+    }
+}
+
+/// The open transactions.
+pub fn txns(alloc: Global, s: &State) -> Result<Answered, AllocError>
+    ensures { IfOk result (λ a. a ≡ txns_of s.now) }
+{
+    let mut inos = Vec::new(alloc);
+    for txn in s.txns.as_slice() {
+        inos.push(txn.ino)?;
+    }
+    unchanged(s, Reply::Inos(InoList::from(inos)))
+}
+
+/// The region at a path, or a refusal.
+fn region_at<'s>(
+    s: &'s State,
+    path: &[u8],
+    alloc: Global,
+) -> Result<Result<OnRegion<'s>, u8>, AllocError>
+    ensures { IfOk result (FindsRegion s.now path.now) }
+{
+    let names = names_of(alloc, path)?;
+    match walk(s, names.as_slice()) {
+        Ok(ino) => as_region(s, ino),
+        Err(number) => Ok(Err(number)),
+    }
+}
+
+/// The region of an inode, or a refusal.
+fn as_region(s: &State, ino: Ino) -> Result<Result<OnRegion<'_>, u8>, AllocError>
+    ensures { IfOk result (IsRegionAt s.now ino.0) }
+{
+    match s.nodes.get(ino) {
+        Some(Node::Region(region)) => {
+            let txn = txn_at(s.txns.as_slice(), ino)?;
+            Ok(Ok(OnRegion { ino, region, txn }))
+        }
+        Some(Node::Dir) => Ok(Err(8)),
+        Some(Node::File(_)) => Ok(Err(8)),
+        None => Ok(Err(2)),
+    }
+}
+
+/// The transaction that is open on a region, where one is.
+fn txn_at(txns: &[Txn], ino: Ino) -> Result<Option<Txn>, AllocError>
+    ensures { IfOk result (λ o. o ≡ txn_at_of txns.now ino.0) }
+{
+    for txn in txns {
+        if txn.ino.0 == ino.0 {
+            return Ok(Some(txn.clone()?));
+        }
+    }
+    Ok(None)
+}
+
+/// The transactions, where that of a region becomes another, or ends.
+fn set_txn(txns: TxnList, ino: Ino, txn: Option<Txn>) -> Result<TxnList, AllocError>
+    ensures { IfOk result (λ made. made ≡ set_txn_of txns ino.0 txn) }
+{
+    let mut rows = txns.into_vec();
+    for at in 0..rows.len() {
+        if rows[at].ino.0 == ino.0 {
+            put_txn(&mut rows, at, txn);
+            return Ok(TxnList::from(rows));
+        }
+    }
+    if let Some(txn) = txn {
+        rows.push(txn)?;
+    }
+    Ok(TxnList::from(rows))
+}
+
+/// Puts a transaction in place of that of a row, or takes the row away.
+fn put_txn(rows: &mut Vec<Txn>, at: usize, txn: Option<Txn>)
+    requires { at < length rows.old.items }
+    ensures { rows.new.items ≡ take at rows.old.items ++ txn_before txn (drop (at + 1) rows.old.items) }
+{
+    match txn {
+        Some(txn) => rows[at] = txn,
+        None => {
+            rows.remove(at);
+        }
+    }
+}
+
+/// What came of a request that changes a region or its transaction.
+fn changed(s: &State, ino: Ino, outcome: Outcome) -> Result<Answered, AllocError>
+    ensures { IfOk result (λ a. a ≡ changed_of s.now ino.0 outcome) }
+{
+    match outcome {
+        Err(number) => refused(s, number),
+        Ok(answer) => with_region(s, ino, answer),
+    }
+}
+
+/// The state with a region and its transaction as a request left them.
+fn with_region(s: &State, ino: Ino, answer: RegionAnswer) -> Result<Answered, AllocError>
+    ensures { IfOk result (λ a. a ≡ changed_of s.now ino.0 (Good answer)) }
+{
+    let mut next = s.clone()?;
+    let node = Node::Region(answer.region);
+    next.nodes.insert(NodeRow { ino, node })?;
+    next.txns = set_txn(s.txns.clone()?, ino, answer.txn)?;
+    Ok(Answered {
+        next,
+        reply: Some(answer.reply),
+    })
+}
+
+/// What came of a request that looks at a region.
+fn looked(s: &State, outcome: Outcome) -> Result<Answered, AllocError>
+    ensures { IfOk result (λ a. a ≡ looked_of s.now outcome) }
+{
+    match outcome {
+        Err(number) => refused(s, number),
+        Ok(answer) => unchanged(s, answer.reply),
+    }
+}

@@ -1,7 +1,0 @@
-use Rattle.rio_requests.proofs.Common.{◌≡◌, drop}
-use Rattle.rio_requests.specs.RegionAnswers.{in_range}
-use Rattle.rio_requests.proofs.plain.data.in_range.Given as goal
-
--- the ranges left tell
-abbrev pub invariant-loop-range : goal.invariant-loop-range
-invariant-loop-range l = in_range l.ranges l.word ≡ in_range (drop l.range-index l.ranges) l.word

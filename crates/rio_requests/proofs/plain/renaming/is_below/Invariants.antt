@@ -1,7 +1,0 @@
-use Rattle.rio_requests.proofs.Common.{◌≡◌, drop}
-use Rattle.rio_requests.specs.Answers.{is_below}
-use Rattle.rio_requests.proofs.plain.renaming.is_below.Given as goal
-
--- the names left tell
-abbrev pub invariant-loop-i : goal.invariant-loop-i
-invariant-loop-i l = is_below l.tops l.names ≡ is_below (drop l.i l.tops) (drop l.i l.names)
