@@ -3,6 +3,7 @@
 ghost use Rattle.std.specs.Prelude.{◌≡◌, IfOk};
 ghost use Rattle.rio_requests.specs.Answer.{answered as answered_of, refused as refused_of};
 ghost use Rattle.rio_requests.specs.Answers.{answer_of};
+ghost use Rattle.rio_model.specs.States.{with_node as with_node_of};
 ghost use Rattle.rio_requests.specs.Transactions.{arm as arm_of, wild as wild_of};
 
 mod contents;
@@ -18,7 +19,8 @@ mod renaming;
 mod room;
 mod transactions;
 
-use rio_model::State;
+use rio_base::Ino;
+use rio_model::{Node, NodeRow, State};
 use rio_requests::{Answered, Reply, Request};
 use std::alloc::{AllocError, Global};
 
@@ -105,4 +107,13 @@ fn refused(s: &State, number: u8) -> Result<Answered, AllocError>
     ensures { IfOk result (λ a. a ≡ refused_of s.now number) }
 {
     unchanged(s, Reply::Err(number))
+}
+
+/// The state in which an inode has this node.
+fn with_node(s: &State, ino: Ino, node: Node) -> Result<State, AllocError>
+    ensures { IfOk result (λ next. next ≡ with_node_of s.now ino.0 node) }
+{
+    let mut next = s.clone()?;
+    next.nodes.insert(NodeRow { ino, node })?;
+    Ok(next)
 }

@@ -10,9 +10,9 @@ ghost use Rattle.rio_requests.specs.declared.reply.Reply.TheVariants.{Ok as Done
 
 use super::paths::{names_of, walk};
 use super::room::{is_too_large, lacks_room, wanted};
-use super::{refused, unchanged};
+use super::{refused, unchanged, with_node};
 use rio_base::{Ino, Octets};
-use rio_model::{Node, NodeRow, State};
+use rio_model::{Node, State};
 use rio_requests::{Answered, Reply};
 use std::alloc::{AllocError, Global};
 
@@ -201,9 +201,7 @@ fn truncate_file(
 fn with_file(s: &State, ino: Ino, bytes: Octets, reply: Reply) -> Result<Answered, AllocError>
     ensures { IfOk result (λ a. a ≡ answered_of (with_node_of s.now ino.0 (FileOf bytes)) reply) }
 {
-    let mut next = s.clone()?;
-    let node = Node::File(bytes);
-    next.nodes.insert(NodeRow { ino, node })?;
+    let next = with_node(s, ino, Node::File(bytes))?;
     Ok(Answered {
         next,
         reply: Some(reply),

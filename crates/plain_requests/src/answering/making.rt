@@ -10,10 +10,10 @@ ghost use Rattle.rio_model.specs.Undo.{region_words};
 ghost use Rattle.rio_requests.specs.declared.reply.Reply.TheVariants.{Number as NumberOf};
 
 use super::paths::{directory_of, last_of, names_of};
-use super::refused;
 use super::room::{lacks_room, new_blocks, row_wanted};
+use super::{refused, with_node};
 use rio_base::{HeapList, Ino, Octets, Words};
-use rio_model::{NameRow, Node, NodeRow, RegionNode, State};
+use rio_model::{NameRow, Node, RegionNode, State};
 use rio_requests::{Answered, Reply};
 use std::alloc::{AllocError, Global};
 
@@ -195,11 +195,9 @@ fn with_new(
 ) -> Result<Answered, AllocError>
     ensures { IfOk result (λ a. a ≡ answered_of (with_new_of s.now dir.0 name.now ino.0 node.now) (NumberOf ino.0)) }
 {
-    let mut next = s.clone()?;
+    let mut next = with_node(s, ino, node.clone()?)?;
     let name = name.clone()?;
     next.names.insert(NameRow { dir, name, ino })?;
-    let node = node.clone()?;
-    next.nodes.insert(NodeRow { ino, node })?;
     Ok(Answered {
         next,
         reply: Some(Reply::Number(ino.0 as u64)),

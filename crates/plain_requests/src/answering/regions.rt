@@ -2,14 +2,14 @@
 
 ghost use Rattle.std.specs.Prelude.{◌≡◌, ◌+◌, ◌<◌, ◌++◌, length, take, drop, IfOk, Ok as Good};
 ghost use Rattle.rio_requests.specs.RegionAnswers.{abort_on, alloc_on, begin_on, commit_on, free_on, get_on, put_on, range_on};
-ghost use Rattle.rio_requests.specs.Transactions.{at_region as at_region_of, changed as changed_of, looked as looked_of, set_txn as set_txn_of, txn_at as txn_at_of, txn_before, txns as txns_of};
+ghost use Rattle.rio_requests.specs.Transactions.{at_region as at_region_of, changed as changed_of, looked as looked_of, set_txn as set_txn_of, txn_at as txn_at_of, txn_before, txns as txns_of, with_region as with_region_of};
 ghost use Rattle.plain_requests.specs.OnRegions.{FindsRegion, IsRegionAt};
 
 use super::paths::{names_of, walk};
 use super::transactions::Outcome;
-use super::{data, heap, refused, transactions, unchanged};
+use super::{data, heap, refused, transactions, unchanged, with_node};
 use rio_base::{Ino, InoList};
-use rio_model::{Node, NodeRow, RegionNode, State, Txn, TxnList};
+use rio_model::{Node, RegionNode, State, Txn, TxnList};
 use rio_requests::{Answered, RegionAnswer, Reply};
 use std::alloc::{AllocError, Global};
 
@@ -237,22 +237,35 @@ fn changed(s: &State, ino: Ino, outcome: Outcome) -> Result<Answered, AllocError
 {
     match outcome {
         Err(number) => refused(s, number),
-        Ok(answer) => with_region(s, ino, answer),
+        Ok(answer) => with_answer(s, ino, answer),
     }
 }
 
-/// The state with a region and its transaction as a request left them.
-fn with_region(s: &State, ino: Ino, answer: RegionAnswer) -> Result<Answered, AllocError>
+/// What a request came to that left a region and its transaction so.
+fn with_answer(s: &State, ino: Ino, answer: RegionAnswer) -> Result<Answered, AllocError>
     ensures { IfOk result (λ a. a ≡ changed_of s.now ino.0 (Good answer)) }
 {
-    let mut next = s.clone()?;
-    let node = Node::Region(answer.region);
-    next.nodes.insert(NodeRow { ino, node })?;
-    next.txns = set_txn(s.txns.clone()?, ino, answer.txn)?;
+    let RegionAnswer { region, txn, reply } = answer;
+    let next = with_region(s, ino, region, txn)?;
     Ok(Answered {
         next,
-        reply: Some(answer.reply),
+        reply: Some(reply),
     })
+}
+
+/// The state in which an inode is this region, with this transaction on it, or none.
+fn with_region(
+    s: &State,
+    ino: Ino,
+    region: RegionNode,
+    txn: Option<Txn>,
+) -> Result<State, AllocError>
+    ensures { IfOk result (λ next. next ≡ with_region_of s.now ino.0 region txn) }
+{
+    let txns = set_txn(s.txns.clone()?, ino, txn)?;
+    let mut next = with_node(s, ino, Node::Region(region))?;
+    next.txns = txns;
+    Ok(next)
 }
 
 /// What came of a request that looks at a region.
