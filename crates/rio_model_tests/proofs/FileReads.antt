@@ -105,7 +105,7 @@ free_past f b h none = let from = none.from in omega (arith, from, reserved_is, 
     off : (n : ℕ) → Owned (file_layout f) n → b ≢ n
     off n own e = none.free (subst (Owned (file_layout f)) (sym e) own)
 
-file_reserved : (f : BlockWords) → IsFileVolume f → ReservedRule file_shape f
+pub file_reserved : (f : BlockWords) → IsFileVolume f → ReservedRule file_shape f
 file_reserved f h = record {
   marked = λ b low. h.marked b (omega (arith, low, reserved_is));
   past = λ b past within. h.unmarked b (omega (arith, past)) within;
