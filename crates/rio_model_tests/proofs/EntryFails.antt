@@ -14,42 +14,10 @@ use Rattle.rio_model.proofs.FreshPair.{FailsOnly}
 use Rattle.rio_model.proofs.VolumeReadRules.{reads_dir, reads_file}
 use Rattle.rio_model.proofs.WordRules.{put_beside, put_other}
 use Rattle.rio_model_tests.proofs.FileFails.{first_one, first_three, first_two, only_on}
-use Rattle.rio_model_tests.proofs.FileReads.{IsFileVolume}
+use Rattle.rio_model_tests.proofs.FileReads.{IsFileVolume, file_fits, file_order, file_small, one_row}
 use Rattle.rio_model_tests.proofs.FileVolume.{file_shape}
 use Rattle.rio_model_tests.proofs.SmallHeld.{IsNamed, RowIs, has_row, held_free, letter_is_name, named_by, one_apart, root_alone, root_word_at, row_is, row_kept, rows_apart, rows_kept, small_read, small_reads, two_named, used_dir, used_file}
-use Rattle.rio_model_tests.proofs.SmallVolumes.{Fits, InOrder, IsBare, IsSmall, bits_off, small_mapped, small_put, superblock_off}
-
--- ---- the volume as a small one
-
-pub file_fits : (root : ℕ) → 0 < root → root ≤ 4096 → root % 64 ≡ 0 → Fits root 2 5000
-file_fits root some small whole = record {
-  some = some;
-  one_page = small;
-  whole = whole;
-  known = inl refl;
-  sized = record { most = omega arith; directory = λ e. absurd (omega (arith, e)); region = λ e. absurd (omega (arith, e)); region_pages = λ e. absurd (omega (arith, e)) };
-  room = omega arith;
-}
-
-one_row : Fits 64 2 5000
-one_row = file_fits 64 (omega arith) (omega arith) refl
-
-file_order : (f : BlockWords) → IsFileVolume f → InOrder f 5000
-unfolding half
-file_order f h = record { root = ap (λ w. w % 2 ^ 32) h.file.root_page; each = λ p within. by p within (cases_eq p 0) }
-  where
-    by : (p : ℕ) → p < 2 → (p ≡ 0) ⊎ (p ≢ 0) → half (f 2 (16 + (2 + p / 2))) p ≡ 4 + p
-    by p within (inl e) = subst (λ x. half (f 2 (16 + (2 + x / 2))) x ≡ 4 + x) (sym e) (ap (λ w. w % 2 ^ 32) h.file.numbers)
-    by p within (inr off) = subst (λ x. half (f 2 (16 + (2 + x / 2))) x ≡ 4 + x) (let second : 1 ≡ p = omega (arith, within, off) in second) (ap (λ w. w / 2 ^ 32 % 2 ^ 32) h.file.numbers)
-
-pub file_small : (f : BlockWords) → IsFileVolume f → IsSmall f 64 2 5000
-file_small f h = record {
-  superblock = h.superblock;
-  two = record { root_kind = h.file.root_kind; root_size = h.file.root_size; kind = h.file.kind; size = h.file.size; others = λ i from to. inl (h.file.others i from to) };
-  order = file_order f h;
-  marked = h.marked;
-  unmarked = h.unmarked;
-}
+use Rattle.rio_model_tests.proofs.SmallVolumes.{Fits, IsBare, IsSmall, bits_off, small_mapped, small_put, superblock_off}
 
 -- a rule that fails by what the inodes hold
 pub only_held : (f : BlockWords) (root k z r b : ℕ) → IsSmall f root k z → Fits root k z → FailsHeld file_shape (held_of file_shape f) r b → FailsOnly f 16 r b
@@ -132,7 +100,7 @@ grown : (f : BlockWords) → IsFileVolume f → IsSmall (put f 2 1 128) 128 2 50
 grown f h = record {
   superblock = superblock_off f 2 1 128 (λ e. omega (arith, e)) h.superblock;
   two = record { root_kind = h.file.root_kind; root_size = refl; kind = h.file.kind; size = h.file.size; others = λ i from to. inl (put_beside f 2 1 128 _ _ (λ e. omega (arith, e)) ∙ h.file.others i from to) };
-  order = record { root = (file_order f h).root; each = λ p within. ap (λ x. half x p) (put_beside f 2 1 128 2 (16 + (2 + p / 2)) (λ e. omega (arith, e))) ∙ (file_order f h).each p within };
+  order = record { root = (file_order f h.file).root; each = λ p within. ap (λ x. half x p) (put_beside f 2 1 128 2 (16 + (2 + p / 2)) (λ e. omega (arith, e))) ∙ (file_order f h.file).each p within };
   marked = λ b low. bits_off f 2 1 128 b (λ e. omega (arith, e)) (omega (arith, low)) ∙ h.marked b low;
   unmarked = λ b from within. bits_off f 2 1 128 b (λ e. omega (arith, e)) within ∙ h.unmarked b from within;
 }
@@ -209,10 +177,36 @@ root_in_itself f h = tree_only g 64 2 5000 small one_row entries apart (first_on
     by (inl none) = none.1 1 (entry_name (held_of file_shape g 1) 0) (reads.entries 1 0 (has_row g 64 2 5000 0 small.two (omega arith)) ∙ ap Some row.ino)
     by (inr away) = away.0 refl
 
+f_is_not_g : codes "f" ≡ codes "g" → ⊥
+f_is_not_g e = let letter : 102 ≡ 103 = ap (λ (xs : List ℕ). slice_index xs 0) e in omega (arith, letter)
+
+-- two entries of two names keep rule 9
+second_apart : (f : BlockWords) → IsFileVolume f → NamesApartRule (held_of file_shape (with_second f 103))
+unfolding byte_of
+second_apart f h = rows_apart g 128 2 5000 (second_small f 103 h).two two_rows (λ j q x y e. by j q x y e (cases_eq j 0) (cases_eq q 0))
+  where
+    g : BlockWords
+    g = with_second f 103
+
+    first : (j : ℕ) → j ≡ 0 → entry_name (held_of file_shape g 1) j ≡ codes "f"
+    first j a = ap (entry_name (held_of file_shape g 1)) a ∙ (first_row f 103 h).named
+
+    one : (j : ℕ) → 64 * j < 128 → j ≢ 0 → j ≡ 1
+    one j within off = omega (arith, within, off)
+
+    second : (j : ℕ) → 64 * j < 128 → j ≢ 0 → entry_name (held_of file_shape g 1) j ≡ codes "g"
+    second j within off = ap (entry_name (held_of file_shape g 1)) (one j within off) ∙ (second_row f 103 h).named
+
+    by : (j q : ℕ) → 64 * j < 128 → 64 * q < 128 → entry_name (held_of file_shape g 1) j ≡ entry_name (held_of file_shape g 1) q → (j ≡ 0) ⊎ (j ≢ 0) → (q ≡ 0) ⊎ (q ≢ 0) → j ≡ q
+    by j q x y e (inl a) (inl b) = a ∙ sym b
+    by j q x y e (inl a) (inr b) = absurd (f_is_not_g (sym (first j a) ∙ e ∙ second q y b))
+    by j q x y e (inr a) (inl b) = absurd (f_is_not_g (sym (first q b) ∙ sym e ∙ second j x a))
+    by j q x y e (inr a) (inr b) = one j x a ∙ sym (one q y b)
+
 -- the file has a second name
 pub second_name : (f : BlockWords) → IsFileVolume f → FailsOnly (with_second f 103) 16 10 2
 unfolding byte_of
-second_name f h = tree_only g 128 2 5000 small two_rows (second_kept f 103 h (omega arith) (omega arith) refl) apart
+second_name f h = tree_only g 128 2 5000 small two_rows (second_kept f 103 h (omega arith) (omega arith) refl) (second_apart f h)
     (first_two (TreeAt (small_read g)) (λ keeps. by (keeps (used_file (get (small_read g).nodes 2) (held_bytes (held_of file_shape g 2)) (reads.nodes 2 ∙ reads_file (held_of file_shape g 2) h.file.kind)))) (root_alone g 128 2 5000 (small_read g) small.two two_rows reads (λ j within. to_file j within (cases_eq j 0))))
   where
     g : BlockWords
@@ -221,27 +215,12 @@ second_name f h = tree_only g 128 2 5000 small two_rows (second_kept f 103 h (om
     small : IsSmall g 128 2 5000
     small = second_small f 103 h
 
-    other : codes "f" ≡ codes "g" → ⊥
-    other e = let letter : 102 ≡ 103 = ap (λ (xs : List ℕ). slice_index xs 0) e in omega (arith, letter)
-
-    two : (j : ℕ) → 64 * j < 128 → j ≢ 0 → 1 ≡ j
-    two j within off = omega (arith, within, off)
-
-    differ : (j q : ℕ) → 64 * j < 128 → 64 * q < 128 → entry_name (held_of file_shape g 1) j ≡ entry_name (held_of file_shape g 1) q → (j ≡ 0) ⊎ (j ≢ 0) → (q ≡ 0) ⊎ (q ≢ 0) → j ≡ q
-    differ j q x y e (inl a) (inl b) = a ∙ sym b
-    differ j q x y e (inl a) (inr b) = absurd (other (sym (ap (entry_name (held_of file_shape g 1)) a ∙ (first_row f 103 h).named) ∙ e ∙ sym (ap (entry_name (held_of file_shape g 1)) (two q y b)) ∙ (second_row f 103 h).named))
-    differ j q x y e (inr a) (inl b) = absurd (other (sym (ap (entry_name (held_of file_shape g 1)) b ∙ (first_row f 103 h).named) ∙ sym e ∙ sym (ap (entry_name (held_of file_shape g 1)) (two j x a)) ∙ (second_row f 103 h).named))
-    differ j q x y e (inr a) (inr b) = sym (two j x a) ∙ two q y b
-
-    apart : NamesApartRule (held_of file_shape g)
-    apart = rows_apart g 128 2 5000 small.two two_rows (λ j q x y e. differ j q x y e (cases_eq j 0) (cases_eq q 0))
-
     reads : Reads (held_of file_shape g) (small_read g)
-    reads = small_reads g apart
+    reads = small_reads g (second_apart f h)
 
     to_file : (j : ℕ) → 64 * j < 128 → (j ≡ 0) ⊎ (j ≢ 0) → entry_ino (held_of file_shape g 1) j ≢ 1
     to_file j within (inl a) e = let one : 2 ≡ 1 = sym (ap (entry_ino (held_of file_shape g 1)) a ∙ (first_row f 103 h).ino) ∙ e in omega (arith, one)
-    to_file j within (inr a) e = let one : 2 ≡ 1 = sym (sym (ap (entry_ino (held_of file_shape g 1)) (two j within a)) ∙ (second_row f 103 h).ino) ∙ e in omega (arith, one)
+    to_file j within (inr a) e = let at : j ≡ 1 = omega (arith, within, a) in let one : 2 ≡ 1 = sym (ap (entry_ino (held_of file_shape g 1)) at ∙ (second_row f 103 h).ino) ∙ e in omega (arith, one)
 
     named : (j : ℕ) → 64 * j < 128 → entry_ino (held_of file_shape g 1) j ≡ 2 → get (small_read g).names (1, entry_name (held_of file_shape g 1) j) ≡ Some 2
     named j within ino = reads.entries 1 j (has_row g 128 2 5000 j small.two within) ∙ ap Some ino
@@ -251,16 +230,23 @@ second_name f h = tree_only g 128 2 5000 small two_rows (second_kept f 103 h (om
     by (inr once) =
         let a = once.1.only 1 (entry_name (held_of file_shape g 1) 0) (named 0 (omega arith) (first_row f 103 h).ino) in
         let b = once.1.only 1 (entry_name (held_of file_shape g 1) 1) (named 1 (omega arith) (second_row f 103 h).ino) in
-        other (sym (first_row f 103 h).named ∙ a.1 ∙ sym b.1 ∙ (second_row f 103 h).named)
+        f_is_not_g (sym (first_row f 103 h).named ∙ a.1 ∙ sym b.1 ∙ (second_row f 103 h).named)
 
--- there is a file of no bytes beside it, which no entry is of
-pub file_without_name : (f : BlockWords) → IsFileVolume f → FailsOnly (put (put f 2 32 2) 2 33 0) 16 10 2
-unfolding byte_of
-file_without_name f h = tree_only g 64 2 5000 small one_row entries apart (first_three (TreeAt (small_read g)) (λ keeps. by (keeps (used_file (get (small_read g).nodes 3) (held_bytes (held_of file_shape g 3)) (reads.nodes 3 ∙ reads_file (held_of file_shape g 3) refl))))
-    (root_alone g 64 2 5000 (small_read g) small.two one_row reads (λ j within e. to_file j 1 within e (λ s. omega (arith, s)))) (two_named g 2 5000 (codes "f") (small_read g) small.two one_row reads row))
+-- there is a file of no bytes beside it
+abbrev pub with_empty : BlockWords → BlockWords
+with_empty f = put (put f 2 32 2) 2 33 0
+
+empty_small : (f : BlockWords) → IsFileVolume f → IsSmall (with_empty f) 64 2 5000
+empty_small f h = record {
+  superblock = superblock_off (put f 2 32 2) 2 33 0 (λ e. omega (arith, e)) (superblock_off f 2 32 2 (λ e. omega (arith, e)) h.superblock);
+  two = record { root_kind = h.file.root_kind; root_size = h.file.root_size; kind = h.file.kind; size = h.file.size; others = λ i from to. bare i from to (cases_eq i 3) };
+  order = record { root = (file_order f h.file).root; each = λ p within. ap (λ x. half x p) (let page : p < 2 = within in off (16 + (2 + p / 2)) (λ e. omega (arith, e, page)) (λ e. omega (arith, e, page))) ∙ (file_order f h.file).each p within };
+  marked = λ b low. bits_off (put f 2 32 2) 2 33 0 b (λ e. omega (arith, e)) (omega (arith, low)) ∙ bits_off f 2 32 2 b (λ e. omega (arith, e)) (omega (arith, low)) ∙ h.marked b low;
+  unmarked = λ b from within. bits_off (put f 2 32 2) 2 33 0 b (λ e. omega (arith, e)) within ∙ bits_off f 2 32 2 b (λ e. omega (arith, e)) within ∙ h.unmarked b from within;
+}
   where
     g : BlockWords
-    g = put (put f 2 32 2) 2 33 0
+    g = with_empty f
 
     off : (x : ℕ) → x ≢ 32 → x ≢ 33 → g 2 x ≡ f 2 x
     off x a b = put_beside (put f 2 32 2) 2 33 0 2 x b ∙ put_beside f 2 32 2 2 x a
@@ -269,14 +255,17 @@ file_without_name f h = tree_only g 64 2 5000 small one_row entries apart (first
     bare i from to (inl e) = subst (IsBare g) (sym e) (inr (refl, refl))
     bare i from to (inr a) = inl (put_beside (put f 2 32 2) 2 33 0 (inode_block i) (inode_place i + 0) (λ e. omega (arith, e)) ∙ put_beside f 2 32 2 (inode_block i) (inode_place i + 0) (λ e. omega (arith, e, from, to, a)) ∙ h.file.others i from to)
 
+-- it has no name, since no entry is of it
+pub file_without_name : (f : BlockWords) → IsFileVolume f → FailsOnly (with_empty f) 16 10 2
+unfolding byte_of
+file_without_name f h = tree_only g 64 2 5000 small one_row entries apart (first_three (TreeAt (small_read g)) (λ keeps. by (keeps (used_file (get (small_read g).nodes 3) (held_bytes (held_of file_shape g 3)) (reads.nodes 3 ∙ reads_file (held_of file_shape g 3) refl))))
+    (root_alone g 64 2 5000 (small_read g) small.two one_row reads (λ j within e. to_file j 1 within e (λ s. omega (arith, s)))) (two_named g 2 5000 (codes "f") (small_read g) small.two one_row reads row))
+  where
+    g : BlockWords
+    g = with_empty f
+
     small : IsSmall g 64 2 5000
-    small = record {
-      superblock = superblock_off (put f 2 32 2) 2 33 0 (λ e. omega (arith, e)) (superblock_off f 2 32 2 (λ e. omega (arith, e)) h.superblock);
-      two = record { root_kind = h.file.root_kind; root_size = h.file.root_size; kind = h.file.kind; size = h.file.size; others = λ i from to. bare i from to (cases_eq i 3) };
-      order = record { root = (file_order f h).root; each = λ p within. ap (λ x. half x p) (let page : p < 2 = within in off (16 + (2 + p / 2)) (λ e. omega (arith, e, page)) (λ e. omega (arith, e, page))) ∙ (file_order f h).each p within };
-      marked = λ b low. bits_off (put f 2 32 2) 2 33 0 b (λ e. omega (arith, e)) (omega (arith, low)) ∙ bits_off f 2 32 2 b (λ e. omega (arith, e)) (omega (arith, low)) ∙ h.marked b low;
-      unmarked = λ b from within. bits_off (put f 2 32 2) 2 33 0 b (λ e. omega (arith, e)) within ∙ bits_off f 2 32 2 b (λ e. omega (arith, e)) within ∙ h.unmarked b from within;
-    }
+    small = empty_small f h
 
     row : RowIs g 0 2 (codes "f")
     row = row_is g 64 2 5000 0 2 102 small one_row (omega arith) (omega arith) h.file.row h.file.name

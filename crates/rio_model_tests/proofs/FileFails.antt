@@ -1,9 +1,9 @@
--- The volume with one file breaks no rule, and with one thing changed exactly the rule that it should, with its block.
+-- The volume with one file breaks no rule, and with one thing changed exactly the rule that it should, with its block: the rules 1 to 7.
 use Rattle.rio_model.proofs.Common.{BlockWords, ap, arith, bit_at, cases_eq, inl, inr, put, refl, reserved, subst, suc, sym, used_bit, zero, ℕ, ◌%◌, ◌*◌, ◌+◌, ◌-◌, ◌/◌, ◌<◌, ◌∙◌, ◌≡◌, ◌≢◌, ◌≤◌, ◌⊎◌}
 use Rattle.std.specs.Prelude.{◌^◌}
 use Rattle.rio_base.specs.Bitmap.{bitmap_block}
-use Rattle.rio_base.specs.Layout.{HasSuperblock, half, inode_kind, inode_size, volume_magic}
-use Rattle.rio_model.specs.Placed.{AtPage, IsFree, Owns, Slot, number_at}
+use Rattle.rio_base.specs.Layout.{HasSuperblock, IsIno, half, inode_block, inode_kind, inode_place, inode_size, volume_magic}
+use Rattle.rio_model.specs.Placed.{AtPage, AtTable, HasSlot, Within, IsFree, Owns, Slot, number_at}
 use Rattle.rio_model.specs.Sizes.{largest_size}
 use Rattle.rio_model.specs.VolumeFails.{FailsFirst, FailsOn, FailsVolume, IsLeastTwice, KindAt, NumberAt, SizeAt}
 use Rattle.rio_model.specs.VolumeRules.{KindRule, MarkRule, NumberRule, ReservedRule, SizeFits, SizeRule, bitmap_bits}
@@ -11,10 +11,10 @@ use Rattle.rio_model.proofs.FreshPair.{FailsOnly, other_magic_fails}
 use Rattle.rio_model.proofs.PlacedRules.{page_page, reserved_same}
 use Rattle.rio_model.proofs.VolumeFailRules.{none_fails, one_fails}
 use Rattle.rio_model.proofs.WordRules.{put_beside}
-use Rattle.rio_model_tests.proofs.FileReads.{IsFileVolume, counts_within, file_bytes, file_laid, file_reads, file_reserved, file_served}
+use Rattle.rio_model_tests.proofs.FileReads.{IsFileVolume, counts_within, file_bytes, file_laid, file_mapped, file_reads}
 use Rattle.rio_model_tests.proofs.FileState.{file_state}
 use Rattle.rio_model_tests.proofs.FileVolume.{HasFile, file_layout, file_shape, reserved_is, second_owned, slot_block}
-use Rattle.rio_model_tests.proofs.SmallVolumes.{HasTwo, IsPage, SlotOf, bits_at, bits_off, superblock_off, two_page, two_root, two_slots}
+use Rattle.rio_model_tests.proofs.SmallVolumes.{HasTwo, one_page_slot, file_served, IsPage, SlotOf, bits_at, bits_off, superblock_off, two_page, two_root, two_slots}
 
 -- no rule fails, with no block
 pub no_rule_fails : (f : BlockWords) (rule b : ℕ) → IsFileVolume f → FailsVolume f 16 rule b → ⊥
@@ -85,21 +85,21 @@ first_three keeps fails one two = record {
 }
 
 -- with another word there the superblock and the bitmap say what they said
-words_put : (f : BlockWords) (w v : ℕ) → IsFileVolume f → HasSuperblock (put f 2 w v) file_shape
-words_put f w v h = superblock_off f 2 w v (λ e. omega (arith, e)) h.superblock
+words_put : (f : BlockWords) (w v : ℕ) → HasSuperblock f file_shape → HasSuperblock (put f 2 w v) file_shape
+words_put f w v words = superblock_off f 2 w v (λ e. omega (arith, e)) words
 
-reserved_put : (f : BlockWords) (w v : ℕ) → IsFileVolume f → ReservedRule file_shape (put f 2 w v)
-reserved_put f w v h = reserved_same file_shape f (put f 2 w v) file_served.sizes (λ b within. bits_off f 2 w v b (λ e. omega (arith, e)) within) (file_reserved f h)
+reserved_put : (f : BlockWords) (w v : ℕ) → ReservedRule file_shape f → ReservedRule file_shape (put f 2 w v)
+reserved_put f w v rule = reserved_same file_shape f (put f 2 w v) file_served.sizes (λ b within. bits_off f 2 w v b (λ e. omega (arith, e)) within) rule
 
 -- and where it is no kind, or no size, these rules stay
-kinds_put : (f : BlockWords) (w v : ℕ) → HasFile f → ((i : ℕ) → 16 * i + 0 ≢ w) → KindRule (file_layout (put f 2 w v))
-kinds_put f w v h off = record { each = λ i ino. subst (λ k. k ≤ 3) (sym (kind i)) ((file_laid f h).kinds.each i ino); root = kind 1 ∙ h.root_kind }
+kinds_put : (f : BlockWords) (w v : ℕ) → ((i : ℕ) → 16 * i + 0 ≢ w) → KindRule (file_layout f) → KindRule (file_layout (put f 2 w v))
+kinds_put f w v off rule = record { each = λ i ino. subst (λ k. k ≤ 3) (sym (kind i)) (rule.each i ino); root = kind 1 ∙ rule.root }
   where
     kind : (i : ℕ) → inode_kind (put f 2 w v) i ≡ inode_kind f i
     kind i = put_beside f 2 w v _ _ (off ((i - 1) % 32))
 
-sizes_put : (f : BlockWords) (w v : ℕ) → HasFile f → ((i : ℕ) → 16 * i + 0 ≢ w) → ((i : ℕ) → 16 * i + 1 ≢ w) → SizeRule (file_layout (put f 2 w v))
-sizes_put f w v h off beside = record { each = λ i ino used. subst (λ k. SizeFits k (inode_size (put f 2 w v) i)) (sym (kind i)) (subst (λ z. SizeFits (inode_kind f i) z) (sym (size i)) ((file_laid f h).sizes.each i ino (subst (λ k. 0 < k) (kind i) used))) }
+sizes_put : (f : BlockWords) (w v : ℕ) → ((i : ℕ) → 16 * i + 0 ≢ w) → ((i : ℕ) → 16 * i + 1 ≢ w) → SizeRule (file_layout f) → SizeRule (file_layout (put f 2 w v))
+sizes_put f w v off beside rule = record { each = λ i ino used. subst (λ k. SizeFits k (inode_size (put f 2 w v) i)) (sym (kind i)) (subst (λ z. SizeFits (inode_kind f i) z) (sym (size i)) (rule.each i ino (subst (λ k. 0 < k) (kind i) used))) }
   where
     kind : (i : ℕ) → inode_kind (put f 2 w v) i ≡ inode_kind f i
     kind i = put_beside f 2 w v _ _ (off ((i - 1) % 32))
@@ -111,12 +111,12 @@ sizes_put f w v h off beside = record { each = λ i ino used. subst (λ k. SizeF
 
 -- the root is no directory
 pub root_no_directory : (f : BlockWords) (v : ℕ) → IsFileVolume f → v ≢ 1 → FailsOnly (put f 2 0 v) 16 3 2
-root_no_directory f v h other = only_on (put f 2 0 v) 3 2 (words_put f 0 v h) (inr (reserved_put f 0 v h, inl (refl, first_one (KindAt (file_layout (put f 2 0 v))) (λ keeps. other (keeps.1 refl)))))
+root_no_directory f v h other = only_on (put f 2 0 v) 3 2 (words_put f 0 v h.superblock) (inr (reserved_put f 0 v (file_mapped f h).reserved_marked, inl (refl, first_one (KindAt (file_layout (put f 2 0 v))) (λ keeps. other (keeps.1 refl)))))
 
 -- the file's kind is none that there is
 pub unknown_kind : (f : BlockWords) (v : ℕ) → IsFileVolume f → 3 < v → FailsOnly (put f 2 16 v) 16 3 2
-unknown_kind f v h past = only_on (put f 2 16 v) 3 2 (words_put f 16 v h) (inr (
-  reserved_put f 16 v h,
+unknown_kind f v h past = only_on (put f 2 16 v) 3 2 (words_put f 16 v h.superblock) (inr (
+  reserved_put f 16 v (file_mapped f h).reserved_marked,
   inl (refl, first_two (KindAt (file_layout (put f 2 16 v))) (λ keeps. let known : v ≤ 3 = keeps.0 in omega (arith, known, past)) (let root : inode_kind (put f 2 16 v) 1 ≡ 1 = h.file.root_kind in (omega (arith, root), λ e. root))),
 ))
 
@@ -124,20 +124,20 @@ unknown_kind f v h past = only_on (put f 2 16 v) 3 2 (words_put f 16 v h) (inr (
 
 -- the root's size is no whole number of entries
 pub odd_root : (f : BlockWords) (v : ℕ) → IsFileVolume f → v % 64 ≢ 0 → FailsOnly (put f 2 1 v) 16 4 2
-odd_root f v h odd = only_on (put f 2 1 v) 4 2 (words_put f 1 v h) (inr (
-  reserved_put f 1 v h,
+odd_root f v h odd = only_on (put f 2 1 v) 4 2 (words_put f 1 v h.superblock) (inr (
+  reserved_put f 1 v (file_mapped f h).reserved_marked,
   inr (
-    kinds_put f 1 v h.file (λ i e. omega (arith, e)),
+    kinds_put f 1 v (λ i e. omega (arith, e)) (file_laid f h.file).kinds,
     inl (refl, first_one (SizeAt (file_layout (put f 2 1 v))) (λ keeps. odd ((keeps (subst (λ k. 0 < k) (sym h.file.root_kind) (omega arith))).directory h.file.root_kind))),
   ),
 ))
 
 -- the file is longer than any may be
 pub too_long : (f : BlockWords) (v : ℕ) → IsFileVolume f → largest_size < v → FailsOnly (put f 2 17 v) 16 4 2
-too_long f v h long = only_on (put f 2 17 v) 4 2 (words_put f 17 v h) (inr (
-  reserved_put f 17 v h,
+too_long f v h long = only_on (put f 2 17 v) 4 2 (words_put f 17 v h.superblock) (inr (
+  reserved_put f 17 v (file_mapped f h).reserved_marked,
   inr (
-    kinds_put f 17 v h.file (λ i e. omega (arith, e)),
+    kinds_put f 17 v (λ i e. omega (arith, e)) (file_laid f h.file).kinds,
     inl (
       refl,
       first_two (SizeAt (file_layout (put f 2 17 v)))
@@ -189,23 +189,21 @@ numbers_is f v i b s h own is = by (two_slots (put f 2 18 v) 64 2 5000 i s (numb
     by (inl e) = inl (e.0, e.1, sym is ∙ slot_block (put f 2 18 v) i 1 s (AtPage 0) e.0 e.1 ∙ numbers_root f v h)
     by (inr x) = two x (cases_eq x.page 0)
 
--- the root keeps rule 5
-numbers_kept : (f : BlockWords) (v : ℕ) → HasFile f → NumberAt (file_layout (put f 2 18 v)) 1
-numbers_kept f v h s has = by (numbers_is f v 1 _ s h (record { ino = record { from = omega arith; to = omega arith }; slot = has }) refl)
+-- a root of one page, in block 3, keeps rule 5
+root_kept : (f : BlockWords) → inode_size f 1 ≡ 64 → ((file_layout f).node 1).block (AtPage 0) ≡ 3 → NumberAt (file_layout f) 1
+root_kept f size three s has = (omega (arith, is, reserved_is), omega (arith, is))
   where
-    by : NumberOf v 1 s (((file_layout (put f 2 18 v)).node 1).block s) → (reserved file_shape ≤ ((file_layout (put f 2 18 v)).node 1).block s) × (((file_layout (put f 2 18 v)).node 1).block s < 16)
-    by (inl (e, d, three)) = (omega (arith, three, reserved_is), omega (arith, three))
-    by (inr (inl (e, d, b))) = absurd (omega (arith, e))
-    by (inr (inr (e, d, b))) = absurd (omega (arith, e))
+    is : ((file_layout f).node 1).block s ≡ 3
+    is = ap ((file_layout f).node 1).block (one_page_slot 64 s (omega arith) (subst (λ z. Within z s) size has.within)) ∙ three
 
 number_out : (f : BlockWords) (v p b : ℕ) → IsFileVolume f → p < 2 → ((file_layout (put f 2 18 v)).node 2).block (AtPage p) ≡ b → (b < 3) ⊎ (16 ≤ b) → FailsOnly (put f 2 18 v) 16 5 2
-number_out f v p b h page is out = only_on (put f 2 18 v) 5 2 (words_put f 18 v h) (inr (
-  reserved_put f 18 v h,
+number_out f v p b h page is out = only_on (put f 2 18 v) 5 2 (words_put f 18 v h.superblock) (inr (
+  reserved_put f 18 v (file_mapped f h).reserved_marked,
   inr (
-    kinds_put f 18 v h.file (λ i e. omega (arith, e)),
+    kinds_put f 18 v (λ i e. omega (arith, e)) (file_laid f h.file).kinds,
     inr (
-      sizes_put f 18 v h.file (λ i e. omega (arith, e)) (λ i e. omega (arith, e)),
-      inl (refl, first_two (NumberAt (file_layout (put f 2 18 v))) (λ keeps. no out (keeps (AtPage p) (two_page (put f 2 18 v) 64 2 5000 p (numbers_two f v h.file) (omega arith) page).slot)) (numbers_kept f v h.file)),
+      sizes_put f 18 v (λ i e. omega (arith, e)) (λ i e. omega (arith, e)) (file_laid f h.file).sizes,
+      inl (refl, first_two (NumberAt (file_layout (put f 2 18 v))) (λ keeps. no out (keeps (AtPage p) (two_page (put f 2 18 v) 64 2 5000 p (numbers_two f v h.file) (omega arith) page).slot)) (root_kept (put f 2 18 v) h.file.root_size (numbers_root f v h.file))),
     ),
   ),
 ))
@@ -222,7 +220,48 @@ first_number_out f v h out = number_out f v 0 (v % 2 ^ 32) h (omega arith) (numb
 pub second_number_out : (f : BlockWords) (v : ℕ) → IsFileVolume f → (v / 2 ^ 32 % 2 ^ 32 < 3) ⊎ (16 ≤ v / 2 ^ 32 % 2 ^ 32) → FailsOnly (put f 2 18 v) 16 5 2
 second_number_out f v h out = number_out f v 1 (v / 2 ^ 32 % 2 ^ 32) h (omega arith) (numbers_second f v) out
 
--- where both lie past the reserved blocks all keep it
+-- with 25 pages the file keeps rule 4
+sizes_long : (f : BlockWords) → HasFile f → SizeRule (file_layout (put f 2 17 102400))
+sizes_long f h = record { each = λ i ino used. size i (cases_eq i 2) ino used }
+  where
+    long : BlockWords
+    long = put f 2 17 102400
+
+    size : (i : ℕ) → (i ≡ 2) ⊎ (i ≢ 2) → IsIno file_shape i → 0 < inode_kind long i → SizeFits (inode_kind long i) (inode_size long i)
+    size i (inl e) ino used = subst (λ x. SizeFits (inode_kind long x) (inode_size long x)) (sym e) (subst (λ k. SizeFits k 102400) (sym h.kind) (record { most = omega arith; directory = λ d. absurd (omega (arith, d)); region = λ d. absurd (omega (arith, d)); region_pages = λ d. absurd (omega (arith, d)) }))
+    size i (inr off) ino used =
+        let kind : inode_kind long i ≡ inode_kind f i = put_beside f 2 17 102400 (inode_block i) (inode_place i + 0) (λ e. omega (arith, e)) in
+        let same : inode_size long i ≡ inode_size f i = put_beside f 2 17 102400 (inode_block i) (inode_place i + 1) (let from = ino.from in let to = ino.to in λ e. omega (arith, e, off, from, to)) in
+        subst (λ k. SizeFits k (inode_size long i)) (sym kind) (subst (λ z. SizeFits (inode_kind f i) z) (sym same) ((file_laid f h).sizes.each i ino (subst (λ k. 0 < k) kind used)))
+
+-- the file has 25 pages, and the number of its indirect block is that of a reserved block, or of none that the volume has
+pub table_number_out : (f : BlockWords) (v : ℕ) → IsFileVolume f → (v % 2 ^ 32 < 3) ⊎ (16 ≤ v % 2 ^ 32) → FailsOnly (put (put f 2 17 102400) 2 30 v) 16 5 2
+unfolding number_at half
+table_number_out f v h out = only_on g 5 2 (words_put long 30 v (words_put f 17 102400 h.superblock)) (inr (
+  reserved_put long 30 v (reserved_put f 17 102400 (file_mapped f h).reserved_marked),
+  inr (
+    kinds_put long 30 v (λ i e. omega (arith, e)) (kinds_put f 17 102400 (λ i e. omega (arith, e)) (file_laid f h.file).kinds),
+    inr (
+      sizes_put long 30 v (λ i e. omega (arith, e)) (λ i e. omega (arith, e)) (sizes_long f h.file),
+      inl (refl, first_two (NumberAt (file_layout g)) (λ keeps. by out (keeps (AtTable 0) table)) (root_kept g h.file.root_size (ap (λ w. w % 2 ^ 32) h.file.root_page))),
+    ),
+  ),
+))
+  where
+    long : BlockWords
+    long = put f 2 17 102400
+
+    g : BlockWords
+    g = put long 2 30 v
+
+    table : HasSlot ((file_layout g).node 2) (AtTable 0)
+    table = record { used = subst (λ k. 0 < k) (sym h.file.kind) (omega arith); within = omega arith }
+
+    by : (v % 2 ^ 32 < 3) ⊎ (16 ≤ v % 2 ^ 32) → (reserved file_shape ≤ v % 2 ^ 32) × (v % 2 ^ 32 < 16) → ⊥
+    by (inl low) kept = let from = kept.0 in omega (arith, from, low, reserved_is)
+    by (inr high) kept = let to = kept.1 in omega (arith, to, high)
+
+-- where both pages of the file lie past the reserved blocks all keep rule 5
 numbers_rule : (f : BlockWords) (v : ℕ) → HasFile f → (3 ≤ v % 2 ^ 32) × (v % 2 ^ 32 < 16) → (3 ≤ v / 2 ^ 32 % 2 ^ 32) × (v / 2 ^ 32 % 2 ^ 32 < 16) → NumberRule (file_layout (put f 2 18 v))
 numbers_rule f v h first second = record { from = λ i s own. from _ (numbers_is f v i _ s h own refl); to = λ i s own. to _ (numbers_is f v i _ s h own refl) }
   where
@@ -237,11 +276,11 @@ numbers_rule f v h first second = record { from = λ i s own. from _ (numbers_is
     to b (inr (inr (e, d, is))) = let high = second.1 in omega (arith, is, high)
 
 only_twice : (f : BlockWords) (v b : ℕ) → IsFileVolume f → (3 ≤ v % 2 ^ 32) × (v % 2 ^ 32 < 16) → (3 ≤ v / 2 ^ 32 % 2 ^ 32) × (v / 2 ^ 32 % 2 ^ 32 < 16) → IsLeastTwice (file_layout (put f 2 18 v)) b → FailsOnly (put f 2 18 v) 16 6 b
-only_twice f v b h first second twice = only_on (put f 2 18 v) 6 b (words_put f 18 v h) (inr (
-  reserved_put f 18 v h,
+only_twice f v b h first second twice = only_on (put f 2 18 v) 6 b (words_put f 18 v h.superblock) (inr (
+  reserved_put f 18 v (file_mapped f h).reserved_marked,
   inr (
-    kinds_put f 18 v h.file (λ i e. omega (arith, e)),
-    inr (sizes_put f 18 v h.file (λ i e. omega (arith, e)) (λ i e. omega (arith, e)), inr (numbers_rule f v h.file first second, inl (refl, twice))),
+    kinds_put f 18 v (λ i e. omega (arith, e)) (file_laid f h.file).kinds,
+    inr (sizes_put f 18 v (λ i e. omega (arith, e)) (λ i e. omega (arith, e)) (file_laid f h.file).sizes, inr (numbers_rule f v h.file first second, inl (refl, twice))),
   ),
 ))
 

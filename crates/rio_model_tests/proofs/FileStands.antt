@@ -13,9 +13,10 @@ use Rattle.rio_model.specs.Standing.{EntriesFit, EntryFits, MayBear, Restorable,
 use Rattle.rio_model.specs.VolumeReads.{ReadsAs}
 use Rattle.rio_model.proofs.StandingStates.{AreWhole, one_shape, stands_one, stands_with_reads}
 use Rattle.rio_model_tests.proofs.FilePair.{IsFilePair, first_found, of_five, of_four, second_valid, valid_two}
-use Rattle.rio_model_tests.proofs.FileReads.{IsFileVolume, file_bytes, file_reads, file_served}
+use Rattle.rio_model_tests.proofs.FileReads.{IsFileVolume, file_bytes, file_reads}
 use Rattle.rio_model_tests.proofs.FileState.{file_is, file_state, name_is}
 use Rattle.rio_model_tests.proofs.FileVolume.{file_layout, file_shape, first_may_bear, second_bears, second_may_bear}
+use Rattle.rio_model_tests.proofs.SmallVolumes.{file_served}
 
 -- ---- the pair
 

@@ -15,10 +15,9 @@ use Rattle.rio_model.proofs.PlacedRules.{has_bit}
 use Rattle.rio_model.proofs.VolumeReadRules.{reads_dir}
 use Rattle.rio_model.proofs.WordRules.{held_word}
 use Rattle.rio_model_tests.proofs.FileFails.{first_two, only_on}
-use Rattle.rio_model_tests.proofs.FileReads.{file_served}
 use Rattle.rio_model_tests.proofs.FileVolume.{file_layout, file_shape, reserved_is, slot_block}
 use Rattle.rio_model_tests.proofs.SmallHeld.{EntryIs, IsNamed, entry_is, held_free, letter_is_name, small_read, small_reads, used_dir}
-use Rattle.rio_model_tests.proofs.SmallVolumes.{direct_block}
+use Rattle.rio_model_tests.proofs.SmallVolumes.{direct_block, file_served}
 
 -- the root has no entry. Inode 2 is a directory of one, in block 3: the name f, of inode 2 itself. No other inode is used
 pub record HasLoop (f : BlockWords) : Type 0 where

@@ -16,10 +16,9 @@ use Rattle.rio_model.proofs.VolumeFailRules.{none_fails, tree_rule}
 use Rattle.rio_model.proofs.WordRules.{put_other}
 use Rattle.rio_model_tests.proofs.EntryFails.{only_held}
 use Rattle.rio_model_tests.proofs.FileFails.{first_two}
-use Rattle.rio_model_tests.proofs.FileReads.{file_served}
 use Rattle.rio_model_tests.proofs.FileVolume.{file_shape}
 use Rattle.rio_model_tests.proofs.SmallHeld.{RowIs, free_keeps, held_free, node_word_at, one_apart, root_alone, row_is, row_kept, rows_kept, small_read, small_reads, two_named}
-use Rattle.rio_model_tests.proofs.SmallVolumes.{Fits, IsSmall, small_mapped, small_put}
+use Rattle.rio_model_tests.proofs.SmallVolumes.{Fits, IsSmall, file_served, small_mapped, small_put}
 
 -- ---- the volume
 

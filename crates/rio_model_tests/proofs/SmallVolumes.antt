@@ -3,15 +3,20 @@
 use Rattle.rio_model.proofs.Common.{BlockWords, IsIno, ap, arith, bit_at, cases_eq, cond, inl, inr, refl, subst, sym, used_bit, ℕ, ◌%◌, ◌+◌, ◌-◌, ◌/◌, ◌<◌, ◌∙◌, ◌≡◌, ◌≢◌, ◌≤◌, ◌⊎◌}
 use Rattle.rio_base.specs.Bitmap.{bitmap_block}
 use Rattle.rio_base.specs.Layout.{HasSuperblock, direct_number, half, indirect_number, inode_kind, inode_size, inode_word}
-use Rattle.rio_base.specs.Shapes.{more_bitmap}
+use Rattle.rio_base.specs.Shapes.{IsServed, more_bitmap}
 use Rattle.rio_base.specs.Volume.{put}
 use Rattle.rio_model.specs.Placed.{AtPage, AtTable, IsFree, Owned, Owns, Slot, Within, number_at}
 use Rattle.rio_model.specs.Sizes.{pages}
 use Rattle.rio_model.specs.VolumeRules.{IsLaid, IsMapped, SizeFits, bitmap_bits}
 use Rattle.rio_model.proofs.PlacedRules.{cases_lt, has_bit}
 use Rattle.rio_model.proofs.WordRules.{put_other}
-use Rattle.rio_model_tests.proofs.FileReads.{file_served}
 use Rattle.rio_model_tests.proofs.FileVolume.{file_layout, file_shape, reserved_is, slot_block}
+
+pub file_served : IsServed file_shape
+file_served = record {
+  version = refl;
+  sizes = record { version = inl refl; inodes_from = omega arith; inodes_to = omega arith; inode_blocks = refl; blocks_from = omega arith; blocks_second = λ e. absurd (omega (arith, e)); blocks_to = omega arith };
+}
 
 -- ---- two inodes
 
@@ -53,13 +58,14 @@ no_table z t small w = elim (cases_lt 24 (pages z)) [
   | inr few ↦ (let none : t < 0 = subst (λ b. t < cond b 1 0) few.1 w in omega (arith, none))
 ]
 
+-- a node of at most one page has no other slot
+pub one_page_slot : (root : ℕ) (s : Slot) → root ≤ 4096 → Within root s → s ≡ AtPage 0
+one_page_slot root (AtPage p) small w = let less : p < (root + 4095) / 4096 = w in let e : p ≡ 0 = omega (arith, less, small) in ap AtPage e
+one_page_slot root (AtTable t) small w = absurd (no_table root t (omega (arith, small)) w)
+
 pub two_slots : (f : BlockWords) (root k z i : ℕ) (s : Slot) → HasTwo f root k z → root ≤ 4096 → z ≤ 49152 → Owns (file_layout f) i s → SlotOf z i s
 two_slots f root k z i s h small room own = by (cases_eq i 1) (cases_eq i 2)
   where
-    in_root : (s : Slot) → Within root s → s ≡ AtPage 0
-    in_root (AtPage p) w = let less : p < (root + 4095) / 4096 = w in let e : p ≡ 0 = omega (arith, less, small) in ap AtPage e
-    in_root (AtTable t) w = absurd (no_table root t (omega (arith, small)) w)
-
     in_node : (s : Slot) → i ≡ 2 → Within z s → IsPage z i s
     in_node (AtPage p) e w = record { node = e; page = p; slot = refl; within = w }
     in_node (AtTable t) e w = absurd (no_table z t room w)
@@ -73,7 +79,7 @@ two_slots f root k z i s h small room own = by (cases_eq i 1) (cases_eq i 2)
     bare (inr empty) = none s (subst (λ x. Within x s) empty.1 own.slot.within)
 
     by : (i ≡ 1) ⊎ (i ≢ 1) → (i ≡ 2) ⊎ (i ≢ 2) → SlotOf z i s
-    by (inl e) d = inl (e, in_root s (subst (λ x. Within x s) (ap (inode_size f) e ∙ h.root_size) own.slot.within))
+    by (inl e) d = inl (e, one_page_slot root s small (subst (λ x. Within x s) (ap (inode_size f) e ∙ h.root_size) own.slot.within))
     by (inr a) (inl e) = inr (in_node s e (subst (λ x. Within x s) (ap (inode_size f) e ∙ h.size) own.slot.within))
     by (inr a) (inr b) = absurd (bare (let from = own.ino.from in h.others i (omega (arith, from, a, b)) own.ino.to))
 
