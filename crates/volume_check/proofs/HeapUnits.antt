@@ -23,6 +23,13 @@ starts_at l t j u is small =
     let bit : t % 64 ≡ u = omega (arith, is, small) in
     ap (λ x. bit_at (l (2 * x + 1)) (t % 64)) page ∙ ap (bit_at (l (2 * j + 1))) bit
 
+-- the last unit of page n is the one before page n + 1
+pub before_next : (l : ℕ → ℕ) (n : ℕ) → l (2 * n) < 2 ^ 64 → l (2 * n) / 2 ^ 63 ≡ used_before l (n + 1)
+before_next l n fits =
+    let next : suc n ≡ n + 1 = omega arith in
+    let bit : l (2 * n) / 2 ^ 63 ≡ l (2 * n) / 2 ^ 63 % 2 = omega (arith, fits) in
+    bit ∙ ap (used_before l) next
+
 cases_top : (t : ℕ) → (t % 64 ≡ 63) ⊎ (suc (t % 64) < 64)
 cases_top t = by (t % 64) (omega arith)
   where

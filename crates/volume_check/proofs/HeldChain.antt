@@ -1,5 +1,6 @@
 -- The rules 8 to 11 one after the other: what one of them tells is what all of them tell.
 use Rattle.rio_model.proofs.Common.{ℕ, inl, inr, BlockWords, VolumeShape}
+use Rattle.std.specs.Prelude.{Err, Ok, OnOk, Result}
 use Rattle.rio_model.specs.declared.state.State.{State}
 use Rattle.rio_model.specs.Held.{Held, held_of}
 use Rattle.rio_model.specs.VolumeFails.{ApartAt, EntryAt, FailsHeld, RegionAt, TreeAt}
@@ -8,6 +9,12 @@ use Rattle.rio_model.specs.VolumeRules.{EntryRule, IsMapped, NamesApartRule, Reg
 use Rattle.rio_model.proofs.ReadStates.{HoldsWithin, reads_as_made, reads_made}
 use Rattle.volume_check.specs.FirstFails.{FailsBy}
 use Rattle.volume_check.specs.Tree.{state_of}
+use Rattle.volume_check.specs.declared.failures.CheckFail.{CheckFail}
+
+-- what a look tells where it ends well is what follows from it
+pub on_ok_then : {P Q : Type 0} (r : Result (Unit {0}) CheckFail) → (P → Q) → OnOk r P → OnOk r Q
+on_ok_then (Ok x) f h = f h
+on_ok_then (Err e) f h = h
 
 pub fails_entries : (shape : VolumeShape) (held : ℕ → Held) (rule b : ℕ) → FailsBy 8 shape (EntryAt held) rule b → FailsHeld shape held rule b
 fails_entries shape held rule b h = inl h

@@ -1,13 +1,13 @@
 -- Rules 3 and 4 of an inode as it is held.
 use Rattle.volume_check.proofs.Common.{arith, inl, inr, refl, subst, sym, ℕ, ◌+◌, ◌-◌, ◌<◌, ◌∙◌, ◌≡◌, ◌≤◌, None, Option, Some, IsIno, Ino, Seen, VolumeShape, inode_block}
-use Rattle.rio_model.specs.VolumeFails.{FailsFirst, KindAt, NumberAt, SizeAt}
-use Rattle.rio_model.specs.VolumeRules.{KindRule, NumberRule, SizeFits, SizeRule}
-use Rattle.rio_model.proofs.VolumeFailRules.{kind_rule, number_rule, size_rule}
+use Rattle.rio_model.specs.VolumeFails.{FailsFirst, KindAt, SizeAt}
+use Rattle.rio_model.specs.VolumeRules.{KindRule, SizeFits, SizeRule}
+use Rattle.rio_model.proofs.VolumeFailRules.{kind_rule, size_rule}
 use Rattle.volume_check.specs.declared.failures.CheckFail.{CheckFail}
 use Rattle.volume_check.specs.declared.failures.CheckFail.TheVariants.{BadVolume}
 use Rattle.volume_check.specs.Failures.{Refuses}
 use Rattle.volume_check.specs.InodeRules.{Finds, KeepsKind, KeepsSize}
-use Rattle.volume_check.specs.Rules.{FailsInodes, FailsNumbers}
+use Rattle.volume_check.specs.Rules.{FailsInodes}
 use Rattle.volume_check.specs.Inodes.{HasInodes, layout_of, said}
 use Rattle.volume_check.specs.declared.inodes.Inodes.{Inodes}
 use Rattle.volume_check.proofs.Counts.{kind_said, size_said}
@@ -71,11 +71,3 @@ kind_breaks s n i fail h first is = subst (λ (x : CheckFail). Refuses (FailsIno
 
 pub size_breaks : (s : Seen) (n : Inodes) (i : Ino) (fail : CheckFail) → HasInodes s n → Finds n.shape (KeepsKind n) None → Finds n.shape (KeepsSize n) (Some i) → fail ≡ BadVolume 4 (record { 0 = inode_block i.0 }) → Refuses (FailsInodes (layout_of s n)) fail
 size_breaks s n i fail h kinds first is = subst (λ (x : CheckFail). Refuses (FailsInodes (layout_of s n)) x) (sym is) (inr (kinds_keep s n h kinds, refl, first_of n.shape (SizeAt (layout_of s n)) i (inode_block i.0) refl (finds_as n.shape (KeepsSize n) (SizeAt (layout_of s n)) (Some i) (size_from s n h) (size_to s n h) first)))
-
--- ---- rule 5
-
-pub number_keeps : (s : Seen) (n : Inodes) → Finds n.shape (NumberAt (layout_of s n)) None → NumberRule (layout_of s n)
-number_keeps s n all = number_rule (layout_of s n) all
-
-pub number_breaks : (s : Seen) (n : Inodes) (i : Ino) (fail : CheckFail) → Finds n.shape (NumberAt (layout_of s n)) (Some i) → fail ≡ BadVolume 5 (record { 0 = inode_block i.0 }) → Refuses (FailsNumbers (layout_of s n)) fail
-number_breaks s n i fail first is = subst (λ (x : CheckFail). Refuses (FailsNumbers (layout_of s n)) x) (sym is) (refl, first_of n.shape (NumberAt (layout_of s n)) i (inode_block i.0) refl first)

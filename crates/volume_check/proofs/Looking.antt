@@ -123,6 +123,10 @@ refuses_more p q Fault on h = tt
 refuses_more p q Stopped on h = tt
 refuses_more p q Memory on h = tt
 
+pub refused_more : {T : Type 0} (p q : ℕ → ℕ → Type 0) (r : Result T CheckFail) → ((rule b : ℕ) → p rule b → q rule b) → IfErr r (Refuses p) → IfErr r (Refuses q)
+refused_more p q (Ok a) on h = h
+refused_more p q (Err e) on h = refuses_more p q e on h
+
 -- at the exit of a call that told it
 pub refused_err : {T U : Type 0} (p q : ℕ → ℕ → Type 0) (r : Result T CheckFail) (s : Result U CheckFail) (e d : CheckFail) → r ≡ Err e → s ≡ Err d → d ≡ e → ((rule b : ℕ) → p rule b → q rule b) → IfErr r (Refuses p) → IfErr s (Refuses q)
 refused_err {T = T} {U = U} p q r s e d re sd de on h =

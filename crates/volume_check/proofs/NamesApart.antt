@@ -44,6 +44,10 @@ apart_by held d words rule has differ j k at on e = by (order j k)
     by (inr (inl same)) = same
     by (inr (inr more)) = absurd (clash k j on at (sym e) more)
 
+-- no directory, no entries
+pub apart_none : (held : ℕ → Held) (d k : ℕ) → (held d).kind ≡ k → (k ≡ 1 → ⊥) → ApartAt held d
+apart_none held d k is other x y at on same = absurd (other (sym is ∙ at.dir))
+
 pub differ_at : (held : ℕ → Held) (d : ℕ) (words : List ℕ) → EntryRule held → (held d).kind ≡ 1 → HasEntries (held d) words → ApartAt held d → AllDiffer (names_at words)
 differ_at held d words rule dir has apart j k less small same =
     let one = entry j (omega (arith, less, small)) in

@@ -4,10 +4,16 @@ use Rattle.std.proofs.Common.{take, length-drop}
 use Rattle.std.proofs.lemmas.List.{get_or-drop, get_or-take, length-take-le}
 use Rattle.rio_base.specs.Regions.{RegionContent}
 use Rattle.rio_model.specs.Heap.{IsSoundRegion, OfBlocks}
+use Rattle.rio_model.specs.Held.{Held}
+use Rattle.rio_model.specs.VolumeFails.{RegionAt}
 use Rattle.rio_model.specs.Undo.{IsRegion, UndoRecord, Within, before, before_by, map_pages, region_words, saved_word, taken, undo_records, word_or}
 use Rattle.volume_check.specs.RegionWords.{Begins, HasPages, HasRecords}
 use Rattle.volume_check.proofs.HeapUnits.{of_blocks_on}
 use Rattle.volume_check.proofs.RecordWalks.{records_on}
+
+-- what is no region keeps the format of one
+pub region_none : (held : ℕ → Held) (i k : ℕ) → (held i).kind ≡ k → (k ≡ 3 → ⊥) → RegionAt held i
+region_none held i k is other three = absurd (other (sym is ∙ three))
 
 -- how many places there are
 abbrev pub places_of : ℕ → ℕ

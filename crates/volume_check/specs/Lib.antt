@@ -6,6 +6,7 @@ pub mod FirstFails
 pub mod InodeRules
 pub mod Inodes
 pub mod Looking
+pub mod NodeRules
 pub mod NodeWords
 pub mod Numbers
 pub mod RegionWords

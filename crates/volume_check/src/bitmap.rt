@@ -3,7 +3,7 @@
 ghost use Rattle.std.specs.Prelude.{◌≡◌, ◌==◌, ◌<◌, length};
 
 /// The bitmap of a volume, a bit for each block that it may have.
-#[derive(Debug, Drop)]
+#[derive(Drop)]
 pub struct Bitmap {
     words: Vec<u64>,
     ghost long: { length words.items ≡ 512 },

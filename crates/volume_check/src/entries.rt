@@ -1,20 +1,19 @@
 //! Entries of directories, and rule 8: each has a name that a path may have, and names a used inode.
 
-ghost use Rattle.std.specs.Prelude.{◌≡◌, ◌↔◌, ◌+◌, ◌*◌, ◌/◌, ◌%◌, ◌^◌, ◌<◌, ◌≤◌, ℕ, IfErr, IfOk, IsTrue, OnOk, drop, length, slice_index, take};
+ghost use Rattle.std.specs.Prelude.{◌≡◌, ◌↔◌, ◌+◌, ◌*◌, ◌/◌, ◌%◌, ◌^◌, ◌<◌, ◌≤◌, ℕ, IfErr, IfOk, IsTrue, drop, length, slice_index, take};
 ghost use Rattle.rio_base.specs.Bytes.{bytes_of};
 ghost use Rattle.rio_base.specs.Layout.{IsIno};
 ghost use Rattle.rio_model.specs.Held.{held_of};
 ghost use Rattle.rio_model.specs.Paths.{IsName};
 ghost use Rattle.rio_model.specs.VolumeFails.{EntryAt};
-ghost use Rattle.rio_model.specs.VolumeRules.{EntryRule, IsMapped};
+ghost use Rattle.rio_model.specs.VolumeRules.{IsMapped};
 ghost use Rattle.volume_check.specs.Entries.{HasEntries, KeepsEntry, ino_in, kind_in, name_in};
 ghost use Rattle.volume_check.specs.Failures.{Refuses};
-ghost use Rattle.volume_check.specs.FirstFails.{FailsBy};
 ghost use Rattle.volume_check.specs.Inodes.{HasInodes, said};
 ghost use Rattle.volume_check.specs.Looking.{CanLook, Looked};
 
 use crate::failures::CheckFail;
-use crate::inode_rules::{DIRECTORY, broken_at};
+use crate::inode_rules::DIRECTORY;
 use crate::inodes::Inodes;
 use crate::node_words::read_front;
 use crate::numbers::page_count;
@@ -118,7 +117,7 @@ fn are_entries(inodes: &Inodes, words: &[u64]) -> bool
 }
 
 /// Whether the entries of inode `i`, if it is a directory, keep rule 8.
-fn keeps_entries<V: Blocks>(
+pub(crate) fn keeps_entries<V: Blocks>(
     alloc: Global,
     v: &mut V,
     inodes: &Inodes,
@@ -137,27 +136,4 @@ fn keeps_entries<V: Blocks>(
     }
     let words = read_entries(alloc, v, inodes, i)?;
     Ok(are_entries(inodes, &words))
-}
-
-/// Looks at rule 8.
-pub(crate) fn look_at_entries<V: Blocks>(
-    alloc: Global,
-    v: &mut V,
-    inodes: &Inodes,
-) -> Result<(), CheckFail>
-    requires can { CanLook V.seen V.sound V.passes v.old }
-    requires inodes { HasInodes (V.seen v.old) inodes.now }
-    requires mapped { IsMapped inodes.now.shape (V.seen v.old).words }
-    ensures ok { OnOk result (EntryRule (held_of inodes.now.shape (V.seen v.old).words)) }
-    ensures refused { IfErr result (Refuses (FailsBy 8 inodes.now.shape (EntryAt (held_of inodes.now.shape (V.seen v.old).words)))) }
-    ensures looked { Looked V.seen V.health V.sound V.passes v.old v.new result }
-{
-    for k in 0..inodes.shape.inodes {
-        let i = Ino(k + 1);
-        let keeps = keeps_entries(alloc, v, inodes, i)?;
-        if !keeps {
-            return Err(broken_at(inodes, 8, i));
-        }
-    }
-    Ok(())
 }

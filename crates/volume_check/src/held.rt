@@ -10,11 +10,9 @@ ghost use Rattle.volume_check.specs.Failures.{Refuses};
 ghost use Rattle.volume_check.specs.Inodes.{HasInodes};
 ghost use Rattle.volume_check.specs.Looking.{CanLook, Looked};
 
-use crate::entries::look_at_entries;
 use crate::failures::CheckFail;
 use crate::inodes::Inodes;
-use crate::names::look_at_names;
-use crate::regions::look_at_regions;
+use crate::node_rules::{NodeRule, look_at_each};
 use crate::tree::look_at_tree;
 use rio_base::Blocks;
 use std::alloc::Global;
@@ -28,9 +26,8 @@ pub fn look_at_held<V: Blocks>(alloc: Global, v: &mut V, inodes: &Inodes) -> Res
     ensures refused { IfErr result (Refuses (FailsHeld inodes.now.shape (held_of inodes.now.shape (V.seen v.old).words))) }
     ensures looked { Looked V.seen V.health V.sound V.passes v.old v.new result }
 {
-    look_at_entries(alloc, v, inodes)?;
-    look_at_names(alloc, v, inodes)?;
+    look_at_each(alloc, v, inodes, NodeRule::Entries)?;
+    look_at_each(alloc, v, inodes, NodeRule::Names)?;
     look_at_tree(alloc, v, inodes)?;
-    look_at_regions(alloc, v, inodes)?;
-    Ok(())
+    look_at_each(alloc, v, inodes, NodeRule::Format)
 }

@@ -19,7 +19,7 @@ const FIRST_NUMBERS: usize = 2;
 const INDIRECT_NUMBER: usize = 14;
 
 /// The inodes of a volume.
-#[derive(Debug, Drop)]
+#[derive(Drop)]
 pub struct Inodes {
     /// The sizes of the volume.
     pub shape: VolumeShape,

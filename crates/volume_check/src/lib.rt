@@ -11,6 +11,7 @@ mod inodes;
 mod mark_rules;
 mod name_counts;
 mod names;
+mod node_rules;
 mod node_words;
 mod numbers;
 mod owners;

@@ -17,7 +17,7 @@ use rio_base::{Blocks, Ino};
 use std::alloc::Global;
 
 /// How many names an inode has.
-#[derive(Clone, Copy, Debug, PartialEq, Eq)]
+#[derive(Clone, Copy, PartialEq, Eq)]
 pub(crate) enum NameCount {
     /// None.
     No,

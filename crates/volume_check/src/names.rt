@@ -1,6 +1,6 @@
 //! Rule 9: no directory has two equal names.
 
-ghost use Rattle.std.specs.Prelude.{◌≡◌, ◌↔◌, ◌+◌, ◌*◌, ◌/◌, ◌%◌, ◌^◌, ◌<◌, ◌≤◌, ℕ, [], IfErr, IfOk, IsTrue, OnOk, length, map, slice_index, slice_index_or};
+ghost use Rattle.std.specs.Prelude.{◌≡◌, ◌↔◌, ◌+◌, ◌*◌, ◌/◌, ◌%◌, ◌^◌, ◌<◌, ◌≤◌, ℕ, [], IfErr, IfOk, IsTrue, length, map, slice_index, slice_index_or};
 ghost use Rattle.std.specs.Cmp.Lexicographic.{slice_cmp};
 ghost use Rattle.std.specs.List.{range_with_len};
 ghost use Rattle.std.specs.List.Sorted.{IsPermutation, IsSorted};
@@ -8,16 +8,15 @@ ghost use Rattle.std.specs.Ordering.{nat_cmp};
 ghost use Rattle.rio_base.specs.Layout.{IsIno};
 ghost use Rattle.rio_model.specs.Held.{held_of};
 ghost use Rattle.rio_model.specs.VolumeFails.{ApartAt};
-ghost use Rattle.rio_model.specs.VolumeRules.{EntryRule, IsMapped, NamesApartRule};
+ghost use Rattle.rio_model.specs.VolumeRules.{EntryRule, IsMapped};
 ghost use Rattle.volume_check.specs.Entries.{AllDiffer, name_in, name_words, padded};
 ghost use Rattle.volume_check.specs.Failures.{Refuses};
-ghost use Rattle.volume_check.specs.FirstFails.{FailsBy};
 ghost use Rattle.volume_check.specs.Inodes.{HasInodes};
 ghost use Rattle.volume_check.specs.Looking.{CanLook, Looked};
 
 use crate::entries::{ENTRY_WORDS, NAME_BYTES, name_bytes, name_length, read_entries};
 use crate::failures::CheckFail;
-use crate::inode_rules::{DIRECTORY, broken_at};
+use crate::inode_rules::DIRECTORY;
 use crate::inodes::Inodes;
 use byteorder::{ByteOrder, LittleEndian};
 use rio_base::{Blocks, Ino};
@@ -94,7 +93,7 @@ fn all_differ(names: &mut [NameWords]) -> bool
 }
 
 /// Whether no two entries of inode `i`, if it is a directory, have one name.
-fn keeps_apart<V: Blocks>(
+pub(crate) fn keeps_apart<V: Blocks>(
     alloc: Global,
     v: &mut V,
     inodes: &Inodes,
@@ -115,28 +114,4 @@ fn keeps_apart<V: Blocks>(
     let words = read_entries(alloc, v, inodes, i)?;
     let mut names = all_name_words(alloc, &words)?;
     Ok(all_differ(&mut names))
-}
-
-/// Looks at rule 9.
-pub(crate) fn look_at_names<V: Blocks>(
-    alloc: Global,
-    v: &mut V,
-    inodes: &Inodes,
-) -> Result<(), CheckFail>
-    requires can { CanLook V.seen V.sound V.passes v.old }
-    requires inodes { HasInodes (V.seen v.old) inodes.now }
-    requires mapped { IsMapped inodes.now.shape (V.seen v.old).words }
-    requires entries { EntryRule (held_of inodes.now.shape (V.seen v.old).words) }
-    ensures ok { OnOk result (NamesApartRule (held_of inodes.now.shape (V.seen v.old).words)) }
-    ensures refused { IfErr result (Refuses (FailsBy 9 inodes.now.shape (ApartAt (held_of inodes.now.shape (V.seen v.old).words)))) }
-    ensures looked { Looked V.seen V.health V.sound V.passes v.old v.new result }
-{
-    for k in 0..inodes.shape.inodes {
-        let i = Ino(k + 1);
-        let keeps = keeps_apart(alloc, v, inodes, i)?;
-        if !keeps {
-            return Err(broken_at(inodes, 9, i));
-        }
-    }
-    Ok(())
 }

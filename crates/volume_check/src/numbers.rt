@@ -7,15 +7,12 @@ ghost use Rattle.rio_base.specs.Shapes.{IsServed};
 ghost use Rattle.rio_model.specs.Placed.{AtPage, AtTable, HasSlot, Placed};
 ghost use Rattle.rio_model.specs.Sizes.{largest_size, pages};
 ghost use Rattle.rio_model.specs.VolumeFails.{NumberAt, SizeAt};
-ghost use Rattle.rio_model.specs.VolumeRules.{NumberRule, SizeRule};
 ghost use Rattle.volume_check.specs.Failures.{Refuses};
 ghost use Rattle.volume_check.specs.Inodes.{HasInodes, layout_of, said};
 ghost use Rattle.volume_check.specs.Looking.{CanLook, Looked};
 ghost use Rattle.volume_check.specs.Numbers.{CanNumber, InRange, node_numbers, numbers, page_numbers};
-ghost use Rattle.volume_check.specs.Rules.{FailsNumbers};
 
 use crate::failures::CheckFail;
-use crate::inode_rules::broken_at;
 use crate::inodes::{Inodes, number_in};
 use crate::mark_rules::reserved_blocks;
 use crate::reading::read_words;
@@ -157,12 +154,12 @@ fn are_in_range(shape: &VolumeShape, blocks: &[Block]) -> bool
     true
 }
 
-/// Whether each block of node `i` is one of the volume past the reserved ones. `blocks` is a room for them.
-fn keeps_numbers<V: Blocks>(
+/// Whether each block of node `i` is one of the volume past the reserved ones.
+pub(crate) fn keeps_numbers<V: Blocks>(
+    alloc: Global,
     v: &mut V,
     inodes: &Inodes,
     i: Ino,
-    blocks: &mut Vec<Block>,
 ) -> Result<bool, CheckFail>
     requires can { CanLook V.seen V.sound V.passes v.old }
     requires inodes { HasInodes (V.seen v.old) inodes.now }
@@ -175,30 +172,7 @@ fn keeps_numbers<V: Blocks>(
     if !has_table_in_range(inodes, i) {
         return Ok(false);
     }
-    read_numbers(v, inodes, i, blocks)?;
-    Ok(are_in_range(&inodes.shape, blocks))
-}
-
-/// Looks at rule 5.
-pub fn look_at_numbers<V: Blocks>(
-    alloc: Global,
-    v: &mut V,
-    inodes: &Inodes,
-) -> Result<(), CheckFail>
-    requires can { CanLook V.seen V.sound V.passes v.old }
-    requires inodes { HasInodes (V.seen v.old) inodes.now }
-    requires sizes { SizeRule (layout_of (V.seen v.old) inodes.now) }
-    ensures ok { OnOk result (NumberRule (layout_of (V.seen v.old) inodes.now)) }
-    ensures refused { IfErr result (Refuses (FailsNumbers (layout_of (V.seen v.old) inodes.now))) }
-    ensures looked { Looked V.seen V.health V.sound V.passes v.old v.new result }
-{
     let mut blocks = Vec::new(alloc);
-    for k in 0..inodes.shape.inodes {
-        let i = Ino(k + 1);
-        let keeps = keeps_numbers(v, inodes, i, &mut blocks)?;
-        if !keeps {
-            return Err(broken_at(inodes, 5, i));
-        }
-    }
-    Ok(())
+    read_numbers(v, inodes, i, &mut blocks)?;
+    Ok(are_in_range(&inodes.shape, &blocks))
 }

@@ -20,7 +20,7 @@ use std::alloc::{AllocError, Global};
 pub(crate) const ROOT: Ino = Ino(1);
 
 /// The inodes that were reached so far.
-#[derive(Debug, Drop)]
+#[derive(Drop)]
 pub(crate) struct Reach {
     /// Whether an inode was reached, by its number.
     reached: Vec<bool>,

@@ -1,17 +1,16 @@
 //! Rule 11: each region keeps the format.
 
-ghost use Rattle.std.specs.Prelude.{◌≡◌, ◌↔◌, IfErr, IfOk, IsTrue, OnOk};
+ghost use Rattle.std.specs.Prelude.{◌≡◌, ◌↔◌, IfErr, IfOk, IsTrue};
 ghost use Rattle.rio_base.specs.Layout.{IsIno};
 ghost use Rattle.rio_model.specs.Held.{held_of};
 ghost use Rattle.rio_model.specs.VolumeFails.{RegionAt};
-ghost use Rattle.rio_model.specs.VolumeRules.{IsMapped, RegionRule};
+ghost use Rattle.rio_model.specs.VolumeRules.{IsMapped};
 ghost use Rattle.volume_check.specs.Failures.{Refuses};
-ghost use Rattle.volume_check.specs.FirstFails.{FailsBy};
 ghost use Rattle.volume_check.specs.Inodes.{HasInodes};
 ghost use Rattle.volume_check.specs.Looking.{CanLook, Looked};
 
 use crate::failures::CheckFail;
-use crate::inode_rules::{REGION, broken_at};
+use crate::inode_rules::REGION;
 use crate::inodes::Inodes;
 use crate::node_words::read_front;
 use crate::numbers::page_count;
@@ -20,7 +19,7 @@ use rio_base::{Blocks, Ino};
 use std::alloc::Global;
 
 /// Whether inode `i`, if it is a region, keeps the format. Its data are not read.
-fn keeps_format<V: Blocks>(
+pub(crate) fn keeps_format<V: Blocks>(
     alloc: Global,
     v: &mut V,
     inodes: &Inodes,
@@ -43,27 +42,4 @@ fn keeps_format<V: Blocks>(
     };
     let mut words = read_front(alloc, v, inodes, i, pages.front())?;
     Ok(is_sound_region(&mut words, pages))
-}
-
-/// Looks at rule 11.
-pub(crate) fn look_at_regions<V: Blocks>(
-    alloc: Global,
-    v: &mut V,
-    inodes: &Inodes,
-) -> Result<(), CheckFail>
-    requires can { CanLook V.seen V.sound V.passes v.old }
-    requires inodes { HasInodes (V.seen v.old) inodes.now }
-    requires mapped { IsMapped inodes.now.shape (V.seen v.old).words }
-    ensures ok { OnOk result (RegionRule (held_of inodes.now.shape (V.seen v.old).words)) }
-    ensures refused { IfErr result (Refuses (FailsBy 11 inodes.now.shape (RegionAt (held_of inodes.now.shape (V.seen v.old).words)))) }
-    ensures looked { Looked V.seen V.health V.sound V.passes v.old v.new result }
-{
-    for k in 0..inodes.shape.inodes {
-        let i = Ino(k + 1);
-        let keeps = keeps_format(alloc, v, inodes, i)?;
-        if !keeps {
-            return Err(broken_at(inodes, 11, i));
-        }
-    }
-    Ok(())
 }

@@ -20,7 +20,7 @@ use crate::held::look_at_held;
 use crate::inode_rules::look_at_inodes;
 use crate::inodes::Inodes;
 use crate::mark_rules::{BITMAP, keeps_marks, keeps_reserved, read_bitmap};
-use crate::numbers::look_at_numbers;
+use crate::node_rules::{NodeRule, look_at_each};
 use crate::owners::find_owners;
 use crate::reading::read_inodes;
 use crate::superblock::read_shape;
@@ -68,7 +68,7 @@ fn look_at_layout<V: Blocks>(
     ensures looked { Looked V.seen V.health V.sound V.passes v.old v.new result }
 {
     look_at_inodes(inodes)?;
-    look_at_numbers(alloc, v, inodes)?;
+    look_at_each(alloc, v, inodes, NodeRule::Numbers)?;
     let owners = find_owners(alloc, v, inodes)?;
     demand(7, keeps_marks(&inodes.shape, bitmap, &owners))?;
     Ok(owners)

@@ -2,7 +2,7 @@ use Rattle.volume_check.proofs.Common.{List, ℕ, ◌∙◌, refl, subst, sym, e
 use Rattle.rio_model.specs.Held.{held_of}
 use Rattle.volume_check.specs.Entries.{HasEntries}
 use Rattle.volume_check.proofs.EntryRules.{at_entry, entry_at, entry_none, said_is}
-use Rattle.volume_check.proofs.Looking.{looked_err, looked_quiet, refused_err}
+use Rattle.volume_check.proofs.Looking.{looked_err, looked_quiet, refused_err, looked_none}
 use Rattle.volume_check.proofs.entries.keeps_entries.Goals as goal
 
 pub returns-in_err-words-clause-unrefused : goal.returns-in_err-words-clause-unrefused
@@ -33,3 +33,21 @@ returns-clause-keeps g c =
       λ e. entry_at s n c.args.i.0 c.deref.result.now c.requires.inodes has (c.are_entries.ensures.0 e),
       λ h. c.are_entries.ensures.1 (at_entry s n c.args.i.0 c.deref.result.now c.requires.inodes dir has h),
     )
+
+pub returns-then-kind-ne-DIRECTORY-clause-looked : goal.returns-then-kind-ne-DIRECTORY-clause-looked
+returns-then-kind-ne-DIRECTORY-clause-looked g c = looked_none g.V.Blocks.seen g.V.Blocks.health g.V.Blocks.sound g.V.Blocks.passes c.args.v.now _ (g.met.V.Blocks.passes_refl c.args.v.now) c.requires.can.keeps tt
+
+pub read_entries-requires-clause-can : goal.read_entries-requires-clause-can
+read_entries-requires-clause-can g c = c.requires.can
+
+pub read_entries-requires-clause-inodes : goal.read_entries-requires-clause-inodes
+read_entries-requires-clause-inodes g c = c.requires.inodes
+
+pub read_entries-requires-clause-mapped : goal.read_entries-requires-clause-mapped
+read_entries-requires-clause-mapped g c = c.requires.mapped
+
+pub read_entries-requires-clause-ino : goal.read_entries-requires-clause-ino
+read_entries-requires-clause-ino g c = c.requires.ino
+
+pub read_entries-requires-clause-directory : goal.read_entries-requires-clause-directory
+read_entries-requires-clause-directory g c = sym c.kind.ensures ∙ c.if-kind-ne-DIRECTORY.false

@@ -6,7 +6,7 @@ use Rattle.volume_check.specs.Tree.{Counted}
 use Rattle.volume_check.specs.declared.name_counts.NameCount.{NameCount}
 use Rattle.volume_check.proofs.Counting.{counted_entry, counted_node, counted_other}
 use Rattle.volume_check.proofs.EntryRules.{entries_end, entry_read, said_is}
-use Rattle.volume_check.proofs.Looking.{looked_err, looked_quiet, refused_err}
+use Rattle.volume_check.proofs.Looking.{looked_err, looked_quiet, refused_err, looked_none}
 use Rattle.volume_check.proofs.name_counts.count_entries.Goals as goal
 
 pub returns-in_err-words-clause-unrefused : goal.returns-in_err-words-clause-unrefused
@@ -62,3 +62,21 @@ returns-clause-counts g c =
     let n = c.args.inodes.now in
     let held = held_of n.shape s.words in
     counted_node n.shape held c.args.i.0 c.loop-j.j c.loop-j.counts.items (λ j entry. let less = entries_end held c.args.i.0 c.in_ok-words.words.items c.in_ok-words.ensures.words j entry in let end = c.loop-j-test.false in omega arith) c.loop-j.invariant
+
+pub returns-then-kind-ne-DIRECTORY-clause-looked : goal.returns-then-kind-ne-DIRECTORY-clause-looked
+returns-then-kind-ne-DIRECTORY-clause-looked g c = looked_none g.V.Blocks.seen g.V.Blocks.health g.V.Blocks.sound g.V.Blocks.passes c.args.v.now _ (g.met.V.Blocks.passes_refl c.args.v.now) c.requires.can.keeps tt
+
+pub read_entries-requires-clause-can : goal.read_entries-requires-clause-can
+read_entries-requires-clause-can g c = c.requires.can
+
+pub read_entries-requires-clause-inodes : goal.read_entries-requires-clause-inodes
+read_entries-requires-clause-inodes g c = c.requires.inodes
+
+pub read_entries-requires-clause-mapped : goal.read_entries-requires-clause-mapped
+read_entries-requires-clause-mapped g c = c.requires.mapped
+
+pub read_entries-requires-clause-ino : goal.read_entries-requires-clause-ino
+read_entries-requires-clause-ino g c = c.requires.ino
+
+pub read_entries-requires-clause-directory : goal.read_entries-requires-clause-directory
+read_entries-requires-clause-directory g c = sym c.kind.ensures ∙ c.if-kind-ne-DIRECTORY.false

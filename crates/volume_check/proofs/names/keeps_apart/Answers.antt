@@ -1,9 +1,9 @@
-use Rattle.volume_check.proofs.Common.{List, ℕ, ◌∙◌, ◌≡◌, subst, sym, err_from_is_err_and}
+use Rattle.volume_check.proofs.Common.{List, ℕ, ◌∙◌, ◌≡◌, subst, sym, err_from_is_err_and, refl}
 use Rattle.rio_model.specs.Held.{held_of}
 use Rattle.volume_check.specs.Entries.{AllDiffer, HasEntries}
 use Rattle.volume_check.proofs.EntryRules.{said_is}
-use Rattle.volume_check.proofs.NamesApart.{apart_by, differ_at, names_at, short_names}
-use Rattle.volume_check.proofs.Looking.{looked_err, looked_quiet, refused_err}
+use Rattle.volume_check.proofs.NamesApart.{apart_by, differ_at, names_at, short_names, apart_none}
+use Rattle.volume_check.proofs.Looking.{looked_err, looked_quiet, refused_err, looked_none, quiet_memory, refused_memory}
 use Rattle.volume_check.proofs.names.keeps_apart.Goals as goal
 
 pub returns-in_err-words-clause-unrefused : goal.returns-in_err-words-clause-unrefused
@@ -39,3 +39,37 @@ returns-clause-keeps g c =
 
 pub returns-clause-looked : goal.returns-clause-looked
 returns-clause-looked g c = looked_quiet g.V.Blocks.seen g.V.Blocks.health g.V.Blocks.sound g.V.Blocks.passes _ _ _ _ tt tt c.in_ok-words.ensures.looked
+
+pub returns-then-kind-ne-DIRECTORY-clause-looked : goal.returns-then-kind-ne-DIRECTORY-clause-looked
+returns-then-kind-ne-DIRECTORY-clause-looked g c = looked_none g.V.Blocks.seen g.V.Blocks.health g.V.Blocks.sound g.V.Blocks.passes c.args.v.now _ (g.met.V.Blocks.passes_refl c.args.v.now) c.requires.can.keeps tt
+
+pub returns-in_err-names-clause-unrefused : goal.returns-in_err-names-clause-unrefused
+returns-in_err-names-clause-unrefused g c =
+    let p = err_from_is_err_and c.from_residual-in_err-names.result c.from_residual-in_err-names.ensures.1 in
+    refused_memory (λ _ _. ⊥) c.from_residual-in_err-names.result p.0 p.1 p.2
+
+pub returns-in_err-names-clause-looked : goal.returns-in_err-names-clause-looked
+returns-in_err-names-clause-looked g c =
+    let p = err_from_is_err_and c.from_residual-in_err-names.result c.from_residual-in_err-names.ensures.1 in
+    looked_quiet g.V.Blocks.seen g.V.Blocks.health g.V.Blocks.sound g.V.Blocks.passes _ _ _ _ tt (quiet_memory c.from_residual-in_err-names.result p.0 p.1 p.2) c.in_ok-words.ensures.looked
+
+pub returns-then-kind-ne-DIRECTORY-clause-keeps : goal.returns-then-kind-ne-DIRECTORY-clause-keeps
+returns-then-kind-ne-DIRECTORY-clause-keeps g c = (
+  λ e. apart_none (held_of c.args.inodes.now.shape (g.V.Blocks.seen c.args.v.now).words) c.args.i.0 c.kind.result (said_is (g.V.Blocks.seen c.args.v.now) c.args.inodes.now c.args.i.0 c.kind.result c.requires.inodes c.requires.ino (sym c.kind.ensures)) c.if-kind-ne-DIRECTORY.true,
+  λ h. refl,
+)
+
+pub read_entries-requires-clause-can : goal.read_entries-requires-clause-can
+read_entries-requires-clause-can g c = c.requires.can
+
+pub read_entries-requires-clause-inodes : goal.read_entries-requires-clause-inodes
+read_entries-requires-clause-inodes g c = c.requires.inodes
+
+pub read_entries-requires-clause-mapped : goal.read_entries-requires-clause-mapped
+read_entries-requires-clause-mapped g c = c.requires.mapped
+
+pub read_entries-requires-clause-ino : goal.read_entries-requires-clause-ino
+read_entries-requires-clause-ino g c = c.requires.ino
+
+pub read_entries-requires-clause-directory : goal.read_entries-requires-clause-directory
+read_entries-requires-clause-directory g c = sym c.kind.ensures ∙ c.if-kind-ne-DIRECTORY.false

@@ -1,7 +1,7 @@
 use Rattle.volume_check.proofs.Common.{◌∙◌, ap, arith, err_from_is_err_and}
 use Rattle.volume_check.specs.Inodes.{layout_of}
 use Rattle.volume_check.specs.Numbers.{numbers}
-use Rattle.volume_check.proofs.Looking.{looked_err, looked_quiet, refused_err}
+use Rattle.volume_check.proofs.Looking.{looked_err, looked_quiet, refused_err, looked_none}
 use Rattle.volume_check.proofs.NodeNumbers.{ranges_keep, tables_break}
 use Rattle.volume_check.proofs.numbers.keeps_numbers.Goals as goal
 
@@ -40,3 +40,15 @@ read_numbers-requires-clause-numbers g c =
       size = λ used. (c.requires.size used).most;
       tables = λ k has. (let range = ((c.has_table_in_range.ensures s c.requires.inodes).0 c.if-not-has_table_in_range.false k has).1 in omega (arith, range, all));
     }
+
+pub returns-then-not-has_table_in_range-clause-looked : goal.returns-then-not-has_table_in_range-clause-looked
+returns-then-not-has_table_in_range-clause-looked g c = looked_none g.V.Blocks.seen g.V.Blocks.health g.V.Blocks.sound g.V.Blocks.passes c.args.v.now _ (g.met.V.Blocks.passes_refl c.args.v.now) c.requires.can.keeps tt
+
+pub read_numbers-requires-clause-can : goal.read_numbers-requires-clause-can
+read_numbers-requires-clause-can g c = c.requires.can
+
+pub read_numbers-requires-clause-ino : goal.read_numbers-requires-clause-ino
+read_numbers-requires-clause-ino g c = c.requires.ino
+
+pub read_numbers-requires-clause-inodes : goal.read_numbers-requires-clause-inodes
+read_numbers-requires-clause-inodes g c = c.requires.inodes

@@ -1,8 +1,9 @@
-use Rattle.volume_check.proofs.Common.{ℕ, [], ◌++◌, ◌∷◌, ◌-◌, ◌<◌, ◌∙◌, List, ap, arith, subst, AtTable, Block, pages}
+use Rattle.volume_check.proofs.Common.{ℕ, [], ◌++◌, ◌∷◌, ◌-◌, ◌<◌, ◌∙◌, List, ap, arith, subst, AtTable, Block, pages, err_from_is_err_and}
 use Rattle.volume_check.specs.Inodes.{layout_of, said}
 use Rattle.volume_check.specs.Numbers.{numbers, page_numbers}
 use Rattle.volume_check.proofs.Counts.{kind_said, size_said}
 use Rattle.volume_check.proofs.NodeNumbers.{many_numbers}
+use Rattle.volume_check.proofs.Looking.{looked_err, looked_none, looked_quiet, quiet_memory, refused_err, refused_memory}
 use Rattle.volume_check.proofs.numbers.read_numbers.Goals as goal
 
 pub returns-clause-numbers : goal.returns-clause-numbers
@@ -16,3 +17,60 @@ returns-clause-numbers g c =
     many_numbers node count c.push_table.new.blocks.items (subst (λ x. 0 < x) (kind_said s n i c.requires.inodes c.requires.ino) used)
     (c.page_count-count.ensures.pages ∙ ap pages (c.size.ensures ∙ size_said s n i c.requires.inodes c.requires.ino)) (omega arith)
     (c.in_ok-push_table.ensures.numbers ∙ ap (λ (xs : List ℕ). (xs ++ page_numbers node 24 (count - 24)) ++ (node.block (AtTable 0) ∷ [])) (c.in_ok-push_direct-2.ensures s c.requires.inodes ∙ ap (λ (ys : List Block). numbers ys ++ page_numbers node 0 24) c.clear.ensures.items))
+
+pub returns-then-kind-eq0-clause-looked : goal.returns-then-kind-eq0-clause-looked
+returns-then-kind-eq0-clause-looked g c = looked_none g.V.Blocks.seen g.V.Blocks.health g.V.Blocks.sound g.V.Blocks.passes c.args.v.now _ (g.met.V.Blocks.passes_refl c.args.v.now) c.requires.can.keeps tt
+
+pub returns-then-count-le-DIRECT_PAGES-clause-looked : goal.returns-then-count-le-DIRECT_PAGES-clause-looked
+returns-then-count-le-DIRECT_PAGES-clause-looked g c = looked_none g.V.Blocks.seen g.V.Blocks.health g.V.Blocks.sound g.V.Blocks.passes c.args.v.now _ (g.met.V.Blocks.passes_refl c.args.v.now) c.requires.can.keeps tt
+
+pub returns-in_err-push_direct-clause-unrefused : goal.returns-in_err-push_direct-clause-unrefused
+returns-in_err-push_direct-clause-unrefused g c =
+    let p = err_from_is_err_and c.from_residual.result c.from_residual.ensures.1 in
+    refused_memory (λ _ _. ⊥) c.from_residual.result p.0 p.1 p.2
+
+pub returns-in_err-push_direct-clause-looked : goal.returns-in_err-push_direct-clause-looked
+returns-in_err-push_direct-clause-looked g c =
+    let p = err_from_is_err_and c.from_residual.result c.from_residual.ensures.1 in
+    looked_none g.V.Blocks.seen g.V.Blocks.health g.V.Blocks.sound g.V.Blocks.passes c.args.v.now c.from_residual.result (g.met.V.Blocks.passes_refl c.args.v.now) c.requires.can.keeps (quiet_memory c.from_residual.result p.0 p.1 p.2)
+
+pub returns-in_err-push_direct-2-clause-unrefused : goal.returns-in_err-push_direct-2-clause-unrefused
+returns-in_err-push_direct-2-clause-unrefused g c =
+    let p = err_from_is_err_and c.from_residual-in_err-push_direct-2.result c.from_residual-in_err-push_direct-2.ensures.1 in
+    refused_memory (λ _ _. ⊥) c.from_residual-in_err-push_direct-2.result p.0 p.1 p.2
+
+pub returns-in_err-push_direct-2-clause-looked : goal.returns-in_err-push_direct-2-clause-looked
+returns-in_err-push_direct-2-clause-looked g c =
+    let p = err_from_is_err_and c.from_residual-in_err-push_direct-2.result c.from_residual-in_err-push_direct-2.ensures.1 in
+    looked_none g.V.Blocks.seen g.V.Blocks.health g.V.Blocks.sound g.V.Blocks.passes c.args.v.now c.from_residual-in_err-push_direct-2.result (g.met.V.Blocks.passes_refl c.args.v.now) c.requires.can.keeps (quiet_memory c.from_residual-in_err-push_direct-2.result p.0 p.1 p.2)
+
+pub returns-in_err-push_table-clause-unrefused : goal.returns-in_err-push_table-clause-unrefused
+returns-in_err-push_table-clause-unrefused g c =
+    let p = err_from_is_err_and c.from_residual-in_err-push_table.result c.from_residual-in_err-push_table.ensures.1 in
+    refused_err (λ _ _. ⊥) (λ _ _. ⊥) c.push_table.result c.from_residual-in_err-push_table.result _ p.0 c.in_err-push_table.was p.1 p.2 (λ rule b h. h) c.push_table.ensures.unrefused
+
+pub returns-in_err-push_table-clause-looked : goal.returns-in_err-push_table-clause-looked
+returns-in_err-push_table-clause-looked g c =
+    let p = err_from_is_err_and c.from_residual-in_err-push_table.result c.from_residual-in_err-push_table.ensures.1 in
+    looked_err g.V.Blocks.seen g.V.Blocks.health g.V.Blocks.sound g.V.Blocks.passes _ _ c.push_table.result c.from_residual-in_err-push_table.result _ p.0 c.in_err-push_table.was p.1 p.2 c.push_table.ensures.looked
+
+pub returns-clause-looked : goal.returns-clause-looked
+returns-clause-looked g c = looked_quiet g.V.Blocks.seen g.V.Blocks.health g.V.Blocks.sound g.V.Blocks.passes _ _ _ _ tt tt c.in_ok-push_table.ensures.looked
+
+pub push_table-requires-clause-can : goal.push_table-requires-clause-can
+push_table-requires-clause-can g c = c.requires.can
+
+pub push_table-requires-clause-inodes : goal.push_table-requires-clause-inodes
+push_table-requires-clause-inodes g c = c.requires.inodes
+
+pub push_table-requires-clause-ino : goal.push_table-requires-clause-ino
+push_table-requires-clause-ino g c = c.requires.ino
+
+pub push_table-requires-clause-numbers : goal.push_table-requires-clause-numbers
+push_table-requires-clause-numbers g c = c.requires.numbers
+
+pub push_direct-requires-clause-ino : goal.push_direct-requires-clause-ino
+push_direct-requires-clause-ino g c = c.requires.ino
+
+pub push_direct-requires-2-clause-ino : goal.push_direct-requires-2-clause-ino
+push_direct-requires-2-clause-ino g c = c.requires.ino

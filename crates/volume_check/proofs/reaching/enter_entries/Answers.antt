@@ -6,7 +6,7 @@ use Rattle.volume_check.specs.Inodes.{said}
 use Rattle.volume_check.specs.Tree.{IsReached}
 use Rattle.volume_check.proofs.EntryRules.{entries_end, entry_read, said_is}
 use Rattle.volume_check.proofs.ReachedBy.{enter_found, enter_grows, enter_reaches, grows_refl, grows_trans}
-use Rattle.volume_check.proofs.Looking.{looked_err, looked_quiet, quiet_memory, refused_err}
+use Rattle.volume_check.proofs.Looking.{looked_err, looked_quiet, quiet_memory, refused_err, refused_memory}
 use Rattle.volume_check.proofs.reaching.enter_entries.Goals as goal
 
 pub returns-in_err-words-clause-unrefused : goal.returns-in_err-words-clause-unrefused
@@ -74,3 +74,23 @@ returns-clause-grows g c = c.loop-j.invariant.grows
 
 pub returns-clause-all : goal.returns-clause-all
 returns-clause-all g c = λ j entry. c.loop-j.invariant.entered j (let less = entries_end (held_of c.args.inodes.now.shape (g.V.Blocks.seen c.args.v.now).words) c.args.i.0 c.in_ok-words.words.items c.in_ok-words.ensures.words j entry in let end = c.loop-j-test.false in omega arith) entry
+
+pub returns-in_err-enter-clause-unrefused : goal.returns-in_err-enter-clause-unrefused
+returns-in_err-enter-clause-unrefused g c =
+    let p = err_from_is_err_and c.from_residual-in_err-enter.result c.from_residual-in_err-enter.ensures.1 in
+    refused_memory (λ _ _. ⊥) c.from_residual-in_err-enter.result p.0 p.1 p.2
+
+pub read_entries-requires-clause-can : goal.read_entries-requires-clause-can
+read_entries-requires-clause-can g c = c.requires.can
+
+pub read_entries-requires-clause-inodes : goal.read_entries-requires-clause-inodes
+read_entries-requires-clause-inodes g c = c.requires.inodes
+
+pub read_entries-requires-clause-mapped : goal.read_entries-requires-clause-mapped
+read_entries-requires-clause-mapped g c = c.requires.mapped
+
+pub read_entries-requires-clause-ino : goal.read_entries-requires-clause-ino
+read_entries-requires-clause-ino g c = c.requires.found.inos c.args.i.0 c.requires.reached
+
+pub read_entries-requires-clause-directory : goal.read_entries-requires-clause-directory
+read_entries-requires-clause-directory g c = c.requires.directory

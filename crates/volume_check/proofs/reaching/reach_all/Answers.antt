@@ -6,7 +6,7 @@ use Rattle.volume_check.specs.Inodes.{said}
 use Rattle.volume_check.specs.Tree.{AllEntered, Found, IsReached, dir_numbers}
 use Rattle.volume_check.proofs.Chains.{inodes_on, words_back, words_on}
 use Rattle.volume_check.proofs.EntryRules.{said_is}
-use Rattle.volume_check.proofs.Looking.{can_go_on, on_err, on_none, on_ok}
+use Rattle.volume_check.proofs.Looking.{can_go_on, on_err, on_none, on_ok, looked_none, on_quiet, quiet_memory, refused_err, refused_memory}
 use Rattle.volume_check.proofs.ReachedBy.{all_reached, dir_is, dirs_long, enter_found, enter_reaches, entered_more, found_none}
 use Rattle.volume_check.proofs.reaching.reach_all.Goals as goal
 
@@ -92,3 +92,31 @@ returns-clause-reached g c =
     let past = c.loop-next-test.false in
     let many = c.len.ensures in
     all_reached c.args.inodes.now.shape (held_of c.args.inodes.now.shape (g.V.Blocks.seen c.args.v.now).words) c.loop-next.reach c.loop-next.invariant.found c.loop-next.invariant.root (λ k small. c.loop-next.invariant.entered k (omega arith))
+
+pub returns-in_err-reach-clause-unrefused : goal.returns-in_err-reach-clause-unrefused
+returns-in_err-reach-clause-unrefused g c =
+    let p = err_from_is_err_and c.from_residual.result c.from_residual.ensures.1 in
+    refused_memory (λ _ _. ⊥) c.from_residual.result p.0 p.1 p.2
+
+pub returns-in_err-reach-clause-looked : goal.returns-in_err-reach-clause-looked
+returns-in_err-reach-clause-looked g c =
+    let p = err_from_is_err_and c.from_residual.result c.from_residual.ensures.1 in
+    looked_none g.V.Blocks.seen g.V.Blocks.health g.V.Blocks.sound g.V.Blocks.passes c.args.v.now c.from_residual.result (g.met.V.Blocks.passes_refl c.args.v.now) c.requires.can.keeps (quiet_memory c.from_residual.result p.0 p.1 p.2)
+
+pub returns-in_err-enter-clause-unrefused : goal.returns-in_err-enter-clause-unrefused
+returns-in_err-enter-clause-unrefused g c =
+    let p = err_from_is_err_and c.from_residual-in_err-enter.result c.from_residual-in_err-enter.ensures.1 in
+    refused_memory (λ _ _. ⊥) c.from_residual-in_err-enter.result p.0 p.1 p.2
+
+pub returns-in_err-enter-clause-looked : goal.returns-in_err-enter-clause-looked
+returns-in_err-enter-clause-looked g c =
+    let p = err_from_is_err_and c.from_residual-in_err-enter.result c.from_residual-in_err-enter.ensures.1 in
+    looked_none g.V.Blocks.seen g.V.Blocks.health g.V.Blocks.sound g.V.Blocks.passes c.args.v.now c.from_residual-in_err-enter.result (g.met.V.Blocks.passes_refl c.args.v.now) c.requires.can.keeps (quiet_memory c.from_residual-in_err-enter.result p.0 p.1 p.2)
+
+pub returns-in_err-enter_entries-clause-unrefused : goal.returns-in_err-enter_entries-clause-unrefused
+returns-in_err-enter_entries-clause-unrefused g c =
+    let p = err_from_is_err_and c.from_residual-in_err-enter_entries.result c.from_residual-in_err-enter_entries.ensures.1 in
+    refused_err (λ _ _. ⊥) (λ _ _. ⊥) c.enter_entries.result c.from_residual-in_err-enter_entries.result _ p.0 c.in_err-enter_entries.was p.1 p.2 (λ rule b h. h) c.enter_entries.ensures.unrefused
+
+pub returns-clause-looked : goal.returns-clause-looked
+returns-clause-looked g c = on_quiet g.V.Blocks.seen g.V.Blocks.health g.V.Blocks.sound g.V.Blocks.passes _ _ _ tt c.loop-next.invariant.looked

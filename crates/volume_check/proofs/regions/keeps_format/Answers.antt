@@ -1,11 +1,14 @@
-use Rattle.volume_check.proofs.Common.{List, ℕ, ◌*◌, ◌/◌, ◌∙◌, ◌≡◌, ◌≤◌, ap, arith, length, subst, sym, BlockWords}
+use Rattle.volume_check.proofs.Common.{List, ℕ, ◌*◌, ◌/◌, ◌∙◌, ◌≡◌, ◌≤◌, ap, arith, length, subst, sym, BlockWords, err_from_is_err_and, refl}
 use Rattle.rio_model.specs.Held.{Held, held_of}
 use Rattle.rio_model.specs.Sizes.{pages}
 use Rattle.volume_check.specs.NodeWords.{HasFront}
 use Rattle.volume_check.specs.RegionWords.{Begins}
 use Rattle.volume_check.proofs.EntryRules.{said_is}
 use Rattle.volume_check.proofs.NodeParts.{front_begins, region_sized}
-use Rattle.volume_check.proofs.RegionSound.{pages_back, pages_there}
+use Rattle.volume_check.proofs.RegionSound.{pages_back, pages_there, region_none}
+use Rattle.volume_check.proofs.Looking.{can_go_on, looked_err, looked_none, looked_quiet, on_err, on_first, on_ok, on_quiet, refused_err}
+use Rattle.volume_check.proofs.Chains.{inodes_on, layout_on}
+use Rattle.rio_model.specs.VolumeRules.{NumberRule, SizeRule}
 use Rattle.volume_check.proofs.regions.keeps_format.Goals as goal
 
 pages_of : {a b : ℕ} → a ≡ b → pages a ≡ pages b
@@ -48,3 +51,68 @@ returns-clause-keeps g c =
       λ e kind. sound.0 e,
       λ r. sound.1 (r (said_is s n i 3 c.requires.inodes c.requires.ino is)),
     )
+
+pub returns-then-kind-ne-REGION-clause-looked : goal.returns-then-kind-ne-REGION-clause-looked
+returns-then-kind-ne-REGION-clause-looked g c = looked_none g.V.Blocks.seen g.V.Blocks.health g.V.Blocks.sound g.V.Blocks.passes c.args.v.now _ (g.met.V.Blocks.passes_refl c.args.v.now) c.requires.can.keeps tt
+
+pub returns-then-kind-ne-REGION-clause-keeps : goal.returns-then-kind-ne-REGION-clause-keeps
+returns-then-kind-ne-REGION-clause-keeps g c = (
+  λ e. region_none (held_of c.args.inodes.now.shape (g.V.Blocks.seen c.args.v.now).words) c.args.i.0 c.kind.result (said_is (g.V.Blocks.seen c.args.v.now) c.args.inodes.now c.args.i.0 c.kind.result c.requires.inodes c.requires.ino (sym c.kind.ensures)) c.if-kind-ne-REGION.true,
+  λ h. refl,
+)
+
+pub returns-in_err-header-clause-unrefused : goal.returns-in_err-header-clause-unrefused
+returns-in_err-header-clause-unrefused g c =
+    let p = err_from_is_err_and c.from_residual.result c.from_residual.ensures.1 in
+    refused_err (λ _ _. ⊥) (λ _ _. ⊥) c.read_front.result c.from_residual.result _ p.0 c.in_err-header.was p.1 p.2 (λ rule b h. h) c.read_front.ensures.unrefused
+
+pub returns-in_err-header-clause-looked : goal.returns-in_err-header-clause-looked
+returns-in_err-header-clause-looked g c =
+    let p = err_from_is_err_and c.from_residual.result c.from_residual.ensures.1 in
+    looked_err g.V.Blocks.seen g.V.Blocks.health g.V.Blocks.sound g.V.Blocks.passes _ _ c.read_front.result c.from_residual.result _ p.0 c.in_err-header.was p.1 p.2 c.read_front.ensures.looked
+
+pub returns-in_default-clause-looked : goal.returns-in_default-clause-looked
+returns-in_default-clause-looked g c = looked_quiet g.V.Blocks.seen g.V.Blocks.health g.V.Blocks.sound g.V.Blocks.passes _ _ _ _ tt tt c.in_ok-header.ensures.looked
+
+pub read_front-requires-2-clause-can : goal.read_front-requires-2-clause-can
+read_front-requires-2-clause-can g c = can_go_on g.V.Blocks.seen g.V.Blocks.health g.V.Blocks.sound g.V.Blocks.passes g.met.V.Blocks.passes_trans _ _ c.requires.can (on_first g.V.Blocks.seen g.V.Blocks.health g.V.Blocks.sound g.V.Blocks.passes _ _ _ c.in_ok-header.ensures.looked)
+
+pub read_front-requires-2-clause-inodes : goal.read_front-requires-2-clause-inodes
+read_front-requires-2-clause-inodes g c = inodes_on (g.V.Blocks.seen c.args.v.now) (g.V.Blocks.seen c.read_front.new.v) c.args.inodes.now c.in_ok-header.ensures.looked.looks c.requires.inodes
+
+pub read_front-requires-2-clause-sizes : goal.read_front-requires-2-clause-sizes
+read_front-requires-2-clause-sizes g c = layout_on (g.V.Blocks.seen c.args.v.now) (g.V.Blocks.seen c.read_front.new.v) c.args.inodes.now SizeRule c.in_ok-header.ensures.looked.looks c.requires.mapped.laid.sizes
+
+pub read_front-requires-2-clause-numbers : goal.read_front-requires-2-clause-numbers
+read_front-requires-2-clause-numbers g c = layout_on (g.V.Blocks.seen c.args.v.now) (g.V.Blocks.seen c.read_front.new.v) c.args.inodes.now NumberRule c.in_ok-header.ensures.looked.looks c.requires.mapped.laid.numbers
+
+pub returns-in_err-words-clause-unrefused : goal.returns-in_err-words-clause-unrefused
+returns-in_err-words-clause-unrefused g c =
+    let p = err_from_is_err_and c.from_residual-in_err-words.result c.from_residual-in_err-words.ensures.1 in
+    refused_err (λ _ _. ⊥) (λ _ _. ⊥) c.read_front-2.result c.from_residual-in_err-words.result _ p.0 c.in_err-words.was p.1 p.2 (λ rule b h. h) c.read_front-2.ensures.unrefused
+
+pub returns-in_err-words-clause-looked : goal.returns-in_err-words-clause-looked
+returns-in_err-words-clause-looked g c =
+    let p = err_from_is_err_and c.from_residual-in_err-words.result c.from_residual-in_err-words.ensures.1 in
+    on_err g.V.Blocks.seen g.V.Blocks.health g.V.Blocks.sound g.V.Blocks.passes g.met.V.Blocks.passes_trans _ _ _ c.read_front-2.result c.from_residual-in_err-words.result _ p.0 (on_first g.V.Blocks.seen g.V.Blocks.health g.V.Blocks.sound g.V.Blocks.passes _ _ _ c.in_ok-header.ensures.looked) c.in_err-words.was p.1 p.2 c.read_front-2.ensures.looked
+
+pub returns-clause-looked : goal.returns-clause-looked
+returns-clause-looked g c = on_quiet g.V.Blocks.seen g.V.Blocks.health g.V.Blocks.sound g.V.Blocks.passes c.args.v.now c.read_front-2.new.v _ tt (on_ok g.V.Blocks.seen g.V.Blocks.health g.V.Blocks.sound g.V.Blocks.passes g.met.V.Blocks.passes_trans c.args.v.now c.read_front.new.v c.read_front-2.new.v _ (on_first g.V.Blocks.seen g.V.Blocks.health g.V.Blocks.sound g.V.Blocks.passes _ _ _ c.in_ok-header.ensures.looked) c.in_ok-words.ensures.looked)
+
+pub read_front-requires-clause-can : goal.read_front-requires-clause-can
+read_front-requires-clause-can g c = c.requires.can
+
+pub read_front-requires-clause-inodes : goal.read_front-requires-clause-inodes
+read_front-requires-clause-inodes g c = c.requires.inodes
+
+pub read_front-requires-clause-sizes : goal.read_front-requires-clause-sizes
+read_front-requires-clause-sizes g c = c.requires.mapped.laid.sizes
+
+pub read_front-requires-clause-numbers : goal.read_front-requires-clause-numbers
+read_front-requires-clause-numbers g c = c.requires.mapped.laid.numbers
+
+pub read_front-requires-clause-ino : goal.read_front-requires-clause-ino
+read_front-requires-clause-ino g c = c.requires.ino
+
+pub read_front-requires-2-clause-ino : goal.read_front-requires-2-clause-ino
+read_front-requires-2-clause-ino g c = c.requires.ino

@@ -1,0 +1,30 @@
+-- Rules that a node keeps or breaks by itself, by what is on the disk.
+use Rattle.std.specs.Prelude.{ℕ}
+use Rattle.rio_base.specs.Blocks.{BlockWords}
+use Rattle.rio_base.specs.declared.places.VolumeShape.{VolumeShape}
+use Rattle.rio_model.specs.Held.{held_of}
+use Rattle.rio_model.specs.Placed.{volume_layout}
+use Rattle.rio_model.specs.VolumeFails.{ApartAt, EntryAt, NumberAt, RegionAt}
+use Rattle.rio_model.specs.VolumeRules.{EntryRule, IsMapped, SizeRule}
+use Rattle.volume_check.specs.declared.node_rules.NodeRule.{NodeRule}
+use Rattle.volume_check.specs.declared.node_rules.NodeRule.TheVariants.{Entries, Format, Names, Numbers}
+
+-- the rules 5, 8, 9 and 11 of inode i
+abbrev pub NodeKeeps : NodeRule → VolumeShape → BlockWords → ℕ → Type 0
+NodeKeeps Numbers shape f i = NumberAt (volume_layout shape f) i
+NodeKeeps Entries shape f i = EntryAt (held_of shape f) i
+NodeKeeps Names shape f i = ApartAt (held_of shape f) i
+NodeKeeps Format shape f i = RegionAt (held_of shape f) i
+
+abbrev pub node_number : NodeRule → ℕ
+node_number Numbers = 5
+node_number Entries = 8
+node_number Names = 9
+node_number Format = 11
+
+-- what holds before the rule is looked at
+abbrev pub Supposes : NodeRule → VolumeShape → BlockWords → Type 0
+Supposes Numbers shape f = SizeRule (volume_layout shape f)
+Supposes Entries shape f = IsMapped shape f
+Supposes Names shape f = IsMapped shape f × EntryRule (held_of shape f)
+Supposes Format shape f = IsMapped shape f
