@@ -1,5 +1,5 @@
 -- Blocks that changes free, which are dropped from the cache: they are all that some node had, and none has any more.
-use Rattle.file_store.proofs.Common.{◌≡◌, ◌≢◌, ℕ, suc, ◌+◌, ◌<◌, ◌≤◌, ◌⊎◌, false, List, [], ◌∷◌, length, map, refl, sym, ap, subst, ◌∙◌, arith, inl, inr, slice_index_or, Result, Ok, Contains, cases_eq, VolFail, Block, VolumeShape, used_bit, SameOutside, BlockWords, Drops, Seen, reserved, Kept, numbers, State, Agrees, IsFree, Owned, volume_layout, SameLayout, lays_agree, lays_same, lays_self, owned_below, owned_on, Applied, IsMapped, bitmap_bits, Forgets}
+use Rattle.file_store.proofs.Common.{◌≡◌, ◌≢◌, ℕ, suc, ◌+◌, ◌<◌, ◌≤◌, ◌⊎◌, false, List, [], ◌∷◌, length, map, refl, sym, ap, subst, ◌∙◌, arith, inl, inr, slice_index_or, Result, Ok, Contains, cases_eq, VolFail, Block, VolumeShape, used_bit, SameOutside, BlockWords, Drops, Seen, reserved, Kept, numbers, Agrees, IsFree, Owned, volume_layout, SameLayout, lays_agree, lays_same, lays_self, owned_below, owned_on, Applied, IsMapped, bitmap_bits, Forgets}
 use Rattle.std.proofs.lemmas.List.{get_or_default}
 use Rattle.rio_model.proofs.PlacedRules.{has_bit}
 use Rattle.file_pages.specs.Forgetting.{Uncached}
@@ -10,7 +10,7 @@ use Rattle.file_store.specs.declared.changes.NodeChange.{NodeChange}
 use Rattle.rio_model.proofs.LowestBlocks.{decided}
 use Rattle.file_store.proofs.Fitting.{AllFit, freed_above, freed_out}
 use Rattle.file_store.proofs.Reached.{Prepared, mapped_now}
-use Rattle.file_store.proofs.Requested.{Committed, OrdersAll, ReachesAll, prepared}
+use Rattle.file_store.proofs.Requested.{Committed, OrdersAll, prepared}
 
 -- ---- change by change
 
@@ -95,6 +95,3 @@ forgets_committed shape x k y j z l items changes r u re is h orders gone = by (
         (same_agrees shape x.words y.words h.request.ready.order.mapped h.request.leaves.words) m.applied
         (same_agrees shape m.made z.words after (agrees_dropped shape y.words m.made z.words changes before after pre.fits m.applied same))
         (subst (λ (cs : List NodeChange). Uncached (IsFreed cs) z) is gone)
-
-pub forgets_reached : (shape : VolumeShape) (x : Seen) (k : Kept) (y : Seen) (j : Kept) (z : Seen) (l : Kept) (items changes : List NodeChange) (r : Result (Unit {0}) VolFail) (u : Unit {0}) (t : State) → r ≡ Ok u → items ≡ changes → Committed shape x k y j z l changes r → ReachesAll shape x k y j z changes t → Uncached (IsFreed items) z → Forgets (volume_layout shape x.words) (volume_layout shape z.words) z
-forgets_reached shape x k y j z l items changes r u t re is h reach gone = forgets_committed shape x k y j z l items changes r u re is h (λ pre g applied. (reach pre g applied).order) gone

@@ -21,6 +21,7 @@ pub mod NamesListed
 pub mod NewRegionWords
 pub mod NewRows
 pub mod PathNames
+pub mod Planning
 pub mod Reached
 pub mod ReachedMoves
 pub mod ReadSteps

@@ -1,12 +1,13 @@
 -- A row and its node removed in one update: that the changes can be made, and the state that they come to.
-use Rattle.file_store.proofs.Common.{◌≡◌, ◌≢◌, ℕ, ◌<◌, List, [], ◌∷◌, arith, refl, sym, ap, subst, ◌∙◌, Some, get, Block, VolumeShape, BlockWords, Seen, Kept, Settled, numbers, State, Held, held_of, placed_at, volume_layout, held_of_agree, ReadsAs, LeavesInUse, Ready, TreeRule, node_blocks, leaves_trans, ready_left, PlansDir, RemovesRow, IsEntry, DirChange, without}
+use Rattle.file_store.proofs.Common.{◌≡◌, ◌≢◌, ℕ, ◌<◌, List, [], ◌∷◌, arith, refl, sym, ap, subst, ◌∙◌, Some, get, Block, VolumeShape, BlockWords, Seen, Kept, Settled, numbers, State, held_of, placed_at, volume_layout, ReadsAs, LeavesInUse, Ready, TreeRule, node_blocks, leaves_trans, ready_left, PlansDir, RemovesRow, IsEntry, DirChange, without}
 use Rattle.file_store.specs.Changes.{IsGone, of_dir}
 use Rattle.file_store.proofs.RowReads.{bare_names, by_each, sound_of}
 use Rattle.file_store.proofs.TreeRules.{tree_without}
 use Rattle.file_store.specs.declared.changes.NodeChange.{NodeChange}
 use Rattle.file_store.proofs.LookedAt.{row_read, used_ino}
 use Rattle.file_store.proofs.LowestTaken.{bare_lower, lowest_each, stood_lower}
-use Rattle.file_store.proofs.Reached.{kind_held, less_removed, reaches_gone}
+use Rattle.file_store.proofs.Planning.{kind_still}
+use Rattle.file_store.proofs.Reached.{less_removed, reaches_gone}
 use Rattle.file_store.proofs.Requested.{ReachesAll, Requested, dir_ino, dir_may, gone_may}
 use Rattle.file_store.proofs.Stood.{Stood, stood_after, stood_now}
 
@@ -24,13 +25,6 @@ pub record GoneRow (shape : VolumeShape) (x : Seen) (k : Kept) (w : Seen) (p : K
   pub entry : IsEntry (held_of shape x.words d) slot name i
   pub used : 0 < (held_of shape x.words i).kind
   pub bare : (held_of shape x.words i).kind ≡ 1 → (held_of shape x.words i).size ≡ 0
-
--- a node's kind after calls that only prepare
-pub kind_still : (shape : VolumeShape) (x : Seen) (k : Kept) (y : Seen) (j : Kept) (i : ℕ) → Ready shape x k → LeavesInUse (volume_layout shape x.words) x k y j → 0 < (held_of shape x.words i).kind → 0 < (placed_at y.words i).kind
-kind_still shape x k y j i ready leaves used =
-    let same = ap (λ (h : ℕ → Held). (h i).kind) (held_of_agree shape x.words y.words ready.order.mapped leaves.words) in
-    let now = kind_held shape y.words i (used_ino shape x.words i used) in
-    omega (arith, used, same, now)
 
 gone_stood : (shape : VolumeShape) (x : Seen) (k : Kept) (w : Seen) (p : Kept) (y : Seen) (j : Kept) (d slot : ℕ) (name : List ℕ) (i : ℕ) (blocks : List Block) (c : DirChange) (m : NodeChange) → GoneRow shape x k w p y j d slot name i blocks c m → Stood shape x y j d (RemovesRow slot) c
 gone_stood shape x k w p y j d slot name i blocks c m h =

@@ -4,6 +4,7 @@ pub mod Ends
 pub mod Failures
 pub mod NewNodes
 pub mod NewRegions
+pub mod Planned
 pub mod WalkRules
 pub mod Walks
 pub mod Views

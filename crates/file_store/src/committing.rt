@@ -3,21 +3,30 @@
 ghost use Rattle.std.specs.Prelude.{◌≡◌, ◌+◌, ◌-◌, ◌<◌, ◌≤◌, ◌⊎◌, ℕ, true, false, length, map, slice_index, None, OnOk, IsErrOf};
 ghost use Rattle.std.specs.List.{Contains};
 ghost use Rattle.rio_base.specs.BlockSets.{CachesBy, FirmOutside, SameOutside};
-ghost use Rattle.rio_base.specs.Blocks.{Caches, Drops, Ends, Halts, Looks};
+ghost use Rattle.rio_base.specs.Blocks.{Caches, Drops, Ends, EndsBy, Halts, Looks, Seen};
 ghost use Rattle.rio_base.specs.Layout.{IsIno};
 ghost use Rattle.rio_base.specs.Shapes.{HasShape};
-ghost use Rattle.rio_base.specs.Volume.{Firm, Goes, SameUpdate};
+ghost use Rattle.rio_base.specs.Volume.{Firm, Goes, Kept, SameUpdate};
 ghost use Rattle.block_alloc.specs.Bitmap.{numbers};
+ghost use Rattle.rio_requests.specs.Parts.{NoneDone};
+ghost use Rattle.rio_requests.specs.declared.answered.Answered.{Answered};
+ghost use Rattle.rio_requests.specs.declared.reply.Reply.{Reply};
+ghost use Rattle.rio_model.specs.declared.state.State.{State};
+ghost use Rattle.rio_model.specs.Placed.{volume_layout};
 ghost use Rattle.rio_model.specs.Updates.{Applied};
-ghost use Rattle.file_pages.specs.Forgetting.{Uncached};
+ghost use Rattle.file_pages.specs.Forgetting.{Forgets, Uncached};
 ghost use Rattle.file_pages.specs.Updating.{IsEdited, IsTouched, IsUpdated};
 ghost use Rattle.file_pages.specs.declared.changes.Edit.{Edit as EditOf};
 ghost use Rattle.directories.specs.Plans.{InThreeBlocks};
 ghost use Rattle.file_store.specs.Changes.{AllApplied, AllTouched, CanCommit, CanMakeNode, IsFreed, IsTouchedBy, MakesFit, edited_blocks, change_update};
 ghost use Rattle.file_store.specs.Committing.{Commits, Touched};
+ghost use Rattle.file_store.specs.Ends.{FileEnds};
+ghost use Rattle.file_store.specs.Failures.{Faulted};
+ghost use Rattle.file_store.specs.Planned.{LeadsBy, Planned};
 ghost use Rattle.file_store.specs.declared.changes.NodeChange.{NodeChange as NodeChangeOf};
 
 use crate::changes::NodeChange;
+use crate::failures::FileFail;
 use block_alloc::BITMAP;
 use file_pages::{Edit, make_update};
 use inode_table::{Inode, inode_block};
@@ -256,7 +265,7 @@ fn forget_blocks<V: Volume>(v: &mut V, blocks: &[Block]) -> Result<(), Stopped>
 }
 
 /// Makes prepared changes of nodes in one update, and then drops the blocks that they lost from the cache.
-pub fn commit_changes<V: Volume>(
+fn commit_changes<V: Volume>(
     v: &mut V,
     shape: &VolumeShape,
     changes: &[NodeChange],
@@ -274,5 +283,23 @@ pub fn commit_changes<V: Volume>(
 {
     change_nodes(v, shape, changes)?;
     forget_freed(v, changes)?;
+    Ok(())
+}
+
+/// Commits the changes of a request that is planned. The request ends as that does.
+pub fn commit_planned<V: Volume>(
+    v: &mut V,
+    shape: &VolumeShape,
+    changes: &[NodeChange],
+) -> Result<(), FileFail>
+    requires sound { V.sound v.old }
+    requires planned { (x : Seen) × Planned shape.now x (V.seen v.old) (V.kept v.old) changes.now }
+    ensures leaves { (reply : Reply) (x : Seen) (k : Kept) (s : State) (a : Answered) → LeadsBy reply shape.now x k (V.seen v.old) (V.kept v.old) s a changes.now → FileEnds (λ u said. said ≡ reply) shape.now x k (V.seen v.new) (V.kept v.new) s a (NoneDone s) result }
+    ensures forgets { (x : Seen) → Planned shape.now x (V.seen v.old) (V.kept v.old) changes.now → OnOk result (Forgets (volume_layout shape.now x.words) (volume_layout shape.now (V.seen v.new).words) (V.seen v.new)) }
+    ensures goes { Goes (V.health v.old) (V.below v.old) (V.health v.new) (V.below v.new) }
+    ensures ends { EndsBy (V.health v.old) (V.health v.new) (Faulted result) (IsErrOf result FileFail.Stopped) }
+    ensures sound { V.sound v.new }
+{
+    commit_changes(v, shape, changes)?;
     Ok(())
 }

@@ -17,7 +17,7 @@ ghost use Rattle.file_store.specs.Ends.{CanServe, FileEnds, SaysIno, SaysNumber}
 ghost use Rattle.file_store.specs.Failures.{Faulted};
 
 use crate::changes::{DIRECTORY, FILE, NodeChange, node_made, two_changes};
-use crate::committing::commit_changes;
+use crate::committing::commit_planned;
 use crate::failures::{EXISTS, FileFail};
 use crate::new_nodes::{NewNode, make_new};
 use crate::paths::{cut_last, is_root};
@@ -52,8 +52,7 @@ pub fn make_row<V: Volume>(
 {
     let row = plan_add(alloc, v, shape, dir, name, i)?;
     let changes = two_changes(alloc, NodeChange::from(row), node_made(alloc, i, kind))?;
-    commit_changes(v, shape, &changes)?;
-    Ok(())
+    commit_planned(v, shape, &changes)
 }
 
 /// Makes a node without bytes at a path.

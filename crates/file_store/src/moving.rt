@@ -20,7 +20,7 @@ ghost use Rattle.file_store.specs.WalkRules.{OutOfReach};
 ghost use Rattle.file_store.specs.Walks.{IsRow, ino_numbers};
 
 use crate::changes::{DIRECTORY, NodeChange, node_gone, one_change, three_changes, two_changes};
-use crate::committing::commit_changes;
+use crate::committing::commit_planned;
 use crate::failures::{BUSY, EXISTS, FileFail};
 use crate::removing::is_open;
 use crate::walking::{Row, inode_of};
@@ -51,8 +51,7 @@ fn rename_within<V: Volume>(
 {
     let set = plan_set(alloc, v, shape, from.dir, from.slot, name, from.ino)?;
     let changes = one_change(alloc, NodeChange::from(set))?;
-    commit_changes(v, shape, &changes)?;
-    Ok(())
+    commit_planned(v, shape, &changes)
 }
 
 /// Moves a row to another directory, where the name is new. The row that takes blocks is planned last.
@@ -81,8 +80,7 @@ fn move_across<V: Volume>(
     let goes = plan_remove(alloc, v, shape, from.dir, from.slot)?;
     let comes = plan_add(alloc, v, shape, dir, name, from.ino)?;
     let changes = two_changes(alloc, NodeChange::from(goes), NodeChange::from(comes))?;
-    commit_changes(v, shape, &changes)?;
-    Ok(())
+    commit_planned(v, shape, &changes)
 }
 
 /// Moves a row to a name that its new directory has not.
@@ -145,8 +143,7 @@ fn replace_within<V: Volume>(
         NodeChange::from(replaced),
         node_gone(alloc, to.ino, freed),
     )?;
-    commit_changes(v, shape, &changes)?;
-    Ok(())
+    commit_planned(v, shape, &changes)
 }
 
 /// Puts a row in place of one of another directory, whose node goes.
@@ -180,8 +177,7 @@ fn replace_across<V: Volume>(
     let freed = blocks_of(alloc, v, shape, to.ino)?;
     let gone = node_gone(alloc, to.ino, freed);
     let changes = three_changes(alloc, NodeChange::from(goes), NodeChange::from(comes), gone)?;
-    commit_changes(v, shape, &changes)?;
-    Ok(())
+    commit_planned(v, shape, &changes)
 }
 
 /// Puts a row in place of another one, whose node goes. Where both name the same node, nothing changes.

@@ -25,7 +25,7 @@ ghost use Rattle.file_store.specs.NewRegions.{FindsRegion, FitRegion, PlansRegio
 ghost use Rattle.file_store.specs.Walks.{FreeRow, ino_in};
 
 use crate::changes::{NodeChange, REGION, empty_inode, node_sized, two_changes};
-use crate::committing::commit_changes;
+use crate::committing::commit_planned;
 use crate::failures::{EXISTS, FileFail, NOT_A_REGION, TOO_LARGE};
 use crate::new_nodes::{NewNode, make_new};
 use crate::paths::{cut_last, is_root};
@@ -171,8 +171,7 @@ pub fn make_region_row<V: Volume>(
     let row = plan_add(alloc, v, shape, dir, name, i)?;
     let node = plan_region(alloc, v, shape, i, sizes, &row.taken)?;
     let changes = two_changes(alloc, NodeChange::from(row), node)?;
-    commit_changes(v, shape, &changes)?;
-    Ok(())
+    commit_planned(v, shape, &changes)
 }
 
 /// Makes a region of so many data pages of zeros and undo pages, at a path.

@@ -18,7 +18,7 @@ ghost use Rattle.file_store.specs.Failures.{Faulted};
 ghost use Rattle.file_store.specs.Walks.{IsRow, ino_numbers};
 
 use crate::changes::{DIRECTORY, NodeChange, REGION, node_gone, two_changes};
-use crate::committing::commit_changes;
+use crate::committing::commit_planned;
 use crate::failures::{BUSY, FileFail, IS_A_DIRECTORY, IS_ROOT, NOT_A_DIRECTORY, NOT_EMPTY};
 use crate::paths::is_root;
 use crate::walking::{Row, inode_of, walk_to_row};
@@ -72,8 +72,7 @@ fn remove_row<V: Volume>(
         NodeChange::from(goes),
         node_gone(alloc, row.ino, freed),
     )?;
-    commit_changes(v, shape, &changes)?;
-    Ok(())
+    commit_planned(v, shape, &changes)
 }
 
 /// Removes a file or a region.
