@@ -6,7 +6,7 @@ use Rattle.hex.specs.Hex.{encode_with, encode_lower, lower_digits}
 use Rattle.request_codec.specs.Sending.{Sent, IsCutOff}
 use Rattle.request_codec.proofs.Sendings.{sent_none, held_more, sent_sent, sent_cut, cut_more}
 
-encode_append : (t xs ys : List ℕ) → encode_with t (xs ++ ys) ≡ encode_with t xs ++ encode_with t ys
+pub encode_append : (t xs ys : List ℕ) → encode_with t (xs ++ ys) ≡ encode_with t xs ++ encode_with t ys
 unfolding encode_with
 encode_append t [] ys = refl
 encode_append t (b ∷ xs) ys = ap (λ (zs : List ℕ). slice_index t (b / 16) ∷ slice_index t (b % 16) ∷ zs) (encode_append t xs ys)

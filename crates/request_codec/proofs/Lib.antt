@@ -13,3 +13,4 @@ pub mod Passing
 pub mod Sendings
 pub mod Texts
 pub mod EncodedParts
+pub mod Runs

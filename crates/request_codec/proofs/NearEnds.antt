@@ -1,4 +1,4 @@
--- A line end found by one comparison of vectors.
+-- A byte found by one comparison of vectors.
 use Rattle.std.proofs.Common.{◌≡◌, ◌≢◌, ℕ, suc, ◌+◌, ◌*◌, ◌<◌, ◌≤◌, Bool, true, false, not, List, [], ◌∷◌, map, length, get_or, take, refl, sym, subst, ◌∙◌, inl, inr, arith}
 use Rattle.std.specs.Int.{w64, trailing_zeros}
 use Rattle.std.specs.List.{prefix_len}
@@ -22,9 +22,9 @@ not_both : (b : Bool) → b ≡ false → b ≡ true → ⊥
 not_both true f t = absurd (cc (f))
 not_both false f t = absurd (cc (t))
 
-pub first_end : (bytes : List ℕ) (r : ℕ) → 32 ≤ length bytes → 0 < mask_l (map (is_byte 10) (take 32 bytes)) → r ≡ trailing_zeros w64 (mask_l (map (is_byte 10) (take 32 bytes))) → NoneBefore (Passes (is_byte 10) bytes) 0 (length bytes) r × Passes (is_byte 10) bytes r
-first_end bytes r long some is =
-    let p : ℕ → Bool = is_byte 10 in
+pub first_end : (a : ℕ) (bytes : List ℕ) (r : ℕ) → 32 ≤ length bytes → 0 < mask_l (map (is_byte a) (take 32 bytes)) → r ≡ trailing_zeros w64 (mask_l (map (is_byte a) (take 32 bytes))) → NoneBefore (Passes (is_byte a) bytes) 0 (length bytes) r × Passes (is_byte a) bytes r
+first_end a bytes r long some is =
+    let p : ℕ → Bool = is_byte a in
     let room : 0 + 32 ≤ length bytes = omega (arith, long) in
     let size : length (take 32 bytes) ≡ 32 = length-chunk 0 32 bytes room in
     let counted : r ≡ prefix_len (λ x. not (p x)) (take 32 bytes) = is ∙ trailing_mask_l p 64 (take 32 bytes) (omega (arith, size)) some in

@@ -1,6 +1,7 @@
 //! Request lines and reply lines: what each line asks for, and how each reply is written.
 #![tactic(auto)]
 
+mod first_byte;
 mod gathered;
 mod hex_digits;
 mod hex_text;

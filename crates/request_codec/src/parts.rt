@@ -7,10 +7,10 @@ ghost use Rattle.request_codec.specs.Form.{IsHexOf, Data, PathNumber, PathNumber
 ghost use Rattle.rio_base.specs.Numbers.{IsNumber};
 ghost use Rattle.request_codec.specs.Fronts.{IsCut, HasPath, HasNumber, HasPathNumber};
 
+use crate::first_byte::first_byte;
 use crate::hex_digits::decode;
 use crate::number::value_of;
 use crate::path::is_path;
-use memchr::memchr;
 use rio_base::{Octets, number_of};
 use std::alloc::{AllocError, Global};
 
@@ -21,7 +21,7 @@ const DATA_BYTES: usize = 1_048_576;
 pub fn at_space(text: &[u8]) -> Option<(&[u8], &[u8])>
     ensures { MatchOption result (Lacks 32 text.now) (λ parts. IsCut text.now parts.0.now parts.1.now) }
 {
-    let at = memchr(b' ', text)?;
+    let at = first_byte(b' ', text)?;
     Some((&text[..at], &text[at + 1..]))
 }
 
