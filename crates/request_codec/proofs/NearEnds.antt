@@ -22,24 +22,24 @@ not_both : (b : Bool) → b ≡ false → b ≡ true → ⊥
 not_both true f t = absurd (cc (f))
 not_both false f t = absurd (cc (t))
 
-pub first_end : (a : ℕ) (bytes : List ℕ) (r : ℕ) → 32 ≤ length bytes → 0 < mask_l (map (is_byte a) (take 32 bytes)) → r ≡ trailing_zeros w64 (mask_l (map (is_byte a) (take 32 bytes))) → NoneBefore (Passes (is_byte a) bytes) 0 (length bytes) r × Passes (is_byte a) bytes r
-first_end a bytes r long some is =
+pub first_end : (a n : ℕ) (bytes : List ℕ) (r : ℕ) → n ≤ 64 → n ≤ length bytes → 0 < mask_l (map (is_byte a) (take n bytes)) → r ≡ trailing_zeros w64 (mask_l (map (is_byte a) (take n bytes))) → NoneBefore (Passes (is_byte a) bytes) 0 (length bytes) r × Passes (is_byte a) bytes r
+first_end a n bytes r few long some is =
     let p : ℕ → Bool = is_byte a in
-    let room : 0 + 32 ≤ length bytes = omega (arith, long) in
-    let size : length (take 32 bytes) ≡ 32 = length-chunk 0 32 bytes room in
-    let counted : r ≡ prefix_len (λ x. not (p x)) (take 32 bytes) = is ∙ trailing_mask_l p 64 (take 32 bytes) (omega (arith, size)) some in
-    let most : r ≤ 32 = run_in_chunk_le p bytes 0 32 r 0 room counted in
+    let room : 0 + n ≤ length bytes = omega (arith, long) in
+    let size : length (take n bytes) ≡ n = length-chunk 0 n bytes room in
+    let counted : r ≡ prefix_len (λ x. not (p x)) (take n bytes) = is ∙ trailing_mask_l p 64 (take n bytes) (omega (arith, size, few)) some in
+    let most : r ≤ n = run_in_chunk_le p bytes 0 n r 0 room counted in
     let same : 0 + r ≡ r = omega arith in
-    let inside : r < 32 = elim (cases_lt r 32) [
+    let inside : r < n = elim (cases_lt r n) [
       | inl below ↦ below
-      | inr past ↦ let none : mask_l (map p (take 32 bytes)) ≡ 0 = none_set p (take 32 bytes) (sym counted ∙ omega (arith, past, most, size)) in absurd (omega (arith, none, some))
+      | inr past ↦ let none : mask_l (map p (take n bytes)) ≡ 0 = none_set p (take n bytes) (sym counted ∙ omega (arith, past, most, size)) in absurd (omega (arith, none, some))
     ] in (
       record {
         low = omega arith;
         high = omega (arith, inside, long);
-        before = λ k from to passes. not_both _ (run_in_chunk_fails p bytes 0 32 r 0 room counted k from (omega (arith, to))) passes;
+        before = λ k from to passes. not_both _ (run_in_chunk_fails p bytes 0 n r 0 room counted k from (omega (arith, to))) passes;
       },
-      subst (λ j. p (get_or bytes j 0) ≡ true) same (run_in_chunk_stops p bytes 0 32 r 0 room counted inside),
+      subst (λ j. p (get_or bytes j 0) ≡ true) same (run_in_chunk_stops p bytes 0 n r 0 room counted inside),
     )
 
 pub positive : (m n : ℕ) → m ≡ n → m ≢ 0 → 0 < n

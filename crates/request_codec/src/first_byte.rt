@@ -8,8 +8,11 @@ use std::simd::prelude::*;
 /// How many bytes are looked at together first: most lines and their parts are shorter.
 const NEAR: usize = 32;
 
-/// The place of the first such byte. Among fewer than 32 bytes they are looked at one by one. Else one in the first 32
-/// is found by one comparison of vectors, and a later one by `memchr`, whose call costs more than either.
+/// How many of fewer bytes are: most words and paths are shorter.
+const NEXT: usize = 8;
+
+/// The place of the first such byte. One in the first 32 bytes is found by one comparison of vectors, and a later one by
+/// `memchr`, whose call costs more than that.
 #[inline(always)]
 pub fn first_byte(byte: u8, bytes: &[u8]) -> Option<usize>
     ensures { IsFirstByte (is_byte byte) bytes.now result }
@@ -26,9 +29,26 @@ pub fn first_byte(byte: u8, bytes: &[u8]) -> Option<usize>
     memchr(byte, bytes)
 }
 
-/// The same, looking at one byte after the other.
+/// The same among fewer bytes than one comparison takes: the first 8 by a shorter one, and others one by one.
 #[inline(always)]
 fn first_of_few(byte: u8, bytes: &[u8]) -> Option<usize>
+    ensures { IsFirstByte (is_byte byte) bytes.now result }
+{
+    if bytes.len() < NEXT {
+        return one_by_one(byte, bytes);
+    }
+    let places = u8x8::from_slice(bytes)
+        .simd_eq(u8x8::splat(byte))
+        .to_bitmask();
+    if places != 0 {
+        return Some(places.trailing_zeros() as usize);
+    }
+    one_by_one(byte, bytes)
+}
+
+/// The same, looking at one byte after the other.
+#[inline(always)]
+fn one_by_one(byte: u8, bytes: &[u8]) -> Option<usize>
     ensures { IsFirstByte (is_byte byte) bytes.now result }
 {
     'places: for i in 0..bytes.len() {

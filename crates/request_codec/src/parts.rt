@@ -26,6 +26,7 @@ pub fn at_space(text: &[u8]) -> Option<(&[u8], &[u8])>
 }
 
 /// A path, and what stands behind the space.
+#[inline(always)]
 fn path_at_front(text: &[u8]) -> Option<(&[u8], &[u8])>
     ensures { MatchOption result ((path rest : List ℕ) → HasPath text.now path rest → ⊥) (λ parts. HasPath text.now parts.0.now parts.1.now) }
 {
@@ -38,6 +39,7 @@ fn path_at_front(text: &[u8]) -> Option<(&[u8], &[u8])>
 }
 
 /// A number, and what stands behind the space.
+#[inline(always)]
 fn number_at_front(text: &[u8]) -> Option<(u64, &[u8])>
     ensures { MatchOption result ((n : ℕ) (rest : List ℕ) → HasNumber text.now n rest → ⊥) (λ parts. HasNumber text.now parts.0 parts.1.now) }
 {

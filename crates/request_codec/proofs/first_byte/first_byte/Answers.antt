@@ -9,4 +9,4 @@ returns-then-ends-ne0 c =
     let bytes = c.args.bytes.now in
     let long : 32 ≤ length bytes = omega (arith, c.if-bytes-lt-NEAR.false) in
     let mask = bitmask_splat w8 (λ a b. a == b) (take 32 bytes) 32 c.args.byte (length-chunk 0 32 bytes (omega (arith, long))) (omega arith) in
-    first_end c.args.byte bytes _ long (positive _ _ mask c.if-ends-ne0.true) (ap (trailing_zeros w64) mask)
+    first_end c.args.byte 32 bytes _ (omega arith) long (positive _ _ mask c.if-ends-ne0.true) (ap (trailing_zeros w64) mask)
