@@ -8,7 +8,7 @@ ghost use Rattle.request_codec.specs.Sending.{Puts, Sends};
 ghost use Rattle.rio_requests.specs.declared.reply.Reply.TheVariants.{Stat};
 ghost use Rattle.request_codec.specs.Text.{body_of, kind_name, listed_ino, listed_name, text_of};
 
-use crate::text_room::{put, put_hex, put_number, send};
+use crate::text_room::{put, put_hex, put_number, put_number_here, send};
 use rio_base::{Failed, Ino, Octets, Sink};
 use rio_requests::Reply;
 
@@ -68,7 +68,7 @@ fn put_body<K: Sink>(reply: &Reply, room: &mut [u8], sink: &mut K) -> Result<usi
 {
     match reply {
         Reply::Ok => put(b"ok", room, 0, sink),
-        Reply::Number(n) => put_number(b"ok ", *n, room, 0, sink),
+        Reply::Number(n) => put_number_here(b"ok ", *n, room, 0, sink),
         Reply::Bytes(bytes) => put_bytes(bytes.as_slice(), room, sink),
         Reply::Stat { ino, kind, size } => put_stat(*ino, *kind, *size, room, sink),
         Reply::Names(names) => put_names(names.as_slice(), room, sink),
@@ -108,7 +108,7 @@ fn put_stat<K: Sink>(
 ) -> Result<usize, Failed>
     ensures { Puts result (K.written sink.old) (K.faults sink.old) [] (body_of (Stat ino kind size)) (K.written sink.new) (K.faults sink.new) room.new }
 {
-    let held = put_number(b"ok ", u64::from(ino.0), room, 0, sink)?;
+    let held = put_number_here(b"ok ", u64::from(ino.0), room, 0, sink)?;
     put_number(kind_word(kind), size, room, held, sink)
 }
 

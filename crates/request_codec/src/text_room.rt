@@ -93,6 +93,21 @@ pub fn put_number<K: Sink>(
     requires { held ≤ length room.old }
     ensures { Puts result (K.written sink.old) (K.faults sink.old) (take held room.old) (word.now ++ decimal n) (K.written sink.new) (K.faults sink.new) room.new }
 {
+    put_number_here(word, n, room, held, sink)
+}
+
+/// The same, compiled into its caller, so that a word that is known there costs a store or two.
+#[inline(always)]
+pub(crate) fn put_number_here<K: Sink>(
+    word: &[u8],
+    n: u64,
+    room: &mut [u8],
+    held: usize,
+    sink: &mut K,
+) -> Result<usize, Failed>
+    requires { held ≤ length room.old }
+    ensures { Puts result (K.written sink.old) (K.faults sink.old) (take held room.old) (word.now ++ decimal n) (K.written sink.new) (K.faults sink.new) room.new }
+{
     let held = put(word, room, held, sink)?;
     let mut digits = Buffer::new();
     put(digits.format(n).as_bytes(), room, held, sink)

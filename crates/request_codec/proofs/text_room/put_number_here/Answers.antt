@@ -1,6 +1,6 @@
 use Rattle.std.proofs.Common.{◌∙◌}
 use Rattle.request_codec.proofs.Sendings.{cut_more, puts_cut, puts_then}
-use Rattle.request_codec.proofs.text_room.put_number.Goals as goal
+use Rattle.request_codec.proofs.text_room.put_number_here.Goals as goal
 
 pub returns-in_err-held : goal.returns-in_err-held
 returns-in_err-held g c = puts_cut c.from_residual.ensures.0 (cut_more _ c.in_err-held.ensures.err)
