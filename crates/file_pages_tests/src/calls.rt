@@ -3,10 +3,12 @@
 ghost use Rattle.std.specs.Prelude.{◌⊎◌, IsErrOf, OnOk};
 ghost use Rattle.file_pages_tests.specs.TestFiles.{FilesReady, FilesStand, IsTestFile};
 
+use crate::compare::{At, same_items};
 use file_pages::{SizeFail, WriteFail, blocks_of, read, resize, write};
 use inode_table::LARGEST_SIZE;
 use rio_base::{BlockList, Ino, Octets, ReadFail, Volume, VolumeShape};
-use std::alloc::{AllocError, Global};
+use std::alloc::Global;
+use std::process::Abort;
 
 /// What a call on a file answers where it is not stopped.
 #[derive(Clone, Copy, Debug, PartialEq, Eq)]
@@ -115,12 +117,13 @@ pub(crate) fn set_size<V: Volume>(
 }
 
 /// So many bytes of one value.
-pub(crate) fn filled(alloc: Global, count: usize, byte: u8) -> Result<Vec<u8>, AllocError> {
-    Ok(vec![in alloc; byte; count]?)
+pub(crate) fn filled(rt: &impl Abort, alloc: Global, count: usize, byte: u8) -> Vec<u8> {
+    vec![in alloc; byte; count].expect(rt, "memory")
 }
 
 /// Makes a call on a file.
 pub(crate) fn make<V: Volume>(
+    rt: &impl Abort,
     alloc: Global,
     v: &mut V,
     shape: &VolumeShape,
@@ -136,9 +139,7 @@ pub(crate) fn make<V: Volume>(
 {
     match call {
         Call::Write(off, count, byte) => {
-            let Ok(bytes) = filled(alloc, count, byte) else {
-                return Err(WriteFail::Memory);
-            };
+            let bytes = filled(rt, alloc, count, byte);
             put(alloc, v, shape, i, off, &bytes)
         }
         Call::Resize(len) => set_size(alloc, v, shape, i, len),
@@ -179,21 +180,42 @@ pub(crate) fn all_of<V: Volume>(
     some_of(alloc, v, shape, i, 0, LARGEST_SIZE)
 }
 
-/// How many bytes a file has.
-pub(crate) fn len_of<V: Volume>(
+/// Compares all bytes of a file.
+pub(crate) fn has_bytes<V: Volume>(
+    rt: &impl Abort,
     alloc: Global,
     v: &mut V,
     shape: &VolumeShape,
     i: Ino,
-) -> Result<usize, ReadFail>
+    at: At,
+    due: &[u8],
+)
     requires sound { V.sound v.old }
     requires files { FilesReady shape.now (V.seen v.old) (V.kept v.old) }
     requires file { IsTestFile i.0 }
     ensures files { FilesReady shape.now (V.seen v.new) (V.kept v.new) }
     ensures sound { V.sound v.new }
 {
-    let bytes = all_of(alloc, v, shape, i)?;
-    Ok(bytes.as_slice().len())
+    let bytes = all_of(alloc, v, shape, i).expect(rt, "all bytes are read");
+    same_items(rt, at, bytes.as_slice(), due);
+}
+
+/// How many bytes a file has.
+pub(crate) fn len_of<V: Volume>(
+    rt: &impl Abort,
+    alloc: Global,
+    v: &mut V,
+    shape: &VolumeShape,
+    i: Ino,
+) -> usize
+    requires sound { V.sound v.old }
+    requires files { FilesReady shape.now (V.seen v.old) (V.kept v.old) }
+    requires file { IsTestFile i.0 }
+    ensures files { FilesReady shape.now (V.seen v.new) (V.kept v.new) }
+    ensures sound { V.sound v.new }
+{
+    let bytes = all_of(alloc, v, shape, i).expect(rt, "all bytes are read");
+    bytes.as_slice().len()
 }
 
 /// All blocks of a file.
@@ -214,17 +236,18 @@ fn blocks_in<V: Volume>(
 
 /// How many blocks a file has.
 pub(crate) fn block_count<V: Volume>(
+    rt: &impl Abort,
     alloc: Global,
     v: &mut V,
     shape: &VolumeShape,
     i: Ino,
-) -> Result<usize, ReadFail>
+) -> usize
     requires sound { V.sound v.old }
     requires files { FilesReady shape.now (V.seen v.old) (V.kept v.old) }
     requires file { IsTestFile i.0 }
     ensures files { FilesReady shape.now (V.seen v.new) (V.kept v.new) }
     ensures sound { V.sound v.new }
 {
-    let blocks = blocks_in(alloc, v, shape, i)?;
-    Ok(blocks.as_slice().len())
+    let blocks = blocks_in(alloc, v, shape, i).expect(rt, "its blocks are found");
+    blocks.as_slice().len()
 }

@@ -18,8 +18,7 @@ pub(crate) fn same<T: PartialEq + Debug>(rt: &impl Abort, at: At, came: &T, due:
 
 /// The same of bytes, or of other things one behind the other.
 pub(crate) fn same_items<T: PartialEq + Debug>(rt: &impl Abort, at: At, came: &[T], due: &[T]) {
-    let At { table, row } = at;
-    assert_eq!(rt; came, due, "{table}, at {row}");
+    same(rt, at, &came, &due);
 }
 
 /// This is so.

@@ -2,16 +2,15 @@
 
 ghost use Rattle.std.specs.Prelude.{◌≡◌};
 
-use crate::calls::{Call, all_of};
+use crate::calls::{Call, all_of, has_bytes};
 use crate::compare::{At, holds, same};
-use crate::ended_calls::{Case, MANY, after, fail_at, fail_each, stop_at, stop_each};
+use crate::ended_calls::{Case, MANY, after, end_each, fail_at, fail_each, never_done, stop_at};
 use crate::plain_file::plain_call;
 use crate::volumes::{FILE, SMALL};
 use rio_base::ReadFail;
 use rio_fakes::FaultyVolume;
 use std::alloc::Global;
 use std::process::Abort;
-use std::test::Fail;
 use test_volumes::SHAPE;
 
 /// A write of 16 bytes at 4 to a file of 8.
@@ -41,166 +40,103 @@ fn shown(bytes: &[u8]) -> Option<u64> {
 }
 
 #[test]
-fn a_stopped_write_over_the_end_is_absent_led_or_whole(rt: HostRuntime) -> Result<(), Fail> {
+fn a_stopped_write_over_the_end_is_absent_led_or_whole(rt: HostRuntime) {
     let mut last = Some(0);
     let mut led = false;
     for steps in 0..MANY {
-        let (done, bytes) = stop_at(&rt, rt.alloc(), &OVER_THE_END, steps, WHOLE)?;
+        let (done, bytes) = stop_at(&rt, rt.alloc(), &OVER_THE_END, steps, WHOLE);
         let now = shown(bytes.as_slice());
         let at = OVER_THE_END.at(steps);
         holds(&rt, "no less than before", at, last <= now);
         same(&rt, at, &(now == Some(16)), &done);
         if done {
             holds(&rt, "led once", at, led);
-            return Ok(());
+            return;
         }
         led = led || now == Some(4);
         last = now;
     }
-    Err("never done")?
+    never_done(&rt, &OVER_THE_END);
 }
 
 #[test]
-fn a_fault_of_a_write_over_the_end_says_how_much_is_done(rt: HostRuntime) -> Result<(), Fail> {
+fn a_fault_of_a_write_over_the_end_says_how_much_is_done(rt: HostRuntime) {
     let mut last = 0;
     for n in 1..MANY {
         let at = OVER_THE_END.at(n);
-        let Some((done, bytes)) = fail_at(&rt, rt.alloc(), &OVER_THE_END, n, WHOLE)? else {
+        let Some((done, bytes)) = fail_at(&rt, rt.alloc(), &OVER_THE_END, n, WHOLE) else {
             same(&rt, at, &last, &4);
-            return Ok(());
+            return;
         };
         same(&rt, at, &shown(bytes.as_slice()), &Some(done));
         holds(&rt, "from the last up to 4", at, last <= done && done <= 4);
         last = done;
     }
-    Err("never done")?
+    never_done(&rt, &OVER_THE_END);
 }
 
-/// Stops a call at each step, and lets each call below fail.
-fn end_each(
-    rt: &impl Abort,
-    alloc: Global,
-    name: &'static str,
-    first: Call,
-    call: Call,
-) -> Result<(), Fail> {
-    let case = Case {
-        name,
-        shape: SMALL,
-        first,
-        call,
-    };
-    stop_each(rt, alloc, &case)?;
-    fail_each(rt, alloc, &case)?;
-    Ok(())
-}
-
-#[test]
-fn a_write_far_past_the_end_is_absent_or_whole(rt: HostRuntime) -> Result<(), Fail> {
-    let first = Call::Write(0, 5, 0x61);
-    end_each(
-        &rt,
-        rt.alloc(),
+/// Calls that are absent, whole or led where they are stopped or fail: what each is, the call that made the file what it
+/// is before, and the call.
+const ENDED: &[(&str, Call, Call)] = &[
+    (
         "a write far past the end",
-        first,
+        Call::Write(0, 5, 0x61),
         Call::Write(10_000, 1, 0x61),
-    )
-}
-
-#[test]
-fn a_growth_to_all_direct_pages_is_absent_or_whole(rt: HostRuntime) -> Result<(), Fail> {
-    let first = Call::Resize(0);
-    end_each(
-        &rt,
-        rt.alloc(),
+    ),
+    (
         "a growth to all direct pages",
-        first,
+        Call::Resize(0),
         Call::Resize(98_304),
-    )
-}
-
-#[test]
-fn a_growth_by_the_indirect_block_is_absent_or_whole(rt: HostRuntime) -> Result<(), Fail> {
-    let first = Call::Resize(98_304);
-    end_each(
-        &rt,
-        rt.alloc(),
+    ),
+    (
         "a growth by the indirect block",
-        first,
-        Call::Resize(98_305),
-    )
-}
-
-#[test]
-fn a_shrink_by_the_indirect_block_is_absent_or_whole(rt: HostRuntime) -> Result<(), Fail> {
-    let first = Call::Resize(98_305);
-    end_each(
-        &rt,
-        rt.alloc(),
-        "a shrink by the indirect block",
-        first,
         Call::Resize(98_304),
-    )
-}
-
-#[test]
-fn a_first_write_of_two_pages_is_absent_or_whole(rt: HostRuntime) -> Result<(), Fail> {
-    let first = Call::Resize(0);
-    end_each(
-        &rt,
-        rt.alloc(),
+        Call::Resize(98_305),
+    ),
+    (
+        "a shrink by the indirect block",
+        Call::Resize(98_305),
+        Call::Resize(98_304),
+    ),
+    (
         "a first write of two pages",
-        first,
+        Call::Resize(0),
         Call::Write(0, 5000, 0xaa),
-    )
-}
-
-#[test]
-fn a_cut_to_100_bytes_is_absent_or_whole(rt: HostRuntime) -> Result<(), Fail> {
-    let first = Call::Write(0, 5000, 0xaa);
-    end_each(
-        &rt,
-        rt.alloc(),
+    ),
+    (
         "a cut to 100 bytes",
-        first,
+        Call::Write(0, 5000, 0xaa),
         Call::Resize(100),
-    )
-}
-
-#[test]
-fn a_write_past_the_end_of_a_cut_file_is_absent_or_whole(rt: HostRuntime) -> Result<(), Fail> {
-    let first = Call::Write(0, 100, 0xaa);
-    end_each(
-        &rt,
-        rt.alloc(),
+    ),
+    (
         "a write past the end of a cut file",
-        first,
+        Call::Write(0, 100, 0xaa),
         Call::Write(4000, 1, 0xbb),
-    )
-}
-
-#[test]
-fn a_write_over_two_pages_leads(rt: HostRuntime) -> Result<(), Fail> {
-    let first = Call::Write(0, 8192, 0xaa);
-    end_each(
-        &rt,
-        rt.alloc(),
+    ),
+    (
         "a write over two pages",
-        first,
+        Call::Write(0, 8192, 0xaa),
         Call::Write(4088, 16, 0xbb),
-    )
-}
+    ),
+    (
+        "a long write over the end",
+        Call::Write(0, 4093, 0xaa),
+        Call::Write(4001, 200, 0xbb),
+    ),
+];
 
 #[test]
-fn a_long_write_over_the_end_leads(rt: HostRuntime) -> Result<(), Fail> {
-    let first = Call::Write(0, 4093, 0xaa);
-    end_each(
-        &rt,
-        rt.alloc(),
-        "a long write over the end",
-        first,
-        Call::Write(4001, 200, 0xbb),
-    )
+fn a_call_is_absent_led_or_whole(rt: HostRuntime) {
+    for k in 0..ENDED.len() {
+        let (name, first, call) = ENDED[k];
+        let case = Case {
+            name,
+            shape: SMALL,
+            first,
+            call,
+        };
+        end_each(&rt, rt.alloc(), &case);
+    }
 }
 
 /// A write of bytes from 4088 on to a file of two pages.
@@ -230,44 +166,48 @@ const LED: &[u8] =
 /// Lets each call below fail of a write of `count` bytes over two pages. As many fail before any byte counts as the part in
 /// the first page has alone: so no call is about the second page before all of the first one is stored. Behind them are
 /// the `rest` calls for the second page.
-fn fail_by_pages(rt: &impl Abort, alloc: Global, count: usize, rest: u64) -> Result<(), Fail> {
-    let alone = fail_each(rt, alloc, &over_two_pages(8))?;
+fn fail_by_pages(rt: &impl Abort, alloc: Global, count: usize, rest: u64) {
+    let alone = fail_each(rt, alloc, &over_two_pages(8));
     let case = over_two_pages(count);
-    let old = plain_call(alloc, &[], case.first)?;
-    let new = plain_call(alloc, &old, case.call)?;
+    let old = plain_call(rt, alloc, &[], case.first);
+    let new = plain_call(rt, alloc, &old, case.call);
     for n in 1..MANY {
         let at = case.at(n);
-        let Some((done, bytes)) = fail_at(rt, alloc, &case, n, &new)? else {
+        let Some((done, bytes)) = fail_at(rt, alloc, &case, n, &new) else {
             same(rt, at, &(n - 1), &alone.saturating_add(rest));
-            return Ok(());
+            return;
         };
         let first = n > alone;
         same(rt, at, &done, if first { &8 } else { &0 });
         same(rt, at, &(middle(bytes.as_slice()) == LED), &first);
     }
-    Err("never done")?
+    never_done(rt, &case);
 }
 
 #[test]
-fn no_page_is_looked_at_before_those_before_it_are_stored(rt: HostRuntime) -> Result<(), Fail> {
-    fail_by_pages(&rt, rt.alloc(), 16, 1)?; // its word is stored
-    fail_by_pages(&rt, rt.alloc(), 12, 3) // half of it: read as its first and as its last word, and stored
+fn no_page_is_looked_at_before_those_before_it_are_stored(rt: HostRuntime) {
+    fail_by_pages(&rt, rt.alloc(), 16, 1); // its word is stored
+    fail_by_pages(&rt, rt.alloc(), 12, 3); // half of it: read as its first and as its last word, and stored
 }
 
+/// The file of eight bytes.
+const EIGHT: &[u8] = b"\xaa\xaa\xaa\xaa\xaa\xaa\xaa\xaa";
+
 #[test]
-fn a_read_that_failed_can_be_made_again(rt: HostRuntime) -> Result<(), Fail> {
+fn a_read_that_failed_can_be_made_again(rt: HostRuntime) {
     let alloc = rt.alloc();
     for n in 1..MANY {
-        let table = "a read that failed";
-        let at = At { table, row: n };
-        let mut v = FaultyVolume::new(after(alloc, &SMALL, Call::Write(0, 8, 0xaa))?, n);
-        if let Err(fail) = all_of(alloc, &mut v, &SMALL, FILE) {
-            same(&rt, at, &fail, &ReadFail::Fault);
-        } else {
-            return Ok(());
-        }
-        let bytes = all_of(alloc, &mut v, &SMALL, FILE)?;
-        same(&rt, at, &shown(bytes.as_slice()), &Some(0));
+        let at = At {
+            table: "a read that failed",
+            row: n,
+        };
+        let first = after(&rt, alloc, &SMALL, Call::Write(0, 8, 0xaa));
+        let mut v = FaultyVolume::new(first, n);
+        let Some(fail) = all_of(alloc, &mut v, &SMALL, FILE).err() else {
+            return;
+        };
+        same(&rt, at, &fail, &ReadFail::Fault);
+        has_bytes(&rt, alloc, &mut v, &SMALL, FILE, at, EIGHT);
     }
-    Err("never done")?
+    never_done(&rt, &OVER_THE_END);
 }

@@ -23,10 +23,10 @@ mod row_tests;
 #[cfg(test)]
 mod rows;
 #[cfg(test)]
-mod size_tests;
-#[cfg(test)]
 mod space_tests;
 #[cfg(test)]
 mod volumes;
+#[cfg(test)]
+mod word_rows;
 #[cfg(test)]
 mod word_tests;

@@ -1,7 +1,8 @@
 //! The bytes of a file as a plain list, and what calls make of them.
 
-use crate::calls::Call;
-use std::alloc::{AllocError, Global};
+use crate::calls::{Call, filled};
+use std::alloc::Global;
+use std::process::Abort;
 
 /// Byte `k` of a file with `bytes` written over it from `off` on.
 fn plain_byte(old: &[u8], off: usize, bytes: &[u8], k: usize) -> u8 {
@@ -11,40 +12,47 @@ fn plain_byte(old: &[u8], off: usize, bytes: &[u8], k: usize) -> u8 {
     if k < old.len() { old[k] } else { 0 }
 }
 
-/// The bytes with zeros behind them up to `len`, and none past it.
-fn plain_resize(alloc: Global, old: &[u8], len: usize) -> Result<Vec<u8>, AllocError> {
-    let mut new = Vec::new(alloc);
-    for k in 0..len {
-        new.push(plain_byte(old, 0, &[], k))?;
-    }
-    Ok(new)
-}
-
-/// The bytes with others put over them from `off` on.
-pub(crate) fn plain_write(
+/// The bytes with others put over them from `off` on, in a file of `len` bytes.
+fn plain_bytes(
+    rt: &impl Abort,
     alloc: Global,
     old: &[u8],
     off: usize,
     bytes: &[u8],
-) -> Result<Vec<u8>, AllocError> {
-    if bytes.is_empty() {
-        return plain_resize(alloc, old, old.len());
-    }
+    len: usize,
+) -> Vec<u8> {
     let mut new = Vec::new(alloc);
-    for k in 0..old.len().max(off.saturating_add(bytes.len())) {
-        new.push(plain_byte(old, off, bytes, k))?;
+    for k in 0..len {
+        new.push(plain_byte(old, off, bytes, k))
+            .expect(rt, "memory");
     }
-    Ok(new)
+    new
+}
+
+/// The bytes with others put over them from `off` on.
+pub(crate) fn plain_write(
+    rt: &impl Abort,
+    alloc: Global,
+    old: &[u8],
+    off: usize,
+    bytes: &[u8],
+) -> Vec<u8> {
+    let len = if bytes.is_empty() {
+        old.len()
+    } else {
+        old.len().max(off.saturating_add(bytes.len()))
+    };
+    plain_bytes(rt, alloc, old, off, bytes, len)
 }
 
 /// What a call makes of a file's bytes.
-pub(crate) fn plain_call(alloc: Global, old: &[u8], call: Call) -> Result<Vec<u8>, AllocError> {
+pub(crate) fn plain_call(rt: &impl Abort, alloc: Global, old: &[u8], call: Call) -> Vec<u8> {
     match call {
         Call::Write(off, count, byte) => {
-            let bytes = vec![in alloc; byte; count]?;
-            plain_write(alloc, old, off as usize, &bytes)
+            let bytes = filled(rt, alloc, count, byte);
+            plain_write(rt, alloc, old, off as usize, &bytes)
         }
-        Call::Resize(len) => plain_resize(alloc, old, len as usize),
+        Call::Resize(len) => plain_bytes(rt, alloc, old, 0, &[], len as usize),
     }
 }
 

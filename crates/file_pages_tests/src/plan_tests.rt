@@ -2,6 +2,7 @@
 
 ghost use Rattle.std.specs.Prelude.{◌≤◌};
 ghost use Rattle.test_volumes.specs.TestVolumes.{IsTestShape};
+ghost use Rattle.file_pages_tests.specs.TestFiles.{FilesReady};
 
 use crate::calls::{Call, make, put};
 use crate::compare::{At, holds, same, same_items};
@@ -9,10 +10,9 @@ use crate::plans::{NEW_SIZE, lowest, page_block, plan_file, plan_node};
 use crate::volumes::{FILE, SMALL, with_files};
 use file_pages::{Edit, SizeChange, SizeFail};
 use inode_table::Inode;
-use rio_base::{Block, VolumeShape};
+use rio_base::{Block, Volume, VolumeShape};
 use std::alloc::Global;
 use std::process::Abort;
-use std::test::Fail;
 use test_volumes::SHAPE;
 
 /// The node that a change is prepared for.
@@ -115,28 +115,6 @@ const CUT: Plan = Plan {
     numbers: &[],
 };
 
-/// A row of a file that has no bytes.
-const fn file(skip: u32, len: u64, due: Due) -> Row {
-    Row {
-        first: NOTHING,
-        node: Node::File,
-        skip,
-        len,
-        due,
-    }
-}
-
-/// A row of a new node.
-const fn new_node(node: Node) -> Row {
-    Row {
-        first: NOTHING,
-        node,
-        skip: 2,
-        len: NEW_SIZE,
-        due: Due::Plan(FOUR_PAGES),
-    }
-}
-
 /// The kind of a node.
 fn kind_of(node: Node) -> u8
     ensures { (1 ≤ result) × (result ≤ 3) }
@@ -167,19 +145,21 @@ fn lie_from(blocks: &[Block], first: u32) -> bool {
 }
 
 /// Prepares the change of a row.
-fn prepared(
+fn prepared<V: Volume>(
+    rt: &impl Abort,
     alloc: Global,
+    v: &mut V,
     shape: &VolumeShape,
     row: Row,
-) -> Result<Result<SizeChange, SizeFail>, Fail>
-    requires { IsTestShape shape.now }
+) -> Result<SizeChange, SizeFail>
+    requires sound { V.sound v.old }
+    requires files { FilesReady shape.now (V.seen v.old) (V.kept v.old) }
 {
-    let mut v = with_files(alloc, shape)?;
-    make(alloc, &mut v, shape, FILE, row.first)?;
-    let skip = lowest(alloc, &mut v, shape, row.skip)?;
+    make(rt, alloc, v, shape, FILE, row.first).expect(rt, "the first call");
+    let skip = lowest(alloc, v, shape, row.skip).expect(rt, "the lowest free blocks");
     match row.node {
-        Node::File => Ok(plan_file(alloc, &mut v, shape, FILE, row.len, &skip)),
-        node => Ok(plan_node(alloc, &mut v, shape, kind_of(node), &skip)),
+        Node::File => plan_file(alloc, v, shape, FILE, row.len, &skip),
+        node => plan_node(alloc, v, shape, kind_of(node), &skip),
     }
 }
 
@@ -213,67 +193,138 @@ fn check_row(rt: &impl Abort, at: At, row: Row, came: Result<SizeChange, SizeFai
     }
 }
 
-/// Prepares the changes of a table, each on a volume of its own.
-fn check_rows(
-    rt: &impl Abort,
-    alloc: Global,
-    shape: &VolumeShape,
-    table: &'static str,
-    rows: &[Row],
-) -> Result<(), Fail>
+/// Prepares the change of a row on a volume of its own, and compares what came.
+fn try_row(rt: &impl Abort, alloc: Global, shape: &VolumeShape, at: At, row: Row)
     requires { IsTestShape shape.now }
 {
-    for k in 0..rows.len() {
-        let came = prepared(alloc, shape, rows[k])?;
+    let mut v = with_files(rt, alloc, shape);
+    let came = prepared(rt, alloc, &mut v, shape, row);
+    check_row(rt, at, row, came);
+}
+
+/// Changes of size on a small volume.
+const CHANGES: &[Row] = &[
+    Row {
+        first: NOTHING,
+        node: Node::File,
+        skip: 0,
+        len: 4097,
+        due: Due::Plan(TWO_PAGES),
+    },
+    Row {
+        first: NOTHING,
+        node: Node::File,
+        skip: 3,
+        len: 4097,
+        due: Due::Plan(TWO_PAGES_LATER),
+    },
+    Row {
+        first: NOTHING,
+        node: Node::NewDirectory,
+        skip: 2,
+        len: NEW_SIZE,
+        due: Due::Plan(FOUR_PAGES),
+    },
+    Row {
+        first: NOTHING,
+        node: Node::NewFile,
+        skip: 2,
+        len: NEW_SIZE,
+        due: Due::Plan(FOUR_PAGES),
+    },
+    Row {
+        first: NOTHING,
+        node: Node::NewRegion,
+        skip: 2,
+        len: NEW_SIZE,
+        due: Due::Plan(FOUR_PAGES),
+    },
+    Row {
+        first: NOTHING,
+        node: Node::File,
+        skip: 0,
+        len: 98_305,
+        due: Due::Plan(PAST_THE_INODE),
+    },
+    Row {
+        first: Call::Write(8192, 1, b'a'),
+        node: Node::File,
+        skip: 0,
+        len: 4096,
+        due: Due::Plan(CUT),
+    },
+    // blocks that are skipped are not space: 33 of 36 are left
+    Row {
+        first: NOTHING,
+        node: Node::File,
+        skip: 3,
+        len: 4096 * 32,
+        due: Due::Fits,
+    },
+    Row {
+        first: NOTHING,
+        node: Node::File,
+        skip: 3,
+        len: 4096 * 33,
+        due: Due::NoSpace,
+    },
+];
+
+#[test]
+fn changes_of_size_are_prepared_in_the_lowest_blocks(rt: HostRuntime) {
+    let table = "the lowest blocks";
+    for k in 0..CHANGES.len() {
         let row = k as u64;
-        check_row(rt, At { table, row }, rows[k], came);
+        try_row(&rt, rt.alloc(), &SMALL, At { table, row }, CHANGES[k]);
     }
-    Ok(())
 }
 
-#[test]
-fn changes_of_size_are_prepared_in_the_lowest_blocks(rt: HostRuntime) -> Result<(), Fail> {
-    let rows = [
-        file(0, 4097, Due::Plan(TWO_PAGES)),
-        file(3, 4097, Due::Plan(TWO_PAGES_LATER)),
-        new_node(Node::NewDirectory),
-        new_node(Node::NewFile),
-        new_node(Node::NewRegion),
-        file(0, 98_305, Due::Plan(PAST_THE_INODE)),
-        Row {
-            first: Call::Write(8192, 1, b'a'),
-            node: Node::File,
-            skip: 0,
-            len: 4096,
-            due: Due::Plan(CUT),
-        },
-        // blocks that are skipped are not space: 33 of 36 are left
-        file(3, 4096 * 32, Due::Fits),
-        file(3, 4096 * 33, Due::NoSpace),
-    ];
-    check_rows(&rt, rt.alloc(), &SMALL, "the lowest blocks", &rows)?;
-    let large = [file(0, 4_292_609, Due::TooLarge)];
-    check_rows(&rt, rt.alloc(), &SHAPE, "a larger size", &large)
-}
+/// A change past the largest size.
+const TOO_LARGE: Row = Row {
+    first: NOTHING,
+    node: Node::File,
+    skip: 0,
+    len: 4_292_609,
+    due: Due::TooLarge,
+};
 
 #[test]
-fn pages_lie_in_the_blocks_that_they_took(rt: HostRuntime) -> Result<(), Fail> {
-    let alloc = rt.alloc();
-    let mut v = with_files(alloc, &SMALL)?;
-    put(alloc, &mut v, &SMALL, FILE, 98_304, b"a".as_slice())?;
-    for (page, due) in [
-        (0, Some(Block(4))),
-        (1, Some(Block(5))),
-        (23, Some(Block(27))),
-        (24, Some(Block(28))),
-        (25, None),
-    ] {
-        let came = page_block(&mut v, &SMALL, FILE, page)?;
+fn no_change_is_past_the_largest_size(rt: HostRuntime) {
+    let at = At {
+        table: "a larger size",
+        row: 0,
+    };
+    try_row(&rt, rt.alloc(), &SHAPE, at, TOO_LARGE)
+}
+
+/// Pages of a file of 25 pages, and their blocks.
+const PAGES: &[(u32, Option<Block>)] = &[
+    (0, Some(Block(4))),
+    (1, Some(Block(5))),
+    (23, Some(Block(27))),
+    (24, Some(Block(28))),
+    (25, None),
+];
+
+/// Compares the blocks of pages of a file.
+fn check_pages<V: Volume>(rt: &impl Abort, alloc: Global, v: &mut V)
+    requires sound { V.sound v.old }
+    requires files { FilesReady SMALL (V.seen v.old) (V.kept v.old) }
+{
+    put(alloc, v, &SMALL, FILE, 98_304, b"a").expect(rt, "a byte of page 24");
+    for k in 0..PAGES.len() {
+        let (page, due) = PAGES[k];
+        let came = page_block(v, &SMALL, FILE, page).expect(rt, "the block of a page");
         let at = At {
             table: "pages",
             row: page as u64,
         };
-        same(&rt, at, &came, &due);
+        same(rt, at, &came, &due);
     }
-    Ok(())
+}
+
+#[test]
+fn pages_lie_in_the_blocks_that_they_took(rt: HostRuntime) {
+    let mut v = with_files(&rt, rt.alloc(), &SMALL);
+    check_pages(&rt, rt.alloc(), &mut v);
 }

@@ -1,16 +1,13 @@
 //! Tables of calls on the files of a test, each with the answer that must come.
 
-ghost use Rattle.std.specs.Prelude.{OnOk};
-ghost use Rattle.test_volumes.specs.TestVolumes.{IsTestShape};
 ghost use Rattle.file_pages_tests.specs.TestFiles.{FilesReady, IsTestFile};
 
 use crate::calls::{Answer, Call, block_count, len_of, make, put, some_of};
 use crate::compare::{At, same, same_items};
-use crate::volumes::{FILE, OTHER, used_count, with_files};
+use crate::volumes::{FILE, OTHER, Size, shape_of, used_count, with_files};
 use rio_base::{Ino, Volume, VolumeShape};
 use std::alloc::Global;
 use std::process::Abort;
-use std::test::Fail;
 
 /// One of the two files of a test.
 #[derive(Clone, Copy)]
@@ -54,43 +51,35 @@ fn check_row<V: Volume>(
     shape: &VolumeShape,
     at: At,
     row: Row,
-) -> Result<(), Fail>
+)
     requires sound { V.sound v.old }
     requires files { FilesReady shape.now (V.seen v.old) (V.kept v.old) }
-    ensures files { OnOk result (FilesReady shape.now (V.seen v.new) (V.kept v.new)) }
+    ensures files { FilesReady shape.now (V.seen v.new) (V.kept v.new) }
     ensures sound { V.sound v.new }
 {
     match row {
         Row::Write(file, off, bytes, due) => {
-            let came = put(alloc, v, shape, ino_of(file), off, bytes)?;
+            let came = put(alloc, v, shape, ino_of(file), off, bytes).expect(rt, "no failure");
             same(rt, at, &came, &due);
-            Ok(())
         }
         Row::Make(file, call, due) => {
-            let came = make(alloc, v, shape, ino_of(file), call)?;
+            let came = make(rt, alloc, v, shape, ino_of(file), call).expect(rt, "no failure");
             same(rt, at, &came, &due);
-            Ok(())
         }
         Row::Read(file, off, len, due) => {
-            let came = some_of(alloc, v, shape, ino_of(file), off, len)?;
+            let came = some_of(alloc, v, shape, ino_of(file), off, len).expect(rt, "no failure");
             same_items(rt, at, came.as_slice(), due);
-            Ok(())
         }
-        Row::Len(file, due) => {
-            let came = len_of(alloc, v, shape, ino_of(file))?;
-            same(rt, at, &came, &due);
-            Ok(())
-        }
+        Row::Len(file, due) => same(rt, at, &len_of(rt, alloc, v, shape, ino_of(file)), &due),
         Row::Blocks(file, due) => {
-            let came = block_count(alloc, v, shape, ino_of(file))?;
-            same(rt, at, &came, &due);
-            Ok(())
+            same(
+                rt,
+                at,
+                &block_count(rt, alloc, v, shape, ino_of(file)),
+                &due,
+            );
         }
-        Row::Used(due) => {
-            let came = used_count(v, shape)?;
-            same(rt, at, &came, &due);
-            Ok(())
-        }
+        Row::Used(due) => same(rt, at, &used_count(rt, v, shape), &due),
     }
 }
 
@@ -102,29 +91,27 @@ pub(crate) fn check_rows<V: Volume>(
     shape: &VolumeShape,
     table: &'static str,
     rows: &[Row],
-) -> Result<(), Fail>
+)
     requires sound { V.sound v.old }
     requires files { FilesReady shape.now (V.seen v.old) (V.kept v.old) }
-    ensures files { OnOk result (FilesReady shape.now (V.seen v.new) (V.kept v.new)) }
+    ensures files { FilesReady shape.now (V.seen v.new) (V.kept v.new) }
     ensures sound { V.sound v.new }
 {
     for k in 0..rows.len() {
         let row = k as u64;
-        check_row(rt, alloc, v, shape, At { table, row }, rows[k])?;
+        check_row(rt, alloc, v, shape, At { table, row }, rows[k]);
     }
-    Ok(())
 }
 
 /// Makes the calls of a table on a volume with two files without bytes.
 pub(crate) fn check_fresh(
     rt: &impl Abort,
     alloc: Global,
-    shape: &VolumeShape,
+    size: Size,
     table: &'static str,
     rows: &[Row],
-) -> Result<(), Fail>
-    requires { IsTestShape shape.now }
-{
-    let mut v = with_files(alloc, shape)?;
-    check_rows(rt, alloc, &mut v, shape, table, rows)
+) {
+    let shape = shape_of(size);
+    let mut v = with_files(rt, alloc, &shape);
+    check_rows(rt, alloc, &mut v, &shape, table, rows);
 }

@@ -1,16 +1,15 @@
 //! The volume that tests begin with: fresh, but for two files without bytes.
 
-ghost use Rattle.std.specs.Prelude.{IfOk};
 ghost use Rattle.rio_fakes.specs.ListVolumes.{ListSound, list_kept, list_seen};
 ghost use Rattle.test_volumes.specs.TestVolumes.{IsTestShape};
 ghost use Rattle.file_pages_tests.specs.TestFiles.{FilesReady, FilesStand};
 
 use block_alloc::free_count;
-use rio_base::{Ino, VolFail, Volume, VolumeShape};
+use rio_base::{Ino, Volume, VolumeShape};
 use rio_fakes::ListVolume;
 use std::alloc::Global;
-use std::test::Fail;
-use test_volumes::with_nodes;
+use std::process::Abort;
+use test_volumes::{LARGE, SHAPE, with_nodes};
 
 /// The file that tests change.
 pub(crate) const FILE: Ino = Ino(2);
@@ -25,15 +24,39 @@ pub(crate) const SMALL: VolumeShape = VolumeShape {
     inodes: 64,
 };
 
-/// A volume with two files without bytes.
-pub(crate) fn with_files(alloc: Global, shape: &VolumeShape) -> Result<ListVolume, Fail>
-    requires { IsTestShape shape.now }
-    ensures sound { IfOk result ListSound }
-    ensures files { IfOk result (λ v. FilesReady shape.now (list_seen v) (list_kept v)) }
-    ensures stand { IfOk result (λ v. FilesStand shape.now (list_seen v) (list_kept v)) }
+/// The volumes of a test.
+#[derive(Clone, Copy)]
+pub(crate) enum Size {
+    /// 40 blocks.
+    Small,
+    /// 256 blocks.
+    Usual,
+    /// Room for the largest file.
+    Large,
+}
+
+/// The shape of a volume.
+pub(crate) fn shape_of(size: Size) -> VolumeShape
+    ensures { IsTestShape result }
 {
-    let v = with_nodes(alloc, shape, 2, OTHER.0)?;
-    Ok(v)
+    match size {
+        Size::Small => SMALL,
+        Size::Usual => SHAPE,
+        Size::Large => LARGE,
+    }
+}
+
+/// A volume with two files without bytes.
+pub(crate) fn with_files(rt: &impl Abort, alloc: Global, shape: &VolumeShape) -> ListVolume
+    requires { IsTestShape shape.now }
+    ensures sound { ListSound result }
+    ensures files { FilesReady shape.now (list_seen result) (list_kept result) }
+    ensures stand { FilesStand shape.now (list_seen result) (list_kept result) }
+{
+    match with_nodes(alloc, shape, 2, OTHER.0) {
+        Ok(v) => v,
+        Err(_fail) => panic!(rt; "no volume"),
+    }
 }
 
 /// Goes on with what stands, and stops after so many steps.
@@ -48,12 +71,12 @@ pub(crate) fn start_again(v: &mut ListVolume, shape: &VolumeShape, stop_after: O
 }
 
 /// How many blocks are not free.
-pub(crate) fn used_count<V: Volume>(v: &mut V, shape: &VolumeShape) -> Result<u32, VolFail>
+pub(crate) fn used_count<V: Volume>(rt: &impl Abort, v: &mut V, shape: &VolumeShape) -> u32
     requires sound { V.sound v.old }
     requires files { FilesReady shape.now (V.seen v.old) (V.kept v.old) }
     ensures sound { V.sound v.new }
     ensures files { FilesReady shape.now (V.seen v.new) (V.kept v.new) }
 {
-    let free = free_count(v, shape)?;
-    Ok(shape.blocks.saturating_sub(free))
+    let free = free_count(v, shape).expect(rt, "the free blocks are counted");
+    shape.blocks.saturating_sub(free)
 }
