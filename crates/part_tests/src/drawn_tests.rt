@@ -7,7 +7,7 @@ use crate::frame_pool_tests::full_pool;
 use crate::same::same;
 use frame_pool::FramePool;
 use rio_base::Block;
-use std::test::Fail;
+use std::alloc::AllocError;
 
 /// A pool without a free frame: the block of each frame, the frames in order of use, and which are pinned.
 #[derive(Drop)]
@@ -161,7 +161,7 @@ fn draw(seed: &mut u64) -> u64 {
 }
 
 #[test]
-fn drawn_calls_are_as_expected(rt: HostRuntime) -> Result<(), Fail> {
+fn drawn_calls_are_as_expected(rt: HostRuntime) -> Result<(), AllocError> {
     let mut pool = full_pool(rt.alloc())?;
     let mut plain = full_plain();
     let mut seed = 20;

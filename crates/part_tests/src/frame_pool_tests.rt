@@ -7,7 +7,7 @@ use crate::same::same;
 use frame_pool::FramePool;
 use rio_base::Block;
 use std::alloc::{AllocError, Global};
-use std::test::Fail;
+use std::process::Abort;
 
 /// Frames of the pools that are tested, and blocks.
 const FRAMES: u32 = 32;
@@ -30,8 +30,25 @@ pub fn full_pool(alloc: Global) -> Result<FramePool, AllocError>
     Ok(pool)
 }
 
+/// Frames are told as tests expect them.
+fn told(rt: &impl Abort, table: &str, victims: [u32; 3], found: [Option<u32>; 2], due: [u32; 5]) {
+    let [first, second, third] = victims;
+    let [one, other] = found;
+    let came = [
+        first,
+        second,
+        third,
+        one.unwrap_or(NONE),
+        other.unwrap_or(NONE),
+    ];
+    same(rt, table, 0, &came, &due);
+}
+
+/// That a block has no frame, where frames are told.
+const NONE: u32 = 99;
+
 #[test]
-fn victims_go_by_use_and_pins(rt: HostRuntime) -> Result<(), Fail> {
+fn victims_go_by_use_and_pins(rt: HostRuntime) -> Result<(), AllocError> {
     let mut pool = full_pool(rt.alloc())?;
     pool.use_slot(0);
     pool.pin(1);
@@ -41,36 +58,24 @@ fn victims_go_by_use_and_pins(rt: HostRuntime) -> Result<(), Fail> {
     pool.unbind(9);
     let victims = [pinned, unpinned, pool.victim()];
     let found = [pool.find(Block(9)), pool.find(Block(10))];
-    same(
-        &rt,
-        "use and pins",
-        0,
-        &(victims, found),
-        &([2, 1, 9], [None, Some(10)]),
-    );
+    told(&rt, "use and pins", victims, found, [2, 1, 9, NONE, 10]);
     Ok(())
 }
 
 #[test]
-fn new_frames_are_free_in_order_of_their_numbers(rt: HostRuntime) -> Result<(), Fail> {
+fn new_frames_are_free_in_order_of_their_numbers(rt: HostRuntime) -> Result<(), AllocError> {
     let mut pool = FramePool::new(rt.alloc(), FRAMES, BLOCKS)?;
-    let none = pool.find(Block(63));
+    let none = pool.find(Block(63)).unwrap_or(NONE);
     let first = pool.victim();
     pool.bind(0, Block(63));
-    let victims = [first, pool.victim()];
-    let found = [none, pool.find(Block(63)), pool.find(Block(0))];
-    same(
-        &rt,
-        "new frames",
-        0,
-        &(victims, found),
-        &([0, 1], [None, Some(0), None]),
-    );
+    let victims = [none, first, pool.victim()];
+    let found = [pool.find(Block(63)), pool.find(Block(0))];
+    told(&rt, "new frames", victims, found, [NONE, 0, 1, 0, NONE]);
     Ok(())
 }
 
 #[test]
-fn frames_that_were_unbound_are_used_first(rt: HostRuntime) -> Result<(), Fail> {
+fn frames_that_were_unbound_are_used_first(rt: HostRuntime) -> Result<(), AllocError> {
     let mut pool = full_pool(rt.alloc())?;
     pool.pin(0);
     pool.unbind(4);
@@ -81,12 +86,6 @@ fn frames_that_were_unbound_are_used_first(rt: HostRuntime) -> Result<(), Fail> 
     pool.bind(4, Block(31));
     let victims = [last_unbound, first_unbound, pool.victim()];
     let found = [pool.find(Block(31)), pool.find(Block(4))];
-    same(
-        &rt,
-        "unbound frames",
-        0,
-        &(victims, found),
-        &([31, 4, 1], [Some(4), None]),
-    );
+    told(&rt, "unbound frames", victims, found, [31, 4, 1, 4, NONE]);
     Ok(())
 }

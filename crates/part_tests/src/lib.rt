@@ -9,8 +9,6 @@ mod frame_pool_tests;
 #[cfg(test)]
 mod image_tests;
 #[cfg(test)]
-mod list_mem_tests;
-#[cfg(test)]
 mod mem_disk_tests;
 #[cfg(test)]
 mod memory_tests;

@@ -8,7 +8,6 @@ use block_disk::{DiskChoice, MemDisk};
 use rio_base::{Block, DiskBlocks, Failed};
 use std::alloc::{AllocError, Global};
 use std::process::Abort;
-use std::test::Fail;
 
 /// One of the two blocks of a disk.
 #[derive(Clone, Copy)]
@@ -132,8 +131,28 @@ fn make_all(
     Ok(())
 }
 
-/// Tables of calls, each on a disk of its own of two blocks of zeros.
-const TABLES: [(&str, &[Row]); 6] = [
+/// Makes calls on a disk, with a room of their own.
+fn make_on(
+    rt: &impl Abort,
+    alloc: Global,
+    table: &str,
+    disk: &mut MemDisk,
+    rows: &[Row],
+) -> Result<(), AllocError>
+    requires { length (state_of disk.old).blocks ≡ 2 }
+{
+    let mut room = vec![in alloc; 9; 512]?;
+    make_all(rt, table, disk, &mut room, rows)
+}
+
+/// Makes calls on a disk of their own, of two blocks of zeros.
+fn make_anew(rt: &impl Abort, alloc: Global, table: &str, rows: &[Row]) -> Result<(), AllocError> {
+    let mut disk = MemDisk::new(alloc, 2)?;
+    make_on(rt, alloc, table, &mut disk, rows)
+}
+
+/// Tables of calls, each on a disk of its own.
+static TABLES: [(&str, &[Row]); 12] = [
     (
         "a new disk reads as zeros",
         &[(Call::Read(At::Second), Said::Words([0, 0, 0, 0]))],
@@ -195,92 +214,100 @@ const TABLES: [(&str, &[Row]); 6] = [
             ),
         ],
     ),
+    (
+        "a pending block is left as it read",
+        &[
+            (Call::Write(At::First, 7), Said::Done),
+            (Call::Write(At::Second, 7), Said::Done),
+            (Call::Sync, Said::Done),
+            (Call::Write(At::Second, 8), Said::Done),
+            (Call::Crash(DiskChoice::AsRead), Said::Done),
+            (Call::Crash(DiskChoice::Filled(0)), Said::Done),
+            (Call::Read(At::First), Said::Words([7, 7, 7, 7])),
+            (Call::Read(At::Second), Said::Words([8, 8, 8, 8])),
+        ],
+    ),
+    (
+        "a pending block is left as it was synced",
+        &[
+            (Call::Write(At::First, 7), Said::Done),
+            (Call::Write(At::Second, 7), Said::Done),
+            (Call::Sync, Said::Done),
+            (Call::Write(At::Second, 8), Said::Done),
+            (Call::Crash(DiskChoice::AsSynced), Said::Done),
+            (Call::Crash(DiskChoice::Filled(0)), Said::Done),
+            (Call::Read(At::First), Said::Words([7, 7, 7, 7])),
+            (Call::Read(At::Second), Said::Words([7, 7, 7, 7])),
+        ],
+    ),
+    (
+        "a pending block is filled",
+        &[
+            (Call::Write(At::First, 7), Said::Done),
+            (Call::Write(At::Second, 7), Said::Done),
+            (Call::Sync, Said::Done),
+            (Call::Write(At::Second, 8), Said::Done),
+            (Call::Crash(DiskChoice::Filled(0xab)), Said::Done),
+            (Call::Crash(DiskChoice::Filled(0)), Said::Done),
+            (Call::Read(At::First), Said::Words([7, 7, 7, 7])),
+            (
+                Call::Read(At::Second),
+                Said::Words([FILLED, FILLED, FILLED, FILLED]),
+            ),
+        ],
+    ),
+    (
+        "a failed write leaves half of a block",
+        &[
+            (Call::Write(At::Second, 7), Said::Done),
+            (Call::Sync, Said::Done),
+            (Call::FailCall(1), Said::Done),
+            (Call::Write(At::Second, 8), Said::Failed),
+            (Call::Crash(DiskChoice::AsRead), Said::Done),
+            (Call::Read(At::Second), Said::Words([8, 8, 7, 7])),
+        ],
+    ),
+    (
+        "a failed write leaves the block that was synced",
+        &[
+            (Call::Write(At::Second, 7), Said::Done),
+            (Call::Sync, Said::Done),
+            (Call::FailCall(1), Said::Done),
+            (Call::Write(At::Second, 8), Said::Failed),
+            (Call::Crash(DiskChoice::AsSynced), Said::Done),
+            (Call::Read(At::Second), Said::Words([7, 7, 7, 7])),
+        ],
+    ),
+    (
+        "a failed write leaves a block that is filled",
+        &[
+            (Call::Write(At::Second, 7), Said::Done),
+            (Call::Sync, Said::Done),
+            (Call::FailCall(1), Said::Done),
+            (Call::Write(At::Second, 8), Said::Failed),
+            (Call::Crash(DiskChoice::Filled(0)), Said::Done),
+            (Call::Read(At::Second), Said::Words([0, 0, 0, 0])),
+        ],
+    ),
 ];
 
 /// A word of 0xab bytes.
 const FILLED: u64 = 0xabab_abab_abab_abab;
 
 #[test]
-fn calls_answer_as_their_rows_say(rt: HostRuntime) -> Result<(), Fail> {
-    for (table, rows) in TABLES {
-        let mut room = vec![in rt.alloc(); 9; 512]?;
-        let mut disk = MemDisk::new(rt.alloc(), 2)?;
-        make_all(&rt, table, &mut disk, &mut room, rows)?;
-    }
-    Ok(())
-}
-
-/// Calls that leave one block that was synced as 7s, and one that was then written as 8s.
-const PENDING: [Row; 4] = [
-    (Call::Write(At::First, 7), Said::Done),
-    (Call::Write(At::Second, 7), Said::Done),
-    (Call::Sync, Said::Done),
-    (Call::Write(At::Second, 8), Said::Done),
-];
-
-/// What a crash leaves of that block, by what is chosen.
-const CRASHES: [(DiskChoice, u64); 3] = [
-    (DiskChoice::AsRead, 8),
-    (DiskChoice::AsSynced, 7),
-    (DiskChoice::Filled(0xab), FILLED),
-];
-
-#[test]
-fn pending_blocks_read_as_is_chosen_after_a_crash(rt: HostRuntime) -> Result<(), Fail> {
-    for (choice, word) in CRASHES {
-        let mut room = vec![in rt.alloc(); 9; 512]?;
-        let mut disk = MemDisk::new(rt.alloc(), 2)?;
-        make_all(&rt, "pending", &mut disk, &mut room, &PENDING)?;
-        let crashed = [
-            (Call::Crash(choice), Said::Done),
-            // nothing is pending now, so that this changes nothing
-            (Call::Crash(DiskChoice::Filled(0)), Said::Done),
-            (Call::Read(At::First), Said::Words([7, 7, 7, 7])),
-            (
-                Call::Read(At::Second),
-                Said::Words([word, word, word, word]),
-            ),
-        ];
-        make_all(&rt, "crashed", &mut disk, &mut room, &crashed)?;
-    }
-    Ok(())
-}
-
-/// Calls that leave a block synced as 7s, whose write as 8s failed.
-const TORN: [Row; 4] = [
-    (Call::Write(At::Second, 7), Said::Done),
-    (Call::Sync, Said::Done),
-    (Call::FailCall(1), Said::Done),
-    (Call::Write(At::Second, 8), Said::Failed),
-];
-
-/// What a crash leaves of it, by what is chosen: the first word, those on both sides of the middle, and the last.
-const TORN_CRASHES: [(DiskChoice, [u64; 4]); 3] = [
-    (DiskChoice::AsRead, [8, 8, 7, 7]),
-    (DiskChoice::AsSynced, [7, 7, 7, 7]),
-    (DiskChoice::Filled(0), [0, 0, 0, 0]),
-];
-
-#[test]
-fn a_failed_write_leaves_a_torn_block(rt: HostRuntime) -> Result<(), Fail> {
-    for (choice, words) in TORN_CRASHES {
-        let mut room = vec![in rt.alloc(); 9; 512]?;
-        let mut disk = MemDisk::new(rt.alloc(), 2)?;
-        make_all(&rt, "torn", &mut disk, &mut room, &TORN)?;
-        let crashed = [
-            (Call::Crash(choice), Said::Done),
-            (Call::Read(At::Second), Said::Words(words)),
-        ];
-        make_all(&rt, "torn and crashed", &mut disk, &mut room, &crashed)?;
+fn calls_answer_as_their_rows_say(rt: HostRuntime) -> Result<(), AllocError> {
+    for (table, rows) in TABLES.iter() {
+        make_anew(&rt, rt.alloc(), table, rows)?;
     }
     Ok(())
 }
 
 #[test]
-fn disks_tell_how_many_blocks_they_have(rt: HostRuntime) -> Result<(), Fail> {
-    let two = MemDisk::new(rt.alloc(), 2)?;
-    let none = MemDisk::new(rt.alloc(), 0)?;
-    same(&rt, "blocks", 0, &[two.count(), none.count()], &[2, 0]);
+fn disks_tell_how_many_blocks_they_have(rt: HostRuntime) -> Result<(), AllocError> {
+    for blocks in [2, 0] {
+        let disk = MemDisk::new(rt.alloc(), blocks)?;
+        same(&rt, "blocks", blocks as usize, &disk.count(), &blocks);
+    }
     Ok(())
 }
 
@@ -305,16 +332,14 @@ fn counted_disk(alloc: Global) -> Result<MemDisk, AllocError>
 }
 
 /// What its two blocks read as.
-const COUNTED: [Row; 2] = [
+static COUNTED: [Row; 2] = [
     (Call::Read(At::Second), Said::Words([512, 767, 768, 1023])),
     (Call::Read(At::First), Said::Words([0, 255, 256, 511])),
 ];
 
 #[test]
-fn a_disk_of_words_reads_as_they_stand(rt: HostRuntime) -> Result<(), Fail> {
-    let mut room = vec![in rt.alloc(); 9; 512]?;
+fn a_disk_of_words_reads_as_they_stand(rt: HostRuntime) -> Result<(), AllocError> {
     let mut disk = counted_disk(rt.alloc())?;
     same(&rt, "blocks of words", 0, &disk.count(), &2);
-    make_all(&rt, "words", &mut disk, &mut room, &COUNTED)?;
-    Ok(())
+    make_on(&rt, rt.alloc(), "words", &mut disk, &COUNTED)
 }

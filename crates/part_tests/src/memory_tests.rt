@@ -1,13 +1,13 @@
-//! Tests of the words in memory, over both memories that there are: one table of calls, to which both answer the same.
+//! Tests of the words in memory, over both memories that there are: tables of calls, to which both answer the same.
 
-ghost use Rattle.std.specs.Prelude.{◌+◌, ◌≤◌, IsTrue};
+ghost use Rattle.std.specs.Prelude.{◌+◌, ◌^◌, ◌<◌, ◌≤◌, IsTrue, length};
 ghost use Rattle.rio_base.specs.Memory.{AreApart};
 
 use crate::same::same;
-use phys_memory::{ListMem, PhysMem};
+use phys_memory::{ListMem, PhysMem, memory_of};
 use rio_base::{MemWords, Page, WordAt};
+use std::alloc::{AllocError, Global};
 use std::process::Abort;
-use std::test::Fail;
 
 /// A call of memory. Places are words.
 #[derive(Clone, Copy)]
@@ -16,10 +16,12 @@ enum Call {
     Len,
     Load(u32),
     Store(u32, u64),
-    /// Stores three words from a place on: this one and the next two numbers.
-    Run(u32, u64),
+    /// Stores a run of words from a place on.
+    Run(u32, &'static [u64]),
     /// The sum of a page's words.
     Sum(u32),
+    /// A word of a page that is lent, if the page has so many.
+    OfPage(u32, u32),
     /// Copies from a place to another, so many words.
     Copy(u32, u32, u32),
 }
@@ -27,8 +29,11 @@ enum Call {
 /// How many pages the memories have.
 const PAGES: u32 = 2;
 
-/// Calls, and what each tells: a number, 0 of a change, or nothing where its condition does not hold.
-const ROWS: [(Call, Option<u64>); 40] = [
+/// A call, and what it tells: a number, 0 of a change, or nothing where its condition does not hold.
+type Row = (Call, Option<u64>);
+
+/// Calls on memories of zeros.
+static ROWS: [Row; 47] = [
     (Call::Len, Some(1024)),
     (Call::Load(0), Some(0)),
     (Call::Load(1023), Some(0)),
@@ -44,6 +49,9 @@ const ROWS: [(Call, Option<u64>); 40] = [
     (Call::Load(511), Some(13)),
     (Call::Load(512), Some(17)),
     (Call::Load(1023), Some(19)),
+    (Call::OfPage(1, 0), Some(17)),
+    (Call::OfPage(1, 511), Some(19)),
+    (Call::OfPage(1, 512), None),
     (Call::Sum(0), Some(31)),
     (Call::Sum(1), Some(36)),
     (Call::Sum(2), None),
@@ -62,14 +70,28 @@ const ROWS: [(Call, Option<u64>); 40] = [
     (Call::Store(1023, u64::MAX), Some(0)),
     (Call::Load(1023), Some(18_446_744_073_709_551_615)),
     (Call::Copy(5, 5, 0), Some(0)),
-    (Call::Run(300, 21), Some(0)),
+    (Call::Run(300, &[21, 22, 23]), Some(0)),
     (Call::Load(302), Some(23)),
-    (Call::Run(1022, 1), None),
-    (Call::Run(1021, 31), Some(0)),
+    (Call::Run(1022, &[1, 2, 3]), None),
+    (Call::Run(1021, &[31, 32, 33]), Some(0)),
     (Call::Load(1023), Some(33)),
     (Call::Sum(0), Some(134)),
     (Call::Sum(1), Some(151)),
+    (Call::Store(407, 99), Some(0)),
+    (Call::Load(406), Some(0)),
+    (Call::Load(407), Some(99)),
+    (Call::Load(408), Some(0)),
 ];
+
+/// Whether a run of so many words from a place on lies within memory.
+fn lies_within(len: u32, at: u32, n: usize) -> bool
+    ensures { IsTrue result → at + n ≤ len }
+{
+    if len < at {
+        return false;
+    }
+    n <= (len - at) as usize
+}
 
 /// Whether two spans of so many words lie within memory and have no word in common.
 fn lie_apart(len: u32, from: u32, to: u32, n: u32) -> bool
@@ -92,6 +114,15 @@ fn lie_apart(len: u32, from: u32, to: u32, n: u32) -> bool
     n <= from - to
 }
 
+/// The sum of words.
+fn sum(words: &[u64]) -> u64 {
+    let mut sum = 0u64;
+    for word in words {
+        sum = sum.wrapping_add(*word);
+    }
+    sum
+}
+
 /// Makes a call whose condition holds, and what it tells.
 fn told<M: MemWords>(mem: &mut M, call: Call) -> Option<u64> {
     let len = mem.len();
@@ -102,14 +133,12 @@ fn told<M: MemWords>(mem: &mut M, call: Call) -> Option<u64> {
             mem.store(WordAt(at), v);
             Some(0)
         }
-        Call::Run(at, v) if at < len.saturating_sub(2) => {
-            mem.store_run(WordAt(at), &[v, v.wrapping_add(1), v.wrapping_add(2)]);
+        Call::Run(at, words) if lies_within(len, at, words.len()) => {
+            mem.store_run(WordAt(at), words);
             Some(0)
         }
-        Call::Sum(p) if p < len / 512 => {
-            let words = mem.frame(Page(p)).iter();
-            Some(words.fold(0, |sum: u64, word| sum.wrapping_add(*word)))
-        }
+        Call::Sum(p) if p < len / 512 => Some(sum(mem.frame(Page(p)))),
+        Call::OfPage(p, at) if p < len / 512 => mem.frame(Page(p)).get(at as usize).copied(),
         Call::Copy(from, to, n) if lie_apart(len, from, to, n) => {
             mem.copy_words(WordAt(from), WordAt(to), n);
             Some(0)
@@ -118,40 +147,116 @@ fn told<M: MemWords>(mem: &mut M, call: Call) -> Option<u64> {
     }
 }
 
-/// Makes all calls of the table.
-fn make_all<M: MemWords>(rt: &impl Abort, table: &str, mem: &mut M) {
-    for (k, (call, due)) in ROWS.iter().enumerate() {
+/// Makes all calls of a table.
+fn make_all<M: MemWords>(rt: &impl Abort, table: &str, mem: &mut M, rows: &[Row]) {
+    for (k, (call, due)) in rows.iter().enumerate() {
         same(rt, table, k, &told(mem, *call), due);
     }
 }
 
+/// Makes all calls of the table on two memories, which then have the same words.
+fn make_alike<A: MemWords, B: MemWords>(rt: &impl Abort, list: &mut A, raw: &mut B) {
+    make_all(rt, "list", list, &ROWS);
+    make_all(rt, "raw", raw, &ROWS);
+    for at in 0..list.len().min(raw.len()) {
+        let (came, due) = (raw.load(WordAt(at)), list.load(WordAt(at)));
+        same(rt, "words", at as usize, &came, &due);
+    }
+}
+
 #[test]
-fn both_memories_answer_a_table_of_calls_alike(rt: HostRuntime) -> Result<(), Fail> {
+fn both_memories_answer_a_table_of_calls_alike(rt: HostRuntime) -> Result<(), AllocError> {
     let mut list = ListMem::new(rt.alloc(), PAGES)?;
     let mut raw = PhysMem::new(rt.alloc(), PAGES)?;
-    make_all(&rt, "list", &mut list);
-    make_all(&rt, "raw", &mut raw);
-    for at in 0..list.len().min(raw.len()) {
-        same(
-            &rt,
-            "words",
-            at as usize,
-            &raw.load(WordAt(at)),
-            &list.load(WordAt(at)),
-        );
-    }
+    make_alike(&rt, &mut list, &mut raw);
+    Ok(())
+}
+
+/// Words that a memory is made of, and calls on it.
+static OF_WORDS: [(&[u64], &[Row]); 2] = [
+    (
+        &[3, 1, 4],
+        &[
+            (Call::Len, Some(3)),
+            (Call::Load(0), Some(3)),
+            (Call::Load(1), Some(1)),
+            (Call::Load(2), Some(4)),
+            (Call::Load(3), None),
+        ],
+    ),
+    (&[], &[(Call::Len, Some(0)), (Call::Load(0), None)]),
+];
+
+/// Makes calls on the memory of these words.
+fn make_on(rt: &impl Abort, alloc: Global, words: &[u64], rows: &[Row]) -> Result<(), AllocError>
+    requires { length words.now < 2 ^ 32 }
+{
+    let mut mem = memory_of(alloc, words)?;
+    make_all(rt, "of words", &mut mem, rows);
+    Ok(())
+}
+
+/// Makes calls on these words in raw memory.
+fn make_on_raw(
+    rt: &impl Abort,
+    alloc: Global,
+    words: &[u64],
+    rows: &[Row],
+) -> Result<(), AllocError>
+    requires { length words.now < 2 ^ 32 }
+{
+    let mut mem = PhysMem::of_words(alloc, words)?;
+    make_all(rt, "raw, of words", &mut mem, rows);
     Ok(())
 }
 
 #[test]
-fn raw_memory_of_words_has_them(rt: HostRuntime) -> Result<(), Fail> {
-    let mem = PhysMem::of_words(rt.alloc(), &[3, 1, 4])?;
-    let none = PhysMem::of_words(rt.alloc(), &[])?;
-    let came = (
-        [mem.len(), none.len()],
-        mem.load(WordAt(0)),
-        mem.load(WordAt(2)),
-    );
-    same(&rt, "copied", 0, &came, &([3, 0], 3, 4));
+fn memory_of_words_has_them(rt: HostRuntime) -> Result<(), AllocError> {
+    for (words, rows) in OF_WORDS.iter() {
+        let few = words.len().min(100);
+        make_on(&rt, rt.alloc(), &words[..few], rows)?;
+        make_on_raw(&rt, rt.alloc(), &words[..few], rows)?;
+    }
+    Ok(())
+}
+
+/// Words that a list takes over, calls on them, and the words that it gives back then.
+static LISTS: [(&[u64], &[Row], &[u64]); 3] = [
+    (&[3, 1, 4], &[(Call::Len, Some(3))], &[3, 1, 4]),
+    (
+        &[1, 2, 3, 4, 5, 6],
+        &[
+            (Call::Copy(0, 3, 2), Some(0)),
+            (Call::Copy(4, 1, 2), Some(0)),
+        ],
+        &[1, 2, 6, 1, 2, 6],
+    ),
+    (
+        &[1, 2, 3, 4],
+        &[
+            (Call::Run(1, &[7, 8]), Some(0)),
+            (Call::Run(4, &[]), Some(0)),
+        ],
+        &[1, 7, 8, 4],
+    ),
+];
+
+/// The words that a list gives back behind these calls.
+fn given_back(rt: &impl Abort, words: Vec<u64>, rows: &[Row]) -> Vec<u64>
+    requires { length words.items < 2 ^ 32 }
+{
+    let mut mem = ListMem::from_words(words);
+    make_all(rt, "taken over", &mut mem, rows);
+    mem.into_words()
+}
+
+#[test]
+fn words_are_taken_over_and_given_back(rt: HostRuntime) -> Result<(), AllocError> {
+    for (row, (words, calls, due)) in LISTS.iter().enumerate() {
+        let few = words.len().min(100);
+        let words = Vec::from_slice(rt.alloc(), &words[..few])?;
+        let came = given_back(&rt, words, calls);
+        same(&rt, "given back", row, &(came.as_slice() == *due), &true);
+    }
     Ok(())
 }
