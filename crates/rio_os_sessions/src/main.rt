@@ -13,21 +13,34 @@ mod watched_files;
 use crate::session::Session;
 use crate::watched_files::{Watch, WatchedFiles};
 use std::io::{self, BufRead, BufReader, BufWriter, Write};
+use std::rt::Files;
 
 fn main(rt: HostRuntime) -> io::Result<()> {
-    let alloc = rt.alloc();
-    let watch = Watch::new(alloc);
-    let mut session = Session::begin(&&rt, WatchedFiles::new(&rt, &watch), &watch)?;
-    let mut out = BufWriter::new(alloc, rt.stdout())?;
-    for line in BufReader::new(alloc, rt.stdin())?.lines(alloc) {
-        let line = line?;
-        if line.is_empty() || line.starts_with('#') {
-            continue;
-        }
-        if line.starts_with("== ") {
-            session = Session::begin(&&rt, WatchedFiles::new(&rt, &watch), &watch)?;
-        }
-        out.write_all(session.step(line.as_str())?.as_slice())?;
+    let watch = Watch::new(rt.alloc());
+    let mut session = Session::begin(&&rt, &WatchedFiles::new(&rt, &watch), &watch)?;
+    tell_lines(&rt, &mut session)
+}
+
+/// Does what the lines of the input say, and prints each with what it came to.
+fn tell_lines<R: Files + AllocGlobal + Clone + Drop, W: Files + Clone + Drop>(
+    rt: &HostRuntime,
+    session: &mut Session<'_, R, W>,
+) -> io::Result<()> {
+    let mut out = BufWriter::new(rt.alloc(), rt.stdout())?;
+    for line in BufReader::new(rt.alloc(), rt.stdin())?.lines(rt.alloc()) {
+        tell_line(line?.as_str(), session, &mut out)?;
     }
     out.flush()
+}
+
+/// Does what a line says, and writes it with what it came to. An empty line and one that begins with `#` say nothing.
+fn tell_line<R: Files + AllocGlobal + Clone + Drop, W: Files + Clone + Drop>(
+    line: &str,
+    session: &mut Session<'_, R, W>,
+    out: &mut impl Write,
+) -> io::Result<()> {
+    if line.is_empty() || line.starts_with('#') {
+        return Ok(());
+    }
+    out.write_all(session.told(line)?.as_slice())
 }

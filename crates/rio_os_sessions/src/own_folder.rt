@@ -45,18 +45,29 @@ impl<R: Files + AllocGlobal + Clone + Drop> OwnFolder<R> {
 
     /// The names of all that is in the folder, in their order, with a space before each.
     pub fn names(&self) -> io::Result<String> {
+        let mut names = self.listed()?;
+        names.sort()?;
+        Ok(behind_spaces(self.alloc, names.as_slice())?)
+    }
+
+    /// The names as the system tells them.
+    fn listed(&self) -> io::Result<Vec<String>> {
         let mut names = Vec::new(self.alloc);
         for entry in fs::read_dir(&self.files, self.path.as_str())? {
             names.push(String::from_str(self.alloc, entry?.file_name())?)?;
         }
-        names.sort()?;
-        let mut text = String::new(self.alloc);
-        for name in &names {
-            text.push(' ')?;
-            text.push_str(name.as_str())?;
-        }
-        Ok(text)
+        Ok(names)
     }
+}
+
+/// Names with a space before each.
+fn behind_spaces(alloc: Global, names: &[String]) -> Result<String, AllocError> {
+    let mut text = String::new(alloc);
+    for name in names {
+        text.push(' ')?;
+        text.push_str(name.as_str())?;
+    }
+    Ok(text)
 }
 
 impl<R: Files + Drop> Drop for OwnFolder<R> {

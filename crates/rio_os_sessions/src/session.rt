@@ -6,7 +6,7 @@ use crate::own_folder::OwnFolder;
 use crate::trouble::Trouble;
 use crate::watched_files::{Call, Watch};
 use rio_os::{OsHost, folder_of};
-use std::alloc::Global;
+use std::alloc::{AllocError, Global};
 use std::fs;
 use std::io::{self, PipeReader, PipeWriter, Read};
 use std::os::fd::AsRawFd;
@@ -16,9 +16,11 @@ use test_scripts::{first_word, tell_line};
 
 /// A folder, and two hosts: over the files of the system as they are, and over the same files watched.
 #[derive(Drop)]
-pub struct Session<'a, R: Files + AllocGlobal + Clone + Drop, W: Files + Drop> {
+pub struct Session<'a, R: Files + AllocGlobal + Clone + Drop, W: Files + Clone + Drop> {
     rt: R,
     alloc: Global,
+    /// The files that are watched, for the session that comes next.
+    files: W,
     watch: &'a Watch,
     folder: OwnFolder<R>,
     plain: OsHost<R>,
@@ -30,18 +32,19 @@ pub struct Session<'a, R: Files + AllocGlobal + Clone + Drop, W: Files + Drop> {
     pipe: Option<(PipeReader, PipeWriter)>,
 }
 
-impl<'a, R: Files + AllocGlobal + Clone + Drop, W: Files + Drop> Session<'a, R, W> {
+impl<'a, R: Files + AllocGlobal + Clone + Drop, W: Files + Clone + Drop> Session<'a, R, W> {
     /// An empty folder, and no call yet. The calls of `files` are recorded by `watch`.
-    pub fn begin(rt: &R, files: W, watch: &'a Watch) -> io::Result<Session<'a, R, W>> {
+    pub fn begin(rt: &R, files: &W, watch: &'a Watch) -> io::Result<Session<'a, R, W>> {
         watch.begin_anew()?;
         let alloc = rt.alloc();
         Ok(Session {
             rt: rt.clone()?,
             alloc,
+            files: files.clone()?,
             watch,
             folder: OwnFolder::make(rt)?,
             plain: OsHost::new(alloc, rt.clone()?),
-            watched: OsHost::new(alloc, files),
+            watched: OsHost::new(alloc, files.clone()?),
             is_watched: false,
             held: None,
             pipe: None,
@@ -49,39 +52,60 @@ impl<'a, R: Files + AllocGlobal + Clone + Drop, W: Files + Drop> Session<'a, R, 
     }
 
     /// Does what a line of the script says. Answers the line, and behind it what it came to.
-    pub fn step(&mut self, line: &str) -> io::Result<Vec<u8>> {
-        let mut out = Vec::from_slice(self.alloc, line.as_bytes())?;
+    pub fn told(&mut self, line: &str) -> io::Result<Vec<u8>> {
+        let mut out = Vec::new(self.alloc);
+        self.step(line, &mut out)?;
+        Ok(out)
+    }
+
+    /// Tells a line, and does what it says.
+    fn step(&mut self, line: &str, out: &mut Vec<u8>) -> io::Result<()> {
+        out.extend_from_slice(line.as_bytes())?;
         out.push(b'\n')?;
         let (word, rest) = first_word(line);
         match word {
-            "==" => {}
-            "source" => read_as_said(self.alloc, rest, &mut out)?,
-            "sink" => write_as_said(self.alloc, rest, &mut out)?,
-            "folder-of" => {
-                let name = String::from_str(self.alloc, rest)?;
-                tell_line(&mut out, folder_of(&name).as_bytes())?;
-            }
-            _ => self.act(word, rest, &mut out)?,
+            "==" => self.begin_anew(),
+            "source" => Ok(read_as_said(self.alloc, rest, out)?),
+            "sink" => Ok(write_as_said(self.alloc, rest, out)?),
+            "folder-of" => Ok(tell_folder(self.alloc, rest, out)?),
+            _ => self.act(word, rest, out),
         }
-        Ok(out)
+    }
+
+    /// Begins the session that comes next.
+    fn begin_anew(&mut self) -> io::Result<()> {
+        *self = Session::begin(&self.rt, &self.files, self.watch)?;
+        Ok(())
     }
 
     /// Does what a word says of the file that is named behind it.
     fn act(&mut self, word: &str, rest: &str, out: &mut Vec<u8>) -> io::Result<()> {
         let (name, rest) = first_word(rest);
         let path = self.path(name)?;
+        self.act_on(word, name, &path, rest, out)
+    }
+
+    /// Does what a word says of the file at a path.
+    fn act_on(
+        &mut self,
+        word: &str,
+        name: &str,
+        path: &String,
+        rest: &str,
+        out: &mut Vec<u8>,
+    ) -> io::Result<()> {
         match word {
             "file" => fs::write(&self.rt, path.as_str(), rest),
             "folder" => fs::create_dir(&self.rt, path.as_str()),
             "link" => symlink(&self.rt, rest, path.as_str()),
-            "pipe" => self.make_pipe(&path),
-            "hold" => self.hold(&path),
+            "pipe" => self.make_pipe(path),
+            "hold" => self.hold(path),
             "watch" => {
                 self.is_watched = true;
                 Ok(())
             }
             "trouble" => self.add_trouble(name, rest),
-            _ => self.ask(word, &path, rest, out),
+            _ => self.ask(word, path, rest, out),
         }
     }
 
@@ -90,8 +114,8 @@ impl<'a, R: Files + AllocGlobal + Clone + Drop, W: Files + Drop> Session<'a, R, 
         match word {
             "held" => self.tell_held(out),
             "bytes" => self.tell_bytes(path, out),
-            "names" => Ok(tell_line(out, self.folder.names()?.as_bytes())?),
-            "calls" => Ok(tell_line(out, self.watch.calls()?.as_bytes())?),
+            "names" => tell_text(self.folder.names()?, out),
+            "calls" => tell_text(self.watch.calls()?, out),
             "is-file" => self.tell_whether_file(path, out),
             _ if self.is_watched => make_call(self.alloc, &mut self.watched, word, path, rest, out),
             _ => make_call(self.alloc, &mut self.plain, word, path, rest, out),
@@ -144,18 +168,28 @@ impl<'a, R: Files + AllocGlobal + Clone + Drop, W: Files + Drop> Session<'a, R, 
 
     /// Tells what a file has.
     fn tell_bytes(&self, path: &String, out: &mut Vec<u8>) -> io::Result<()> {
-        match fs::read(&self.rt, path.as_str()) {
-            Ok(bytes) => Ok(tell_line(out, bytes.as_slice())?),
-            Err(_) => Ok(tell_line(out, b"no file")?),
-        }
+        let told = match fs::read(&self.rt, path.as_str()) {
+            Ok(bytes) => tell_line(out, bytes.as_slice()),
+            Err(_) => tell_line(out, b"no file"),
+        };
+        Ok(told?)
     }
 
     /// Tells whether there is a file under a name, and no link or folder.
     fn tell_whether_file(&self, path: &String, out: &mut Vec<u8>) -> io::Result<()> {
-        if fs::symlink_metadata(&self.rt, path.as_str())?.is_file() {
-            Ok(tell_line(out, b"yes")?)
-        } else {
-            Ok(tell_line(out, b"no")?)
-        }
+        let is_file = fs::symlink_metadata(&self.rt, path.as_str())?.is_file();
+        let word = if is_file { "yes" } else { "no" };
+        Ok(tell_line(out, word.as_bytes())?)
     }
+}
+
+/// Tells the folder of a name.
+fn tell_folder(alloc: Global, name: &str, out: &mut Vec<u8>) -> Result<(), AllocError> {
+    let name = String::from_str(alloc, name)?;
+    tell_line(out, folder_of(&name).as_bytes())
+}
+
+/// Tells a text.
+fn tell_text(text: String, out: &mut Vec<u8>) -> io::Result<()> {
+    Ok(tell_line(out, text.as_bytes())?)
 }

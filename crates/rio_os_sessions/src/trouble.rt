@@ -5,7 +5,7 @@ use std::io::ErrorKind;
 use test_scripts::number;
 
 /// What a call does in place of all that it was asked for.
-#[derive(Clone, Copy, Debug)]
+#[derive(Clone, Copy)]
 pub enum Trouble {
     /// It does nothing and fails.
     Fails(ErrorKind),
@@ -13,20 +13,26 @@ pub enum Trouble {
     Moves(usize),
 }
 
+/// Words for kinds of failure.
+static KINDS: [(&str, ErrorKind); 8] = [
+    ("other", ErrorKind::Other),
+    ("broken-pipe", ErrorKind::BrokenPipe),
+    ("would-block", ErrorKind::WouldBlock),
+    ("unexpected-eof", ErrorKind::UnexpectedEof),
+    ("write-zero", ErrorKind::WriteZero),
+    ("interrupted", ErrorKind::Interrupted),
+    ("storage-full", ErrorKind::StorageFull),
+    ("permission-denied", ErrorKind::PermissionDenied),
+];
+
 impl Trouble {
-    /// The trouble that a word says: the number of bytes that are moved at most, or a kind of failure.
+    /// The trouble that a word says: a kind of failure, or else the number of bytes that are moved at most.
     pub fn said(word: &str) -> Result<Trouble, AllocError> {
-        let kind = match word {
-            "other" => ErrorKind::Other,
-            "broken-pipe" => ErrorKind::BrokenPipe,
-            "would-block" => ErrorKind::WouldBlock,
-            "unexpected-eof" => ErrorKind::UnexpectedEof,
-            "write-zero" => ErrorKind::WriteZero,
-            "interrupted" => ErrorKind::Interrupted,
-            "storage-full" => ErrorKind::StorageFull,
-            "permission-denied" => ErrorKind::PermissionDenied,
-            _ => return Ok(Trouble::Moves(number(word)? as usize)),
-        };
-        Ok(Trouble::Fails(kind))
+        for (name, kind) in KINDS.iter() {
+            if *name == word {
+                return Ok(Trouble::Fails(*kind));
+            }
+        }
+        Ok(Trouble::Moves(number(word)? as usize))
     }
 }

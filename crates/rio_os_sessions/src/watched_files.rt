@@ -8,7 +8,7 @@ use std::io::{self, ErrorKind, Read, Seek, SeekFrom, Write};
 use std::rt::Files;
 
 /// A call that is recorded.
-#[derive(Clone, Copy, Debug, PartialEq, Eq)]
+#[derive(Clone, Copy, PartialEq, Eq)]
 pub enum Call {
     /// It asks what is under a name, or how long an open file is.
     Look,
@@ -38,23 +38,42 @@ pub enum Call {
     Copy,
 }
 
+/// The calls, each behind its name.
+static NAMED: [(&str, Call); 13] = [
+    ("Look", Call::Look),
+    ("OpenFolder", Call::OpenFolder),
+    ("OpenFile", Call::OpenFile),
+    ("MakeFile", Call::MakeFile),
+    ("Seek", Call::Seek),
+    ("Read", Call::Read),
+    ("Write", Call::Write),
+    ("SetLength", Call::SetLength),
+    ("SyncFile", Call::SyncFile),
+    ("SyncFolder", Call::SyncFolder),
+    ("Rename", Call::Rename),
+    ("Remove", Call::Remove),
+    ("Copy", Call::Copy),
+];
+
 impl Call {
     /// The call of this name.
-    pub fn named(name: &str) -> Option<Call> {
-        match name {
-            "Look" => Some(Call::Look),
-            "OpenFolder" => Some(Call::OpenFolder),
-            "OpenFile" => Some(Call::OpenFile),
-            "MakeFile" => Some(Call::MakeFile),
-            "Seek" => Some(Call::Seek),
-            "Read" => Some(Call::Read),
-            "Write" => Some(Call::Write),
-            "SyncFile" => Some(Call::SyncFile),
-            "SyncFolder" => Some(Call::SyncFolder),
-            "Rename" => Some(Call::Rename),
-            "Remove" => Some(Call::Remove),
-            _ => None,
+    pub fn named(word: &str) -> Option<Call> {
+        for (name, call) in NAMED.iter() {
+            if *name == word {
+                return Some(*call);
+            }
         }
+        None
+    }
+
+    /// Its name.
+    fn name(self) -> &'static str {
+        for (name, call) in NAMED.iter() {
+            if *call == self {
+                return *name;
+            }
+        }
+        ""
     }
 }
 
@@ -115,7 +134,7 @@ impl Watch {
             if !text.is_empty() {
                 text.push(' ')?;
             }
-            text.push_str(format!(in self.alloc; "{call:?}")?.as_str())?;
+            text.push_str(call.name())?;
         }
         Ok(text)
     }
@@ -150,7 +169,7 @@ impl Watch {
 }
 
 /// The files that `files` reaches, watched.
-#[derive(Drop)]
+#[derive(Clone, Drop)]
 pub struct WatchedFiles<'a, R: Files> {
     files: R,
     watch: &'a Watch,
