@@ -1,14 +1,17 @@
 //! Calls on transactions that are not cut, with each answer as it must be.
 
 ghost use Rattle.std.specs.Prelude.{◌≤◌};
+ghost use Rattle.region_fakes.specs.FaultyRegions.{FaultyReady, faulty_content};
 ghost use Rattle.vista_region_tests.specs.TestTables.{Sound};
 
 use crate::calls::Call::{Abort, Alloc, Begin, Commit, Free, Get, List, Put, Range};
 use crate::calls::Said::{Busy, Bytes, Done, Failed, Number, Open};
-use crate::calls::{INO, fresh, make};
+use crate::calls::{INO, fresh};
 use crate::rows::{At, Left, Row, make_all, recover_all, same};
+use region_fakes::FaultyRegion;
 use rio_base::RegionWords;
-use std::alloc::Global;
+use std::alloc::{AllocError, Global};
+use std::process;
 use std::test::Fail;
 use vista_region::OpenTable;
 use vista_region::TxnFail::{
@@ -16,14 +19,15 @@ use vista_region::TxnFail::{
 };
 
 /// Calls on a fresh region of one undo page and so many data pages.
-#[derive(Clone, Copy)]
 struct Table {
     name: &'static str,
     pages: u32,
     rows: &'static [Row],
+    /// What is left of them where the region is then recovered.
+    left: &'static [Left],
 }
 
-const TABLES: [Table; 4] = [
+static TABLES: [Table; 5] = [
     Table {
         name: "ranges and words are refused in order",
         pages: 2,
@@ -45,6 +49,7 @@ const TABLES: [Table; 4] = [
             (Put(4072, 9), Failed(NotCovered)),
             (Put(8192, 9), Failed(OutOfRange)),
         ],
+        left: &[],
     },
     Table {
         name: "gaps are found again until all is put back",
@@ -65,6 +70,7 @@ const TABLES: [Table; 4] = [
             (Begin, Done),
             (Alloc(128), Number(0)),
         ],
+        left: &[],
     },
     Table {
         name: "a heap of one page is full and free again",
@@ -80,6 +86,7 @@ const TABLES: [Table; 4] = [
             (Begin, Done),
             (Alloc(1), Number(0)),
         ],
+        left: &[],
     },
     Table {
         name: "bytes are read at any offset",
@@ -94,52 +101,49 @@ const TABLES: [Table; 4] = [
             (Get(4096, 0), Bytes(0, 0)),
             (Get(4095, 2), Failed(OutOfRange)),
         ],
+        left: &[],
+    },
+    Table {
+        name: "a word changed twice is put back once",
+        pages: 1,
+        rows: &[
+            (Begin, Done),
+            (Range(0, 8), Done),
+            (Put(0, 0x1111111111111111), Number(8)),
+            (Range(0, 8), Done),
+            (Put(0, 0x2222222222222222), Number(8)),
+            (List, Open(1, 7)),
+            (Get(0, 8), Bytes(8, 0x2222222222222222)),
+        ],
+        left: &[Left(Some(true), 0, 0), Left(Some(false), 0, 0)],
     },
 ];
 
+/// Makes the calls of a table, and recovers the region for each row of what is left.
+fn run(rt: &impl process::Abort, alloc: Global, calls: &Table) -> Result<(), Fail> {
+    let at = At {
+        name: calls.name,
+        cut: 0,
+        row: 0,
+    };
+    let mut table = OpenTable::new(alloc)?;
+    let mut r = fresh(alloc, &table, 1, calls.pages.clamp(1, 1000))?;
+    make_all(rt, at, alloc, &mut table, &mut r, calls.rows)?;
+    recover_all(rt, at, alloc, &mut r, calls.left)
+}
+
 #[test]
 fn calls_answer_as_their_rows_say(rt: HostRuntime) -> Result<(), Fail> {
-    for Table { name, pages, rows } in TABLES {
-        let mut table = OpenTable::new(rt.alloc())?;
-        let mut r = fresh(rt.alloc(), &table, 1, pages)?;
-        let at = At {
-            name,
-            cut: 0,
-            row: 0,
-        };
-        make_all(&rt, at, rt.alloc(), &mut table, &mut r, rows)?;
+    for calls in TABLES.iter() {
+        run(&rt, rt.alloc(), calls)?;
     }
     Ok(())
 }
 
-/// A word that is changed twice, under a range for each time.
-const TWICE: [Row; 7] = [
-    (Begin, Done),
-    (Range(0, 8), Done),
-    (Put(0, 0x1111111111111111), Number(8)),
-    (Range(0, 8), Done),
-    (Put(0, 0x2222222222222222), Number(8)),
-    (List, Open(1, 7)),
-    (Get(0, 8), Bytes(8, 0x2222222222222222)),
-];
+/// The calls before a long run of bytes is put.
+static BEFORE: [Row; 2] = [(Begin, Done), (Range(0, 1_048_576), Done)];
 
-/// What is left of it: the word of before, which is put back once.
-const NEITHER: [Left; 2] = [Left(Some(true), 0, 0), Left(Some(false), 0, 0)];
-
-#[test]
-fn recovered_region_has_the_words_of_before(rt: HostRuntime) -> Result<(), Fail> {
-    let mut table = OpenTable::new(rt.alloc())?;
-    let mut r = fresh(rt.alloc(), &table, 1, 1)?;
-    let at = At {
-        name: "a word changed twice",
-        cut: 0,
-        row: 0,
-    };
-    make_all(&rt, at, rt.alloc(), &mut table, &mut r, &TWICE)?;
-    recover_all(&rt, at, rt.alloc(), &mut r, &NEITHER)
-}
-
-/// Puts bytes from offset 0 on, in one transaction, and reads them. Answers whether they are the same.
+/// Puts bytes at offset 0, in one transaction, and reads them. Answers whether they are the same.
 fn put_and_read<R: RegionWords>(
     alloc: Global,
     table: &mut OpenTable,
@@ -149,8 +153,6 @@ fn put_and_read<R: RegionWords>(
     requires ready { R.ready r.old }
     requires sound { Sound table.old 7 (R.count r.old) (R.words r.old) }
 {
-    make(alloc, table, r, Begin)?;
-    make(alloc, table, r, Range(0, bytes.len() as u64))?;
     if table.put(r, INO, 0, bytes)? != bytes.len() as u64 {
         return Ok(false);
     }
@@ -159,20 +161,40 @@ fn put_and_read<R: RegionWords>(
     Ok(read.as_slice() == bytes)
 }
 
-#[test]
-fn long_runs_are_put_and_read(rt: HostRuntime) -> Result<(), Fail> {
-    let mut bytes = Vec::with_capacity(rt.alloc(), 1_048_576)?;
+/// Bytes from 0 to 250, again and again.
+fn long_run(alloc: Global) -> Result<Vec<u8>, AllocError> {
+    let mut bytes = Vec::with_capacity(alloc, 1_048_576)?;
     for n in 0..1_048_576u32 {
         bytes.push((n % 251) as u8)?;
     }
-    let mut table = OpenTable::new(rt.alloc())?;
-    let mut r = fresh(rt.alloc(), &table, 257, 256)?;
+    Ok(bytes)
+}
+
+/// Puts a long run of bytes and reads it.
+fn put_long(
+    rt: &impl process::Abort,
+    alloc: Global,
+    table: &mut OpenTable,
+    r: &mut FaultyRegion,
+) -> Result<(), Fail>
+    requires ready { FaultyReady r.old }
+    requires sound { Sound table.old 7 r.old.count (faulty_content r.old) }
+{
     let at = At {
         name: "a long run",
         cut: 0,
         row: 0,
     };
-    let is_same = put_and_read(rt.alloc(), &mut table, &mut r, bytes.as_slice())?;
-    same(&rt, at, &is_same, &true);
+    make_all(rt, at, alloc, table, r, &BEFORE)?;
+    let bytes = long_run(alloc)?;
+    let is_same = put_and_read(alloc, table, r, bytes.as_slice())?;
+    same(rt, at, &is_same, &true);
     Ok(())
+}
+
+#[test]
+fn long_runs_are_put_and_read(rt: HostRuntime) -> Result<(), Fail> {
+    let mut table = OpenTable::new(rt.alloc())?;
+    let mut r = fresh(rt.alloc(), &table, 257, 256)?;
+    put_long(&rt, rt.alloc(), &mut table, &mut r)
 }

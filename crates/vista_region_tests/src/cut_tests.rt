@@ -38,7 +38,6 @@ const CHANGED: &[Row] = &[
 ];
 
 /// Calls that are stopped at each of their calls on the region's words in turn. The region is started again and recovered.
-#[derive(Clone, Copy)]
 struct Stops {
     name: &'static str,
     /// What is made before.
@@ -52,7 +51,7 @@ struct Stops {
     most: u64,
 }
 
-const STOPS: [Stops; 2] = [
+static STOPS: [Stops; 2] = [
     Stops {
         name: "every stop of changes leaves the words of before",
         first: &[(Begin, Done)],
@@ -77,7 +76,6 @@ const STOPS: [Stops; 2] = [
 const UNCHANGED: &[Left] = &[Left(None, 8, 0), Left(Some(false), 16, 0)];
 
 /// Calls that fail at each of their calls on the region's words in turn.
-#[derive(Clone, Copy)]
 struct Faults {
     name: &'static str,
     /// What is made before.
@@ -90,7 +88,7 @@ struct Faults {
     most: u64,
 }
 
-const FAULTS: [Faults; 3] = [
+static FAULTS: [Faults; 3] = [
     Faults {
         name: "every fault of changes can be put back",
         first: &[(Begin, Done)],
@@ -191,14 +189,39 @@ fn make_stopped(
 }
 
 /// The `at.cut`th call on the words stops, and the region is recovered. Answers whether all calls were done before.
+fn stop_on(
+    rt: &impl process::Abort,
+    at: At,
+    alloc: Global,
+    table: &mut OpenTable,
+    r: &mut FaultyRegion,
+    stops: &Stops,
+) -> Result<bool, Fail>
+    requires ready { FaultyReady r.old }
+    requires sound { Sound table.old 7 r.old.count (faulty_content r.old) }
+{
+    make_all(rt, at, alloc, table, r, stops.first)?;
+    let done = make_stopped(rt, at, alloc, table, r, stops.calls);
+    let left = if done { stops.whole } else { stops.after };
+    recover_all(rt, at, alloc, r, left)?;
+    Ok(done)
+}
+
+/// The same on a fresh region.
 fn stop_at(rt: &impl process::Abort, at: At, alloc: Global, stops: &Stops) -> Result<bool, Fail> {
     let mut table = OpenTable::new(alloc)?;
     let mut r = fresh(alloc, &table, 1, 2)?;
-    make_all(rt, at, alloc, &mut table, &mut r, stops.first)?;
-    let done = make_stopped(rt, at, alloc, &mut table, &mut r, stops.calls);
-    let left = if done { stops.whole } else { stops.after };
-    recover_all(rt, at, alloc, &mut r, left)?;
-    Ok(done)
+    stop_on(rt, at, alloc, &mut table, &mut r, stops)
+}
+
+/// The calls made so many calls on the words as they must: one less than the one at which they were to be cut.
+fn count(rt: &impl process::Abort, at: At, least: u64, most: u64) {
+    same(
+        rt,
+        at,
+        &(least < at.cut && at.cut <= most.saturating_add(1)),
+        &true,
+    );
 }
 
 /// The calls are stopped at each of their calls on the words, until all are done.
@@ -207,8 +230,7 @@ fn stop_each(rt: &impl process::Abort, alloc: Global, stops: &Stops) -> Result<(
     for cut in 1..300 {
         let at = At { name, cut, row: 0 };
         if stop_at(rt, at, alloc, stops)? {
-            let made = cut - 1;
-            same(rt, at, &(stops.least <= made && made <= stops.most), &true);
+            count(rt, at, stops.least, stops.most);
             return Ok(());
         }
     }
@@ -217,26 +239,41 @@ fn stop_each(rt: &impl process::Abort, alloc: Global, stops: &Stops) -> Result<(
 
 #[test]
 fn every_stop_leaves_what_its_rows_say(rt: HostRuntime) -> Result<(), Fail> {
-    for stops in STOPS {
-        stop_each(&rt, rt.alloc(), &stops)?;
+    for stops in STOPS.iter() {
+        stop_each(&rt, rt.alloc(), stops)?;
     }
     Ok(())
 }
 
 /// The `at.cut`th call on the words fails. Answers whether none failed.
-fn fail_at(rt: &impl process::Abort, at: At, alloc: Global, faults: &Faults) -> Result<bool, Fail> {
-    let mut table = OpenTable::new(alloc)?;
-    let mut r = fresh(alloc, &table, 1, 2)?;
-    make_all(rt, at, alloc, &mut table, &mut r, faults.first)?;
-    fail_call(&table, &mut r, at.cut)?;
-    let Some(row) = make_rows(rt, at, alloc, &mut table, &mut r, faults.calls)? else {
+fn fail_on(
+    rt: &impl process::Abort,
+    at: At,
+    alloc: Global,
+    table: &mut OpenTable,
+    r: &mut FaultyRegion,
+    faults: &Faults,
+) -> Result<bool, Fail>
+    requires ready { FaultyReady r.old }
+    requires sound { Sound table.old 7 r.old.count (faulty_content r.old) }
+{
+    make_all(rt, at, alloc, table, r, faults.first)?;
+    fail_call(table, r, at.cut)?;
+    let Some(row) = make_rows(rt, at, alloc, table, r, faults.calls)? else {
         return Ok(true);
     };
     let Some(after) = faults.after.get(row) else {
         return Err("no row says what comes after the fault")?;
     };
-    make_all(rt, at, alloc, &mut table, &mut r, after)?;
+    make_all(rt, at, alloc, table, r, after)?;
     Ok(false)
+}
+
+/// The same on a fresh region.
+fn fail_at(rt: &impl process::Abort, at: At, alloc: Global, faults: &Faults) -> Result<bool, Fail> {
+    let mut table = OpenTable::new(alloc)?;
+    let mut r = fresh(alloc, &table, 1, 2)?;
+    fail_on(rt, at, alloc, &mut table, &mut r, faults)
 }
 
 /// The calls fail at each of their calls on the words, until none does.
@@ -245,13 +282,7 @@ fn fail_each(rt: &impl process::Abort, alloc: Global, faults: &Faults) -> Result
     for cut in 1..300 {
         let at = At { name, cut, row: 0 };
         if fail_at(rt, at, alloc, faults)? {
-            let made = cut - 1;
-            same(
-                rt,
-                at,
-                &(faults.least <= made && made <= faults.most),
-                &true,
-            );
+            count(rt, at, faults.least, faults.most);
             return Ok(());
         }
     }
@@ -260,8 +291,8 @@ fn fail_each(rt: &impl process::Abort, alloc: Global, faults: &Faults) -> Result
 
 #[test]
 fn every_fault_leaves_what_its_rows_say(rt: HostRuntime) -> Result<(), Fail> {
-    for faults in FAULTS {
-        fail_each(&rt, rt.alloc(), &faults)?;
+    for faults in FAULTS.iter() {
+        fail_each(&rt, rt.alloc(), faults)?;
     }
     Ok(())
 }
