@@ -1,57 +1,83 @@
-//! Tables of calls on boards, each call with what must come of it.
+//! Tables of calls on boards, each call with what must come of it. A table is a text of lines.
+//!
+//! `board MEMORY` begins a board, and behind the colon stands what it is to show. Its memory is `small`, `zeros` or `counted`, and
+//! `stop N` or `fault N` behind that says what befalls it. In any other line stand a call or what the board is asked, as
+//! [`Rig::make`] names it, its numbers, and behind the colon what comes of it.
 
 use crate::machines::Mishap;
-use crate::rig::{Call, Came, Look, Memory, Rig};
+use crate::rig::{Memory, Rig};
 use crate::same::same;
 use std::alloc::{AllocError, Global};
 use std::process::Abort;
+use test_scripts::{first_word, number};
 
-/// A row of a table.
-#[derive(Clone, Copy)]
-pub(crate) enum Row {
-    /// The rows that follow are of a board of their own: what it is to show, its memory, and what befalls it.
-    Board(&'static str, Memory, Mishap),
-    /// A call is made.
-    Make(Call, Came),
-    /// The board is asked.
-    Tell(Look, Came),
+/// The numbers of a line.
+fn numbers(alloc: Global, text: &str) -> Result<Vec<u64>, AllocError> {
+    let mut numbers = Vec::new(alloc);
+    for word in text.split(' ') {
+        if !word.is_empty() {
+            numbers.push(number(word)?)?;
+        }
+    }
+    Ok(numbers)
 }
 
-/// The board after a row, whose call is answered as it says.
-fn after_row(
+/// What befalls a board.
+fn mishap(text: &str) -> Result<Mishap, AllocError> {
+    let (word, n) = first_word(text);
+    match word {
+        "" => Ok(Mishap::Nothing),
+        "stop" => Ok(Mishap::Stop(number(n)?)),
+        "fault" => Ok(Mishap::Fault(number(n)?)),
+        _ => Err(AllocError),
+    }
+}
+
+/// A board as its line says.
+fn board(alloc: Global, text: &str) -> Result<Rig, AllocError> {
+    let (word, rest) = first_word(text);
+    let memory = match word {
+        "small" => Memory::Small,
+        "zeros" => Memory::Zeros,
+        "counted" => Memory::Counted,
+        _ => return Err(AllocError),
+    };
+    Rig::new(alloc, memory, mishap(rest)?)
+}
+
+/// What comes of a call, as a text.
+fn shown(alloc: Global, rig: &mut Rig, word: &str, rest: &str) -> Result<String, AllocError> {
+    let came = rig.make(word, &numbers(alloc, rest)?);
+    format!(in alloc; "{came:?}")
+}
+
+/// Does what a line says, the `k`th of a table.
+fn step(
     rt: &impl Abort,
     alloc: Global,
-    rig: Rig,
-    shows: &str,
+    rig: &mut Rig,
     k: usize,
-    row: &Row,
-) -> Result<Rig, AllocError> {
-    let mut rig = rig;
-    match *row {
-        Row::Board(_, memory, mishap) => return Rig::new(alloc, memory, mishap),
-        Row::Make(call, due) => same(rt, shows, k, &rig.make(call), &due),
-        Row::Tell(look, due) => same(rt, shows, k, &rig.tell(look), &due),
+    line: &str,
+) -> Result<(), AllocError> {
+    let (call, due) = line.split_once(':').unwrap_or((line, ""));
+    let (word, rest) = first_word(call);
+    if word == "board" {
+        *rig = board(alloc, rest)?;
+        return Ok(());
     }
-    Ok(rig)
+    let came = shown(alloc, rig, word, rest)?;
+    same(rt, line, k, &came.as_str(), &due.trim());
+    Ok(())
 }
 
-/// What the board is to show that begins with this row.
-fn name_at(rows: &[Row], first: usize) -> &'static str {
-    match rows.get(first) {
-        Some(Row::Board(name, _, _)) => name,
-        _ => "a board",
-    }
-}
-
-/// Goes through the rows of a table. The last board is as they leave it.
-pub(crate) fn check(rt: &impl Abort, alloc: Global, rows: &[Row]) -> Result<Rig, AllocError> {
+/// Goes through the lines of a table. The last board is as they leave it.
+pub(crate) fn check(rt: &impl Abort, alloc: Global, table: &str) -> Result<Rig, AllocError> {
     let mut rig = Rig::new(alloc, Memory::Small, Mishap::Nothing)?;
-    let mut first = 0;
-    for k in 0..rows.len() {
-        if let Row::Board(_, _, _) = rows[k] {
-            first = k;
+    for (k, line) in table.lines().enumerate() {
+        let line = line.trim();
+        if !line.is_empty() {
+            step(rt, alloc, &mut rig, k, line)?;
         }
-        rig = after_row(rt, alloc, rig, name_at(rows, first), k, &rows[k])?;
     }
     Ok(rig)
 }

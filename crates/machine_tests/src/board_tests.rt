@@ -3,150 +3,116 @@
 ghost use Rattle.std.specs.Prelude.{◌≡◌, length};
 ghost use Rattle.block_disk.specs.MemDisks.{state_of};
 
-use crate::board_rows::{Row, check};
+use crate::board_rows::check;
 use crate::cached::word_in;
-use crate::machines::{Mishap, board_with};
-use crate::rig::{Call, Came, Look, Memory};
+use crate::machines::board_with;
 use crate::same::same;
 use block_disk::{DiskChoice, MemDisk};
 use machine_readers::save;
 use phys_memory::ListMem;
-use rio_base::{Block, DiskBlocks, Machine, MemWords, Page, Wild, WordAt};
+use rio_base::{Block, DiskBlocks, Machine, MemWords, Page, WordAt};
 use std::alloc::Global;
 use std::process::Abort;
 use std::test::Fail;
 
 #[test]
 fn a_stopped_or_trapped_step_keeps_the_old_word(rt: HostRuntime) -> Result<(), Fail> {
-    let rows = [
-        Row::Board("a stop keeps the old word", Memory::Zeros, Mishap::Stop(3)),
-        Row::Make(Call::Open(2), Came::Done),
-        Row::Make(Call::Store(1024, 5), Came::Done),
-        Row::Make(Call::Store(1025, 6), Came::Done),
-        Row::Make(Call::Store(1026, 7), Came::Done),
-        Row::Make(Call::Store(1027, 8), Came::Stopped),
-        Row::Tell(Look::Word(1026), Came::Number(7)),
-        Row::Tell(Look::Word(1027), Came::Number(0)),
-        Row::Tell(Look::Steps, Came::Number(3)),
-        Row::Board(
-            "an armed store traps before its step",
-            Memory::Zeros,
-            Mishap::Nothing,
-        ),
-        Row::Make(Call::Open(2), Came::Done),
-        Row::Make(Call::Arm(2, 0, 9), Came::Done),
-        Row::Make(Call::Store(1024, 5), Came::Done),
-        Row::Make(Call::Store(1025, 6), Came::Done),
-        Row::Make(Call::Store(1026, 7), Came::Stopped),
-        Row::Tell(Look::Trapped, Came::Place(Some(WordAt(0)))),
-        Row::Tell(Look::Steps, Came::Number(2)),
-        Row::Board(
-            "a stop comes before an armed store of the same step",
-            Memory::Small,
-            Mishap::Stop(1),
-        ),
-        Row::Make(Call::Open(1), Came::Done),
-        Row::Make(Call::Arm(1, 0, 9), Came::Done),
-        Row::Make(Call::Store(512, 5), Came::Done),
-        Row::Make(Call::Store(513, 6), Came::Stopped),
-        Row::Tell(Look::Trapped, Came::Place(None)),
-        Row::Tell(Look::Steps, Came::Number(1)),
-        Row::Board(
-            "a trap stops every further step",
-            Memory::Zeros,
-            Mishap::Nothing,
-        ),
-        Row::Make(Call::Wild(0, 9), Came::Met(Wild::Trapped)),
-        Row::Tell(Look::IsStopped, Came::Is(true)),
-        Row::Make(Call::Write(3, 1), Came::Stopped),
-        Row::Make(Call::Sync, Came::Stopped),
-        Row::Make(Call::Open(2), Came::Done),
-        Row::Make(Call::Store(1024, 5), Came::Stopped),
-        Row::Make(Call::Close, Came::Done),
-        Row::Tell(Look::Word(0), Came::Number(0)),
-    ];
-    check(&rt, rt.alloc(), &rows)?;
+    let rows = "
+        board zeros stop 3: a stop keeps the old word
+        open 2: Done
+        store 1024 5: Done
+        store 1025 6: Done
+        store 1026 7: Done
+        store 1027 8: Stopped
+        word 1026: Number(7)
+        word 1027: Number(0)
+        steps: Number(3)
+
+        board zeros: an armed store traps before its step
+        open 2: Done
+        arm 2 0 9: Done
+        store 1024 5: Done
+        store 1025 6: Done
+        store 1026 7: Stopped
+        trapped: Place(Some(WordAt(0)))
+        steps: Number(2)
+
+        board small stop 1: a stop comes before an armed store of the same step
+        open 1: Done
+        arm 1 0 9: Done
+        store 512 5: Done
+        store 513 6: Stopped
+        trapped: Place(None)
+        steps: Number(1)
+
+        board zeros: a trap stops every further step
+        wild 0 9: Met(Trapped)
+        stopped: Is(true)
+        write 3 1: Stopped
+        sync: Stopped
+        open 2: Done
+        store 1024 5: Stopped
+        close: Done
+        word 0: Number(0)
+    ";
+    check(&rt, rt.alloc(), rows)?;
     Ok(())
 }
 
 #[test]
 fn a_wild_store_is_met_by_where_it_falls(rt: HostRuntime) -> Result<(), Fail> {
-    let rows = [
-        Row::Board(
-            "it is spared on the open page",
-            Memory::Zeros,
-            Mishap::Nothing,
-        ),
-        Row::Make(Call::Open(2), Came::Done),
-        Row::Make(Call::Wild(1024, 9), Came::Met(Wild::Spared)),
-        Row::Tell(Look::Word(1024), Came::Number(0)),
-        Row::Tell(Look::Spared, Came::Number(1)),
-        Row::Board("it is made on scratch", Memory::Zeros, Mishap::Nothing),
-        Row::Tell(Look::Pages, Came::Number(83)),
-        Row::Make(Call::Wild(41_984, 9), Came::Met(Wild::Changed)),
-        Row::Tell(Look::Word(41_984), Came::Number(9)),
-        Row::Tell(Look::IsStopped, Came::Is(false)),
-        Row::Board("it traps on any other page", Memory::Small, Mishap::Nothing),
-        Row::Make(Call::Open(1), Came::Done),
-        Row::Make(Call::Wild(512, 9), Came::Met(Wild::Spared)),
-        Row::Make(Call::Wild(1024, 9), Came::Met(Wild::Changed)),
-        Row::Tell(Look::Spared, Came::Number(1)),
-        Row::Tell(Look::IsStopped, Came::Is(false)),
-        Row::Make(Call::Wild(511, 9), Came::Met(Wild::Trapped)),
-        Row::Tell(Look::Trapped, Came::Place(Some(WordAt(511)))),
-        Row::Tell(Look::IsStopped, Came::Is(true)),
-    ];
-    check(&rt, rt.alloc(), &rows)?;
+    let rows = "
+        board zeros: it is spared on the open page
+        open 2: Done
+        wild 1024 9: Met(Spared)
+        word 1024: Number(0)
+        spared: Number(1)
+
+        board zeros: it is made on scratch
+        pages: Number(83)
+        wild 41984 9: Met(Changed)
+        word 41984: Number(9)
+        stopped: Is(false)
+
+        board small: it traps on any other page
+        open 1: Done
+        wild 512 9: Met(Spared)
+        wild 1024 9: Met(Changed)
+        spared: Number(1)
+        stopped: Is(false)
+        wild 511 9: Met(Trapped)
+        trapped: Place(Some(WordAt(511)))
+        stopped: Is(true)
+    ";
+    check(&rt, rt.alloc(), rows)?;
     Ok(())
 }
 
 #[test]
 fn a_failed_sync_is_a_fault(rt: HostRuntime) -> Result<(), Fail> {
-    let rows = [
-        Row::Board(
-            "the second call of the disk fails",
-            Memory::Counted,
-            Mishap::Fault(2),
-        ),
-        Row::Tell(Look::Blocks, Came::Number(4)),
-        Row::Make(Call::Write(3, 2), Came::Done),
-        Row::Make(Call::Sync, Came::Fault),
-        Row::Make(Call::Sync, Came::Done),
-        Row::Make(Call::Read(3), Came::Number(1535)),
-        Row::Tell(Look::Steps, Came::Number(3)),
-    ];
-    check(&rt, rt.alloc(), &rows)?;
+    let rows = "
+        board counted fault 2: the second call of the disk fails
+        blocks: Number(4)
+        write 3 2: Done
+        sync: Fault
+        sync: Done
+        read 3: Number(1535)
+        steps: Number(3)
+    ";
+    check(&rt, rt.alloc(), rows)?;
     Ok(())
-}
-
-/// What memory and disk have that are given back.
-#[derive(Clone, Copy, Debug, PartialEq, Eq)]
-struct Parts {
-    words: u32,
-    /// The word at 1024.
-    word: u64,
-    blocks: u32,
 }
 
 #[test]
 fn memory_and_disk_are_given_back(rt: HostRuntime) -> Result<(), Fail> {
-    let rows = [
-        Row::Board("a word is stored", Memory::Zeros, Mishap::Nothing),
-        Row::Make(Call::Open(2), Came::Done),
-        Row::Make(Call::Store(1024, 5), Came::Done),
-    ];
-    let (mem, disk) = check(&rt, rt.alloc(), &rows)?.into_parts();
-    let came = Parts {
-        words: mem.len(),
-        word: word_in(&mem, 1024),
-        blocks: disk.count(),
-    };
-    let due = Parts {
-        words: 42_496,
-        word: 5,
-        blocks: 4,
-    };
-    same(&rt, "what is given back", 0, &came, &due);
+    let rows = "
+        board zeros: a word is stored
+        open 2: Done
+        store 1024 5: Done
+    ";
+    let (mem, disk) = check(&rt, rt.alloc(), rows)?.into_parts();
+    let came = (mem.len(), word_in(&mem, 1024), disk.count()); // the words, the one that was stored, and the blocks
+    same(&rt, "what is given back", 0, &came, &(42_496, 5, 4));
     Ok(())
 }
 
@@ -170,14 +136,14 @@ fn around_a_crash(
     alloc: Global,
     choice: DiskChoice,
 ) -> Result<[[u64; 2]; 2], Fail> {
-    let rows = [
-        Row::Board("a write is stopped", Memory::Counted, Mishap::Stop(3)),
-        Row::Make(Call::Write(3, 2), Came::Done),
-        Row::Make(Call::Sync, Came::Done),
-        Row::Make(Call::Write(2, 3), Came::Done),
-        Row::Make(Call::Write(3, 4), Came::Stopped),
-    ];
-    let (_, mut disk) = check(rt, alloc, &rows)?.into_parts();
+    let rows = "
+        board counted stop 3: a write is stopped
+        write 3 2: Done
+        sync: Done
+        write 2 3: Done
+        write 3 4: Stopped
+    ";
+    let (_, mut disk) = check(rt, alloc, rows)?.into_parts();
     let before = first_words(alloc, &mut disk)?;
     disk.after_crash(choice);
     let after = first_words(alloc, &mut disk)?;

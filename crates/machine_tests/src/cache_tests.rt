@@ -51,23 +51,28 @@ fn is_lent<V: Volume>(v: &V, b: u32) -> bool
 }
 
 /// How the row ends, and whether the blocks 0, 1, 2 and 32 are then in memory.
-fn lent_after(alloc: Global) -> Result<(Result<(), VolFail>, [bool; 4]), Fail> {
-    let mut v = cache_of(alloc, 32, MemDisk::new(alloc, BLOCKS)?, None)?;
-    let end = read_row(&mut v);
-    let lent = [
-        is_lent(&v, 0),
-        is_lent(&v, 1),
-        is_lent(&v, 2),
-        is_lent(&v, 32),
-    ];
-    let (_, _) = v.into_machine().into_parts();
-    Ok((end, lent))
+fn lent_after<V: Volume>(v: &mut V) -> (Result<(), VolFail>, [bool; 4])
+    requires sound { V.sound v.old }
+    requires walks { Walks (V.seen v.old) }
+    ensures sound { V.sound v.new }
+{
+    let end = read_row(v);
+    let lent = [is_lent(v, 0), is_lent(v, 1), is_lent(v, 2), is_lent(v, 32)];
+    (end, lent)
 }
 
 #[test]
 fn the_block_used_longest_ago_leaves(rt: HostRuntime) -> Result<(), Fail> {
-    let due = (Ok(()), [true, false, true, true]);
-    same(&rt, "what is in memory", 0, &lent_after(rt.alloc())?, &due);
+    let mut v = cache_of(rt.alloc(), 32, MemDisk::new(rt.alloc(), BLOCKS)?, None)?;
+    let came = lent_after(&mut v);
+    let (_, _) = v.into_machine().into_parts();
+    same(
+        &rt,
+        "what is in memory",
+        0,
+        &came,
+        &(Ok(()), [true, false, true, true]),
+    );
     Ok(())
 }
 

@@ -1,98 +1,81 @@
 //! Tests of copies, runs of words and pages that are lent, on boards whose words are their own places.
 
-use crate::board_rows::{Row, check};
-use crate::machines::Mishap;
-use crate::rig::{Call, Came, Look, Memory};
-use rio_base::{Wild, WordAt};
+use crate::board_rows::check;
 use std::test::Fail;
 
 #[test]
 fn a_page_is_copied_word_by_word(rt: HostRuntime) -> Result<(), Fail> {
-    let rows = [
-        Row::Board("a whole page", Memory::Counted, Mishap::Nothing),
-        Row::Make(Call::Open(2), Came::Done),
-        Row::Make(Call::Copy(1, 2), Came::Done),
-        Row::Tell(Look::Word(1023), Came::Number(1023)),
-        Row::Tell(Look::Word(1024), Came::Number(512)),
-        Row::Tell(Look::Word(1535), Came::Number(1023)),
-        Row::Tell(Look::Word(1536), Came::Number(1536)),
-        Row::Tell(Look::Steps, Came::Number(512)),
-        Row::Board(
-            "a stop leaves a front of the copy",
-            Memory::Counted,
-            Mishap::Stop(5),
-        ),
-        Row::Make(Call::Open(2), Came::Done),
-        Row::Make(Call::Copy(1, 2), Came::Stopped),
-        Row::Tell(Look::Word(1024), Came::Number(512)),
-        Row::Tell(Look::Word(1028), Came::Number(516)),
-        Row::Tell(Look::Word(1029), Came::Number(1029)),
-        Row::Board(
-            "a stop leaves five words copied",
-            Memory::Counted,
-            Mishap::Stop(5),
-        ),
-        Row::Make(Call::Open(2), Came::Done),
-        Row::Make(Call::Copy(20, 2), Came::Stopped),
-        Row::Tell(Look::HasFront(5), Came::Is(true)),
-        Row::Tell(Look::Steps, Came::Number(5)),
-        Row::Board(
-            "a stop comes before an armed store",
-            Memory::Counted,
-            Mishap::Stop(5),
-        ),
-        Row::Make(Call::Open(2), Came::Done),
-        Row::Make(Call::Arm(5, 0, 9), Came::Done),
-        Row::Make(Call::Copy(20, 2), Came::Stopped),
-        Row::Tell(Look::Trapped, Came::Place(None)),
-    ];
-    check(&rt, rt.alloc(), &rows)?;
+    let rows = "
+        board counted: a whole page
+        open 2: Done
+        copy 1 2: Done
+        word 1023: Number(1023)
+        word 1024: Number(512)
+        word 1535: Number(1023)
+        word 1536: Number(1536)
+        steps: Number(512)
+
+        board counted stop 5: a stop leaves a front of the copy
+        open 2: Done
+        copy 1 2: Stopped
+        word 1024: Number(512)
+        word 1028: Number(516)
+        word 1029: Number(1029)
+
+        board counted stop 5: a stop leaves five words copied
+        open 2: Done
+        copy 20 2: Stopped
+        front 5: Is(true)
+        steps: Number(5)
+
+        board counted stop 5: a stop comes before an armed store
+        open 2: Done
+        arm 5 0 9: Done
+        copy 20 2: Stopped
+        trapped: Place(None)
+    ";
+    check(&rt, rt.alloc(), rows)?;
     Ok(())
 }
 
 #[test]
 fn an_armed_store_falls_within_a_copy_or_behind_it(rt: HostRuntime) -> Result<(), Fail> {
-    let rows = [
-        Row::Board("it traps within a copy", Memory::Counted, Mishap::Nothing),
-        Row::Make(Call::Open(2), Came::Done),
-        Row::Make(Call::Arm(100, 0, 9), Came::Done),
-        Row::Make(Call::Copy(20, 2), Came::Stopped),
-        Row::Tell(Look::HasFront(100), Came::Is(true)),
-        Row::Tell(Look::Steps, Came::Number(100)),
-        Row::Tell(Look::Trapped, Came::Place(Some(WordAt(0)))),
-        Row::Board(
-            "it falls on scratch within a copy",
-            Memory::Counted,
-            Mishap::Nothing,
-        ),
-        Row::Make(Call::Open(2), Came::Done),
-        Row::Make(Call::Arm(100, 41_984, 9), Came::Done),
-        Row::Make(Call::Copy(20, 2), Came::Done),
-        Row::Tell(Look::HasFront(512), Came::Is(true)),
-        Row::Tell(Look::Word(41_984), Came::Number(9)),
-        Row::Tell(Look::Word(41_985), Came::Number(41_985)),
-        Row::Tell(Look::Steps, Came::Number(512)),
-        Row::Board(
-            "it is spared within a copy",
-            Memory::Counted,
-            Mishap::Nothing,
-        ),
-        Row::Make(Call::Open(2), Came::Done),
-        Row::Make(Call::Arm(100, 1024, 9), Came::Done),
-        Row::Make(Call::Copy(20, 2), Came::Done),
-        Row::Tell(Look::HasFront(512), Came::Is(true)),
-        Row::Tell(Look::Spared, Came::Number(1)),
-        Row::Tell(Look::Steps, Came::Number(512)),
-        Row::Board("it waits behind a copy", Memory::Counted, Mishap::Nothing),
-        Row::Make(Call::Open(2), Came::Done),
-        Row::Make(Call::Arm(512, 0, 9), Came::Done),
-        Row::Make(Call::Copy(20, 2), Came::Done),
-        Row::Tell(Look::Trapped, Came::Place(None)),
-        Row::Make(Call::Copy(21, 2), Came::Stopped),
-        Row::Tell(Look::HasFront(512), Came::Is(true)),
-        Row::Tell(Look::Trapped, Came::Place(Some(WordAt(0)))),
-    ];
-    check(&rt, rt.alloc(), &rows)?;
+    let rows = "
+        board counted: it traps within a copy
+        open 2: Done
+        arm 100 0 9: Done
+        copy 20 2: Stopped
+        front 100: Is(true)
+        steps: Number(100)
+        trapped: Place(Some(WordAt(0)))
+
+        board counted: it falls on scratch within a copy
+        open 2: Done
+        arm 100 41984 9: Done
+        copy 20 2: Done
+        front 512: Is(true)
+        word 41984: Number(9)
+        word 41985: Number(41985)
+        steps: Number(512)
+
+        board counted: it is spared within a copy
+        open 2: Done
+        arm 100 1024 9: Done
+        copy 20 2: Done
+        front 512: Is(true)
+        spared: Number(1)
+        steps: Number(512)
+
+        board counted: it waits behind a copy
+        open 2: Done
+        arm 512 0 9: Done
+        copy 20 2: Done
+        trapped: Place(None)
+        copy 21 2: Stopped
+        front 512: Is(true)
+        trapped: Place(Some(WordAt(0)))
+    ";
+    check(&rt, rt.alloc(), rows)?;
     Ok(())
 }
 
@@ -100,104 +83,101 @@ fn an_armed_store_falls_within_a_copy_or_behind_it(rt: HostRuntime) -> Result<()
 fn a_page_of_scratch_is_copied_as_it_is_when_its_words_are_read(
     rt: HostRuntime,
 ) -> Result<(), Fail> {
-    let rows = [
-        Row::Board("a whole page", Memory::Counted, Mishap::Nothing),
-        Row::Make(Call::Open(2), Came::Done),
-        Row::Make(Call::Copy(82, 2), Came::Done),
-        Row::Tell(Look::Word(1024), Came::Number(41_984)),
-        Row::Tell(Look::Word(1535), Came::Number(42_495)),
-        Row::Tell(Look::Steps, Came::Number(512)),
-        Row::Board("a store before its word", Memory::Counted, Mishap::Nothing),
-        Row::Make(Call::Open(2), Came::Done),
-        Row::Make(Call::Arm(100, 42_184, 9), Came::Done),
-        Row::Make(Call::Copy(82, 2), Came::Done),
-        Row::Tell(Look::Word(1223), Came::Number(42_183)),
-        Row::Tell(Look::Word(1224), Came::Number(9)),
-        Row::Board("a store behind its word", Memory::Counted, Mishap::Nothing),
-        Row::Make(Call::Open(2), Came::Done),
-        Row::Make(Call::Arm(100, 42_034, 9), Came::Done),
-        Row::Make(Call::Copy(82, 2), Came::Done),
-        Row::Tell(Look::Word(1074), Came::Number(42_034)),
-        Row::Tell(Look::Word(42_034), Came::Number(9)),
-        Row::Board(
-            "a store before the first word",
-            Memory::Counted,
-            Mishap::Nothing,
-        ),
-        Row::Make(Call::Open(2), Came::Done),
-        Row::Make(Call::Arm(0, 41_984, 9), Came::Done),
-        Row::Make(Call::Copy(82, 2), Came::Done),
-        Row::Tell(Look::Word(1024), Came::Number(9)),
-        Row::Tell(Look::Word(1025), Came::Number(41_985)),
-        Row::Board(
-            "a store before the step of its word",
-            Memory::Counted,
-            Mishap::Nothing,
-        ),
-        Row::Make(Call::Open(2), Came::Done),
-        Row::Make(Call::Arm(100, 42_084, 9), Came::Done),
-        Row::Make(Call::Copy(82, 2), Came::Done),
-        Row::Tell(Look::Word(1124), Came::Number(9)),
-        Row::Board(
-            "a store behind the step of its word",
-            Memory::Counted,
-            Mishap::Nothing,
-        ),
-        Row::Make(Call::Open(2), Came::Done),
-        Row::Make(Call::Arm(101, 42_084, 9), Came::Done),
-        Row::Make(Call::Copy(82, 2), Came::Done),
-        Row::Tell(Look::Word(1124), Came::Number(42_084)),
-        Row::Tell(Look::Word(42_084), Came::Number(9)),
-    ];
-    check(&rt, rt.alloc(), &rows)?;
+    let rows = "
+        board counted: a whole page
+        open 2: Done
+        copy 82 2: Done
+        word 1024: Number(41984)
+        word 1535: Number(42495)
+        steps: Number(512)
+
+        board counted: a store before its word
+        open 2: Done
+        arm 100 42184 9: Done
+        copy 82 2: Done
+        word 1223: Number(42183)
+        word 1224: Number(9)
+
+        board counted: a store behind its word
+        open 2: Done
+        arm 100 42034 9: Done
+        copy 82 2: Done
+        word 1074: Number(42034)
+        word 42034: Number(9)
+
+        board counted: a store before the first word
+        open 2: Done
+        arm 0 41984 9: Done
+        copy 82 2: Done
+        word 1024: Number(9)
+        word 1025: Number(41985)
+
+        board counted: a store before the step of its word
+        open 2: Done
+        arm 100 42084 9: Done
+        copy 82 2: Done
+        word 1124: Number(9)
+
+        board counted: a store behind the step of its word
+        open 2: Done
+        arm 101 42084 9: Done
+        copy 82 2: Done
+        word 1124: Number(42084)
+        word 42084: Number(9)
+    ";
+    check(&rt, rt.alloc(), rows)?;
     Ok(())
 }
 
 #[test]
 fn a_run_at_the_end_of_a_page_is_whole_or_stopped(rt: HostRuntime) -> Result<(), Fail> {
-    let rows = [
-        Row::Board("after no step", Memory::Counted, Mishap::Stop(0)),
-        Row::Make(Call::Open(2), Came::Done),
-        Row::Make(Call::StoreRun(1533, &[7, 8, 9]), Came::Stopped),
-        Row::Tell(Look::Word(1533), Came::Number(1533)),
-        Row::Tell(Look::Word(1534), Came::Number(1534)),
-        Row::Tell(Look::Word(1535), Came::Number(1535)),
-        Row::Tell(Look::Word(1536), Came::Number(1536)),
-        Row::Tell(Look::Steps, Came::Number(0)),
-        Row::Board("after 1 step", Memory::Counted, Mishap::Stop(1)),
-        Row::Make(Call::Open(2), Came::Done),
-        Row::Make(Call::StoreRun(1533, &[7, 8, 9]), Came::Stopped),
-        Row::Tell(Look::Word(1533), Came::Number(7)),
-        Row::Tell(Look::Word(1534), Came::Number(1534)),
-        Row::Tell(Look::Word(1535), Came::Number(1535)),
-        Row::Tell(Look::Word(1536), Came::Number(1536)),
-        Row::Tell(Look::Steps, Came::Number(1)),
-        Row::Board("after 2 steps", Memory::Counted, Mishap::Stop(2)),
-        Row::Make(Call::Open(2), Came::Done),
-        Row::Make(Call::StoreRun(1533, &[7, 8, 9]), Came::Stopped),
-        Row::Tell(Look::Word(1533), Came::Number(7)),
-        Row::Tell(Look::Word(1534), Came::Number(8)),
-        Row::Tell(Look::Word(1535), Came::Number(1535)),
-        Row::Tell(Look::Word(1536), Came::Number(1536)),
-        Row::Tell(Look::Steps, Came::Number(2)),
-        Row::Board("after 3 steps", Memory::Counted, Mishap::Stop(3)),
-        Row::Make(Call::Open(2), Came::Done),
-        Row::Make(Call::StoreRun(1533, &[7, 8, 9]), Came::Done),
-        Row::Tell(Look::Word(1533), Came::Number(7)),
-        Row::Tell(Look::Word(1534), Came::Number(8)),
-        Row::Tell(Look::Word(1535), Came::Number(9)),
-        Row::Tell(Look::Word(1536), Came::Number(1536)),
-        Row::Tell(Look::Steps, Came::Number(3)),
-        Row::Board("after 4 steps", Memory::Counted, Mishap::Stop(4)),
-        Row::Make(Call::Open(2), Came::Done),
-        Row::Make(Call::StoreRun(1533, &[7, 8, 9]), Came::Done),
-        Row::Tell(Look::Word(1533), Came::Number(7)),
-        Row::Tell(Look::Word(1534), Came::Number(8)),
-        Row::Tell(Look::Word(1535), Came::Number(9)),
-        Row::Tell(Look::Word(1536), Came::Number(1536)),
-        Row::Tell(Look::Steps, Came::Number(3)),
-    ];
-    check(&rt, rt.alloc(), &rows)?;
+    let rows = "
+        board counted stop 0: after no step
+        open 2: Done
+        run 1533 7 8 9: Stopped
+        word 1533: Number(1533)
+        word 1534: Number(1534)
+        word 1535: Number(1535)
+        word 1536: Number(1536)
+        steps: Number(0)
+
+        board counted stop 1: after 1 step
+        open 2: Done
+        run 1533 7 8 9: Stopped
+        word 1533: Number(7)
+        word 1534: Number(1534)
+        word 1535: Number(1535)
+        word 1536: Number(1536)
+        steps: Number(1)
+
+        board counted stop 2: after 2 steps
+        open 2: Done
+        run 1533 7 8 9: Stopped
+        word 1533: Number(7)
+        word 1534: Number(8)
+        word 1535: Number(1535)
+        word 1536: Number(1536)
+        steps: Number(2)
+
+        board counted stop 3: after 3 steps
+        open 2: Done
+        run 1533 7 8 9: Done
+        word 1533: Number(7)
+        word 1534: Number(8)
+        word 1535: Number(9)
+        word 1536: Number(1536)
+        steps: Number(3)
+
+        board counted stop 4: after 4 steps
+        open 2: Done
+        run 1533 7 8 9: Done
+        word 1533: Number(7)
+        word 1534: Number(8)
+        word 1535: Number(9)
+        word 1536: Number(1536)
+        steps: Number(3)
+    ";
+    check(&rt, rt.alloc(), rows)?;
     Ok(())
 }
 
@@ -205,42 +185,35 @@ fn a_run_at_the_end_of_a_page_is_whole_or_stopped(rt: HostRuntime) -> Result<(),
 fn a_run_goes_on_behind_an_armed_store_and_an_empty_one_is_no_step(
     rt: HostRuntime,
 ) -> Result<(), Fail> {
-    let rows = [
-        Row::Board(
-            "it goes on behind an armed store",
-            Memory::Counted,
-            Mishap::Nothing,
-        ),
-        Row::Make(Call::Open(2), Came::Done),
-        Row::Make(Call::Arm(1, 41_984, 5), Came::Done),
-        Row::Make(Call::StoreRun(1533, &[7, 8, 9]), Came::Done),
-        Row::Tell(Look::Word(1533), Came::Number(7)),
-        Row::Tell(Look::Word(1534), Came::Number(8)),
-        Row::Tell(Look::Word(1535), Came::Number(9)),
-        Row::Tell(Look::Word(1536), Came::Number(1536)),
-        Row::Tell(Look::Word(41_984), Came::Number(5)),
-        Row::Board("an empty run is no step", Memory::Counted, Mishap::Nothing),
-        Row::Make(Call::Wild(0, 9), Came::Met(Wild::Trapped)),
-        Row::Make(Call::Open(2), Came::Done),
-        Row::Make(Call::StoreRun(1030, &[]), Came::Done),
-        Row::Tell(Look::Steps, Came::Number(0)),
-    ];
-    check(&rt, rt.alloc(), &rows)?;
+    let rows = "
+        board counted: it goes on behind an armed store
+        open 2: Done
+        arm 1 41984 5: Done
+        run 1533 7 8 9: Done
+        word 1533: Number(7)
+        word 1534: Number(8)
+        word 1535: Number(9)
+        word 1536: Number(1536)
+        word 41984: Number(5)
+
+        board counted: an empty run is no step
+        wild 0 9: Met(Trapped)
+        open 2: Done
+        run 1030: Done
+        steps: Number(0)
+    ";
+    check(&rt, rt.alloc(), rows)?;
     Ok(())
 }
 
 #[test]
 fn pages_are_lent_as_they_read(rt: HostRuntime) -> Result<(), Fail> {
-    let rows = [
-        Row::Board(
-            "the first, a middle and the last word",
-            Memory::Counted,
-            Mishap::Nothing,
-        ),
-        Row::Tell(Look::PageLen(3), Came::Number(512)),
-        Row::Tell(Look::PageWord(3, 7), Came::Number(1543)),
-        Row::Tell(Look::PageWord(82, 511), Came::Number(42_495)),
-    ];
-    check(&rt, rt.alloc(), &rows)?;
+    let rows = "
+        board counted: the first, a middle and the last word
+        page_len 3: Number(512)
+        page_word 3 7: Number(1543)
+        page_word 82 511: Number(42495)
+    ";
+    check(&rt, rt.alloc(), rows)?;
     Ok(())
 }

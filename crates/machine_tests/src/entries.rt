@@ -113,23 +113,32 @@ struct Came {
     image: Result<(), BadImage>,
 }
 
-/// Brings entry 3 so far on a machine that stops after so many steps, if it does.
+/// Brings entry 3 so far, and looks what is found.
 #[tactic(auto, using(crate::proofs::TestImages::none_taken, crate::proofs::TestImages::untagged))]
-fn came_of(alloc: Global, stage: Stage, stop_after: Option<u64>) -> Result<Came, Fail> {
-    let mut m = image_machine(alloc, stop_after)?;
-    let end = bring(&mut m, stage);
-    let tag = load_tag(&m, 3);
+fn look<M: Machine>(m: &mut M, stage: Stage) -> Came
+    requires can { CanChange 3 (M.contents m.old) (M.run m.old) }
+    requires frames { frames_of (M.contents m.old).words ≡ 64 }
+    requires empty { (k : ℕ) → k < 64 → tag_at (M.contents m.old).words k ≡ 0 }
+{
+    let end = bring(m, stage);
+    let tag = load_tag(m, 3);
     let entry = if tag.is_valid() {
-        Some(read_entry(&m, 3))
+        Some(read_entry(m, 3))
     } else {
         None
     };
-    Ok(Came {
+    Came {
         end,
         tag: tag.0,
         entry,
-        image: check_image(&m),
-    })
+        image: check_image(m),
+    }
+}
+
+/// Brings entry 3 so far on a machine that stops after so many steps, if it does.
+fn came_of(alloc: Global, stage: Stage, stop_after: Option<u64>) -> Result<Came, AllocError> {
+    let mut m = image_machine(alloc, stop_after)?;
+    Ok(look(&mut m, stage))
 }
 
 /// Entry 3 with this tag and shadow.

@@ -7,7 +7,7 @@ use rio_base::{BLOCK_WORDS, Block};
 use std::alloc::{AllocError, AllocFailed, Global};
 
 /// How many of the stores of the running action may stand where a stop cuts it off.
-#[derive(Clone, Copy, Debug, PartialEq, Eq)]
+#[derive(Clone, Copy)]
 pub(crate) enum Stands {
     /// None of them.
     Nothing,
@@ -18,7 +18,7 @@ pub(crate) enum Stands {
 }
 
 /// A word that the running action stores, by its place in the list of all words.
-#[derive(Clone, Copy, Debug, PartialEq, Eq)]
+#[derive(Clone, Copy)]
 pub(crate) struct Put {
     at: usize,
     v: u64,

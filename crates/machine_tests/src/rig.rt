@@ -15,65 +15,8 @@ use std::alloc::{AllocError, Global};
 /// The most words that a board's memory has.
 const MOST_WORDS: usize = 42_496;
 
-/// A call on a board.
-#[derive(Clone, Copy)]
-pub(crate) enum Call {
-    /// A page is opened.
-    Open(u32),
-    /// The open page is closed.
-    Close,
-    /// A word of the open page is stored.
-    Store(u32, u64),
-    /// Words of the open page are stored, from a place on.
-    StoreRun(u32, &'static [u64]),
-    /// A page is copied to the open page.
-    Copy(u32, u32),
-    /// A page is written as a block.
-    Write(u32, u32),
-    /// All that was written is brought to the device.
-    Sync,
-    /// A block is read, and its last word told.
-    Read(u32),
-    /// A wild store falls now: where, and what it stores.
-    Wild(u32, u64),
-    /// A wild store is armed, to fall after so many steps: where, and what it stores.
-    Arm(u64, u32, u64),
-    /// A value is put as the first and the last word of a page, through one window.
-    PutTwo(u32, u64),
-    /// A word of a closed page is put.
-    PutOne(u32, u16, u64),
-    /// Words of a closed page are put, from one of its words on.
-    PutRun(u32, u16, &'static [u64]),
-}
-
-/// What a board is asked.
-#[derive(Clone, Copy)]
-pub(crate) enum Look {
-    /// The word at a place.
-    Word(u32),
-    /// How many words a page that is lent has.
-    PageLen(u32),
-    /// A word of a page that is lent.
-    PageWord(u32, usize),
-    /// Whether so many words at the front of page 2 are those of page 20, and the others its own, on a board whose words
-    /// are their own places.
-    HasFront(usize),
-    /// How many steps were made.
-    Steps,
-    /// How many wild stores were spared.
-    Spared,
-    /// Whether the board is stopped.
-    IsStopped,
-    /// Where a wild store trapped.
-    Trapped,
-    /// How many pages memory has.
-    Pages,
-    /// How many blocks the disk has.
-    Blocks,
-}
-
 /// What came of a call.
-#[derive(Clone, Copy, Debug, PartialEq, Eq)]
+#[derive(Clone, Copy, Debug)]
 pub(crate) enum Came {
     /// It was made.
     Done,
@@ -164,6 +107,27 @@ fn put_two<M: Machine>(m: &mut M, p: Page, v: u64) -> Result<(), Stopped>
     first?;
     last?;
     Ok(())
+}
+
+/// The first three numbers. Those that are not there are 0.
+fn first_three(numbers: &[u64]) -> [u64; 3] {
+    let nth = |k: usize| numbers.get(k).copied().unwrap_or(0);
+    [nth(0), nth(1), nth(2)]
+}
+
+/// A number as a place, a page or a block. A larger one is one that no board has.
+fn place(n: u64) -> u32 {
+    u32::try_from(n).unwrap_or(u32::MAX)
+}
+
+/// A number as the place of a word in its page. A larger one is one that no page has.
+fn word_place(n: u64) -> u16 {
+    u16::try_from(n).unwrap_or(u16::MAX)
+}
+
+/// The numbers behind the first `n`.
+fn behind(numbers: &[u64], n: usize) -> &[u64] {
+    numbers.get(n..).unwrap_or(&[])
 }
 
 /// A board, and which of its pages is open.
@@ -359,38 +323,78 @@ impl Rig {
         }
     }
 
-    /// What the board tells.
-    pub(crate) fn tell(&self, look: Look) -> Came {
-        match look {
-            Look::Word(at) => self.word(at),
-            Look::PageLen(p) => Came::Number(self.page(p).len() as u64),
-            Look::PageWord(p, w) => self.page_word(p, w),
-            Look::HasFront(n) => Came::Is(has_front(self.page(2), n)),
-            Look::Steps => Came::Number(self.board.steps()),
-            Look::Spared => Came::Number(self.board.spared()),
-            Look::IsStopped => Came::Is(self.board.stopped()),
-            Look::Trapped => Came::Place(self.board.trapped()),
-            Look::Pages => Came::Number(self.board.pages() as u64),
-            Look::Blocks => Came::Number(self.board.disk_blocks() as u64),
+    /// What the board tells, where `word` asks it:
+    ///
+    /// - `word AT`: the word at a place.
+    /// - `page_len P`: how many words a page that is lent has.
+    /// - `page_word P W`: a word of a page that is lent.
+    /// - `front N`: whether so many words at the front of page 2 are those of page 20, and the others its own, on a board whose
+    ///   words are their own places.
+    /// - `steps`: how many steps were made.
+    /// - `spared`: how many wild stores were spared.
+    /// - `stopped`: whether the board is stopped.
+    /// - `trapped`: where a wild store trapped.
+    /// - `pages`: how many pages memory has.
+    /// - `blocks`: how many blocks the disk has.
+    fn tell(&self, word: &str, a: u32, b: u64) -> Came {
+        match word {
+            "word" => self.word(a),
+            "page_len" => Came::Number(self.page(a).len() as u64),
+            "page_word" => self.page_word(a, b as usize),
+            "front" => Came::Is(has_front(self.page(2), a as usize)),
+            "steps" => Came::Number(self.board.steps()),
+            "spared" => Came::Number(self.board.spared()),
+            "stopped" => Came::Is(self.board.stopped()),
+            "trapped" => Came::Place(self.board.trapped()),
+            "pages" => Came::Number(self.board.pages() as u64),
+            "blocks" => Came::Number(self.board.disk_blocks() as u64),
+            _ => Came::OutOfPlace,
         }
     }
 
-    /// Makes a call, and answers what came of it.
-    pub(crate) fn make(&mut self, call: Call) -> Came {
-        match call {
-            Call::Open(p) => self.open(p),
-            Call::Close => self.close(),
-            Call::Store(at, v) => self.store(at, v),
-            Call::StoreRun(at, words) => self.store_run(at, words),
-            Call::Copy(from, to) => self.copy(from, to),
-            Call::Write(b, from) => self.write(b, from),
-            Call::Sync => self.sync(),
-            Call::Read(b) => self.read(b),
-            Call::Wild(at, v) => self.wild(at, v),
-            Call::Arm(steps, at, v) => self.arm(steps, at, v),
-            Call::PutTwo(p, v) => self.put_two(p, v),
-            Call::PutOne(p, w, v) => self.put_one(p, w, v),
-            Call::PutRun(p, w, words) => self.put_run(p, w, words),
+    /// Makes a call that changes words, and answers what came of it. Any word that is none is asked of the board. The calls:
+    ///
+    /// - `store AT V`: a word of the open page is stored.
+    /// - `run AT V..`: words of the open page are stored, from a place on.
+    /// - `copy FROM TO`: a page is copied to the open page.
+    /// - `put_two P V`: a value is put as the first and the last word of a page, through one window.
+    /// - `put_one P W V`: a word of a closed page is put.
+    /// - `put_run P W V..`: words of a closed page are put, from one of its words on.
+    fn change(&mut self, word: &str, numbers: &[u64]) -> Came {
+        let [first, second, third] = first_three(numbers);
+        let a = place(first);
+        match word {
+            "store" => self.store(a, second),
+            "run" => self.store_run(a, behind(numbers, 1)),
+            "copy" => self.copy(a, place(second)),
+            "put_two" => self.put_two(a, second),
+            "put_one" => self.put_one(a, word_place(second), third),
+            "put_run" => self.put_run(a, word_place(second), behind(numbers, 2)),
+            _ => self.tell(word, a, second),
+        }
+    }
+
+    /// Makes a call, and answers what came of it: one of those above, or
+    ///
+    /// - `open P`: a page is opened.
+    /// - `close`: the open page is closed.
+    /// - `write B P`: a page is written as a block.
+    /// - `sync`: all that was written is brought to the device.
+    /// - `read B`: a block is read, and its last word told.
+    /// - `wild AT V`: a wild store falls now: where, and what it stores.
+    /// - `arm STEPS AT V`: a wild store is armed, to fall after so many steps: where, and what it stores.
+    pub(crate) fn make(&mut self, word: &str, numbers: &[u64]) -> Came {
+        let [first, second, third] = first_three(numbers);
+        let (a, b) = (place(first), place(second));
+        match word {
+            "open" => self.open(a),
+            "close" => self.close(),
+            "write" => self.write(a, b),
+            "sync" => self.sync(),
+            "read" => self.read(a),
+            "wild" => self.wild(a, second),
+            "arm" => self.arm(first, b, third),
+            _ => self.change(word, numbers),
         }
     }
 }

@@ -312,9 +312,9 @@ fn edit_blocks<V: Volume>(
     Ok(true)
 }
 
-/// Rolls the open update back.
+/// Ends the open update: commits it, or rolls it back.
 #[tactic(auto, using(crate::proofs::WalkNames::walks_dropped))]
-fn roll_back<V: Volume>(v: &mut V, plain: &mut PlainBlocks) -> Result<(), WalkEnd>
+fn end_update<V: Volume>(v: &mut V, plain: &mut PlainBlocks, whole: bool) -> Result<(), WalkEnd>
     requires sound { V.sound v.old }
     requires walks { Walks (V.seen v.old) }
     requires in_update { (V.kept v.old).updating ≡ true }
@@ -322,8 +322,14 @@ fn roll_back<V: Volume>(v: &mut V, plain: &mut PlainBlocks) -> Result<(), WalkEn
     ensures walks { Walks (V.seen v.new) }
     ensures sound { V.sound v.new }
 {
-    v.rollback()?;
-    plain.end_with(0);
+    if !whole {
+        v.rollback()?;
+        plain.end_with(0);
+        return Ok(());
+    }
+    plain.turn(Stands::Whole);
+    v.commit()?;
+    plain.end();
     Ok(())
 }
 
@@ -340,16 +346,8 @@ fn update<V: Volume>(v: &mut V, plain: &mut PlainBlocks, draws: &mut Draws) -> R
     plain.begin(Stands::Nothing);
     v.begin()?;
     let n = 1 + draws.below(16);
-    if !edit_blocks(v, plain, draws, n)? {
-        return roll_back(v, plain);
-    }
-    if draws.below(4) == 0 {
-        return roll_back(v, plain);
-    }
-    plain.turn(Stands::Whole);
-    v.commit()?;
-    plain.end();
-    Ok(())
+    let edited = edit_blocks(v, plain, draws, n)?;
+    end_update(v, plain, edited && draws.below(4) != 0)
 }
 
 /// Reads a word or a run of words.

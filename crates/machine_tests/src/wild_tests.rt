@@ -69,14 +69,25 @@ fn arm<M: Machine>(v: &mut PageCache<M>, step: u64, at: WordAt)
     v.arm(step, at, 9);
 }
 
+/// What a wild store of 9 to a place meets, and what block 5 then reads as.
+fn struck<M: Machine>(v: &mut PageCache<M>, at: WordAt) -> (Wild, Result<u64, VolFail>)
+    requires sound { ⟦<PageCache<M> as Blocks>⟧.sound v.old }
+    requires walks { Walks (⟦<PageCache<M> as Blocks>⟧.seen v.old) }
+    requires running { (⟦<PageCache<M> as Blocks>⟧.health v.old).stopped ≡ false }
+    requires place { at.0 < 26112 }
+    ensures sound { ⟦<PageCache<M> as Blocks>⟧.sound v.new }
+{
+    let met = strike(v, at);
+    (met, read_first(v, 5))
+}
+
 /// What a wild store of 9 to a place meets, what block 5 then reads as, and the word at the place.
 fn after_wild(alloc: Global, at: WordAt) -> Result<(Wild, Result<u64, VolFail>, u64), Fail> {
     if 26_112 <= at.0 {
         Err("no such word")?;
     }
     let mut v = cache(alloc)?;
-    let met = strike(&mut v, at);
-    let read = read_first(&mut v, 5);
+    let (met, read) = struck(&mut v, at);
     let (mem, _) = v.into_machine().into_parts();
     Ok((met, read, word_in(&mem, at.0)))
 }
@@ -105,6 +116,18 @@ fn store_first<V: Volume>(v: &mut V) -> Result<(), VolFail>
     v.store(Block(5), None, 0, 7)
 }
 
+/// Stores 7 as the first word of block 5, while a wild store of 9 to a place is armed to fall after the first step.
+fn store_armed<M: Machine>(v: &mut PageCache<M>, at: WordAt) -> Result<(), VolFail>
+    requires sound { ⟦<PageCache<M> as Blocks>⟧.sound v.old }
+    requires walks { Walks (⟦<PageCache<M> as Blocks>⟧.seen v.old) }
+    requires idle { (⟦<PageCache<M> as Volume>⟧.kept v.old).updating ≡ false }
+    requires place { at.0 < 26112 }
+    ensures sound { ⟦<PageCache<M> as Blocks>⟧.sound v.new }
+{
+    arm(v, 1, at);
+    store_first(v)
+}
+
 /// What is found of a store of 7 to block 5, while a wild store of 9 is armed to fall after its first step.
 #[derive(Clone, Copy, Debug, PartialEq, Eq)]
 struct Armed {
@@ -123,8 +146,7 @@ fn after_armed(alloc: Global, at: WordAt) -> Result<Armed, Fail> {
         Err("no such word")?;
     }
     let mut v = cache(alloc)?;
-    arm(&mut v, 1, at);
-    let end = store_first(&mut v);
+    let end = store_armed(&mut v, at);
     let machine = v.into_machine();
     let trapped = machine.trapped();
     let (mem, disk) = machine.into_parts();
@@ -185,6 +207,21 @@ fn store_front<V: Volume>(v: &mut V, words: &[u64]) -> Result<(), RunFail>
     v.store_run(Block(5), None, 0, words)
 }
 
+/// Has block 5 cached, and stores its first words in one run, while a wild store of 9 to a place is armed to fall after three
+/// steps.
+fn run_armed<M: Machine>(v: &mut PageCache<M>, at: WordAt, words: &[u64]) -> Result<(), RunFail>
+    requires sound { ⟦<PageCache<M> as Blocks>⟧.sound v.old }
+    requires walks { Walks (⟦<PageCache<M> as Blocks>⟧.seen v.old) }
+    requires idle { (⟦<PageCache<M> as Volume>⟧.kept v.old).updating ≡ false }
+    requires place { at.0 < 26112 }
+    requires few { length words.now ≤ 512 }
+    ensures sound { ⟦<PageCache<M> as Blocks>⟧.sound v.new }
+{
+    let _first = fetch(v);
+    arm(v, 3, at);
+    store_front(v, words)
+}
+
 /// How a run of `n` stores to block 5 ends, and the word at the place of a wild store of 9 that is armed to fall after
 /// three steps. The block is cached and its page clean: so the page's mark is the first step, and each word is one more.
 fn after_three(alloc: Global, at: WordAt, n: usize) -> Result<(Result<(), RunFail>, u64), Fail> {
@@ -195,9 +232,7 @@ fn after_three(alloc: Global, at: WordAt, n: usize) -> Result<(Result<(), RunFai
         Err("too many words")?;
     }
     let mut v = cache(alloc)?;
-    let _first = fetch(&mut v);
-    arm(&mut v, 3, at);
-    let end = store_front(&mut v, &[7; 3][..n]);
+    let end = run_armed(&mut v, at, &[7; 3][..n]);
     let (mem, _) = v.into_machine().into_parts();
     Ok((end, word_in(&mem, at.0)))
 }

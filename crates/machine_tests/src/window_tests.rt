@@ -1,53 +1,49 @@
 //! Tests of windows on boards of two protected pages.
 
-use crate::board_rows::{Row, check};
-use crate::machines::Mishap;
-use crate::rig::{Call, Came, Look, Memory};
+use crate::board_rows::check;
 use std::test::Fail;
 
 #[test]
 fn a_window_puts_words_of_its_page(rt: HostRuntime) -> Result<(), Fail> {
-    let rows = [
-        Row::Board("two words, and one", Memory::Small, Mishap::Nothing),
-        Row::Make(Call::PutTwo(1, 7), Came::Done),
-        Row::Make(Call::PutOne(1, 3, 8), Came::Done),
-        Row::Tell(Look::Word(511), Came::Number(0)),
-        Row::Tell(Look::Word(512), Came::Number(7)),
-        Row::Tell(Look::Word(515), Came::Number(8)),
-        Row::Tell(Look::Word(1023), Came::Number(7)),
-        Row::Board("a stop keeps the old word", Memory::Small, Mishap::Stop(1)),
-        Row::Make(Call::PutTwo(1, 7), Came::Stopped),
-        Row::Tell(Look::Word(512), Came::Number(7)),
-        Row::Tell(Look::Word(1023), Came::Number(0)),
-        Row::Make(Call::PutOne(1, 3, 8), Came::Stopped),
-        Row::Tell(Look::Word(515), Came::Number(0)),
-    ];
-    check(&rt, rt.alloc(), &rows)?;
+    let rows = "
+        board small: two words, and one
+        put_two 1 7: Done
+        put_one 1 3 8: Done
+        word 511: Number(0)
+        word 512: Number(7)
+        word 515: Number(8)
+        word 1023: Number(7)
+
+        board small stop 1: a stop keeps the old word
+        put_two 1 7: Stopped
+        word 512: Number(7)
+        word 1023: Number(0)
+        put_one 1 3 8: Stopped
+        word 515: Number(0)
+    ";
+    check(&rt, rt.alloc(), rows)?;
     Ok(())
 }
 
 #[test]
 fn a_run_is_put_up_to_the_end_of_its_page(rt: HostRuntime) -> Result<(), Fail> {
-    let rows = [
-        Row::Board("at the end", Memory::Small, Mishap::Nothing),
-        Row::Make(Call::PutRun(0, 509, &[7, 8, 9]), Came::Done),
-        Row::Tell(Look::Word(508), Came::Number(0)),
-        Row::Tell(Look::Word(509), Came::Number(7)),
-        Row::Tell(Look::Word(511), Came::Number(9)),
-        Row::Tell(Look::Word(512), Came::Number(0)),
-        Row::Tell(Look::Steps, Came::Number(3)),
-        Row::Board(
-            "a stopped run leaves its front",
-            Memory::Small,
-            Mishap::Stop(2),
-        ),
-        Row::Make(Call::PutRun(1, 0, &[7, 8, 9]), Came::Stopped),
-        Row::Tell(Look::Word(512), Came::Number(7)),
-        Row::Tell(Look::Word(513), Came::Number(8)),
-        Row::Tell(Look::Word(514), Came::Number(0)),
-        Row::Make(Call::PutRun(1, 2, &[9]), Came::Stopped),
-        Row::Make(Call::PutRun(1, 512, &[]), Came::Done),
-    ];
-    check(&rt, rt.alloc(), &rows)?;
+    let rows = "
+        board small: at the end
+        put_run 0 509 7 8 9: Done
+        word 508: Number(0)
+        word 509: Number(7)
+        word 511: Number(9)
+        word 512: Number(0)
+        steps: Number(3)
+
+        board small stop 2: a stopped run leaves its front
+        put_run 1 0 7 8 9: Stopped
+        word 512: Number(7)
+        word 513: Number(8)
+        word 514: Number(0)
+        put_run 1 2 9: Stopped
+        put_run 1 512: Done
+    ";
+    check(&rt, rt.alloc(), rows)?;
     Ok(())
 }
