@@ -29,8 +29,13 @@ use std::io;
 fn main(rt: HostRuntime) -> io::Result<()> {
     let mut session = Session::new(rt.alloc())?;
     for line in rt.lines(rt.alloc()) {
-        let told = session.told(line?.as_str())?;
-        print!(rt; "{told}")?;
+        print_told(&rt, &mut session, line?.as_str())?;
     }
     Ok(())
+}
+
+/// Prints a line of the script, and what it comes to.
+fn print_told(rt: &HostRuntime, session: &mut Session, line: &str) -> io::Result<()> {
+    let told = session.told(line)?;
+    print!(rt; "{told}")
 }

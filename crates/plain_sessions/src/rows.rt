@@ -15,23 +15,34 @@ pub(crate) fn put_row(
     out: &mut String,
 ) -> Result<(), AllocError> {
     match word {
-        "parse" => {
-            let line = expanded(alloc, rest)?;
-            put_meaning(alloc, line.as_slice(), out)
-        }
-        "each" => {
-            let (place, line) = first_word(rest);
-            let mut line = expanded(alloc, line)?;
-            put_each(alloc, &mut line, number(place)? as usize, out)
-        }
-        "lines" => {
-            let (most, input) = first_word(rest);
-            let input = expanded(alloc, input)?;
-            put_lines(alloc, input.as_slice(), number(most)? as usize, out)
-        }
+        "parse" => put_parsed(alloc, rest, out),
+        "each" => put_each_of(alloc, rest, out),
+        "lines" => put_lines_of(alloc, rest, out),
         "texts" => put_texts(alloc, rest, out),
         _ => out.push_str("    no such command\n"),
     }
+}
+
+/// Puts what a line means.
+fn put_parsed(alloc: Global, rest: &str, out: &mut String) -> Result<(), AllocError> {
+    let line = expanded(alloc, rest)?;
+    put_meaning(alloc, line.as_slice(), out)
+}
+
+/// Puts what a line means with each byte in turn at a place.
+fn put_each_of(alloc: Global, rest: &str, out: &mut String) -> Result<(), AllocError> {
+    let (place, line) = first_word(rest);
+    let place = number(place)? as usize;
+    let mut line = expanded(alloc, line)?;
+    put_each(alloc, &mut line, place, out)
+}
+
+/// Puts the lines of an input that comes in pieces.
+fn put_lines_of(alloc: Global, rest: &str, out: &mut String) -> Result<(), AllocError> {
+    let (most, input) = first_word(rest);
+    let most = number(most)? as usize;
+    let input = expanded(alloc, input)?;
+    put_lines(alloc, input.as_slice(), most, out)
 }
 
 /// Puts the length of each line of an input that comes in pieces of up to `most` bytes, and the line itself.

@@ -34,11 +34,17 @@ impl Session {
 
     /// A line of the script, and below it what the line comes to.
     pub(crate) fn told(&mut self, line: &str) -> Result<String, AllocError> {
-        let mut out = String::from_str(self.alloc, line)?;
+        let mut out = String::new(self.alloc);
+        self.put_line(line, &mut out)?;
+        Ok(out)
+    }
+
+    /// Puts a line and what it comes to.
+    fn put_line(&mut self, line: &str, out: &mut String) -> Result<(), AllocError> {
+        out.push_str(line)?;
         out.push('\n')?;
         let (word, rest) = first_word(line);
-        self.put_command(word, rest, &mut out)?;
-        Ok(out)
+        self.put_command(word, rest, out)
     }
 
     /// Puts what a command comes to behind what was told.
