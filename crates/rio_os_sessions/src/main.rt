@@ -17,8 +17,18 @@ use std::rt::Files;
 
 fn main(rt: HostRuntime) -> io::Result<()> {
     let watch = Watch::new(rt.alloc());
-    let mut session = Session::begin(&&rt, &WatchedFiles::new(&rt, &watch), &watch)?;
-    tell_lines(&rt, &mut session)
+    run(&rt, &&rt, &WatchedFiles::new(&rt, &watch), &watch)
+}
+
+/// Does what the input says, over these files as they are and as they are watched.
+fn run<R: Files + AllocGlobal + Clone + Drop, W: Files + Clone + Drop>(
+    rt: &HostRuntime,
+    files: &R,
+    watched: &W,
+    watch: &Watch,
+) -> io::Result<()> {
+    let mut session = Session::begin(files, watched, watch)?;
+    tell_lines(rt, &mut session)
 }
 
 /// Does what the lines of the input say, and prints each with what it came to.

@@ -34,13 +34,25 @@ impl<R: Files + AllocGlobal + Clone + Drop> OwnFolder<R> {
     }
 
     /// The path of a file in the folder.
-    pub fn path(&self, name: &str) -> Result<String, AllocError> {
+    fn path(&self, name: &str) -> Result<String, AllocError> {
         format!(in self.alloc; "{}/{name}", self.path)
     }
 
     /// The same path from the root on.
-    pub fn path_from_root(&self, name: &str) -> Result<String, AllocError> {
+    fn path_from_root(&self, name: &str) -> Result<String, AllocError> {
         format!(in self.alloc; "/proc/self/cwd/{}/{name}", self.path)
+    }
+
+    /// The path of a name: in the folder, and of one that begins with two slashes from the root on. One that begins with
+    /// one slash is a path itself.
+    pub fn path_of(&self, name: &str) -> Result<String, AllocError> {
+        if let Some(name) = name.strip_prefix("//") {
+            return self.path_from_root(name);
+        }
+        if name.starts_with('/') {
+            return String::from_str(self.alloc, name);
+        }
+        self.path(name)
     }
 
     /// The names of all that is in the folder, in their order, with a space before each.

@@ -63,13 +63,13 @@ impl<'a, R: Files + AllocGlobal + Clone + Drop, W: Files + Clone + Drop> Session
         out.extend_from_slice(line.as_bytes())?;
         out.push(b'\n')?;
         let (word, rest) = first_word(line);
-        match word {
-            "==" => self.begin_anew(),
-            "source" => Ok(read_as_said(self.alloc, rest, out)?),
-            "sink" => Ok(write_as_said(self.alloc, rest, out)?),
-            "folder-of" => Ok(tell_folder(self.alloc, rest, out)?),
-            _ => self.act(word, rest, out),
+        if word == "==" {
+            return self.begin_anew();
         }
+        if tell_without(self.alloc, word, rest, out)? {
+            return Ok(());
+        }
+        self.act(word, rest, out)
     }
 
     /// Begins the session that comes next.
@@ -81,7 +81,7 @@ impl<'a, R: Files + AllocGlobal + Clone + Drop, W: Files + Clone + Drop> Session
     /// Does what a word says of the file that is named behind it.
     fn act(&mut self, word: &str, rest: &str, out: &mut Vec<u8>) -> io::Result<()> {
         let (name, rest) = first_word(rest);
-        let path = self.path(name)?;
+        let path = self.folder.path_of(name)?;
         self.act_on(word, name, &path, rest, out)
     }
 
@@ -98,48 +98,21 @@ impl<'a, R: Files + AllocGlobal + Clone + Drop, W: Files + Clone + Drop> Session
             "file" => fs::write(&self.rt, path.as_str(), rest),
             "folder" => fs::create_dir(&self.rt, path.as_str()),
             "link" => symlink(&self.rt, rest, path.as_str()),
-            "pipe" => self.make_pipe(path),
+            "pipe" => self.hold_pipe(path),
             "hold" => self.hold(path),
             "watch" => {
                 self.is_watched = true;
                 Ok(())
             }
-            "trouble" => self.add_trouble(name, rest),
+            "trouble" => add_trouble(self.watch, name, rest),
             _ => self.ask(word, path, rest, out),
         }
     }
 
-    /// Tells what a word asks, or makes the call of the host that it is.
-    fn ask(&mut self, word: &str, path: &String, rest: &str, out: &mut Vec<u8>) -> io::Result<()> {
-        match word {
-            "held" => self.tell_held(out),
-            "bytes" => self.tell_bytes(path, out),
-            "names" => tell_text(self.folder.names()?, out),
-            "calls" => tell_text(self.watch.calls()?, out),
-            "is-file" => self.tell_whether_file(path, out),
-            _ if self.is_watched => make_call(self.alloc, &mut self.watched, word, path, rest, out),
-            _ => make_call(self.alloc, &mut self.plain, word, path, rest, out),
-        }
-    }
-
-    /// The path of a name: in the folder, and of one that begins with two slashes from the root on. One that begins with
-    /// one slash is a path itself.
-    fn path(&self, name: &str) -> io::Result<String> {
-        if let Some(name) = name.strip_prefix("//") {
-            return Ok(self.folder.path_from_root(name)?);
-        }
-        if name.starts_with('/') {
-            return Ok(String::from_str(self.alloc, name)?);
-        }
-        Ok(self.folder.path(name)?)
-    }
-
-    /// Makes a pipe, and a link to it. It is the session's own, since a wrong body would take away what stands there.
-    fn make_pipe(&mut self, path: &String) -> io::Result<()> {
-        let (reader, writer) = io::pipe(&self.rt)?;
-        let target = format!(in self.alloc; "/proc/self/fd/{}", reader.as_raw_fd())?;
-        symlink(&self.rt, target.as_str(), path.as_str())?;
-        self.pipe = Some((reader, writer));
+    /// Makes a pipe with a link to it, and holds it open. It is the session's own, since a wrong body would take away what
+    /// stands there.
+    fn hold_pipe(&mut self, path: &String) -> io::Result<()> {
+        self.pipe = Some(make_pipe(&self.rt, self.alloc, path)?);
         Ok(())
     }
 
@@ -149,38 +122,79 @@ impl<'a, R: Files + AllocGlobal + Clone + Drop, W: Files + Clone + Drop> Session
         Ok(())
     }
 
-    /// Tells what the file has that is held open, from its beginning.
-    fn tell_held(&mut self, out: &mut Vec<u8>) -> io::Result<()> {
-        let mut bytes = Vec::new(self.alloc);
-        if let Some(file) = &mut self.held {
-            file.read_to_end(&mut bytes)?;
-        }
-        Ok(tell_line(out, bytes.as_slice())?)
-    }
-
-    /// The next call of this kind meets a trouble, once those before it were met.
-    fn add_trouble(&mut self, call: &str, trouble: &str) -> io::Result<()> {
-        match Call::named(call) {
-            Some(call) => self.watch.add_trouble(call, Trouble::said(trouble)?),
-            None => Err(io::Error::from(io::ErrorKind::InvalidInput)),
+    /// Tells what a word asks, or makes the call of the host that it is.
+    fn ask(&mut self, word: &str, path: &String, rest: &str, out: &mut Vec<u8>) -> io::Result<()> {
+        match word {
+            "held" => tell_held(self.alloc, &mut self.held, out),
+            "bytes" => tell_bytes(&self.rt, path, out),
+            "names" => tell_text(self.folder.names()?, out),
+            "calls" => tell_text(self.watch.calls()?, out),
+            "is-file" => tell_whether_file(&self.rt, path, out),
+            _ if self.is_watched => make_call(self.alloc, &mut self.watched, word, path, rest, out),
+            _ => make_call(self.alloc, &mut self.plain, word, path, rest, out),
         }
     }
+}
 
-    /// Tells what a file has.
-    fn tell_bytes(&self, path: &String, out: &mut Vec<u8>) -> io::Result<()> {
-        let told = match fs::read(&self.rt, path.as_str()) {
-            Ok(bytes) => tell_line(out, bytes.as_slice()),
-            Err(_) => tell_line(out, b"no file"),
-        };
-        Ok(told?)
+/// Tells what a word says that needs no session. Answers whether it was one.
+fn tell_without(
+    alloc: Global,
+    word: &str,
+    rest: &str,
+    out: &mut Vec<u8>,
+) -> Result<bool, AllocError> {
+    match word {
+        "source" => read_as_said(alloc, rest, out)?,
+        "sink" => write_as_said(alloc, rest, out)?,
+        "folder-of" => tell_folder(alloc, rest, out)?,
+        _ => return Ok(false),
     }
+    Ok(true)
+}
 
-    /// Tells whether there is a file under a name, and no link or folder.
-    fn tell_whether_file(&self, path: &String, out: &mut Vec<u8>) -> io::Result<()> {
-        let is_file = fs::symlink_metadata(&self.rt, path.as_str())?.is_file();
-        let word = if is_file { "yes" } else { "no" };
-        Ok(tell_line(out, word.as_bytes())?)
+/// Makes a pipe, and a link to it.
+fn make_pipe<R: Files>(
+    rt: &R,
+    alloc: Global,
+    path: &String,
+) -> io::Result<(PipeReader, PipeWriter)> {
+    let (reader, writer) = io::pipe(rt)?;
+    let target = format!(in alloc; "/proc/self/fd/{}", reader.as_raw_fd())?;
+    symlink(rt, target.as_str(), path.as_str())?;
+    Ok((reader, writer))
+}
+
+/// Tells what a file has that is held open, from its beginning.
+fn tell_held<F: Read>(alloc: Global, held: &mut Option<F>, out: &mut Vec<u8>) -> io::Result<()> {
+    let mut bytes = Vec::new(alloc);
+    if let Some(file) = held {
+        file.read_to_end(&mut bytes)?;
     }
+    Ok(tell_line(out, bytes.as_slice())?)
+}
+
+/// The next call of this kind meets a trouble, once those before it were met.
+fn add_trouble(watch: &Watch, call: &str, trouble: &str) -> io::Result<()> {
+    match Call::named(call) {
+        Some(call) => watch.add_trouble(call, Trouble::said(trouble)?),
+        None => Err(io::Error::from(io::ErrorKind::InvalidInput)),
+    }
+}
+
+/// Tells what a file has.
+fn tell_bytes<R: Files + AllocGlobal>(rt: &R, path: &String, out: &mut Vec<u8>) -> io::Result<()> {
+    let told = match fs::read(rt, path.as_str()) {
+        Ok(bytes) => tell_line(out, bytes.as_slice()),
+        Err(_) => tell_line(out, b"no file"),
+    };
+    Ok(told?)
+}
+
+/// Tells whether there is a file under a name, and no link or folder.
+fn tell_whether_file<R: Files>(rt: &R, path: &String, out: &mut Vec<u8>) -> io::Result<()> {
+    let is_file = fs::symlink_metadata(rt, path.as_str())?.is_file();
+    let word = if is_file { "yes" } else { "no" };
+    Ok(tell_line(out, word.as_bytes())?)
 }
 
 /// Tells the folder of a name.
