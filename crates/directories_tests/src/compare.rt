@@ -10,7 +10,7 @@ pub(crate) fn same<T: PartialEq + Debug>(rt: &impl Abort, at: u64, came: &T, due
 
 /// The same of bytes, or of other things one behind the other.
 pub(crate) fn same_items<T: PartialEq + Debug>(rt: &impl Abort, at: u64, came: &[T], due: &[T]) {
-    assert_eq!(rt; came, due, "at {at}");
+    same(rt, at, &came, &due);
 }
 
 /// This is so.

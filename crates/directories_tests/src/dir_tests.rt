@@ -2,7 +2,6 @@
 
 use crate::dirs::SMALL;
 use crate::rows::{Change, Dir, Row, check_rows};
-use std::test::Fail;
 use test_volumes::SHAPE;
 
 /// The longest name.
@@ -14,9 +13,10 @@ const LESS: [u8; 55] = [b'x'; 55];
 /// A name that is too long.
 const TOO_LONG: [u8; 57] = [b'x'; 57];
 
-#[test]
-fn names_are_found_and_listed_in_byte_order(rt: HostRuntime) -> Result<(), Fail> {
-    let rows = [
+/// Tables of calls, each on a volume of its own.
+const TABLES: &[&[Row]] = &[
+    // names are found and listed in byte order
+    &[
         Row::Names(Dir::Root, b"a", None),
         Row::Make(Change::Add(Dir::Root, b"b", 2)),
         Row::Make(Change::Add(Dir::Root, b"a", 3)),
@@ -35,13 +35,9 @@ fn names_are_found_and_listed_in_byte_order(rt: HostRuntime) -> Result<(), Fail>
         Row::Names(Dir::Root, &TOO_LONG, None),
         Row::Names(Dir::Other, b"a", None),
         Row::Lists(Dir::Root, &[b"a", b"aa", b"b", b"longer-name", &LONG]),
-    ];
-    check_rows(&rt, rt.alloc(), &SHAPE, &rows)
-}
-
-#[test]
-fn the_last_entry_moves_into_the_gap(rt: HostRuntime) -> Result<(), Fail> {
-    let rows = [
+    ],
+    // the last entry moves into the gap
+    &[
         Row::Make(Change::Add(Dir::Root, b"a", 2)),
         Row::Make(Change::Add(Dir::Root, b"b", 3)),
         Row::Make(Change::Add(Dir::Root, b"c", 4)),
@@ -55,25 +51,17 @@ fn the_last_entry_moves_into_the_gap(rt: HostRuntime) -> Result<(), Fail> {
         Row::Make(Change::Remove(Dir::Root, b"c")),
         Row::Size(Dir::Root, 0),
         Row::Free(252),
-    ];
-    check_rows(&rt, rt.alloc(), &SHAPE, &rows)
-}
-
-#[test]
-fn a_directory_of_many_pages_grows_and_shrinks(rt: HostRuntime) -> Result<(), Fail> {
-    let rows = [
+    ],
+    // a directory of many pages grows and shrinks
+    &[
         Row::Make(Change::AddNumbered(1700)),
         Row::Free(252 - 27 - 1),
         Row::Numbered(1700),
         Row::Make(Change::RemoveNumbered(1700)),
         Row::Free(252),
-    ];
-    check_rows(&rt, rt.alloc(), &SHAPE, &rows)
-}
-
-#[test]
-fn a_row_is_set(rt: HostRuntime) -> Result<(), Fail> {
-    let rows = [
+    ],
+    // a row is set
+    &[
         Row::Make(Change::Add(Dir::Root, b"a", 2)),
         Row::Make(Change::Add(Dir::Root, b"b", 3)),
         Row::Make(Change::Add(Dir::Root, b"c", 4)),
@@ -82,13 +70,18 @@ fn a_row_is_set(rt: HostRuntime) -> Result<(), Fail> {
         Row::Names(Dir::Root, b"b", None),
         Row::Names(Dir::Root, b"other", Some(3)),
         Row::Names(Dir::Root, b"c", Some(4)),
-    ];
-    check_rows(&rt, rt.alloc(), &SHAPE, &rows)
-}
-
-/// Three rows of the root, of which one gets another node and one goes, and what their names name then. Each table begins
-/// with a volume of its own.
-const REPLACED: [&[Row]; 3] = [
+    ],
+    // a row moves to another directory in one update
+    &[
+        Row::Make(Change::Add(Dir::Root, b"a", 2)),
+        Row::Make(Change::Add(Dir::Root, b"b", 3)),
+        Row::Make(Change::Move(b"a", b"c", 2)),
+        Row::Names(Dir::Root, b"a", None),
+        Row::Names(Dir::Root, b"b", Some(3)),
+        Row::Names(Dir::Other, b"c", Some(2)),
+        Row::Free(250),
+    ],
+    // of three rows one gets another node and one goes
     &[
         Row::Make(Change::Add(Dir::Root, b"x0", 2)),
         Row::Make(Change::Add(Dir::Root, b"x1", 3)),
@@ -119,34 +112,21 @@ const REPLACED: [&[Row]; 3] = [
 ];
 
 #[test]
-fn rows_are_replaced(rt: HostRuntime) -> Result<(), Fail> {
-    for rows in REPLACED {
-        check_rows(&rt, rt.alloc(), &SHAPE, rows)?;
+fn rows_are_found_listed_and_changed(rt: HostRuntime) {
+    for k in 0..TABLES.len() {
+        check_rows(&rt, rt.alloc(), &SHAPE, k as u64, TABLES[k]);
     }
-    Ok(())
 }
 
-#[test]
-fn a_row_moves_to_another_directory_in_one_update(rt: HostRuntime) -> Result<(), Fail> {
-    let rows = [
-        Row::Make(Change::Add(Dir::Root, b"a", 2)),
-        Row::Make(Change::Add(Dir::Root, b"b", 3)),
-        Row::Make(Change::Move(b"a", b"c", 2)),
-        Row::Names(Dir::Root, b"a", None),
-        Row::Names(Dir::Root, b"b", Some(3)),
-        Row::Names(Dir::Other, b"c", Some(2)),
-        Row::Free(250),
-    ];
-    check_rows(&rt, rt.alloc(), &SHAPE, &rows)
-}
+/// Calls on a volume with two free blocks.
+const FULL: &[Row] = &[
+    Row::Make(Change::Add(Dir::Root, b"a", 3)),
+    Row::Make(Change::Add(Dir::Other, b"a", 4)),
+    Row::NoSpace(Dir::Third, b"c", 3),
+    Row::Make(Change::Add(Dir::Root, b"b", 4)),
+];
 
 #[test]
-fn a_full_volume_has_no_space_for_a_page(rt: HostRuntime) -> Result<(), Fail> {
-    let rows = [
-        Row::Make(Change::Add(Dir::Root, b"a", 3)),
-        Row::Make(Change::Add(Dir::Other, b"a", 4)),
-        Row::NoSpace(Dir::Third, b"c", 3),
-        Row::Make(Change::Add(Dir::Root, b"b", 4)),
-    ];
-    check_rows(&rt, rt.alloc(), &SMALL, &rows)
+fn a_full_volume_has_no_space_for_a_page(rt: HostRuntime) {
+    check_rows(&rt, rt.alloc(), &SMALL, 0, FULL);
 }

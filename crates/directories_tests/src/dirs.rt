@@ -26,7 +26,7 @@ use inode_table::{inode_block, read_inode};
 use rio_base::{Block, Ino, NameList, ReadFail, VolFail, Volume, VolumeShape};
 use rio_fakes::ListVolume;
 use std::alloc::Global;
-use std::test::Fail;
+use std::process::Abort;
 use test_volumes::with_nodes;
 
 /// A volume of six blocks, four of them reserved.
@@ -46,13 +46,15 @@ pub(crate) const OTHER: Ino = Ino(2);
 const ROOMY: u64 = 4_000_000;
 
 /// A volume with nine directories without names.
-pub(crate) fn with_dirs(alloc: Global, shape: &VolumeShape) -> Result<ListVolume, Fail>
+pub(crate) fn with_dirs(rt: &impl Abort, alloc: Global, shape: &VolumeShape) -> ListVolume
     requires { IsTestShape shape.now }
-    ensures sound { IfOk result ListSound }
-    ensures dirs { IfOk result (λ v. DirsReady shape.now (list_seen v) (list_kept v)) }
+    ensures sound { ListSound result }
+    ensures dirs { DirsReady shape.now (list_seen result) (list_kept result) }
 {
-    let v = with_nodes(alloc, shape, 1, 9)?;
-    Ok(v)
+    match with_nodes(alloc, shape, 1, 9) {
+        Ok(v) => v,
+        Err(_fail) => panic!(rt; "no volume"),
+    }
 }
 
 /// Whether a name has but small letters, digits and dashes.
@@ -312,25 +314,36 @@ pub(crate) fn plan_row<V: Volume>(
     plan_new(alloc, v, shape, dir, name, i)
 }
 
+/// Makes a prepared change, as an update of its own.
+fn make_planned<V: Volume>(rt: &impl Abort, v: &mut V, shape: &VolumeShape, change: DirChange)
+    requires sound { V.sound v.old }
+    requires dirs { DirsReady shape.now (V.seen v.old) (V.kept v.old) }
+    requires can { CanMake shape.now (V.seen v.old) (V.kept v.old) change }
+    ensures dirs { DirsReady shape.now (V.seen v.new) (V.kept v.new) }
+    ensures sound { V.sound v.new }
+{
+    make(v, shape, &change).expect(rt, "the change is made");
+}
+
 /// Adds a row.
 pub(crate) fn add<V: Volume>(
+    rt: &impl Abort,
     alloc: Global,
     v: &mut V,
     shape: &VolumeShape,
     dir: Ino,
     name: &[u8],
     i: Ino,
-) -> Result<(), Fail>
+)
     requires sound { V.sound v.old }
     requires dirs { DirsReady shape.now (V.seen v.old) (V.kept v.old) }
     requires dir { IsTestDir dir.0 }
     requires ino { IsTestDir i.0 }
-    ensures dirs { OnOk result (DirsReady shape.now (V.seen v.new) (V.kept v.new)) }
+    ensures dirs { DirsReady shape.now (V.seen v.new) (V.kept v.new) }
     ensures sound { V.sound v.new }
 {
-    let change = plan_row(alloc, v, shape, dir, name, i)?;
-    make(v, shape, &change)?;
-    Ok(())
+    let change = plan_row(alloc, v, shape, dir, name, i).expect(rt, "a row more");
+    make_planned(rt, v, shape, change);
 }
 
 /// Prepares that the row of a slot goes.
@@ -354,22 +367,22 @@ fn plan_gone<V: Volume>(
 
 /// Removes the row of a name.
 pub(crate) fn remove<V: Volume>(
+    rt: &impl Abort,
     alloc: Global,
     v: &mut V,
     shape: &VolumeShape,
     dir: Ino,
     name: &[u8],
-) -> Result<(), Fail>
+)
     requires sound { V.sound v.old }
     requires dirs { DirsReady shape.now (V.seen v.old) (V.kept v.old) }
     requires dir { IsTestDir dir.0 }
-    ensures dirs { OnOk result (DirsReady shape.now (V.seen v.new) (V.kept v.new)) }
+    ensures dirs { DirsReady shape.now (V.seen v.new) (V.kept v.new) }
     ensures sound { V.sound v.new }
 {
-    let slot = slot_of(v, shape, dir, name)?;
-    let change = plan_gone(alloc, v, shape, dir, slot)?;
-    make(v, shape, &change)?;
-    Ok(())
+    let slot = slot_of(v, shape, dir, name).expect(rt, "its row");
+    let change = plan_gone(alloc, v, shape, dir, slot).expect(rt, "a row goes");
+    make_planned(rt, v, shape, change);
 }
 
 /// Prepares another row in a slot, of a name that the directory has not.
@@ -396,8 +409,8 @@ fn plan_other<V: Volume>(
     plan_set(alloc, v, shape, dir, slot, name, i)
 }
 
-/// Sets the row of a name: to another name, for this inode.
-pub(crate) fn set_row<V: Volume>(
+/// Prepares that the row of a name gets another one, which the directory has not, for this inode.
+fn plan_renamed<V: Volume>(
     alloc: Global,
     v: &mut V,
     shape: &VolumeShape,
@@ -405,24 +418,45 @@ pub(crate) fn set_row<V: Volume>(
     name: &[u8],
     other: &[u8],
     i: Ino,
-) -> Result<(), Fail>
+) -> Result<DirChange, ReadFail>
     requires sound { V.sound v.old }
     requires dirs { DirsReady shape.now (V.seen v.old) (V.kept v.old) }
     requires dir { IsTestDir dir.0 }
     requires ino { IsTestDir i.0 }
-    ensures dirs { OnOk result (DirsReady shape.now (V.seen v.new) (V.kept v.new)) }
+    ensures can { IfOk result (CanMake shape.now (V.seen v.new) (V.kept v.new)) }
+    ensures dirs { DirsReady shape.now (V.seen v.new) (V.kept v.new) }
     ensures sound { V.sound v.new }
 {
     if !is_plain(other) {
-        return Err(VolFail::Fault.into());
+        return Err(ReadFail::Fault);
     }
     let slot = slot_of(v, shape, dir, name)?;
     if let Some(_row) = find_row(v, shape, dir, other)? {
-        return Err(VolFail::Fault.into());
+        return Err(ReadFail::Fault);
     }
-    let change = plan_other(alloc, v, shape, dir, slot, other, i)?;
-    make(v, shape, &change)?;
-    Ok(())
+    plan_other(alloc, v, shape, dir, slot, other, i)
+}
+
+/// Sets the row of a name: to another name, for this inode.
+pub(crate) fn set_row<V: Volume>(
+    rt: &impl Abort,
+    alloc: Global,
+    v: &mut V,
+    shape: &VolumeShape,
+    dir: Ino,
+    name: &[u8],
+    other: &[u8],
+    i: Ino,
+)
+    requires sound { V.sound v.old }
+    requires dirs { DirsReady shape.now (V.seen v.old) (V.kept v.old) }
+    requires dir { IsTestDir dir.0 }
+    requires ino { IsTestDir i.0 }
+    ensures dirs { DirsReady shape.now (V.seen v.new) (V.kept v.new) }
+    ensures sound { V.sound v.new }
+{
+    let change = plan_renamed(alloc, v, shape, dir, name, other, i).expect(rt, "a row is set");
+    make_planned(rt, v, shape, change);
 }
 
 /// Prepares that the name of a slot names this inode, and that the row of another slot goes.
@@ -449,8 +483,8 @@ fn plan_both<V: Volume>(
     plan_replace(alloc, v, shape, dir, slot, i, gone)
 }
 
-/// Makes a name name this inode, and removes the row of another name, as one change.
-pub(crate) fn replace<V: Volume>(
+/// Prepares that a name names this inode, and that the row of another name goes.
+fn plan_replaced<V: Volume>(
     alloc: Global,
     v: &mut V,
     shape: &VolumeShape,
@@ -458,22 +492,43 @@ pub(crate) fn replace<V: Volume>(
     name: &[u8],
     i: Ino,
     gone: &[u8],
-) -> Result<(), Fail>
+) -> Result<DirChange, ReadFail>
     requires sound { V.sound v.old }
     requires dirs { DirsReady shape.now (V.seen v.old) (V.kept v.old) }
     requires dir { IsTestDir dir.0 }
     requires ino { IsTestDir i.0 }
-    ensures dirs { OnOk result (DirsReady shape.now (V.seen v.new) (V.kept v.new)) }
+    ensures can { IfOk result (CanMake shape.now (V.seen v.new) (V.kept v.new)) }
+    ensures dirs { DirsReady shape.now (V.seen v.new) (V.kept v.new) }
     ensures sound { V.sound v.new }
 {
     let slot = slot_of(v, shape, dir, name)?;
     let last = slot_of(v, shape, dir, gone)?;
     if slot == last {
-        return Err(VolFail::Fault.into());
+        return Err(ReadFail::Fault);
     }
-    let change = plan_both(alloc, v, shape, dir, slot, i, last)?;
-    make(v, shape, &change)?;
-    Ok(())
+    plan_both(alloc, v, shape, dir, slot, i, last)
+}
+
+/// Makes a name name this inode, and removes the row of another name, as one change.
+pub(crate) fn replace<V: Volume>(
+    rt: &impl Abort,
+    alloc: Global,
+    v: &mut V,
+    shape: &VolumeShape,
+    dir: Ino,
+    name: &[u8],
+    i: Ino,
+    gone: &[u8],
+)
+    requires sound { V.sound v.old }
+    requires dirs { DirsReady shape.now (V.seen v.old) (V.kept v.old) }
+    requires dir { IsTestDir dir.0 }
+    requires ino { IsTestDir i.0 }
+    ensures dirs { DirsReady shape.now (V.seen v.new) (V.kept v.new) }
+    ensures sound { V.sound v.new }
+{
+    let change = plan_replaced(alloc, v, shape, dir, name, i, gone).expect(rt, "a row is replaced");
+    make_planned(rt, v, shape, change);
 }
 
 /// Makes two plans of two directories in one update. The first one takes no block.
@@ -507,7 +562,7 @@ fn move_slot<V: Volume>(
     slot: u32,
     name: &[u8],
     i: Ino,
-) -> Result<(), Fail>
+) -> Result<(), SizeFail>
     requires sound { V.sound v.old }
     requires dirs { DirsReady shape.now (V.seen v.old) (V.kept v.old) }
     requires ino { IsTestDir i.0 }
@@ -532,7 +587,7 @@ pub(crate) fn move_row<V: Volume>(
     name: &[u8],
     other: &[u8],
     i: Ino,
-) -> Result<(), Fail>
+) -> Result<(), SizeFail>
     requires sound { V.sound v.old }
     requires dirs { DirsReady shape.now (V.seen v.old) (V.kept v.old) }
     requires ino { IsTestDir i.0 }
@@ -540,15 +595,15 @@ pub(crate) fn move_row<V: Volume>(
     ensures sound { V.sound v.new }
 {
     if !is_plain(other) {
-        return Err(VolFail::Fault.into());
+        return Err(SizeFail::TooLarge);
     }
     let size = size_of(v, shape, OTHER)?;
     if size > ROOMY {
-        return Err(VolFail::Fault.into());
+        return Err(SizeFail::TooLarge);
     }
     let slot = slot_of(v, shape, ROOT, name)?;
     if let Some(_row) = find_row(v, shape, OTHER, other)? {
-        return Err(VolFail::Fault.into());
+        return Err(SizeFail::TooLarge);
     }
     move_slot(alloc, v, shape, slot, other, i)
 }

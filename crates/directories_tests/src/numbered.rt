@@ -1,12 +1,11 @@
 //! Rows of many numbered names in the root.
 
-ghost use Rattle.std.specs.Prelude.{OnOk};
 ghost use Rattle.directories_tests.specs.TestDirs.{DirsReady};
 
 use crate::dirs::{ROOT, add, ino_of, remove};
 use rio_base::{Ino, VolFail, Volume, VolumeShape};
 use std::alloc::Global;
-use std::test::Fail;
+use std::process::Abort;
 
 /// The name of number `n`.
 pub(crate) fn numbered(n: u32) -> [u8; 9] {
@@ -20,27 +19,21 @@ pub(crate) fn numbered(n: u32) -> [u8; 9] {
 
 /// Adds rows of so many numbered names.
 pub(crate) fn add_numbered<V: Volume>(
+    rt: &impl Abort,
     alloc: Global,
     v: &mut V,
     shape: &VolumeShape,
     count: u32,
-) -> Result<(), Fail>
+)
     requires sound { V.sound v.old }
     requires dirs { DirsReady shape.now (V.seen v.old) (V.kept v.old) }
-    ensures dirs { OnOk result (DirsReady shape.now (V.seen v.new) (V.kept v.new)) }
+    ensures dirs { DirsReady shape.now (V.seen v.new) (V.kept v.new) }
     ensures sound { V.sound v.new }
 {
     for n in 0..count {
-        add(
-            alloc,
-            v,
-            shape,
-            ROOT,
-            numbered(n).as_slice(),
-            Ino(n % 8 + 2),
-        )?;
+        let i = Ino(n % 8 + 2);
+        add(rt, alloc, v, shape, ROOT, numbered(n).as_slice(), i);
     }
-    Ok(())
 }
 
 /// Whether each of them names its inode.
@@ -64,18 +57,18 @@ pub(crate) fn are_numbered<V: Volume>(
 
 /// Removes all of them.
 pub(crate) fn remove_numbered<V: Volume>(
+    rt: &impl Abort,
     alloc: Global,
     v: &mut V,
     shape: &VolumeShape,
     count: u32,
-) -> Result<(), Fail>
+)
     requires sound { V.sound v.old }
     requires dirs { DirsReady shape.now (V.seen v.old) (V.kept v.old) }
-    ensures dirs { OnOk result (DirsReady shape.now (V.seen v.new) (V.kept v.new)) }
+    ensures dirs { DirsReady shape.now (V.seen v.new) (V.kept v.new) }
     ensures sound { V.sound v.new }
 {
     for n in 0..count {
-        remove(alloc, v, shape, ROOT, numbered(n).as_slice())?;
+        remove(rt, alloc, v, shape, ROOT, numbered(n).as_slice());
     }
-    Ok(())
 }

@@ -1,6 +1,6 @@
 //! Tables of calls on the directories of a test, each with what must come of it.
 
-ghost use Rattle.std.specs.Prelude.{◌≡◌, OnOk};
+ghost use Rattle.std.specs.Prelude.{◌≡◌};
 ghost use Rattle.test_volumes.specs.TestVolumes.{IsTestShape};
 ghost use Rattle.directories_tests.specs.TestDirs.{DirsReady, IsTestDir};
 
@@ -14,7 +14,6 @@ use file_pages::SizeFail;
 use rio_base::{Ino, Volume, VolumeShape};
 use std::alloc::Global;
 use std::process::Abort;
-use std::test::Fail;
 
 /// A directory of a test.
 #[derive(Clone, Copy)]
@@ -88,28 +87,31 @@ fn node_of(i: u32) -> Ino
 
 /// Makes a change.
 fn make_change<V: Volume>(
+    rt: &impl Abort,
     alloc: Global,
     v: &mut V,
     shape: &VolumeShape,
     change: Change,
-) -> Result<(), Fail>
+)
     requires sound { V.sound v.old }
     requires dirs { DirsReady shape.now (V.seen v.old) (V.kept v.old) }
-    ensures dirs { OnOk result (DirsReady shape.now (V.seen v.new) (V.kept v.new)) }
+    ensures dirs { DirsReady shape.now (V.seen v.new) (V.kept v.new) }
     ensures sound { V.sound v.new }
 {
     match change {
-        Change::Add(dir, name, i) => add(alloc, v, shape, dir_of(dir), name, node_of(i)),
-        Change::Remove(dir, name) => remove(alloc, v, shape, dir_of(dir), name),
+        Change::Add(dir, name, i) => add(rt, alloc, v, shape, dir_of(dir), name, node_of(i)),
+        Change::Remove(dir, name) => remove(rt, alloc, v, shape, dir_of(dir), name),
         Change::Set(dir, name, other, i) => {
-            set_row(alloc, v, shape, dir_of(dir), name, other, node_of(i))
+            set_row(rt, alloc, v, shape, dir_of(dir), name, other, node_of(i));
         }
         Change::Replace(dir, name, i, gone) => {
-            replace(alloc, v, shape, dir_of(dir), name, node_of(i), gone)
+            replace(rt, alloc, v, shape, dir_of(dir), name, node_of(i), gone);
         }
-        Change::Move(name, other, i) => move_row(alloc, v, shape, name, other, node_of(i)),
-        Change::AddNumbered(count) => add_numbered(alloc, v, shape, count),
-        Change::RemoveNumbered(count) => remove_numbered(alloc, v, shape, count),
+        Change::Move(name, other, i) => {
+            move_row(alloc, v, shape, name, other, node_of(i)).expect(rt, "a row moves");
+        }
+        Change::AddNumbered(count) => add_numbered(rt, alloc, v, shape, count),
+        Change::RemoveNumbered(count) => remove_numbered(rt, alloc, v, shape, count),
     }
 }
 
@@ -122,40 +124,32 @@ fn check_list<V: Volume>(
     k: u64,
     dir: Ino,
     due: &[Name],
-) -> Result<(), Fail>
+)
     requires sound { V.sound v.old }
     requires dirs { DirsReady shape.now (V.seen v.old) (V.kept v.old) }
     requires dir { IsTestDir dir.0 }
     ensures dirs { DirsReady shape.now (V.seen v.new) (V.kept v.new) }
     ensures sound { V.sound v.new }
 {
-    let names = list(alloc, v, shape, dir)?;
+    let names = list(alloc, v, shape, dir).expect(rt, "its names are read");
     let came = names.as_slice();
     same(rt, k, &came.len(), &due.len());
     for n in 0..came.len().min(due.len()) {
         same_items(rt, k, came[n].as_slice(), due[n]);
     }
-    Ok(())
 }
 
 /// Looks whether so many numbered names are there, and not the next one.
-fn check_numbered<V: Volume>(
-    rt: &impl Abort,
-    v: &mut V,
-    shape: &VolumeShape,
-    k: u64,
-    count: u32,
-) -> Result<(), Fail>
+fn check_numbered<V: Volume>(rt: &impl Abort, v: &mut V, shape: &VolumeShape, k: u64, count: u32)
     requires sound { V.sound v.old }
     requires dirs { DirsReady shape.now (V.seen v.old) (V.kept v.old) }
     ensures dirs { DirsReady shape.now (V.seen v.new) (V.kept v.new) }
     ensures sound { V.sound v.new }
 {
-    let all = are_numbered(v, shape, count)?;
+    let all = are_numbered(v, shape, count).expect(rt, "the names are found");
     holds(rt, "each names its inode", k, all);
-    let next = ino_of(v, shape, ROOT, numbered(count).as_slice())?;
+    let next = ino_of(v, shape, ROOT, numbered(count).as_slice()).expect(rt, "the next name");
     same(rt, k, &next, &None);
-    Ok(())
 }
 
 /// Makes the call of a row, the `k`th of its table.
@@ -166,59 +160,71 @@ fn check_row<V: Volume>(
     shape: &VolumeShape,
     k: u64,
     row: Row,
-) -> Result<(), Fail>
+)
     requires sound { V.sound v.old }
     requires dirs { DirsReady shape.now (V.seen v.old) (V.kept v.old) }
-    ensures dirs { OnOk result (DirsReady shape.now (V.seen v.new) (V.kept v.new)) }
+    ensures dirs { DirsReady shape.now (V.seen v.new) (V.kept v.new) }
     ensures sound { V.sound v.new }
 {
     match row {
-        Row::Make(made) => make_change(alloc, v, shape, made),
+        Row::Make(made) => make_change(rt, alloc, v, shape, made),
         Row::NoSpace(dir, name, i) => {
             let came = plan_row(alloc, v, shape, dir_of(dir), name, node_of(i));
             same(rt, k, &came.err(), &Some(SizeFail::NoSpace));
-            Ok(())
         }
         Row::Names(dir, name, due) => {
-            let came = ino_of(v, shape, dir_of(dir), name)?;
+            let came = ino_of(v, shape, dir_of(dir), name).expect(rt, "a name");
             same(rt, k, &came, &due);
-            Ok(())
         }
         Row::Slot(dir, name, due) => {
-            let came = slot_of(v, shape, dir_of(dir), name)?;
+            let came = slot_of(v, shape, dir_of(dir), name).expect(rt, "a slot");
             same(rt, k, &came, &due);
-            Ok(())
         }
         Row::Size(dir, due) => {
-            let came = size_of(v, shape, dir_of(dir))?;
+            let came = size_of(v, shape, dir_of(dir)).expect(rt, "a size");
             same(rt, k, &came, &due);
-            Ok(())
         }
         Row::Free(due) => {
-            let came = free_blocks(v, shape)?;
+            let came = free_blocks(v, shape).expect(rt, "the free blocks are counted");
             same(rt, k, &came, &due);
-            Ok(())
         }
         Row::Lists(dir, due) => check_list(rt, alloc, v, shape, k, dir_of(dir), due),
         Row::Numbered(count) => check_numbered(rt, v, shape, k, count),
     }
 }
 
-/// Makes the calls of a table one after the other, on a volume with nine directories without names.
+/// Makes the calls of a table one after the other.
+fn check_each<V: Volume>(
+    rt: &impl Abort,
+    alloc: Global,
+    v: &mut V,
+    shape: &VolumeShape,
+    table: u64,
+    rows: &[Row],
+)
+    requires sound { V.sound v.old }
+    requires dirs { DirsReady shape.now (V.seen v.old) (V.kept v.old) }
+{
+    for k in 0..rows.len() {
+        check_row(rt, alloc, v, shape, place(table, k), rows[k]);
+    }
+}
+
+/// Row `k` of a table: the thousands are the table.
+fn place(table: u64, k: usize) -> u64 {
+    table.saturating_mul(1000).saturating_add(k as u64)
+}
+
+/// Makes the calls of a table on a volume with nine directories without names.
 pub(crate) fn check_rows(
     rt: &impl Abort,
     alloc: Global,
     shape: &VolumeShape,
+    table: u64,
     rows: &[Row],
-) -> Result<(), Fail>
+)
     requires { IsTestShape shape.now }
 {
-    let mut v = with_dirs(alloc, shape)?;
-    for k in 0..rows.len() {
-        if let Err(fail) = check_row(rt, alloc, &mut v, shape, k as u64, rows[k]) {
-            holds(rt, "no failure", k as u64, false);
-            return Err(fail);
-        }
-    }
-    Ok(())
+    let mut v = with_dirs(rt, alloc, shape);
+    check_each(rt, alloc, &mut v, shape, table, rows);
 }

@@ -6,6 +6,3 @@ add-requires-clause-dir g c = record { from = omega arith; to = omega arith }
 
 pub add-requires-clause-ino : goal.add-requires-clause-ino
 add-requires-clause-ino g c = record { from = omega arith; to = omega arith }
-
-pub loop-n-preserved : goal.loop-n-preserved
-loop-n-preserved g c = record { dirs = c.in_ok-add.ensures.dirs; sound = c.add.ensures.sound }

@@ -3,6 +3,3 @@ use Rattle.directories_tests.proofs.numbered.remove_numbered.Goals as goal
 
 pub remove-requires-clause-dir : goal.remove-requires-clause-dir
 remove-requires-clause-dir g c = record { from = omega arith; to = omega arith }
-
-pub loop-n-preserved : goal.loop-n-preserved
-loop-n-preserved g c = record { dirs = c.in_ok-remove.ensures.dirs; sound = c.remove.ensures.sound }
