@@ -34,6 +34,8 @@ pub(crate) enum Came {
     Place(Option<WordAt>),
     /// The call may not be made there.
     OutOfPlace,
+    /// There is no such call.
+    NoCall,
 }
 
 impl From<Result<(), Stopped>> for Came {
@@ -348,7 +350,7 @@ impl Rig {
             "trapped" => Came::Place(self.board.trapped()),
             "pages" => Came::Number(self.board.pages() as u64),
             "blocks" => Came::Number(self.board.disk_blocks() as u64),
-            _ => Came::OutOfPlace,
+            _ => Came::NoCall,
         }
     }
 
