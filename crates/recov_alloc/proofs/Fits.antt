@@ -1,12 +1,12 @@
 -- The lowest gap, by runs of free and of used units.
-use Rattle.std.proofs.Common.{◌≡◌, ◌≢◌, ℕ, ◌+◌, ◌-◌, ◌*◌, ◌/◌, ◌%◌, ◌<◌, ◌≤◌, ◌⊎◌, inl, inr, sym, ap, subst, ◌∙◌, arith, List, ◌^◌}
+use Rattle.std.proofs.Common.{◌≡◌, ◌≢◌, ℕ, ◌+◌, ◌-◌, ◌*◌, ◌/◌, ◌%◌, ◌<◌, ◌≤◌, ◌⊎◌, inl, inr, sym, ap, subst, ◌∙◌, arith, List, ◌^◌, bit_and}
 use Rattle.std.specs.Prelude.{slice_index}
 use Rattle.std.specs.Int.{bit_at}
-use Rattle.std.proofs.lemmas.Nat.Bits.{bit_at_ones}
+use Rattle.std.proofs.lemmas.Nat.Bits.{bit_at-lt, bit_at_and, bit_at_ones}
 use Rattle.rio_base.specs.Regions.{AreWords}
 use Rattle.rio_model.specs.Heap.{used, starts}
 use Rattle.undo_list.specs.Bits.{IsOnes, IsZeros}
-use Rattle.recov_alloc.specs.Scans.{Before, FoundBy}
+use Rattle.recov_alloc.specs.Scans.{AllFull, Before, FoundBy}
 
 -- ---- units of a word
 
@@ -108,12 +108,60 @@ some_ones word bit n m z inner o = by (grind arith)
         let place : bit + n + m ≡ bit + n = omega (arith, e) in
         absurd (omega (arith, z.end inside, sym (ap (bit_at word) place) ∙ none))
 
--- a word whose bits are all 1
-pub full_page : (l : ℕ → ℕ) (word page units before : ℕ) → word ≡ 2 ^ 64 - 1 → word ≡ l (2 * page) → Before l units (64 * page) before → Before l units (64 * (page + 1)) 0
-full_page l word page units before all is b = subst (λ x. Before l units x 0) (omega arith) (used_on l units (64 * page) before 64 b (omega arith) full)
+-- ---- full pages
+
+pub word_full : (word : ℕ) → word ≡ 2 ^ 64 - 1 → (u : ℕ) → u < 64 → bit_at word u ≡ 1
+word_full word all u small = ap (λ w. bit_at w u) all ∙ bit_at_ones 64 u small
+
+-- each bit of four words whose bits are all 1 together
+four_full : (a b c d u : ℕ) → bit_and (bit_and (bit_and a b) c) d ≡ 2 ^ 64 - 1 → u < 64 → (bit_at a u ≡ 1) × (bit_at b u ≡ 1) × (bit_at c u ≡ 1) × (bit_at d u ≡ 1)
+four_full a b c d u all small =
+    let one = word_full (bit_and (bit_and (bit_and a b) c) d) all u small in
+    let last = bit_at_and (bit_and (bit_and a b) c) d u in
+    let third = bit_at_and (bit_and a b) c u in
+    let two = bit_at_and a b u in
+    (omega (arith, one, last, third, two, bit_at-lt a u), omega (arith, one, last, third, two, bit_at-lt b u), omega (arith, one, last, third, bit_at-lt c u), omega (arith, one, last, bit_at-lt d u))
+
+pub none_full : (words : List ℕ) (from : ℕ) → AllFull words from from
+none_full words from = record { each = λ i u low high small. absurd (omega (arith, low, high)) }
+
+pub full_more : (words : List ℕ) (from page : ℕ) → AllFull words from page → ((u : ℕ) → u < 64 → bit_at (slice_index words (2 * page)) u ≡ 1) → AllFull words from (page + 1)
+full_more words from page full ones = record { each = λ i u low high small. by i u low small (grind arith) }
   where
-    full : (y : ℕ) → 64 * page ≤ y → y < 64 * page + 64 → used l y ≢ 0
-    full y low high = λ e. let one : used l y ≡ 1 = used_bit l word page y is low high ∙ ap (λ w. bit_at w (y - 64 * page)) all ∙ bit_at_ones 64 (y - 64 * page) (omega arith) in omega (arith, one, e)
+    by : (i u : ℕ) → from ≤ i → u < 64 → (i < page) ⊎ (i ≡ page) → bit_at (slice_index words (2 * i)) u ≡ 1
+    by i u low small (inl h) = full.each i u low h small
+    by i u low small (inr e) = ap (λ k. bit_at (slice_index words (2 * k)) u) e ∙ ones u small
+
+pub four_more : (words : List ℕ) (from page : ℕ) → AllFull words from page → bit_and (bit_and (bit_and (slice_index words (2 * page)) (slice_index words (2 * page + 2))) (slice_index words (2 * page + 4))) (slice_index words (2 * page + 6)) ≡ 2 ^ 64 - 1 → AllFull words from (page + 4)
+four_more words from page full all =
+    let one : AllFull words from (page + 1) = full_more words from page full (λ u small. (bits u small).0) in
+    let two : AllFull words from (page + 1 + 1) = full_more words from (page + 1) one (λ u small. moved (2 * (page + 1)) (2 * page + 2) u (omega arith) (bits u small).1) in
+    let three : AllFull words from (page + 1 + 1 + 1) = full_more words from (page + 1 + 1) two (λ u small. moved (2 * (page + 1 + 1)) (2 * page + 4) u (omega arith) (bits u small).2) in
+    let four : AllFull words from (page + 1 + 1 + 1 + 1) = full_more words from (page + 1 + 1 + 1) three (λ u small. moved (2 * (page + 1 + 1 + 1)) (2 * page + 6) u (omega arith) (bits u small).3) in
+    subst (λ k. AllFull words from k) (omega arith) four
+  where
+    bits : (u : ℕ) → u < 64 → (bit_at (slice_index words (2 * page)) u ≡ 1) × (bit_at (slice_index words (2 * page + 2)) u ≡ 1) × (bit_at (slice_index words (2 * page + 4)) u ≡ 1) × (bit_at (slice_index words (2 * page + 6)) u ≡ 1)
+    bits u small = four_full (slice_index words (2 * page)) (slice_index words (2 * page + 2)) (slice_index words (2 * page + 4)) (slice_index words (2 * page + 6)) u all small
+
+    moved : (j k u : ℕ) → j ≡ k → bit_at (slice_index words k) u ≡ 1 → bit_at (slice_index words j) u ≡ 1
+    moved j k u same one = ap (λ i. bit_at (slice_index words i) u) same ∙ one
 
 pub word_in : (f : ℕ → ℕ) (words : List ℕ) (page count i : ℕ) → AreWords f (2 * page) (2 * count) words → i < count → slice_index words (2 * i) ≡ f (2 * (page + i))
 word_in f words page count i h small = h.each (2 * i) (omega arith) ∙ ap f (omega arith)
+
+-- full pages in front of a page: free units from before them do not reach it
+pub full_behind : (l : ℕ → ℕ) (words : List ℕ) (page count units i next run left : ℕ) → AreWords l (2 * page) (2 * count) words → AllFull words i next → next ≤ count → (next - i ≡ 0 → left ≡ run) → (1 ≤ next - i → left ≡ 0) → Before l units (64 * (page + i)) run → i ≤ next → Before l units (64 * (page + next)) left
+full_behind l words page count units i next run left are full most none some b order = by (grind arith)
+  where
+    at : (z j : ℕ) → i ≤ j → j < next → 64 * (page + j) ≤ z → z < 64 * (page + j) + 64 → used l z ≢ 0
+    at z j low high from to = λ e. let one : used l z ≡ 1 = used_bit l (slice_index words (2 * j)) (page + j) z (word_in l words page count j are (omega (arith, high, most))) from to ∙ full.each j (z - 64 * (page + j)) low high (omega (arith, from, to)) in omega (arith, one, e)
+
+    each : (z : ℕ) → 64 * (page + i) ≤ z → z < 64 * (page + i) + 64 * (next - i) → used l z ≢ 0
+    each z low high = at z (z / 64 - page) (omega (arith, low)) (omega (arith, low, high)) (omega (arith, low)) (omega (arith, low))
+
+    by : (i ≡ next) ⊎ (i < next) → Before l units (64 * (page + next)) left
+    by (inl e) = subst (λ k. Before l units (64 * (page + next)) k) (sym (none (omega (arith, e)))) (subst (λ k. Before l units (64 * (page + k)) run) e b)
+    by (inr more) = subst (λ k. Before l units (64 * (page + next)) k) (sym (some (omega (arith, more)))) (subst (λ x. Before l units x 0) (omega (arith, more)) (used_on l units (64 * (page + i)) run (64 * (next - i)) b (omega (arith, more)) each))
+
+pub found_later : (l : ℕ → ℕ) (n x y t : ℕ) → x ≤ y → FoundBy l n x t → FoundBy l n y t
+found_later l n x y t later f = record { within = omega (arith, f.within, later); free = f.free; lowest = f.lowest }

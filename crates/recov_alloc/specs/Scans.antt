@@ -1,5 +1,6 @@
 -- What the search for the lowest gap has seen.
-use Rattle.std.specs.Prelude.{◌≡◌, ◌≢◌, ℕ, ◌+◌, ◌-◌, ◌<◌, ◌≤◌}
+use Rattle.std.specs.Prelude.{◌≡◌, ◌≢◌, ℕ, ◌+◌, ◌-◌, ◌*◌, ◌<◌, ◌≤◌, List, slice_index}
+use Rattle.std.specs.Int.{bit_at}
 use Rattle.rio_model.specs.Heap.{used}
 use Rattle.recov_alloc.specs.declared.fitting.Scan.{Scan}
 use Rattle.recov_alloc.specs.declared.fitting.Scan.TheVariants.{Found, Run}
@@ -26,3 +27,7 @@ ScanEnds l n x (Run k) = Before l n x k
 abbrev pub RunFits : ℕ → ℕ → Scan → Type 0
 RunFits n x (Found t) = Unit {0}
 RunFits n x (Run k) = (k < n) × (k ≤ x)
+
+-- the pages from one to before another have no free unit, by the map words of all, of which each page has two
+pub record AllFull (words : List ℕ) (from to : ℕ) : Type 0 where
+  pub each : (i u : ℕ) → from ≤ i → i < to → u < 64 → bit_at (slice_index words (2 * i)) u ≡ 1

@@ -1,11 +1,11 @@
 //! The lowest gap of the heap map.
 
-ghost use Rattle.std.specs.Prelude.{◌≡◌, ℕ, ◌+◌, ◌*◌, ◌<◌, ◌≤◌, IfOk, length};
+ghost use Rattle.std.specs.Prelude.{◌≡◌, ◌≢◌, ℕ, ◌+◌, ◌-◌, ◌*◌, ◌^◌, ◌<◌, ◌≤◌, IfOk, length, slice_index};
 ghost use Rattle.rio_base.specs.Blocks.{Ends};
 ghost use Rattle.rio_base.specs.Regions.{AreWords, Stays};
 ghost use Rattle.rio_model.specs.Undo.{IsRegion, live};
 ghost use Rattle.rio_model.specs.Heap.{Finds, units_of};
-ghost use Rattle.recov_alloc.specs.Scans.{Before, RunFits, ScanEnds};
+ghost use Rattle.recov_alloc.specs.Scans.{AllFull, Before, RunFits, ScanEnds};
 
 use rio_base::{RegionWords, VolFail};
 use undo_list::{data_pages, ones_from, read_places, zeros_from};
@@ -50,21 +50,57 @@ fn look_in(word: u64, page: u32, before: u32, units: u32) -> Scan
     Scan::Run(run)
 }
 
-/// The same, where a page that has no free unit is passed over at once.
-fn look_in_page(word: u64, page: u32, before: u32, units: u32) -> Scan
-    requires page { 64 * (page + 1) < 4294967296 }
-    requires before { before < units }
-    requires within { before ≤ 64 * page }
-    ensures run { RunFits units (64 * (page + 1)) result }
-    ensures scan { (l : ℕ → ℕ) → word ≡ l (2 * page) → Before l units (64 * page) before → ScanEnds l units (64 * (page + 1)) result }
+/// The page up to which those from `from` on are passed over by fours that have no free unit, by the map words of `count`
+/// pages: the used bits of four pages are all 1 together where those of each are.
+fn past_fours(words: &[u64], from: u32, count: u32) -> u32
+    requires words { length words.now ≡ 2 * count }
+    requires from { from ≤ count }
+    ensures low { from ≤ result }
+    ensures high { result ≤ count }
+    ensures full { AllFull words.now from result }
 {
-    if word == u64::MAX {
-        return Scan::Run(0);
+    let mut page = from;
+    while 4 <= count - page {
+        let at = 2 * page as usize;
+        let four = words[at] & words[at + 2] & words[at + 4] & words[at + 6];
+        if four != u64::MAX {
+            return page;
+        }
+        page += 4;
     }
-    look_in(word, page, before, units)
+    page
 }
 
-/// The same of the map words of `count` pages.
+/// The first page from `from` on that has a free unit, or `count` where none has, by the map words of `count` pages.
+fn past_full(words: &[u64], from: u32, count: u32) -> u32
+    requires words { length words.now ≡ 2 * count }
+    requires from { from ≤ count }
+    ensures low { from ≤ result }
+    ensures high { result ≤ count }
+    ensures full { AllFull words.now from result }
+    ensures end { result < count → slice_index words.now (2 * result) ≢ 2 ^ 64 - 1 }
+{
+    let mut page = past_fours(words, from, count);
+    while page < count {
+        let word = words[2 * page as usize];
+        if word != u64::MAX {
+            return page;
+        }
+        page += 1;
+    }
+    page
+}
+
+/// The free units just before a page with `full` full pages in front of it, before which `before` free units lie.
+fn run_behind(before: u32, full: u32) -> u32
+    ensures none { full ≡ 0 → result ≡ before }
+    ensures some { 1 ≤ full → result ≡ 0 }
+    ensures most { result ≤ before }
+{
+    if full == 0 { before } else { 0 }
+}
+
+/// As [`look_in`], of the map words of `count` pages, where full ones are passed over.
 fn look_in_run(words: &[u64], page: u32, count: u32, before: u32, units: u32) -> Scan
     requires words { length words.now ≡ 2 * count }
     requires page { 64 * (page + count) < 4294967296 }
@@ -74,11 +110,18 @@ fn look_in_run(words: &[u64], page: u32, count: u32, before: u32, units: u32) ->
     ensures scan { (l : ℕ → ℕ) → AreWords l (2 * page) (2 * count) words.now → Before l units (64 * page) before → ScanEnds l units (64 * (page + count)) result }
 {
     let mut run = before;
-    for i in 0..count {
-        match look_in_page(words[2 * i as usize], page + i, run, units) {
-            Scan::Found(at) => return Scan::Found(at),
-            Scan::Run(left) => run = left,
+    let mut i = 0;
+    while i < count {
+        let next = past_full(words, i, count);
+        let left = run_behind(run, next - i);
+        if next == count {
+            return Scan::Run(left);
         }
+        match look_in(words[2 * next as usize], page + next, left, units) {
+            Scan::Found(at) => return Scan::Found(at),
+            Scan::Run(rest) => run = rest,
+        }
+        i = next + 1;
     }
     Scan::Run(run)
 }
