@@ -77,6 +77,28 @@ staged_short f m g at head place p from n c k saved rest behind place_is count_i
     behind_front : (j : ℕ) → j < length saved → slice_index line (3 + j) ≡ slice_index saved j
     behind_front j small = get_or-append-add (head ∷ p ∷ c ∷ []) (saved ++ rest) j 0 ∙ get_or_append_left saved rest 0 j small
 
+-- a record of two words that were read, all of it at once
+pub staged_pair : (f g : RegionContent) (at head place p a b : ℕ) → p ≡ place → g ≡ put_words f (512 + at) 5 (head ∷ p ∷ 2 ∷ a ∷ b ∷ []) → (from : ℕ) → a ≡ f from → b ≡ f (from + 1) → Staged f g at head place from 2
+staged_pair f g at head place p a b place_is put from one two = record {
+  older = all (512 + at) 0 (omega arith) (omega arith);
+  first = all (512 + (at + 1)) 1 (omega arith) (omega arith) ∙ place_is;
+  count = all (512 + (at + 2)) 2 (omega arith) (omega arith);
+  old = λ k small. saved k (grind arith);
+}
+  where
+    line : List ℕ
+    line = head ∷ p ∷ 2 ∷ a ∷ b ∷ []
+
+    all : (x i : ℕ) → x ≡ 512 + at + i → i < 5 → g x ≡ slice_index line i
+    all x i is small =
+        let index : x - (512 + at) ≡ i = omega arith in
+        let here : put_words f (512 + at) 5 line x ≡ slice_index line (x - (512 + at)) = grind (arith, nat_tests) in
+        ap (λ (w : RegionContent). w x) put ∙ here ∙ ap (slice_index line) index
+
+    saved : (k : ℕ) → (k ≡ 0) ⊎ (k ≡ 1) → undo_word g (at + 3 + k) ≡ f (from + k)
+    saved k (inl e) = all (512 + (at + 3 + k)) 3 (omega (arith, e)) (omega arith) ∙ one ∙ ap f (omega (arith, e))
+    saved k (inr e) = all (512 + (at + 3 + k)) 4 (omega (arith, e)) (omega arith) ∙ two ∙ ap f (omega (arith, e))
+
 -- ---- a region through a change of undo words that no record takes
 
 sizes_off : (from to : ℕ) (f g : RegionContent) → 512 ≤ from → Off from to f g → SameSizes f g

@@ -52,7 +52,28 @@ pub fn read_places<R: RegionWords>(r: &mut R, place: u32, into: &mut [u64]) -> R
     ensures ends { Ends (R.health r.old) (R.health r.new) result }
 {
     let undo = r.word(UNDO)?;
-    r.read_run(512 * (1 + undo as u32) + place, into)?;
+    read_places_with(r, undo as u32, place, into)
+}
+
+/// `read_places`, for a caller that has read the header: `undo` is how many undo pages there are.
+pub fn read_places_with<R: RegionWords>(
+    r: &mut R,
+    undo: u32,
+    place: u32,
+    into: &mut [u64],
+) -> Result<(), VolFail>
+    requires ready { R.ready r.old }
+    requires region { IsRegion (R.count r.old) (R.words r.old) }
+    requires undo { undo ≡ R.words r.old 1 }
+    requires place { place + length into.old ≤ places (R.words r.old) }
+    ensures value { OnOk result (AreWords (live (R.words r.old)) place (length into.old) into.new) }
+    ensures len { length into.new ≡ length into.old }
+    ensures words { R.words r.new ≡ R.words r.old }
+    ensures region { IsRegion (R.count r.new) (R.words r.new) }
+    ensures stays { Stays R.keeps_rest R.ready R.count R.health R.below r.old r.new }
+    ensures ends { Ends (R.health r.old) (R.health r.new) result }
+{
+    r.read_run(512 * (1 + undo) + place, into)?;
     Ok(())
 }
 

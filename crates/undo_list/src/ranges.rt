@@ -1,9 +1,9 @@
 //! One record more: the present words of a span of places.
 
-ghost use Rattle.std.specs.Prelude.{◌≡◌, ◌+◌, ◌*◌, ◌<◌, ◌≤◌, ◌⊎◌, IfOk, IsErrOf, OnOk};
+ghost use Rattle.std.specs.Prelude.{◌≡◌, ℕ, ◌+◌, ◌*◌, ◌<◌, ◌≤◌, ◌⊎◌, IfOk, IsErrOf, OnOk};
 ghost use Rattle.rio_base.specs.Blocks.{Ends, EndsBy};
 ghost use Rattle.rio_base.specs.Regions.{Stays};
-ghost use Rattle.rio_model.specs.Undo.{Gains, IsRegion, Rests, Undoes, places, taken, undo_records, undo_words};
+ghost use Rattle.rio_model.specs.Undo.{Gains, IsRegion, Rests, Undoes, live, places, taken, undo_records, undo_words};
 ghost use Rattle.undo_list.specs.Headers.{IsHeader};
 ghost use Rattle.undo_list.specs.Stages.{Off, Staged};
 
@@ -128,6 +128,54 @@ fn publish<R: RegionWords>(
     r.set(UNDO_HEAD, u64::from(at) + 1)
 }
 
+/// Writes a record of two words, as `stage` does, whose words the caller has read: `first` and `second`.
+fn stage_pair<R: RegionWords>(
+    r: &mut R,
+    at: u32,
+    head: u64,
+    place: u32,
+    first: u64,
+    second: u64,
+) -> Result<(), VolFail>
+    requires ready { R.ready r.old }
+    requires room { 515 + at + 2 ≤ R.count r.old }
+    ensures ok { OnOk result ((from : ℕ) → first ≡ R.words r.old from → second ≡ R.words r.old (from + 1) → Staged (R.words r.old) (R.words r.new) at head place from 2) }
+    ensures off { Off (512 + at) (515 + at + 2) (R.words r.old) (R.words r.new) }
+    ensures stays { Stays R.keeps_rest R.ready R.count R.health R.below r.old r.new }
+    ensures ends { Ends (R.health r.old) (R.health r.new) result }
+{
+    let record = [head, u64::from(place), 2, first, second];
+    uncounted(r.set_run(512 + at, &record))
+}
+
+/// Adds the record of two words at `place`, as `publish` does, whose words the caller has read. `head` names the newest
+/// record.
+fn publish_pair<R: RegionWords>(
+    r: &mut R,
+    at: u32,
+    head: u64,
+    place: u32,
+    first: u64,
+    second: u64,
+) -> Result<(), VolFail>
+    requires ready { R.ready r.old }
+    requires region { IsRegion (R.count r.old) (R.words r.old) }
+    requires at { at ≡ taken (undo_records (R.words r.old)) }
+    requires head { head ≡ R.words r.old 3 }
+    requires place { place + 2 ≤ places (R.words r.old) }
+    requires room { at + 3 + 2 ≤ undo_words (R.words r.old) }
+    requires first { first ≡ live (R.words r.old) place }
+    requires second { second ≡ live (R.words r.old) (place + 1) }
+    ensures ok { OnOk result (Gains (R.count r.old) (R.words r.old) (R.words r.new) place 2) }
+    ensures fault { IsErrOf result VolFail.Fault → Rests (R.count r.old) (R.words r.old) (R.words r.new) }
+    ensures either { Rests (R.count r.old) (R.words r.old) (R.words r.new) ⊎ Gains (R.count r.old) (R.words r.old) (R.words r.new) place 2 }
+    ensures stays { Stays R.keeps_rest R.ready R.count R.health R.below r.old r.new }
+    ensures ends { Ends (R.health r.old) (R.health r.new) result }
+{
+    stage_pair(r, at, head, place, first, second)?;
+    r.set(UNDO_HEAD, u64::from(at) + 1)
+}
+
 /// Saves the present words of `count` places from `place` on in one record, which takes `3 + count` undo words. `Full`
 /// comes exactly where those are not free, and changes nothing. `Fault` leaves the records as they were; `Stopped` leaves
 /// them with the new one or without.
@@ -177,5 +225,38 @@ pub fn set_range_with<R: RegionWords>(
         return Err(UndoFail::Full);
     }
     publish(r, at, header, place, count)?;
+    Ok(())
+}
+
+/// `set_range_with` of two places, for a caller that has read their words, `first` and `second`, too.
+pub fn set_pair_with<R: RegionWords>(
+    r: &mut R,
+    header: Header,
+    place: u32,
+    first: u64,
+    second: u64,
+) -> Result<(), UndoFail>
+    requires ready { R.ready r.old }
+    requires region { IsRegion (R.count r.old) (R.words r.old) }
+    requires header { IsHeader (R.words r.old) header }
+    requires place { place + 2 ≤ places (R.words r.old) }
+    requires first { first ≡ live (R.words r.old) place }
+    requires second { second ≡ live (R.words r.old) (place + 1) }
+    ensures ok { OnOk result (Gains (R.count r.old) (R.words r.old) (R.words r.new) place 2) }
+    ensures room { OnOk result (taken (undo_records (R.words r.old)) + 3 + 2 ≤ undo_words (R.words r.old)) }
+    ensures full { IsErrOf result UndoFail.Full → undo_words (R.words r.old) < taken (undo_records (R.words r.old)) + 3 + 2 }
+    ensures refused { IsErrOf result UndoFail.Full → R.words r.new ≡ R.words r.old }
+    ensures fault { IsErrOf result UndoFail.Fault → Rests (R.count r.old) (R.words r.old) (R.words r.new) }
+    ensures either { Rests (R.count r.old) (R.words r.old) (R.words r.new) ⊎ Gains (R.count r.old) (R.words r.old) (R.words r.new) place 2 }
+    ensures before { Undoes (R.count r.old) (R.words r.old) (R.words r.new) }
+    ensures region { IsRegion (R.count r.new) (R.words r.new) }
+    ensures stays { Stays R.keeps_rest R.ready R.count R.health R.below r.old r.new }
+    ensures ends { EndsBy (R.health r.old) (R.health r.new) (IsErrOf result UndoFail.Fault) (IsErrOf result UndoFail.Stopped) }
+{
+    let at = taken(r, header.head)?;
+    if 512 * header.undo - at < FRONT_WORDS + 2 {
+        return Err(UndoFail::Full);
+    }
+    publish_pair(r, at, header.head, place, first, second)?;
     Ok(())
 }
