@@ -6,9 +6,9 @@ use Rattle.std.proofs.lemmas.Bool.{cases_eq}
 use Rattle.std.proofs.lemmas.Bool.Decides.{nat_tests}
 use Rattle.rio_base.specs.Regions.{AreWords, RegionContent, put_words}
 use Rattle.rio_model.specs.Undo.{CoversAll, Gains, is_covered, live, saving, undo_records}
-use Rattle.rio_model.specs.Heap.{AddsBlock, Allocates, IsBlock, IsFirstFit, OffBlock, Releases, RemovesBlock, starts, touched_pages, used}
+use Rattle.rio_model.specs.Heap.{Allocates, IsBlock, IsFirstFit, Releases, starts, touched_pages, used}
 use Rattle.undo_list.specs.Bits.{WithBits}
-use Rattle.recov_alloc.specs.Marks.{MapCovered, MarksBlock, StoresPair}
+use Rattle.recov_alloc.specs.Marks.{ChangesMap, MapCovered, MarksBlock, StoresPair}
 use Rattle.recov_alloc.proofs.MarksLaws.{MarksUnits}
 
 -- ---- the two map words of a page
@@ -135,24 +135,43 @@ page_covered f g t n x j same covered low some high q a b = ap (λ rs. is_covere
 
 -- ---- blocks
 
-pub allocated : (f f2 g h : RegionContent) (k units t : ℕ) → f2 ≡ f → IsFirstFit (live f) (64 * f 2) units t → Gains k f2 g (2 * (t / 64)) (2 * touched_pages t units) → MarksBlock (live g) (live h) t units 1 → undo_records h ≡ undo_records g → Allocates f h units t
-allocated f f2 g h k units t same fit gain marks recs = record {
-  fit = fit;
-  added = subst (λ l. AddsBlock l (live h) t units) present (record { used = marks.used; starts = marks.starts });
-  others = subst (λ l. OffBlock l (live h) t units) present marks.others;
-  records = recs ∙ gain.records ∙ ap (λ (w : RegionContent). saving (live w) (2 * (t / 64)) (2 * touched_pages t units) ∷ undo_records w) same;
-}
+-- the bits of a block in one page are stored at once
+pub page_marked : (l m : ℕ → ℕ) (t n v : ℕ) → 1 ≤ n → t % 64 + n ≤ 64 → StoresPair l m t n 1 v → MarksBlock l m t n v
+page_marked l m t n v some fits p = block_marked l m t n (t + n) v some refl (units_more l l m t t n 1 v (omega arith) some fits (grind (arith, nat_tests)) none p)
   where
-    present : live g ≡ live f
-    present = gain.present ∙ ap live same
+    none : MarksUnits l l t t v
+    none = record {
+      used = λ y. sym (out_units t t (used l y) v y (grind arith));
+      starts = λ y. sym (no_start t t (starts l y) v y (inr (omega arith)));
+      others = λ q out. refl;
+    }
 
-pub released : (f f2 g h : RegionContent) (k units t : ℕ) → f2 ≡ f → IsBlock (live f) (64 * f 2) t units → Gains k f2 g (2 * (t / 64)) (2 * touched_pages t units) → MarksBlock (live g) (live h) t units 0 → undo_records h ≡ undo_records g → Releases f h units t
-released f f2 g h k units t same block gain marks recs = record {
-  block = block;
-  removed = subst (λ l. RemovesBlock l (live h) t units) present (record { used = marks.used; starts = marks.starts });
-  others = subst (λ l. OffBlock l (live h) t units) present marks.others;
-  records = recs ∙ gain.records ∙ ap (λ (w : RegionContent). saving (live w) (2 * (t / 64)) (2 * touched_pages t units) ∷ undo_records w) same;
+pub one_page : (t n : ℕ) → 1 ≤ n → t % 64 + n ≤ 64 → touched_pages t n ≡ 1
+one_page t n some fits = omega (arith, some, fits)
+
+-- a record of the map words that stood is made, and then the bits are stored
+pub changed : (f f1 g h : RegionContent) (k t n v : ℕ) → f1 ≡ f → Gains k f1 g (2 * (t / 64)) (2 * touched_pages t n) → MarksBlock (live g) (live h) t n v → undo_records h ≡ undo_records g → ChangesMap f h t n v
+changed f f1 g h k t n v same gain marks recs = record {
+  marks = subst (λ l. MarksBlock l (live h) t n v) (gain.present ∙ ap live same) marks;
+  records = recs ∙ gain.records ∙ ap (λ (w : RegionContent). saving (live w) (2 * (t / 64)) (2 * touched_pages t n) ∷ undo_records w) same;
 }
-  where
-    present : live g ≡ live f
-    present = gain.present ∙ ap live same
+
+pub allocated : (f f1 f2 h : RegionContent) (units t : ℕ) → f1 ≡ f → f2 ≡ f1 → IsFirstFit (live f1) (64 * f1 2) units t → ChangesMap f2 h t units 1 → Allocates f h units t
+allocated f f1 f2 h units t first second fit change =
+    let now = subst (λ w. ChangesMap w h t units 1) (second ∙ first) change in
+    record {
+      fit = subst (λ (w : RegionContent). IsFirstFit (live w) (64 * w 2) units t) first fit;
+      added = record { used = now.marks.used; starts = now.marks.starts };
+      others = now.marks.others;
+      records = now.records;
+    }
+
+pub released : (f f1 f2 h : RegionContent) (units t : ℕ) → f1 ≡ f → f2 ≡ f1 → IsBlock (live f1) (64 * f1 2) t units → ChangesMap f2 h t units 0 → Releases f h units t
+released f f1 f2 h units t first second block change =
+    let now = subst (λ w. ChangesMap w h t units 0) (second ∙ first) change in
+    record {
+      block = subst (λ (w : RegionContent). IsBlock (live w) (64 * w 2) t units) first block;
+      removed = record { used = now.marks.used; starts = now.marks.starts };
+      others = now.marks.others;
+      records = now.records;
+    }

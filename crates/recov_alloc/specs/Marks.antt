@@ -1,7 +1,7 @@
 -- Bits of the heap map that are stored.
-use Rattle.std.specs.Prelude.{◌≡◌, ℕ, ◌+◌, ◌*◌, ◌/◌, ◌%◌, ◌<◌, ◌⊎◌, ◌&&◌, ◌==◌, nat_le, nat_lt, if◌then◌else◌}
+use Rattle.std.specs.Prelude.{◌≡◌, ℕ, ◌+◌, ◌*◌, ◌/◌, ◌%◌, ◌<◌, ◌⊎◌, ◌&&◌, ◌==◌, nat_le, nat_lt, if◌then◌else◌, ◌∷◌}
 use Rattle.rio_base.specs.Regions.{RegionContent}
-use Rattle.rio_model.specs.Undo.{CoversAll, undo_records}
+use Rattle.rio_model.specs.Undo.{CoversAll, live, saving, undo_records}
 use Rattle.rio_model.specs.Heap.{OffBlock, starts, touched_pages, used}
 use Rattle.undo_list.specs.Bits.{WithBits}
 
@@ -21,3 +21,8 @@ pub record MarksBlock (l m : ℕ → ℕ) (t n v : ℕ) : Type 0 where
 -- the map words of a block's pages are covered by records
 abbrev pub MapCovered : RegionContent → ℕ → ℕ → Type 0
 MapCovered f t n = CoversAll (undo_records f) (2 * (t / 64)) (2 * touched_pages t n)
+
+-- the bits of a block are v, under a record of the map words of its pages
+pub record ChangesMap (f g : RegionContent) (t n v : ℕ) : Type 0 where
+  pub marks : MarksBlock (live f) (live g) t n v
+  pub records : undo_records g ≡ saving (live f) (2 * (t / 64)) (2 * touched_pages t n) ∷ undo_records f

@@ -3,34 +3,15 @@
 ghost use Rattle.std.specs.Prelude.{◌≡◌, ℕ, ◌+◌, ◌*◌, ◌/◌, ◌<◌, ◌≤◌, ◌⊎◌, IfOk, IsErrOf, OnOk};
 ghost use Rattle.rio_base.specs.Blocks.{EndsBy};
 ghost use Rattle.rio_base.specs.Regions.{Stays};
-ghost use Rattle.rio_model.specs.Undo.{Gains, IsRegion, Rests, Undoes, live, taken, undo_records, undo_words};
+ghost use Rattle.rio_model.specs.Undo.{IsRegion, Undoes, live, taken, undo_records, undo_words};
 ghost use Rattle.rio_model.specs.Heap.{Allocates, IsBlock, IsFirstFit, IsGap, OfBlocks, Releases, heap_blocks, touched_pages, units_of, with_block, without_block};
 
+use crate::changing::change_map;
 use crate::extents::block_at;
 use crate::failures::HeapFail;
 use crate::fitting::first_fit;
-use crate::marking::mark_block;
 use rio_base::RegionWords;
-use undo_list::{UndoFail, set_range};
-
-/// Saves the map words of the pages that a block touches.
-fn save_map<R: RegionWords>(r: &mut R, at: u32, units: u32) -> Result<(), UndoFail>
-    requires ready { R.ready r.old }
-    requires region { IsRegion (R.count r.old) (R.words r.old) }
-    requires units { 1 ≤ units }
-    requires within { at + units ≤ units_of (R.words r.old) }
-    ensures ok { OnOk result (Gains (R.count r.old) (R.words r.old) (R.words r.new) (2 * (at / 64)) (2 * touched_pages at units)) }
-    ensures room { OnOk result (taken (undo_records (R.words r.old)) + 3 + 2 * touched_pages at units ≤ undo_words (R.words r.old)) }
-    ensures full { IsErrOf result UndoFail.Full → undo_words (R.words r.old) < taken (undo_records (R.words r.old)) + 3 + 2 * touched_pages at units }
-    ensures refused { IsErrOf result UndoFail.Full → R.words r.new ≡ R.words r.old }
-    ensures before { Undoes (R.count r.old) (R.words r.old) (R.words r.new) }
-    ensures stays { Stays R.keeps_rest R.ready R.count R.health R.below r.old r.new }
-    ensures ends { EndsBy (R.health r.old) (R.health r.new) (IsErrOf result UndoFail.Fault) (IsErrOf result UndoFail.Stopped) }
-{
-    let first = at / 64;
-    let last = (at + units - 1) / 64;
-    set_range(r, 2 * first, 2 * (last - first + 1))
-}
+use undo_list::read_header;
 
 /// Takes the lowest gap of `units` units as a block, and answers its first unit. `Full` comes exactly where there is no
 /// such gap, `UndoFull` exactly where there is one and the record of the block's map words, which takes 3 undo words and
@@ -54,11 +35,11 @@ pub fn allocate<R: RegionWords>(r: &mut R, units: u32) -> Result<u32, HeapFail>
     ensures stays { Stays R.keeps_rest R.ready R.count R.health R.below r.old r.new }
     ensures ends { EndsBy (R.health r.old) (R.health r.new) (IsErrOf result HeapFail.Fault) (IsErrOf result HeapFail.Stopped) }
 {
-    let Some(at) = first_fit(r, units)? else {
+    let header = read_header(r)?;
+    let Some(at) = first_fit(r, header, units)? else {
         return Err(HeapFail::Full);
     };
-    save_map(r, at, units)?;
-    mark_block(r, at, units, true)?;
+    change_map(r, header, at, units, true)?;
     Ok(at)
 }
 
@@ -81,10 +62,10 @@ pub fn release<R: RegionWords>(r: &mut R, unit: u32) -> Result<(), HeapFail>
     ensures stays { Stays R.keeps_rest R.ready R.count R.health R.below r.old r.new }
     ensures ends { EndsBy (R.health r.old) (R.health r.new) (IsErrOf result HeapFail.Fault) (IsErrOf result HeapFail.Stopped) }
 {
-    let Some(units) = block_at(r, unit)? else {
+    let header = read_header(r)?;
+    let Some(units) = block_at(r, header, unit)? else {
         return Err(HeapFail::NotBlock);
     };
-    save_map(r, unit, units)?;
-    mark_block(r, unit, units, false)?;
+    change_map(r, header, unit, units, false)?;
     Ok(())
 }

@@ -6,12 +6,13 @@ ghost use Rattle.rio_base.specs.Blocks.{Ends};
 ghost use Rattle.rio_base.specs.Regions.{Stays};
 ghost use Rattle.rio_model.specs.Undo.{IsRegion, live};
 ghost use Rattle.rio_model.specs.Heap.{IsBlock, OfBlocks, starts, units_of};
+ghost use Rattle.undo_list.specs.Headers.{IsHeader};
 ghost use Rattle.recov_alloc.specs.Bits.{ReachesInPage};
 ghost use Rattle.recov_alloc.specs.Extents.{BlockAt, Within};
 
 use crate::bits::units_on;
 use rio_base::{RegionWords, VolFail};
-use undo_list::{data_pages, read_places};
+use undo_list::{Header, read_places, read_places_with};
 
 /// Whether a block starts at a unit, by the starts of its page.
 fn is_start(starts: u64, unit: u32) -> bool
@@ -81,11 +82,17 @@ pub(crate) fn block_units<R: RegionWords>(r: &mut R, unit: u32, pages: u32) -> R
 }
 
 /// The same where some block starts at `unit`, and `None` where none does: the map words of its first page are read once for
-/// both.
-fn units_at<R: RegionWords>(r: &mut R, unit: u32, pages: u32) -> Result<Option<u32>, VolFail>
+/// both. The region has `undo` undo pages and `pages` data pages.
+fn units_at<R: RegionWords>(
+    r: &mut R,
+    undo: u32,
+    unit: u32,
+    pages: u32,
+) -> Result<Option<u32>, VolFail>
     requires ready { R.ready r.old }
     requires region { IsRegion (R.count r.old) (R.words r.old) }
     requires heap { OfBlocks (live (R.words r.old)) (R.words r.old 2) }
+    requires undo { undo ≡ R.words r.old 1 }
     requires pages { pages ≡ R.words r.old 2 }
     requires unit { unit < 64 * pages }
     ensures value { IfOk result (BlockAt (live (R.words r.old)) (units_of (R.words r.old)) unit) }
@@ -94,7 +101,7 @@ fn units_at<R: RegionWords>(r: &mut R, unit: u32, pages: u32) -> Result<Option<u
     ensures ends { Ends (R.health r.old) (R.health r.new) result }
 {
     let mut words = [0; 2];
-    read_places(r, 2 * (unit / 64), &mut words)?;
+    read_places_with(r, undo, 2 * (unit / 64), &mut words)?;
     let starts = words[1];
     if !is_start(starts, unit) {
         return Ok(None);
@@ -107,19 +114,25 @@ fn units_at<R: RegionWords>(r: &mut R, unit: u32, pages: u32) -> Result<Option<u
     Ok(Some(units))
 }
 
-/// How many units the block has that starts at `unit`. `None` comes where none does, as behind the region's last unit.
-pub(crate) fn block_at<R: RegionWords>(r: &mut R, unit: u32) -> Result<Option<u32>, VolFail>
+/// How many units the block has that starts at `unit`. `None` comes where none does, as behind the region's last unit. The
+/// caller has read the header.
+pub(crate) fn block_at<R: RegionWords>(
+    r: &mut R,
+    header: Header,
+    unit: u32,
+) -> Result<Option<u32>, VolFail>
     requires ready { R.ready r.old }
     requires region { IsRegion (R.count r.old) (R.words r.old) }
+    requires header { IsHeader (R.words r.old) header }
     requires heap { OfBlocks (live (R.words r.old)) (R.words r.old 2) }
     ensures value { IfOk result (BlockAt (live (R.words r.old)) (units_of (R.words r.old)) unit) }
     ensures words { R.words r.new ≡ R.words r.old }
     ensures stays { Stays R.keeps_rest R.ready R.count R.health R.below r.old r.new }
     ensures ends { Ends (R.health r.old) (R.health r.new) result }
 {
-    let pages = data_pages(r)?;
+    let pages = header.data;
     if 64 * pages <= unit {
         return Ok(None);
     }
-    units_at(r, unit, pages)
+    units_at(r, header.undo, unit, pages)
 }

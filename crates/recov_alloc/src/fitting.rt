@@ -5,10 +5,11 @@ ghost use Rattle.rio_base.specs.Blocks.{Ends};
 ghost use Rattle.rio_base.specs.Regions.{AreWords, Stays};
 ghost use Rattle.rio_model.specs.Undo.{IsRegion, live};
 ghost use Rattle.rio_model.specs.Heap.{Finds, units_of};
+ghost use Rattle.undo_list.specs.Headers.{IsHeader};
 ghost use Rattle.recov_alloc.specs.Scans.{AllFull, Before, RunFits, ScanEnds};
 
 use rio_base::{RegionWords, VolFail};
-use undo_list::{data_pages, ones_from, read_places, zeros_from};
+use undo_list::{Header, ones_from, read_places_with, zeros_from};
 
 /// Data pages whose map words the first call of a search reads. Each search clears a room for them, so they are few.
 const FIRST_PAGES: u32 = 8;
@@ -126,9 +127,11 @@ fn look_in_run(words: &[u64], page: u32, count: u32, before: u32, units: u32) ->
     Scan::Run(run)
 }
 
-/// Reads the map words of `count` pages from `page` on into `words`, which has room for just these, and looks in them.
+/// Reads the map words of `count` pages from `page` on into `words`, which has room for just these, and looks in them. The
+/// region has `undo` undo pages.
 fn look_in_pages<R: RegionWords>(
     r: &mut R,
+    undo: u32,
     words: &mut [u64],
     page: u32,
     count: u32,
@@ -137,6 +140,7 @@ fn look_in_pages<R: RegionWords>(
 ) -> Result<Scan, VolFail>
     requires ready { R.ready r.old }
     requires region { IsRegion (R.count r.old) (R.words r.old) }
+    requires undo { undo ≡ R.words r.old 1 }
     requires words { length words.old ≡ 2 * count }
     requires page { page + count ≤ R.words r.old 2 }
     requires before { before < units }
@@ -147,7 +151,7 @@ fn look_in_pages<R: RegionWords>(
     ensures stays { Stays R.keeps_rest R.ready R.count R.health R.below r.old r.new }
     ensures ends { Ends (R.health r.old) (R.health r.new) result }
 {
-    read_places(r, 2 * page, words)?;
+    read_places_with(r, undo, 2 * page, words)?;
     Ok(look_in_run(words, page, count, before, units))
 }
 
@@ -156,28 +160,29 @@ fn look_in_pages<R: RegionWords>(
 #[inline(never)]
 fn fit_from<R: RegionWords>(
     r: &mut R,
+    header: Header,
     units: u32,
-    pages: u32,
     from: u32,
     before: u32,
 ) -> Result<Option<u32>, VolFail>
     requires ready { R.ready r.old }
     requires region { IsRegion (R.count r.old) (R.words r.old) }
-    requires pages { pages ≡ R.words r.old 2 }
-    requires from { from ≤ pages }
+    requires header { IsHeader (R.words r.old) header }
+    requires from { from ≤ header.«data» }
     requires before { Before (live (R.words r.old)) units (64 * from) before }
     ensures value { IfOk result (Finds (live (R.words r.old)) (units_of (R.words r.old)) units) }
     ensures words { R.words r.new ≡ R.words r.old }
     ensures stays { Stays R.keeps_rest R.ready R.count R.health R.below r.old r.new }
     ensures ends { Ends (R.health r.old) (R.health r.new) result }
 {
+    let pages = header.data;
     let mut words = [0; 2 * RUN_PAGES as usize];
     let mut run = before;
     let mut page = from;
     while page < pages {
         let count = RUN_PAGES.min(pages - page);
         let room = &mut words[..2 * count as usize];
-        match look_in_pages(r, room, page, count, run, units)? {
+        match look_in_pages(r, header.undo, room, page, count, run, units)? {
             Scan::Found(at) => return Ok(Some(at)),
             Scan::Run(left) => run = left,
         }
@@ -186,26 +191,31 @@ fn fit_from<R: RegionWords>(
     Ok(None)
 }
 
-/// The first of the lowest `units` units after one another that are in no block.
-pub(crate) fn first_fit<R: RegionWords>(r: &mut R, units: u32) -> Result<Option<u32>, VolFail>
+/// The first of the lowest `units` units after one another that are in no block. The caller has read the header.
+pub(crate) fn first_fit<R: RegionWords>(
+    r: &mut R,
+    header: Header,
+    units: u32,
+) -> Result<Option<u32>, VolFail>
     requires ready { R.ready r.old }
     requires region { IsRegion (R.count r.old) (R.words r.old) }
+    requires header { IsHeader (R.words r.old) header }
     requires units { 1 ≤ units }
     ensures value { IfOk result (Finds (live (R.words r.old)) (units_of (R.words r.old)) units) }
     ensures words { R.words r.new ≡ R.words r.old }
     ensures stays { Stays R.keeps_rest R.ready R.count R.health R.below r.old r.new }
     ensures ends { Ends (R.health r.old) (R.health r.new) result }
 {
-    let pages = data_pages(r)?;
+    let pages = header.data;
     let count = FIRST_PAGES.min(pages);
     let mut words = [0; 2 * FIRST_PAGES as usize];
     let room = &mut words[..2 * count as usize];
-    let before = match look_in_pages(r, room, 0, count, 0, units)? {
+    let before = match look_in_pages(r, header.undo, room, 0, count, 0, units)? {
         Scan::Found(at) => return Ok(Some(at)),
         Scan::Run(left) => left,
     };
     if count == pages {
         return Ok(None);
     }
-    fit_from(r, units, pages, count, before)
+    fit_from(r, header, units, count, before)
 }

@@ -3,6 +3,7 @@
 
 mod allocating;
 mod bits;
+mod changing;
 mod extents;
 mod failures;
 mod fitting;

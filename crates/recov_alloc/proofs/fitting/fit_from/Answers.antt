@@ -1,8 +1,11 @@
-use Rattle.std.proofs.Common.{arith, ◌∙◌, ◌+◌, ◌*◌, sym, subst, le_trans}
+use Rattle.std.proofs.Common.{arith, ◌∙◌, ◌+◌, ◌*◌, ℕ, ap, sym, subst, le_trans}
 use Rattle.rio_base.proofs.RegionRules.{stays_trans}
 use Rattle.rio_model.specs.Undo.{IsRegion, live}
 use Rattle.recov_alloc.specs.Scans.{Before, ScanEnds}
 use Rattle.recov_alloc.proofs.fitting.fit_from.Goals as goal
+
+pub look_in_pages-requires-clause-undo : goal.look_in_pages-requires-clause-undo
+look_in_pages-requires-clause-undo g c = c.requires.header.undo ∙ sym (ap (λ (w : ℕ → ℕ). w 1) c.loop-page.invariant.words)
 
 pub loop-page-preserved : goal.loop-page-preserved
 loop-page-preserved g c =

@@ -5,6 +5,9 @@ use Rattle.rio_model.proofs.UndoRules.{keeps_trans}
 use Rattle.recov_alloc.proofs.Marks.{block_marked, page_covered, units_more}
 use Rattle.recov_alloc.proofs.marking.mark_block.Goals as goal
 
+pub mark_page-requires-clause-undo : goal.mark_page-requires-clause-undo
+mark_page-requires-clause-undo g c = c.requires.undo ∙ sym c.loop-next.invariant.keeps.undoes.sizes.undo
+
 pub mark_page-requires-clause-covered : goal.mark_page-requires-clause-covered
 mark_page-requires-clause-covered g c =
     page_covered (g.R.RegionWords.words c.args.r.now) (g.R.RegionWords.words c.loop-next.r) c.args.at c.args.units c.loop-next.next c.min-run.result c.loop-next.invariant.keeps.records c.requires.covered c.loop-next.invariant.low (omega (arith, c.min-run.ensures, c.loop-next-test.true)) (omega (arith, c.min-run.ensures, c.loop-next-test.true))

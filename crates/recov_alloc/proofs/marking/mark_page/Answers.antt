@@ -1,13 +1,17 @@
-use Rattle.std.proofs.Common.{ap, subst, ◌∙◌, ◌+◌, ◌%◌, cond, slice_index}
-use Rattle.rio_model.specs.Undo.{Puts, live}
-use Rattle.undo_list.specs.Bits.{WithBits}
-use Rattle.recov_alloc.proofs.Marks.{pair_stored, start_count}
-use Rattle.recov_alloc.proofs.Outcomes.{on_word}
+use Rattle.std.proofs.Common.{sym, subst, ◌*◌, ◌/◌, cond, OnOk}
+use Rattle.rio_base.specs.Regions.{AreWords}
+use Rattle.rio_model.specs.Undo.{CoversAll, live, undo_records}
+use Rattle.recov_alloc.specs.Marks.{StoresPair}
 use Rattle.recov_alloc.proofs.marking.mark_page.Goals as goal
+
+pub mark_words-requires-clause-words : goal.mark_words-requires-clause-words
+mark_words-requires-clause-words g c =
+    subst (λ w. AreWords (live w) (2 * (c.args.at / 64)) 2 c.read_places_with.new.into) (sym c.read_places_with.ensures.words) c.in_ok-read_places_with.ensures.value
+
+pub mark_words-requires-clause-covered : goal.mark_words-requires-clause-covered
+mark_words-requires-clause-covered g c =
+    subst (λ w. CoversAll (undo_records w) (2 * (c.args.at / 64)) 2) (sym c.read_places_with.ensures.words) c.requires.covered
 
 pub returns-clause-ok : goal.returns-clause-ok
 returns-clause-ok g c =
-    let f = g.R.RegionWords.words in
-    let start_bits = subst (λ s. WithBits (slice_index c.read_places.new.into 1) c.with_bits-starts.result (c.args.at % 64) (c.args.at % 64 + s) (cond c.args.on 1 0)) (c.from.ensures ∙ start_count c.args.start) c.with_bits-starts.ensures in
-    let stored = pair_stored (live (f c.args.r.now)) (live (f c.read_places.new.r)) (live (f c.put_covered_run.new.r)) c.args.at c.args.units _ (cond c.args.on 1 0) _ _ c.read_places.new.into (ap live c.read_places.ensures.words) c.in_ok-read_places.ensures.value c.with_bits-used.ensures start_bits in
-    on_word c.put_covered_run.result c.uncounted.result _ _ c.uncounted.ensures (λ (h : Puts (g.R.RegionWords.count c.read_places.new.r) (f c.read_places.new.r) (f c.put_covered_run.new.r) _ _ _). stored h.present) c.put_covered_run.ensures.ok
+    subst (λ w. OnOk c.mark_words.result (StoresPair (live w) (live (g.R.RegionWords.words c.mark_words.new.r)) c.args.at c.args.units (cond c.args.start 1 0) (cond c.args.on 1 0))) c.read_places_with.ensures.words c.mark_words.ensures.ok
