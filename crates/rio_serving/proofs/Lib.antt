@@ -1,2 +1,3 @@
 pub mod Running
 pub mod Turns
+pub mod Waits

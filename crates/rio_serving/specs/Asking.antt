@@ -1,9 +1,10 @@
 -- What the next line of an input asks for, or why there is none.
-use Rattle.std.specs.Prelude.{◌≡◌, ◌≤◌, ◌^◌, ℕ, true, false, List, Option}
+use Rattle.std.specs.Prelude.{◌≡◌, ◌≢◌, ◌≤◌, ◌^◌, ◌⊎◌, ℕ, true, false, List, [], Option}
 use Rattle.request_codec.specs.declared.lines.NextLine.TheVariants.{End as NoLine}
 use Rattle.request_codec.specs.declared.lines.LineFail.TheVariants.{Fault, Limit}
 use Rattle.request_codec.specs.Lines.{Fails, Gives, HasEnded, Passes, TakesLine}
 use Rattle.request_codec.specs.Reading.{Reading}
+use Rattle.request_codec.specs.Sending.{IsCutOff, Sent}
 use Rattle.rio_serving.specs.declared.ends.ServeEnd.{ServeEnd}
 use Rattle.rio_serving.specs.declared.ends.ServeEnd.TheVariants.{End, SourceFault, SinkFault, InputLimit, Memory, Stopped}
 
@@ -31,3 +32,14 @@ Stops old left InputLimit new left_after = Fails old left Limit new left_after �
 Stops old left Memory new left_after = LacksLine old left new left_after
 Stops old left SinkFault new left_after = ⊥
 Stops old left Stopped new left_after = ⊥
+
+-- the sink refused what waited, of which it took a front
+pub record Refuses (written : Option (List ℕ)) (faults : ℕ) (waiting : List ℕ) (written_after : Option (List ℕ)) (faults_after : ℕ) : Type 0 where
+  pub some : waiting ≢ []
+  pub cut : IsCutOff written faults waiting [] written_after faults_after
+
+-- how asking ends where no line is given: the sink refused what waited, and the source was not asked; or what waited is written
+abbrev pub AskEnds : Reading → Option (List ℕ) → ServeEnd → Reading → Option (List ℕ) → Option (List ℕ) → ℕ → List ℕ → Option (List ℕ) → ℕ → Type 0
+AskEnds old left end new left_after written faults waiting written_after faults_after =
+    ((end ≡ SinkFault) × (new ≡ old) × (left_after ≡ left) × Refuses written faults waiting written_after faults_after)
+    ⊎ (Stops old left end new left_after × Sent written faults waiting [] written_after faults_after [])

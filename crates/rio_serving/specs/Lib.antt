@@ -1,4 +1,5 @@
 pub mod Protocol
 pub mod Answering
 pub mod ServeRun
+pub mod Gathering
 pub mod Asking

@@ -1,10 +1,13 @@
 //! Lines served one after another: the loop that every server of lines runs.
 #![tactic(auto)]
 
+mod effects;
 mod ends;
 mod server;
 mod serving;
+mod waiting;
 
+pub use effects::Effect;
 pub use ends::ServeEnd;
 pub use server::Server;
 pub use serving::serve_with;

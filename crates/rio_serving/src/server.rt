@@ -7,7 +7,11 @@ ghost use Rattle.rio_base.specs.Streams.{appended};
 ghost use Rattle.rio_base.specs.Volume.{Below, LimitLasts};
 ghost use Rattle.rio_serving.specs.Protocol.{Protocol, GoesMore, GoesNone};
 ghost use Rattle.rio_serving.specs.Answering.{Answering};
+ghost use Rattle.rio_serving.specs.Gathering.{GoesLess, RunsOn, StaysCalm, StaysStill};
+ghost use Rattle.rio_serving.specs.declared.effects.Effect.{Effect as EffectOf};
+ghost use Rattle.request_codec.specs.Sending.{Puts};
 
+use crate::effects::Effect;
 use rio_base::{Failed, Sink, Stopped};
 use std::alloc::{AllocError, Global};
 
@@ -24,6 +28,12 @@ pub trait Server {
 
     /// What lines ask for, what replies are as text, and what requests do.
     ghost protocol: { Protocol Self.Request Self.Reply State };
+
+    /// What each request may do.
+    ghost does: { Self.Request → EffectOf };
+
+    /// The machine below is such that a request that does nothing is not stopped.
+    ghost calm: { Below → Type 0 };
 
     /// It keeps its own rules.
     ghost sound: { Self → Type 0 };
@@ -44,6 +54,10 @@ pub trait Server {
     /// there was no memory for the request.
     fn parse(alloc: Global, line: &[u8]) -> Result<Option<Self::Request>, AllocError>
         ensures { IfOk result (protocol.means line.now) };
+
+    /// What a request may do. What does nothing can be answered while the replies before it still wait to be written.
+    fn effect_of(request: &Self::Request) -> Effect
+        ensures { result ≡ does request.now };
 
     /// Answers a request that a line asks for. `Stopped` comes only where the machine is stopped afterwards.
     fn answer(&mut self, alloc: Global, request: &Self::Request) -> Result<Self::Reply, Stopped>
@@ -75,6 +89,18 @@ pub trait Server {
         ensures steady { OnOk result (K.faults sink.new ≡ K.faults sink.old) }
         ensures cause { HasCause result (K.faults sink.old) (K.faults sink.new) };
 
+    /// Puts a reply behind the first `held` bytes of a room, which wait to be written, and answers how many wait then. Where
+    /// the room is full, it writes. It takes no memory. An error means that the sink refused what waited and the text.
+    fn put_reply<K: Sink>(
+        reply: &Self::Reply,
+        room: &mut [u8],
+        held: usize,
+        sink: &mut K,
+    ) -> Result<usize, Failed>
+        requires fits { held ≤ length room.old }
+        requires enough { 2 ≤ length room.old }
+        ensures { Puts result (K.written sink.old) (K.faults sink.old) (take held room.old) (protocol.text reply.now) (K.written sink.new) (K.faults sink.new) room.new };
+
     /// A line of more than 4,194,304 bytes is no request.
     ghost long: { (line : List ℕ) → 4194304 < length line → protocol.means line None };
 
@@ -82,6 +108,18 @@ pub trait Server {
     ghost goes_none: { GoesNone protocol };
 
     ghost goes_more: { GoesMore protocol };
+
+    /// What requests did to the machine below, those before the last ones did, where these do nothing.
+    ghost goes_less: { GoesLess protocol does };
+
+    /// What does nothing leaves the state as it is.
+    ghost still: { StaysStill protocol does };
+
+    /// What arms nothing leaves a calm machine calm.
+    ghost stays_calm: { StaysCalm protocol does calm };
+
+    /// On a calm machine what does nothing is not stopped.
+    ghost runs_on: { RunsOn protocol does calm };
 
     /// No more calls of the disk failed than can, where it is told how many can.
     ghost limited: { (x : Self) (most : ℕ) → (below x).limit ≡ Some most → (health x).faults ≤ most };

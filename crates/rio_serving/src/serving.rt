@@ -1,28 +1,37 @@
 //! Serving lines until the input ends.
 
-ghost use Rattle.std.specs.Prelude.{◌≡◌, ◌≢◌, ◌≤◌, ◌^◌, ◌∷◌, ℕ, List, true, false, [], Some, IfOk, IfErr, IsErrOf, OnOk, OnErr, length, take};
-ghost use Rattle.rio_base.specs.Counts.{HasCause, Rose};
-ghost use Rattle.rio_base.specs.Streams.{appended, IsSpent};
+ghost use Rattle.std.specs.Prelude.{◌≡◌, ◌≢◌, ◌≤◌, ◌^◌, ◌⊎◌, ◌∷◌, ℕ, List, true, false, [], Some, IfOk, IfErr, IsErrOf, OnOk, OnErr};
+ghost use Rattle.rio_base.specs.Counts.{Rose};
+ghost use Rattle.rio_base.specs.Streams.{IsSpent};
 ghost use Rattle.rio_base.specs.Volume.{LimitLasts};
+ghost use Rattle.request_codec.specs.Sending.{Sent};
 ghost use Rattle.rio_serving.specs.Answering.{AnswersLine};
-ghost use Rattle.rio_serving.specs.Asking.{AsksFor, Stops};
+ghost use Rattle.rio_serving.specs.Asking.{AskEnds, AsksFor, Refuses, Stops};
+ghost use Rattle.rio_serving.specs.Gathering.{effect_in};
 ghost use Rattle.rio_serving.specs.ServeRun.{RunEnds};
 
+use crate::effects::Effect;
 use crate::ends::ServeEnd;
 use crate::server::Server;
-use request_codec::{LineFail, LineReader, NextLine, ROOM_BYTES};
+use crate::waiting::Waiting;
+use request_codec::{LineFail, LineReader, NextLine};
 use rio_base::{Failed, Sink, Source, Stopped};
-use std::alloc::{AllocError, Global};
+use std::alloc::Global;
 
-/// Serves lines until the input ends, each reply written before the next line is asked for.
+/// Serves lines until the input ends. Each reply is written before the next line is asked for. With `gathers` replies to
+/// requests that do nothing may wait, as long as the next line is held already, for further ones to be written with them: until
+/// a request that may do something, and always before the source is asked for more. That needs a machine that stops none of
+/// them, so it ends at the first request that may arm a store.
 pub fn serve_with<C: Server, S: Source, K: Sink>(
     alloc: Global,
     core: &mut C,
     source: &mut S,
     sink: &mut K,
+    gathers: bool,
 ) -> ServeEnd
     requires sound { C.sound core.old }
     requires holds { (s : C.State) × C.holds core.old s }
+    requires calm { gathers ≡ true → C.calm (C.below core.old) }
     ensures run { (s : C.State) → C.holds core.old s → RunEnds C.protocol (C.holds core.new) (C.stands core.new) s result (S.left source.old) (S.left source.new) (K.written sink.old) (K.written sink.new) (C.health core.old) (C.below core.old) (C.health core.new) (C.below core.new) }
     ensures limit { LimitLasts (C.below core.old).limit (C.below core.new).limit }
     ensures limited { (most : ℕ) → (C.below core.old).limit ≡ Some most → (C.health core.new).faults ≤ most }
@@ -37,35 +46,38 @@ pub fn serve_with<C: Server, S: Source, K: Sink>(
     let Ok(mut reader) = LineReader::new(alloc) else {
         return ServeEnd::Memory;
     };
-    let Ok(mut room) = make_room(alloc) else {
+    let Ok(mut waiting) = Waiting::new(alloc) else {
         return ServeEnd::Memory;
     };
-    match serve_lines(alloc, core, &mut reader, room.as_mut_slice(), source, sink) {
+    match serve_lines(
+        alloc,
+        core,
+        &mut reader,
+        &mut waiting,
+        source,
+        sink,
+        gathers,
+    ) {
         Ok(end) => end,
         Err(_) => ServeEnd::Stopped,
     }
 }
 
-/// Where replies are gathered, so that each reaches the sink in one call.
-fn make_room(alloc: Global) -> Result<Vec<u8>, AllocError>
-    ensures { IfOk result (λ room. length room.items ≡ 4096) }
-{
-    vec![in alloc; 0u8; ROOM_BYTES]
-}
-
-/// Serves lines, by way of a reader that has taken nothing yet.
+/// Serves lines, by way of a reader that has taken nothing yet and a room in which nothing waits.
 fn serve_lines<C: Server, S: Source, K: Sink>(
     alloc: Global,
     core: &mut C,
     reader: &mut LineReader,
-    room: &mut [u8],
+    waiting: &mut Waiting,
     source: &mut S,
     sink: &mut K,
+    gathers: bool,
 ) -> Result<ServeEnd, Stopped>
     requires sound { C.sound core.old }
     requires holds { (s : C.State) × C.holds core.old s }
+    requires calm { gathers ≡ true → C.calm (C.below core.old) }
     requires fresh { reader.old ≡ record { held = []; taken = 0; ended = false } }
-    requires wide { 2 ≤ length room.old }
+    requires none { waiting.old ≡ [] }
     ensures run { IfOk result (λ end. (s : C.State) → C.holds core.old s → RunEnds C.protocol (C.holds core.new) (C.stands core.new) s end (S.left source.old) (S.left source.new) (K.written sink.old) (K.written sink.new) (C.health core.old) (C.below core.old) (C.health core.new) (C.below core.new)) }
     ensures stopped { OnErr result ((s : C.State) → C.holds core.old s → RunEnds C.protocol (C.holds core.new) (C.stands core.new) s ServeEnd.Stopped (S.left source.old) (S.left source.new) (K.written sink.old) (K.written sink.new) (C.health core.old) (C.below core.old) (C.health core.new) (C.below core.new)) }
     ensures halted { OnErr result ((C.health core.new).stopped ≡ true) }
@@ -79,13 +91,21 @@ fn serve_lines<C: Server, S: Source, K: Sink>(
     ensures sink_later { K.faults sink.old ≤ K.faults sink.new }
     ensures sound { C.sound core.new }
 {
+    let mut gathering = gathers;
     loop {
-        let request = match ask::<C, S>(alloc, reader, source) {
+        let request = match ask::<C, S, K>(alloc, reader, waiting, source, sink) {
             Ok(request) => request,
             Err(end) => return Ok(end),
         };
+        let effect = effect_of_line::<C>(&request);
+        gathering = still_gathers(gathering, effect);
+        let waits = may_wait(gathering, effect);
+        match make_way(waits, waiting, sink) {
+            Ok(()) => {}
+            Err(_) => return Ok(ServeEnd::SinkFault),
+        }
         let reply = reply_to(alloc, core, request)?;
-        match send::<C, K>(reply, room, sink) {
+        match waiting.add::<C, K>(reply, waits, sink) {
             Ok(()) => {}
             Err(_) => return Ok(ServeEnd::SinkFault),
         }
@@ -93,8 +113,45 @@ fn serve_lines<C: Server, S: Source, K: Sink>(
 }
 
 /// What the next line asks for, or `None` where it is no request; or why no line comes. A line that is held whole, as most
-/// are, is read where it stands.
-fn ask<C: Server, S: Source>(
+/// are, is read where it stands. Where none is, what waits is written before the source is asked.
+fn ask<C: Server, S: Source, K: Sink>(
+    alloc: Global,
+    reader: &mut LineReader,
+    waiting: &mut Waiting,
+    source: &mut S,
+    sink: &mut K,
+) -> Result<Option<C::Request>, ServeEnd>
+    requires within { reader.old.taken ≤ 2 ^ 40 }
+    requires spent { reader.old.ended ≡ true → IsSpent (S.left source.old) }
+    ensures line { IfOk result (λ request. AsksFor C.protocol.means reader.old (S.left source.old) request reader.new (S.left source.new)) }
+    ensures waits { OnOk result (Sent (K.written sink.old) (K.faults sink.old) waiting.old [] (K.written sink.new) (K.faults sink.new) waiting.new) }
+    ensures end { IfErr result (λ end. AskEnds reader.old (S.left source.old) end reader.new (S.left source.new) (K.written sink.old) (K.faults sink.old) waiting.old (K.written sink.new) (K.faults sink.new)) }
+    ensures later { S.faults source.old ≤ S.faults source.new }
+    ensures cause { IsErrOf result ServeEnd.SourceFault → Rose (S.faults source.old) (S.faults source.new) }
+{
+    if let Some(line) = reader.held_line() {
+        let len = line.len();
+        match meaning_of::<C>(alloc, line) {
+            Ok(request) => {
+                reader.pass_line(len);
+                return Ok(request);
+            }
+            Err(end) => {
+                return match waiting.release(sink) {
+                    Ok(()) => Err(end),
+                    Err(_) => Err(ServeEnd::SinkFault),
+                };
+            }
+        }
+    }
+    match waiting.release(sink) {
+        Ok(()) => ask_source::<C, S>(alloc, reader, source),
+        Err(_) => Err(ServeEnd::SinkFault),
+    }
+}
+
+/// What the next line asks for, where it is not held whole yet.
+fn ask_source<C: Server, S: Source>(
     alloc: Global,
     reader: &mut LineReader,
     source: &mut S,
@@ -106,12 +163,6 @@ fn ask<C: Server, S: Source>(
     ensures later { S.faults source.old ≤ S.faults source.new }
     ensures cause { IsErrOf result ServeEnd.SourceFault → Rose (S.faults source.old) (S.faults source.new) }
 {
-    if let Some(line) = reader.held_line() {
-        let len = line.len();
-        let request = meaning_of::<C>(alloc, line)?;
-        reader.pass_line(len);
-        return Ok(request);
-    }
     match reader.next_line(source) {
         Ok(NextLine::Line(line)) => meaning_of::<C>(alloc, line.as_slice()),
         Ok(NextLine::TooLong) => Ok(None),
@@ -120,6 +171,48 @@ fn ask<C: Server, S: Source>(
         Err(LineFail::Limit) => Err(ServeEnd::InputLimit),
         Err(LineFail::Memory) => Err(ServeEnd::Memory),
     }
+}
+
+/// What a line does that asks for this, or is no request.
+fn effect_of_line<C: Server>(request: &Option<C::Request>) -> Effect
+    ensures { result ≡ effect_in C.does request.now }
+{
+    match request {
+        Some(request) => C::effect_of(request),
+        None => Effect::Nothing,
+    }
+}
+
+/// Whether replies may wait once a request was answered that has this effect.
+fn still_gathers(gathers: bool, effect: Effect) -> bool
+    ensures { result ≡ true → (gathers ≡ true) × (effect ≢ Effect.Arms) }
+{
+    match effect {
+        Effect::Nothing | Effect::Changes => gathers,
+        Effect::Arms => false,
+    }
+}
+
+/// Whether the reply to a request that has this effect may wait.
+fn may_wait(gathers: bool, effect: Effect) -> bool
+    ensures { result ≡ true → (gathers ≡ true) × (effect ≡ Effect.Nothing) }
+{
+    match effect {
+        Effect::Nothing => gathers,
+        Effect::Changes | Effect::Arms => false,
+    }
+}
+
+/// Writes what waits, before a request is answered whose reply may not wait.
+fn make_way<K: Sink>(waits: bool, waiting: &mut Waiting, sink: &mut K) -> Result<(), Failed>
+    ensures ok { OnOk result (Sent (K.written sink.old) (K.faults sink.old) waiting.old [] (K.written sink.new) (K.faults sink.new) waiting.new) }
+    ensures none { OnOk result ((waits ≡ true) ⊎ (waiting.new ≡ [])) }
+    ensures err { OnErr result (Refuses (K.written sink.old) (K.faults sink.old) waiting.old (K.written sink.new) (K.faults sink.new)) }
+{
+    if waits {
+        return Ok(());
+    }
+    waiting.release(sink)
 }
 
 /// What a line asks for, or that it is no request.
@@ -153,15 +246,4 @@ fn reply_to<C: Server>(
         Some(request) => core.answer(alloc, request),
         None => Ok(C::refusal()),
     }
-}
-
-/// Writes a reply.
-fn send<C: Server, K: Sink>(reply: C::Reply, room: &mut [u8], sink: &mut K) -> Result<(), Failed>
-    requires { 2 ≤ length room.old }
-    ensures ok { OnOk result (K.written sink.new ≡ appended (K.written sink.old) (C.protocol.text reply)) }
-    ensures cut { OnErr result ((k : ℕ) × (k ≤ length (C.protocol.text reply)) × (K.written sink.new ≡ appended (K.written sink.old) (take k (C.protocol.text reply)))) }
-    ensures steady { OnOk result (K.faults sink.new ≡ K.faults sink.old) }
-    ensures cause { HasCause result (K.faults sink.old) (K.faults sink.new) }
-{
-    C::write_reply(&reply, room, sink)
 }

@@ -1,15 +1,17 @@
-use Rattle.std.proofs.Common.{sym, refl, ap, ◌∙◌, arith}
+use Rattle.std.proofs.Common.{refl, ap, subst, ◌∙◌, arith}
+use Rattle.rio_base.specs.Counts.{Rose}
 use Rattle.rio_base.specs.Rules.{limit_refl, limit_trans}
 use Rattle.request_codec.specs.Reading.{Reading}
 use Rattle.rio_serving.proofs.Running.{budget_falls}
-use Rattle.rio_serving.proofs.Turns.{each_end, each_holds, each_more, each_sink, each_start, each_stop}
+use Rattle.rio_serving.proofs.Turns.{ask_later, ask_rises, ask_steady, ask_unstopped, each_end, each_holds, each_more, each_sent, each_sink, each_start, each_stop, each_way, calm_still, none_waits, quiet_or_none}
 use Rattle.rio_serving.proofs.serving.serve_lines.Goals as goal
 
 pub loop-request-init : goal.loop-request-init
 loop-request-init g c =
     let unended = ap (λ (r : Reading). r.ended) c.requires.fresh in
     record {
-      took = each_start g.C.Server.protocol _ _ _ _ _ _ g.met.C.Server.goes_none unended;
+      took = each_start g.C.Server.protocol g.C.Server.does _ _ _ _ _ _ _ g.met.C.Server.goes_none unended c.requires.none;
+      calm = c.requires.calm;
       sound = c.requires.sound;
       limit = limit_refl _;
       within = let e = ap (λ (r : Reading). r.taken) c.requires.fresh in omega arith;
@@ -18,18 +20,55 @@ loop-request-init g c =
       spent = λ told. absurd (cc (unended, told));
     }
 
+-- ---- no line came
+
 pub returns-in-Err-clause-run : goal.returns-in-Err-clause-run
 returns-in-Err-clause-run g c =
     let server = g.C.Server in
     let left = g.S.Source.left in
     let written = g.K.Sink.written in
+    let faults = g.K.Sink.faults in
     let old = c.args.core.now in
     let core = c.loop-request.core in
-    each_end server.protocol (server.holds old) (server.holds core) (server.stands core) c.args.reader.now c.loop-request.reader c.ask.new.reader (left c.args.source.now) (left c.loop-request.source) (left c.ask.new.source) (written c.args.sink.now) (written c.loop-request.sink) c.in-Err.end (server.health old) (server.below old) (server.health core) (server.below core)
-    (ap (λ (r : Reading). r.held) c.requires.fresh) (ap (λ (r : Reading). r.taken) c.requires.fresh) c.loop-request.invariant.took c.in-Err.ensures.end
+    each_end server.protocol server.does (server.holds old) (server.holds core) (server.stands core) c.args.reader.now c.loop-request.reader c.ask.new.reader (left c.args.source.now) (left c.loop-request.source) (left c.ask.new.source) (written c.args.sink.now) (written c.loop-request.sink) (written c.ask.new.sink) c.loop-request.waiting (faults c.loop-request.sink) (faults c.ask.new.sink) c.in-Err.end (server.health old) (server.below old) (server.health core) (server.below core)
+    g.met.C.Server.still g.met.C.Server.goes_less (ap (λ (r : Reading). r.held) c.requires.fresh) (ap (λ (r : Reading). r.taken) c.requires.fresh) c.loop-request.invariant.within c.loop-request.invariant.took c.in-Err.ensures.end
+
+pub returns-in-Err-clause-other : goal.returns-in-Err-clause-other
+returns-in-Err-clause-other g c = ask_unstopped _ _ _ _ _ _ _ _ _ _ c.in-Err.ensures.end
+
+pub returns-in-Err-clause-sink_fault : goal.returns-in-Err-clause-sink_fault
+returns-in-Err-clause-sink_fault g c = λ is. subst (λ n. Rose n (g.K.Sink.faults c.ask.new.sink)) c.loop-request.invariant.steady (ask_rises _ _ _ _ _ _ _ _ _ _ c.in-Err.ensures.end is)
+
+pub returns-in-Err-clause-steady : goal.returns-in-Err-clause-steady
+returns-in-Err-clause-steady g c = λ other. ask_steady _ _ _ _ _ _ _ _ _ _ c.in-Err.ensures.end other ∙ c.loop-request.invariant.steady
+
+pub returns-in-Err-clause-sink_later : goal.returns-in-Err-clause-sink_later
+returns-in-Err-clause-sink_later g c =
+    let later = ask_later _ _ _ _ _ _ _ _ _ _ c.in-Err.ensures.end in
+    let same = c.loop-request.invariant.steady in
+    omega (arith, later, same)
+
+-- ---- what waited was refused, before the line was answered
+
+pub returns-in-Err-make_way-clause-run : goal.returns-in-Err-make_way-clause-run
+returns-in-Err-make_way-clause-run g c =
+    let server = g.C.Server in
+    let left = g.S.Source.left in
+    let written = g.K.Sink.written in
+    let faults = g.K.Sink.faults in
+    let old = c.args.core.now in
+    let mid = c.loop-request.core in
+    let asked = each_sent server.protocol server.does (server.holds old) (server.holds mid) c.args.reader.now c.loop-request.reader (left c.args.source.now) (left c.loop-request.source) (written c.args.sink.now) (written c.loop-request.sink) (written c.ask.new.sink) c.loop-request.waiting c.ask.new.waiting (faults c.loop-request.sink) (faults c.ask.new.sink) (server.health old) (server.below old) (server.health mid) (server.below mid) c.loop-request.invariant.took c.in-Ok.ensures.waits in
+    each_way server.protocol server.does (server.holds old) (server.holds mid) (server.stands mid) c.args.reader.now c.loop-request.reader c.ask.new.reader (left c.args.source.now) (left c.loop-request.source) (left c.ask.new.source) (written c.args.sink.now) (written c.ask.new.sink) (written c.make_way.new.sink) c.ask.new.waiting (faults c.ask.new.sink) (faults c.make_way.new.sink) c.in-Ok.request (server.health old) (server.below old) (server.health mid) (server.below mid)
+    g.met.C.Server.still g.met.C.Server.goes_less (ap (λ (r : Reading). r.held) c.requires.fresh) (ap (λ (r : Reading). r.taken) c.requires.fresh) asked c.in-Ok.ensures.line c.in-Err-make_way.ensures.err
+
+pub returns-in-Err-make_way-clause-sink_fault : goal.returns-in-Err-make_way-clause-sink_fault
+returns-in-Err-make_way-clause-sink_fault g c = λ is. subst (λ n. Rose n (g.K.Sink.faults c.make_way.new.sink)) (c.in-Ok.ensures.waits.steady ∙ c.loop-request.invariant.steady) c.in-Err-make_way.ensures.err.cut.rose
+
+-- ---- the line was answered, or the machine stopped
 
 pub reply_to-requires-clause-holds : goal.reply_to-requires-clause-holds
-reply_to-requires-clause-holds g c = each_holds g.C.Server.protocol _ _ _ _ _ _ _ _ _ _ _ _ c.loop-request.invariant.took c.requires.holds
+reply_to-requires-clause-holds g c = each_holds g.C.Server.protocol g.C.Server.does _ _ _ _ _ _ _ _ _ _ _ _ _ c.loop-request.invariant.took c.requires.holds
 
 pub reply_to-requires-clause-asked : goal.reply_to-requires-clause-asked
 reply_to-requires-clause-asked g c = (c.in-Ok.ensures.line.line, c.in-Ok.ensures.line.asks)
@@ -39,25 +78,41 @@ returns-in_err-reply-clause-stopped g c =
     let server = g.C.Server in
     let left = g.S.Source.left in
     let written = g.K.Sink.written in
+    let faults = g.K.Sink.faults in
     let old = c.args.core.now in
     let mid = c.loop-request.core in
     let core = c.reply_to.new.core in
-    each_stop c.from_residual.result server.protocol (server.holds old) (server.holds mid) (server.holds core) (server.stands core) c.args.reader.now c.loop-request.reader c.ask.new.reader (left c.args.source.now) (left c.loop-request.source) (left c.ask.new.source) (written c.args.sink.now) (written c.loop-request.sink) c.in-Ok.request (server.health old) (server.below old) (server.health mid) (server.below mid) (server.health core) (server.below core)
-    (ap (λ (r : Reading). r.held) c.requires.fresh) (ap (λ (r : Reading). r.taken) c.requires.fresh) c.loop-request.invariant.took c.in-Ok.ensures.line c.in_err-reply.ensures.answered c.in_err-reply.ensures.stopped
+    let asked = each_sent server.protocol server.does (server.holds old) (server.holds mid) c.args.reader.now c.loop-request.reader (left c.args.source.now) (left c.loop-request.source) (written c.args.sink.now) (written c.loop-request.sink) (written c.ask.new.sink) c.loop-request.waiting c.ask.new.waiting (faults c.loop-request.sink) (faults c.ask.new.sink) (server.health old) (server.below old) (server.health mid) (server.below mid) c.loop-request.invariant.took c.in-Ok.ensures.waits in
+    let way = each_sent server.protocol server.does (server.holds old) (server.holds mid) c.args.reader.now c.loop-request.reader (left c.args.source.now) (left c.loop-request.source) (written c.args.sink.now) (written c.ask.new.sink) (written c.make_way.new.sink) c.ask.new.waiting c.make_way.new.waiting (faults c.ask.new.sink) (faults c.make_way.new.sink) (server.health old) (server.below old) (server.health mid) (server.below mid) asked c.in-Ok-make_way.ensures.ok in
+    each_stop c.from_residual.result server.protocol server.does (server.holds old) (server.holds mid) (server.holds core) (server.stands core) c.args.reader.now c.loop-request.reader c.ask.new.reader (left c.args.source.now) (left c.loop-request.source) (left c.ask.new.source) (written c.args.sink.now) (written c.make_way.new.sink) c.make_way.new.waiting c.in-Ok.request (server.health old) (server.below old) (server.health mid) (server.below mid) (server.health core) (server.below core)
+    (ap (λ (r : Reading). r.held) c.requires.fresh) (ap (λ (r : Reading). r.taken) c.requires.fresh) way c.in-Ok.ensures.line
+    (λ some. none_waits server.protocol server.does server.calm c.in-Ok.request c.effect_of_line-effect.result c.may_wait-waits.result c.still_gathers-gathering.result c.loop-request.gathering c.make_way.new.waiting (server.health mid) (server.below mid) (server.health core) (server.below core) g.met.C.Server.runs_on c.effect_of_line-effect.ensures c.may_wait-waits.ensures (λ told. (c.still_gathers-gathering.ensures told).0) c.loop-request.invariant.calm some c.in_err-reply.ensures.stopped c.in-Ok-make_way.ensures.none)
+    c.in_err-reply.ensures.answered c.in_err-reply.ensures.stopped
 
-pub returns-in-Err-send-clause-run : goal.returns-in-Err-send-clause-run
-returns-in-Err-send-clause-run g c =
+-- ---- its reply was refused, or what waited before it
+
+pub returns-in-Err-add-clause-run : goal.returns-in-Err-add-clause-run
+returns-in-Err-add-clause-run g c =
     let server = g.C.Server in
     let left = g.S.Source.left in
     let written = g.K.Sink.written in
+    let faults = g.K.Sink.faults in
     let old = c.args.core.now in
     let mid = c.loop-request.core in
     let core = c.reply_to.new.core in
-    each_sink server.protocol (server.holds old) (server.holds mid) (server.holds core) (server.stands core) c.args.reader.now c.loop-request.reader c.ask.new.reader (left c.args.source.now) (left c.loop-request.source) (left c.ask.new.source) (written c.args.sink.now) (written c.loop-request.sink) (written c.send.new.sink) c.in-Ok.request c.in_ok-reply.reply (server.health old) (server.below old) (server.health mid) (server.below mid) (server.health core) (server.below core)
-    g.met.C.Server.goes_more (ap (λ (r : Reading). r.held) c.requires.fresh) (ap (λ (r : Reading). r.taken) c.requires.fresh) c.loop-request.invariant.took c.in-Ok.ensures.line c.in_ok-reply.ensures.answered c.in_ok-reply.ensures.went c.in-Err-send.ensures.cut
+    let asked = each_sent server.protocol server.does (server.holds old) (server.holds mid) c.args.reader.now c.loop-request.reader (left c.args.source.now) (left c.loop-request.source) (written c.args.sink.now) (written c.loop-request.sink) (written c.ask.new.sink) c.loop-request.waiting c.ask.new.waiting (faults c.loop-request.sink) (faults c.ask.new.sink) (server.health old) (server.below old) (server.health mid) (server.below mid) c.loop-request.invariant.took c.in-Ok.ensures.waits in
+    let way = each_sent server.protocol server.does (server.holds old) (server.holds mid) c.args.reader.now c.loop-request.reader (left c.args.source.now) (left c.loop-request.source) (written c.args.sink.now) (written c.ask.new.sink) (written c.make_way.new.sink) c.ask.new.waiting c.make_way.new.waiting (faults c.ask.new.sink) (faults c.make_way.new.sink) (server.health old) (server.below old) (server.health mid) (server.below mid) asked c.in-Ok-make_way.ensures.ok in
+    let quiet = quiet_or_none server.does c.in-Ok.request c.effect_of_line-effect.result c.may_wait-waits.result c.still_gathers-gathering.result c.make_way.new.waiting c.effect_of_line-effect.ensures c.may_wait-waits.ensures c.in-Ok-make_way.ensures.none in
+    each_sink server.protocol server.does (server.holds old) (server.holds mid) (server.holds core) (server.stands core) c.args.reader.now c.loop-request.reader c.ask.new.reader (left c.args.source.now) (left c.loop-request.source) (left c.ask.new.source) (written c.args.sink.now) (written c.make_way.new.sink) (written c.add.new.sink) c.make_way.new.waiting (faults c.make_way.new.sink) (faults c.add.new.sink) c.in-Ok.request c.in_ok-reply.reply (server.health old) (server.below old) (server.health mid) (server.below mid) (server.health core) (server.below core)
+    g.met.C.Server.goes_more g.met.C.Server.still g.met.C.Server.goes_less (ap (λ (r : Reading). r.held) c.requires.fresh) (ap (λ (r : Reading). r.taken) c.requires.fresh) way c.in-Ok.ensures.line quiet c.in_ok-reply.ensures.answered c.in_ok-reply.ensures.went c.in-Err-add.ensures.sends.err
 
-pub returns-in-Err-send-clause-limit : goal.returns-in-Err-send-clause-limit
-returns-in-Err-send-clause-limit g c = limit_trans _ _ _ c.loop-request.invariant.limit c.reply_to.ensures.limit
+pub returns-in-Err-add-clause-limit : goal.returns-in-Err-add-clause-limit
+returns-in-Err-add-clause-limit g c = limit_trans _ _ _ c.loop-request.invariant.limit c.reply_to.ensures.limit
+
+pub returns-in-Err-add-clause-sink_fault : goal.returns-in-Err-add-clause-sink_fault
+returns-in-Err-add-clause-sink_fault g c = λ is. subst (λ n. Rose n (g.K.Sink.faults c.add.new.sink)) (c.in-Ok-make_way.ensures.ok.steady ∙ c.in-Ok.ensures.waits.steady ∙ c.loop-request.invariant.steady) c.in-Err-add.ensures.sends.err.rose
+
+-- ---- the next line
 
 pub loop-request-smaller : goal.loop-request-smaller
 loop-request-smaller g c =
@@ -68,16 +123,21 @@ loop-request-preserved g c =
     let server = g.C.Server in
     let left = g.S.Source.left in
     let written = g.K.Sink.written in
+    let faults = g.K.Sink.faults in
     let old = c.args.core.now in
     let mid = c.loop-request.core in
     let core = c.reply_to.new.core in
+    let asked = each_sent server.protocol server.does (server.holds old) (server.holds mid) c.args.reader.now c.loop-request.reader (left c.args.source.now) (left c.loop-request.source) (written c.args.sink.now) (written c.loop-request.sink) (written c.ask.new.sink) c.loop-request.waiting c.ask.new.waiting (faults c.loop-request.sink) (faults c.ask.new.sink) (server.health old) (server.below old) (server.health mid) (server.below mid) c.loop-request.invariant.took c.in-Ok.ensures.waits in
+    let way = each_sent server.protocol server.does (server.holds old) (server.holds mid) c.args.reader.now c.loop-request.reader (left c.args.source.now) (left c.loop-request.source) (written c.args.sink.now) (written c.ask.new.sink) (written c.make_way.new.sink) c.ask.new.waiting c.make_way.new.waiting (faults c.ask.new.sink) (faults c.make_way.new.sink) (server.health old) (server.below old) (server.health mid) (server.below mid) asked c.in-Ok-make_way.ensures.ok in
+    let quiet = quiet_or_none server.does c.in-Ok.request c.effect_of_line-effect.result c.may_wait-waits.result c.still_gathers-gathering.result c.make_way.new.waiting c.effect_of_line-effect.ensures c.may_wait-waits.ensures c.in-Ok-make_way.ensures.none in
     record {
-      took = each_more server.protocol (server.holds old) (server.holds mid) (server.holds core) c.args.reader.now c.loop-request.reader c.ask.new.reader (left c.args.source.now) (left c.loop-request.source) (left c.ask.new.source) (written c.args.sink.now) (written c.loop-request.sink) (written c.send.new.sink) c.in-Ok.request c.in_ok-reply.reply (server.health old) (server.below old) (server.health mid) (server.below mid) (server.health core) (server.below core)
-          g.met.C.Server.goes_more c.loop-request.invariant.took c.in-Ok.ensures.line c.in_ok-reply.ensures.answered c.in_ok-reply.ensures.went c.in-Ok-send.ensures.ok;
+      took = each_more server.protocol server.does (server.holds old) (server.holds mid) (server.holds core) c.args.reader.now c.loop-request.reader c.ask.new.reader (left c.args.source.now) (left c.loop-request.source) (left c.ask.new.source) (written c.args.sink.now) (written c.make_way.new.sink) (written c.add.new.sink) c.make_way.new.waiting c.add.new.self (faults c.make_way.new.sink) (faults c.add.new.sink) c.in-Ok.request c.in_ok-reply.reply (server.health old) (server.below old) (server.health mid) (server.below mid) (server.health core) (server.below core)
+          g.met.C.Server.goes_more way c.in-Ok.ensures.line quiet c.in_ok-reply.ensures.answered c.in_ok-reply.ensures.went c.in-Ok-add.ensures.sends.ok;
+      calm = λ told. calm_still server.protocol server.does server.calm c.in-Ok.request c.in_ok-reply.reply c.effect_of_line-effect.result (server.health mid) (server.below mid) (server.health core) (server.below core) g.met.C.Server.stays_calm c.effect_of_line-effect.ensures (c.still_gathers-gathering.ensures told).1 (c.loop-request.invariant.calm (c.still_gathers-gathering.ensures told).0) c.in_ok-reply.ensures.went;
       sound = c.reply_to.ensures.sound;
       limit = limit_trans (server.below old).limit (server.below mid).limit (server.below core).limit c.loop-request.invariant.limit c.reply_to.ensures.limit;
       within = c.in-Ok.ensures.line.within;
       later = omega (arith, c.in-Ok.ensures.later);
-      steady = c.in-Ok-send.ensures.steady ∙ c.loop-request.invariant.steady;
+      steady = c.in-Ok-add.ensures.sends.ok.steady ∙ c.in-Ok-make_way.ensures.ok.steady ∙ c.in-Ok.ensures.waits.steady ∙ c.loop-request.invariant.steady;
       spent = λ told. (c.in-Ok.ensures.line.closed told).spent;
     }

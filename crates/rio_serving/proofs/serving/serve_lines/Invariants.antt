@@ -7,7 +7,8 @@ use Rattle.rio_serving.proofs.serving.serve_lines.Given as goal
 -- the run so far, within the limit
 abbrev pub invariant-loop-request : goal.invariant-loop-request
 invariant-loop-request g l = record {
-  took : TookEach g.C.Server.protocol (g.C.Server.holds l.fn.core) (g.C.Server.holds l.core) l.fn.reader (g.S.Source.left l.fn.source) l.reader (g.S.Source.left l.source) (g.K.Sink.written l.fn.sink) (g.K.Sink.written l.sink) (g.C.Server.health l.fn.core) (g.C.Server.below l.fn.core) (g.C.Server.health l.core) (g.C.Server.below l.core);
+  took : TookEach g.C.Server.protocol g.C.Server.does (g.C.Server.holds l.fn.core) (g.C.Server.holds l.core) l.fn.reader (g.S.Source.left l.fn.source) l.reader (g.S.Source.left l.source) (g.K.Sink.written l.fn.sink) (g.K.Sink.written l.sink) l.waiting (g.C.Server.health l.fn.core) (g.C.Server.below l.fn.core) (g.C.Server.health l.core) (g.C.Server.below l.core);
+  calm : l.gathering ≡ true → g.C.Server.calm (g.C.Server.below l.core);
   sound : g.C.Server.sound l.core;
   limit : LimitLasts (g.C.Server.below l.fn.core).limit (g.C.Server.below l.core).limit;
   within : l.reader.taken ≤ 2 ^ 40;

@@ -7,8 +7,8 @@ returns-in_default-clause-run g c =
     let old = c.args.core.now in
     each_none server.protocol (server.holds old) (server.stands old) (g.S.Source.left c.args.source.now) (g.K.Sink.written c.args.sink.now) (server.health old) (server.below old) g.met.C.Server.goes_none
 
-pub returns-in_default-make_room-clause-run : goal.returns-in_default-make_room-clause-run
-returns-in_default-make_room-clause-run g c =
+pub returns-in_default-new-clause-run : goal.returns-in_default-new-clause-run
+returns-in_default-new-clause-run g c =
     let server = g.C.Server in
     let old = c.args.core.now in
     each_none server.protocol (server.holds old) (server.stands old) (g.S.Source.left c.args.source.now) (g.K.Sink.written c.args.sink.now) (server.health old) (server.below old) g.met.C.Server.goes_none
