@@ -158,11 +158,11 @@ held_more {a} {f} {h} {x} {b} {f1} y s is =
     let P : List ℕ → Type 0 = λ held. Sent a f h (x ++ y) b f1 held in
     subst P (sym is) (sent_held y s)
 
--- a body, its end, and then what is still held
-pub line_sent : {T E : Type 0} {r : Result T E} {a : Option (List ℕ)} {f : ℕ} {x : List ℕ} {b : Option (List ℕ)} {f1 : ℕ} {h1 y : List ℕ} {c : Option (List ℕ)} {f2 : ℕ} {h2 : List ℕ} {d : Option (List ℕ)} {f3 : ℕ} → Sent a f [] x b f1 h1 → Sent b f1 h1 y c f2 h2 → Sends r c f2 [] h2 d f3 [] → Sends r a f [] (x ++ y) d f3 []
-line_sent {r = r} {x = x} {y = y} {c = c} {f2 = f2} {h2 = h2} {d = d} {f3 = f3} body end rest =
-    let left : Sends r c f2 h2 [] d f3 [] = record { ok = on_ok_weaker r (λ u. sent_flushed u) rest.ok; err = on_err_weaker r (λ k. cut_flushed k) rest.err } in
-    sends_as (append-nil (x ++ y)) (sent_then (sent_sent body end) left)
+-- a text, and then what is still held of it
+pub room_sent : {T E : Type 0} {r : Result T E} {a : Option (List ℕ)} {f : ℕ} {x : List ℕ} {b : Option (List ℕ)} {f1 : ℕ} {h1 : List ℕ} {c : Option (List ℕ)} {f2 : ℕ} → Sent a f [] x b f1 h1 → Sends r b f1 [] h1 c f2 [] → Sends r a f [] x c f2 []
+room_sent {r = r} {x = x} {b = b} {f1 = f1} {h1 = h1} {c = c} {f2 = f2} text rest =
+    let left : Sends r b f1 h1 [] c f2 [] = record { ok = on_ok_weaker r (λ u. sent_flushed u) rest.ok; err = on_err_weaker r (λ k. cut_flushed k) rest.err } in
+    sends_as (append-nil x) (sent_then text left)
 
 -- what was held is sent, and then a text past it
 pub sent_last : {a : Option (List ℕ)} {f : ℕ} {h : List ℕ} {b : Option (List ℕ)} {f1 : ℕ} {y : List ℕ} {c : Option (List ℕ)} {f2 : ℕ} → Sent a f [] h b f1 [] → Sent b f1 [] y c f2 [] → Sent a f h y c f2 []

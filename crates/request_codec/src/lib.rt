@@ -19,5 +19,5 @@ mod words;
 pub use lines::{INPUT_LIMIT, LineFail, LineReader, NextLine};
 pub use parse::{long_lines_mean_nothing, one_meaning, parse_line};
 pub use path::is_path;
-pub use reply_text::{ROOM_BYTES, put_name, write_reply, write_reply_in, write_text};
+pub use reply_text::{ROOM_BYTES, put_name, put_reply, write_reply, write_reply_in, write_text};
 pub use text_room::{put, put_number, send};

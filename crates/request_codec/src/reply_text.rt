@@ -56,34 +56,61 @@ fn send_line<K: Sink>(reply: &Reply, room: &mut [u8], sink: &mut K) -> Result<()
     if let Reply::Ok = reply {
         return send(b"ok\n", sink);
     }
-    let body = put_body(reply, room, sink)?;
-    let line = put(b"\n", room, body, sink)?;
+    let line = put_reply(reply, room, 0, sink)?;
     send(&room[..line], sink)
 }
 
+/// Puts a reply's line behind the first `held` bytes of a room, which wait to be written, and answers how many wait then. Where
+/// it does not fit, it writes. It takes no memory.
+pub fn put_reply<K: Sink>(
+    reply: &Reply,
+    room: &mut [u8],
+    held: usize,
+    sink: &mut K,
+) -> Result<usize, Failed>
+    requires fits { held ≤ length room.old }
+    requires enough { 2 ≤ length room.old }
+    ensures { Puts result (K.written sink.old) (K.faults sink.old) (take held room.old) (text_of reply.now) (K.written sink.new) (K.faults sink.new) room.new }
+{
+    let body = put_body(reply, room, held, sink)?;
+    put(b"\n", room, body, sink)
+}
+
 /// Puts a reply's line without its end.
-fn put_body<K: Sink>(reply: &Reply, room: &mut [u8], sink: &mut K) -> Result<usize, Failed>
-    requires { 2 ≤ length room.old }
-    ensures { Puts result (K.written sink.old) (K.faults sink.old) [] (body_of reply.now) (K.written sink.new) (K.faults sink.new) room.new }
+fn put_body<K: Sink>(
+    reply: &Reply,
+    room: &mut [u8],
+    held: usize,
+    sink: &mut K,
+) -> Result<usize, Failed>
+    requires fits { held ≤ length room.old }
+    requires enough { 2 ≤ length room.old }
+    ensures { Puts result (K.written sink.old) (K.faults sink.old) (take held room.old) (body_of reply.now) (K.written sink.new) (K.faults sink.new) room.new }
 {
     match reply {
-        Reply::Ok => put(b"ok", room, 0, sink),
-        Reply::Number(n) => put_number_here(b"ok ", *n, room, 0, sink),
-        Reply::Bytes(bytes) => put_bytes(bytes.as_slice(), room, sink),
-        Reply::Stat { ino, kind, size } => put_stat(*ino, *kind, *size, room, sink),
-        Reply::Names(names) => put_names(names.as_slice(), room, sink),
-        Reply::Inos(inos) => put_inos(inos.as_slice(), room, sink),
-        Reply::Err(number) => put_number(b"err ", u64::from(*number), room, 0, sink),
-        Reply::Fault(done) => put_number(b"err 30 ", *done, room, 0, sink),
+        Reply::Ok => put(b"ok", room, held, sink),
+        Reply::Number(n) => put_number_here(b"ok ", *n, room, held, sink),
+        Reply::Bytes(bytes) => put_bytes(bytes.as_slice(), room, held, sink),
+        Reply::Stat { ino, kind, size } => put_stat(*ino, *kind, *size, room, held, sink),
+        Reply::Names(names) => put_names(names.as_slice(), room, held, sink),
+        Reply::Inos(inos) => put_inos(inos.as_slice(), room, held, sink),
+        Reply::Err(number) => put_number(b"err ", u64::from(*number), room, held, sink),
+        Reply::Fault(done) => put_number(b"err 30 ", *done, room, held, sink),
     }
 }
 
 /// Puts bytes that were read.
-fn put_bytes<K: Sink>(bytes: &[u8], room: &mut [u8], sink: &mut K) -> Result<usize, Failed>
-    requires { 2 ≤ length room.old }
-    ensures { Puts result (K.written sink.old) (K.faults sink.old) [] (codes "ok " ++ encode_lower bytes.now) (K.written sink.new) (K.faults sink.new) room.new }
+fn put_bytes<K: Sink>(
+    bytes: &[u8],
+    room: &mut [u8],
+    held: usize,
+    sink: &mut K,
+) -> Result<usize, Failed>
+    requires fits { held ≤ length room.old }
+    requires enough { 2 ≤ length room.old }
+    ensures { Puts result (K.written sink.old) (K.faults sink.old) (take held room.old) (codes "ok " ++ encode_lower bytes.now) (K.written sink.new) (K.faults sink.new) room.new }
 {
-    let held = put(b"ok ", room, 0, sink)?;
+    let held = put(b"ok ", room, held, sink)?;
     put_hex(bytes, room, held, sink)
 }
 
@@ -104,19 +131,27 @@ fn put_stat<K: Sink>(
     kind: u8,
     size: u64,
     room: &mut [u8],
+    held: usize,
     sink: &mut K,
 ) -> Result<usize, Failed>
-    ensures { Puts result (K.written sink.old) (K.faults sink.old) [] (body_of (Stat ino kind size)) (K.written sink.new) (K.faults sink.new) room.new }
+    requires { held ≤ length room.old }
+    ensures { Puts result (K.written sink.old) (K.faults sink.old) (take held room.old) (body_of (Stat ino kind size)) (K.written sink.new) (K.faults sink.new) room.new }
 {
-    let held = put_number_here(b"ok ", u64::from(ino.0), room, 0, sink)?;
+    let held = put_number_here(b"ok ", u64::from(ino.0), room, held, sink)?;
     put_number(kind_word(kind), size, room, held, sink)
 }
 
 /// Puts a count and names.
-fn put_names<K: Sink>(names: &[Octets], room: &mut [u8], sink: &mut K) -> Result<usize, Failed>
-    ensures { Puts result (K.written sink.old) (K.faults sink.old) [] (codes "ok " ++ decimal (length names.now) ++ flat_map listed_name names.now) (K.written sink.new) (K.faults sink.new) room.new }
+fn put_names<K: Sink>(
+    names: &[Octets],
+    room: &mut [u8],
+    held: usize,
+    sink: &mut K,
+) -> Result<usize, Failed>
+    requires { held ≤ length room.old }
+    ensures { Puts result (K.written sink.old) (K.faults sink.old) (take held room.old) (codes "ok " ++ decimal (length names.now) ++ flat_map listed_name names.now) (K.written sink.new) (K.faults sink.new) room.new }
 {
-    let held = put_number(b"ok ", names.len() as u64, room, 0, sink)?;
+    let held = put_number(b"ok ", names.len() as u64, room, held, sink)?;
     put_each_name(names, room, held, sink)
 }
 
@@ -152,10 +187,16 @@ pub fn put_name<K: Sink>(
 }
 
 /// Puts a count and inode numbers.
-fn put_inos<K: Sink>(inos: &[Ino], room: &mut [u8], sink: &mut K) -> Result<usize, Failed>
-    ensures { Puts result (K.written sink.old) (K.faults sink.old) [] (codes "ok " ++ decimal (length inos.now) ++ flat_map listed_ino inos.now) (K.written sink.new) (K.faults sink.new) room.new }
+fn put_inos<K: Sink>(
+    inos: &[Ino],
+    room: &mut [u8],
+    held: usize,
+    sink: &mut K,
+) -> Result<usize, Failed>
+    requires { held ≤ length room.old }
+    ensures { Puts result (K.written sink.old) (K.faults sink.old) (take held room.old) (codes "ok " ++ decimal (length inos.now) ++ flat_map listed_ino inos.now) (K.written sink.new) (K.faults sink.new) room.new }
 {
-    let held = put_number(b"ok ", inos.len() as u64, room, 0, sink)?;
+    let held = put_number(b"ok ", inos.len() as u64, room, held, sink)?;
     put_each_ino(inos, room, held, sink)
 }
 

@@ -1,11 +1,8 @@
-use Rattle.request_codec.proofs.Sendings.{cut_at, cut_more, line_sent, sent_cut}
+use Rattle.request_codec.proofs.Sendings.{cut_at, room_sent}
 use Rattle.request_codec.proofs.reply_text.send_line.Goals as goal
 
-pub returns-in_err-body : goal.returns-in_err-body
-returns-in_err-body g c = cut_at c.from_residual.ensures.0 (cut_more _ c.in_err-body.ensures.err)
-
 pub returns-in_err-line : goal.returns-in_err-line
-returns-in_err-line g c = cut_at c.from_residual-in_err-line.ensures.0 (sent_cut c.in_ok-body.ensures.ok.sent c.in_err-line.ensures.err)
+returns-in_err-line g c = cut_at c.from_residual.ensures.0 c.in_err-line.ensures.err
 
 pub returns : goal.returns
-returns g c = line_sent c.in_ok-body.ensures.ok.sent c.in_ok-line.ensures.ok.sent c.send-2.ensures
+returns g c = room_sent c.in_ok-line.ensures.ok.sent c.send-2.ensures
