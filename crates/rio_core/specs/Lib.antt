@@ -1,6 +1,7 @@
 pub mod CallEnds
 pub mod LineLaws
 pub mod Lines
+pub mod QuietLaws
 pub mod Regions
 pub mod Replying
 pub mod Serving

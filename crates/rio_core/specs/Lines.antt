@@ -1,13 +1,33 @@
 -- What lines ask of a core, and what its requests do.
+use Rattle.std.specs.Prelude.{◌≡◌, false, None}
+use Rattle.rio_base.specs.Volume.{Below}
 use Rattle.rio_model.specs.declared.state.State.{State}
 use Rattle.rio_requests.specs.declared.reply.Reply.{Reply}
 use Rattle.rio_requests.specs.declared.request.Request.{Request}
+use Rattle.rio_requests.specs.declared.request.Request.TheVariants.{Read, Stat, List, Sync, Get, Txns, Arm}
 use Rattle.rio_requests.specs.Parts.{IsPart}
 use Rattle.rio_requests.specs.Run.{Step}
 use Rattle.rio_requests.specs.Went.{StoppedOn, Went}
 use Rattle.request_codec.specs.Form.{Means}
 use Rattle.request_codec.specs.Text.{text_of}
+use Rattle.rio_serving.specs.declared.effects.Effect.{Effect}
+use Rattle.rio_serving.specs.declared.effects.Effect.TheVariants.{Nothing, Changes, Arms}
 use Rattle.rio_serving.specs.Protocol.{Protocol}
 
 abbrev pub core_protocol : Protocol Request Reply State
 core_protocol = record { means = Means; text = text_of; step = Step; part = IsPart; went = Went; stopped_on = StoppedOn }
+
+-- what each request may do besides being answered. A flush changes no state, but the disk
+abbrev pub effect_of : Request → Effect
+effect_of (Read path off len) = Nothing
+effect_of (Stat path) = Nothing
+effect_of (List path) = Nothing
+effect_of Sync = Nothing
+effect_of (Get path off len) = Nothing
+effect_of Txns = Nothing
+effect_of (Arm step at value) = Arms
+effect_of _ = Changes
+
+-- a machine that nothing but a wild store stops: no stop is set, and no store is armed
+abbrev pub IsCalm : Below → Type 0
+IsCalm b = (b.causes.stop_set ≡ false) × (b.causes.armed ≡ None)

@@ -5,16 +5,17 @@ ghost use Rattle.rio_requests.specs.Crash.{crashed};
 ghost use Rattle.rio_requests.proofs.WentRules.{went_more, went_none};
 ghost use Rattle.file_store.specs.Ends.{Stands};
 ghost use Rattle.rio_core.specs.LineLaws.{long_none};
-ghost use Rattle.rio_core.specs.Lines.{core_protocol};
+ghost use Rattle.rio_core.specs.Lines.{IsCalm, core_protocol, effect_of};
+ghost use Rattle.rio_core.specs.QuietLaws.{core_calm, core_less, core_runs, core_still};
 ghost use Rattle.rio_core.specs.Serving.{Holds};
 
 use crate::replies::BAD_REQUEST;
 use crate::running_core::{Core, answer_one};
 use page_cache::PageCache;
-use request_codec::{parse_line, write_reply_in};
+use request_codec::{parse_line, put_reply, write_reply_in};
 use rio_base::{Blocks, Failed, Machine, Sink, Stopped, Volume};
 use rio_requests::{Reply, Request};
-use rio_serving::Server;
+use rio_serving::{Effect, Server};
 use std::alloc::{AllocError, Global};
 
 impl<M: Machine> Server for Core<M> {
@@ -25,6 +26,10 @@ impl<M: Machine> Server for Core<M> {
     ghost State = { StateOf };
 
     ghost protocol = { core_protocol };
+
+    ghost does = { effect_of };
+
+    ghost calm = { IsCalm };
 
     ghost sound = { λ x. ⟦<PageCache<M> as Blocks>⟧.sound x.view.v };
 
@@ -42,10 +47,31 @@ impl<M: Machine> Server for Core<M> {
 
     ghost goes_more = { went_more };
 
+    ghost goes_less = { core_less };
+
+    ghost still = { core_still };
+
+    ghost stays_calm = { core_calm };
+
+    ghost runs_on = { core_runs };
+
     ghost limited = { λ x most e. M.limited x.view.v.machine most e };
 
     fn parse(alloc: Global, line: &[u8]) -> Result<Option<Request>, AllocError> {
         parse_line(alloc, line)
+    }
+
+    fn effect_of(request: &Request) -> Effect {
+        match request {
+            Request::Read { .. }
+            | Request::Stat { .. }
+            | Request::List { .. }
+            | Request::Sync
+            | Request::Get { .. }
+            | Request::Txns => Effect::Nothing,
+            Request::Arm { .. } => Effect::Arms,
+            _ => Effect::Changes,
+        }
     }
 
     fn answer(&mut self, alloc: Global, request: &Request) -> Result<Reply, Stopped> {
@@ -58,5 +84,14 @@ impl<M: Machine> Server for Core<M> {
 
     fn write_reply<K: Sink>(reply: &Reply, room: &mut [u8], sink: &mut K) -> Result<(), Failed> {
         write_reply_in(reply, room, sink)
+    }
+
+    fn put_reply<K: Sink>(
+        reply: &Reply,
+        room: &mut [u8],
+        held: usize,
+        sink: &mut K,
+    ) -> Result<usize, Failed> {
+        put_reply(reply, room, held, sink)
     }
 }
