@@ -1,6 +1,7 @@
 -- From one part of work on a pair to the next.
-use Rattle.std.proofs.Common.{◌≡◌, ◌<◌, ℕ, ◌+◌, ◌*◌, ◌^◌, true, false, List, [], ◌++◌, length, slice_index, Option, Some, None, refl, sym, ap, subst, ◌∙◌, arith, length-append, length-drop, get_or-take}
+use Rattle.std.proofs.Common.{◌≡◌, ◌<◌, ◌⊎◌, inl, inr, ℕ, ◌+◌, ◌*◌, ◌^◌, true, false, List, [], ◌++◌, length, slice_index, Option, Some, None, refl, sym, ap, subst, ◌∙◌, arith, length-append, length-drop, get_or-take}
 use Rattle.std.specs.Prelude.{Result, Ok, Err, is_some}
+use Rattle.rio_base.specs.Blocks.{Causes}
 use Rattle.rio_base.specs.Bytes.{bytes_of}
 use Rattle.rio_base.specs.Counts.{HasCause, Rose}
 use Rattle.rio_base.specs.Disks.{DiskContents, block_at, blocks_of, is_pending}
@@ -8,7 +9,7 @@ use Rattle.rio_base.specs.Hosts.{Files, with_file}
 use Rattle.rio_base.specs.Image.{HasHeader}
 use Rattle.rio_base.specs.Machine.{Contents, Running}
 use Rattle.rio_base.specs.Shapes.{IsServed}
-use Rattle.rio_base.specs.Volume.{MemorySizes}
+use Rattle.rio_base.specs.Volume.{MemorySizes, Runs}
 use Rattle.rio_base.specs.declared.failures.Failed.{Failed}
 use Rattle.rio_base.specs.declared.places.VolumeShape.{VolumeShape}
 use Rattle.rio_base.proofs.Bytes.{length-bytes_of}
@@ -22,7 +23,7 @@ use Rattle.rio_model.specs.Standing.{StandsFor}
 use Rattle.rio_model.specs.VolumeReads.{ReadsAs}
 use Rattle.rio_model.specs.VolumeReady.{Ready}
 use Rattle.rio_model.proofs.StandingStates.{AreWhole}
-use Rattle.page_cache.specs.Caches.{cache_below, cache_kept, cache_seen}
+use Rattle.page_cache.specs.Caches.{cache_below, cache_health, cache_kept, cache_seen}
 use Rattle.page_cache.specs.declared.tables.CacheTables.{CacheTables}
 use Rattle.region_recovery.specs.RegionLists.{AreRecovered}
 use Rattle.warm_reboot.specs.Boots.{StandsNow}
@@ -34,7 +35,7 @@ use Rattle.pair_files.specs.declared.ends.PairEnd.TheVariants.{Memory}
 use Rattle.pair_files.specs.Ends.{EndedEarly, HasBegun, Outcome, Outset}
 use Rattle.pair_files.specs.Loads.{IsImageRead}
 use Rattle.pair_files.specs.Saves.{Leaves, Replaces}
-use Rattle.pair_files.specs.Scenes.{IsBooted}
+use Rattle.pair_files.specs.Scenes.{AsksUnarmed, IsBooted}
 use Rattle.pair_files.specs.Stages.{IsFound, IsMade, SavedAs, UnsavedAs}
 use Rattle.pair_files.proofs.BytesIn.{AreWords}
 use Rattle.pair_files.proofs.Endings.{unmade}
@@ -143,6 +144,14 @@ pub some_booted : (c d : Contents) (r q : Running) (t : CacheTables) (report : B
 some_booted c d r q t report whole header layout keeps none here memory running found booted =
     let st = stands_found c r.scratch found.0 header layout keeps found.1 none in
     (st.0, st.1, is_booted c d r q t report st.0 whole here memory running (booted st.0) st.1)
+
+-- what was asked of the machine that was made is so of the one that booted
+pub asks_booted : (asks : Causes → Type 0) (c d : Contents) (r q : Running) → AsksUnarmed asks r.stop_set → r.armed ≡ None → Runs (cache_health c r) (cache_below c r) (cache_health d q) (cache_below d q) → asks (cache_below d q).causes
+asks_booted asks c d r q unarmed none runs = unarmed (cache_below d q).causes runs.stop_set (by runs.armed)
+  where
+    by : (q.armed ≡ r.armed) ⊎ (q.armed ≡ None) → q.armed ≡ None
+    by (inl same) = same ∙ none
+    by (inr now) = now
 
 -- ---- a machine is taken back
 

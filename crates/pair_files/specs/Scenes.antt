@@ -1,7 +1,7 @@
 -- Where a work on a pair of files begins and where it ends: the state, the machine and the streams.
-use Rattle.std.specs.Prelude.{◌≡◌, ◌+◌, ◌*◌, ◌≤◌, ℕ, false, true, List, length, Option}
+use Rattle.std.specs.Prelude.{◌≡◌, ◌+◌, ◌*◌, ◌≤◌, ℕ, Bool, false, true, List, length, Option, None}
 use Rattle.rio_base.specs.declared.places.VolumeShape.{VolumeShape}
-use Rattle.rio_base.specs.Blocks.{Health}
+use Rattle.rio_base.specs.Blocks.{Causes, Health}
 use Rattle.rio_base.specs.Machine.{Contents, Running}
 use Rattle.rio_base.specs.Shapes.{IsServed}
 use Rattle.rio_base.specs.Volume.{Below}
@@ -55,3 +55,7 @@ pub record LastsBelow (s : Health) (old : Below) (t : Health) (new : Below) : Ty
   pub stop_set : new.causes.stop_set ≡ old.causes.stop_set
   pub protected : new.causes.protected ≡ old.causes.protected
   pub memory : new.memory ≡ old.memory
+
+-- a machine that was made with a stop, or with none, and whose reboot was made, is what is asked for: no store is armed on it
+abbrev pub AsksUnarmed : (Causes → Type 0) → Bool → Type 0
+AsksUnarmed asks stop_set = (causes : Causes) → causes.stop_set ≡ stop_set → causes.armed ≡ None → asks causes

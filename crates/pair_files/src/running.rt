@@ -1,17 +1,17 @@
 //! Work on a pair of files: loaded, booted, worked on, and saved.
 
-ghost use Rattle.std.specs.Prelude.{◌≡◌, ◌≢◌, ◌≤◌, ◌+◌, ◌*◌, ℕ, false, true, List, None, Some, IfOk, IfErr, OnOk, OnErr, length};
+ghost use Rattle.std.specs.Prelude.{◌≡◌, ◌≢◌, ◌≤◌, ◌+◌, ◌*◌, ℕ, false, true, List, None, Some, IfOk, IfErr, OnOk, OnErr, is_some, length};
 ghost use Rattle.std.specs.String.{string_bytes};
 ghost use Rattle.block_disk.specs.HostDisks.{around_of};
 ghost use Rattle.rio_base.specs.Disks.{is_pending};
 ghost use Rattle.rio_base.specs.Image.{HasHeader};
 ghost use Rattle.rio_model.specs.declared.state.State.{State};
 ghost use Rattle.rio_model.specs.Registry.{HasLayout, KeepsRegistry};
-ghost use Rattle.page_cache.specs.Caches.{CacheSound};
+ghost use Rattle.page_cache.specs.Caches.{CacheSound, cache_below};
 ghost use Rattle.rio_bench.specs.Benches.{made_contents, made_run};
 ghost use Rattle.pair_files.specs.Ends.{Ended, EndedEarly, HasBegun, Outset, outcome_of, outset_of};
 ghost use Rattle.pair_files.specs.Loads.{IsImageRead};
-ghost use Rattle.pair_files.specs.Scenes.{IsBooted, Streams, streams_of};
+ghost use Rattle.pair_files.specs.Scenes.{AsksUnarmed, IsBooted, Streams, streams_of};
 ghost use Rattle.pair_files.specs.Stages.{IsFailed, IsFound, IsMade, IsOf, IsStarted, SavedOrNot, end_of};
 
 use crate::ends::PairEnd;
@@ -45,6 +45,7 @@ pub fn work_on_pair<H: Host, B: Bench<HostDisk<H>>, S: Source, K: Sink, W: Work>
 ) -> (PairEnd<W::End>, H)
     requires unmade { B.pages bench.old ≡ None }
     requires two { string_bytes names.now.image.now ≢ string_bytes names.now.disk.now }
+    requires asks { AsksUnarmed (W.asks work.old) (is_some stop) }
     ensures ended { Ended (outset_of (H.files host) (H.faults host) (string_bytes names.now.image.now) (string_bytes names.now.disk.now) stop (streams_of (S.left source.old) (K.written sink.old) (S.faults source.old) (K.faults sink.old))) (λ end before after. W.does work.old before end after) result.0 (outcome_of (H.files result.1) (H.faults result.1) (streams_of (S.left source.new) (K.written sink.new) (S.faults source.new) (K.faults sink.new)) (B.pages bench.new) (B.tells bench.new) (B.left bench.new)) }
     ensures began { (n : ℕ) → B.pages bench.new ≡ Some n → B.tells bench.new ≡ true → HasBegun (outset_of (H.files host) (H.faults host) (string_bytes names.now.image.now) (string_bytes names.now.disk.now) stop (streams_of (S.left source.old) (K.written sink.old) (S.faults source.old) (K.faults sink.old))) (B.began bench.new) }
     ensures parted { (n : ℕ) → B.pages bench.new ≡ Some n → B.parted bench.new ≡ true }
@@ -85,6 +86,7 @@ fn work_loaded<H: Host, B: Bench<HostDisk<H>>, S: Source, K: Sink, W: Work>(
     requires read { IsImageRead loaded.image.bytes.items loaded.image.words.items loaded.image.scratch }
     requires settled { (b : ℕ) → is_pending (⟦<HostDisk<H> as DiskBlocks>⟧.contents loaded.disk).pending b ≡ false }
     requires unmade { B.pages bench.old ≡ None }
+    requires asks { AsksUnarmed (W.asks work.old) (is_some stop) }
     ensures ended { (o : Outset) → IsOf o (string_bytes image.now) (streams_of (S.left source.old) (K.written sink.old) (S.faults source.old) (K.faults sink.old)) → IsFound o loaded.image.bytes.items loaded.image.words.items loaded.image.scratch (⟦<HostDisk<H> as DiskBlocks>⟧.contents loaded.disk) stop → Ended o (λ end before after. W.does work.old before end after) result.0 (outcome_of (H.files result.1) (H.faults result.1) (streams_of (S.left source.new) (K.written sink.new) (S.faults source.new) (K.faults sink.new)) (B.pages bench.new) (B.tells bench.new) (B.left bench.new)) }
     ensures began { (o : Outset) → IsFound o loaded.image.bytes.items loaded.image.words.items loaded.image.scratch (⟦<HostDisk<H> as DiskBlocks>⟧.contents loaded.disk) stop → (n : ℕ) → B.pages bench.new ≡ Some n → B.tells bench.new ≡ true → HasBegun o (B.began bench.new) }
     ensures parted { (n : ℕ) → B.pages bench.new ≡ Some n → B.parted bench.new ≡ true }
@@ -152,6 +154,8 @@ fn work_made<H: Host, B: Bench<HostDisk<H>>, S: Source, K: Sink, W: Work>(
     requires bytes { length bytes.items ≡ 8 * (length (B.M.contents machine).words + length (B.M.run machine).scratch) }
     requires pages { (n : ℕ) × (B.pages bench.old ≡ Some n) × (512 * n ≡ length (B.M.contents machine).words + length (B.M.run machine).scratch) }
     requires unparted { B.parted bench.old ≡ false }
+    requires unarmed { (B.M.run machine).armed ≡ None }
+    requires asks { AsksUnarmed (W.asks work.old) (B.M.run machine).stop_set }
     ensures ended { (o : Outset) → IsOf o (string_bytes image.now) (streams_of (S.left source.old) (K.written sink.old) (S.faults source.old) (K.faults sink.old)) → IsMade o (B.M.contents machine) (B.M.run machine) → Ended o (λ end before after. W.does work.old before end after) result.0 (outcome_of (H.files result.1) (H.faults result.1) (streams_of (S.left source.new) (K.written sink.new) (S.faults source.new) (K.faults sink.new)) (B.pages bench.new) (B.tells bench.new) (B.left bench.new)) }
     ensures parted { B.parted bench.new ≡ true }
     ensures began { B.began bench.new ≡ B.began bench.old }
@@ -195,6 +199,7 @@ fn work_booted<H: Host, B: Bench<HostDisk<H>>, S: Source, K: Sink, W: Work>(
     requires bytes { length bytes.items ≡ 8 * (length (B.M.contents cache.machine).words + length (B.M.run cache.machine).scratch) }
     requires pages { (n : ℕ) × (B.pages bench.old ≡ Some n) × (512 * n ≡ length (B.M.contents cache.machine).words + length (B.M.run cache.machine).scratch) }
     requires unparted { B.parted bench.old ≡ false }
+    requires asks { W.asks work.old (cache_below (B.M.contents cache.machine) (B.M.run cache.machine)).causes }
     ensures ended { (o : Outset) → IsOf o (string_bytes image.now) (streams_of (S.left source.old) (K.written sink.old) (S.faults source.old) (K.faults sink.old)) → IsStarted o shape (B.M.contents cache.machine) (B.M.run cache.machine) cache.tables → Ended o (λ end before after. W.does work.old before end after) result.0 (outcome_of (H.files result.1) (H.faults result.1) (streams_of (S.left source.new) (K.written sink.new) (S.faults source.new) (K.faults sink.new)) (B.pages bench.new) (B.tells bench.new) (B.left bench.new)) }
     ensures parted { B.parted bench.new ≡ true }
     ensures began { B.began bench.new ≡ B.began bench.old }

@@ -4,6 +4,7 @@ use Rattle.rio_base.specs.Image.{HasHeader}
 use Rattle.rio_base.specs.Machine.{Contents, Running}
 use Rattle.board.specs.Boards.{protected_of}
 use Rattle.rio_model.specs.Registry.{HasLayout, KeepsRegistry}
+use Rattle.pair_files.specs.Scenes.{AsksUnarmed}
 use Rattle.pair_files.proofs.Endings.{ended_early}
 use Rattle.pair_files.proofs.StageRules.{ended_unmade, has_begun, is_made, read_header, read_long}
 use Rattle.pair_files.proofs.running.work_loaded.Goals as goal
@@ -30,6 +31,12 @@ work_made-requires-clause-bytes g c =
     let sizes = ap (λ (y : Contents). 8 * (length y.words + length (g.B.M.Machine.run c.in-Ok.machine).scratch)) c.in-Ok.ensures.contents in
     let scratch = ap (λ (r : Running). 8 * (length (protected_of c.args.loaded.image.words.items c.args.loaded.image.scratch) + length r.scratch)) c.in-Ok.ensures.run in
     read_long c.args.loaded.image.bytes.items c.args.loaded.image.words.items c.args.loaded.image.scratch c.requires.read ∙ sym scratch ∙ sym sizes
+
+pub work_made-requires-clause-unarmed : goal.work_made-requires-clause-unarmed
+work_made-requires-clause-unarmed g c = ap (λ (r : Running). r.armed) c.in-Ok.ensures.run
+
+pub work_made-requires-clause-asks : goal.work_made-requires-clause-asks
+work_made-requires-clause-asks g c = subst (AsksUnarmed (g.W.Work.asks c.args.work.now)) (sym (ap (λ (r : Running). r.stop_set) c.in-Ok.ensures.run)) c.requires.asks
 
 -- ---- how it ends
 

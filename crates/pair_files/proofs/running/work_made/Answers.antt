@@ -1,6 +1,6 @@
 use Rattle.std.proofs.Common.{◌∙◌, arith, sym}
 use Rattle.pair_files.proofs.Endings.{ended_early}
-use Rattle.pair_files.proofs.StageRules.{is_booted, same_memory, some_booted}
+use Rattle.pair_files.proofs.StageRules.{asks_booted, is_booted, same_memory, some_booted}
 use Rattle.pair_files.proofs.running.work_made.Goals as goal
 
 pub work_booted-requires-clause-booted : goal.work_booted-requires-clause-booted
@@ -23,6 +23,12 @@ work_booted-requires-clause-pages g c =
     let new = c.in-Ok.cache.machine in
     let same = same_memory (g.B.M.Machine.contents old) (g.B.M.Machine.contents new) (g.B.M.Machine.run old) (g.B.M.Machine.run new) (g.met.B.M.Machine.protected_words old) (g.met.B.M.Machine.protected_words new) c.in-Ok.ensures.runs.memory in
     (c.requires.pages.0, c.requires.pages.1, c.requires.pages.2 ∙ sym same)
+
+pub work_booted-requires-clause-asks : goal.work_booted-requires-clause-asks
+work_booted-requires-clause-asks g c =
+    let old = c.args.machine in
+    let new = c.in-Ok.cache.machine in
+    asks_booted (g.W.Work.asks c.args.work.now) (g.B.M.Machine.contents old) (g.B.M.Machine.contents new) (g.B.M.Machine.run old) (g.B.M.Machine.run new) c.requires.asks c.requires.unarmed c.in-Ok.ensures.runs
 
 pub returns-in-Ok-clause-ended : goal.returns-in-Ok-clause-ended
 returns-in-Ok-clause-ended g c = λ o of made.
