@@ -11,16 +11,23 @@ use rio_core::Core;
 use rio_serving::ServeEnd;
 use std::alloc::Global;
 
-/// The work of serving the lines of a source until it ends, each reply written to the sink before the next line is read.
+/// The work of serving the lines of a source until it ends, each reply written to the sink before more of it is read.
 #[derive(Clone, Copy, Debug, PartialEq, Eq)]
-pub struct Serving;
+pub struct Serving {
+    /// Whether replies to requests that change nothing may wait to be written together, as long as further lines are there
+    /// already. That needs a machine with no stop.
+    pub gathers: bool,
+}
 
 impl Work for Serving {
+    ghost use Rattle.std.specs.Prelude.{◌≡◌, true, false, None};
     ghost use Rattle.pair_serving.specs.ServedScenes.{Served};
 
     type End = LinesEnd;
 
     ghost does = { λ work a end b. Served a end b };
+
+    ghost asks = { λ work causes. work.gathers ≡ true → (causes.stop_set ≡ false) × (causes.armed ≡ None) };
 
     fn work<M: Machine, S: Source, K: Sink>(
         &mut self,
@@ -31,7 +38,7 @@ impl Work for Serving {
         sink: &mut K,
     ) -> (M, LinesEnd) {
         match Core::new(alloc, cache, shape) {
-            Ok(core) => serve_core(alloc, core, source, sink),
+            Ok(core) => serve_core(alloc, core, source, sink, self.gathers),
             Err((cache, _)) => (cache.into_machine(), LinesEnd::Ended(ServeEnd::Memory)),
         }
     }

@@ -5,7 +5,7 @@ ghost use Rattle.rio_base.specs.Counts.{Rose};
 ghost use Rattle.rio_base.specs.Shapes.{IsServed};
 ghost use Rattle.rio_model.specs.declared.state.State.{State};
 ghost use Rattle.rio_model.specs.Standing.{StandsFor};
-ghost use Rattle.rio_core.specs.Lines.{core_protocol};
+ghost use Rattle.rio_core.specs.Lines.{IsCalm, core_protocol};
 ghost use Rattle.rio_serving.specs.ServeRun.{RunEnds};
 ghost use Rattle.page_cache.specs.Caches.{cache_below, cache_health};
 ghost use Rattle.pair_files.specs.Scenes.{LastsBelow, scene_of, streams_of};
@@ -37,26 +37,53 @@ pub fn serve<M: Machine, S: Source, K: Sink>(
     ensures later { S.faults source.old ≤ S.faults source.new }
     ensures sink_later { K.faults sink.old ≤ K.faults sink.new }
 {
-    serve_with(alloc, core, source, sink)
+    serve_gathering(alloc, core, source, sink, false)
+}
+
+/// The same. With `gathers` replies to requests that change nothing may wait for each other, as long as the next line is held.
+fn serve_gathering<M: Machine, S: Source, K: Sink>(
+    alloc: Global,
+    core: &mut Core<M>,
+    source: &mut S,
+    sink: &mut K,
+    gathers: bool,
+) -> ServeEnd
+    requires sound { ⟦<Core<M> as Server>⟧.sound core.old }
+    requires holds { (s : State) × ⟦<Core<M> as Server>⟧.holds core.old s }
+    requires calm { gathers ≡ true → IsCalm (⟦<Core<M> as Server>⟧.below core.old) }
+    ensures run { (s : State) → ⟦<Core<M> as Server>⟧.holds core.old s → RunEnds core_protocol (⟦<Core<M> as Server>⟧.holds core.new) (⟦<Core<M> as Server>⟧.stands core.new) s result (S.left source.old) (S.left source.new) (K.written sink.old) (K.written sink.new) (⟦<Core<M> as Server>⟧.health core.old) (⟦<Core<M> as Server>⟧.below core.old) (⟦<Core<M> as Server>⟧.health core.new) (⟦<Core<M> as Server>⟧.below core.new) }
+    ensures lasts { LastsBelow (⟦<Core<M> as Server>⟧.health core.old) (⟦<Core<M> as Server>⟧.below core.old) (⟦<Core<M> as Server>⟧.health core.new) (⟦<Core<M> as Server>⟧.below core.new) }
+    ensures limited { (most : ℕ) → (⟦<Core<M> as Server>⟧.below core.old).limit ≡ Some most → (⟦<Core<M> as Server>⟧.health core.new).faults ≤ most }
+    ensures sound { ⟦<Core<M> as Server>⟧.sound core.new }
+    ensures source_fault { result ≡ ServeEnd.SourceFault → Rose (S.faults source.old) (S.faults source.new) }
+    ensures sink_fault { result ≡ ServeEnd.SinkFault → Rose (K.faults sink.old) (K.faults sink.new) }
+    ensures stopped { result ≡ ServeEnd.Stopped → (⟦<Core<M> as Server>⟧.health core.new).stopped ≡ true }
+    ensures steady { result ≢ ServeEnd.SinkFault → K.faults sink.new ≡ K.faults sink.old }
+    ensures later { S.faults source.old ≤ S.faults source.new }
+    ensures sink_later { K.faults sink.old ≤ K.faults sink.new }
+{
+    serve_with(alloc, core, source, sink, gathers)
 }
 
 /// Serves lines over a core, and takes its machine back, which tells whether a wild store trapped. Memory and disk then stand
-/// for what a stop leaves of the state that the lines led to.
+/// for what a stop leaves of the state that the lines led to. With `gathers` replies may wait for each other.
 pub(crate) fn serve_core<M: Machine, S: Source, K: Sink>(
     alloc: Global,
     core: Core<M>,
     source: &mut S,
     sink: &mut K,
+    gathers: bool,
 ) -> (M, LinesEnd)
     requires sound { ⟦<Core<M> as Server>⟧.sound core }
     requires holds { (s : State) × ⟦<Core<M> as Server>⟧.holds core s × IsServed s.shape }
+    requires calm { gathers ≡ true → IsCalm (⟦<Core<M> as Server>⟧.below core) }
     ensures served { (s : State) → ⟦<Core<M> as Server>⟧.holds core s → IsServed s.shape → (t : State) × Served (record { state = s; health = ⟦<Core<M> as Server>⟧.health core; below = ⟦<Core<M> as Server>⟧.below core; streams = streams_of (S.left source.old) (K.written sink.old) (S.faults source.old) (K.faults sink.old) }) result.1 (scene_of t (M.contents result.0) (M.run result.0) (streams_of (S.left source.new) (K.written sink.new) (S.faults source.new) (K.faults sink.new))) × StandsFor (M.contents result.0) (length (M.run result.0).scratch) t }
     ensures lasts { LastsBelow (⟦<Core<M> as Server>⟧.health core) (⟦<Core<M> as Server>⟧.below core) (cache_health (M.contents result.0) (M.run result.0)) (cache_below (M.contents result.0) (M.run result.0)) }
     ensures source_later { S.faults source.old ≤ S.faults source.new }
     ensures sink_later { K.faults sink.old ≤ K.faults sink.new }
 {
     let mut core = core;
-    let end = serve(alloc, &mut core, source, sink);
+    let end = serve_gathering(alloc, &mut core, source, sink, gathers);
     let machine = core.into_machine();
     let trapped = machine.trapped();
     (machine, end_of(end, trapped))

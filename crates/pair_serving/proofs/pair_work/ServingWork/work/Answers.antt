@@ -7,6 +7,9 @@ serve_core-requires-clause-holds g c =
     let s = c.requires.booted in
     rw (c.in-Ok.ensures.cache, c.in-Ok.ensures.shape, c.in-Ok.ensures.table) (s.0, booted_holds _ _ _ _ s.0 s.1, booted_served _ _ _ _ s.0 s.1)
 
+pub serve_core-requires-clause-calm : goal.serve_core-requires-clause-calm
+serve_core-requires-clause-calm g c = rw c.in-Ok.ensures.cache c.requires.asks
+
 pub returns-in-Ok-clause-works : goal.returns-in-Ok-clause-works
 returns-in-Ok-clause-works g c = λ s booted.
     rw c.in-Ok.ensures.cache at (c.serve_core.ensures.served s (rw (c.in-Ok.ensures.cache, c.in-Ok.ensures.shape, c.in-Ok.ensures.table) (booted_holds _ _ _ _ s booted)) (booted_served _ _ _ _ s booted))
