@@ -12,10 +12,10 @@ use Rattle.request_codec.specs.Digits.{IsNone, Reads, Sees, byte_of}
 use Rattle.request_codec.specs.Form.{AreDigitsOf, IsHexOf}
 
 -- what the decoder takes a byte for
-abbrev rank_of : ℕ → ℕ
+abbrev pub rank_of : ℕ → ℕ
 rank_of c = bit_and ((c + 198) % 256) 223
 
-abbrev value_of : ℕ → ℕ
+abbrev pub value_of : ℕ → ℕ
 value_of c = min ((c + 208) % 256) ((rank_of c + 3) % 256)
 
 abbrev is_read : Option ℕ → ℕ → ℕ → Bool

@@ -1,8 +1,11 @@
 pub mod Cuts
 pub mod Digits
+pub mod FarSteps
 pub mod Gathering
 pub mod Held
 pub mod HeldLines
+pub mod HexRuns
+pub mod Lanes32
 pub mod LineEnds
 pub mod Meanings
 pub mod Names

@@ -14,11 +14,11 @@ clear true n len m h rest = absurd (omega (arith, h))
 clear false n len m h rest = let none : m ≡ 0 = rest (omega (arith, h)) in omega (arith, none)
 
 -- where no element passes, no bit is set
-none_set : (p : ℕ → Bool) (xs : List ℕ) → prefix_len (λ x. not (p x)) xs ≡ length xs → mask_l (map p xs) ≡ 0
+pub none_set : (p : ℕ → Bool) (xs : List ℕ) → prefix_len (λ x. not (p x)) xs ≡ length xs → mask_l (map p xs) ≡ 0
 none_set p [] h = refl
 none_set p (x ∷ xs) h = clear (p x) (prefix_len (λ y. not (p y)) xs) (length xs) (mask_l (map p xs)) h (none_set p xs)
 
-not_both : (b : Bool) → b ≡ false → b ≡ true → ⊥
+pub not_both : (b : Bool) → b ≡ false → b ≡ true → ⊥
 not_both true f t = absurd (cc (f))
 not_both false f t = absurd (cc (t))
 

@@ -10,7 +10,7 @@ use Rattle.request_codec.proofs.EncodedParts.{encode_append}
 abbrev pub IsRun : List ℕ → Type 0
 IsRun run = (length run ≡ 16) × Each1 (Fits w8) run
 
-lane_fits : (xs : List ℕ) (i : ℕ) → Each1 (Fits w8) xs → get_or xs i 0 < 256
+pub lane_fits : (xs : List ℕ) (i : ℕ) → Each1 (Fits w8) xs → get_or xs i 0 < 256
 lane_fits [] i h = omega arith
 lane_fits (x ∷ xs) zero h = h.0.fits
 lane_fits (x ∷ xs) (suc i) h = lane_fits xs i h.1

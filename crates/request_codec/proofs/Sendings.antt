@@ -1,7 +1,7 @@
 -- A text on its way to a sink: how its parts follow one another.
 use Rattle.std.proofs.Common.{◌≡◌, ℕ, ◌+◌, ◌-◌, ◌≤◌, ◌<◌, List, [], ◌++◌, length, take, drop, Option, Some, None, Result, Ok, Err, refl, sym, ap, ◌∙◌, arith, subst, length-append, length-drop}
 use Rattle.std.specs.Prelude.{OnOk, OnErr, IsErr}
-use Rattle.std.proofs.lemmas.List.{append_assoc, append-nil, take-append-drop, drop-drop, take_rest, take_at}
+use Rattle.std.proofs.lemmas.List.{append_assoc, append-nil, length-take-le, take-append-drop, drop-drop, take_rest, take_at}
 use Rattle.std.proofs.lemmas.Result.{on_ok_weaker, on_err_weaker}
 use Rattle.rio_base.specs.Counts.{HasCause, Rose}
 use Rattle.rio_base.specs.Streams.{appended}
@@ -167,3 +167,15 @@ room_sent {r = r} {x = x} {b = b} {f1 = f1} {h1 = h1} {c = c} {f2 = f2} text res
 -- what was held is sent, and then a text past it
 pub sent_last : {a : Option (List ℕ)} {f : ℕ} {h : List ℕ} {b : Option (List ℕ)} {f1 : ℕ} {y : List ℕ} {c : Option (List ℕ)} {f2 : ℕ} → Sent a f [] h b f1 [] → Sent b f1 [] y c f2 [] → Sent a f h y c f2 []
 sent_last s t = sent_sent (sent_flushed s) t
+
+-- digits written where they are to stand
+pub digits_held : (old new digits : List ℕ) (held start end : ℕ) → held ≤ length old → start + length digits ≡ end → end ≡ held + length digits → drop start new ≡ digits ++ drop end old → take start new ≡ take start old → take end new ≡ take held old ++ digits
+digits_held old new digits held start end fits starts ends written before =
+    let same : start ≡ held = omega (arith, starts, ends) in
+    let whole : new ≡ (take start old ++ digits) ++ drop end old =
+    sym (take-append-drop start new)
+    ∙ ap (λ (xs : List ℕ). xs ++ drop start new) before
+    ∙ ap (λ (xs : List ℕ). take start old ++ xs) written
+    ∙ sym (append_assoc (take start old) digits (drop end old)) in
+    let size : length (take start old ++ digits) ≡ end = omega (arith, starts, same, fits, length-append (take start old) digits, length-take-le start old (omega (arith, same, fits))) in
+    ap (take end) whole ∙ take_at (take start old ++ digits) (drop end old) end size ∙ ap (λ (k : ℕ). take k old ++ digits) same

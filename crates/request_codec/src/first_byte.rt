@@ -1,49 +1,59 @@
 //! Where a byte stands first.
 
+ghost use Rattle.std.specs.Prelude.{◌<◌, length};
 ghost use Rattle.memchr.specs.Find.{IsFirstByte, is_byte};
 
-use memchr::memchr;
-use std::simd::prelude::*;
+use crate::byte_step::{WIDE, first_of};
+use crate::far_byte::first_behind;
 
-/// How many bytes are looked at together first: most lines and their parts are shorter.
-const NEAR: usize = 32;
+/// How many of fewer bytes are looked at together.
+const HALF: usize = 16;
 
-/// How many of fewer bytes are: most words and paths are shorter.
-const NEXT: usize = 8;
+/// How many of still fewer bytes are: most words and paths are shorter.
+const QUARTER: usize = 8;
 
-/// The place of the first such byte. One in the first 32 bytes is found by one comparison of vectors, and a later one by
-/// `memchr`, whose call costs more than that.
+/// The place of the first such byte. One in the first 32 bytes is found by one comparison of vectors.
 #[inline(always)]
 pub fn first_byte(byte: u8, bytes: &[u8]) -> Option<usize>
     ensures { IsFirstByte (is_byte byte) bytes.now result }
 {
-    if bytes.len() < NEAR {
-        return first_of_few(byte, bytes);
+    if bytes.len() < WIDE {
+        return first_of_short(byte, bytes);
     }
-    let ends = u8x32::from_slice(bytes)
-        .simd_eq(u8x32::splat(byte))
-        .to_bitmask();
-    if ends != 0 {
-        return Some(ends.trailing_zeros() as usize);
+    if let Some(at) = first_of::<WIDE>(byte, bytes, 0) {
+        return Some(at);
     }
-    memchr(byte, bytes)
+    first_behind(byte, bytes)
 }
 
-/// The same among fewer bytes than one comparison takes: the first 8 by a shorter one, and others one by one.
+/// The same as `first_byte` among fewer than 32 bytes: the first 16 of them and then the last 16.
 #[inline(always)]
-fn first_of_few(byte: u8, bytes: &[u8]) -> Option<usize>
+fn first_of_short(byte: u8, bytes: &[u8]) -> Option<usize>
+    requires { length bytes.now < 32 }
     ensures { IsFirstByte (is_byte byte) bytes.now result }
 {
-    if bytes.len() < NEXT {
+    if bytes.len() < HALF {
+        return first_of_shorter(byte, bytes);
+    }
+    if let Some(at) = first_of::<HALF>(byte, bytes, 0) {
+        return Some(at);
+    }
+    first_of::<HALF>(byte, bytes, bytes.len() - HALF)
+}
+
+/// The same among fewer than 16 bytes: the first 8 of them and then the last 8.
+#[inline(always)]
+fn first_of_shorter(byte: u8, bytes: &[u8]) -> Option<usize>
+    requires { length bytes.now < 16 }
+    ensures { IsFirstByte (is_byte byte) bytes.now result }
+{
+    if bytes.len() < QUARTER {
         return one_by_one(byte, bytes);
     }
-    let places = u8x8::from_slice(bytes)
-        .simd_eq(u8x8::splat(byte))
-        .to_bitmask();
-    if places != 0 {
-        return Some(places.trailing_zeros() as usize);
+    if let Some(at) = first_of::<QUARTER>(byte, bytes, 0) {
+        return Some(at);
     }
-    one_by_one(byte, bytes)
+    first_of::<QUARTER>(byte, bytes, bytes.len() - QUARTER)
 }
 
 /// The same, looking at one byte after the other.

@@ -1,14 +1,12 @@
-//! Hexadecimal digits, decoded with no branch and no early exit, so that the compiler decodes many at once.
+//! Hexadecimal digits, decoded with no branch that depends on one of them.
 
 ghost use Rattle.std.specs.Prelude.{◌≡◌, ◌≤◌, ◌*◌, ◌<◌, ℕ, List, length, IfOk, MatchOption, MatchBool};
 ghost use Rattle.request_codec.specs.Digits.{IsNone, Reads, Sees, byte_of};
 ghost use Rattle.request_codec.specs.Form.{IsHexOf};
 
+use crate::hex_runs::{NO_CASE, decode_runs};
 use rio_base::Octets;
-use std::alloc::{AllocError, Global};
-
-/// All bits but the one in which a letter and its capital differ.
-const NO_CASE: u8 = 0xdf;
+use std::alloc::AllocError;
 
 /// A byte as a digit. It is one where its value is below 16 and its rank 7 or more.
 #[derive(Clone, Copy)]
@@ -75,36 +73,34 @@ fn byte_of(high: Digit, low: Digit) -> u8
     high.value.wrapping_mul(16).wrapping_add(low.value)
 }
 
-/// Decodes two digits into each byte, and tells whether all of them are digits.
+/// Decodes two digits into each byte, and tells whether all of them are digits: first the runs of 32 digits, and then what is
+/// left behind them.
 pub fn decode_into(digits: &[u8], out: &mut [u8]) -> bool
     requires { length digits.now ≡ 2 * length out.old }
     ensures { MatchBool result (IsHexOf digits.now out.new) ((bytes : List ℕ) → IsHexOf digits.now bytes → ⊥) }
 {
+    let Some(done) = decode_runs(digits, out) else {
+        return false;
+    };
     let mut seen = Seen::nothing();
-    for (i, pair) in digits.chunks_exact(2).enumerate() {
+    for (i, pair) in digits[2 * done..].chunks_exact(2).enumerate() {
         let high = Digit::of(pair[0]);
         let low = Digit::of(pair[1]);
         seen = seen.with(high, low);
-        out[i] = byte_of(high, low);
+        out[done + i] = byte_of(high, low);
     }
     seen.are_digits()
 }
 
-/// Decodes two digits into each of `count` new bytes. `None` is the answer where some are no digits. The bytes are pushed
-/// to a room of their number: none is cleared before, and no push tests for room.
-pub fn decode(alloc: Global, digits: &[u8], count: usize) -> Result<Option<Octets>, AllocError>
+/// Decodes two digits into each of `count` bytes, in this memory where it is enough. `None` is the answer where some are no
+/// digits. What stands in the memory is not cleared before.
+pub fn decode(room: Vec<u8>, digits: &[u8], count: usize) -> Result<Option<Octets>, AllocError>
     requires { length digits.now ≡ 2 * count }
     ensures { IfOk result (λ found. MatchOption found ((bytes : List ℕ) → IsHexOf digits.now bytes → ⊥) (λ bytes. IsHexOf digits.now bytes)) }
 {
-    let mut bytes = Vec::with_capacity(alloc, count)?;
-    let mut seen = Seen::nothing();
-    for pair in digits.chunks_exact(2) {
-        let high = Digit::of(pair[0]);
-        let low = Digit::of(pair[1]);
-        seen = seen.with(high, low);
-        bytes.push_reserved(byte_of(high, low));
-    }
-    if seen.are_digits() {
+    let mut bytes = room;
+    bytes.resize(count, 0)?;
+    if decode_into(digits, bytes.as_mut_slice()) {
         Ok(Some(Octets::from(bytes)))
     } else {
         Ok(None)

@@ -9,8 +9,9 @@ use crate::parts::{
     at_space, number_value, numbers_value, path_data, path_number, path_numbers, paths,
 };
 use crate::path::is_path;
+use crate::spare::Spare;
 use crate::words::{DataWord, NumberWord, NumbersWord, OtherWord, PathWord};
-use rio_base::{Octets, number_of};
+use rio_base::number_of;
 use rio_requests::Request;
 use std::alloc::{AllocError, Global};
 
@@ -18,32 +19,33 @@ use std::alloc::{AllocError, Global};
 pub fn parse_line(alloc: Global, line: &[u8]) -> Result<Option<Request>, AllocError>
     ensures { IfOk result (λ found. Means line.now found) }
 {
+    let mut spare = Spare::new(alloc);
+    parse_line_with(line, &mut spare)
+}
+
+/// The same with memory that earlier requests left.
+pub fn parse_line_with(line: &[u8], spare: &mut Spare) -> Result<Option<Request>, AllocError>
+    ensures { IfOk result (λ found. Means line.now found) }
+{
     let Some((word, text)) = at_space(line) else {
         return Ok(parse_word(line));
     };
-    if let Some(word) = PathWord::of(word) {
-        return parse_path(alloc, word, text);
-    }
     if let Some(word) = DataWord::of(word) {
-        return parse_data(alloc, word, text);
+        return parse_data(spare, word, text);
     }
     if let Some(word) = NumbersWord::of(word) {
-        return parse_numbers(alloc, word, text);
+        return parse_numbers(spare, word, text);
+    }
+    if let Some(word) = PathWord::of(word) {
+        return parse_path(spare, word, text);
     }
     if let Some(word) = NumberWord::of(word) {
-        return parse_number(alloc, word, text);
+        return parse_number(spare, word, text);
     }
     if let Some(word) = OtherWord::of(word) {
-        return parse_other(alloc, word, text);
+        return parse_other(spare, word, text);
     }
     Ok(None)
-}
-
-/// A copy of a path.
-fn copied(alloc: Global, path: &[u8]) -> Result<Octets, AllocError>
-    ensures { IfOk result (λ copy. copy ≡ path.now) }
-{
-    Ok(Octets::from(Vec::from_slice(alloc, path)?))
 }
 
 /// What a word alone asks for.
@@ -58,18 +60,22 @@ fn parse_word(word: &[u8]) -> Option<Request>
 }
 
 /// What a word and this path ask for.
-fn parse_path(alloc: Global, word: PathWord, path: &[u8]) -> Result<Option<Request>, AllocError>
+fn parse_path(spare: &mut Spare, word: PathWord, path: &[u8]) -> Result<Option<Request>, AllocError>
     ensures { IfOk result (λ found. Means (path_word word ++ (32 ∷ path.now)) found) }
 {
     if !is_path(path) {
         return Ok(None);
     }
-    let path = copied(alloc, path)?;
+    let path = spare.copy_path(path)?;
     Ok(Some(word.request(path)))
 }
 
 /// What a word, a path and a number ask for.
-fn parse_number(alloc: Global, word: NumberWord, text: &[u8]) -> Result<Option<Request>, AllocError>
+fn parse_number(
+    spare: &mut Spare,
+    word: NumberWord,
+    text: &[u8],
+) -> Result<Option<Request>, AllocError>
     ensures { IfOk result (λ found. Means (number_word word ++ (32 ∷ text.now)) found) }
 {
     let Some((path, number)) = path_number(text) else {
@@ -78,13 +84,13 @@ fn parse_number(alloc: Global, word: NumberWord, text: &[u8]) -> Result<Option<R
     if !word.takes(number) {
         return Ok(None);
     }
-    let path = copied(alloc, path)?;
+    let path = spare.copy_path(path)?;
     Ok(Some(word.request(path, number)))
 }
 
 /// What a word, a path and two numbers ask for.
 fn parse_numbers(
-    alloc: Global,
+    spare: &mut Spare,
     word: NumbersWord,
     text: &[u8],
 ) -> Result<Option<Request>, AllocError>
@@ -96,27 +102,31 @@ fn parse_numbers(
     if !word.takes(first, second) {
         return Ok(None);
     }
-    let path = copied(alloc, path)?;
+    let path = spare.copy_path(path)?;
     Ok(Some(word.request(path, first, second)))
 }
 
 /// What a word, a path, a number and data ask for.
-fn parse_data(alloc: Global, word: DataWord, text: &[u8]) -> Result<Option<Request>, AllocError>
+fn parse_data(spare: &mut Spare, word: DataWord, text: &[u8]) -> Result<Option<Request>, AllocError>
     ensures { IfOk result (λ found. Means (data_word word ++ (32 ∷ text.now)) found) }
 {
-    let Some((path, off, bytes)) = path_data(alloc, text)? else {
+    let Some((path, off, bytes)) = path_data(spare, text)? else {
         return Ok(None);
     };
-    let path = copied(alloc, path)?;
+    let path = spare.copy_path(path)?;
     Ok(Some(word.request(path, off, bytes)))
 }
 
 /// What a word and what follows it ask for.
-fn parse_other(alloc: Global, word: OtherWord, text: &[u8]) -> Result<Option<Request>, AllocError>
+fn parse_other(
+    spare: &mut Spare,
+    word: OtherWord,
+    text: &[u8],
+) -> Result<Option<Request>, AllocError>
     ensures { IfOk result (λ found. Means (other_word word ++ (32 ∷ text.now)) found) }
 {
     match word {
-        OtherWord::Rename => parse_rename(alloc, text),
+        OtherWord::Rename => parse_rename(spare, text),
         OtherWord::Flush => Ok(parse_flush(text)),
         OtherWord::Wild => Ok(parse_wild(text)),
         OtherWord::Arm => Ok(parse_arm(text)),
@@ -124,14 +134,14 @@ fn parse_other(alloc: Global, word: OtherWord, text: &[u8]) -> Result<Option<Req
 }
 
 /// What `rename` and two paths ask for.
-fn parse_rename(alloc: Global, text: &[u8]) -> Result<Option<Request>, AllocError>
+fn parse_rename(spare: &mut Spare, text: &[u8]) -> Result<Option<Request>, AllocError>
     ensures { IfOk result (λ found. Means (codes "rename" ++ (32 ∷ text.now)) found) }
 {
     let Some((path, to)) = paths(text) else {
         return Ok(None);
     };
-    let path = copied(alloc, path)?;
-    let to = copied(alloc, to)?;
+    let path = spare.copy_path(path)?;
+    let to = spare.copy_rest(to)?;
     Ok(Some(Request::Rename { path, to }))
 }
 

@@ -11,8 +11,9 @@ use crate::first_byte::first_byte;
 use crate::hex_digits::decode;
 use crate::number::value_of;
 use crate::path::is_path;
+use crate::spare::Spare;
 use rio_base::{Octets, number_of};
-use std::alloc::{AllocError, Global};
+use std::alloc::AllocError;
 
 /// The most bytes that a request carries.
 const DATA_BYTES: usize = 1_048_576;
@@ -76,13 +77,16 @@ pub fn path_numbers(text: &[u8]) -> Option<(&[u8], u64, u64)>
 }
 
 /// Reads a path, a number and data.
-pub fn path_data(alloc: Global, text: &[u8]) -> Result<Option<(&[u8], u64, Octets)>, AllocError>
+pub fn path_data<'t>(
+    spare: &mut Spare,
+    text: &'t [u8],
+) -> Result<Option<(&'t [u8], u64, Octets)>, AllocError>
     ensures { IfOk result (λ found. MatchOption found ((path : List ℕ) (n : ℕ) (bytes : List ℕ) → PathData path n bytes text.now → ⊥) (λ parts. PathData parts.0.now parts.1 parts.2 text.now)) }
 {
     let Some((path, number, digits)) = path_number_at_front(text) else {
         return Ok(None);
     };
-    let Some(bytes) = data_of(alloc, digits)? else {
+    let Some(bytes) = data_of(spare, digits)? else {
         return Ok(None);
     };
     Ok(Some((path, number, bytes)))
@@ -119,12 +123,12 @@ pub fn numbers_value(text: &[u8]) -> Option<(u64, u64, u64)>
 }
 
 /// The bytes that these digits stand for, where there are no more than a request may carry.
-fn data_of(alloc: Global, digits: &[u8]) -> Result<Option<Octets>, AllocError>
+fn data_of(spare: &mut Spare, digits: &[u8]) -> Result<Option<Octets>, AllocError>
     ensures { IfOk result (λ found. MatchOption found ((bytes : List ℕ) → Data bytes digits.now → ⊥) (λ bytes. Data bytes digits.now)) }
 {
     let count = digits.len() / 2;
     if digits.len() != 2 * count || count > DATA_BYTES {
         return Ok(None);
     }
-    decode(alloc, digits, count)
+    decode(spare.take_rest(), digits, count)
 }

@@ -114,14 +114,21 @@ fn put_bytes<K: Sink>(
     put_hex(bytes, room, held, sink)
 }
 
-/// The name of a kind between two spaces.
-fn kind_word(kind: u8) -> &'static [u8]
-    ensures { result.now ≡ codes " " ++ kind_name kind ++ codes " " }
+/// Puts the name of a kind between two spaces, and a size.
+fn put_kind<K: Sink>(
+    kind: u8,
+    size: u64,
+    room: &mut [u8],
+    held: usize,
+    sink: &mut K,
+) -> Result<usize, Failed>
+    requires { held ≤ length room.old }
+    ensures { Puts result (K.written sink.old) (K.faults sink.old) (take held room.old) ((codes " " ++ kind_name kind ++ codes " ") ++ decimal size) (K.written sink.new) (K.faults sink.new) room.new }
 {
     match kind {
-        1 => b" dir ",
-        2 => b" file ",
-        _ => b" region ",
+        1 => put_number_here(b" dir ", size, room, held, sink),
+        2 => put_number_here(b" file ", size, room, held, sink),
+        _ => put_number_here(b" region ", size, room, held, sink),
     }
 }
 
@@ -138,7 +145,7 @@ fn put_stat<K: Sink>(
     ensures { Puts result (K.written sink.old) (K.faults sink.old) (take held room.old) (body_of (Stat ino kind size)) (K.written sink.new) (K.faults sink.new) room.new }
 {
     let held = put_number_here(b"ok ", u64::from(ino.0), room, held, sink)?;
-    put_number(kind_word(kind), size, room, held, sink)
+    put_kind(kind, size, room, held, sink)
 }
 
 /// Puts a count and names.

@@ -6,8 +6,9 @@ ghost use Rattle.std.specs.Prelude.{◌≡◌, ◌≤◌, ◌+◌, ◌*◌, [], 
 ghost use Rattle.hex.specs.Hex.{encode_lower};
 ghost use Rattle.request_codec.specs.Sending.{Puts, Sends};
 
+use crate::digit_count::digit_count;
 use crate::hex_text::encode_hex;
-use itoa::Buffer;
+use itoa::{Buffer, write_digits};
 use rio_base::{Failed, Sink};
 
 /// Writes a whole text, in as many calls as the sink wants.
@@ -109,8 +110,23 @@ pub(crate) fn put_number_here<K: Sink>(
     ensures { Puts result (K.written sink.old) (K.faults sink.old) (take held room.old) (word.now ++ decimal n) (K.written sink.new) (K.faults sink.new) room.new }
 {
     let held = put(word, room, held, sink)?;
-    let mut digits = Buffer::new();
-    put(digits.format(n).as_bytes(), room, held, sink)
+    put_digits(n, room, held, sink)
+}
+
+/// Puts the digits of a number behind what is held, written where they are to stand. Where they don't fit, it writes.
+#[inline(always)]
+fn put_digits<K: Sink>(n: u64, room: &mut [u8], held: usize, sink: &mut K) -> Result<usize, Failed>
+    requires { held ≤ length room.old }
+    ensures { Puts result (K.written sink.old) (K.faults sink.old) (take held room.old) (decimal n) (K.written sink.new) (K.faults sink.new) room.new }
+{
+    let count = digit_count(n);
+    if room.len() - held < count {
+        let mut digits = Buffer::new();
+        return put(digits.format(n).as_bytes(), room, held, sink);
+    }
+    let end = held + count;
+    write_digits(n, room, end);
+    Ok(end)
 }
 
 /// Puts hexadecimal digits behind what is held, two for each byte.

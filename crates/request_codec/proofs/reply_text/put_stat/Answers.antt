@@ -10,5 +10,5 @@ returns-in_err-held g c =
 
 pub returns : goal.returns
 returns g c =
-    let whole = stat_text c.args.ino c.args.kind c.args.size _ _ c.from.ensures c.kind_word.ensures in
-    puts_as whole (puts_then c.in_ok-held.ensures.ok.sent c.put_number.ensures)
+    let whole = stat_text c.args.ino c.args.kind c.args.size _ _ c.from.ensures refl in
+    puts_as whole (puts_then c.in_ok-held.ensures.ok.sent c.put_kind.ensures)

@@ -1,4 +1,3 @@
-use Rattle.std.proofs.Common.{◌∙◌}
 use Rattle.request_codec.proofs.Sendings.{cut_more, puts_cut, puts_then}
 use Rattle.request_codec.proofs.text_room.put_number_here.Goals as goal
 
@@ -6,4 +5,4 @@ pub returns-in_err-held : goal.returns-in_err-held
 returns-in_err-held g c = puts_cut c.from_residual.ensures.0 (cut_more _ c.in_err-held.ensures.err)
 
 pub returns : goal.returns
-returns g c = puts_then c.in_ok-held.ensures.ok.sent (rw (c.as_bytes.ensures.value ∙ c.format.ensures.text) at c.put-2.ensures)
+returns g c = puts_then c.in_ok-held.ensures.ok.sent c.put_digits.ensures

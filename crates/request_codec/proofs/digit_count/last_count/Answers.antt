@@ -1,0 +1,19 @@
+use Rattle.std.proofs.Common.{arith, sym, ◌/◌}
+use Rattle.itoa.proofs.Decimal.{length_one, length_pair, length_two}
+use Rattle.request_codec.proofs.digit_count.last_count.Goals as goal
+
+pub returns-then-n-lt10 : goal.returns-then-n-lt10
+returns-then-n-lt10 c = sym (length_one c.args.n (omega arith))
+
+pub returns-then-n-lt100 : goal.returns-then-n-lt100
+returns-then-n-lt100 c = sym (length_two c.args.n (omega arith) (omega arith))
+
+pub returns-then-n-lt1000 : goal.returns-then-n-lt1000
+returns-then-n-lt1000 c =
+    let n = c.args.n in
+    omega (arith, length_pair n (omega arith) (omega arith), length_one (n / 100) (omega arith))
+
+pub returns-else-n-lt1000 : goal.returns-else-n-lt1000
+returns-else-n-lt1000 c =
+    let n = c.args.n in
+    omega (arith, length_pair n (omega arith) (omega arith), length_two (n / 100) (omega arith) (omega arith))
