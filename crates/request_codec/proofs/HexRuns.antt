@@ -89,8 +89,8 @@ down a b = a / 2 ^ b
 abbrev words : List ℕ → List ℕ
 words xs = digits_l 65536 16 (number_l 256 xs)
 
-abbrev pub tops : List ℕ → List ℕ
-tops xs = zip2 down (zip2 times (words xs) (replicate 16 4097)) (replicate 16 8)
+abbrev pub tops : ℕ → List ℕ → List ℕ
+tops weight xs = zip2 down (zip2 times (words xs) (replicate 16 weight)) (replicate 16 8)
 
 word_at : (xs : List ℕ) (k : ℕ) → length xs ≡ 32 → Each1 (λ x. x < 256) xs → k < 16 → get_or (words xs) k 0 ≡ get_or xs (2 * k) 0 + 256 * get_or xs (2 * k + 1) 0
 word_at xs k long small below =
@@ -101,7 +101,7 @@ word_at xs k long small below =
     let second : get_or pair 1 0 ≡ get_or xs (2 * k + 1) 0 = get_or-chunk (2 * k) 2 xs 1 0 (omega arith) in
     get_or_wider 256 2 65536 16 xs k refl small below ∙ two 256 pair size ∙ ap₂ (λ a b. a + 256 * b) first second
 
-pub top_at : (xs : List ℕ) (k : ℕ) → length xs ≡ 32 → Each1 (Fits w8) xs → k < 16 → get_or (tops xs) k 0 ≡ (get_or xs (2 * k) 0 * 16 + get_or xs (2 * k + 1) 0) % 256
+pub top_at : (xs : List ℕ) (k : ℕ) → length xs ≡ 32 → Each1 (Fits w8) xs → k < 16 → get_or (tops 4097 xs) k 0 ≡ (get_or xs (2 * k) 0 * 16 + get_or xs (2 * k + 1) 0) % 256
 top_at xs k long fits below =
     let words_long : length (words xs) ≡ 16 = refl in
     let products : List ℕ = zip2 times (words xs) (replicate 16 4097) in
@@ -109,9 +109,6 @@ top_at xs k long fits below =
     splatted down products 16 8 k products_long below
     ∙ ap (λ x. x / 2 ^ 8) (splatted times (words xs) 16 4097 k words_long below ∙ ap (λ x. x * 4097 % 65536) (word_at xs k long (below_from_Fits w8 xs fits) below))
     ∙ byte_in_word (get_or xs (2 * k) 0) (get_or xs (2 * k + 1) 0) (lane_fits xs (2 * k) fits) (lane_fits xs (2 * k + 1) fits)
-
-pub tops_long : (xs : List ℕ) → length (tops xs) ≡ 16
-tops_long xs = splat_long down (zip2 times (words xs) (replicate 16 4097)) 16 8 (splat_long times (words xs) 16 4097 refl)
 
 -- ---- the test in the end
 

@@ -1,4 +1,4 @@
-//! Runs of 32 hexadecimal digits, decoded by vectors with no branch that depends on them.
+//! Runs of hexadecimal digits, decoded by vectors with no branch that depends on them.
 
 ghost use Rattle.std.specs.Prelude.{◌≡◌, ◌≤◌, ◌<◌, ◌+◌, ◌*◌, ◌%◌, ℕ, List, length, slice_index, MatchBool, MatchOption};
 ghost use Rattle.request_codec.specs.Digits.{IsDecoded, IsOther, ReadsRun};
@@ -10,10 +10,13 @@ use std::simd::prelude::*;
 /// All bits but the one in which a letter and its capital differ.
 pub(crate) const NO_CASE: u8 = 0xdf;
 
-/// How many bytes a run of digits is decoded to.
-const RUN_BYTES: usize = 16;
+/// How many bytes a run of digits is decoded to, in two halves.
+const RUN_BYTES: usize = 32;
 
-/// What the bytes of a run are as letters, where A to F in either case count from 10 on and other digits for more, and what they
+/// How many bytes are half a run: 32 digits fill a vector.
+const HALF_BYTES: usize = 16;
+
+/// What the bytes of half a run are as letters, where A to F in either case count from 10 on and other digits for more, and what they
 /// are as digits.
 #[inline(always)]
 fn read_run(digits: u8x32) -> (u8x32, u8x32)
@@ -27,11 +30,12 @@ fn read_run(digits: u8x32) -> (u8x32, u8x32)
 /// The bytes of 32 values, the first of each two for the high four bits: their number in 16 bits, the second value above the
 /// first, times 2^12 + 1 has the byte in its upper half.
 #[inline(always)]
-fn joined(values: u8x32) -> u8x16
+fn joined(values: u8x32, weight: u16) -> u8x16
+    requires { weight ≡ 4097 }
     ensures lanes { length result ≡ 16 }
     ensures bytes { (k : ℕ) → k < 16 → slice_index result k ≡ (slice_index values (2 * k) * 16 + slice_index values (2 * k + 1)) % 256 }
 {
-    let pairs = u16x16::from_le_bytes(values) * u16x16::splat(0x1001);
+    let pairs = u16x16::from_le_bytes(values) * u16x16::splat(weight);
     (pairs >> u16x16::splat(8)).cast::<u8>()
 }
 
@@ -61,7 +65,8 @@ pub fn decode_runs(digits: &[u8], out: &mut [u8]) -> Option<usize>
     decode_many(digits, out)
 }
 
-/// The same, where there is a run. It is no part of its caller, so that what each run is compared with stays in registers.
+/// The same, where there is a run. It is no part of its caller, so that what each run is compared with is near. The compiler makes
+/// two steps of a product by 4097 where it knows the number.
 #[inline(never)]
 fn decode_many(digits: &[u8], out: &mut [u8]) -> Option<usize>
     requires { length digits.now ≡ 2 * length out.old }
@@ -70,12 +75,17 @@ fn decode_many(digits: &[u8], out: &mut [u8]) -> Option<usize>
     let mut least = u8x32::splat(255);
     let mut largest = u8x32::splat(0);
     let whole = out.len() / RUN_BYTES * RUN_BYTES;
+    let weight = 0x1001 + (digits.len() - 2 * out.len()) as u16;
     let mut done = 0;
     'runs: while done < whole {
         let (letters, values) = read_run(u8x32::from_slice(&digits[2 * done..]));
         least = lesser(least, letters);
         largest = larger(largest, values);
-        joined(values).copy_to_slice(&mut out[done..]);
+        joined(values, weight).copy_to_slice(&mut out[done..]);
+        let (letters, values) = read_run(u8x32::from_slice(&digits[2 * (done + HALF_BYTES)..]));
+        least = lesser(least, letters);
+        largest = larger(largest, values);
+        joined(values, weight).copy_to_slice(&mut out[done + HALF_BYTES..]);
         done += RUN_BYTES;
     }
     if are_digits(least, largest) {

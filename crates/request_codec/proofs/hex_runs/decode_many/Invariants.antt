@@ -4,7 +4,7 @@ use Rattle.request_codec.proofs.hex_runs.decode_many.Given as goal
 
 abbrev pub invariant-runs : goal.invariant-runs
 invariant-runs l = record {
-  runs : l.done % 16 ≡ 0;
+  runs : l.done % 32 ≡ 0;
   decoded : RunsDecoded l.digits l.out l.least l.largest l.done;
 }
 
