@@ -61,7 +61,7 @@ struct Sweep {
     most: u64,
 }
 
-const SWEEPS: [Sweep; 3] = [
+const SWEEPS: [Sweep; 4] = [
     Sweep {
         name: "taking",
         first: &[(Take(10), Taken(0)), (Commit, Done)],
@@ -100,8 +100,18 @@ const SWEEPS: [Sweep; 3] = [
             (0, 0, 0x3f, 0),
         ],
         behind: NONE,
-        least: 60,
+        least: 50,
         most: 300,
+    },
+    Sweep {
+        name: "taking and giving in one page",
+        first: &[],
+        before: NONE,
+        calls: &[(Take(10), Taken(0)), (Give(0), Given)],
+        between: &[(0x3ff, 0, 0, 0), (0x3ff, 1, 0, 0), (0, 1, 0, 0)],
+        behind: NONE,
+        least: 30,
+        most: 100,
     },
 ];
 
