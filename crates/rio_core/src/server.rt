@@ -12,7 +12,7 @@ ghost use Rattle.rio_core.specs.Serving.{Holds};
 use crate::replies::BAD_REQUEST;
 use crate::running_core::{Core, answer_one};
 use page_cache::PageCache;
-use request_codec::{parse_line, put_reply, write_reply_in};
+use request_codec::{Spare, parse_line_with, put_reply, write_reply_in};
 use rio_base::{Blocks, Failed, Machine, Sink, Stopped, Volume};
 use rio_requests::{Reply, Request};
 use rio_serving::{Effect, Server};
@@ -22,6 +22,8 @@ impl<M: Machine> Server for Core<M> {
     type Request = Request;
 
     type Reply = Reply;
+
+    type Spare = Spare;
 
     ghost State = { StateOf };
 
@@ -57,8 +59,16 @@ impl<M: Machine> Server for Core<M> {
 
     ghost limited = { λ x most e. M.limited x.view.v.machine most e };
 
-    fn parse(alloc: Global, line: &[u8]) -> Result<Option<Request>, AllocError> {
-        parse_line(alloc, line)
+    fn spare(alloc: Global) -> Spare {
+        Spare::new(alloc)
+    }
+
+    fn parse(line: &[u8], spare: &mut Spare) -> Result<Option<Request>, AllocError> {
+        parse_line_with(line, spare)
+    }
+
+    fn keep(request: Request, spare: &mut Spare) {
+        spare.keep(request)
     }
 
     fn effect_of(request: &Request) -> Effect {

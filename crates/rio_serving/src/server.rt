@@ -23,6 +23,9 @@ pub trait Server {
     /// What a request is answered.
     type Reply: Drop;
 
+    /// Memory that requests leave for later ones.
+    type Spare: Drop;
+
     /// A state that it may hold.
     ghost State: { Type 0 };
 
@@ -50,10 +53,16 @@ pub trait Server {
     /// Its machine: its disk, its count of writes, and why it may stop.
     ghost below: { Self → Below };
 
+    /// What there is of that memory before the first request.
+    fn spare(alloc: Global) -> Self::Spare;
+
     /// What a line without its end asks for. `None` is the answer to a line that is no request, and an error means that
     /// there was no memory for the request.
-    fn parse(alloc: Global, line: &[u8]) -> Result<Option<Self::Request>, AllocError>
+    fn parse(line: &[u8], spare: &mut Self::Spare) -> Result<Option<Self::Request>, AllocError>
         ensures { IfOk result (protocol.means line.now) };
+
+    /// Takes the memory of a request that was answered.
+    fn keep(request: Self::Request, spare: &mut Self::Spare);
 
     /// What a request may do. What does nothing can be answered while the replies before it still wait to be written.
     fn effect_of(request: &Self::Request) -> Effect

@@ -49,10 +49,12 @@ pub fn serve_with<C: Server, S: Source, K: Sink>(
     let Ok(mut waiting) = Waiting::new(alloc) else {
         return ServeEnd::Memory;
     };
+    let mut spare = C::spare(alloc);
     match serve_lines(
         alloc,
         core,
         &mut reader,
+        &mut spare,
         &mut waiting,
         source,
         sink,
@@ -68,6 +70,7 @@ fn serve_lines<C: Server, S: Source, K: Sink>(
     alloc: Global,
     core: &mut C,
     reader: &mut LineReader,
+    spare: &mut C::Spare,
     waiting: &mut Waiting,
     source: &mut S,
     sink: &mut K,
@@ -93,7 +96,7 @@ fn serve_lines<C: Server, S: Source, K: Sink>(
 {
     let mut gathering = gathers;
     loop {
-        let request = match ask::<C, S, K>(alloc, reader, waiting, source, sink) {
+        let request = match ask::<C, S, K>(reader, spare, waiting, source, sink) {
             Ok(request) => request,
             Err(end) => return Ok(end),
         };
@@ -104,7 +107,7 @@ fn serve_lines<C: Server, S: Source, K: Sink>(
             Ok(()) => {}
             Err(_) => return Ok(ServeEnd::SinkFault),
         }
-        let reply = reply_to(alloc, core, request)?;
+        let reply = reply_to(alloc, core, request, spare)?;
         match waiting.add::<C, K>(reply, waits, sink) {
             Ok(()) => {}
             Err(_) => return Ok(ServeEnd::SinkFault),
@@ -115,8 +118,8 @@ fn serve_lines<C: Server, S: Source, K: Sink>(
 /// What the next line asks for, or `None` where it is no request; or why no line comes. A line that is held whole, as most
 /// are, is read where it stands. Where none is, what waits is written before the source is asked.
 fn ask<C: Server, S: Source, K: Sink>(
-    alloc: Global,
     reader: &mut LineReader,
+    spare: &mut C::Spare,
     waiting: &mut Waiting,
     source: &mut S,
     sink: &mut K,
@@ -131,7 +134,7 @@ fn ask<C: Server, S: Source, K: Sink>(
 {
     if let Some(line) = reader.held_line() {
         let len = line.len();
-        match meaning_of::<C>(alloc, line) {
+        match meaning_of::<C>(line, spare) {
             Ok(request) => {
                 reader.pass_line(len);
                 return Ok(request);
@@ -145,15 +148,15 @@ fn ask<C: Server, S: Source, K: Sink>(
         }
     }
     match waiting.release(sink) {
-        Ok(()) => ask_source::<C, S>(alloc, reader, source),
+        Ok(()) => ask_source::<C, S>(reader, spare, source),
         Err(_) => Err(ServeEnd::SinkFault),
     }
 }
 
 /// What the next line asks for, where it is not held whole yet.
 fn ask_source<C: Server, S: Source>(
-    alloc: Global,
     reader: &mut LineReader,
+    spare: &mut C::Spare,
     source: &mut S,
 ) -> Result<Option<C::Request>, ServeEnd>
     requires within { reader.old.taken ≤ 2 ^ 40 }
@@ -164,7 +167,7 @@ fn ask_source<C: Server, S: Source>(
     ensures cause { IsErrOf result ServeEnd.SourceFault → Rose (S.faults source.old) (S.faults source.new) }
 {
     match reader.next_line(source) {
-        Ok(NextLine::Line(line)) => meaning_of::<C>(alloc, line.as_slice()),
+        Ok(NextLine::Line(line)) => meaning_of::<C>(line.as_slice(), spare),
         Ok(NextLine::TooLong) => Ok(None),
         Ok(NextLine::End) => Err(ServeEnd::End),
         Err(LineFail::Fault) => Err(ServeEnd::SourceFault),
@@ -216,21 +219,22 @@ fn make_way<K: Sink>(waits: bool, waiting: &mut Waiting, sink: &mut K) -> Result
 }
 
 /// What a line asks for, or that it is no request.
-fn meaning_of<C: Server>(alloc: Global, line: &[u8]) -> Result<Option<C::Request>, ServeEnd>
+fn meaning_of<C: Server>(line: &[u8], spare: &mut C::Spare) -> Result<Option<C::Request>, ServeEnd>
     ensures meaning { IfOk result (C.protocol.means line.now) }
     ensures memory { IfErr result (λ end. end ≡ ServeEnd.Memory) }
 {
-    match C::parse(alloc, line) {
+    match C::parse(line, spare) {
         Ok(request) => Ok(request),
         Err(_) => Err(ServeEnd::Memory),
     }
 }
 
-/// The reply to a request, or to a line that is none.
+/// The reply to a request, or to a line that is none. The request's memory is kept for later ones.
 fn reply_to<C: Server>(
     alloc: Global,
     core: &mut C,
     request: Option<C::Request>,
+    spare: &mut C::Spare,
 ) -> Result<C::Reply, Stopped>
     requires sound { C.sound core.old }
     requires holds { (s : C.State) × C.holds core.old s }
@@ -242,8 +246,10 @@ fn reply_to<C: Server>(
     ensures limit { LimitLasts (C.below core.old).limit (C.below core.new).limit }
     ensures sound { C.sound core.new }
 {
-    match &request {
-        Some(request) => core.answer(alloc, request),
-        None => Ok(C::refusal()),
-    }
+    let Some(request) = request else {
+        return Ok(C::refusal());
+    };
+    let reply = core.answer(alloc, &request);
+    C::keep(request, spare);
+    reply
 }

@@ -54,6 +54,8 @@ impl Server for Lamp {
 
     type Reply = Light;
 
+    type Spare = ();
+
     ghost State = { Bool };
 
     ghost protocol = { lamp_protocol };
@@ -76,13 +78,17 @@ impl Server for Lamp {
 
     ghost limited = { λ x most is. lamp_limited most is };
 
-    fn parse(_alloc: Global, line: &[u8]) -> Result<Option<Switch>, AllocError> {
+    fn spare(_alloc: Global) {}
+
+    fn parse(line: &[u8], _spare: &mut ()) -> Result<Option<Switch>, AllocError> {
         match line {
             b"turn" => Ok(Some(Switch::Turn)),
             b"halt" => Ok(Some(Switch::Halt)),
             _ => Ok(None),
         }
     }
+
+    fn keep(_request: Switch, _spare: &mut ()) {}
 
     fn answer(&mut self, _alloc: Global, request: &Switch) -> Result<Light, Stopped> {
         match request {
