@@ -44,13 +44,13 @@ impl Readings {
     }
 
     /// One more line is read.
-    pub fn push(&mut self, alloc: Global, line: &str) -> Result<(), AllocError> {
-        Ok(self.lines.push(String::from_str(alloc, line)?)?)
+    pub fn push(&mut self, line: String) -> Result<(), AllocError> {
+        Ok(self.lines.push(line)?)
     }
 
-    /// The transaction of the region at a path is one that a stop undoes.
-    pub fn push_undone(&mut self, alloc: Global, path: &str) -> Result<(), AllocError> {
-        Ok(self.undoing.push(format!(in alloc; "abort {path}")?)?)
+    /// A line undoes a transaction that a stop undoes.
+    pub fn push_undoing(&mut self, line: String) -> Result<(), AllocError> {
+        Ok(self.undoing.push(line)?)
     }
 
     /// The lines as the input of a core.
@@ -61,22 +61,34 @@ impl Readings {
     /// The server with the state that a stop leaves of that of another.
     pub fn stopped(&self, alloc: Global, plain: &Plain) -> Result<Plain, AllocError> {
         let mut plain = plain.copy()?;
-        let mut ignored = Vec::new(alloc);
-        for line in self.undoing.iter() {
-            plain.answer_line(line.as_str(), &mut ignored)?;
-        }
+        replies_of(alloc, &mut plain, &self.undoing)?;
         Ok(plain)
     }
 
     /// What is read of a server.
     fn read(&self, alloc: Global, plain: &Plain) -> Result<Vec<u8>, AllocError> {
         let mut plain = plain.copy()?;
-        let mut replies = Vec::new(alloc);
-        for line in self.lines.iter() {
-            plain.answer_line(line.as_str(), &mut replies)?;
-        }
-        Ok(replies)
+        replies_of(alloc, &mut plain, &self.lines)
     }
+
+    /// What is read of a server after a stop.
+    fn read_after_stop(&self, alloc: Global, plain: &Plain) -> Result<Vec<u8>, AllocError> {
+        let plain = self.stopped(alloc, plain)?;
+        self.read(alloc, &plain)
+    }
+}
+
+/// What a server replies to lines.
+pub fn replies_of(
+    alloc: Global,
+    plain: &mut Plain,
+    lines: &[String],
+) -> Result<Vec<u8>, AllocError> {
+    let mut replies = Vec::new(alloc);
+    for line in lines {
+        plain.answer_line(line.as_str(), &mut replies)?;
+    }
+    Ok(replies)
 }
 
 /// Copies of lines.
@@ -92,10 +104,15 @@ fn copies(alloc: Global, lines: &[String]) -> Result<Vec<String>, AllocError> {
 pub fn input_of(alloc: Global, lines: &[String]) -> Result<Vec<u8>, AllocError> {
     let mut input = Vec::new(alloc);
     for line in lines {
-        input.extend_from_slice(line.as_bytes())?;
-        input.push(b'\n')?;
+        push_line(&mut input, line.as_str())?;
     }
     Ok(input)
+}
+
+/// Puts a line behind others.
+pub fn push_line(input: &mut Vec<u8>, line: &str) -> Result<(), AllocError> {
+    input.extend_from_slice(line.as_bytes())?;
+    Ok(input.push(b'\n')?)
 }
 
 /// What is due after a request is stopped.
@@ -120,17 +137,16 @@ impl Due {
         request: &str,
         readings: &Readings,
     ) -> Result<Due, AllocError> {
-        let mut next = plain.copy()?;
-        let mut ignored = Vec::new(alloc);
-        next.answer_line(request, &mut ignored)?;
-        let next = readings.stopped(alloc, &next)?;
+        let before = readings.read_after_stop(alloc, plain)?;
+        let after = read_after_request(alloc, plain, request, readings)?;
+        let request = String::from_str(alloc, request)?;
         let plain = readings.stopped(alloc, plain)?;
         Ok(Due {
             alloc,
-            before: readings.read(alloc, &plain)?,
-            after: readings.read(alloc, &next)?,
+            before,
+            after,
             plain,
-            request: String::from_str(alloc, request)?,
+            request,
             found: 0,
         })
     }
@@ -160,42 +176,68 @@ impl Due {
     }
 
     /// The bytes of a part of the write, where what is read is so while they are there: what lies in the first words that it
-    /// touches, `part` beside the first one. It makes no file longer.
+    /// touches, `part` beside the first one.
     fn read_as_part(
         &self,
         part: usize,
         read: &[u8],
         readings: &Readings,
     ) -> Result<Option<usize>, AllocError> {
-        let alloc = self.alloc;
-        let Some(Part { path, line, bytes }) = part_of(alloc, self.request.as_str(), part)? else {
+        let Some(part) = part_of(self.alloc, self.request.as_str(), part)? else {
             return Ok(None);
         };
-        let mut plain = self.plain.copy()?;
-        let stat = format!(in alloc; "stat {path}")?;
-        let old = told(alloc, &mut plain, stat.as_str())?;
-        told(alloc, &mut plain, line.as_str())?;
-        let new = told(alloc, &mut plain, stat.as_str())?;
-        if old.as_slice() != new.as_slice() {
-            return Ok(None);
-        }
-        let due = readings.read(alloc, &plain)?;
-        if due.as_slice() == read {
-            return Ok(Some(bytes));
+        if self.is_read_with(&part, read, readings)? {
+            return Ok(Some(part.bytes));
         }
         Ok(None)
     }
+
+    /// Whether this is read while a part of the write is there. It makes no file longer.
+    fn is_read_with(
+        &self,
+        part: &Part,
+        read: &[u8],
+        readings: &Readings,
+    ) -> Result<bool, AllocError> {
+        let mut plain = self.plain.copy()?;
+        if !part.is_within(self.alloc, &mut plain)? {
+            return Ok(false);
+        }
+        Ok(readings.read(self.alloc, &plain)?.as_slice() == read)
+    }
+}
+
+/// What is read of a server after it made a request, and a stop.
+fn read_after_request(
+    alloc: Global,
+    plain: &Plain,
+    request: &str,
+    readings: &Readings,
+) -> Result<Vec<u8>, AllocError> {
+    let mut plain = plain.copy()?;
+    told(alloc, &mut plain, request)?;
+    readings.read_after_stop(alloc, &plain)
 }
 
 /// A leading part of a write.
 #[derive(Drop)]
 struct Part {
-    /// The path of its file.
-    path: String,
+    /// The line that tells the size of its file.
+    stat: String,
     /// The line that writes it.
     line: String,
     /// How many bytes it has.
     bytes: usize,
+}
+
+impl Part {
+    /// Writes it, and answers whether its file is told as before.
+    fn is_within(&self, alloc: Global, plain: &mut Plain) -> Result<bool, AllocError> {
+        let old = told(alloc, plain, self.stat.as_str())?;
+        told(alloc, plain, self.line.as_str())?;
+        let new = told(alloc, plain, self.stat.as_str())?;
+        Ok(old.as_slice() == new.as_slice())
+    }
 }
 
 /// What a server replies to a line.
@@ -223,6 +265,6 @@ fn part_of(alloc: Global, line: &str, part: usize) -> Result<Option<Part>, Alloc
         return Ok(None);
     }
     let line = format!(in alloc; "write {path} {offset} {digits}")?;
-    let path = String::from_str(alloc, path)?;
-    Ok(Some(Part { path, line, bytes }))
+    let stat = format!(in alloc; "stat {path}")?;
+    Ok(Some(Part { stat, line, bytes }))
 }

@@ -55,29 +55,34 @@ pub type Ended = Result<BootReport, BootFail>;
 pub struct Ran {
     /// How its reboot ended.
     pub end: Ended,
-    /// The replies, a line each.
-    pub replies: Vec<u8>,
     /// How many steps were made, those of the reboot among them.
     pub steps: u64,
-    /// The disk as it read before it crashed.
-    pub read: Vec<u64>,
     /// The memory and the disk that it left.
     pub pair: Pair,
+    /// The disk as it read before it crashed.
+    read: Vec<u64>,
+    sink: MemSink,
 }
 
-/// A machine after a reboot.
-#[derive(Drop)]
-pub struct Booted {
-    /// How the reboot ended.
-    pub end: Ended,
-    machine: PairBoard,
-}
-
-impl Booted {
-    /// How many steps the reboot took.
-    pub fn steps(&self) -> u64 {
-        self.machine.steps()
+impl Ran {
+    /// The replies, a line each.
+    pub fn replies(&self) -> &[u8] {
+        self.sink.bytes().as_slice()
     }
+
+    /// The memory that it left, and the disk as it read before it crashed.
+    fn as_read(&self, alloc: Global) -> Result<Pair, AllocError> {
+        let memory = Vec::from_slice(alloc, &self.pair.memory)?;
+        let disk = Vec::from_slice(alloc, &self.read)?;
+        Ok(Pair { memory, disk })
+    }
+}
+
+/// How a reboot ended, and how many steps it took.
+#[derive(Clone, Copy, Debug)]
+pub struct Booted {
+    pub end: Ended,
+    pub steps: u64,
 }
 
 /// What a look at a machine found.
@@ -100,18 +105,12 @@ pub struct Bootable {
 
 impl Bootable {
     /// The machine of a pair, which this befalls. The error means that there was no room for it, or that the pair has no image.
-    pub fn new(alloc: Global, pair: Pair, cut: Cut) -> Result<Bootable, AllocError> {
-        let Pair { memory, disk } = pair;
-        if memory.len() < LEAST_WORDS {
+    pub fn new(alloc: Global, pair: &Pair, cut: Cut) -> Result<Bootable, AllocError> {
+        let memory = Vec::from_slice(alloc, &pair.memory)?;
+        if !has_pages(&memory) {
             return Err(AllocError);
         }
-        if MOST_WORDS < memory.len() {
-            return Err(AllocError);
-        }
-        if memory.len() % PAGE_WORDS != 0 {
-            return Err(AllocError);
-        }
-        let disk = disk_of(alloc, &disk, cut)?;
+        let disk = disk_of(alloc, &pair.disk, cut)?;
         let machine = board_of(memory, disk, stop_after(cut));
         if !is_image(&machine) {
             return Err(AllocError);
@@ -124,19 +123,21 @@ impl Bootable {
         let mut source = MemSource::new(alloc, &[], PIECE)?;
         let mut sink = MemSink::new(alloc);
         let (end, machine) = self.serve(alloc, &mut source, &mut sink);
-        Ok(Booted { end, machine })
+        let steps = machine.steps();
+        Ok(Booted { end, steps })
     }
 
     /// Looks at it and stores nothing. The error is want of memory for what is beside the machine.
     pub fn look(self, alloc: Global) -> Result<Looked, AllocError> {
         let Bootable { machine } = self;
-        let (found, machine) = match examine(alloc, machine) {
-            Ok((machine, census)) => (Ok(census), machine),
-            Err(BootError { machine, fail }) => (Err(fail), machine),
-        };
+        let (found, machine) = looked_at(alloc, machine);
         let (memory, disk) = machine.into_parts();
-        let pair = pair_of(alloc, memory, disk, DiskChoice::AsRead)?;
-        Ok(Looked { found, pair })
+        let disk = words_of(alloc, disk, DiskChoice::AsRead)?.left;
+        let memory = memory.into_words();
+        Ok(Looked {
+            found,
+            pair: Pair { memory, disk },
+        })
     }
 
     /// Boots it, and serves the lines of a source.
@@ -147,11 +148,23 @@ impl Bootable {
         sink: &mut MemSink,
     ) -> (Ended, PairBoard) {
         let Bootable { machine } = self;
-        match core_of(alloc, machine) {
-            Ok((core, report)) => (Ok(report), served(alloc, core, source, sink)),
-            Err((machine, fail)) => (Err(fail), machine),
-        }
+        boot_and_serve(alloc, machine, source, sink)
     }
+}
+
+/// Whether memory has so many words as an image with a page of scratch may have.
+fn has_pages(words: &[u64]) -> bool
+    ensures pages { IsTrue result → length words.now % 512 ≡ 0 }
+    ensures room { IsTrue result → 512 < length words.now }
+    ensures small { IsTrue result → length words.now < 2 ^ 32 }
+{
+    if words.len() < LEAST_WORDS {
+        return false;
+    }
+    if MOST_WORDS < words.len() {
+        return false;
+    }
+    words.len() % PAGE_WORDS == 0
 }
 
 /// The steps after which a machine stops.
@@ -238,6 +251,34 @@ fn core_of<M: Machine>(alloc: Global, machine: M) -> Result<(Core<M>, BootReport
     }
 }
 
+/// Boots a machine, serves the lines of a source, and takes the machine back.
+fn boot_and_serve<M: Machine>(
+    alloc: Global,
+    machine: M,
+    source: &mut MemSource,
+    sink: &mut MemSink,
+) -> (Ended, M)
+    requires header { HasHeader (M.contents machine).words }
+    requires layout { HasLayout (M.contents machine).words (M.run machine).scratch }
+    requires closed { (M.contents machine).open_page ≡ None }
+{
+    match core_of(alloc, machine) {
+        Ok((core, report)) => (Ok(report), served(alloc, core, source, sink)),
+        Err((machine, fail)) => (Err(fail), machine),
+    }
+}
+
+/// Looks at a machine, and takes it back.
+fn looked_at<M: Machine>(alloc: Global, machine: M) -> (Result<Census, BootFail>, M)
+    requires layout { HasLayout (M.contents machine).words (M.run machine).scratch }
+    requires closed { (M.contents machine).open_page ≡ None }
+{
+    match examine(alloc, machine) {
+        Ok((machine, census)) => (Ok(census), machine),
+        Err(BootError { machine, fail }) => (Err(fail), machine),
+    }
+}
+
 /// Serves the lines of a source, and takes the machine back.
 fn served<M: Machine>(alloc: Global, core: Core<M>, source: &mut MemSource, sink: &mut MemSink) -> M
     requires sound { ⟦<Core<M> as Server>⟧.sound core }
@@ -251,7 +292,7 @@ fn served<M: Machine>(alloc: Global, core: Core<M>, source: &mut MemSource, sink
 /// Boots the machine of a pair, serves lines, and takes it apart. What is pending then reads as is chosen.
 pub fn run(
     alloc: Global,
-    pair: Pair,
+    pair: &Pair,
     cut: Cut,
     input: &[u8],
     choice: DiskChoice,
@@ -260,18 +301,34 @@ pub fn run(
     let mut sink = MemSink::new(alloc);
     let machine = Bootable::new(alloc, pair, cut)?;
     let (end, machine) = machine.serve(alloc, &mut source, &mut sink);
+    taken_apart(alloc, machine, choice, end, sink)
+}
+
+/// What came of a machine that was booted and served, with this end and these replies.
+fn taken_apart(
+    alloc: Global,
+    machine: PairBoard,
+    choice: DiskChoice,
+    end: Ended,
+    sink: MemSink,
+) -> Result<Ran, AllocError> {
     let steps = machine.steps();
-    let (memory, mut disk) = machine.into_parts();
-    let read = all_words(alloc, &mut disk)?;
-    let pair = pair_of(alloc, memory, disk, choice)?;
-    let replies = Vec::from_slice(alloc, sink.bytes().as_slice())?;
+    let (memory, disk) = machine.into_parts();
+    let DiskWords { read, left } = words_of(alloc, disk, choice)?;
+    let memory = memory.into_words();
     Ok(Ran {
         end,
-        replies,
         steps,
+        pair: Pair { memory, disk: left },
         read,
-        pair,
+        sink,
     })
+}
+
+/// How many steps a machine of a pair takes to boot and to serve lines.
+pub fn steps_of(alloc: Global, pair: &Pair, input: &[u8]) -> Result<u64, AllocError> {
+    let ran = run(alloc, pair, Cut::Nothing, input, DiskChoice::AsRead)?;
+    Ok(ran.steps)
 }
 
 /// How a reboot ended that something befell, and the pairs that its machine may have left.
@@ -296,49 +353,47 @@ fn has(pairs: &[Pair], other: &Pair) -> bool {
 /// Boots the machine of a pair, which this befalls, serves lines, and answers what it may leave. Nothing is on its way to the
 /// disk where it reads the same after a crash that fills what is. No page of a script is full of that byte.
 pub fn leavings(alloc: Global, pair: &Pair, cut: Cut, input: &[u8]) -> Result<Left, AllocError> {
-    let first = run(
-        alloc,
-        pair.copy(alloc)?,
-        cut,
-        input,
-        DiskChoice::Filled(0xa5),
-    )?;
-    let Ran {
-        end,
-        read,
-        pair: filled,
-        ..
-    } = first;
-    let mut pairs = Vec::new(alloc);
-    if read.as_slice() != filled.disk.as_slice() {
-        let memory = Vec::from_slice(alloc, &filled.memory)?;
-        pairs.push(Pair { memory, disk: read })?;
-        let synced = run(alloc, pair.copy(alloc)?, cut, input, DiskChoice::AsSynced)?.pair;
-        if !has(&pairs, &synced) {
-            pairs.push(synced)?;
-        }
-    }
-    pairs.push(filled)?;
+    let filled = run(alloc, pair, cut, input, DiskChoice::Filled(0xa5))?;
+    let mut pairs = pending(alloc, pair, cut, input, &filled)?;
+    let end = filled.end;
+    pairs.push(filled.pair)?;
     Ok(Left { end, pairs })
 }
 
-/// The words of a memory, and of a disk after it crashed so.
-fn pair_of(
+/// The pairs that a machine may leave beside the one whose disk was filled: none where nothing is on its way to the disk.
+fn pending(
     alloc: Global,
-    memory: ListMem,
-    disk: MemDisk,
-    choice: DiskChoice,
-) -> Result<Pair, AllocError> {
-    let disk = words_of(alloc, disk, choice)?;
-    let memory = memory.into_words();
-    Ok(Pair { memory, disk })
+    pair: &Pair,
+    cut: Cut,
+    input: &[u8],
+    filled: &Ran,
+) -> Result<Vec<Pair>, AllocError> {
+    let mut pairs = Vec::new(alloc);
+    if filled.read.as_slice() == filled.pair.disk.as_slice() {
+        return Ok(pairs);
+    }
+    pairs.push(filled.as_read(alloc)?)?;
+    let synced = run(alloc, pair, cut, input, DiskChoice::AsSynced)?.pair;
+    if !has(&pairs, &synced) {
+        pairs.push(synced)?;
+    }
+    Ok(pairs)
 }
 
-/// The words of a disk after it crashed so.
-fn words_of(alloc: Global, disk: MemDisk, choice: DiskChoice) -> Result<Vec<u64>, AllocError> {
+/// The words of a disk as it read, and after it crashed.
+#[derive(Drop)]
+struct DiskWords {
+    read: Vec<u64>,
+    left: Vec<u64>,
+}
+
+/// The words of a disk, and those after it crashed so.
+fn words_of(alloc: Global, disk: MemDisk, choice: DiskChoice) -> Result<DiskWords, AllocError> {
     let mut disk = disk;
+    let read = all_words(alloc, &mut disk)?;
     disk.after_crash(choice);
-    all_words(alloc, &mut disk)
+    let left = all_words(alloc, &mut disk)?;
+    Ok(DiskWords { read, left })
 }
 
 /// The words of a disk as it reads. No call of it is to fail any more.

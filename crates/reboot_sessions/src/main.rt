@@ -35,27 +35,32 @@ mod tallies;
 
 use crate::session::Session;
 use anyhow::Result;
-use std::io::{BufRead, BufReader, BufWriter, Write};
+use std::io::Write;
 use std::time::Instant;
 
 fn main(rt: HostRuntime) -> Result<()> {
-    let alloc = rt.alloc();
-    let mut session = Session::new(alloc)?;
-    let mut out = BufWriter::new(alloc, rt.stdout())?;
-    for line in BufReader::new(alloc, rt.stdin())?.lines(alloc) {
-        let line = line?;
-        if line.as_str() == "timed boot" {
-            let machine = session.machine()?;
-            let start = Instant::now(&rt)?;
-            let booted = machine.boot(alloc)?;
-            let taken = start.elapsed(&rt)?;
-            let told = session.told_in_time(&booted, taken)?;
-            out.write_all(told.as_slice())?;
-            continue;
-        }
-        let told = session.step(line.as_str())?;
-        out.write_all(told.as_slice())?;
+    let mut session = Session::new(rt.alloc())?;
+    for line in rt.lines(rt.alloc()) {
+        answer(&rt, &mut session, line?.as_str())?;
     }
-    out.flush()?;
     Ok(())
+}
+
+/// Answers a line of the script.
+fn answer(rt: &HostRuntime, session: &mut Session, line: &str) -> Result<()> {
+    let told = match line {
+        "timed boot" => boot_in_time(rt, session)?,
+        _ => session.step(line)?,
+    };
+    rt.stdout().write_all(told.as_slice())?;
+    Ok(())
+}
+
+/// Reboots the pair, and tells how long that took.
+fn boot_in_time(rt: &HostRuntime, session: &Session) -> Result<Vec<u8>> {
+    let machine = session.machine()?;
+    let start = Instant::now(rt)?;
+    let booted = machine.boot(rt.alloc())?;
+    let taken = start.elapsed(rt)?;
+    Ok(session.told_in_time(booted, taken)?)
 }

@@ -12,8 +12,8 @@
 //! A stop that leaves the very words that the one before it left, as one within a copy of zeros over zeros does, is counted, and is
 //! not tried again: a reboot has these words alone.
 
-use crate::due::{Due, Found, Readings};
-use crate::machines::{Cut, Left, Ran, leavings, run};
+use crate::due::{Due, Found, Readings, push_line};
+use crate::machines::{Cut, Left, Ran, leavings, run, steps_of};
 use crate::pairs::Pair;
 use crate::tallies::Tally;
 use block_disk::DiskChoice;
@@ -64,16 +64,38 @@ pub struct Depth {
     pub third: u64,
 }
 
-/// A request that is stopped, on a pair that is booted first.
+/// The steps of a request behind a reboot.
 #[derive(Drop)]
-pub struct Stops {
-    alloc: Global,
-    pair: Pair,
+pub struct Steps {
     /// The lines that are made first, and the request behind them.
     input: Vec<u8>,
     /// The steps before the request, and those with it.
     from: u64,
     to: u64,
+}
+
+impl Steps {
+    /// Those of the request of a line on a pair that is booted first, behind other lines.
+    pub fn of(
+        alloc: Global,
+        pair: &Pair,
+        before: Vec<u8>,
+        line: &str,
+    ) -> Result<Steps, AllocError> {
+        let mut input = before;
+        let from = steps_of(alloc, pair, &input)?;
+        push_line(&mut input, line)?;
+        let to = steps_of(alloc, pair, &input)?;
+        Ok(Steps { input, from, to })
+    }
+}
+
+/// A request that is stopped, on a pair that is booted first.
+#[derive(Drop)]
+pub struct Stops {
+    alloc: Global,
+    pair: Pair,
+    steps: Steps,
     behind: Behind,
     depth: Depth,
     /// What the stop left that was tried last.
@@ -86,59 +108,57 @@ pub struct Stops {
 }
 
 impl Stops {
-    /// The request of a line, behind others, where the server before the request is this one.
+    /// A request with these steps, after which lines are read. It is found after a reboot and stopped ones.
     pub fn new(
         alloc: Global,
         pair: Pair,
-        before: &[u8],
-        line: &str,
+        steps: Steps,
         readings: Readings,
+        reading: Vec<u8>,
         due: Due,
         depth: Depth,
-    ) -> Result<Stops, AllocError> {
-        let mut input = Vec::from_slice(alloc, before)?;
-        let first = whole(alloc, &pair, &input)?;
-        input.extend_from_slice(line.as_bytes())?;
-        input.push(b'\n')?;
-        let last = whole(alloc, &pair, &input)?;
-        Ok(Stops {
+    ) -> Stops {
+        Stops {
             alloc,
             pair,
-            input,
-            from: first.steps,
-            to: last.steps,
+            steps,
             behind: Behind::Stops,
             depth,
             last: Vec::new(alloc),
-            reading: readings.input(alloc)?,
             readings,
+            reading,
             due,
             tally: Tally::new(alloc),
-        })
-    }
-
-    /// The stops from the first step of the reboot before the request on.
-    pub fn from_the_start(self) -> Stops {
-        let mut stops = self;
-        stops.from = 0;
-        stops
-    }
-
-    /// Stops it before its steps, and tries this behind each stop. A stop behind all of its steps is one of them.
-    pub fn tried(self, behind: Behind) -> Result<Tally, AllocError> {
-        let mut stops = self;
-        stops.behind = behind;
-        let from = stops.from;
-        let to = stops.to;
-        if to.saturating_sub(from) <= SHORT {
-            stops.try_each(from, to)?;
-        } else {
-            stops.try_each(from, from.saturating_add(EDGE))?;
-            stops.try_pieces(from, to)?;
-            stops.try_each(to.saturating_sub(EDGE), to)?;
         }
-        stops.try_at(to)?;
-        Ok(stops.tally)
+    }
+
+    /// This is tried behind each stop.
+    pub fn try_behind(&mut self, behind: Behind) {
+        self.behind = behind;
+    }
+
+    /// The stops are from the first step of the reboot before the request on.
+    pub fn start_early(&mut self) {
+        self.steps.from = 0;
+    }
+
+    /// What came of the stops.
+    pub fn tally(&self) -> &Tally {
+        &self.tally
+    }
+
+    /// Stops it before its steps, and tries what is tried behind each stop. A stop behind all of its steps is one of them.
+    pub fn try_all(&mut self) -> Result<(), AllocError> {
+        let from = self.steps.from;
+        let to = self.steps.to;
+        if to.saturating_sub(from) <= SHORT {
+            self.try_each(from, to)?;
+        } else {
+            self.try_each(from, from.saturating_add(EDGE))?;
+            self.try_pieces(from, to)?;
+            self.try_each(to.saturating_sub(EDGE), to)?;
+        }
+        self.try_at(to)
     }
 
     /// Stops within pieces, from the whole on.
@@ -194,9 +214,9 @@ impl Stops {
 
     /// The fingerprint of what a stop after so many steps leaves.
     fn fingerprint(&self, steps: u64) -> Result<u64, AllocError> {
-        let pair = self.pair.copy(self.alloc)?;
         let cut = Cut::Stop(steps);
-        let left = run(self.alloc, pair, cut, &self.input, DiskChoice::AsRead)?;
+        let input = self.steps.input.as_slice();
+        let left = run(self.alloc, &self.pair, cut, input, DiskChoice::AsRead)?;
         Ok(left.pair.fingerprint())
     }
 
@@ -226,14 +246,20 @@ impl Stops {
     /// Stops after so many steps, and tries each pair that is left.
     fn try_at(&mut self, steps: u64) -> Result<(), AllocError> {
         self.tally.stops = self.tally.stops.saturating_add(1);
-        let Left { pairs, .. } = leavings(self.alloc, &self.pair, Cut::Stop(steps), &self.input)?;
-        if are_same(&pairs, &self.last) {
-            return Ok(());
+        let input = self.steps.input.as_slice();
+        let left = leavings(self.alloc, &self.pair, Cut::Stop(steps), input)?;
+        if !are_same(&left.pairs, &self.last) {
+            self.try_pairs(&left.pairs, steps)?;
         }
-        for pair in pairs.iter() {
+        self.last = left.pairs;
+        Ok(())
+    }
+
+    /// Tries each pair that a stop after so many steps left.
+    fn try_pairs(&mut self, pairs: &[Pair], steps: u64) -> Result<(), AllocError> {
+        for pair in pairs {
             self.try_pair(pair, steps)?;
         }
-        self.last = pairs;
         Ok(())
     }
 
@@ -268,15 +294,15 @@ impl Stops {
 
     /// Boots a pair that a stop after so many steps led to, and finds the request.
     fn find(&mut self, pair: &Pair, steps: u64) -> Result<(), AllocError> {
-        let ran = run(
-            self.alloc,
-            pair.copy(self.alloc)?,
-            Cut::Nothing,
-            &self.reading,
-            DiskChoice::AsRead,
-        )?;
+        let reading = self.reading.as_slice();
+        let ran = run(self.alloc, pair, Cut::Nothing, reading, DiskChoice::AsRead)?;
+        self.find_in(&ran, steps)
+    }
+
+    /// Finds the request in what came of a machine.
+    fn find_in(&mut self, ran: &Ran, steps: u64) -> Result<(), AllocError> {
         let found = match ran.end {
-            Ok(_) => self.due.find(&ran.replies, &self.readings)?,
+            Ok(_) => self.due.find(ran.replies(), &self.readings)?,
             Err(_) => Found::Otherwise,
         };
         self.tally.count(found, steps)
@@ -284,18 +310,16 @@ impl Stops {
 
     /// Boots a pair, stopped before the reboot's steps, and finds the request after the next one.
     fn stop_reboots(&mut self, pair: &Pair, steps: u64) -> Result<(), AllocError> {
-        let all = whole(self.alloc, pair, &[])?.steps;
+        let all = steps_of(self.alloc, pair, &[])?;
         let mut last = Vec::new(self.alloc);
         for n in 0..all.min(MOST) {
             if !self.is_tried(n) {
                 continue;
             }
-            let Left { pairs, .. } = leavings(self.alloc, pair, Cut::Stop(n), &[])?;
-            if !are_same(&pairs, &last) {
+            if is_left_anew(self.alloc, pair, n, &mut last)? {
                 let third = self.is_third(n);
-                self.find_behind(&pairs, third, steps)?;
+                self.find_behind(&last, third, steps)?;
             }
-            last = pairs;
         }
         Ok(())
     }
@@ -323,14 +347,12 @@ impl Stops {
 
     /// Boots a pair that a stopped reboot left, stopped before each of its steps, and finds the request after the one behind it.
     fn stop_next(&mut self, pair: &Pair, steps: u64) -> Result<(), AllocError> {
-        let all = whole(self.alloc, pair, &[])?.steps;
+        let all = steps_of(self.alloc, pair, &[])?;
         let mut last = Vec::new(self.alloc);
         for n in 0..all.min(MOST) {
-            let Left { pairs, .. } = leavings(self.alloc, pair, Cut::Stop(n), &[])?;
-            if !are_same(&pairs, &last) {
-                self.find_each(&pairs, steps)?;
+            if is_left_anew(self.alloc, pair, n, &mut last)? {
+                self.find_each(&last, steps)?;
             }
-            last = pairs;
         }
         Ok(())
     }
@@ -341,14 +363,30 @@ impl Stops {
             if !self.is_tried(n) {
                 continue;
             }
-            let Left { end, pairs } = leavings(self.alloc, pair, Cut::Call(n), &[])?;
-            match end {
-                Ok(_) => break,
-                Err(BootFail::Fault) => self.find_each(&pairs, steps)?,
-                Err(_) => self.tally.count(Found::Otherwise, steps)?,
+            if !self.fail_call(pair, n, steps)? {
+                break;
             }
         }
         Ok(())
+    }
+
+    /// Boots a pair where this call on the disk fails, and finds the request after the next reboot. Answers whether there is such a
+    /// call.
+    fn fail_call(&mut self, pair: &Pair, n: u64, steps: u64) -> Result<bool, AllocError> {
+        let left = leavings(self.alloc, pair, Cut::Call(n), &[])?;
+        if left.end.is_ok() {
+            return Ok(false);
+        }
+        self.find_after_fault(&left, steps)?;
+        Ok(true)
+    }
+
+    /// Finds the request in each pair that a reboot left that failed. It failed by a fault alone.
+    fn find_after_fault(&mut self, left: &Left, steps: u64) -> Result<(), AllocError> {
+        match left.end {
+            Err(BootFail::Fault) => self.find_each(&left.pairs, steps),
+            _ => self.tally.count(Found::Otherwise, steps),
+        }
     }
 }
 
@@ -365,8 +403,15 @@ fn are_same(some: &[Pair], others: &[Pair]) -> bool {
     true
 }
 
-/// What a machine leaves whose pair is booted and served to the end.
-fn whole(alloc: Global, pair: &Pair, input: &[u8]) -> Result<Ran, AllocError> {
-    let pair = pair.copy(alloc)?;
-    run(alloc, pair, Cut::Nothing, input, DiskChoice::AsRead)
+/// Stops a reboot of a pair before step `n`, and keeps what that leaves. Answers whether it is not what was kept before.
+fn is_left_anew(
+    alloc: Global,
+    pair: &Pair,
+    n: u64,
+    last: &mut Vec<Pair>,
+) -> Result<bool, AllocError> {
+    let left = leavings(alloc, pair, Cut::Stop(n), &[])?;
+    let anew = !are_same(&left.pairs, last);
+    *last = left.pairs;
+    Ok(anew)
 }
