@@ -308,18 +308,18 @@ fn fill_as<V: Volume>(
     Ok(().is_due(want))
 }
 
-/// Whether a request answers as it must; or the stop that came in its place.
-fn answers(
+/// Whether a request of a volume answers as it must; or the stop that came in its place. Words of a block are no request.
+fn volume_answers<V: Volume>(
     alloc: Global,
-    v: &mut ListVolume,
+    v: &mut V,
     shape: &VolumeShape,
     ask: Ask,
     want: Want,
 ) -> Result<bool, Stopped>
-    requires sound { ListSound v.old }
-    requires can { CanServe shape.now (list_seen v.old) (list_kept v.old) }
-    ensures follows { Follows shape.now (list_seen v.new) (list_kept v.new) result }
-    ensures sound { ListSound v.new }
+    requires sound { V.sound v.old }
+    requires can { CanServe shape.now (V.seen v.old) (V.kept v.old) }
+    ensures follows { Follows shape.now (V.seen v.new) (V.kept v.new) result }
+    ensures sound { V.sound v.new }
 {
     match ask {
         Ask::Mkdir(path) => mkdir_as(alloc, v, shape, path, want),
@@ -338,8 +338,27 @@ fn answers(
         Ask::Fill(count) => fill_as(alloc, v, shape, count, want),
         Ask::RegionOf(path) => Ok(region_of_as(v, shape, path, want)),
         Ask::Free => Ok(free_as(v, shape, want)),
-        Ask::Block(b) => Ok(block_as(v, shape, b, want)),
+        Ask::Block(_) => Ok(false),
     }
+}
+
+/// Whether a request answers as it must; or the stop that came in its place.
+fn answers(
+    alloc: Global,
+    v: &mut ListVolume,
+    shape: &VolumeShape,
+    ask: Ask,
+    want: Want,
+) -> Result<bool, Stopped>
+    requires sound { ListSound v.old }
+    requires can { CanServe shape.now (list_seen v.old) (list_kept v.old) }
+    ensures follows { Follows shape.now (list_seen v.new) (list_kept v.new) result }
+    ensures sound { ListSound v.new }
+{
+    if let Ask::Block(b) = ask {
+        return Ok(block_as(v, shape, b, want));
+    }
+    volume_answers(alloc, v, shape, ask, want)
 }
 
 /// Makes requests one after the other, up to the first that answers otherwise than it must, and tells which that is, if

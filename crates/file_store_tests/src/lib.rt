@@ -13,7 +13,7 @@ mod playing;
 #[cfg(test)]
 mod recovery_tests;
 #[cfg(test)]
-mod region_tests;
+mod region_rows;
 #[cfg(test)]
 mod row_tests;
 #[cfg(test)]

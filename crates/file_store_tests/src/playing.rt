@@ -1,6 +1,6 @@
 //! Requests on a fresh volume, as they go and stopped at each of their steps.
 
-ghost use Rattle.std.specs.Prelude.{◌≤◌, IfOk};
+ghost use Rattle.std.specs.Prelude.{◌≤◌};
 ghost use Rattle.rio_fakes.specs.ListVolumes.{ListSound, list_kept, list_seen};
 ghost use Rattle.test_volumes.specs.TestVolumes.{IsTestShape};
 ghost use Rattle.file_store.specs.Ends.{CanServe};
@@ -11,8 +11,35 @@ use rio_base::{Stopped, VolumeShape};
 use rio_fakes::ListVolume;
 use std::alloc::Global;
 use std::process::Abort;
-use std::test::Fail;
 use test_volumes::{SHAPE, fresh, start_again};
+
+/// A volume with one free block.
+const FULL: VolumeShape = VolumeShape {
+    version: 1,
+    blocks: 5,
+    inodes: 64,
+};
+
+/// A volume with more inodes than a page of a directory has rows.
+const MANY_NODES: VolumeShape = VolumeShape {
+    version: 1,
+    blocks: 256,
+    inodes: 128,
+};
+
+/// The volumes of tests.
+#[derive(Clone, Copy)]
+pub(crate) enum Size {
+    /// 256 blocks and 64 inodes.
+    Usual,
+    /// One free block.
+    Full,
+    /// More inodes than a page of a directory has rows.
+    ManyNodes,
+}
+
+/// Requests on a fresh volume: what they show, its size, and each of them with its answer.
+pub(crate) type Table = (&'static str, Size, &'static [Row]);
 
 /// The steps that make a fresh volume.
 const FRESH_STEPS: u64 = 6;
@@ -25,35 +52,78 @@ enum Came {
     Wrong,
 }
 
+/// The shape of a volume.
+fn shape_of(size: Size) -> VolumeShape
+    ensures { IsTestShape result }
+{
+    match size {
+        Size::Usual => SHAPE,
+        Size::Full => FULL,
+        Size::ManyNodes => MANY_NODES,
+    }
+}
+
+/// A fresh volume. It stops after so many steps, of which making it takes six.
+fn fresh_volume(
+    rt: &impl Abort,
+    alloc: Global,
+    shape: &VolumeShape,
+    stop_after: Option<u64>,
+) -> ListVolume
+    requires { IsTestShape shape.now }
+    ensures sound { ListSound result }
+    ensures can { CanServe shape.now (list_seen result) (list_kept result) }
+{
+    match fresh(alloc, shape, stop_after) {
+        Ok(v) => v,
+        Err(_fail) => panic!(rt; "no volume"),
+    }
+}
+
+/// Makes the requests of a table, each of which must answer as its row says.
+fn all_answer(
+    rt: &impl Abort,
+    alloc: Global,
+    v: &mut ListVolume,
+    shape: &VolumeShape,
+    table: &str,
+    rows: &[Row],
+)
+    requires sound { ListSound v.old }
+    requires can { CanServe shape.now (list_seen v.old) (list_kept v.old) }
+    ensures can { CanServe shape.now (list_seen v.new) (list_kept v.new) }
+    ensures sound { ListSound v.new }
+{
+    match first_other(alloc, v, shape, rows) {
+        Ok(None) => {}
+        Ok(Some(row)) => panic!(rt; "{table}: row {row} is answered otherwise"),
+        Err(Stopped) => panic!(rt; "{table}: stopped"),
+    }
+}
+
 /// A fresh volume on which these requests were made, each of which must answer as its row says.
 pub(crate) fn volume_after(
     rt: &impl Abort,
     alloc: Global,
     shape: &VolumeShape,
+    table: &str,
     rows: &[Row],
-) -> Result<ListVolume, Fail>
+) -> ListVolume
     requires { IsTestShape shape.now }
-    ensures sound { IfOk result ListSound }
-    ensures can { IfOk result (λ v. CanServe shape.now (list_seen v) (list_kept v)) }
+    ensures sound { ListSound result }
+    ensures can { CanServe shape.now (list_seen result) (list_kept result) }
 {
-    let mut v = fresh(alloc, shape, None)?;
-    if let Some(row) = first_other(alloc, &mut v, shape, rows)? {
-        panic!(rt; "row {row} is answered otherwise");
-    }
-    Ok(v)
+    let mut v = fresh_volume(rt, alloc, shape, None);
+    all_answer(rt, alloc, &mut v, shape, table, rows);
+    v
 }
 
-/// Makes requests on a fresh volume, each of which must answer as its row says.
-pub(crate) fn on_fresh(
-    rt: &impl Abort,
-    alloc: Global,
-    shape: &VolumeShape,
-    rows: &[Row],
-) -> Result<(), Fail>
-    requires { IsTestShape shape.now }
-{
-    volume_after(rt, alloc, shape, rows)?;
-    Ok(())
+/// Makes the requests of tables, each on a volume of its own.
+pub(crate) fn on_each_fresh(rt: &impl Abort, alloc: Global, tables: &[Table]) {
+    for (table, size, rows) in tables.iter() {
+        let shape = shape_of(*size);
+        let _v = volume_after(rt, alloc, &shape, table, rows);
+    }
 }
 
 /// Makes requests, and goes on with what stands where they are stopped.
@@ -93,19 +163,20 @@ fn is_among(
 
 /// What comes of the requests where they are stopped after so many steps.
 fn stopped_after(
+    rt: &impl Abort,
     alloc: Global,
     rows: &[Row],
     may_stand: &[&[Row]],
     steps: u64,
-) -> Result<Came, Fail>
+) -> Came
     requires few { steps ≤ 200 }
 {
-    let mut v = fresh(alloc, &SHAPE, Some(FRESH_STEPS + steps))?;
+    let mut v = fresh_volume(rt, alloc, &SHAPE, Some(FRESH_STEPS + steps));
     let came = play_or_start(alloc, &mut v, &SHAPE, rows);
-    if !is_among(alloc, &mut v, &SHAPE, may_stand)? {
-        return Ok(Came::Wrong);
+    if is_among(alloc, &mut v, &SHAPE, may_stand).expect(rt, "what stands answers") {
+        return came;
     }
-    Ok(came)
+    Came::Wrong
 }
 
 /// Makes requests on a fresh volume, stopped after each number of steps up to the one after which all are answered, which
@@ -113,19 +184,20 @@ fn stopped_after(
 pub(crate) fn at_each_step(
     rt: &impl Abort,
     alloc: Global,
+    table: &str,
     rows: &[Row],
     may_stand: &[&[Row]],
     least: u64,
-) -> Result<(), Fail> {
+) {
     for steps in 0..200u64 {
-        match stopped_after(alloc, rows, may_stand, steps)? {
+        match stopped_after(rt, alloc, rows, may_stand, steps) {
             Came::Stopped => {}
-            Came::Wrong => panic!(rt; "wrong after {steps} steps"),
+            Came::Wrong => panic!(rt; "{table}: wrong after {steps} steps"),
             Came::Answered => {
-                assert!(rt; least <= steps, "answered after {steps} steps");
-                return Ok(());
+                assert!(rt; least <= steps, "{table}: answered after {steps} steps");
+                return;
             }
         }
     }
-    panic!(rt; "not answered within 200 steps");
+    panic!(rt; "{table}: not answered within 200 steps");
 }

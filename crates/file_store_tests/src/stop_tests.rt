@@ -3,7 +3,6 @@
 use crate::asks::{Ask, Row, Want};
 use crate::playing::at_each_step;
 use crate::views::MAGIC;
-use std::test::Fail;
 
 /// Two files, the first of which then gets the name of the second.
 const RENAME: &[Row] = &[
@@ -54,14 +53,19 @@ const REGION_STANDS: &[&[Row]] = &[
     ],
 ];
 
-#[test]
-fn a_stopped_rename_is_absent_or_whole(rt: HostRuntime) -> Result<(), Fail> {
+/// Requests that are stopped: what they show, what may stand after a stop, and how many steps they take at least.
+type Case = (&'static str, &'static [Row], &'static [&'static [Row]], u64);
+
+static CASES: [Case; 2] = [
     // Each of the three requests begins an update, edits and commits.
-    at_each_step(&rt, rt.alloc(), RENAME, RENAME_STANDS, 9)
-}
+    ("a rename", RENAME, RENAME_STANDS, 9),
+    // Seven blocks are made zero, three words stored, and an update is begun, edited and committed.
+    ("a region", REGION, REGION_STANDS, 13),
+];
 
 #[test]
-fn a_stopped_region_is_absent_or_whole(rt: HostRuntime) -> Result<(), Fail> {
-    // Seven blocks are made zero, three words stored, and an update is begun, edited and committed.
-    at_each_step(&rt, rt.alloc(), REGION, REGION_STANDS, 13)
+fn a_stopped_request_is_absent_or_whole(rt: HostRuntime) {
+    for (table, rows, may_stand, least) in CASES.iter() {
+        at_each_step(&rt, rt.alloc(), table, rows, may_stand, *least);
+    }
 }

@@ -1,6 +1,6 @@
 //! Views of regions on volumes in memory, and calls on their words, each of which must answer as its row says.
 
-ghost use Rattle.std.specs.Prelude.{◌≡◌, ◌+◌, ◌≤◌, true, IfOk};
+ghost use Rattle.std.specs.Prelude.{◌≡◌, ◌+◌, ◌≤◌, true};
 ghost use Rattle.rio_fakes.specs.ListVolumes.{ListSound, list_kept, list_seen};
 ghost use Rattle.rio_model.specs.Heap.{IsSoundRegion};
 ghost use Rattle.file_store.specs.Ends.{CanServe};
@@ -9,11 +9,10 @@ use crate::asks::Row;
 use crate::playing::volume_after;
 use file_store::RegionView;
 use request_codec::is_path;
-use rio_base::{RegionWords, RunFail, VolFail};
+use rio_base::{Ino, RegionWords, RunFail, VolFail};
 use rio_fakes::{FaultyVolume, ListVolume};
 use std::alloc::Global;
 use std::process::Abort;
-use std::test::Fail;
 use test_volumes::SHAPE;
 
 /// The text `VISTAREG` as a word.
@@ -49,37 +48,40 @@ pub(crate) enum Due {
 
 /// A view over a fresh volume on which these requests were made, each of which must answer as its row says. It stands on
 /// no region yet.
-pub(crate) fn view_after(
-    rt: &impl Abort,
-    alloc: Global,
-    rows: &[Row],
-) -> Result<RegionView<ListVolume>, Fail>
-    ensures sound { IfOk result (λ view. ListSound view.v) }
-    ensures can { IfOk result (λ view. CanServe view.shape (list_seen view.v) (list_kept view.v)) }
+pub(crate) fn view_after(rt: &impl Abort, alloc: Global, rows: &[Row]) -> RegionView<ListVolume>
+    ensures sound { ListSound result.v }
+    ensures can { CanServe result.shape (list_seen result.v) (list_kept result.v) }
 {
-    let v = volume_after(rt, alloc, &SHAPE, rows)?;
-    Ok(RegionView::over(v, SHAPE))
+    let v = volume_after(rt, alloc, &SHAPE, "before the view", rows);
+    RegionView::over(v, SHAPE)
 }
 
-/// A view that stands on the region at a path.
+/// A view that stands on the region at a path, which must be this node.
 pub(crate) fn view_of(
     rt: &impl Abort,
     alloc: Global,
     rows: &[Row],
     path: &[u8],
-) -> Result<RegionView<ListVolume>, Fail>
-    ensures ready { IfOk result (λ view. ⟦<RegionView<ListVolume> as RegionWords>⟧.ready view) }
-    ensures sound { IfOk result (λ view. IsSoundRegion view.words (⟦<RegionView<ListVolume> as RegionWords>⟧.words view)) }
+    due: Ino,
+) -> RegionView<ListVolume>
+    ensures ready { ⟦<RegionView<ListVolume> as RegionWords>⟧.ready result }
+    ensures sound { IsSoundRegion result.words (⟦<RegionView<ListVolume> as RegionWords>⟧.words result) }
 {
-    let mut view = view_after(rt, alloc, rows)?;
+    let mut view = view_after(rt, alloc, rows);
     if !is_path(path) {
         panic!(rt; "no path");
     }
-    let ino = view.stand_at(path)?;
-    if view.ino != ino {
+    let ino = match view.stand_at(path) {
+        Ok(ino) => ino,
+        Err(fail) => panic!(rt; "no region: {fail:?}"),
+    };
+    if ino != due {
         panic!(rt; "another region");
     }
-    Ok(view)
+    if view.ino != ino {
+        panic!(rt; "it stands on another region");
+    }
+    view
 }
 
 /// Goes on with what stands, and stops after so many steps.
@@ -230,21 +232,20 @@ fn answers<R: RegionWords>(r: &mut R, call: Call, due: Due) -> bool
     }
 }
 
-/// Makes calls on the words of a region, each of which must answer as its row says. `test` says which table it is.
+/// Makes calls on the words of a region, each of which must answer as its row says. `table` says which they are.
 pub(crate) fn on_words<R: RegionWords>(
     rt: &impl Abort,
-    test: usize,
+    table: &str,
     r: &mut R,
     rows: &[(Call, Due)],
-) -> Result<(), Fail>
+)
     requires ready { R.ready r.old }
     ensures ready { R.ready r.new }
 {
     for t in 0..rows.len() {
         let (call, due) = rows[t];
         if !answers(r, call, due) {
-            panic!(rt; "table {test}: row {t} is answered otherwise");
+            panic!(rt; "{table}: row {t} is answered otherwise");
         }
     }
-    Ok(())
 }
