@@ -22,16 +22,19 @@ pub fn tell_kept(
     after: &[u8],
     out: &mut Vec<u8>,
 ) -> Result<(), AllocError> {
-    match bench.began() {
-        Some(began) if are_words(before, began.words.as_slice()) => {
-            tell_line(out, b"began with the image")?
-        }
-        Some(_) => tell_line(out, b"began with other words")?,
-        None => tell_line(out, b"no machine began")?,
-    }
+    tell_line(out, beginning(bench, before).as_bytes())?;
     match bench.left() {
         Some(left) => tell_left(left, after, out),
         None => tell_line(out, b"no machine was left"),
+    }
+}
+
+/// What a machine began with, beside the image before the run.
+fn beginning(bench: &KeepBench, before: &[u8]) -> &'static str {
+    match bench.began() {
+        Some(began) if are_words(before, began.words.as_slice()) => "began with the image",
+        Some(_) => "began with other words",
+        None => "no machine began",
     }
 }
 
@@ -53,7 +56,7 @@ fn tell_left(left: &KeptEnd, after: &[u8], out: &mut Vec<u8>) -> Result<(), Allo
 
 /// Whether these are the bytes of these words.
 fn are_words(bytes: &[u8], words: &[u64]) -> bool {
-    if bytes.len() / WORD_BYTES != words.len() || bytes.len() % WORD_BYTES != 0 {
+    if bytes.len() != words.len().saturating_mul(WORD_BYTES) {
         return false;
     }
     for (eight, word) in bytes.chunks_exact(WORD_BYTES).zip(words.iter()) {

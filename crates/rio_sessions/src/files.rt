@@ -1,8 +1,8 @@
-//! The files of a session, in memory: what the script puts there, and what it asks about them.
+//! The files of a session, in memory: what the script puts there, what is run over them, and what it asks about them.
 
-use crate::stops::PairBytes;
+use crate::ends::Ended;
 use rio_base::Host;
-use rio_bench::BoardBench;
+use rio_bench::{BoardBench, KeepBench};
 use rio_fakes::{MemHost, MemSink, MemSource};
 use rio_server::run;
 use std::alloc::{AllocError, Global};
@@ -14,6 +14,42 @@ const FRESH: &str = "format m d --frames 64 --blocks 256 --inodes 64 --scratch 1
 
 /// A fresh pair of an image with 32 frames and a volume of 16 blocks.
 const SMALL: &str = "format m d --frames 32 --blocks 16 --inodes 64 --scratch 1";
+
+/// The bytes of an image and of a disk.
+#[derive(Drop)]
+pub struct PairBytes {
+    pub image: Vec<u8>,
+    pub disk: Vec<u8>,
+}
+
+impl PairBytes {
+    /// No byte.
+    pub fn new(alloc: Global) -> PairBytes {
+        PairBytes {
+            image: Vec::new(alloc),
+            disk: Vec::new(alloc),
+        }
+    }
+
+    /// Whether both have the same bytes.
+    pub fn is(&self, other: &PairBytes) -> bool {
+        if self.image.as_slice() != other.image.as_slice() {
+            return false;
+        }
+        self.disk.as_slice() == other.disk.as_slice()
+    }
+
+    /// Which of the two files is not as it was before.
+    pub fn beside(&self, before: &PairBytes) -> &'static str {
+        if self.image.as_slice() != before.image.as_slice() {
+            return "another image";
+        }
+        if self.disk.as_slice() != before.disk.as_slice() {
+            return "another disk";
+        }
+        "both files as before"
+    }
+}
 
 /// Files in memory, and the bytes that one of them had when it was kept.
 #[derive(Drop)]
@@ -33,159 +69,205 @@ impl Shelf {
         }
     }
 
+    /// Files `m` and `d` with the bytes of a pair.
+    pub fn holding(alloc: Global, pair: &PairBytes) -> Result<Shelf, AllocError> {
+        let mut shelf = Shelf::new(alloc);
+        shelf.put("m", pair.image.as_slice())?;
+        shelf.put("d", pair.disk.as_slice())?;
+        Ok(shelf)
+    }
+
     /// Hands the files out, and has none.
-    pub fn take(&mut self) -> MemHost {
+    fn take(&mut self) -> MemHost {
         mem::replace(&mut self.host, MemHost::new(self.alloc))
     }
 
-    /// Has these files.
-    pub fn put_back(&mut self, host: MemHost) {
+    /// Runs the program on words over these files.
+    pub fn run(&mut self, words: &Vec<String>, source: MemSource, sink: MemSink) -> Ended {
+        let mut source = source;
+        let mut sink = sink;
+        let mut bench = BoardBench::new();
+        let host = self.take();
+        let (status, host) = run(self.alloc, words, &mut source, &mut sink, host, &mut bench);
         self.host = host;
+        Ended { status, sink }
     }
 
-    /// Does what a line says of files, and tells what it asks. Whether the word is one of files is the answer.
-    pub fn act(&mut self, word: &str, rest: &str, out: &mut Vec<u8>) -> Result<bool, AllocError> {
+    /// The same over a bench that keeps what its machine began with and how it was left.
+    pub fn run_kept(
+        &mut self,
+        words: &Vec<String>,
+        source: MemSource,
+        sink: MemSink,
+    ) -> (Ended, KeepBench) {
+        let mut source = source;
+        let mut sink = sink;
+        let mut bench = KeepBench::new();
+        let host = self.take();
+        let (status, host) = run(self.alloc, words, &mut source, &mut sink, host, &mut bench);
+        self.host = host;
+        (Ended { status, sink }, bench)
+    }
+
+    /// Does what a line says of files, or tells what it asks.
+    pub fn act(&mut self, word: &str, rest: &str, out: &mut Vec<u8>) -> Result<(), AllocError> {
         let (name, value) = first_word(rest);
-        let name = String::from_str(self.alloc, name)?;
         match word {
-            "fresh" => self.make_pair(FRESH)?,
-            "small" => self.make_pair(SMALL)?,
-            "file" => self.host.put(&name, value.as_bytes())?,
-            "patch" => self.patch(&name, value)?,
-            "cut" => self.cut(&name, value)?,
-            "lengthen" => self.lengthen(&name, value)?,
-            "keep" => self.kept = self.bytes_of(&name)?,
-            "remove" => self.host.remove(&name),
-            "host-fails" => self.host.fail_call(number(rest)?.max(1))?,
-            _ => return self.tell_of(word, &name, value, out),
+            "fresh" => self.make_pair(FRESH),
+            "small" => self.make_pair(SMALL),
+            "file" => self.put(name, value.as_bytes()),
+            "patch" => self.patch(name, value),
+            "cut" => self.cut(name, value),
+            "lengthen" => self.lengthen(name, value),
+            "keep" => self.keep(name),
+            "remove" => self.remove(name),
+            "host-fails" => self.fail_call(rest),
+            _ => self.tell_of(word, name, value, out),
         }
-        Ok(true)
     }
 
     /// Tells what a line asks about files.
     fn tell_of(
-        &mut self,
+        &self,
         word: &str,
-        name: &String,
+        name: &str,
         value: &str,
         out: &mut Vec<u8>,
-    ) -> Result<bool, AllocError> {
+    ) -> Result<(), AllocError> {
         match word {
-            "same" => self.tell_whether_same(name, out)?,
-            "size" => self.tell_size(name, out)?,
-            "bytes" => tell_line(out, self.bytes_of(name)?.as_slice())?,
-            "word" => self.tell_word(name, value, out)?,
-            "host-faults" => tell_number(out, "", self.host.faults())?,
-            _ => return Ok(false),
+            "same" => self.tell_whether_same(name, out),
+            "size" => self.tell_size(name, out),
+            "bytes" => self.tell_bytes(name, out),
+            "word" => self.tell_word(name, value, out),
+            "host-faults" => tell_number(out, "", self.host.faults()),
+            _ => tell_line(out, b"no such word"),
         }
-        Ok(true)
     }
 
     /// The bytes of the image and those of the disk, the files `m` and `d`.
     pub fn pair(&self) -> Result<PairBytes, AllocError> {
-        pair_in(self.alloc, &self.host)
+        let image = self.bytes_of("m")?;
+        let disk = self.bytes_of("d")?;
+        Ok(PairBytes { image, disk })
     }
 
     /// The bytes of a file, or none where there is no such file.
-    fn bytes_of(&self, name: &String) -> Result<Vec<u8>, AllocError> {
-        bytes_in(self.alloc, &self.host, name)
+    fn bytes_of(&self, name: &str) -> Result<Vec<u8>, AllocError> {
+        let name = String::from_str(self.alloc, name)?;
+        match self.host.file(&name) {
+            Some(bytes) => Vec::from_slice(self.alloc, bytes.as_slice()),
+            None => Ok(Vec::new(self.alloc)),
+        }
     }
 
     /// Makes the fresh pair of a command, `m` and `d`.
     fn make_pair(&mut self, command: &str) -> Result<(), AllocError> {
         let words = words_of(self.alloc, command)?;
-        let mut source = MemSource::new(self.alloc, b"", 1)?;
-        let mut sink = MemSink::new(self.alloc);
-        let host = self.take();
-        let mut bench = BoardBench::new();
-        let (_, host) = run(self.alloc, &words, &mut source, &mut sink, host, &mut bench);
-        self.put_back(host);
+        let source = MemSource::new(self.alloc, b"", 1)?;
+        let sink = MemSink::new(self.alloc);
+        let _ended = self.run(&words, source, sink);
         Ok(())
     }
 
-    /// Writes a word into a file, at the place of a word.
-    fn patch(&mut self, name: &String, value: &str) -> Result<(), AllocError> {
-        let (place, word) = first_word(value);
-        let off = number(place)?.saturating_mul(8);
-        let word = number(word)?.to_le_bytes();
-        let written = self.host.write_at(name, off, word.as_slice());
-        written.map_err(|_| AllocError)
+    /// Has a file of these bytes.
+    fn put(&mut self, name: &str, bytes: &[u8]) -> Result<(), AllocError> {
+        let name = String::from_str(self.alloc, name)?;
+        self.host.put(&name, bytes)
     }
 
-    /// Takes all bytes of a file away but the first.
-    fn cut(&mut self, name: &String, size: &str) -> Result<(), AllocError> {
-        let size = number(size)? as usize;
-        let mut bytes = self.bytes_of(name)?;
-        bytes.truncate(size);
-        self.host.put(name, bytes.as_slice())
+    /// Has no such file.
+    fn remove(&mut self, name: &str) -> Result<(), AllocError> {
+        let name = String::from_str(self.alloc, name)?;
+        self.host.remove(&name);
+        Ok(())
     }
 
-    /// Writes a zero as the last byte that a file of this size has.
-    fn lengthen(&mut self, name: &String, size: &str) -> Result<(), AllocError> {
-        let last = number(size)?.saturating_sub(1);
-        let written = self.host.write_at(name, last, b"\0");
-        written.map_err(|_| AllocError)
-    }
-
-    /// Tells whether a file has the bytes that were kept.
-    fn tell_whether_same(&self, name: &String, out: &mut Vec<u8>) -> Result<(), AllocError> {
-        let bytes = self.bytes_of(name)?;
-        if bytes.as_slice() == self.kept.as_slice() {
-            tell_line(out, b"yes")
-        } else {
-            tell_line(out, b"no")
+    /// Writes bytes into a file.
+    fn write_at(&mut self, name: &str, off: u64, bytes: &[u8]) -> Result<(), AllocError> {
+        let name = String::from_str(self.alloc, name)?;
+        match self.host.write_at(&name, off, bytes) {
+            Ok(()) => Ok(()),
+            Err(_) => Err(AllocError),
         }
     }
 
+    /// Keeps the bytes of a file.
+    fn keep(&mut self, name: &str) -> Result<(), AllocError> {
+        self.kept = self.bytes_of(name)?;
+        Ok(())
+    }
+
+    /// The call of this number fails, from 1.
+    fn fail_call(&mut self, call: &str) -> Result<(), AllocError> {
+        let call = number(call)?;
+        self.host.fail_call(call.max(1))
+    }
+
+    /// Writes a word into a file, at the place of a word.
+    fn patch(&mut self, name: &str, value: &str) -> Result<(), AllocError> {
+        let (place, word) = first_word(value);
+        let off = number(place)?.saturating_mul(8);
+        let word = number(word)?.to_le_bytes();
+        self.write_at(name, off, word.as_slice())
+    }
+
+    /// Takes all bytes of a file away but the first.
+    fn cut(&mut self, name: &str, size: &str) -> Result<(), AllocError> {
+        let size = number(size)? as usize;
+        let mut bytes = self.bytes_of(name)?;
+        bytes.truncate(size);
+        self.put(name, bytes.as_slice())
+    }
+
+    /// Writes a zero as the last byte that a file of this size has.
+    fn lengthen(&mut self, name: &str, size: &str) -> Result<(), AllocError> {
+        let last = number(size)?.saturating_sub(1);
+        self.write_at(name, last, b"\0")
+    }
+
+    /// Tells whether a file has the bytes that were kept.
+    fn tell_whether_same(&self, name: &str, out: &mut Vec<u8>) -> Result<(), AllocError> {
+        let bytes = self.bytes_of(name)?;
+        if bytes.as_slice() == self.kept.as_slice() {
+            return tell_line(out, b"yes");
+        }
+        tell_line(out, b"no")
+    }
+
     /// Tells how many bytes a file has.
-    fn tell_size(&self, name: &String, out: &mut Vec<u8>) -> Result<(), AllocError> {
-        match self.host.file(name) {
+    fn tell_size(&self, name: &str, out: &mut Vec<u8>) -> Result<(), AllocError> {
+        let name = String::from_str(self.alloc, name)?;
+        match self.host.file(&name) {
             Some(bytes) => tell_number(out, "", bytes.len() as u64),
             None => tell_line(out, b"no file"),
         }
     }
 
+    /// Tells the bytes of a file.
+    fn tell_bytes(&self, name: &str, out: &mut Vec<u8>) -> Result<(), AllocError> {
+        let bytes = self.bytes_of(name)?;
+        tell_line(out, bytes.as_slice())
+    }
+
     /// Tells the eight bytes of a file's word.
-    fn tell_word(&self, name: &String, place: &str, out: &mut Vec<u8>) -> Result<(), AllocError> {
+    fn tell_word(&self, name: &str, place: &str, out: &mut Vec<u8>) -> Result<(), AllocError> {
         let place = number(place)? as usize;
         let bytes = self.bytes_of(name)?;
-        let Some(word) = bytes.as_slice().chunks_exact(8).nth(place) else {
-            return tell_line(out, b"no word");
-        };
-        let mut text = String::new(self.alloc);
-        for byte in word {
-            text.push_str(format!(in self.alloc; "{byte:02x}")?.as_str())?;
+        match bytes.as_slice().chunks_exact(8).nth(place) {
+            Some(word) => tell_digits(word, out),
+            None => tell_line(out, b"no word"),
         }
-        tell_line(out, text.as_bytes())
     }
 }
 
-/// The bytes of a file, or none where there is no such file.
-fn bytes_in(alloc: Global, host: &MemHost, name: &String) -> Result<Vec<u8>, AllocError> {
-    match host.file(name) {
-        Some(bytes) => Vec::from_slice(alloc, bytes.as_slice()),
-        None => Ok(Vec::new(alloc)),
+/// Tells bytes, two digits each.
+fn tell_digits(bytes: &[u8], out: &mut Vec<u8>) -> Result<(), AllocError> {
+    let alloc = *out.allocator();
+    let mut text = String::new(alloc);
+    for byte in bytes {
+        text.push_str(format!(in alloc; "{byte:02x}")?.as_str())?;
     }
-}
-
-/// The bytes of the image and those of the disk, the files `m` and `d`.
-pub fn pair_in(alloc: Global, host: &MemHost) -> Result<PairBytes, AllocError> {
-    let image = String::from_str(alloc, "m")?;
-    let disk = String::from_str(alloc, "d")?;
-    Ok(PairBytes {
-        image: bytes_in(alloc, host, &image)?,
-        disk: bytes_in(alloc, host, &disk)?,
-    })
-}
-
-/// Files `m` and `d` with the bytes of a pair.
-pub fn host_of(alloc: Global, pair: &PairBytes) -> Result<MemHost, AllocError> {
-    let image = String::from_str(alloc, "m")?;
-    let disk = String::from_str(alloc, "d")?;
-    let mut host = MemHost::new(alloc);
-    host.put(&image, pair.image.as_slice())?;
-    host.put(&disk, pair.disk.as_slice())?;
-    Ok(host)
+    tell_line(out, text.as_bytes())
 }
 
 /// The words of a command, which has one space between them. An empty one has none.

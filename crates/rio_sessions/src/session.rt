@@ -1,12 +1,13 @@
 //! A session: lines of a script say what is at hand, run it, and ask what came.
 
 use crate::benches::tell_kept;
-use crate::files::{Shelf, words_of};
+use crate::ends::{Ended, tell_status};
+use crate::files::{PairBytes, Shelf, words_of};
 use crate::stops::StoppedRun;
 use crate::walks::Walk;
-use rio_bench::{BoardBench, KeepBench};
+use rio_bench::KeepBench;
 use rio_fakes::{MemSink, MemSource};
-use rio_server::{end_without_memory, run};
+use rio_server::end_without_memory;
 use std::alloc::{AllocError, Global};
 use test_scripts::{expanded, first_word, numbers, tell, tell_line, tell_number, tell_shown};
 use test_servers::{BadBlock, NO_BAD_BLOCK, Sizes, serve_lines_of};
@@ -84,12 +85,8 @@ impl Session {
             "twice" => self.run_twice(rest, out),
             "serve" => self.serve_lines(out),
             "on" | "bad-block" | "pieces" | "source-fails" | "sink-fails" => self.set(word, rest),
-            "==" => {
-                *self = Session::new(self.alloc);
-                Ok(())
-            }
-            "next" => {
-                self.begin_next_run();
+            "==" | "next" => {
+                self.begin(word);
                 Ok(())
             }
             _ => self.answer(word, rest, out),
@@ -115,12 +112,15 @@ impl Session {
             "writes" if self.writes > 0 => tell_line(out, b"some"),
             "writes" => tell_line(out, b"none"),
             "no-memory" => self.end_for_memory(out),
-            _ => {
-                if !self.files.act(word, rest, out)? {
-                    return tell_line(out, b"no such word");
-                }
-                Ok(())
-            }
+            _ => self.files.act(word, rest, out),
+        }
+    }
+
+    /// Begins anew, or the next run.
+    fn begin(&mut self, word: &str) {
+        match word {
+            "==" => *self = Session::new(self.alloc),
+            _ => self.begin_next_run(),
         }
     }
 
@@ -164,44 +164,51 @@ impl Session {
         Ok(sink)
     }
 
-    /// Runs the program on the words of a command. Answers what it wrote and its status.
-    fn run_words(&mut self, command: &str) -> Result<(u8, MemSink), AllocError> {
+    /// Runs the program on the words of a command.
+    fn run_words(&mut self, command: &str) -> Result<Ended, AllocError> {
         let words = words_of(self.alloc, command)?;
-        let mut source = self.source()?;
-        let mut sink = self.sink()?;
-        let host = self.files.take();
-        let mut bench = BoardBench::new();
-        let (status, host) = run(self.alloc, &words, &mut source, &mut sink, host, &mut bench);
-        self.files.put_back(host);
-        Ok((status, sink))
+        let source = self.source()?;
+        let sink = self.sink()?;
+        Ok(self.files.run(&words, source, sink))
+    }
+
+    /// The same over a bench that keeps what its machine began with and how it was left.
+    fn run_words_kept(&mut self, command: &str) -> Result<(Ended, KeepBench), AllocError> {
+        let words = words_of(self.alloc, command)?;
+        let source = self.source()?;
+        let sink = self.sink()?;
+        Ok(self.files.run_kept(&words, source, sink))
     }
 
     /// Runs the program on the words of a command, and tells what it wrote and its status.
     fn run_command(&mut self, command: &str, out: &mut Vec<u8>) -> Result<(), AllocError> {
-        let (status, sink) = self.run_words(command)?;
-        tell(out, sink.bytes().as_slice())?;
-        tell_status(status, out)
+        let ended = self.run_words(command)?;
+        ended.tell(out)
     }
 
     /// The same, and tells the status alone.
     fn tell_status_of(&mut self, command: &str, out: &mut Vec<u8>) -> Result<(), AllocError> {
-        let (status, _) = self.run_words(command)?;
-        tell_status(status, out)
+        let ended = self.run_words(command)?;
+        tell_status(ended.status, out)
     }
 
     /// Runs the program twice on the words of a command. Tells the first status, and whether the second run wrote the same and
     /// had the same status.
     fn run_twice(&mut self, command: &str, out: &mut Vec<u8>) -> Result<(), AllocError> {
-        let (status, sink) = self.run_words(command)?;
-        let (status_again, sink_again) = self.run_words(command)?;
-        tell_status(status, out)?;
-        if status_again != status {
-            return tell_line(out, b"another status");
-        }
-        if sink_again.bytes().as_slice() != sink.bytes().as_slice() {
-            return tell_line(out, b"another text");
-        }
-        tell_line(out, b"the same twice")
+        let first = self.run_words(command)?;
+        self.run_again(command, &first, out)
+    }
+
+    /// Tells the status of a run, and runs the program again on the same words.
+    fn run_again(
+        &mut self,
+        command: &str,
+        first: &Ended,
+        out: &mut Vec<u8>,
+    ) -> Result<(), AllocError> {
+        tell_status(first.status, out)?;
+        let again = self.run_words(command)?;
+        tell_line(out, again.beside(first).as_bytes())
     }
 
     /// Runs the program as `run_command` does, and tells whether both files of the pair are as they were.
@@ -209,30 +216,28 @@ impl Session {
         let before = self.files.pair()?;
         self.run_command(command, out)?;
         let now = self.files.pair()?;
-        if now.image.as_slice() != before.image.as_slice() {
-            return tell_line(out, b"another image");
-        }
-        if now.disk.as_slice() != before.disk.as_slice() {
-            return tell_line(out, b"another disk");
-        }
-        tell_line(out, b"both files as before")
+        tell_line(out, now.beside(&before).as_bytes())
     }
 
     /// Runs the program on the words of a command, over a bench that keeps what its machine began with and how it was left.
     /// Tells what was written, the status, and what of the two is the image's.
     fn run_kept(&mut self, command: &str, out: &mut Vec<u8>) -> Result<(), AllocError> {
-        let words = words_of(self.alloc, command)?;
-        let mut source = self.source()?;
-        let mut sink = self.sink()?;
-        let before = self.files.pair()?.image;
-        let host = self.files.take();
-        let mut bench = KeepBench::new();
-        let (status, host) = run(self.alloc, &words, &mut source, &mut sink, host, &mut bench);
-        self.files.put_back(host);
-        tell(out, sink.bytes().as_slice())?;
-        tell_status(status, out)?;
-        let after = self.files.pair()?.image;
-        tell_kept(&bench, before.as_slice(), after.as_slice(), out)
+        let before = self.files.pair()?;
+        let (ended, bench) = self.run_words_kept(command)?;
+        self.tell_run_kept(&ended, &bench, &before, out)
+    }
+
+    /// Tells a run, and what its bench kept beside the image before the run and the one after it.
+    fn tell_run_kept(
+        &self,
+        ended: &Ended,
+        bench: &KeepBench,
+        before: &PairBytes,
+        out: &mut Vec<u8>,
+    ) -> Result<(), AllocError> {
+        ended.tell(out)?;
+        let after = self.files.pair()?;
+        tell_kept(bench, before.image.as_slice(), after.image.as_slice(), out)
     }
 
     /// Serves drawn lines in several runs over the pair, whose sizes the session has. Tells whether the replies of all are those
@@ -240,20 +245,32 @@ impl Session {
     fn serve_walk(&mut self, rest: &str, out: &mut Vec<u8>) -> Result<(), AllocError> {
         let [seed, count, runs] = numbers(rest)?;
         let mut walk = Walk::drawn(self.alloc, self.sizes, seed, count, runs)?;
-        let mut came = Vec::new(self.alloc);
+        self.serve_parts(&mut walk, runs, out)
+    }
+
+    /// Serves a walk in so many parts, and tells what came.
+    fn serve_parts(
+        &mut self,
+        walk: &mut Walk,
+        runs: u64,
+        out: &mut Vec<u8>,
+    ) -> Result<(), AllocError> {
         for n in 0..runs {
-            self.input = walk.next_part(runs - n == 1)?;
-            let (status, sink) = self.run_words("serve m d")?;
-            came.extend_from_slice(sink.bytes().as_slice())?;
+            let status = self.serve_part(walk, runs - n == 1)?;
             if status != 0 {
                 tell_number(out, "run ", n)?;
                 return tell_status(status, out);
             }
         }
-        match walk.line_that_differs(came.as_slice()) {
-            Some(line) => tell_number(out, "differs in line ", line as u64),
-            None => tell_line(out, b"as defined"),
-        }
+        walk.tell(out)
+    }
+
+    /// Serves the next part of a walk, and answers the status.
+    fn serve_part(&mut self, walk: &mut Walk, is_last: bool) -> Result<u8, AllocError> {
+        self.input = walk.next_part(is_last)?;
+        let ended = self.run_words("serve m d")?;
+        walk.take(ended.text())?;
+        Ok(ended.status)
     }
 
     /// Stops a run of the lines before each of its steps, and tells what is read behind that. The run behind it is stopped before one
@@ -261,18 +278,15 @@ impl Session {
     fn stop_run(&mut self, rest: &str, out: &mut Vec<u8>) -> Result<(), AllocError> {
         let [second, _, _] = numbers(rest)?;
         let pair = self.files.pair()?;
-        let input = self.input.as_slice();
-        let mut stopped = StoppedRun::new(self.alloc, input, &self.reading, second)?;
-        stopped.stop(&pair)?;
-        stopped.tell(out)
+        let mut stopped = StoppedRun::new(self.alloc, &self.input, &self.reading, second)?;
+        stopped.stop_and_tell(&pair, out)
     }
 
     /// Ends a run whose words found no memory, and tells what it wrote and its status.
     fn end_for_memory(&mut self, out: &mut Vec<u8>) -> Result<(), AllocError> {
         let mut sink = self.sink()?;
         let status = end_without_memory(&mut sink);
-        tell(out, sink.bytes().as_slice())?;
-        tell_status(status, out)
+        Ended { status, sink }.tell(out)
     }
 
     /// Serves the lines on a fresh volume of the session's sizes, and tells the replies and how that ended.
@@ -283,9 +297,4 @@ impl Session {
         tell(out, served.text.as_slice())?;
         tell_shown(out, &served.end)
     }
-}
-
-/// Tells a status.
-fn tell_status(status: u8, out: &mut Vec<u8>) -> Result<(), AllocError> {
-    tell_number(out, "status ", u64::from(status))
 }
