@@ -285,7 +285,7 @@ fn served<M: Machine>(alloc: Global, core: Core<M>, source: &mut MemSource, sink
     requires holds { (s : State) × ⟦<Core<M> as Server>⟧.holds core s }
 {
     let mut core = core;
-    let _end = serve_with(alloc, &mut core, source, sink);
+    let _end = serve_with(alloc, &mut core, source, sink, false);
     core.into_machine()
 }
 

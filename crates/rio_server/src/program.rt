@@ -30,7 +30,7 @@ const USAGE: &[u8; 49] = b"usage: rio format, serve, registry, check, drill\n";
 /// Runs the program on the words after its name. Answers its exit status, and hands the host back.
 ///
 /// `serve IMAGE DISK` makes a warm reboot of these two files on a machine of the bench, and answers the request lines of the source
-/// until that ends, each reply written to the sink before the next line is read. Then IMAGE is written anew, also where it ended
+/// until that ends, each reply written to the sink before more is asked of the source. Then IMAGE is written anew, also where it ended
 /// before its time. What files and regions hold is in both files, and the next `serve` finds it. With `--stop N` the machine
 /// stops where it is asked for a step after N. A wild store on a protected word, which lines may ask for, stops it too.
 ///

@@ -30,7 +30,9 @@ pub fn serve_pair<S: Source, K: Sink, H: Host, B: Bench<HostDisk<H>>>(
     ensures runs { ServeRuns (string_bytes names.now.image.now) (string_bytes names.now.disk.now) stop result.0 (outside (H.files host) (H.faults host) (S.left source.old) (S.faults source.old) (K.written sink.old) (K.faults sink.old)) (outside (H.files result.1) (H.faults result.1) (S.left source.new) (S.faults source.new) (K.written sink.new) (K.faults sink.new)) (benched (B.pages bench.new) (B.parted bench.new) (B.tells bench.new) (B.began bench.new) (B.left bench.new)) }
     ensures tells { B.tells bench.new ≡ B.tells bench.old }
 {
-    let mut work = Serving;
+    let mut work = Serving {
+        gathers: stop.is_none(),
+    };
     let (end, host) = work_on_pair(alloc, names, stop, source, sink, host, bench, &mut work);
     let mut room = [0u8; ROOM_BYTES];
     (tell_end(end, names, stop, &mut room, sink), host)

@@ -1,12 +1,12 @@
-//! A small server of lines: a lamp that lines turn on and off.
+//! A small server of lines: a lamp that lines turn on and off and look at.
 
 ghost use Rattle.std.specs.Prelude.{◌≡◌, Bool, false};
-ghost use Rattle.rio_serving_tests.specs.Lamps.{lamp_below, lamp_protocol};
-ghost use Rattle.rio_serving_tests.specs.LampLaws.{lamp_limited, lamp_long, lamp_more, lamp_none};
+ghost use Rattle.rio_serving_tests.specs.Lamps.{IsCalm, effect_of, lamp_below, lamp_protocol, light_of};
+ghost use Rattle.rio_serving_tests.specs.LampLaws.{lamp_calm, lamp_less, lamp_limited, lamp_long, lamp_more, lamp_none, lamp_runs, lamp_still};
 
-use request_codec::write_text;
+use request_codec::{put, write_text};
 use rio_base::{Failed, Sink, Stopped};
-use rio_serving::Server;
+use rio_serving::{Effect, Server};
 use std::alloc::{AllocError, Global};
 
 /// What a line may ask for.
@@ -14,6 +14,8 @@ use std::alloc::{AllocError, Global};
 pub enum Switch {
     /// Turns the lamp on, or off where it is on.
     Turn,
+    /// Asks whether it is on.
+    Look,
     /// Stops the lamp's machine.
     Halt,
 }
@@ -47,6 +49,16 @@ impl Lamp {
             stopped: false,
         }
     }
+
+    /// Whether it is on.
+    fn told(&self) -> Light
+        ensures { result ≡ light_of self.now.on }
+    {
+        if self.on {
+            return Light::On;
+        }
+        Light::Off
+    }
 }
 
 impl Server for Lamp {
@@ -59,6 +71,10 @@ impl Server for Lamp {
     ghost State = { Bool };
 
     ghost protocol = { lamp_protocol };
+
+    ghost does = { effect_of };
+
+    ghost calm = { IsCalm };
 
     ghost sound = { λ _. Unit {0} };
 
@@ -76,6 +92,14 @@ impl Server for Lamp {
 
     ghost goes_more = { lamp_more };
 
+    ghost goes_less = { lamp_less };
+
+    ghost still = { lamp_still };
+
+    ghost stays_calm = { lamp_calm };
+
+    ghost runs_on = { lamp_runs };
+
     ghost limited = { λ x most is. lamp_limited most is };
 
     fn spare(_alloc: Global) {}
@@ -83,6 +107,7 @@ impl Server for Lamp {
     fn parse(line: &[u8], _spare: &mut ()) -> Result<Option<Switch>, AllocError> {
         match line {
             b"turn" => Ok(Some(Switch::Turn)),
+            b"look" => Ok(Some(Switch::Look)),
             b"halt" => Ok(Some(Switch::Halt)),
             _ => Ok(None),
         }
@@ -90,15 +115,21 @@ impl Server for Lamp {
 
     fn keep(_request: Switch, _spare: &mut ()) {}
 
+    fn effect_of(request: &Switch) -> Effect {
+        match request {
+            Switch::Turn => Effect::Changes,
+            Switch::Look => Effect::Nothing,
+            Switch::Halt => Effect::Changes,
+        }
+    }
+
     fn answer(&mut self, _alloc: Global, request: &Switch) -> Result<Light, Stopped> {
         match request {
             Switch::Turn => {
                 self.on = !self.on;
-                if self.on {
-                    return Ok(Light::On);
-                }
-                Ok(Light::Off)
+                Ok(self.told())
             }
+            Switch::Look => Ok(self.told()),
             Switch::Halt => {
                 self.stopped = true;
                 Err(Stopped)
@@ -115,6 +146,19 @@ impl Server for Lamp {
             Light::On => write_text(b"on\n", sink),
             Light::Off => write_text(b"off\n", sink),
             Light::Unknown => write_text(b"?\n", sink),
+        }
+    }
+
+    fn put_reply<K: Sink>(
+        reply: &Light,
+        room: &mut [u8],
+        held: usize,
+        sink: &mut K,
+    ) -> Result<usize, Failed> {
+        match reply {
+            Light::On => put(b"on\n", room, held, sink),
+            Light::Off => put(b"off\n", room, held, sink),
+            Light::Unknown => put(b"?\n", room, held, sink),
         }
     }
 }

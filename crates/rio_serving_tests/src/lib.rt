@@ -2,6 +2,10 @@
 //! proved once and needs no objects for tests.
 #![tactic(auto)]
 
+#[cfg(test)]
+mod bounded;
+#[cfg(test)]
+mod gathering_tests;
 mod lamp;
 #[cfg(test)]
 mod loop_tests;

@@ -5,6 +5,7 @@ use crate::same::same;
 use rio_fakes::{MemSink, MemSource};
 use rio_serving::{ServeEnd, serve_with};
 use std::alloc::Global;
+use std::process::Abort;
 use std::test::Fail;
 
 /// An input, in pieces of so many bytes, the call of the source and that of the sink that fail, if not 0, and how serving
@@ -54,8 +55,8 @@ const ROWS: [Row; 13] = [
     ("turn\nhalt\n", 99, 0, 2, ServeEnd::Stopped, "on\n"),
 ];
 
-/// How serving a lamp ends, and what it wrote.
-fn served(alloc: Global, row: &Row) -> Result<(ServeEnd, Vec<u8>), Fail> {
+/// How serving a lamp ends, and what it wrote. Replies may wait with `gathers`.
+fn served(alloc: Global, row: &Row, gathers: bool) -> Result<(ServeEnd, Vec<u8>), Fail> {
     let mut lamp = Lamp::new();
     let mut source = MemSource::new(alloc, row.0.as_bytes(), row.1.max(1))?;
     if row.2 > 0 {
@@ -65,17 +66,17 @@ fn served(alloc: Global, row: &Row) -> Result<(ServeEnd, Vec<u8>), Fail> {
     if row.3 > 0 {
         sink.fail_call(row.3)?;
     }
-    let end = serve_with(alloc, &mut lamp, &mut source, &mut sink);
+    let end = serve_with(alloc, &mut lamp, &mut source, &mut sink, gathers);
     Ok((end, sink.bytes().clone()?))
 }
 
-#[test]
-fn lines_are_served_to_each_end(rt: HostRuntime) -> Result<(), Fail> {
+/// No row has two replies of which the first may wait, so each ends the same whether replies may.
+fn all_rows(rt: &impl Abort, alloc: Global, gathers: bool) -> Result<(), Fail> {
     for row in 0..ROWS.len() {
-        let (end, written) = served(rt.alloc(), &ROWS[row])?;
-        same(&rt, "rows", row, &end, &ROWS[row].4);
+        let (end, written) = served(alloc, &ROWS[row], gathers)?;
+        same(rt, "rows", row, &end, &ROWS[row].4);
         same(
-            &rt,
+            rt,
             "rows",
             row,
             &written.as_slice(),
@@ -83,4 +84,10 @@ fn lines_are_served_to_each_end(rt: HostRuntime) -> Result<(), Fail> {
         );
     }
     Ok(())
+}
+
+#[test]
+fn lines_are_served_to_each_end(rt: HostRuntime) -> Result<(), Fail> {
+    all_rows(&rt, rt.alloc(), false)?;
+    all_rows(&rt, rt.alloc(), true)
 }

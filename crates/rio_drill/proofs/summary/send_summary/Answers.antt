@@ -1,4 +1,4 @@
-use Rattle.request_codec.proofs.Sendings.{cut_at, cut_more, line_sent, sends_as, sent_cut, sent_sent}
+use Rattle.request_codec.proofs.Sendings.{cut_at, cut_more, room_sent, sends_as, sent_cut, sent_sent}
 use Rattle.rio_drill.proofs.Telling.{summary_of}
 use Rattle.rio_drill.proofs.summary.send_summary.Goals as goal
 
@@ -25,4 +25,4 @@ returns-in_err-held-4 g c =
 pub returns : goal.returns
 returns g c =
     sends_as (summary_of c.args.transcript.now c.as_slice-runs.result.now c.as_slice-runs.ensures)
-    (line_sent (sent_sent (sent_sent c.in_ok-held.ensures.ok.sent c.in_ok-held-2.ensures.ok.sent) c.in_ok-held-3.ensures.ok.sent) c.in_ok-held-4.ensures.ok.sent c.send.ensures)
+    (room_sent (sent_sent (sent_sent (sent_sent c.in_ok-held.ensures.ok.sent c.in_ok-held-2.ensures.ok.sent) c.in_ok-held-3.ensures.ok.sent) c.in_ok-held-4.ensures.ok.sent) c.send.ensures)
