@@ -59,8 +59,6 @@ pub fn edit_inode<V: Volume>(
     let block = inode_block(shape, i);
     let place = inode_place(i);
     let words = words_of(inode);
-    for w in 0..INODE_WORDS {
-        v.edit(block, place + w as u16, words[w])?;
-    }
+    v.edit_run(block, place, &words)?;
     Ok(())
 }

@@ -1,5 +1,5 @@
 -- Which entries are dirty after a call that weren't before it.
-use Rattle.page_cache.proofs.Common.{◌≡◌, ◌≢◌, ℕ, ◌<◌, ◌⊎◌, true, false, List, Option, Some, None, refl, ◌∙◌, ap, sym, subst, inl, inr, cases_eq, Contents, PageName, none_some, true_false, IsValid, OneEntry, frames_of, is_dirty, is_valid, tag_at, tag_block, HeldEntry, Narrows, SameNames, entry_of_block, OnePage, SameEntries, found_entries, found_kept, tag_same, tag_one, found_is}
+use Rattle.page_cache.proofs.Common.{◌≡◌, ◌≢◌, ℕ, ◌<◌, ◌⊎◌, true, false, List, Option, Some, None, refl, ◌∙◌, ap, sym, subst, inl, inr, cases_eq, Contents, PageName, none_some, true_false, OneEntry, frames_of, is_dirty, is_valid, tag_at, tag_block, HeldEntry, Narrows, SameNames, entry_of_block, OnePage, SameEntries, found_entries, found_kept, tag_same, tag_one, found_is}
 use Rattle.rio_model.proofs.CoverStands.{found_named}
 use Rattle.rio_model.specs.Cover.{frame_page}
 use Rattle.page_cache.specs.Caches.{Adds}

@@ -1,4 +1,4 @@
--- A word of a touched block is stored.
+-- Words of a touched block are stored.
 use Rattle.page_cache.proofs.Common.{◌≡◌, ◌≢◌, ℕ, ◌+◌, ◌*◌, ◌<◌, ◌≤◌, ◌==◌, ◌&&◌, not, Bool, true, false, if◌then◌else◌, List, length, slice_set, Option, Some, None, refl, ◌∙◌, ap, sym, subst, arith, Contents, none_some, true_false, Coherent, SameNames, entry_of_block, stands, SameEntries, entry_same, header_same, same_entries, tag_same, frame_past, found_at, found_is, IsValid, frames_of, gate_of, is_dirty, is_valid, shadow_at, tag_at, tag_block, block_of, frames_in}
 use Rattle.std.proofs.lemmas.Bool.{and_parts, eqb-true}
 use Rattle.rio_base.specs.Image.{registry_pages}
@@ -116,5 +116,9 @@ touched_found n b c t s touched none = let h = touched_entry c.words b touched i
 pub page_of_frame : (n k : ℕ) (c : Contents) (t : CacheTables) → CacheSound c n t → t.first_frame + k ≡ frame_page c.words k
 page_of_frame n k c t s = omega (arith, s.first, frame_behind c.words k)
 
+-- what stands is in no frame of a touched block
+pub touched_stands : (n b k : ℕ) (old new : Contents) (t : CacheTables) → CacheSound old n t → is_touched old.words b ≡ true → k < frames_in t.pool → block_of t.pool k ≡ Some b → (gate_of old.words ≡ 1 → shadow_at old.words k ≢ 0 → stands new ≡ stands old) → stands new ≡ stands old
+touched_stands n b k old new t s touched less e hidden = let h = is_edited n b k old t s touched less e in hidden h.updating h.shadow
+
 pub edited_stands : (n b k w v : ℕ) (old new : Contents) (t : CacheTables) → CacheSound old n t → is_touched old.words b ≡ true → k < frames_in t.pool → block_of t.pool k ≡ Some b → Puts k b w v old new → stands new ≡ stands old
-edited_stands n b k w v old new t s touched less e puts = let h = is_edited n b k old t s touched less e in puts.hidden h.updating h.shadow
+edited_stands n b k w v old new t s touched less e puts = touched_stands n b k old new t s touched less e puts.hidden

@@ -1,10 +1,10 @@
 -- Words of a frame are stored, one or a run of them.
-use Rattle.page_cache.proofs.Common.{◌≡◌, ◌≢◌, ℕ, ◌+◌, ◌*◌, ◌<◌, ◌≤◌, true, false, List, length, slice_index, slice_set, Some, None, refl, ◌∙◌, ap, sym, subst, arith, BlockWords, Contents, FrontStored, true_false, put_run, IsValid, frames_of, is_dirty, page_of_entry, tag_at, Coherent, cover_by, entry_of_block, reads, OnePage, SameEntries, found_entries, frame_entries, header_same, same_entries, tag_same, frame_past, found_is, disk_same, firm_by, pending_same}
+use Rattle.page_cache.proofs.Common.{◌≡◌, ◌≢◌, ℕ, ◌+◌, ◌*◌, ◌<◌, ◌≤◌, ◌⊎◌, true, List, length, slice_set, Some, None, ◌∙◌, ap, sym, subst, inl, inr, arith, cases_eq, BlockWords, Contents, FrontStored, true_false, put_run, IsValid, frames_of, gate_of, is_dirty, page_of_entry, shadow_at, tag_at, Coherent, cover_by, entry_of_block, reads, stands, OnePage, SameEntries, found_entries, frame_entries, header_same, same_entries, tag_same, frame_past, found_is, disk_same, firm_by, pending_same}
 use Rattle.rio_base.specs.Image.{registry_pages}
 use Rattle.rio_base.specs.Volume.{put}
 use Rattle.rio_model.specs.Cover.{frame_page, is_loose}
-use Rattle.rio_model.proofs.CoverChanges.{off_page, one_page_set, place_entries}
-use Rattle.rio_model.proofs.CoverFills.{coherent_page, frame_off, page_off, puts_frame, registry_same, valid_same}
+use Rattle.rio_model.proofs.CoverChanges.{cover_off, frame_behind, one_page_set, place_entries, place_shadow}
+use Rattle.rio_model.proofs.CoverFills.{coherent_page, frame_off, page_off, puts_frame}
 use Rattle.page_cache.specs.declared.tables.CacheTables.{CacheTables}
 use Rattle.page_cache.specs.Caches.{CacheSound}
 use Rattle.page_cache.specs.Stores.{Rewrites}
@@ -42,6 +42,20 @@ run_rewrites n k b p w count from old new s0 rest page fits h found dirty = reco
 
     same : SameEntries old.words new.words
     same = run_entries k p w count from old.words new.words page fits h
+
+-- in an open update what stands is in no frame of an entry with a shadow
+pub run_hidden : (n k b p w count : ℕ) (from : List ℕ) (old new : Contents) → Coherent old n → new ≡ record old { words = new.words } → p ≡ frame_page old.words k → w + count ≤ 512 → FrontStored (512 * p + w) count from old.words new.words → entry_of_block old.words b ≡ Some k → gate_of old.words ≡ 1 → shadow_at old.words k ≢ 0 → stands new ≡ stands old
+run_hidden n k b p w count from old new s rest page fits h found updating some = subst (λ d. cover_by (page_of_entry new.words) new.words d ≡ stands old) (sym (disk_same old new rest)) (cover_off (frame_page old.words k) (page_of_entry old.words) (page_of_entry new.words) old.words new.words old.disk (run_page k p w count from old.words new.words page fits h) same (λ j x. place_entries old.words new.words j same x.within) (λ j x e. apart j x e (cases_eq j k)))
+  where
+    same : SameEntries old.words new.words
+    same = run_entries k p w count from old.words new.words page fits h
+
+    va : IsValid old.words k
+    va = (found_is old.words b k found).0
+
+    apart : (j : ℕ) → IsValid old.words j → page_of_entry old.words j ≡ frame_page old.words k → (j ≡ k) ⊎ (j ≢ k) → ⊥
+    apart j x e (inr ne) = page_off old.words j k s.rules x ne e
+    apart j x e (inl q) = absurd (omega (arith, place_shadow old.words k updating some, ap (page_of_entry old.words) (sym q) ∙ e, frame_behind old.words k, (s.rules.shadows k va.within).most va.valid))
 
 -- ---- one word
 

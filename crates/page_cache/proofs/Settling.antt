@@ -32,6 +32,9 @@ loose_by true false l m e h q = absurd (true_false e)
 loose_by false true l m e h q = refl
 loose_by false false l m e h q = h q
 
+pub firm_rewrites : (words : BlockWords) (a d : Contents) (t u : CacheTables) → Rewrites words a d → u ≡ t → Firm (cache_kept a t) (cache_kept d u)
+firm_rewrites words a d t u w same = record { loose = λ c e. loose_by (was_forgotten u c) (was_forgotten t c) (is_loose d c) (is_loose a c) (ap (λ (m : CacheTables). was_forgotten m c) same) (w.firm c) e }
+
 pub settles : (b : ℕ) (words : BlockWords) (a d : Contents) (r s : Running) (t u : CacheTables) → (gate_of a.words == 1) ≡ false → Rewrites words a d → SameBut b (reads a) words → u.forgotten ≡ t.forgotten → Lasts a d → Steps r s → FewWrites b t a d → Settles b a d r s t u
 settles b words a d r s t u shut w same marks l h few = record {
   standing = record { others = λ c x ne. ap (λ (f : BlockWords). f c x) (stands_idle d now ∙ w.reading) ∙ same.others c x ne ∙ ap (λ (f : BlockWords). f c x) (sym (stands_idle a (not_one (gate_of a.words) shut))) };

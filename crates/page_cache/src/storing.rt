@@ -1,13 +1,14 @@
-//! Words are stored into blocks, while no update is open. A page is marked dirty before the first word is stored into
-//! it, and its size is stored before the word too, so that a stop between two steps loses nothing.
+//! Words are stored into blocks. While no update is open, a page is marked dirty before the first word is stored into it,
+//! and its size is stored before the word too, so that a stop between two steps loses nothing.
 
 ghost use Rattle.page_cache.specs.Uses.{AllStay, DirtiesOnly, FailedUse, LeavesOldest, UsedLast};
-ghost use Rattle.std.specs.Prelude.{◌≡◌, ◌<◌, ◌≤◌, ◌+◌, ℕ, true, None, Some, IfOk, OnOk, OnErr, IsErr, IsErrOf, is_some, length};
+ghost use Rattle.std.specs.Prelude.{◌≡◌, ◌≢◌, ◌<◌, ◌≤◌, ◌+◌, ℕ, true, None, Some, IfOk, OnOk, OnErr, IsErr, IsErrOf, is_some, length};
 ghost use Rattle.rio_base.specs.Blocks.{Drops, InRange};
 ghost use Rattle.rio_base.specs.Machine.{FaultCause, Lasts, StepEnds};
 ghost use Rattle.rio_base.specs.Volume.{CachesStored, put, put_run, stored_name, widened};
-ghost use Rattle.rio_model.specs.Registry.{IsValid, OneEntry, is_dirty, tag_at, tag_block};
-ghost use Rattle.rio_model.specs.Cover.{HeldEntry, Keeps, entry_of_block, name_in, reads};
+ghost use Rattle.rio_model.specs.Registry.{IsValid, OneEntry, gate_of, is_dirty, shadow_at, tag_at, tag_block};
+ghost use Rattle.rio_model.specs.Cover.{HeldEntry, Keeps, entry_of_block, name_in, reads, stands};
+ghost use Rattle.rio_model.specs.CoverChanges.{SameEntries};
 ghost use Rattle.write_back.specs.Writing.{SameDisk};
 ghost use Rattle.page_cache.specs.Caches.{CacheSound, FewWrites, SameTables, cache_seen};
 ghost use Rattle.page_cache.specs.Stores.{Rewrites, SameCached, Widens};
@@ -144,7 +145,8 @@ impl<M: Machine> PageCache<M> {
     }
 
     /// Stores a run of words of the frame of entry `k`, which is of block `b` and dirty, from word `w` on in rising order:
-    /// one step each, all in one window. `Stopped` leaves a front of them stored.
+    /// one step each, all in one window. `Stopped` leaves a front of them stored. In an open update what stands stays where
+    /// the entry has a shadow.
     #[tactic(auto, using(crate::proofs::Stills::still_rest))]
     pub(crate) fn put_frame_run(
         &mut self,
@@ -160,6 +162,8 @@ impl<M: Machine> PageCache<M> {
         ensures sound { CacheSound (M.contents self.new.machine) (length (M.run self.new.machine).scratch) self.new.tables }
         ensures rewrites { OnOk result (Rewrites (put_run (reads (M.contents self.old.machine)) b.0 w (length from.now) from.now) (M.contents self.old.machine) (M.contents self.new.machine)) }
         ensures front { OnErr result ((n : ℕ) × (n ≤ length from.now) × Rewrites (put_run (reads (M.contents self.old.machine)) b.0 w n from.now) (M.contents self.old.machine) (M.contents self.new.machine)) }
+        ensures hidden { gate_of (M.contents self.old.machine).words ≡ 1 → shadow_at (M.contents self.old.machine).words k ≢ 0 → stands (M.contents self.new.machine) ≡ stands (M.contents self.old.machine) }
+        ensures entries { SameEntries (M.contents self.old.machine).words (M.contents self.new.machine).words }
         ensures cached { SameCached (M.contents self.old.machine).words (M.contents self.new.machine).words }
         ensures marks { DirtiesOnly None (M.contents self.old.machine).words (M.contents self.new.machine).words }
         ensures tables { self.new.tables ≡ self.old.tables }

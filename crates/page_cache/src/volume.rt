@@ -218,6 +218,34 @@ impl<M: Machine> Volume for PageCache<M> {
         Ok(())
     }
 
+    /// Changes a run of words of a touched block, as [`rio_base::Volume::edit_run`]: one look-up and one window for all of
+    /// them, and one step each.
+    fn edit_run(&mut self, b: Block, w: u16, from: &[u64]) -> Result<(), Stopped>
+        requires sound { CacheSound (M.contents self.old.machine) (length (M.run self.old.machine).scratch) self.old.tables }
+        requires place { IsSpan (cache_seen (M.contents self.old.machine)) b.0 w (length from.now) }
+        requires touched { (cache_kept (M.contents self.old.machine) self.old.tables).touched b.0 ≡ true }
+        ensures ok { OnOk result ((cache_seen (M.contents self.new.machine)).words ≡ put_run (cache_seen (M.contents self.old.machine)).words b.0 w (length from.now) from.now) }
+        ensures front { OldOrRun (cache_seen (M.contents self.old.machine)).words (cache_seen (M.contents self.new.machine)).words b.0 w from.now (length from.now) }
+        ensures update { OnOk result (SameUpdate (cache_kept (M.contents self.old.machine) self.old.tables) (cache_kept (M.contents self.new.machine) self.new.tables)) }
+        ensures standing { (cache_kept (M.contents self.new.machine) self.new.tables).standing ≡ (cache_kept (M.contents self.old.machine) self.old.tables).standing }
+        ensures firm { Firm (cache_kept (M.contents self.old.machine) self.old.tables) (cache_kept (M.contents self.new.machine) self.new.tables) }
+        ensures count { (cache_seen (M.contents self.new.machine)).count ≡ (cache_seen (M.contents self.old.machine)).count }
+        ensures drops { Drops (cache_seen (M.contents self.old.machine)) (cache_seen (M.contents self.new.machine)) }
+        ensures in_update { (cache_kept (M.contents self.new.machine) self.new.tables).updating ≡ true }
+        ensures goes { Goes (cache_health (M.contents self.old.machine) (M.run self.old.machine)) (cache_below (M.contents self.old.machine) (M.run self.old.machine)) (cache_health (M.contents self.new.machine) (M.run self.new.machine)) (cache_below (M.contents self.new.machine) (M.run self.new.machine)) }
+        ensures ends { Halts (cache_health (M.contents self.old.machine) (M.run self.old.machine)) (cache_health (M.contents self.new.machine) (M.run self.new.machine)) result }
+        ensures sound { CacheSound (M.contents self.new.machine) (length (M.run self.new.machine).scratch) self.new.tables }
+        ensures still { SameDisk (M.contents self.old.machine) (M.contents self.new.machine) }
+        ensures entries { SameNames (M.contents self.old.machine).words (M.contents self.new.machine).words }
+        ensures order { order_of self.new.tables.pool ≡ order_of self.old.tables.pool }
+    {
+        let Some(k) = self.tables.pool.find(b) else {
+            unreachable!()
+        };
+        self.put_frame_run(k, b, w, from)?;
+        Ok(())
+    }
+
     /// Makes the open update stand, as [`rio_base::Volume::commit`].
     fn commit(&mut self) -> Result<(), Stopped>
         requires sound { CacheSound (M.contents self.old.machine) (length (M.run self.old.machine).scratch) self.old.tables }

@@ -14,6 +14,9 @@ looks_refl s = record { count = refl; words = refl; base = refl }
 pub looks_trans : (s t u : Seen) → Looks s t → Looks t u → Looks s u
 looks_trans s t u h k = record { count = k.count ∙ h.count; words = k.words ∙ h.words; base = k.base ∙ h.base }
 
+pub drops_refl : (s : Seen) → Drops s s
+drops_refl s = record { kept = λ c cached. (cached, refl) }
+
 pub drops_trans : (s t u : Seen) → Drops s t → Drops t u → Drops s u
 drops_trans s t u h k = record { kept = λ c z. let now = k.kept c z in let before = h.kept c now.0 in (before.0, now.1 ∙ before.1) }
 

@@ -26,7 +26,7 @@ pub use formats::{
 };
 pub use host::Host;
 pub use host_reading::{read_from, rose};
-pub use lists::{BlockList, HeapList, InoList, Items, NameList, Octets, RangeList, Words};
+pub use lists::{BlockList, HeapList, InoList, Items, Octets, RangeList, Words};
 pub use machine::Machine;
 pub use mem_words::MemWords;
 pub use numbers::number_of;

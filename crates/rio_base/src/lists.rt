@@ -66,9 +66,6 @@ pub type BlockList = Items<Block>;
 /// Inode numbers.
 pub type InoList = Items<Ino>;
 
-/// Names of a directory's entries.
-pub type NameList = Items<Octets>;
-
 /// Blocks of a region's heap: the first unit of each, and how many units it has.
 pub type HeapList = Items<(u32, u32)>;
 

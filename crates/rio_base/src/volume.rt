@@ -148,6 +148,30 @@ pub trait Volume: Blocks {
         ensures ends { Halts (Self.health self.old) (Self.health self.new) result }
         ensures sound { Self.sound self.new };
 
+    /// Changes a run of words of a touched block, from word `w` on in rising order: as [`Volume::edit`] of each of them.
+    /// `Stopped` leaves a front of them changed.
+    fn edit_run(&mut self, b: Block, w: u16, from: &[u64]) -> Result<(), Stopped>
+        requires sound { Self.sound self.old }
+        requires place { IsSpan (Self.seen self.old) b.0 w (length from.now) }
+        requires touched { (kept self.old).touched b.0 ≡ true }
+        ensures ok { OnOk result ((Self.seen self.new).words ≡ put_run (Self.seen self.old).words b.0 w (length from.now) from.now) }
+        ensures front { OldOrRun (Self.seen self.old).words (Self.seen self.new).words b.0 w from.now (length from.now) }
+        ensures update { OnOk result (SameUpdate (kept self.old) (kept self.new)) }
+        ensures standing { (kept self.new).standing ≡ (kept self.old).standing }
+        ensures firm { Firm (kept self.old) (kept self.new) }
+        ensures count { (Self.seen self.new).count ≡ (Self.seen self.old).count }
+        ensures drops { Drops (Self.seen self.old) (Self.seen self.new) }
+        ensures in_update { (kept self.new).updating ≡ true }
+        ensures goes { Goes (Self.health self.old) (below self.old) (Self.health self.new) (below self.new) }
+        ensures ends { Halts (Self.health self.old) (Self.health self.new) result }
+        ensures sound { Self.sound self.new }
+    {
+        for i in 0..from.len() {
+            self.edit(b, w + i as u16, from[i])?;
+        }
+        Ok(())
+    }
+
     /// Makes the open update stand, as a whole. `Stopped` leaves all of it standing, or nothing of it.
     fn commit(&mut self) -> Result<(), Stopped>
         requires sound { Self.sound self.old }

@@ -2,7 +2,7 @@ use Rattle.page_cache.proofs.Common.{arith, put_run, reads, found_is}
 use Rattle.std.proofs.Common.{ℕ, ◌≤◌, length}
 use Rattle.page_cache.specs.Stores.{Rewrites}
 use Rattle.page_cache.proofs.Stores.{cached_entries}
-use Rattle.page_cache.proofs.Runs.{run_entries, run_rewrites, run_sound}
+use Rattle.page_cache.proofs.Runs.{run_entries, run_hidden, run_rewrites, run_sound}
 use Rattle.page_cache.proofs.cache.PageCache.put_frame_run.Goals as goal
 use Rattle.page_cache.proofs.DirtyMarks.{marks_entries}
 use Rattle.page_cache.proofs.Common.{None}
@@ -23,6 +23,16 @@ returns-in_err-put_run-clause-front g c =
     let front : (n : ℕ) × (n ≤ length c.args.from.now) × Rewrites (put_run (reads old) c.args.b.0 c.args.w n c.args.from.now) old new = (f.0, omega (arith, f.1), run_rewrites _ c.args.k c.args.b.0 _ c.args.w f.0 c.args.from.now old _ c.requires.sound.coherent c.put_run.ensures.rest c.page_of-page.ensures.page (omega (arith, c.requires.within, f.1)) f.2 c.requires.found c.requires.dirty) in
     grind (arith, front)
 
+pub returns-in_err-put_run-clause-hidden : goal.returns-in_err-put_run-clause-hidden
+returns-in_err-put_run-clause-hidden g c =
+    let f = c.in_err-put_run.ensures.front in
+    λ updating some. run_hidden _ c.args.k c.args.b.0 _ c.args.w f.0 c.args.from.now (g.M.Machine.contents c.args.self.now.machine) _ c.requires.sound.coherent c.put_run.ensures.rest c.page_of-page.ensures.page (omega (arith, c.requires.within, f.1)) f.2 c.requires.found updating some
+
+pub returns-in_err-put_run-clause-entries : goal.returns-in_err-put_run-clause-entries
+returns-in_err-put_run-clause-entries g c =
+    let f = c.in_err-put_run.ensures.front in
+    run_entries c.args.k _ c.args.w f.0 c.args.from.now _ _ c.page_of-page.ensures.page (omega (arith, c.requires.within, f.1)) f.2
+
 pub returns-in_err-put_run-clause-cached : goal.returns-in_err-put_run-clause-cached
 returns-in_err-put_run-clause-cached g c =
     let f = c.in_err-put_run.ensures.front in
@@ -33,6 +43,12 @@ returns-clause-sound g c = run_sound _ _ c.args.k c.args.b.0 _ c.args.w (length 
 
 pub returns-clause-rewrites : goal.returns-clause-rewrites
 returns-clause-rewrites g c = run_rewrites _ c.args.k c.args.b.0 _ c.args.w (length c.args.from.now) c.args.from.now (g.M.Machine.contents c.args.self.now.machine) _ c.requires.sound.coherent c.put_run.ensures.rest c.page_of-page.ensures.page c.requires.within c.in_ok-put_run.ensures.stored c.requires.found c.requires.dirty
+
+pub returns-clause-hidden : goal.returns-clause-hidden
+returns-clause-hidden g c = λ updating some. run_hidden _ c.args.k c.args.b.0 _ c.args.w (length c.args.from.now) c.args.from.now (g.M.Machine.contents c.args.self.now.machine) _ c.requires.sound.coherent c.put_run.ensures.rest c.page_of-page.ensures.page c.requires.within c.in_ok-put_run.ensures.stored c.requires.found updating some
+
+pub returns-clause-entries : goal.returns-clause-entries
+returns-clause-entries g c = run_entries c.args.k _ c.args.w (length c.args.from.now) c.args.from.now _ _ c.page_of-page.ensures.page c.requires.within c.in_ok-put_run.ensures.stored
 
 pub returns-clause-cached : goal.returns-clause-cached
 returns-clause-cached g c = cached_entries _ _ (run_entries c.args.k _ c.args.w (length c.args.from.now) c.args.from.now _ _ c.page_of-page.ensures.page c.requires.within c.in_ok-put_run.ensures.stored)

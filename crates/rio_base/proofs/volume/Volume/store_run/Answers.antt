@@ -1,16 +1,12 @@
-use Rattle.std.proofs.Common.{◌≡◌, ◌<◌, ◌+◌, ℕ, ◌⊎◌, ◌∙◌, ap, le_trans, Option, true, subst, inl, inr, refl, arith, List, slice_index, ◌≢◌}
+use Rattle.std.proofs.Common.{◌≡◌, ◌<◌, ◌+◌, ℕ, ◌⊎◌, ◌∙◌, ap, le_trans, Option, true, subst, inl, inr, refl, arith, slice_index, ◌≢◌}
 use Rattle.std.proofs.lemmas.Bool.{cases_eq}
 use Rattle.rio_base.specs.declared.places.PageName.{PageName}
 use Rattle.rio_base.specs.Blocks.{BlockWords, Seen}
 use Rattle.rio_base.specs.Rules.{goes_trans, firm_trans}
-use Rattle.rio_base.specs.Volume.{OldOrPut, OldOrRun, RunName, put, put_run, stored_name}
+use Rattle.rio_base.specs.Volume.{RunName, put, stored_name}
 use Rattle.rio_base.proofs.BlockRules.{can_name_stored, same_trans, stored_trans}
-use Rattle.rio_base.proofs.VolumeRuns.{put_next, run_name_next}
+use Rattle.rio_base.proofs.VolumeRuns.{front_of, put_next, run_name_next}
 use Rattle.rio_base.proofs.volume.Volume.store_run.Goals as goal
-
-front_of : (f g h : BlockWords) (b w n most : ℕ) (words : List ℕ) → n < most → g ≡ put_run f b w n words → OldOrPut g h b (w + n) (slice_index words n) → OldOrRun f h b w words most
-front_of f g h b w n most words less e (inl same) = (n, omega (arith, less), same ∙ e)
-front_of f g h b w n most words less e (inr one) = (n + 1, omega (arith, less), one ∙ ap (λ (k : BlockWords). put k b (w + n) (slice_index words n)) e ∙ put_next f b w n (slice_index words n) words refl)
 
 name_next : (s t : Seen) (b n : ℕ) (given now : Option PageName) (unused : ℕ) → (n ≡ 0 → t ≡ s) → (0 < n → t.cached b ≡ true → RunName (s.cached b) (s.names b) given (t.names b)) → now ≡ stored_name (t.cached b) (t.names b) given → RunName (s.cached b) (s.names b) given now
 name_next s t b n given now unused first named e = from (cases_eq n 0)
