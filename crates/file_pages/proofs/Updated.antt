@@ -1,22 +1,22 @@
 -- Calls of one update, one after the other, and what the whole of it does.
-use Rattle.file_pages.proofs.Common.{◌≡◌, ◌≢◌, ℕ, suc, ◌+◌, ◌/◌, ◌%◌, ◌<◌, ◌≤◌, ◌==◌, ◌||◌, Bool, inl, inr, true, false, List, [], ◌∷◌, length, map, drop, refl, sym, ap, subst, ◌∙◌, arith, slice_index_or, slice_index, Option, None, OnOk, AllByRecursion, Contains, cases_eq, cases_lt, nat_tests, Block, PageName, VolumeShape, used_bit, CachesBy, caches_by_one, BlockWords, Caches, CanName, SamePage, Seen, IsIno, inode_block, HasShape, reserved, Kept, SameUpdate, numbers, inode_low, Applied, WordEdit, edited, Inode}
-use Rattle.std.proofs.Common.{Result}
+use Rattle.file_pages.proofs.Common.{◌≡◌, ◌≢◌, ℕ, zero, suc, ◌+◌, ◌-◌, ◌/◌, ◌%◌, ◌<◌, ◌≤◌, ◌==◌, ◌||◌, Bool, inl, inr, true, false, List, [], ◌∷◌, length, map, drop, take, refl, get_or-drop, get_or-take, length-drop, length-take-le, map-append, put_run, take-append-drop, take_rest, sym, ap, subst, ◌∙◌, arith, slice_index_or, slice_index, Option, None, OnOk, AllByRecursion, Contains, cases_eq, cases_lt, nat_tests, Block, PageName, VolumeShape, used_bit, CachesBy, caches_by_one, BlockWords, Caches, CanName, SamePage, Seen, IsIno, inode_block, HasShape, reserved, Kept, SameUpdate, numbers, inode_low, Applied, WordEdit, edited, Inode}
 use Rattle.std.specs.Int.{bit_at}
-use Rattle.std.proofs.lemmas.List.{get_or_default}
-use Rattle.std.proofs.Math.Seq.{drop-cons}
+use Rattle.std.proofs.Common.{Result}
+use Rattle.std.proofs.lemmas.List.{get_or_default, take_more}
 use Rattle.rio_base.specs.Bitmap.{bitmap_block}
 use Rattle.rio_base.proofs.Bitmap.{first_bitmap}
-use Rattle.rio_base.specs.Blocks.{IsPlace}
+use Rattle.rio_base.specs.Blocks.{IsSpan}
 use Rattle.rio_base.specs.Shapes.{IsShape}
 use Rattle.rio_base.specs.Volume.{Touches, put}
+use Rattle.rio_base.proofs.VolumeRuns.{put_next, put_none}
 use Rattle.block_alloc.specs.Bitmap.{SetsBit}
 use Rattle.rio_model.proofs.PlacedRules.{bits_low, inode_no_bitmap}
-use Rattle.rio_model.proofs.UpdateRules.{edited_out, inode_elsewhere}
+use Rattle.rio_model.proofs.UpdateRules.{edited_on, edited_out, inode_elsewhere}
 use Rattle.rio_model.specs.Updates.{with_inode}
 use Rattle.rio_model.specs.VolumeRules.{bitmap_bits}
 use Rattle.inode_table.specs.Inodes.{inode_words}
 use Rattle.file_pages.specs.Changes.{node_update, word_edit}
-use Rattle.file_pages.specs.Updating.{CanUpdate, IsUpdated, SetsBits}
+use Rattle.file_pages.specs.Updating.{CanUpdate, IsEditRun, IsUpdated, SetsBits}
 use Rattle.file_pages.specs.declared.changes.Edit.{Edit}
 use Rattle.file_pages.proofs.Listed.{place_of}
 
@@ -28,12 +28,44 @@ update_trans k l m a b = record { updating = b.updating ∙ a.updating; touched 
 pub edit_in : (es : List Edit) (t : ℕ) (d : Edit) → t < length es → Contains es (slice_index_or es t d)
 edit_in es t d few = (t, few, get_or_default es t (slice_index_or es t d) d few)
 
--- one edit more
-pub edited_next : (es : List Edit) (t : ℕ) (d : Edit) (f g : BlockWords) → t < length es → g ≡ put f (slice_index_or es t d).block.0 (slice_index_or es t d).word (slice_index_or es t d).value → edited g (map word_edit (drop (t + 1) es)) ≡ edited f (map word_edit (drop t es))
-edited_next es t d f g few e = let next : t + 1 ≡ suc t = omega arith in ap (λ n. edited g (map word_edit (drop n es))) next ∙ ap (λ h. edited h (map word_edit (drop (suc t) es))) e ∙ sym (ap (λ xs. edited f (map word_edit xs)) (drop-cons es t d few))
+-- ---- a run of edits, which is made in one call
 
-pub make_place : (es : List Edit) (t n : ℕ) (d : Edit) (x : Seen) → t < length es → ((e : Edit) → Contains es e → e.block.0 < n) → x.count ≡ n → ((e : Edit) → Contains es e → e.word < 512) → IsPlace x (slice_index_or es t d).block.0 (slice_index_or es t d).word
-make_place es t n d x few blocks is words = record { block = subst (λ (m : ℕ). (slice_index_or es t d).block.0 < m) (sym is) (blocks _ (edit_in es t d few)); word = words _ (edit_in es t d few) }
+pub run_taken : (es : List Edit) (vs : List ℕ) (n : ℕ) → IsEditRun es vs n → IsEditRun es (take n vs) n
+run_taken es vs n h = record { block = h.block; word = h.word; value = λ t d less. h.value t d less ∙ sym (get_or-take n vs t 0 less) }
+
+pub run_edited : (es : List Edit) (vs : List ℕ) (n : ℕ) (d : Edit) (f : BlockWords) → n ≤ length es → IsEditRun es vs n → put_run f (slice_index_or es 0 d).block.0 (slice_index_or es 0 d).word n vs ≡ edited f (map word_edit (take n es))
+run_edited es vs zero d f few h = sym (put_none f _ _ vs)
+run_edited es vs (suc n) d f few h =
+    let next : n + 1 ≡ suc n = omega arith in
+    let less : n < suc n = omega arith in
+    let within : n < length es = omega (arith, few) in
+    let e = slice_index_or es n d in
+    let b = (slice_index_or es 0 d).block.0 in
+    let w = (slice_index_or es 0 d).word in
+    let before = run_edited es vs n d f (omega (arith, few)) (record { block = λ t c l. h.block t c (omega (arith, l)); word = λ t c l. h.word t c (omega (arith, l)); value = λ t c l. h.value t c (omega (arith, l)) }) in
+    let made : edited f (map word_edit (take (n + 1) es)) ≡ put (edited f (map word_edit (take n es))) e.block.0 e.word e.value = ap (λ xs. edited f (map word_edit xs)) (take_more es n d within) ∙ ap (λ xs. edited f xs) (map-append word_edit (take n es) (e ∷ [])) ∙ edited_on (map word_edit (take n es)) (word_edit e ∷ []) f in
+    let one : put_run f b w (n + 1) vs ≡ put (put_run f b w n vs) e.block.0 e.word e.value = sym (put_next f b w n e.value vs (h.value n d less)) ∙ (λ t. put (put_run f b w n vs) (sym (h.block n d less) t) (sym (h.word n d less) t) e.value) in
+    ap (λ m. put_run f b w m vs) (sym next) ∙ one ∙ ap (λ (g : BlockWords). put g e.block.0 e.word e.value) before ∙ sym made ∙ ap (λ m. edited f (map word_edit (take m es))) next
+
+-- the words of a run that is made in one call
+pub run_made : (es : List Edit) (vs : List ℕ) (n : ℕ) (d : Edit) (f g : BlockWords) → n ≤ length es → n ≤ length vs → IsEditRun es vs n → g ≡ put_run f (slice_index_or es 0 d).block.0 (slice_index_or es 0 d).word (length (take n vs)) (take n vs) → g ≡ edited f (map word_edit (take n es))
+run_made es vs n d f g few room h e = e ∙ ap (λ m. put_run f (slice_index_or es 0 d).block.0 (slice_index_or es 0 d).word m (take n vs)) (length-take-le n vs room) ∙ run_edited es (take n vs) n d f few (run_taken es vs n h)
+
+pub run_span : (es : List Edit) (vs : List ℕ) (n : ℕ) (d : Edit) (x : Seen) → 0 < n → n ≤ length es → n ≤ length vs → IsEditRun es vs n → ((e : Edit) → Contains es e → e.block.0 < x.count) → ((e : Edit) → Contains es e → e.word < 512) → IsSpan x (slice_index_or es 0 d).block.0 (slice_index_or es 0 d).word (length (take n vs))
+run_span es vs n d x some few room h blocks words = record {
+  block = blocks _ (edit_in es 0 d (omega (arith, some, few)));
+  within = omega (arith, some, h.word (n - 1) d (omega (arith, some)), words _ (edit_in es (n - 1) d (omega (arith, some, few))), length-take-le n vs room);
+}
+
+-- the edits behind the first n of them
+pub edits_behind : (es : List Edit) (n : ℕ) (f g : BlockWords) → g ≡ edited f (map word_edit (take n es)) → edited g (map word_edit (take (length es - n) (drop n es))) ≡ edited f (map word_edit es)
+edits_behind es n f g e = ap (λ xs. edited g (map word_edit xs)) (take_rest es n) ∙ ap (λ h. edited h (map word_edit (drop n es))) e ∙ sym (edited_on (map word_edit (take n es)) (map word_edit (drop n es)) f) ∙ ap (λ xs. edited f xs) (sym (map-append word_edit (take n es) (drop n es))) ∙ ap (λ xs. edited f (map word_edit xs)) (take-append-drop n es)
+
+pub behind_in : (es : List Edit) (n : ℕ) (e : Edit) → Contains (take (length es - n) (drop n es)) e → Contains es e
+behind_in es n e h = from (subst (λ xs. Contains xs e) (take_rest es n) h)
+  where
+    from : Contains (drop n es) e → Contains es e
+    from k = (n + k.0, omega (arith, k.1, length-drop n es), sym (get_or-drop n es k.0 e) ∙ k.2)
 
 -- ---- touching
 
@@ -73,6 +105,9 @@ sets_more shape f g h bs n b bit fits within at a s = record {
 }
 
 -- ---- the whole update
+
+pub sets_none : (shape : VolumeShape) (f : BlockWords) (bs : List ℕ) (bit : ℕ) → SetsBits shape f f bs 0 bit
+sets_none shape f bs bit = record { elsewhere = λ b w away. refl; set = λ t few. absurd (omega (arith, few)); others = λ b out. refl }
 
 not_listed : (bs : List ℕ) (b n : ℕ) → n ≡ length bs → (Contains bs b → ⊥) → (t : ℕ) → t < n → slice_index bs t ≢ b
 not_listed bs b n is out t few e = out (t, subst (λ (m : ℕ). t < m) is few, get_or_default bs t b 0 (subst (λ (m : ℕ). t < m) is few) ∙ e)

@@ -1,5 +1,5 @@
 -- The update of a change of size, while it is made.
-use Rattle.std.specs.Prelude.{◌≡◌, ◌≢◌, ℕ, ◌<◌, ◌≤◌, ◌⊎◌, true, List, slice_index, Option, None}
+use Rattle.std.specs.Prelude.{◌≡◌, ◌≢◌, ℕ, ◌+◌, ◌<◌, ◌≤◌, ◌⊎◌, true, List, slice_index, slice_index_or, Option, None}
 use Rattle.std.specs.List.{Contains}
 use Rattle.rio_base.specs.declared.places.PageName.{PageName}
 use Rattle.rio_base.specs.declared.places.VolumeShape.{VolumeShape}
@@ -31,6 +31,12 @@ pub record CanChange (shape : VolumeShape) (y : Seen) (c : SizeChange) : Type 0 
   pub makes : CanUpdate shape c.edits (numbers c.taken) (numbers c.freed)
   pub one : InOneBlock c.edits
   pub unnamed : (e : Edit) → Contains c.edits e → y.cached e.block.0 ≡ true → y.names e.block.0 ≡ None
+
+-- the first n edits are of one block, word behind word, and make these of its words
+pub record IsEditRun (edits : List Edit) (values : List ℕ) (n : ℕ) : Type 0 where
+  pub block : (t : ℕ) (d : Edit) → t < n → (slice_index_or edits t d).block.0 ≡ (slice_index_or edits 0 d).block.0
+  pub word : (t : ℕ) (d : Edit) → t < n → (slice_index_or edits t d).word ≡ (slice_index_or edits 0 d).word + t
+  pub value : (t : ℕ) (d : Edit) → t < n → (slice_index_or edits t d).value ≡ slice_index values t
 
 -- the block of an edit
 abbrev pub IsEdited : List Edit → ℕ → Type 0

@@ -32,5 +32,5 @@ pub use pieces::{fill_words, stored_bytes};
 pub use preparing::plan_size;
 pub use reading::{read, read_with};
 pub use resizing::{resize, resize_with};
-pub use updating::make_update;
+pub use updating::{make_update, make_words};
 pub use writing::{write, write_with};

@@ -1,16 +1,27 @@
-use Rattle.file_pages.proofs.Common.{◌∙◌, le_trans, firm_trans, goes_trans}
+use Rattle.file_pages.proofs.Common.{◌<◌, ◌∙◌, ℕ, Bool, ap, arith, sym, subst, le_trans, firm_trans, goes_trans}
 use Rattle.rio_base.proofs.Rules.{drops_trans}
-use Rattle.file_pages.proofs.Updated.{update_trans, edited_next, make_place}
+use Rattle.file_pages.proofs.Updated.{behind_in, edits_behind, update_trans}
 use Rattle.file_pages.proofs.updating.make_edits.Goals as goal
 
-pub loop-t-preserved : goal.loop-t-preserved
-loop-t-preserved g c =
-    let inv = c.loop-t.invariant in
-    let now = c.in_ok-edit.ensures in
-    let call = c.edit.ensures in
+pub make_run-requires-clause-blocks : goal.make_run-requires-clause-blocks
+make_run-requires-clause-blocks g c = λ e on. subst (λ (n : ℕ). e.block.0 < n) (sym c.loop-rest.invariant.count) (c.requires.blocks e (c.loop-rest.invariant.within e on))
+
+pub make_run-requires-clause-words : goal.make_run-requires-clause-words
+make_run-requires-clause-words g c = λ e on. c.requires.words e (c.loop-rest.invariant.within e on)
+
+pub make_run-requires-clause-touched : goal.make_run-requires-clause-touched
+make_run-requires-clause-touched g c = λ e on. ap (λ (t : ℕ → Bool). t e.block.0) c.loop-rest.invariant.update.touched ∙ c.requires.touched e (c.loop-rest.invariant.within e on)
+
+pub loop-rest-preserved : goal.loop-rest-preserved
+loop-rest-preserved g c =
+    let inv = c.loop-rest.invariant in
+    let now = c.in_ok-n.ensures in
+    let call = c.make_run.ensures in
     record {
-      made = edited_next c.args.edits.now c.loop-t.t _ _ _ c.loop-t-test.true now.ok ∙ inv.made;
+      within = λ e on. inv.within e (behind_in c.loop-rest.rest.now _ e on);
+      made = edits_behind c.loop-rest.rest.now _ _ _ now.made ∙ inv.made;
       update = update_trans _ _ _ inv.update now.update;
+      in_update = call.in_update;
       standing = call.standing ∙ inv.standing;
       firm = firm_trans _ _ _ inv.firm call.firm;
       count = call.count ∙ inv.count;
@@ -21,5 +32,5 @@ loop-t-preserved g c =
       sound = call.sound;
     }
 
-pub edit-requires-clause-place : goal.edit-requires-clause-place
-edit-requires-clause-place g c = make_place c.args.edits.now c.loop-t.t _ _ _ c.loop-t-test.true c.requires.blocks c.loop-t.invariant.count c.requires.words
+pub offset_bounds-rest-n : goal.offset_bounds-rest-n
+offset_bounds-rest-n g c = omega (arith, c.in_ok-n.ensures.most)
