@@ -1,5 +1,5 @@
 -- The lowest gap, by runs of free and of used units.
-use Rattle.std.proofs.Common.{◌≡◌, ◌≢◌, ℕ, ◌+◌, ◌-◌, ◌*◌, ◌/◌, ◌%◌, ◌<◌, ◌≤◌, ◌⊎◌, inl, inr, sym, ap, subst, ◌∙◌, arith, List, ◌^◌, bit_and}
+use Rattle.std.proofs.Common.{◌≡◌, ◌≢◌, ℕ, ◌+◌, ◌-◌, ◌*◌, ◌/◌, ◌%◌, ◌<◌, ◌≤◌, ◌⊎◌, inl, inr, refl, sym, ap, subst, ◌∙◌, arith, List, ◌^◌, bit_and}
 use Rattle.std.specs.Prelude.{slice_index}
 use Rattle.std.specs.Int.{bit_at}
 use Rattle.std.proofs.lemmas.Nat.Bits.{bit_at-lt, bit_at_and, bit_at_ones}
@@ -114,13 +114,15 @@ pub word_full : (word : ℕ) → word ≡ 2 ^ 64 - 1 → (u : ℕ) → u < 64 �
 word_full word all u small = ap (λ w. bit_at w u) all ∙ bit_at_ones 64 u small
 
 -- each bit of four words whose bits are all 1 together
-four_full : (a b c d u : ℕ) → bit_and (bit_and (bit_and a b) c) d ≡ 2 ^ 64 - 1 → u < 64 → (bit_at a u ≡ 1) × (bit_at b u ≡ 1) × (bit_at c u ≡ 1) × (bit_at d u ≡ 1)
-four_full a b c d u all small =
-    let one = word_full (bit_and (bit_and (bit_and a b) c) d) all u small in
+four_full : (a b c d u : ℕ) → bit_at (bit_and (bit_and (bit_and a b) c) d) u ≡ 1 → (bit_at a u ≡ 1) × (bit_at b u ≡ 1) × (bit_at c u ≡ 1) × (bit_at d u ≡ 1)
+four_full a b c d u one =
     let last = bit_at_and (bit_and (bit_and a b) c) d u in
     let third = bit_at_and (bit_and a b) c u in
     let two = bit_at_and a b u in
     (omega (arith, one, last, third, two, bit_at-lt a u), omega (arith, one, last, third, two, bit_at-lt b u), omega (arith, one, last, third, bit_at-lt c u), omega (arith, one, last, bit_at-lt d u))
+
+both_full : (a b u : ℕ) → bit_at (bit_and a b) u ≡ 1 → (bit_at a u ≡ 1) × (bit_at b u ≡ 1)
+both_full a b u one = (omega (arith, one, bit_at_and a b u, bit_at-lt a u), omega (arith, one, bit_at_and a b u, bit_at-lt b u))
 
 pub none_full : (words : List ℕ) (from : ℕ) → AllFull words from from
 none_full words from = record { each = λ i u low high small. absurd (omega (arith, low, high)) }
@@ -132,19 +134,28 @@ full_more words from page full ones = record { each = λ i u low high small. by 
     by i u low small (inl h) = full.each i u low h small
     by i u low small (inr e) = ap (λ k. bit_at (slice_index words (2 * k)) u) e ∙ ones u small
 
-pub four_more : (words : List ℕ) (from page : ℕ) → AllFull words from page → bit_and (bit_and (bit_and (slice_index words (2 * page)) (slice_index words (2 * page + 2))) (slice_index words (2 * page + 4))) (slice_index words (2 * page + 6)) ≡ 2 ^ 64 - 1 → AllFull words from (page + 4)
-four_more words from page full all =
-    let one : AllFull words from (page + 1) = full_more words from page full (λ u small. (bits u small).0) in
-    let two : AllFull words from (page + 1 + 1) = full_more words from (page + 1) one (λ u small. moved (2 * (page + 1)) (2 * page + 2) u (omega arith) (bits u small).1) in
-    let three : AllFull words from (page + 1 + 1 + 1) = full_more words from (page + 1 + 1) two (λ u small. moved (2 * (page + 1 + 1)) (2 * page + 4) u (omega arith) (bits u small).2) in
-    let four : AllFull words from (page + 1 + 1 + 1 + 1) = full_more words from (page + 1 + 1 + 1) three (λ u small. moved (2 * (page + 1 + 1 + 1)) (2 * page + 6) u (omega arith) (bits u small).3) in
-    subst (λ k. AllFull words from k) (omega arith) four
+four_more : (words : List ℕ) (from page i j k m : ℕ) → AllFull words from page → i ≡ 2 * page → j ≡ 2 * page + 2 → k ≡ 2 * page + 4 → m ≡ 2 * page + 6 → ((u : ℕ) → u < 64 → bit_at (bit_and (bit_and (bit_and (slice_index words i) (slice_index words j)) (slice_index words k)) (slice_index words m)) u ≡ 1) → AllFull words from (page + 4)
+four_more words from page i j k m full first second third fourth all =
+    let one : AllFull words from (page + 1) = full_more words from page full (λ u small. moved (2 * page) i u (sym first) (bits u small).0) in
+    let two : AllFull words from (page + 1 + 1) = full_more words from (page + 1) one (λ u small. moved (2 * (page + 1)) j u (omega (arith, second)) (bits u small).1) in
+    let three : AllFull words from (page + 1 + 1 + 1) = full_more words from (page + 1 + 1) two (λ u small. moved (2 * (page + 1 + 1)) k u (omega (arith, third)) (bits u small).2) in
+    let four : AllFull words from (page + 1 + 1 + 1 + 1) = full_more words from (page + 1 + 1 + 1) three (λ u small. moved (2 * (page + 1 + 1 + 1)) m u (omega (arith, fourth)) (bits u small).3) in
+    subst (λ p. AllFull words from p) (omega arith) four
   where
-    bits : (u : ℕ) → u < 64 → (bit_at (slice_index words (2 * page)) u ≡ 1) × (bit_at (slice_index words (2 * page + 2)) u ≡ 1) × (bit_at (slice_index words (2 * page + 4)) u ≡ 1) × (bit_at (slice_index words (2 * page + 6)) u ≡ 1)
-    bits u small = four_full (slice_index words (2 * page)) (slice_index words (2 * page + 2)) (slice_index words (2 * page + 4)) (slice_index words (2 * page + 6)) u all small
+    bits : (u : ℕ) → u < 64 → (bit_at (slice_index words i) u ≡ 1) × (bit_at (slice_index words j) u ≡ 1) × (bit_at (slice_index words k) u ≡ 1) × (bit_at (slice_index words m) u ≡ 1)
+    bits u small = four_full (slice_index words i) (slice_index words j) (slice_index words k) (slice_index words m) u (all u small)
 
-    moved : (j k u : ℕ) → j ≡ k → bit_at (slice_index words k) u ≡ 1 → bit_at (slice_index words j) u ≡ 1
-    moved j k u same one = ap (λ i. bit_at (slice_index words i) u) same ∙ one
+    moved : (p q u : ℕ) → p ≡ q → bit_at (slice_index words q) u ≡ 1 → bit_at (slice_index words p) u ≡ 1
+    moved p q u same one = ap (λ x. bit_at (slice_index words x) u) same ∙ one
+
+pub eight_more : (words : List ℕ) (from page : ℕ) → AllFull words from page → bit_and (bit_and (bit_and (bit_and (slice_index words (2 * page)) (slice_index words (2 * page + 2))) (slice_index words (2 * page + 4))) (slice_index words (2 * page + 6))) (bit_and (bit_and (bit_and (slice_index words (2 * page + 8)) (slice_index words (2 * page + 10))) (slice_index words (2 * page + 12))) (slice_index words (2 * page + 14))) ≡ 2 ^ 64 - 1 → AllFull words from (page + 8)
+eight_more words from page full all = by _ _ refl refl all
+  where
+    by : (low high : ℕ) → low ≡ bit_and (bit_and (bit_and (slice_index words (2 * page)) (slice_index words (2 * page + 2))) (slice_index words (2 * page + 4))) (slice_index words (2 * page + 6)) → high ≡ bit_and (bit_and (bit_and (slice_index words (2 * page + 8)) (slice_index words (2 * page + 10))) (slice_index words (2 * page + 12))) (slice_index words (2 * page + 14)) → bit_and low high ≡ 2 ^ 64 - 1 → AllFull words from (page + 8)
+    by low high low_is high_is ones =
+        let four : AllFull words from (page + 4) = four_more words from page (2 * page) (2 * page + 2) (2 * page + 4) (2 * page + 6) full refl refl refl refl (λ u small. ap (λ w. bit_at w u) (sym low_is) ∙ (both_full low high u (word_full (bit_and low high) ones u small)).0) in
+        let eight : AllFull words from (page + 4 + 4) = four_more words from (page + 4) (2 * page + 8) (2 * page + 10) (2 * page + 12) (2 * page + 14) four (omega arith) (omega arith) (omega arith) (omega arith) (λ u small. ap (λ w. bit_at w u) (sym high_is) ∙ (both_full low high u (word_full (bit_and low high) ones u small)).1) in
+        subst (λ p. AllFull words from p) (omega arith) eight
 
 pub word_in : (f : ℕ → ℕ) (words : List ℕ) (page count i : ℕ) → AreWords f (2 * page) (2 * count) words → i < count → slice_index words (2 * i) ≡ f (2 * (page + i))
 word_in f words page count i h small = h.each (2 * i) (omega arith) ∙ ap f (omega arith)

@@ -51,9 +51,9 @@ fn look_in(word: u64, page: u32, before: u32, units: u32) -> Scan
     Scan::Run(run)
 }
 
-/// The page up to which those from `from` on are passed over by fours that have no free unit, by the map words of `count`
-/// pages: the used bits of four pages are all 1 together where those of each are.
-fn past_fours(words: &[u64], from: u32, count: u32) -> u32
+/// The page up to which those from `from` on are passed over by eights that have no free unit, by the map words of `count`
+/// pages: the used bits of eight pages are all 1 together where those of each are.
+fn past_eights(words: &[u64], from: u32, count: u32) -> u32
     requires words { length words.now ≡ 2 * count }
     requires from { from ≤ count }
     ensures low { from ≤ result }
@@ -61,13 +61,15 @@ fn past_fours(words: &[u64], from: u32, count: u32) -> u32
     ensures full { AllFull words.now from result }
 {
     let mut page = from;
-    while 4 <= count - page {
+    while 8 <= count - page {
         let at = 2 * page as usize;
-        let four = words[at] & words[at + 2] & words[at + 4] & words[at + 6];
-        if four != u64::MAX {
+        let low = words[at] & words[at + 2] & words[at + 4] & words[at + 6];
+        let high = words[at + 8] & words[at + 10] & words[at + 12] & words[at + 14];
+        let eight = low & high;
+        if eight != u64::MAX {
             return page;
         }
-        page += 4;
+        page += 8;
     }
     page
 }
@@ -81,7 +83,7 @@ fn past_full(words: &[u64], from: u32, count: u32) -> u32
     ensures full { AllFull words.now from result }
     ensures end { result < count → slice_index words.now (2 * result) ≢ 2 ^ 64 - 1 }
 {
-    let mut page = past_fours(words, from, count);
+    let mut page = past_eights(words, from, count);
     while page < count {
         let word = words[2 * page as usize];
         if word != u64::MAX {

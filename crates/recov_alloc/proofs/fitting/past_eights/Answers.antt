@@ -1,6 +1,6 @@
 use Rattle.std.proofs.Common.{arith}
-use Rattle.recov_alloc.proofs.Fits.{four_more, none_full}
-use Rattle.recov_alloc.proofs.fitting.past_fours.Goals as goal
+use Rattle.recov_alloc.proofs.Fits.{eight_more, none_full}
+use Rattle.recov_alloc.proofs.fitting.past_eights.Goals as goal
 
 pub loop-page-init : goal.loop-page-init
 loop-page-init c = record {
@@ -13,5 +13,5 @@ pub loop-page-preserved : goal.loop-page-preserved
 loop-page-preserved c = record {
   low = omega (arith, c.loop-page.invariant.low);
   high = omega (arith, c.loop-page.invariant.high, c.loop-page-test.true);
-  full = four_more c.args.words.now c.args.from c.loop-page.page c.loop-page.invariant.full c.if-four.false;
+  full = eight_more c.args.words.now c.args.from c.loop-page.page c.loop-page.invariant.full c.if-eight.false;
 }

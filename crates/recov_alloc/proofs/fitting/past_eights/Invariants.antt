@@ -1,6 +1,6 @@
 use Rattle.std.proofs.Common.{◌≤◌, ◌-◌}
 use Rattle.recov_alloc.specs.Scans.{AllFull}
-use Rattle.recov_alloc.proofs.fitting.past_fours.Given as goal
+use Rattle.recov_alloc.proofs.fitting.past_eights.Given as goal
 
 abbrev pub invariant-loop-page : goal.invariant-loop-page
 invariant-loop-page l = record {
