@@ -117,16 +117,8 @@ names_short shape x d h j within =
     subst (λ (k : Held). length (entry_name k j) ≤ 56) is (h.entries.named d j (record { dir = ap (λ (k : Held). k.kind) is ∙ h.dir; within = subst (λ (k : Held). 64 * j < k.size) (sym is) within })).few
 
 -- the names of all slots, put in order
-pub lists_sorted : (h : Held) (size : ℕ) (slots old new names : List (List ℕ)) → size ≡ h.size → slots ≡ map (entry_name h) (range_with_len 0 (size / 64)) → old ≡ slots → names ≡ new → IsPermutation old new → IsSorted (slice_cmp nat_cmp) new → ListsNames h names
-lists_sorted h size slots old new names many listed given made all order = record {
-  all = subst (λ xs. IsPermutation xs names) (given ∙ listed ∙ ap (λ s. map (entry_name h) (range_with_len 0 (s / 64))) many) (subst (λ xs. IsPermutation old xs) (sym made) all);
-  order = subst (λ xs. IsSorted (slice_cmp nat_cmp) xs) (sym made) order;
+pub lists_sorted : (h : Held) (size : ℕ) (slots names : List (List ℕ)) → size ≡ h.size → slots ≡ map (entry_name h) (range_with_len 0 (size / 64)) → IsPermutation slots names → IsSorted (slice_cmp nat_cmp) names → ListsNames h names
+lists_sorted h size slots names many listed all order = record {
+  all = subst (λ xs. IsPermutation xs names) (listed ∙ ap (λ s. map (entry_name h) (range_with_len 0 (s / 64))) many) all;
+  order = order;
 }
-
--- the front of a list that is behind it
-pub front_of : (xs rest : List (List ℕ)) (n : ℕ) → n ≡ length xs → take n (xs ++ rest) ≡ xs
-front_of xs rest n is = ap (λ m. take m (xs ++ rest)) is ∙ whole xs
-  where
-    whole : (ys : List (List ℕ)) → take (length ys) (ys ++ rest) ≡ ys
-    whole [] = refl
-    whole (y ∷ ys) = ap (λ zs. y ∷ zs) (whole ys)

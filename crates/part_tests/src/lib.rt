@@ -1,5 +1,5 @@
-//! Tests of what a machine and its cache are made of, each by itself: memory, the disk in memory, the pool of frames, and
-//! the bytes of an image and of a volume. They stand above these crates, so that each of them is proved once.
+//! Tests of small parts, each by itself: memory, the disk in memory, the pool of frames, the bytes of an image and of a
+//! volume, and lists of names. They stand above these crates, so that each of them is proved once.
 #![tactic(auto)]
 
 #[cfg(test)]
@@ -12,5 +12,7 @@ mod image_tests;
 mod mem_disk_tests;
 #[cfg(test)]
 mod memory_tests;
+#[cfg(test)]
+mod name_tests;
 #[cfg(test)]
 mod same;

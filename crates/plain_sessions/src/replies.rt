@@ -1,7 +1,8 @@
 //! Replies that the script tells, and replies as they are written.
 
+use name_list::NameList;
 use request_codec::{write_reply, write_text};
-use rio_base::{Ino, InoList, NameList, Octets};
+use rio_base::{Ino, InoList, Octets};
 use rio_fakes::MemSink;
 use rio_requests::Reply;
 use std::alloc::{AllocError, Global};
@@ -38,11 +39,12 @@ fn stat_of(parts: &str) -> Result<Reply, AllocError> {
 }
 
 fn names_of(alloc: Global, parts: &str) -> Result<Reply, AllocError> {
-    let mut names = Vec::new(alloc);
+    let mut names = NameList::new(alloc);
     for part in parts.split_whitespace() {
-        names.push(Octets::from(expanded(alloc, part)?))?;
+        let name = expanded(alloc, part)?;
+        names.push(name.as_slice())?;
     }
-    Ok(Reply::Names(NameList::from(names)))
+    Ok(Reply::Names(names))
 }
 
 fn inos_of(alloc: Global, parts: &str) -> Result<Reply, AllocError> {

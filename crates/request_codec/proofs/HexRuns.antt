@@ -7,7 +7,7 @@ use lib.Lanes.{chunk, digits_l, Each1, mask_l, number_l, put_chunk, top, zip2}
 use mir.Val.{bits, hbits}
 use Rattle.request_codec.specs.declared.hex_digits.Seen.{Seen}
 use Rattle.hex.specs.Hex.{hex_digit_value}
-use Rattle.request_codec.specs.Digits.{IsDecoded, IsNone, IsOther, ReadsAs, ReadsRun}
+use Rattle.request_codec.specs.Digits.{IsDecoded, IsNone, IsOther, ReadsDigits, ReadsRun}
 use Rattle.request_codec.specs.Form.{AreDigitsOf, IsHexOf}
 use Rattle.request_codec.proofs.Digits.{HasOther, DecodedInto, reads_by, rank_of}
 use Rattle.request_codec.proofs.FarSteps.{unmarked}
@@ -29,8 +29,8 @@ as_read (Some v) value rank letter is h = (h.0, h.1, omega (arith, is, h.2))
 abbrev pub letter_of : ℕ → ℕ
 letter_of c = (rank_of c + 3) % 256
 
-pub reads_as : (c letter value : ℕ) → c < 256 → letter ≡ letter_of c → value ≡ min ((c + 208) % 256) (letter_of c) → ReadsAs c letter value
-reads_as c letter value small is_letter is_value =
+pub reads_digits : (c letter value : ℕ) → c < 256 → letter ≡ letter_of c → value ≡ min ((c + 208) % 256) (letter_of c) → ReadsDigits c letter value
+reads_digits c letter value small is_letter is_value =
     let rank : ℕ = rank_of c in
     let plain : letter_of c ≡ rank + 3 = omega (arith, and_at_most c) in
     as_read (hex_digit_value c) value rank letter (is_letter ∙ plain) (reads_by c (record { value = value; rank = rank }) small refl is_value)
@@ -65,7 +65,7 @@ run_read digits values long fits many lane =
     record {
       many = splat_long plus folded 32 3 folded_long;
       long = many;
-      each = λ j below. reads_as (get_or digits j 0) (get_or (letters digits) j 0) (get_or values j 0) (lane_fits digits j fits) (letter j below)
+      each = λ j below. reads_digits (get_or digits j 0) (get_or (letters digits) j 0) (get_or values j 0) (lane_fits digits j fits) (letter j below)
           (lane j below ∙ ap₂ min (splatted minus digits 32 48 j long below) (letter j below));
     }
 

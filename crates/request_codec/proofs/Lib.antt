@@ -14,6 +14,7 @@ pub mod Numbers
 pub mod OneMeaning
 pub mod Passing
 pub mod Sendings
+pub mod ShortNames
 pub mod Texts
 pub mod EncodedParts
 pub mod Runs

@@ -29,14 +29,14 @@ abbrev pub IsOther : ℕ → ℕ → Type 0
 IsOther letter value = (letter < 10) ⊎ (16 ≤ value)
 
 -- the byte is a digit of this value, in either case, or none
-abbrev pub ReadsAs : ℕ → ℕ → ℕ → Type 0
-ReadsAs c letter value = MatchOption (hex_digit_value c) (IsOther letter value) (λ v. (value ≡ v) × (v < 16) × (10 ≤ letter))
+abbrev pub ReadsDigits : ℕ → ℕ → ℕ → Type 0
+ReadsDigits c letter value = MatchOption (hex_digit_value c) (IsOther letter value) (λ v. (value ≡ v) × (v < 16) × (10 ≤ letter))
 
 -- 32 bytes are read so, each in its lane
 pub record ReadsRun (digits letters values : List ℕ) : Type 0 where
   pub many : length letters ≡ 32
   pub long : length values ≡ 32
-  pub each : (j : ℕ) → j < 32 → ReadsAs (slice_index digits j) (slice_index letters j) (slice_index values j)
+  pub each : (j : ℕ) → j < 32 → ReadsDigits (slice_index digits j) (slice_index letters j) (slice_index values j)
 
 -- the first n bytes are what two digits each stand for
 pub record IsDecoded (digits out : List ℕ) (n : ℕ) : Type 0 where

@@ -1,6 +1,6 @@
 //! Replies as lines of text.
 
-ghost use Rattle.std.specs.Prelude.{◌≡◌, ◌≤◌, ◌++◌, ◌∷◌, [], ℕ, OnOk, OnErr, codes, decimal, flat_map, length, take};
+ghost use Rattle.std.specs.Prelude.{◌≡◌, ◌+◌, ◌<◌, ◌≤◌, ◌++◌, ◌∷◌, [], ℕ, true, OnOk, OnErr, codes, decimal, flat_map, length, slice_index_or, take};
 ghost use Rattle.hex.specs.Hex.{encode_lower};
 ghost use Rattle.rio_base.specs.Counts.{HasCause};
 ghost use Rattle.rio_base.specs.Streams.{appended};
@@ -8,8 +8,9 @@ ghost use Rattle.request_codec.specs.Sending.{Puts, Sends};
 ghost use Rattle.rio_requests.specs.declared.reply.Reply.TheVariants.{Stat};
 ghost use Rattle.request_codec.specs.Text.{body_of, kind_name, listed_ino, listed_name, text_of};
 
-use crate::text_room::{put, put_hex, put_number, put_number_here, send};
-use rio_base::{Failed, Ino, Octets, Sink};
+use crate::text_room::{hold, put, put_hex, put_number, put_number_here, send};
+use name_list::NameList;
+use rio_base::{Failed, Ino, Sink};
 use rio_requests::Reply;
 
 /// Writes a whole text, in as many calls as the sink wants. It takes no memory.
@@ -21,6 +22,9 @@ pub fn write_text<K: Sink>(text: &[u8], sink: &mut K) -> Result<(), Failed>
 {
     send(text, sink)
 }
+
+/// Bytes that a short name has at most.
+const SHORT_BYTES: usize = 32;
 
 /// How large a room holds any reply of up to 1 KiB of data, and most others: 4,096 bytes.
 pub const ROOM_BYTES: usize = 4096;
@@ -92,7 +96,7 @@ fn put_body<K: Sink>(
         Reply::Number(n) => put_number_here(b"ok ", *n, room, held, sink),
         Reply::Bytes(bytes) => put_bytes(bytes.as_slice(), room, held, sink),
         Reply::Stat { ino, kind, size } => put_stat(*ino, *kind, *size, room, held, sink),
-        Reply::Names(names) => put_names(names.as_slice(), room, held, sink),
+        Reply::Names(names) => put_names(names, room, held, sink),
         Reply::Inos(inos) => put_inos(inos.as_slice(), room, held, sink),
         Reply::Err(number) => put_number(b"err ", u64::from(*number), room, held, sink),
         Reply::Fault(done) => put_number(b"err 30 ", *done, room, held, sink),
@@ -150,7 +154,7 @@ fn put_stat<K: Sink>(
 
 /// Puts a count and names.
 fn put_names<K: Sink>(
-    names: &[Octets],
+    names: &NameList,
     room: &mut [u8],
     held: usize,
     sink: &mut K,
@@ -164,7 +168,7 @@ fn put_names<K: Sink>(
 
 /// Puts names, each behind a space.
 fn put_each_name<K: Sink>(
-    names: &[Octets],
+    names: &NameList,
     room: &mut [u8],
     held: usize,
     sink: &mut K,
@@ -173,10 +177,48 @@ fn put_each_name<K: Sink>(
     ensures { Puts result (K.written sink.old) (K.faults sink.old) (take held room.old) (flat_map listed_name names.now) (K.written sink.new) (K.faults sink.new) room.new }
 {
     let mut held = held;
-    'names: for name in names {
-        held = put_name(name.as_slice(), room, held, sink)?;
+    'names: for k in 0..names.len() {
+        held = put_listed(names, k, room, held, sink)?;
     }
     Ok(held)
+}
+
+/// Puts name `k` of a list behind a space.
+fn put_listed<K: Sink>(
+    names: &NameList,
+    k: usize,
+    room: &mut [u8],
+    held: usize,
+    sink: &mut K,
+) -> Result<usize, Failed>
+    requires fits { held ≤ length room.old }
+    requires listed { k < length names.now }
+    ensures { Puts result (K.written sink.old) (K.faults sink.old) (take held room.old) (listed_name (slice_index_or names.now k [])) (K.written sink.new) (K.faults sink.new) room.new }
+{
+    let (run, len) = names.run(k);
+    if is_short(len, run.len(), room.len() - held) {
+        hold_short(run, room, held);
+        return Ok(held + 1 + len);
+    }
+    put_name(&run[..len], room, held, sink)
+}
+
+/// Whether a name of so many bytes is copied as a short one, where so many bytes lie in its list from it on, and so many fit.
+fn is_short(len: usize, listed: usize, left: usize) -> bool
+    ensures { result ≡ true → (len ≤ 32) × (32 ≤ listed) × (33 ≤ left) }
+{
+    len <= SHORT_BYTES && listed >= SHORT_BYTES && left > SHORT_BYTES
+}
+
+/// Copies a space and as many bytes as a short name may have behind those that are held. What of them is no name is
+/// written over later: a copy of a length that is known when this is compiled is two wide moves and no call.
+fn hold_short(run: &[u8], room: &mut [u8], held: usize)
+    requires run { 32 ≤ length run.now }
+    requires fits { held + 33 ≤ length room.old }
+    ensures { take (held + 33) room.new ≡ take held room.old ++ 32 ∷ take 32 run.now }
+{
+    hold(b" ", room, held);
+    hold(&run[..SHORT_BYTES], room, held + 1);
 }
 
 /// Puts a name behind a space, behind what is held. Where it does not fit, it writes.

@@ -27,7 +27,7 @@ pub fn send<K: Sink>(text: &[u8], sink: &mut K) -> Result<(), Failed>
 }
 
 /// Copies bytes behind those that are held.
-fn hold(bytes: &[u8], room: &mut [u8], held: usize)
+pub(crate) fn hold(bytes: &[u8], room: &mut [u8], held: usize)
     requires { held + length bytes.now ≤ length room.old }
     ensures { take (held + length bytes.now) room.new ≡ take held room.old ++ bytes.now }
 {

@@ -11,7 +11,8 @@ ghost use Rattle.vista_region.specs.Ends.{IsFault, says_bytes, says_done, says_n
 ghost use Rattle.vista_region.specs.declared.failures.TxnFail.TheVariants.{Fault as TxnFault};
 
 use file_store::FileFail;
-use rio_base::{Ino, InoList, NameList, Octets, Stopped};
+use name_list::NameList;
+use rio_base::{Ino, InoList, Octets, Stopped};
 use rio_requests::Reply;
 use std::alloc::AllocError;
 use vista_region::{BeginFail, GetFail, TxnFail};

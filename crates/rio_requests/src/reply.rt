@@ -1,6 +1,7 @@
 //! What a request is answered.
 
-use rio_base::{Ino, InoList, NameList, Octets};
+use name_list::NameList;
+use rio_base::{Ino, InoList, Octets};
 
 /// The reply to a request.
 #[derive(Debug, Drop)]

@@ -5,6 +5,7 @@ ghost use Rattle.std.specs.FinMap.{entries, from_entries, put};
 ghost use Rattle.rio_model.specs.States.{names_in as names_in_of};
 ghost use Rattle.rio_model.specs.Names.{name_cmp, row_entry, row_entries};
 
+use name_list::NameList;
 use rio_base::{Ino, Octets};
 use rio_model::{NameRow, State};
 use std::alloc::{AllocError, Global};
@@ -22,6 +23,17 @@ pub fn names_in(alloc: Global, s: &State, dir: Ino) -> Result<Vec<Octets>, Alloc
         }
     }
     Ok(names)
+}
+
+/// The same names as a reply has them.
+pub fn list_of_names(alloc: Global, names: &[Octets]) -> Result<NameList, AllocError>
+    ensures { IfOk result (λ list. list ≡ names.now) }
+{
+    let mut list = NameList::new(alloc);
+    for name in names {
+        list.push(name.as_slice())?;
+    }
+    Ok(list)
 }
 
 /// How many names are in a directory.

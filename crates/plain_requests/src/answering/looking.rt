@@ -5,11 +5,11 @@ ghost use Rattle.std.specs.FinMap.{get};
 ghost use Rattle.rio_model.specs.States.{names_in as names_in_of};
 ghost use Rattle.rio_requests.specs.Answers.{list as list_of, stat as stat_of, stat_node as stat_node_of};
 
-use super::listing::{count_names, names_in};
+use super::listing::{count_names, list_of_names, names_in};
 use super::paths::{names_of, walk, walk_to_dir};
 use super::room::data_pages;
 use super::{refused, unchanged};
-use rio_base::{Ino, NameList};
+use rio_base::Ino;
 use rio_model::{Node, State};
 use rio_requests::{Answered, Reply};
 use std::alloc::{AllocError, Global};
@@ -71,8 +71,9 @@ pub fn list(alloc: Global, s: &State, path: &[u8]) -> Result<Answered, AllocErro
     let names = names_of(alloc, path)?;
     match walk_to_dir(s, names.as_slice()) {
         Ok(dir) => {
-            let names = NameList::from(names_in(alloc, s, dir)?);
-            unchanged(s, Reply::Names(names))
+            let names = names_in(alloc, s, dir)?;
+            let list = list_of_names(alloc, &names)?;
+            unchanged(s, Reply::Names(list))
         }
         Err(number) => refused(s, number),
     }

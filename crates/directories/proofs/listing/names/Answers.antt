@@ -1,7 +1,7 @@
 use Rattle.directories.proofs.Common.{◌≡◌, ◌∙◌, ◌/◌, map, sym, ap, subst, arith, range_with_len, BlockWords, Held, entry_name, held_of, placed_at, look_trans, named_on}
 use Rattle.directories.proofs.CanRead.{can_read, dir_held}
 use Rattle.directories.proofs.Found.{sized}
-use Rattle.directories.proofs.Listed.{front_of, lists_sorted}
+use Rattle.directories.proofs.Listed.{lists_sorted}
 use Rattle.directories.proofs.listing.names.Goals as goal
 
 pub returns-in_err-names-clause-named : goal.returns-in_err-names-clause-named
@@ -17,10 +17,8 @@ returns-clause-value g c =
     let d = c.args.dir.0 in
     let can = can_read shape x d c.requires.shape c.requires.mapped c.requires.named c.requires.entries c.requires.dir in
     let dir = can.dir in
-    lists_sorted (held_of shape x.words d) c.in_ok-inode.inode.size c.in_ok-names.names.items c.deref_mut.result.now c.sort_names.new.names c.from.result
+    lists_sorted (held_of shape x.words d) c.in_ok-inode.inode.size c.in_ok-names.names c.sort.new.self
     (c.in_ok-inode.ensures.value.size ∙ sym (sized x.words (placed_at x.words d) (omega (arith, dir))) ∙ ap (λ (h : Held). h.size) (sym (dir_held shape x d can)))
     (c.in_ok-names.ensures.value ∙ ap (λ (f : BlockWords). map (entry_name (held_of shape f d)) (range_with_len 0 (c.in_ok-inode.inode.size / 64))) c.in_ok-inode.ensures.looks.looks.words)
-    c.deref_mut.ensures.value
-    (c.from.ensures ∙ front_of c.sort_names.new.names _ c.in_ok-names.names.len (omega (arith, c.sort_names.ensures.len, c.deref_mut.ensures.len)))
-    c.sort_names.ensures.all
-    c.sort_names.ensures.order
+    c.sort.ensures.all
+    c.sort.ensures.order

@@ -4,4 +4,4 @@ use Rattle.directories.proofs.listing.push_names.Given as goal
 
 -- the first k names are added
 abbrev pub invariant-loop-k : goal.invariant-loop-k
-invariant-loop-k l = l.names.items ≡ l.fn.names.items ++ map (name_in (slice_index l.words)) (range_with_len 0 l.k)
+invariant-loop-k l = l.names ≡ l.fn.names ++ map (name_in (slice_index l.words)) (range_with_len 0 l.k)

@@ -52,7 +52,7 @@ returns-clause-value g c =
     let call = c.in_ok-b.ensures in
     let size = c.requires.inode.size in
     let count = c.entries_in_page-count.ensures in
-    names_on c.args.names.now.items c.push_block_names.new.names.items _ _ c.push_block_names.result
+    names_on c.args.names.now c.push_block_names.new.names _ _ c.push_block_names.result
     (ap (λ (f : BlockWords). map (name_in (f c.in_ok-b.b.0)) (range_with_len 0 c.entries_in_page-count.result)) call.looks.looks.words
     ∙ page_names x.words n c.args.p c.in_ok-b.b.0 c.entries_in_page-count.result
     (has_page shape x c.args.dir.0 c.args.p _ c.requires.can size c.requires.page).used

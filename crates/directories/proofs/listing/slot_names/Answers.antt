@@ -28,8 +28,8 @@ loop-p-preserved g c =
     let call = c.in_ok-push_page_names.ensures in
     let size = c.requires.inode.size in
     record {
-      names = pages_next (entry_name (held_of shape x.words c.args.dir.0)) c.loop-p.p _ c.args.inode.now.size c.loop-p.names.items c.push_page_names.new.names.items (ap (λ s. s % 64) size ∙ dir_size shape x c.args.dir.0 c.requires.can) (omega (arith, c.loop-p-test.true, c.div_ceil-pages.ensures)) (λ q. min (c.args.inode.now.size / 64 - 64 * c.loop-p.p) 64) inv.names
-          (call.value ∙ ap (λ (f : BlockWords). c.loop-p.names.items ++ map (entry_name (held_of shape f c.args.dir.0)) (range_with_len (64 * c.loop-p.p) (min (c.args.inode.now.size / 64 - 64 * c.loop-p.p) 64))) inv.looks.looks.words);
+      names = pages_next (entry_name (held_of shape x.words c.args.dir.0)) c.loop-p.p _ c.args.inode.now.size c.loop-p.names c.push_page_names.new.names (ap (λ s. s % 64) size ∙ dir_size shape x c.args.dir.0 c.requires.can) (omega (arith, c.loop-p-test.true, c.div_ceil-pages.ensures)) (λ q. min (c.args.inode.now.size / 64 - 64 * c.loop-p.p) 64) inv.names
+          (call.value ∙ ap (λ (f : BlockWords). c.loop-p.names ++ map (entry_name (held_of shape f c.args.dir.0)) (range_with_len (64 * c.loop-p.p) (min (c.args.inode.now.size / 64 - 64 * c.loop-p.p) 64))) inv.looks.looks.words);
       sound = call.sound;
       looks = look_trans shape _ _ _ inv.looks call.looks;
       can = call.can;

@@ -8,7 +8,7 @@ invariant-loop-p g l =
     let seen = g.V.Blocks.seen in
     let health = g.V.Blocks.health in
     record {
-      names : l.names.items ≡ map (entry_name (held_of l.shape (seen l.fn.v).words l.dir.0)) (range_with_len 0 (min (64 * l.p) (l.inode.size / 64)));
+      names : l.names ≡ map (entry_name (held_of l.shape (seen l.fn.v).words l.dir.0)) (range_with_len 0 (min (64 * l.p) (l.inode.size / 64)));
       sound : g.V.Blocks.sound l.v;
       looks : LooksUp l.shape (seen l.fn.v) (seen l.v);
       can : CanReadDir l.shape (seen l.v) l.dir.0;

@@ -1,4 +1,4 @@
-use Rattle.std.proofs.Common.{◌≡◌, ℕ, ◌*◌, ◌+◌, ◌%◌, get_or, subst, sym}
+use Rattle.std.proofs.Common.{◌≡◌, ◌*◌, ◌+◌, ◌%◌, get_or, subst, sym}
 use Rattle.request_codec.proofs.HexRuns.{top_at, tops}
 use Rattle.request_codec.proofs.hex_runs.joined.Goals as goal
 

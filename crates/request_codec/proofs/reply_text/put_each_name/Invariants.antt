@@ -8,7 +8,7 @@ invariant-names g l =
     let written = g.K.Sink.written in
     let faults = g.K.Sink.faults in
     record {
-      few : l.name-index ≤ length l.names;
+      few : l.k ≤ length l.names;
       fits : l.held ≤ length l.room;
-      sent : Sent (written l.fn.sink) (faults l.fn.sink) (take l.fn.held l.fn.room) (flat_map listed_name (take l.name-index l.names)) (written l.sink) (faults l.sink) (take l.held l.room);
+      sent : Sent (written l.fn.sink) (faults l.fn.sink) (take l.fn.held l.fn.room) (flat_map listed_name (take l.k l.names)) (written l.sink) (faults l.sink) (take l.held l.room);
     }

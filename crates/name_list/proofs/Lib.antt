@@ -1,0 +1,2 @@
+pub mod FrontRules
+pub mod SpanRules
