@@ -1,7 +1,8 @@
 -- Several changes of nodes in one update: the blocks that are touched, the changes that are made one after the other, and
 -- the blocks that are dropped.
 use Rattle.file_store.proofs.Common.{◌≡◌, ◌≢◌, ℕ, zero, suc, ◌+◌, ◌<◌, ◌≤◌, ◌⊎◌, Bool, inl, inr, true, false, List, [], ◌∷◌, length, map, drop, refl, sym, ap, subst, ◌∙◌, arith, slice_index_or, slice_index, None, Result, Ok, Err, IsErrOf, Contains, cases_eq, VolFail, Block, PageName, VolumeShape, CachesBy, FirmOutside, SameOutside, caches_by_trans, firm_outside_trans, BlockWords, Caches, Drops, Seen, inode_block, true_false, HasShape, Firm, Kept, numbers, Applied, IsEdited, Edit, as_many, number_at, InThreeBlocks}
-use Rattle.std.specs.Prelude.{if◌then◌else◌, Option, IsErr}
+use Rattle.std.specs.Prelude.{◌==◌, if◌then◌else◌, Option, IsErr}
+use Rattle.std.proofs.lemmas.Bool.{eqb-true}
 use Rattle.std.proofs.lemmas.List.{get_or_default, get_or-map}
 use Rattle.std.proofs.Math.Seq.{drop-cons}
 use Rattle.rio_base.specs.declared.failures.VolFail.TheVariants.{Fault, Stopped}
@@ -11,7 +12,7 @@ use Rattle.rio_base.specs.Volume.{HasRoom, SameUpdate, Touches}
 use Rattle.file_pages.specs.Updating.{IsTouched, IsUpdated}
 use Rattle.file_pages.proofs.Listed.{listed}
 use Rattle.file_pages.proofs.Updated.{touched_now, touched_still, unnamed_on}
-use Rattle.file_store.specs.Changes.{AllApplied, AllTouched, CanMakeNode, CanCommit, IsFreed, IsTouchedBy, MakesFit, edited_blocks, change_update}
+use Rattle.file_store.specs.Changes.{AllApplied, AllTouched, ChangeTouched, KeepsBlocks, CanMakeNode, CanCommit, IsFreed, IsTouchedBy, MakesFit, edited_blocks, change_update}
 use Rattle.file_pages.specs.Changes.{node_update}
 use Rattle.file_store.specs.Committing.{Commits, Makes, Touched}
 use Rattle.file_store.specs.declared.changes.NodeChange.{NodeChange}
@@ -178,14 +179,39 @@ edit_in_three es t d h few = h.each _ (edit_at es t d few)
 pub caches_bitmap : (cs : List NodeChange) (x y : Seen) → Caches x y 1 None → CachesBy (IsTouchedBy cs) x y
 caches_bitmap cs x y h = caches_by_one (IsTouchedBy cs) x y 1 None h (inl refl, refl)
 
-pub touched_on : (cs : List NodeChange) (c : NodeChange) (es : List Edit) (k l : Kept) → Contains cs c → es ≡ c.edits → SameUpdate k l → AllTouched k cs → IsTouched l c.ino.0 es
-touched_on cs c es k l on is same all =
+pub touched_on : (cs : List NodeChange) (c : NodeChange) (k l : Kept) → Contains cs c → SameUpdate k l → AllTouched k cs → ChangeTouched l c
+touched_on cs c k l on same all =
     let at : (b : ℕ) → k.touched b ≡ true → l.touched b ≡ true = λ b was. ap (λ (f : ℕ → Bool). f b) same.touched ∙ was in
-    record {
-      bitmap = at 1 all.bitmap;
-      inode = at _ (all.inode c on);
-      edited = λ e in_es. at _ (all.edited c on e (subst (λ xs. Contains xs e) is in_es));
-    }
+    let was = all c on in
+    record { bitmap = λ marks. at 1 (was.bitmap marks); inode = at _ was.inode; edited = λ e in_es. at _ (was.edited e in_es) }
+
+-- a change whose lists the code has as slices
+pub change_is_touched : (k : Kept) (c : NodeChange) (es : List Edit) → es ≡ c.edits → (KeepsBlocks c → ⊥) → ChangeTouched k c → IsTouched k c.ino.0 es
+change_is_touched k c es is marks h = record { bitmap = h.bitmap marks; inode = h.inode; edited = λ e on. h.edited e (subst (λ xs. Contains xs e) is on) }
+
+pub bitmap_dropped : (x y : Seen) → Drops x y → Caches x y 1 None
+bitmap_dropped x y h = record { others = λ c away on. h.kept c on; named = λ on. inl (h.kept 1 on) }
+
+-- ---- changes that take and free no block
+
+pub no_blocks : (xs bs : List Block) → xs ≡ bs → (length xs == 0) ≡ true → bs ≡ []
+no_blocks xs bs is none = sym is ∙ empty xs none
+  where
+    empty : (ys : List Block) → (length ys == 0) ≡ true → ys ≡ []
+    empty [] e = refl
+    empty (y ∷ ys) e = absurd (omega (arith, eqb-true (length (y ∷ ys)) 0 e))
+
+pub some_blocks : (xs bs : List Block) → xs ≡ bs → (length xs == 0) ≡ false → bs ≡ [] → ⊥
+some_blocks xs bs is some none = true_false (sym (ap (λ (ys : List Block). length ys == 0) (is ∙ none)) ∙ some)
+
+pub keep_next : (cs : List NodeChange) (n : ℕ) (c : NodeChange) → n < length cs → c ≡ slice_index_or cs n c → KeepsBlocks c → ((t : ℕ) (d : NodeChange) → t < n → KeepsBlocks (slice_index_or cs t d)) → (t : ℕ) (d : NodeChange) → t < n + 1 → KeepsBlocks (slice_index_or cs t d)
+keep_next cs n c few is now h t d less = elim (cases_eq t n) [
+  | inl e ↦ subst KeepsBlocks (is ∙ get_or_default cs n c d few ∙ ap (λ m. slice_index_or cs m d) (sym e)) now
+  | inr ne ↦ h t d (omega (arith, less, ne))
+]
+
+pub all_keep : (cs : List NodeChange) (n : ℕ) → length cs ≤ n → ((t : ℕ) (d : NodeChange) → t < n → KeepsBlocks (slice_index_or cs t d)) → (c : NodeChange) → Contains cs c → KeepsBlocks c
+all_keep cs n end h c on = subst KeepsBlocks on.2 (h on.0 c (omega (arith, end, on.1)))
 
 update_is : (c : NodeChange) (es : List Edit) (gained lost : List Block) → es ≡ c.edits → gained ≡ c.taken → lost ≡ c.freed → node_update c.ino.0 c.inode es gained lost ≡ change_update c
 update_is c es gained lost e t f = ap (λ xs. node_update c.ino.0 c.inode xs gained lost) e ∙ ap (λ xs. node_update c.ino.0 c.inode c.edits xs lost) t ∙ ap (λ xs. node_update c.ino.0 c.inode c.edits c.taken xs) f
@@ -217,9 +243,9 @@ node_edits_fit shape x y c es b h count can is caches =
       λ e on. unnamed_on x y b e.block.0 caches (can.unnamed e (theirs e on)),
     )
 
-pub node_touched : (k l m : Kept) (b i : ℕ) (es edits : List Edit) → b ≡ inode_block i → es ≡ edits → k.touched 1 ≡ true → Touches b k l → ((a : ℕ) → l.touched a ≡ true → m.touched a ≡ true) → ((e : Edit) → Contains es e → m.touched e.block.0 ≡ true) → IsTouched m i edits
-node_touched k l m b i es edits is same bitmap t more done = record {
-  bitmap = more 1 (touched_still b 1 k l t bitmap);
+pub node_touched : (k l m : Kept) (c : NodeChange) (b : ℕ) (es : List Edit) → b ≡ inode_block c.ino.0 → es ≡ c.edits → ((KeepsBlocks c → ⊥) → k.touched 1 ≡ true) → Touches b k l → ((a : ℕ) → l.touched a ≡ true → m.touched a ≡ true) → ((e : Edit) → Contains es e → m.touched e.block.0 ≡ true) → ChangeTouched m c
+node_touched k l m c b es is same bitmap t more done = record {
+  bitmap = λ marks. more 1 (touched_still b 1 k l t (bitmap marks));
   inode = more _ (subst (λ a. l.touched a ≡ true) is (touched_now b k l t));
   edited = λ e on. done e (subst (λ xs. Contains xs e) (sym same) on);
 }
@@ -247,31 +273,27 @@ can_make_on shape cs c x y h can = record {
 pub shape_on : (shape : VolumeShape) (cs : List NodeChange) (x y : Seen) → HasShape shape x → y.count ≡ x.count → CachesBy (IsTouchedBy cs) x y → HasShape shape y
 shape_on shape cs x y h count k = record { sizes = h.sizes; count = count ∙ h.count; unnamed = λ b low. touched_unnamed cs x y b k (h.unnamed b low) }
 
-touched_later : (k l : Kept) (i : ℕ) (es : List Edit) → ((b : ℕ) → k.touched b ≡ true → l.touched b ≡ true) → IsTouched k i es → IsTouched l i es
-touched_later k l i es more h = record { bitmap = more 1 h.bitmap; inode = more _ h.inode; edited = λ e on. more _ (h.edited e on) }
+touched_later : (k l : Kept) (c : NodeChange) → ((b : ℕ) → k.touched b ≡ true → l.touched b ≡ true) → ChangeTouched k c → ChangeTouched l c
+touched_later k l c more h = record { bitmap = λ marks. more 1 (h.bitmap marks); inode = more _ h.inode; edited = λ e on. more _ (h.edited e on) }
 
 -- the first n changes are touched
 pub record TouchedTo (k : Kept) (cs : List NodeChange) (n : ℕ) : Type 0 where
-  pub each : (c : NodeChange) (t : ℕ) → t < n → t < length cs → slice_index_or cs t c ≡ c → IsTouched k c.ino.0 c.edits
+  pub each : (c : NodeChange) (t : ℕ) → t < n → t < length cs → slice_index_or cs t c ≡ c → ChangeTouched k c
 
 pub touched_none : (k : Kept) (cs : List NodeChange) → TouchedTo k cs 0
 touched_none k cs = record { each = λ c t h. absurd (omega (arith, h)) }
 
-pub touched_to_next : (k l : Kept) (cs : List NodeChange) (n : ℕ) (c : NodeChange) → n < length cs → c ≡ slice_index_or cs n c → TouchedTo k cs n → ((b : ℕ) → k.touched b ≡ true → l.touched b ≡ true) → IsTouched l c.ino.0 c.edits → TouchedTo l cs (n + 1)
+pub touched_to_next : (k l : Kept) (cs : List NodeChange) (n : ℕ) (c : NodeChange) → n < length cs → c ≡ slice_index_or cs n c → TouchedTo k cs n → ((b : ℕ) → k.touched b ≡ true → l.touched b ≡ true) → ChangeTouched l c → TouchedTo l cs (n + 1)
 touched_to_next k l cs n c few is h more now = record { each = λ d t below within at. by d t below within at (cases_eq t n) }
   where
-    by : (d : NodeChange) (t : ℕ) → t < n + 1 → t < length cs → slice_index_or cs t d ≡ d → (t ≡ n) ⊎ (t ≢ n) → IsTouched l d.ino.0 d.edits
-    by d t below within at (inr ne) = touched_later k l _ _ more (h.each d t (omega (arith, below, ne)) within at)
+    by : (d : NodeChange) (t : ℕ) → t < n + 1 → t < length cs → slice_index_or cs t d ≡ d → (t ≡ n) ⊎ (t ≢ n) → ChangeTouched l d
+    by d t below within at (inr ne) = touched_later k l _ more (h.each d t (omega (arith, below, ne)) within at)
     by d t below within at (inl e) =
         let same : c ≡ d = is ∙ get_or_default cs n c d few ∙ ap (λ m. slice_index_or cs m d) (sym e) ∙ at in
-        subst (λ x. IsTouched l x.ino.0 x.edits) same now
+        subst (ChangeTouched l) same now
 
-pub all_are_touched : (k : Kept) (cs : List NodeChange) (n : ℕ) → length cs ≤ n → k.touched 1 ≡ true → TouchedTo k cs n → AllTouched k cs
-all_are_touched k cs n end bitmap h = record {
-  bitmap = bitmap;
-  inode = λ c on. (h.each c on.0 (omega (arith, end, on.1)) on.1 on.2).inode;
-  edited = λ c on e. (h.each c on.0 (omega (arith, end, on.1)) on.1 on.2).edited e;
-}
+pub all_are_touched : (k : Kept) (cs : List NodeChange) (n : ℕ) → length cs ≤ n → TouchedTo k cs n → AllTouched k cs
+all_are_touched k cs n end h = λ c on. h.each c on.0 (omega (arith, end, on.1)) on.1 on.2
 
 -- ---- an update from its beginning to its end
 

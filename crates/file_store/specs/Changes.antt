@@ -55,11 +55,23 @@ IsTouchedBy changes b name = ((b ≡ 1) ⊎ ((c : NodeChange) × Contains change
 abbrev pub IsFreed : List NodeChange → ℕ → Type 0
 IsFreed changes b = (c : NodeChange) × Contains changes c × Contains (numbers c.freed) b
 
--- all blocks of changes are touched
-pub record AllTouched (k : Kept) (changes : List NodeChange) : Type 0 where
-  pub bitmap : k.touched 1 ≡ true
-  pub inode : (c : NodeChange) → Contains changes c → k.touched (inode_block c.ino.0) ≡ true
-  pub edited : (c : NodeChange) → Contains changes c → (e : Edit) → Contains c.edits e → k.touched e.block.0 ≡ true
+-- a change takes no block and frees none
+abbrev pub KeepsBlocks : NodeChange → Type 0
+KeepsBlocks c = (c.taken ≡ []) × (c.freed ≡ [])
+
+-- the bitmap's block is touched, where a change takes or frees blocks
+abbrev pub BitmapTouched : Kept → List NodeChange → Type 0
+BitmapTouched k changes = (c : NodeChange) → Contains changes c → (KeepsBlocks c → ⊥) → k.touched 1 ≡ true
+
+-- all blocks of a change are touched
+pub record ChangeTouched (k : Kept) (c : NodeChange) : Type 0 where
+  pub bitmap : (KeepsBlocks c → ⊥) → k.touched 1 ≡ true
+  pub inode : k.touched (inode_block c.ino.0) ≡ true
+  pub edited : (e : Edit) → Contains c.edits e → k.touched e.block.0 ≡ true
+
+-- all blocks of changes
+abbrev pub AllTouched : Kept → List NodeChange → Type 0
+AllTouched k changes = (c : NodeChange) → Contains changes c → ChangeTouched k c
 
 -- ---- single changes
 

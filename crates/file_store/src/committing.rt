@@ -15,10 +15,10 @@ ghost use Rattle.rio_model.specs.declared.state.State.{State};
 ghost use Rattle.rio_model.specs.Placed.{volume_layout};
 ghost use Rattle.rio_model.specs.Updates.{Applied};
 ghost use Rattle.file_pages.specs.Forgetting.{Forgets, Uncached};
-ghost use Rattle.file_pages.specs.Updating.{IsEdited, IsTouched, IsUpdated};
+ghost use Rattle.file_pages.specs.Updating.{IsEdited, IsUpdated};
 ghost use Rattle.file_pages.specs.declared.changes.Edit.{Edit as EditOf};
 ghost use Rattle.directories.specs.Plans.{InThreeBlocks};
-ghost use Rattle.file_store.specs.Changes.{AllApplied, AllTouched, CanCommit, CanMakeNode, IsFreed, IsTouchedBy, MakesFit, edited_blocks, change_update};
+ghost use Rattle.file_store.specs.Changes.{AllApplied, AllTouched, BitmapTouched, CanCommit, CanMakeNode, ChangeTouched, IsFreed, IsTouchedBy, KeepsBlocks, MakesFit, edited_blocks, change_update};
 ghost use Rattle.file_store.specs.Committing.{Commits, Touched};
 ghost use Rattle.file_store.specs.Ends.{FileEnds};
 ghost use Rattle.file_store.specs.Failures.{Faulted};
@@ -28,7 +28,7 @@ ghost use Rattle.file_store.specs.declared.changes.NodeChange.{NodeChange as Nod
 use crate::changes::NodeChange;
 use crate::failures::FileFail;
 use block_alloc::BITMAP;
-use file_pages::{Edit, make_update};
+use file_pages::{Edit, make_update, make_words};
 use inode_table::{Inode, inode_block};
 use rio_base::{Block, Ino, Stopped, VolFail, Volume, VolumeShape};
 
@@ -78,9 +78,9 @@ fn touch_node<V: Volume>(v: &mut V, shape: &VolumeShape, change: &NodeChange) ->
     requires shape { HasShape shape.now (V.seen v.old) }
     requires in_update { (V.kept v.old).updating ≡ true }
     requires room { (V.kept v.old).touches ≤ 12 }
-    requires bitmap { (V.kept v.old).touched 1 ≡ true }
+    requires bitmap { (KeepsBlocks change.now → ⊥) → (V.kept v.old).touched 1 ≡ true }
     requires can { CanMakeNode shape.now (V.seen v.old) change.now }
-    ensures ok { OnOk result (IsTouched (V.kept v.new) change.now.ino.0 change.now.edits) }
+    ensures ok { OnOk result (ChangeTouched (V.kept v.new) change.now) }
     ensures touches { OnOk result ((V.kept v.new).touches ≤ 4 + (V.kept v.old).touches) }
     ensures more { OnOk result ((b : ℕ) → (V.kept v.old).touched b ≡ true → (V.kept v.new).touched b ≡ true) }
     ensures looks { Looks (V.seen v.old) (V.seen v.new) }
@@ -97,7 +97,61 @@ fn touch_node<V: Volume>(v: &mut V, shape: &VolumeShape, change: &NodeChange) ->
     Ok(())
 }
 
-/// Touches the blocks that changes edit: the bitmap, and of each change the block of the inode and those of its edits.
+/// Whether a change takes no block and frees none.
+#[tactic(auto, using(crate::proofs::Several::no_blocks, crate::proofs::Several::some_blocks))]
+fn keeps_blocks(change: &NodeChange) -> bool
+    ensures keeps { result ≡ true → KeepsBlocks change.now }
+    ensures marks { result ≡ false → KeepsBlocks change.now → ⊥ }
+{
+    if !change.taken.as_slice().is_empty() {
+        return false;
+    }
+    change.freed.as_slice().is_empty()
+}
+
+/// Whether no change takes or frees a block.
+fn all_keep_blocks(changes: &[NodeChange]) -> bool
+    ensures { result ≡ true → (c : NodeChangeOf) → Contains changes.now c → KeepsBlocks c }
+{
+    for change in changes {
+        if !keeps_blocks(change) {
+            return false;
+        }
+    }
+    true
+}
+
+/// Touches the bitmap's block, where a change takes or frees blocks: to touch it copies a page.
+#[tactic(auto, using(rio_base::proofs::BlockRules::caches_refl, rio_base::proofs::Rules::looks_refl, rio_base::specs::Rules::firm_refl, rio_base::specs::Rules::goes_refl))]
+fn touch_bitmap<V: Volume>(
+    v: &mut V,
+    shape: &VolumeShape,
+    changes: &[NodeChange],
+) -> Result<(), VolFail>
+    requires sound { V.sound v.old }
+    requires shape { HasShape shape.now (V.seen v.old) }
+    requires in_update { (V.kept v.old).updating ≡ true }
+    requires room { (V.kept v.old).touches ≡ 0 }
+    ensures ok { OnOk result (BitmapTouched (V.kept v.new) changes.now) }
+    ensures touches { OnOk result ((V.kept v.new).touches ≤ 1) }
+    ensures looks { Looks (V.seen v.old) (V.seen v.new) }
+    ensures standing { (V.kept v.new).standing ≡ (V.kept v.old).standing }
+    ensures firm { Firm (V.kept v.old) (V.kept v.new) }
+    ensures caches { Caches (V.seen v.old) (V.seen v.new) 1 None }
+    ensures in_update { (V.kept v.new).updating ≡ true }
+    ensures goes { Goes (V.health v.old) (V.below v.old) (V.health v.new) (V.below v.new) }
+    ensures ends { Ends (V.health v.old) (V.health v.new) result }
+    ensures sound { V.sound v.new }
+{
+    if all_keep_blocks(changes) {
+        return Ok(());
+    }
+    v.touch(BITMAP)?;
+    Ok(())
+}
+
+/// Touches the blocks that changes edit: the bitmap, where one takes or frees blocks, and of each change the block of the inode
+/// and those of its edits.
 fn touch_changes<V: Volume>(
     v: &mut V,
     shape: &VolumeShape,
@@ -119,7 +173,7 @@ fn touch_changes<V: Volume>(
     ensures ends { Ends (V.health v.old) (V.health v.new) result }
     ensures sound { V.sound v.new }
 {
-    v.touch(BITMAP)?;
+    touch_bitmap(v, shape, changes)?;
     for change in changes {
         touch_node(v, shape, change)?;
     }
@@ -157,6 +211,43 @@ fn open_changes<V: Volume>(
     }
 }
 
+/// Makes a change of a node, in the open update.
+fn make_change<V: Volume>(
+    v: &mut V,
+    shape: &VolumeShape,
+    change: &NodeChange,
+) -> Result<(), Stopped>
+    requires sound { V.sound v.old }
+    requires shape { HasShape shape.now (V.seen v.old) }
+    requires in_update { (V.kept v.old).updating ≡ true }
+    requires can { MakesFit shape.now change.now }
+    requires touched { ChangeTouched (V.kept v.old) change.now }
+    ensures ok { OnOk result (Applied shape.now (change_update change.now) (V.seen v.old).words (V.seen v.new).words) }
+    ensures update { OnOk result (SameUpdate (V.kept v.old) (V.kept v.new)) }
+    ensures in_update { (V.kept v.new).updating ≡ true }
+    ensures standing { (V.kept v.new).standing ≡ (V.kept v.old).standing }
+    ensures firm { Firm (V.kept v.old) (V.kept v.new) }
+    ensures shape { HasShape shape.now (V.seen v.new) }
+    ensures caches { Caches (V.seen v.old) (V.seen v.new) 1 None }
+    ensures goes { Goes (V.health v.old) (V.below v.old) (V.health v.new) (V.below v.new) }
+    ensures ends { Halts (V.health v.old) (V.health v.new) result }
+    ensures sound { V.sound v.new }
+{
+    let edits = change.edits.as_slice();
+    if keeps_blocks(change) {
+        return make_words(v, shape, change.ino, &change.inode, edits);
+    }
+    make_update(
+        v,
+        shape,
+        change.ino,
+        &change.inode,
+        edits,
+        change.taken.as_slice(),
+        change.freed.as_slice(),
+    )
+}
+
 /// Makes changes, in the open update.
 fn make_changes<V: Volume>(
     v: &mut V,
@@ -180,15 +271,7 @@ fn make_changes<V: Volume>(
     ensures sound { V.sound v.new }
 {
     for change in changes {
-        make_update(
-            v,
-            shape,
-            change.ino,
-            &change.inode,
-            change.edits.as_slice(),
-            change.taken.as_slice(),
-            change.freed.as_slice(),
-        )?;
+        make_change(v, shape, change)?;
     }
     Ok(())
 }

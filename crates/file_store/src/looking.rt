@@ -19,7 +19,8 @@ use crate::failures::FileFail;
 use crate::walking::{inode_of, walk, walk_to_dir};
 use directories::names;
 use file_pages::block_of;
-use rio_base::{Ino, NameList, PAGE_BYTES, PageName, Volume, VolumeShape};
+use name_list::NameList;
+use rio_base::{Ino, PAGE_BYTES, PageName, Volume, VolumeShape};
 use std::alloc::Global;
 
 /// The word of a region's header that has the number of its data pages.

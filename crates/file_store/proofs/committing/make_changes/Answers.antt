@@ -1,27 +1,25 @@
-use Rattle.file_store.proofs.Common.{◌∙◌, sym, le_trans, arith, caches_by_trans, firm_trans, goes_trans}
-use Rattle.file_pages.proofs.Updated.{can_update, update_trans}
+use Rattle.file_store.proofs.Common.{◌∙◌, refl, sym, le_trans, arith, caches_by_trans, firm_trans, goes_trans}
+use Rattle.file_pages.proofs.Updated.{update_trans}
 use Rattle.file_store.proofs.Several.{all_made, caches_bitmap, touched_on, made_next}
 use Rattle.file_store.proofs.committing.make_changes.Goals as goal
 
-pub make_update-requires-clause-ino : goal.make_update-requires-clause-ino
-make_update-requires-clause-ino g c = (c.requires.can c.change-item.result (c.loop-change.change-index, c.loop-change-test.true, sym c.change-item.is)).ino
+pub make_change-requires-clause-can : goal.make_change-requires-clause-can
+make_change-requires-clause-can g c = c.requires.can c.change-item.result (c.loop-change.change-index, c.loop-change-test.true, sym c.change-item.is)
 
-pub make_update-requires-clause-touched : goal.make_update-requires-clause-touched
-make_update-requires-clause-touched g c = touched_on c.args.changes.now c.change-item.result _ _ _ (c.loop-change.change-index, c.loop-change-test.true, sym c.change-item.is) c.as_slice.ensures c.loop-change.invariant.update c.requires.touched
+pub make_change-requires-clause-touched : goal.make_change-requires-clause-touched
+make_change-requires-clause-touched g c = touched_on c.args.changes.now c.change-item.result _ _ (c.loop-change.change-index, c.loop-change-test.true, sym c.change-item.is) c.loop-change.invariant.update c.requires.touched
 
-pub make_update-requires-clause-can : goal.make_update-requires-clause-can
-make_update-requires-clause-can g c = can_update _ _ _ _ _ _ _ c.as_slice.ensures c.as_slice-in-loop-change.ensures c.as_slice-in-loop-change-2.ensures (c.requires.can c.change-item.result (c.loop-change.change-index, c.loop-change-test.true, sym c.change-item.is)).can
-
-pub returns-in_err-make_update-clause-caches : goal.returns-in_err-make_update-clause-caches
-returns-in_err-make_update-clause-caches g c = caches_by_trans _ _ _ _ c.loop-change.invariant.caches (caches_bitmap _ _ _ c.make_update.ensures.caches)
+pub returns-in_err-make_change-clause-caches : goal.returns-in_err-make_change-clause-caches
+returns-in_err-make_change-clause-caches g c = caches_by_trans _ _ _ _ c.loop-change.invariant.caches (caches_bitmap _ _ _ c.make_change.ensures.caches)
 
 pub loop-change-preserved : goal.loop-change-preserved
 loop-change-preserved g c =
     let inv = c.loop-change.invariant in
-    let now = c.in_ok-make_update.ensures in
-    let call = c.make_update.ensures in
+    let now = c.in_ok-make_change.ensures in
+    let call = c.make_change.ensures in
+    let change = c.change-item.result in
     record {
-      made = made_next _ c.args.changes.now c.change-item.result c.loop-change.change-index _ _ _ _ _ _ c.loop-change-test.true c.change-item.is c.as_slice.ensures c.as_slice-in-loop-change.ensures c.as_slice-in-loop-change-2.ensures now.ok inv.made;
+      made = made_next _ c.args.changes.now change c.loop-change.change-index change.edits change.taken change.freed _ _ _ c.loop-change-test.true c.change-item.is refl refl refl now.ok inv.made;
       update = update_trans _ _ _ inv.update now.update;
       in_update = call.in_update;
       standing = call.standing ∙ inv.standing;

@@ -1,16 +1,15 @@
 use Rattle.file_store.proofs.Common.{◌∙◌, arith, le_trans, sym, caches_by_trans, firm_trans, goes_trans, looks_trans}
-use Rattle.file_pages.proofs.Updated.{touched_now}
-use Rattle.file_store.proofs.Several.{all_are_touched, caches_bitmap, caches_node, can_make_on, shape_on, touched_none, touched_to_next, touches_most}
+use Rattle.file_store.proofs.Several.{all_are_touched, caches_bitmap, caches_node, can_make_on, shape_on, touched_none, touched_to_next}
 use Rattle.file_store.proofs.committing.touch_changes.Goals as goal
 
 pub loop-change-init : goal.loop-change-init
 loop-change-init g c =
-    let now = c.in_ok-touch.ensures in
-    let call = c.touch.ensures in
+    let now = c.in_ok-touch_bitmap.ensures in
+    let call = c.touch_bitmap.ensures in
     record {
-      bitmap = touched_now _ _ _ now.ok;
+      bitmap = now.ok;
       done = touched_none _ _;
-      most = omega (arith, touches_most _ _ _ now.ok, c.requires.room);
+      most = omega (arith, now.touches);
       looks = call.looks;
       standing = call.standing;
       firm = call.firm;
@@ -24,6 +23,9 @@ loop-change-init g c =
 
 pub touch_node-requires-clause-shape : goal.touch_node-requires-clause-shape
 touch_node-requires-clause-shape g c = shape_on _ _ _ _ c.requires.shape c.loop-change.invariant.looks.count c.loop-change.invariant.caches
+
+pub touch_node-requires-clause-bitmap : goal.touch_node-requires-clause-bitmap
+touch_node-requires-clause-bitmap g c = c.loop-change.invariant.bitmap c.change-item.result (c.loop-change.change-index, c.loop-change-test.true, sym c.change-item.is)
 
 pub touch_node-requires-clause-room : goal.touch_node-requires-clause-room
 touch_node-requires-clause-room g c = omega (arith, c.loop-change.invariant.most, c.loop-change-test.true, c.requires.can.few)
@@ -40,7 +42,7 @@ loop-change-preserved g c =
     let now = c.in_ok-touch_node.ensures in
     let call = c.touch_node.ensures in
     record {
-      bitmap = now.more 1 inv.bitmap;
+      bitmap = λ d on marks. now.more 1 (inv.bitmap d on marks);
       done = touched_to_next _ _ _ _ c.change-item.result c.loop-change-test.true c.change-item.is inv.done now.more now.ok;
       most = omega (arith, inv.most, now.touches);
       looks = looks_trans _ _ _ inv.looks call.looks;
@@ -55,4 +57,4 @@ loop-change-preserved g c =
     }
 
 pub returns-clause-ok : goal.returns-clause-ok
-returns-clause-ok g c = all_are_touched _ _ _ (omega (arith, c.loop-change-test.false)) c.loop-change.invariant.bitmap c.loop-change.invariant.done
+returns-clause-ok g c = all_are_touched _ _ _ (omega (arith, c.loop-change-test.false)) c.loop-change.invariant.done

@@ -1,5 +1,5 @@
 use Rattle.file_store.proofs.Common.{◌≡◌, ◌+◌, ◌*◌, ◌≤◌, true, CachesBy, Looks, Firm, Goes}
-use Rattle.file_store.specs.Changes.{IsTouchedBy}
+use Rattle.file_store.specs.Changes.{BitmapTouched, IsTouchedBy}
 use Rattle.file_store.proofs.Several.{TouchedTo}
 use Rattle.file_store.proofs.committing.touch_changes.Given as goal
 
@@ -9,7 +9,7 @@ invariant-loop-change g l =
     let kept = g.V.Volume.kept in
     let health = g.V.Blocks.health in
     record {
-      bitmap : (kept l.v).touched 1 ≡ true;
+      bitmap : BitmapTouched (kept l.v) l.changes;
       done : TouchedTo (kept l.v) l.changes l.change-index;
       most : (kept l.v).touches ≤ 1 + 4 * l.change-index;
       looks : Looks (seen l.fn.v) (seen l.v);

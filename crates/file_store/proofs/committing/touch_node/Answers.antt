@@ -18,4 +18,4 @@ pub touch_edits-requires-clause-unnamed : goal.touch_edits-requires-clause-unnam
 touch_edits-requires-clause-unnamed g c = (node_edits_fit _ _ _ c.args.change.now _ _ c.requires.shape c.touch.ensures.looks.count c.requires.can c.as_slice.ensures c.touch.ensures.caches).1
 
 pub returns-clause-ok : goal.returns-clause-ok
-returns-clause-ok g c = node_touched _ _ _ _ _ _ _ c.inode_block.ensures c.as_slice.ensures c.requires.bitmap c.in_ok-touch.ensures.ok c.in_ok-touch_edits.ensures.more c.in_ok-touch_edits.ensures.ok
+returns-clause-ok g c = node_touched _ _ _ c.args.change.now _ _ c.inode_block.ensures c.as_slice.ensures c.requires.bitmap c.in_ok-touch.ensures.ok c.in_ok-touch_edits.ensures.more c.in_ok-touch_edits.ensures.ok
