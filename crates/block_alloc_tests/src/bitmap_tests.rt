@@ -105,7 +105,7 @@ fn make_all<V: Volume>(
 }
 
 /// Three words of a bitmap, how many blocks are free, and what taking three answers.
-const THREE_WORDS: [([u64; 3], u32, Said); 5] = [
+static THREE_WORDS: [([u64; 3], u32, Said); 5] = [
     (
         [u64::MAX, u64::MAX, u64::MAX],
         0,
@@ -151,7 +151,7 @@ fn two_runs(some: [u64; 4]) -> [u64; 67]
 
 /// Words 0, 63, 64 and 66 of a bitmap, and the three blocks that are free. Word w has blocks 64 * w to 64 * w + 63: words
 /// 0 to 63 those below 4,096.
-const RUNS: [([u64; 4], [u32; 3]); 3] = [
+static RUNS: [([u64; 4], [u32; 3]); 3] = [
     ([u64::MAX, u64::MAX, !(1 << 7), 0], [4103, 4224, 4225]),
     ([!(1 << 5), u64::MAX, !1, !2], [5, 4096, 4225]),
     (
@@ -204,26 +204,26 @@ fn blocks_are_marked_and_unmarked(rt: HostRuntime) -> Result<(), Fail> {
 }
 
 /// Calls on a volume whose second word fails once.
-const SECOND_WORD_FAILS: [(Call, Said); 2] = [
+static SECOND_WORD_FAILS: [(Call, Said); 2] = [
     (Call::Count, Said::NotCounted(VolFail::Fault)),
     (Call::Count, Said::Free(127)),
 ];
 
 /// Calls on a volume whose first word fails once.
-const FIRST_WORD_FAILS: [(Call, Said); 2] = [
+static FIRST_WORD_FAILS: [(Call, Said); 2] = [
     (Call::Take(3), Said::NotTaken(TakeFail::Fault)),
     (Call::Take(3), Said::Taken(3, [3, 4, 5])),
 ];
 
 /// Calls on a volume that is stopped.
-const STOPPED: [(Call, Said); 2] = [
+static STOPPED: [(Call, Said); 2] = [
     (Call::Count, Said::NotCounted(VolFail::Stopped)),
     (Call::Take(3), Said::NotTaken(TakeFail::Stopped)),
 ];
 
 /// Calls on a volume whose 65th call fails. Two blocks are free in the first run of 64 words: they are taken without a look
 /// at the second, and the call that fails is the first of the next take.
-const SECOND_RUN_FAILS: [(Call, Said); 3] = [
+static SECOND_RUN_FAILS: [(Call, Said); 3] = [
     (Call::Take(2), Said::Taken(2, [5, 4095, 0])),
     (Call::Take(3), Said::NotTaken(TakeFail::Fault)),
     (Call::Count, Said::Free(3)),

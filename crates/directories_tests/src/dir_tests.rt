@@ -14,7 +14,7 @@ const LESS: [u8; 55] = [b'x'; 55];
 const TOO_LONG: [u8; 57] = [b'x'; 57];
 
 /// Tables of calls, each on a volume of its own.
-const TABLES: &[&[Row]] = &[
+static TABLES: [&[Row]; 8] = [
     // names are found and listed in byte order
     &[
         Row::Names(Dir::Root, b"a", None),
@@ -111,15 +111,8 @@ const TABLES: &[&[Row]] = &[
     ],
 ];
 
-#[test]
-fn rows_are_found_listed_and_changed(rt: HostRuntime) {
-    for k in 0..TABLES.len() {
-        check_rows(&rt, rt.alloc(), &SHAPE, k as u64, TABLES[k]);
-    }
-}
-
-/// Calls on a volume with two free blocks.
-const FULL: &[Row] = &[
+/// Calls on a volume with two free blocks: a full one has no space for a page.
+static FULL: [Row; 4] = [
     Row::Make(Change::Add(Dir::Root, b"a", 3)),
     Row::Make(Change::Add(Dir::Other, b"a", 4)),
     Row::NoSpace(Dir::Third, b"c", 3),
@@ -127,6 +120,9 @@ const FULL: &[Row] = &[
 ];
 
 #[test]
-fn a_full_volume_has_no_space_for_a_page(rt: HostRuntime) {
-    check_rows(&rt, rt.alloc(), &SMALL, 0, FULL);
+fn rows_are_found_listed_and_changed(rt: HostRuntime) {
+    for (k, rows) in TABLES.iter().enumerate() {
+        check_rows(&rt, rt.alloc(), &SHAPE, k as u64, rows);
+    }
+    check_rows(&rt, rt.alloc(), &SMALL, 8, &FULL);
 }

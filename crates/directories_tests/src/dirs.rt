@@ -23,7 +23,8 @@ use block_alloc::free_count;
 use directories::{DirChange, apply, find, names, plan_add, plan_remove, plan_replace, plan_set};
 use file_pages::{Edit, SizeFail};
 use inode_table::{inode_block, read_inode};
-use rio_base::{Block, Ino, NameList, ReadFail, VolFail, Volume, VolumeShape};
+use name_list::NameList;
+use rio_base::{Block, Ino, ReadFail, VolFail, Volume, VolumeShape};
 use rio_fakes::ListVolume;
 use std::alloc::Global;
 use std::process::Abort;
@@ -183,17 +184,17 @@ fn find_row<V: Volume>(
 }
 
 /// The inode that a name names.
-pub(crate) fn ino_of<V: Volume>(
-    v: &mut V,
+pub(crate) fn ino_of(
+    v: &mut ListVolume,
     shape: &VolumeShape,
     dir: Ino,
     name: &[u8],
 ) -> Result<Option<u32>, VolFail>
-    requires sound { V.sound v.old }
-    requires dirs { DirsReady shape.now (V.seen v.old) (V.kept v.old) }
+    requires sound { ListSound v.old }
+    requires dirs { DirsReady shape.now (list_seen v.old) (list_kept v.old) }
     requires dir { IsTestDir dir.0 }
-    ensures dirs { DirsReady shape.now (V.seen v.new) (V.kept v.new) }
-    ensures sound { V.sound v.new }
+    ensures dirs { DirsReady shape.now (list_seen v.new) (list_kept v.new) }
+    ensures sound { ListSound v.new }
 {
     match find_row(v, shape, dir, name)? {
         Some((i, slot)) => Ok(Some(i.0)),
@@ -315,32 +316,32 @@ pub(crate) fn plan_row<V: Volume>(
 }
 
 /// Makes a prepared change, as an update of its own.
-fn make_planned<V: Volume>(rt: &impl Abort, v: &mut V, shape: &VolumeShape, change: DirChange)
-    requires sound { V.sound v.old }
-    requires dirs { DirsReady shape.now (V.seen v.old) (V.kept v.old) }
-    requires can { CanMake shape.now (V.seen v.old) (V.kept v.old) change }
-    ensures dirs { DirsReady shape.now (V.seen v.new) (V.kept v.new) }
-    ensures sound { V.sound v.new }
+fn make_planned(rt: &impl Abort, v: &mut ListVolume, shape: &VolumeShape, change: DirChange)
+    requires sound { ListSound v.old }
+    requires dirs { DirsReady shape.now (list_seen v.old) (list_kept v.old) }
+    requires can { CanMake shape.now (list_seen v.old) (list_kept v.old) change }
+    ensures dirs { DirsReady shape.now (list_seen v.new) (list_kept v.new) }
+    ensures sound { ListSound v.new }
 {
     make(v, shape, &change).expect(rt, "the change is made");
 }
 
 /// Adds a row.
-pub(crate) fn add<V: Volume>(
+pub(crate) fn add(
     rt: &impl Abort,
     alloc: Global,
-    v: &mut V,
+    v: &mut ListVolume,
     shape: &VolumeShape,
     dir: Ino,
     name: &[u8],
     i: Ino,
 )
-    requires sound { V.sound v.old }
-    requires dirs { DirsReady shape.now (V.seen v.old) (V.kept v.old) }
+    requires sound { ListSound v.old }
+    requires dirs { DirsReady shape.now (list_seen v.old) (list_kept v.old) }
     requires dir { IsTestDir dir.0 }
     requires ino { IsTestDir i.0 }
-    ensures dirs { DirsReady shape.now (V.seen v.new) (V.kept v.new) }
-    ensures sound { V.sound v.new }
+    ensures dirs { DirsReady shape.now (list_seen v.new) (list_kept v.new) }
+    ensures sound { ListSound v.new }
 {
     let change = plan_row(alloc, v, shape, dir, name, i).expect(rt, "a row more");
     make_planned(rt, v, shape, change);
@@ -366,19 +367,19 @@ fn plan_gone<V: Volume>(
 }
 
 /// Removes the row of a name.
-pub(crate) fn remove<V: Volume>(
+pub(crate) fn remove(
     rt: &impl Abort,
     alloc: Global,
-    v: &mut V,
+    v: &mut ListVolume,
     shape: &VolumeShape,
     dir: Ino,
     name: &[u8],
 )
-    requires sound { V.sound v.old }
-    requires dirs { DirsReady shape.now (V.seen v.old) (V.kept v.old) }
+    requires sound { ListSound v.old }
+    requires dirs { DirsReady shape.now (list_seen v.old) (list_kept v.old) }
     requires dir { IsTestDir dir.0 }
-    ensures dirs { DirsReady shape.now (V.seen v.new) (V.kept v.new) }
-    ensures sound { V.sound v.new }
+    ensures dirs { DirsReady shape.now (list_seen v.new) (list_kept v.new) }
+    ensures sound { ListSound v.new }
 {
     let slot = slot_of(v, shape, dir, name).expect(rt, "its row");
     let change = plan_gone(alloc, v, shape, dir, slot).expect(rt, "a row goes");
@@ -438,22 +439,22 @@ fn plan_renamed<V: Volume>(
 }
 
 /// Sets the row of a name: to another name, for this inode.
-pub(crate) fn set_row<V: Volume>(
+pub(crate) fn set_row(
     rt: &impl Abort,
     alloc: Global,
-    v: &mut V,
+    v: &mut ListVolume,
     shape: &VolumeShape,
     dir: Ino,
     name: &[u8],
     other: &[u8],
     i: Ino,
 )
-    requires sound { V.sound v.old }
-    requires dirs { DirsReady shape.now (V.seen v.old) (V.kept v.old) }
+    requires sound { ListSound v.old }
+    requires dirs { DirsReady shape.now (list_seen v.old) (list_kept v.old) }
     requires dir { IsTestDir dir.0 }
     requires ino { IsTestDir i.0 }
-    ensures dirs { DirsReady shape.now (V.seen v.new) (V.kept v.new) }
-    ensures sound { V.sound v.new }
+    ensures dirs { DirsReady shape.now (list_seen v.new) (list_kept v.new) }
+    ensures sound { ListSound v.new }
 {
     let change = plan_renamed(alloc, v, shape, dir, name, other, i).expect(rt, "a row is set");
     make_planned(rt, v, shape, change);
@@ -510,22 +511,22 @@ fn plan_replaced<V: Volume>(
 }
 
 /// Makes a name name this inode, and removes the row of another name, as one change.
-pub(crate) fn replace<V: Volume>(
+pub(crate) fn replace(
     rt: &impl Abort,
     alloc: Global,
-    v: &mut V,
+    v: &mut ListVolume,
     shape: &VolumeShape,
     dir: Ino,
     name: &[u8],
     i: Ino,
     gone: &[u8],
 )
-    requires sound { V.sound v.old }
-    requires dirs { DirsReady shape.now (V.seen v.old) (V.kept v.old) }
+    requires sound { ListSound v.old }
+    requires dirs { DirsReady shape.now (list_seen v.old) (list_kept v.old) }
     requires dir { IsTestDir dir.0 }
     requires ino { IsTestDir i.0 }
-    ensures dirs { DirsReady shape.now (V.seen v.new) (V.kept v.new) }
-    ensures sound { V.sound v.new }
+    ensures dirs { DirsReady shape.now (list_seen v.new) (list_kept v.new) }
+    ensures sound { ListSound v.new }
 {
     let change = plan_replaced(alloc, v, shape, dir, name, i, gone).expect(rt, "a row is replaced");
     make_planned(rt, v, shape, change);

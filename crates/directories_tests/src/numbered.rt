@@ -1,9 +1,11 @@
 //! Rows of many numbered names in the root.
 
+ghost use Rattle.rio_fakes.specs.ListVolumes.{ListSound, list_kept, list_seen};
 ghost use Rattle.directories_tests.specs.TestDirs.{DirsReady};
 
 use crate::dirs::{ROOT, add, ino_of, remove};
-use rio_base::{Ino, VolFail, Volume, VolumeShape};
+use rio_base::{Ino, VolFail, VolumeShape};
+use rio_fakes::ListVolume;
 use std::alloc::Global;
 use std::process::Abort;
 
@@ -18,17 +20,17 @@ pub(crate) fn numbered(n: u32) -> [u8; 9] {
 }
 
 /// Adds rows of so many numbered names.
-pub(crate) fn add_numbered<V: Volume>(
+pub(crate) fn add_numbered(
     rt: &impl Abort,
     alloc: Global,
-    v: &mut V,
+    v: &mut ListVolume,
     shape: &VolumeShape,
     count: u32,
 )
-    requires sound { V.sound v.old }
-    requires dirs { DirsReady shape.now (V.seen v.old) (V.kept v.old) }
-    ensures dirs { DirsReady shape.now (V.seen v.new) (V.kept v.new) }
-    ensures sound { V.sound v.new }
+    requires sound { ListSound v.old }
+    requires dirs { DirsReady shape.now (list_seen v.old) (list_kept v.old) }
+    ensures dirs { DirsReady shape.now (list_seen v.new) (list_kept v.new) }
+    ensures sound { ListSound v.new }
 {
     for n in 0..count {
         let i = Ino(n % 8 + 2);
@@ -37,15 +39,15 @@ pub(crate) fn add_numbered<V: Volume>(
 }
 
 /// Whether each of them names its inode.
-pub(crate) fn are_numbered<V: Volume>(
-    v: &mut V,
+pub(crate) fn are_numbered(
+    v: &mut ListVolume,
     shape: &VolumeShape,
     count: u32,
 ) -> Result<bool, VolFail>
-    requires sound { V.sound v.old }
-    requires dirs { DirsReady shape.now (V.seen v.old) (V.kept v.old) }
-    ensures dirs { DirsReady shape.now (V.seen v.new) (V.kept v.new) }
-    ensures sound { V.sound v.new }
+    requires sound { ListSound v.old }
+    requires dirs { DirsReady shape.now (list_seen v.old) (list_kept v.old) }
+    ensures dirs { DirsReady shape.now (list_seen v.new) (list_kept v.new) }
+    ensures sound { ListSound v.new }
 {
     for n in 0..count {
         if ino_of(v, shape, ROOT, numbered(n).as_slice())? != Some(n % 8 + 2) {
@@ -56,17 +58,17 @@ pub(crate) fn are_numbered<V: Volume>(
 }
 
 /// Removes all of them.
-pub(crate) fn remove_numbered<V: Volume>(
+pub(crate) fn remove_numbered(
     rt: &impl Abort,
     alloc: Global,
-    v: &mut V,
+    v: &mut ListVolume,
     shape: &VolumeShape,
     count: u32,
 )
-    requires sound { V.sound v.old }
-    requires dirs { DirsReady shape.now (V.seen v.old) (V.kept v.old) }
-    ensures dirs { DirsReady shape.now (V.seen v.new) (V.kept v.new) }
-    ensures sound { V.sound v.new }
+    requires sound { ListSound v.old }
+    requires dirs { DirsReady shape.now (list_seen v.old) (list_kept v.old) }
+    ensures dirs { DirsReady shape.now (list_seen v.new) (list_kept v.new) }
+    ensures sound { ListSound v.new }
 {
     for n in 0..count {
         remove(rt, alloc, v, shape, ROOT, numbered(n).as_slice());

@@ -2,6 +2,7 @@
 
 ghost use Rattle.std.specs.Prelude.{◌≡◌};
 ghost use Rattle.test_volumes.specs.TestVolumes.{IsTestShape};
+ghost use Rattle.rio_fakes.specs.ListVolumes.{ListSound, list_kept, list_seen};
 ghost use Rattle.directories_tests.specs.TestDirs.{DirsReady, IsTestDir};
 
 use crate::compare::{holds, same, same_items};
@@ -11,7 +12,8 @@ use crate::dirs::{
 };
 use crate::numbered::{add_numbered, are_numbered, numbered, remove_numbered};
 use file_pages::SizeFail;
-use rio_base::{Ino, Volume, VolumeShape};
+use rio_base::{Ino, VolumeShape};
+use rio_fakes::ListVolume;
 use std::alloc::Global;
 use std::process::Abort;
 
@@ -86,17 +88,17 @@ fn node_of(i: u32) -> Ino
 }
 
 /// Makes a change.
-fn make_change<V: Volume>(
+fn make_change(
     rt: &impl Abort,
     alloc: Global,
-    v: &mut V,
+    v: &mut ListVolume,
     shape: &VolumeShape,
     change: Change,
 )
-    requires sound { V.sound v.old }
-    requires dirs { DirsReady shape.now (V.seen v.old) (V.kept v.old) }
-    ensures dirs { DirsReady shape.now (V.seen v.new) (V.kept v.new) }
-    ensures sound { V.sound v.new }
+    requires sound { ListSound v.old }
+    requires dirs { DirsReady shape.now (list_seen v.old) (list_kept v.old) }
+    ensures dirs { DirsReady shape.now (list_seen v.new) (list_kept v.new) }
+    ensures sound { ListSound v.new }
 {
     match change {
         Change::Add(dir, name, i) => add(rt, alloc, v, shape, dir_of(dir), name, node_of(i)),
@@ -116,35 +118,34 @@ fn make_change<V: Volume>(
 }
 
 /// Compares the names of a directory with those of row `k`.
-fn check_list<V: Volume>(
+fn check_list(
     rt: &impl Abort,
     alloc: Global,
-    v: &mut V,
+    v: &mut ListVolume,
     shape: &VolumeShape,
     k: u64,
     dir: Ino,
     due: &[Name],
 )
-    requires sound { V.sound v.old }
-    requires dirs { DirsReady shape.now (V.seen v.old) (V.kept v.old) }
+    requires sound { ListSound v.old }
+    requires dirs { DirsReady shape.now (list_seen v.old) (list_kept v.old) }
     requires dir { IsTestDir dir.0 }
-    ensures dirs { DirsReady shape.now (V.seen v.new) (V.kept v.new) }
-    ensures sound { V.sound v.new }
+    ensures dirs { DirsReady shape.now (list_seen v.new) (list_kept v.new) }
+    ensures sound { ListSound v.new }
 {
     let names = list(alloc, v, shape, dir).expect(rt, "its names are read");
-    let came = names.as_slice();
-    same(rt, k, &came.len(), &due.len());
-    for n in 0..came.len().min(due.len()) {
-        same_items(rt, k, came[n].as_slice(), due[n]);
+    same(rt, k, &names.len(), &due.len());
+    for n in 0..names.len().min(due.len()) {
+        same_items(rt, k, names.get(n), due[n]);
     }
 }
 
 /// Looks whether so many numbered names are there, and not the next one.
-fn check_numbered<V: Volume>(rt: &impl Abort, v: &mut V, shape: &VolumeShape, k: u64, count: u32)
-    requires sound { V.sound v.old }
-    requires dirs { DirsReady shape.now (V.seen v.old) (V.kept v.old) }
-    ensures dirs { DirsReady shape.now (V.seen v.new) (V.kept v.new) }
-    ensures sound { V.sound v.new }
+fn check_numbered(rt: &impl Abort, v: &mut ListVolume, shape: &VolumeShape, k: u64, count: u32)
+    requires sound { ListSound v.old }
+    requires dirs { DirsReady shape.now (list_seen v.old) (list_kept v.old) }
+    ensures dirs { DirsReady shape.now (list_seen v.new) (list_kept v.new) }
+    ensures sound { ListSound v.new }
 {
     let all = are_numbered(v, shape, count).expect(rt, "the names are found");
     holds(rt, "each names its inode", k, all);
@@ -153,18 +154,18 @@ fn check_numbered<V: Volume>(rt: &impl Abort, v: &mut V, shape: &VolumeShape, k:
 }
 
 /// Makes the call of a row, the `k`th of its table.
-fn check_row<V: Volume>(
+fn check_row(
     rt: &impl Abort,
     alloc: Global,
-    v: &mut V,
+    v: &mut ListVolume,
     shape: &VolumeShape,
     k: u64,
     row: Row,
 )
-    requires sound { V.sound v.old }
-    requires dirs { DirsReady shape.now (V.seen v.old) (V.kept v.old) }
-    ensures dirs { DirsReady shape.now (V.seen v.new) (V.kept v.new) }
-    ensures sound { V.sound v.new }
+    requires sound { ListSound v.old }
+    requires dirs { DirsReady shape.now (list_seen v.old) (list_kept v.old) }
+    ensures dirs { DirsReady shape.now (list_seen v.new) (list_kept v.new) }
+    ensures sound { ListSound v.new }
 {
     match row {
         Row::Make(made) => make_change(rt, alloc, v, shape, made),
@@ -194,16 +195,16 @@ fn check_row<V: Volume>(
 }
 
 /// Makes the calls of a table one after the other.
-fn check_each<V: Volume>(
+fn check_each(
     rt: &impl Abort,
     alloc: Global,
-    v: &mut V,
+    v: &mut ListVolume,
     shape: &VolumeShape,
     table: u64,
     rows: &[Row],
 )
-    requires sound { V.sound v.old }
-    requires dirs { DirsReady shape.now (V.seen v.old) (V.kept v.old) }
+    requires sound { ListSound v.old }
+    requires dirs { DirsReady shape.now (list_seen v.old) (list_kept v.old) }
 {
     for k in 0..rows.len() {
         check_row(rt, alloc, v, shape, place(table, k), rows[k]);

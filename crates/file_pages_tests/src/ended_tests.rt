@@ -77,7 +77,7 @@ fn a_fault_of_a_write_over_the_end_says_how_much_is_done(rt: HostRuntime) {
 
 /// Calls that are absent, whole or led where they are stopped or fail: what each is, the call that made the file what it
 /// is before, and the call.
-const ENDED: &[(&str, Call, Call)] = &[
+static ENDED: [(&str, Call, Call); 9] = [
     (
         "a write far past the end",
         Call::Write(0, 5, 0x61),
@@ -127,13 +127,12 @@ const ENDED: &[(&str, Call, Call)] = &[
 
 #[test]
 fn a_call_is_absent_led_or_whole(rt: HostRuntime) {
-    for k in 0..ENDED.len() {
-        let (name, first, call) = ENDED[k];
+    for (name, first, call) in ENDED.iter() {
         let case = Case {
-            name,
+            name: *name,
             shape: SMALL,
-            first,
-            call,
+            first: *first,
+            call: *call,
         };
         end_each(&rt, rt.alloc(), &case);
     }

@@ -6,7 +6,7 @@ use crate::volumes::Size;
 use crate::word_rows::BETWEEN;
 
 /// Tables of calls, each on a volume of its own with two files without bytes.
-const TABLES: &[(&str, Size, &[Row])] = &[
+static TABLES: [(&str, Size, &[Row]); 8] = [
     (
         "a gap of zeros",
         Size::Usual,
@@ -124,8 +124,7 @@ const TABLES: &[(&str, Size, &[Row])] = &[
 
 #[test]
 fn calls_answer_as_their_rows_say(rt: HostRuntime) {
-    for k in 0..TABLES.len() {
-        let (table, size, rows) = TABLES[k];
-        check_fresh(&rt, rt.alloc(), size, table, rows);
+    for (table, size, rows) in TABLES.iter() {
+        check_fresh(&rt, rt.alloc(), *size, *table, rows);
     }
 }

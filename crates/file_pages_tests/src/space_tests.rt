@@ -85,7 +85,7 @@ fn all_free_blocks_are_taken_and_none_more(rt: HostRuntime) {
 }
 
 /// Calls where no block is free at first.
-const LOST: &[Row] = &[
+static LOST: [Row; 10] = [
     Row::Make(File::Second, Call::Resize(1), Answer::Done(0)),
     Row::Used(23),
     Row::Make(File::First, Call::Resize(34 * PAGE), Answer::Done(0)),
@@ -102,5 +102,5 @@ const LOST: &[Row] = &[
 fn blocks_that_a_file_loses_are_free_for_the_next_call(rt: HostRuntime) {
     let mut v = filled_up(&rt, rt.alloc());
     let table = "blocks that a file loses";
-    check_rows(&rt, rt.alloc(), &mut v, &SMALL, table, LOST);
+    check_rows(&rt, rt.alloc(), &mut v, &SMALL, table, &LOST);
 }

@@ -1,6 +1,6 @@
 //! Bytes that begin or end within a word, and how many bytes there are in stored words.
 
-use crate::compare::{At, holds, same};
+use crate::compare::{At, same};
 use file_pages::{fill_words, stored_bytes};
 
 /// The words of the page in which bytes begin and end.
@@ -12,7 +12,7 @@ const LAST: u64 = 0xB7B6_B5B4_B3B2_B1B0;
 const BYTES: [u8; 16] = [1, 2, 3, 4, 5, 6, 7, 8, 9, 10, 11, 12, 13, 14, 15, 16];
 
 /// From which byte of a page on, how many of these bytes, the words that they make, and how many those are.
-const MADE: [(usize, usize, [u64; 3], usize); 9] = [
+static MADE: [(usize, usize, [u64; 3], usize); 9] = [
     (0, 8, [0x0807_0605_0403_0201, 0, 0], 1),
     (0, 3, [0xA7A6_A5A4_A303_0201, 0, 0], 1),
     (3, 2, [0xA7A6_A502_01A2_A1A0, 0, 0], 1),
@@ -62,24 +62,31 @@ fn words_are_made_of_bytes_and_those_of_the_page(rt: HostRuntime) {
     }
 }
 
+/// From which byte of a page on, how many bytes, how many words are stored, and how many of the bytes those have.
+static STORED: [(usize, usize, usize, u64); 6] = [
+    (0, 16, 1, 8),
+    (3, 10, 0, 0),
+    (3, 10, 1, 5),
+    (3, 10, 2, 10),
+    (5, 2, 1, 2),
+    (4090, 6, 1, 6),
+];
+
+/// How many of some bytes are in stored words. None where there are no such bytes.
+fn stored(at: usize, len: usize, words: usize) -> Option<u64> {
+    if at > 4096 || len > 4096 - at || words > 512 {
+        return None;
+    }
+    Some(stored_bytes(at, len, words))
+}
+
 #[test]
 fn bytes_in_stored_words_are_counted(rt: HostRuntime) {
-    for (at, len, words, stored) in [
-        (0, 16, 1, 8),
-        (3, 10, 0, 0),
-        (3, 10, 1, 5),
-        (3, 10, 2, 10),
-        (5, 2, 1, 2),
-        (4090, 6, 1, 6),
-    ] {
+    for (at, len, words, due) in STORED.iter() {
         let place = At {
             table: "stored bytes",
-            row: at as u64,
+            row: *at as u64,
         };
-        if at > 4096 || len > 4096 - at || words > 512 {
-            holds(&rt, "no such bytes", place, false);
-            continue;
-        }
-        same(&rt, place, &stored_bytes(at, len, words), &stored);
+        same(&rt, place, &stored(*at, *len, *words), &Some(*due));
     }
 }

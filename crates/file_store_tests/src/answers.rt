@@ -4,7 +4,8 @@ ghost use Rattle.std.specs.Prelude.{◌≡◌, ◌↔◌, IsErr, IsErrOf};
 
 use crate::asks::{Want, numbered};
 use file_store::FileFail;
-use rio_base::{Ino, NameList, Octets, Stopped, VolFail};
+use name_list::NameList;
+use rio_base::{Ino, Octets, Stopped, VolFail};
 
 /// What a request answers.
 pub(crate) trait Answer {
@@ -54,8 +55,8 @@ impl Answer for Octets {
 impl Answer for NameList {
     fn is_due(&self, want: Want) -> bool {
         match want {
-            Want::Names(due) => are_same(self.as_slice(), due),
-            Want::Numbered(count) => are_numbered(self.as_slice(), count),
+            Want::Names(due) => are_same(self, due),
+            Want::Numbered(count) => are_numbered(self, count),
             _ => false,
         }
     }
@@ -71,24 +72,24 @@ impl Answer for [u64; 512] {
     }
 }
 
-fn are_same(names: &[Octets], due: &[&[u8]]) -> bool {
+fn are_same(names: &NameList, due: &[&[u8]]) -> bool {
     if names.len() != due.len() {
         return false;
     }
     for t in 0..names.len() {
-        if names[t].as_slice() != due[t] {
+        if names.get(t) != due[t] {
             return false;
         }
     }
     true
 }
 
-fn are_numbered(names: &[Octets], count: u8) -> bool {
+fn are_numbered(names: &NameList, count: u8) -> bool {
     if names.len() != count as usize || count > 99 {
         return false;
     }
     for t in 0..names.len() {
-        if names[t].as_slice() != &numbered(t as u8 + 1)[1..] {
+        if names.get(t) != &numbered(t as u8 + 1)[1..] {
             return false;
         }
     }

@@ -8,6 +8,8 @@ pub(crate) enum Ask {
     Region(&'static [u8], u64, u64),
     RegionOf(&'static [u8]),
     Write(&'static [u8], u64, &'static [u8]),
+    /// From an offset on, so many bytes of one value.
+    WriteMany(&'static [u8], u64, u8, usize),
     Read(&'static [u8], u64, u64),
     Truncate(&'static [u8], u64),
     Unlink(&'static [u8]),

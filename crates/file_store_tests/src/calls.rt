@@ -15,17 +15,17 @@ use rio_base::{Block, Blocks, InoList, Stopped, Volume, VolumeShape};
 use rio_fakes::ListVolume;
 use std::alloc::Global;
 
-fn mkdir_as<V: Volume>(
+fn mkdir_as(
     alloc: Global,
-    v: &mut V,
+    v: &mut ListVolume,
     shape: &VolumeShape,
     path: &[u8],
     want: Want,
 ) -> Result<bool, Stopped>
-    requires sound { V.sound v.old }
-    requires can { CanServe shape.now (V.seen v.old) (V.kept v.old) }
-    ensures follows { Follows shape.now (V.seen v.new) (V.kept v.new) result }
-    ensures sound { V.sound v.new }
+    requires sound { ListSound v.old }
+    requires can { CanServe shape.now (list_seen v.old) (list_kept v.old) }
+    ensures follows { Follows shape.now (list_seen v.new) (list_kept v.new) result }
+    ensures sound { ListSound v.new }
 {
     if !is_path(path) {
         return Ok(false);
@@ -34,17 +34,17 @@ fn mkdir_as<V: Volume>(
     is_due(answer, want)
 }
 
-fn create_as<V: Volume>(
+fn create_as(
     alloc: Global,
-    v: &mut V,
+    v: &mut ListVolume,
     shape: &VolumeShape,
     path: &[u8],
     want: Want,
 ) -> Result<bool, Stopped>
-    requires sound { V.sound v.old }
-    requires can { CanServe shape.now (V.seen v.old) (V.kept v.old) }
-    ensures follows { Follows shape.now (V.seen v.new) (V.kept v.new) result }
-    ensures sound { V.sound v.new }
+    requires sound { ListSound v.old }
+    requires can { CanServe shape.now (list_seen v.old) (list_kept v.old) }
+    ensures follows { Follows shape.now (list_seen v.new) (list_kept v.new) result }
+    ensures sound { ListSound v.new }
 {
     if !is_path(path) {
         return Ok(false);
@@ -53,19 +53,19 @@ fn create_as<V: Volume>(
     is_due(answer, want)
 }
 
-fn write_as<V: Volume>(
+fn write_as(
     alloc: Global,
-    v: &mut V,
+    v: &mut ListVolume,
     shape: &VolumeShape,
     path: &[u8],
     off: u64,
     bytes: &[u8],
     want: Want,
 ) -> Result<bool, Stopped>
-    requires sound { V.sound v.old }
-    requires can { CanServe shape.now (V.seen v.old) (V.kept v.old) }
-    ensures follows { Follows shape.now (V.seen v.new) (V.kept v.new) result }
-    ensures sound { V.sound v.new }
+    requires sound { ListSound v.old }
+    requires can { CanServe shape.now (list_seen v.old) (list_kept v.old) }
+    ensures follows { Follows shape.now (list_seen v.new) (list_kept v.new) result }
+    ensures sound { ListSound v.new }
 {
     if !is_path(path) {
         return Ok(false);
@@ -74,19 +74,41 @@ fn write_as<V: Volume>(
     is_due(answer, want)
 }
 
-fn read_as<V: Volume>(
+/// Writes so many bytes of one value. Without memory for them it is not answered as it must.
+fn write_many_as(
     alloc: Global,
-    v: &mut V,
+    v: &mut ListVolume,
+    shape: &VolumeShape,
+    path: &[u8],
+    off: u64,
+    byte: u8,
+    count: usize,
+    want: Want,
+) -> Result<bool, Stopped>
+    requires sound { ListSound v.old }
+    requires can { CanServe shape.now (list_seen v.old) (list_kept v.old) }
+    ensures follows { Follows shape.now (list_seen v.new) (list_kept v.new) result }
+    ensures sound { ListSound v.new }
+{
+    let Ok(bytes) = vec![in alloc; byte; count] else {
+        return Ok(false);
+    };
+    write_as(alloc, v, shape, path, off, &bytes, want)
+}
+
+fn read_as(
+    alloc: Global,
+    v: &mut ListVolume,
     shape: &VolumeShape,
     path: &[u8],
     off: u64,
     len: u64,
     want: Want,
 ) -> Result<bool, Stopped>
-    requires sound { V.sound v.old }
-    requires can { CanServe shape.now (V.seen v.old) (V.kept v.old) }
-    ensures follows { Follows shape.now (V.seen v.new) (V.kept v.new) result }
-    ensures sound { V.sound v.new }
+    requires sound { ListSound v.old }
+    requires can { CanServe shape.now (list_seen v.old) (list_kept v.old) }
+    ensures follows { Follows shape.now (list_seen v.new) (list_kept v.new) result }
+    ensures sound { ListSound v.new }
 {
     if !is_path(path) {
         return Ok(false);
@@ -95,18 +117,18 @@ fn read_as<V: Volume>(
     is_due(answer, want)
 }
 
-fn truncate_as<V: Volume>(
+fn truncate_as(
     alloc: Global,
-    v: &mut V,
+    v: &mut ListVolume,
     shape: &VolumeShape,
     path: &[u8],
     len: u64,
     want: Want,
 ) -> Result<bool, Stopped>
-    requires sound { V.sound v.old }
-    requires can { CanServe shape.now (V.seen v.old) (V.kept v.old) }
-    ensures follows { Follows shape.now (V.seen v.new) (V.kept v.new) result }
-    ensures sound { V.sound v.new }
+    requires sound { ListSound v.old }
+    requires can { CanServe shape.now (list_seen v.old) (list_kept v.old) }
+    ensures follows { Follows shape.now (list_seen v.new) (list_kept v.new) result }
+    ensures sound { ListSound v.new }
 {
     if !is_path(path) {
         return Ok(false);
@@ -115,17 +137,17 @@ fn truncate_as<V: Volume>(
     is_due(answer, want)
 }
 
-fn unlink_as<V: Volume>(
+fn unlink_as(
     alloc: Global,
-    v: &mut V,
+    v: &mut ListVolume,
     shape: &VolumeShape,
     path: &[u8],
     want: Want,
 ) -> Result<bool, Stopped>
-    requires sound { V.sound v.old }
-    requires can { CanServe shape.now (V.seen v.old) (V.kept v.old) }
-    ensures follows { Follows shape.now (V.seen v.new) (V.kept v.new) result }
-    ensures sound { V.sound v.new }
+    requires sound { ListSound v.old }
+    requires can { CanServe shape.now (list_seen v.old) (list_kept v.old) }
+    ensures follows { Follows shape.now (list_seen v.new) (list_kept v.new) result }
+    ensures sound { ListSound v.new }
 {
     if !is_path(path) {
         return Ok(false);
@@ -135,17 +157,17 @@ fn unlink_as<V: Volume>(
     is_due(answer, want)
 }
 
-fn rmdir_as<V: Volume>(
+fn rmdir_as(
     alloc: Global,
-    v: &mut V,
+    v: &mut ListVolume,
     shape: &VolumeShape,
     path: &[u8],
     want: Want,
 ) -> Result<bool, Stopped>
-    requires sound { V.sound v.old }
-    requires can { CanServe shape.now (V.seen v.old) (V.kept v.old) }
-    ensures follows { Follows shape.now (V.seen v.new) (V.kept v.new) result }
-    ensures sound { V.sound v.new }
+    requires sound { ListSound v.old }
+    requires can { CanServe shape.now (list_seen v.old) (list_kept v.old) }
+    ensures follows { Follows shape.now (list_seen v.new) (list_kept v.new) result }
+    ensures sound { ListSound v.new }
 {
     if !is_path(path) {
         return Ok(false);
@@ -154,18 +176,18 @@ fn rmdir_as<V: Volume>(
     is_due(answer, want)
 }
 
-fn rename_as<V: Volume>(
+fn rename_as(
     alloc: Global,
-    v: &mut V,
+    v: &mut ListVolume,
     shape: &VolumeShape,
     path: &[u8],
     to: &[u8],
     want: Want,
 ) -> Result<bool, Stopped>
-    requires sound { V.sound v.old }
-    requires can { CanServe shape.now (V.seen v.old) (V.kept v.old) }
-    ensures follows { Follows shape.now (V.seen v.new) (V.kept v.new) result }
-    ensures sound { V.sound v.new }
+    requires sound { ListSound v.old }
+    requires can { CanServe shape.now (list_seen v.old) (list_kept v.old) }
+    ensures follows { Follows shape.now (list_seen v.new) (list_kept v.new) result }
+    ensures sound { ListSound v.new }
 {
     if !is_path(path) {
         return Ok(false);
@@ -178,17 +200,17 @@ fn rename_as<V: Volume>(
     is_due(answer, want)
 }
 
-fn stat_as<V: Volume>(
+fn stat_as(
     alloc: Global,
-    v: &mut V,
+    v: &mut ListVolume,
     shape: &VolumeShape,
     path: &[u8],
     want: Want,
 ) -> Result<bool, Stopped>
-    requires sound { V.sound v.old }
-    requires can { CanServe shape.now (V.seen v.old) (V.kept v.old) }
-    ensures follows { Follows shape.now (V.seen v.new) (V.kept v.new) result }
-    ensures sound { V.sound v.new }
+    requires sound { ListSound v.old }
+    requires can { CanServe shape.now (list_seen v.old) (list_kept v.old) }
+    ensures follows { Follows shape.now (list_seen v.new) (list_kept v.new) result }
+    ensures sound { ListSound v.new }
 {
     if !is_path(path) {
         return Ok(false);
@@ -197,17 +219,17 @@ fn stat_as<V: Volume>(
     is_due(answer, want)
 }
 
-fn list_as<V: Volume>(
+fn list_as(
     alloc: Global,
-    v: &mut V,
+    v: &mut ListVolume,
     shape: &VolumeShape,
     path: &[u8],
     want: Want,
 ) -> Result<bool, Stopped>
-    requires sound { V.sound v.old }
-    requires can { CanServe shape.now (V.seen v.old) (V.kept v.old) }
-    ensures follows { Follows shape.now (V.seen v.new) (V.kept v.new) result }
-    ensures sound { V.sound v.new }
+    requires sound { ListSound v.old }
+    requires can { CanServe shape.now (list_seen v.old) (list_kept v.old) }
+    ensures follows { Follows shape.now (list_seen v.new) (list_kept v.new) result }
+    ensures sound { ListSound v.new }
 {
     if !is_path(path) {
         return Ok(false);
@@ -216,19 +238,19 @@ fn list_as<V: Volume>(
     is_due(answer, want)
 }
 
-fn region_as<V: Volume>(
+fn region_as(
     alloc: Global,
-    v: &mut V,
+    v: &mut ListVolume,
     shape: &VolumeShape,
     path: &[u8],
     data_pages: u64,
     undo_pages: u64,
     want: Want,
 ) -> Result<bool, Stopped>
-    requires sound { V.sound v.old }
-    requires can { CanServe shape.now (V.seen v.old) (V.kept v.old) }
-    ensures follows { Follows shape.now (V.seen v.new) (V.kept v.new) result }
-    ensures sound { V.sound v.new }
+    requires sound { ListSound v.old }
+    requires can { CanServe shape.now (list_seen v.old) (list_kept v.old) }
+    ensures follows { Follows shape.now (list_seen v.new) (list_kept v.new) result }
+    ensures sound { ListSound v.new }
 {
     if data_pages == 0 {
         return Ok(false);
@@ -244,11 +266,11 @@ fn region_as<V: Volume>(
 }
 
 /// Finds a region, which takes no step.
-fn region_of_as<V: Volume>(v: &mut V, shape: &VolumeShape, path: &[u8], want: Want) -> bool
-    requires sound { V.sound v.old }
-    requires can { CanServe shape.now (V.seen v.old) (V.kept v.old) }
-    ensures can { CanServe shape.now (V.seen v.new) (V.kept v.new) }
-    ensures sound { V.sound v.new }
+fn region_of_as(v: &mut ListVolume, shape: &VolumeShape, path: &[u8], want: Want) -> bool
+    requires sound { ListSound v.old }
+    requires can { CanServe shape.now (list_seen v.old) (list_kept v.old) }
+    ensures can { CanServe shape.now (list_seen v.new) (list_kept v.new) }
+    ensures sound { ListSound v.new }
 {
     if !is_path(path) {
         return false;
@@ -288,17 +310,17 @@ fn block_as(v: &mut ListVolume, shape: &VolumeShape, b: u32, want: Want) -> bool
 }
 
 /// Makes so many files in an empty root directory.
-fn fill_as<V: Volume>(
+fn fill_as(
     alloc: Global,
-    v: &mut V,
+    v: &mut ListVolume,
     shape: &VolumeShape,
     count: u8,
     want: Want,
 ) -> Result<bool, Stopped>
-    requires sound { V.sound v.old }
-    requires can { CanServe shape.now (V.seen v.old) (V.kept v.old) }
-    ensures follows { Follows shape.now (V.seen v.new) (V.kept v.new) result }
-    ensures sound { V.sound v.new }
+    requires sound { ListSound v.old }
+    requires can { CanServe shape.now (list_seen v.old) (list_kept v.old) }
+    ensures follows { Follows shape.now (list_seen v.new) (list_kept v.new) result }
+    ensures sound { ListSound v.new }
 {
     for n in 0..count {
         if !create_as(alloc, v, shape, &numbered(n), Want::Number(n as u64 + 2))? {
@@ -306,40 +328,6 @@ fn fill_as<V: Volume>(
         }
     }
     Ok(().is_due(want))
-}
-
-/// Whether a request of a volume answers as it must; or the stop that came in its place. Words of a block are no request.
-fn volume_answers<V: Volume>(
-    alloc: Global,
-    v: &mut V,
-    shape: &VolumeShape,
-    ask: Ask,
-    want: Want,
-) -> Result<bool, Stopped>
-    requires sound { V.sound v.old }
-    requires can { CanServe shape.now (V.seen v.old) (V.kept v.old) }
-    ensures follows { Follows shape.now (V.seen v.new) (V.kept v.new) result }
-    ensures sound { V.sound v.new }
-{
-    match ask {
-        Ask::Mkdir(path) => mkdir_as(alloc, v, shape, path, want),
-        Ask::Create(path) => create_as(alloc, v, shape, path, want),
-        Ask::Region(path, data_pages, undo_pages) => {
-            region_as(alloc, v, shape, path, data_pages, undo_pages, want)
-        }
-        Ask::Write(path, off, bytes) => write_as(alloc, v, shape, path, off, bytes, want),
-        Ask::Read(path, off, len) => read_as(alloc, v, shape, path, off, len, want),
-        Ask::Truncate(path, len) => truncate_as(alloc, v, shape, path, len, want),
-        Ask::Unlink(path) => unlink_as(alloc, v, shape, path, want),
-        Ask::Rmdir(path) => rmdir_as(alloc, v, shape, path, want),
-        Ask::Rename(path, to) => rename_as(alloc, v, shape, path, to, want),
-        Ask::Stat(path) => stat_as(alloc, v, shape, path, want),
-        Ask::List(path) => list_as(alloc, v, shape, path, want),
-        Ask::Fill(count) => fill_as(alloc, v, shape, count, want),
-        Ask::RegionOf(path) => Ok(region_of_as(v, shape, path, want)),
-        Ask::Free => Ok(free_as(v, shape, want)),
-        Ask::Block(_) => Ok(false),
-    }
 }
 
 /// Whether a request answers as it must; or the stop that came in its place.
@@ -355,10 +343,28 @@ fn answers(
     ensures follows { Follows shape.now (list_seen v.new) (list_kept v.new) result }
     ensures sound { ListSound v.new }
 {
-    if let Ask::Block(b) = ask {
-        return Ok(block_as(v, shape, b, want));
+    match ask {
+        Ask::Mkdir(path) => mkdir_as(alloc, v, shape, path, want),
+        Ask::Create(path) => create_as(alloc, v, shape, path, want),
+        Ask::Region(path, data_pages, undo_pages) => {
+            region_as(alloc, v, shape, path, data_pages, undo_pages, want)
+        }
+        Ask::Write(path, off, bytes) => write_as(alloc, v, shape, path, off, bytes, want),
+        Ask::WriteMany(path, off, byte, count) => {
+            write_many_as(alloc, v, shape, path, off, byte, count, want)
+        }
+        Ask::Read(path, off, len) => read_as(alloc, v, shape, path, off, len, want),
+        Ask::Truncate(path, len) => truncate_as(alloc, v, shape, path, len, want),
+        Ask::Unlink(path) => unlink_as(alloc, v, shape, path, want),
+        Ask::Rmdir(path) => rmdir_as(alloc, v, shape, path, want),
+        Ask::Rename(path, to) => rename_as(alloc, v, shape, path, to, want),
+        Ask::Stat(path) => stat_as(alloc, v, shape, path, want),
+        Ask::List(path) => list_as(alloc, v, shape, path, want),
+        Ask::Fill(count) => fill_as(alloc, v, shape, count, want),
+        Ask::RegionOf(path) => Ok(region_of_as(v, shape, path, want)),
+        Ask::Free => Ok(free_as(v, shape, want)),
+        Ask::Block(b) => Ok(block_as(v, shape, b, want)),
     }
-    volume_answers(alloc, v, shape, ask, want)
 }
 
 /// Makes requests one after the other, up to the first that answers otherwise than it must, and tells which that is, if

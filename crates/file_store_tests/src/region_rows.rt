@@ -11,7 +11,7 @@ pub(crate) static REGIONS: [Table; 5] = [
         Size::Usual,
         &[
             (Ask::Create(b"/f"), Want::Number(2)),
-            (Ask::Write(b"/f", 0, &[0xaa; 40_000]), Want::Number(40_000)),
+            (Ask::WriteMany(b"/f", 0, 0xaa, 40_000), Want::Number(40_000)),
             (Ask::Unlink(b"/f"), Want::Done),
             (Ask::Region(b"/r", 3, 2), Want::Number(2)),
             (Ask::Stat(b"/r"), Want::Stat(2, 3, 12_288)),

@@ -51,7 +51,7 @@ static REQUESTS: [Table; 10] = [
         Size::Usual,
         &[
             (Ask::Create(b"/f"), Want::Number(2)),
-            (Ask::Write(b"/f", 0, &[0xaa; 5000]), Want::Number(5000)),
+            (Ask::WriteMany(b"/f", 0, 0xaa, 5000), Want::Number(5000)),
             (Ask::Truncate(b"/f", 100), Want::Done),
             (Ask::Write(b"/f", 4000, &[0xbb]), Want::Number(1)),
             (Ask::Read(b"/f", 98, 4), Want::Bytes(&[0xaa, 0xaa, 0, 0])),

@@ -14,6 +14,16 @@ const FAILING: u64 = 2;
 /// Whether one boot answers its requests as defined.
 pub(crate) fn told_same(alloc: Global, seed: u32, count: u64) -> Result<String, AllocError> {
     let transcript = run(alloc, seed, count, &[nothing()])?;
+    told_one(alloc, seed, count, &transcript)
+}
+
+/// Whether the one boot of a transcript answered so many requests drawn from a seed as defined.
+fn told_one(
+    alloc: Global,
+    seed: u32,
+    count: u64,
+    transcript: &Transcript,
+) -> Result<String, AllocError> {
     let [run] = transcript.boots.as_slice() else {
         return String::from_str(alloc, "    not one boot\n");
     };
@@ -27,28 +37,40 @@ pub(crate) fn told_same(alloc: Global, seed: u32, count: u64) -> Result<String, 
     }
 }
 
-/// Whether a stop and a failing call that no boot reaches change nothing.
-pub(crate) fn told_unreached(alloc: Global, seed: u32, count: u64) -> Result<String, AllocError> {
-    let plain = run_both(alloc, seed, count, nothing())?;
-    let with_stops = run_both(alloc, seed, count, stop(u64::MAX, DiskChoice::Filled(0xa5)))?;
-    if !are_alike(alloc, &plain, &with_stops)? {
-        return String::from_str(alloc, "    the stop differs\n");
-    }
-    let with_calls = run_both(alloc, seed, count, failing(u64::MAX, 1))?;
-    if !are_alike(alloc, &plain, &with_calls)? {
-        return String::from_str(alloc, "    the failing call differs\n");
-    }
-    String::from_str(alloc, "    the same\n")
-}
-
-/// Runs two boots, both of which this befalls.
-fn run_both(
+/// Whether boots that these befall come to what a transcript has.
+fn come_to(
     alloc: Global,
     seed: u32,
     count: u64,
-    mishap: Mishap,
-) -> Result<Transcript, AllocError> {
-    run(alloc, seed, count, &[mishap, mishap])
+    mishaps: &[Mishap],
+    transcript: &Transcript,
+) -> Result<bool, AllocError> {
+    let other = run(alloc, seed, count, mishaps)?;
+    are_alike(alloc, transcript, &other)
+}
+
+/// Whether a stop and a failing call that no boot reaches change nothing.
+pub(crate) fn told_unreached(alloc: Global, seed: u32, count: u64) -> Result<String, AllocError> {
+    let plain = run(alloc, seed, count, &[nothing(), nothing()])?;
+    told_beside(alloc, seed, count, &plain)
+}
+
+/// Whether boots with a stop and with a failing call that none reaches come to what two plain ones do.
+fn told_beside(
+    alloc: Global,
+    seed: u32,
+    count: u64,
+    plain: &Transcript,
+) -> Result<String, AllocError> {
+    let stopped = stop(u64::MAX, DiskChoice::Filled(0xa5));
+    if !come_to(alloc, seed, count, &[stopped, stopped], plain)? {
+        return String::from_str(alloc, "    the stop differs\n");
+    }
+    let failed = failing(u64::MAX, 1);
+    if !come_to(alloc, seed, count, &[failed, failed], plain)? {
+        return String::from_str(alloc, "    the failing call differs\n");
+    }
+    String::from_str(alloc, "    the same\n")
 }
 
 /// How the first of two boots ends that is to stop after so many steps, and what the second one answers.
@@ -60,6 +82,11 @@ pub(crate) fn told_boots(
 ) -> Result<String, AllocError> {
     let mishaps = [stop(steps, DiskChoice::AsRead), nothing()];
     let transcript = run(alloc, seed, count, &mishaps)?;
+    told_two(alloc, count, &transcript)
+}
+
+/// How the first of two boots ended, and what the second one answered to so many requests.
+fn told_two(alloc: Global, count: u64, transcript: &Transcript) -> Result<String, AllocError> {
     let [first, second] = transcript.boots.as_slice() else {
         return String::from_str(alloc, "    not two boots\n");
     };
@@ -76,30 +103,34 @@ pub(crate) fn told_choices(
     count: u64,
     steps: u64,
 ) -> Result<String, AllocError> {
-    let as_read = run_stopped(alloc, seed, count, steps, DiskChoice::AsRead)?;
-    let as_synced = run_stopped(alloc, seed, count, steps, DiskChoice::AsSynced)?;
-    if !are_alike(alloc, &as_read, &as_synced)? {
-        return String::from_str(alloc, "    as synced differs\n");
-    }
-    let filled = run_stopped(alloc, seed, count, steps, DiskChoice::Filled(0xa5))?;
-    if !are_alike(alloc, &as_read, &filled)? {
-        return String::from_str(alloc, "    filled differs\n");
-    }
-    let mut told = told_ends(alloc, &as_read)?;
-    told.push_str("    the same\n")?;
-    Ok(told)
+    let as_read = run(alloc, seed, count, &stopped(steps, DiskChoice::AsRead))?;
+    told_other_choices(alloc, seed, count, steps, &as_read)
 }
 
-/// Runs three boots, of which the second stops after so many steps, with this choice for the pending blocks.
-fn run_stopped(
+/// How such boots ended, and whether they come to the same where the pending blocks hold what they did not.
+fn told_other_choices(
     alloc: Global,
     seed: u32,
     count: u64,
     steps: u64,
-    choice: DiskChoice,
-) -> Result<Transcript, AllocError> {
-    let mishaps = [nothing(), stop(steps, choice), nothing()];
-    run(alloc, seed, count, &mishaps)
+    as_read: &Transcript,
+) -> Result<String, AllocError> {
+    let as_synced = stopped(steps, DiskChoice::AsSynced);
+    if !come_to(alloc, seed, count, &as_synced, as_read)? {
+        return String::from_str(alloc, "    as synced differs\n");
+    }
+    let filled = stopped(steps, DiskChoice::Filled(0xa5));
+    if !come_to(alloc, seed, count, &filled, as_read)? {
+        return String::from_str(alloc, "    filled differs\n");
+    }
+    let mut told = told_ends(alloc, as_read)?;
+    told.push_str("    the same\n")?;
+    Ok(told)
+}
+
+/// What befalls three boots, of which the second stops after so many steps, with this choice for the pending blocks.
+fn stopped(steps: u64, choice: DiskChoice) -> [Mishap; 3] {
+    [nothing(), stop(steps, choice), nothing()]
 }
 
 /// How three boots end, and which of them tell of device faults. Calls of the disk fail in the first, from this one on, and in the

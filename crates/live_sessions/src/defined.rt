@@ -12,6 +12,52 @@ use work_gen::Gen;
 /// How many pages the memory of a drill has.
 const PAGES: u32 = 280;
 
+/// The plain definition at work on requests that are drawn from a seed.
+#[derive(Drop)]
+struct Defined {
+    draws: Gen,
+    state: State,
+}
+
+impl Defined {
+    /// On a fresh volume, before the first request.
+    fn new(alloc: Global, seed: u32) -> Result<Defined, AllocError> {
+        let state = fresh_state(alloc)?;
+        Ok(Defined {
+            draws: Gen::new(seed),
+            state,
+        })
+    }
+
+    /// Draws the next request and makes it. Tells whether it is the one that was asked, and its reply the one that came.
+    fn next_is(
+        &mut self,
+        alloc: Global,
+        answered: Option<&(Request, Reply)>,
+    ) -> Result<bool, AllocError> {
+        let request = self.draws.next_request(alloc)?;
+        self.makes(alloc, &request, answered)
+    }
+
+    /// Makes a request. Tells the same of it.
+    fn makes(
+        &mut self,
+        alloc: Global,
+        request: &Request,
+        answered: Option<&(Request, Reply)>,
+    ) -> Result<bool, AllocError> {
+        let Answered { next, reply } = answer(alloc, &self.state, request)?;
+        self.state = next;
+        let Some((asked, came)) = answered else {
+            return Ok(false);
+        };
+        if !is_reply(alloc, came, reply)? {
+            return Ok(false);
+        }
+        are_alike(alloc, asked, request)
+    }
+}
+
 /// The number, from 1, of the first of so many requests drawn from a seed that is not among those answered, or not answered as
 /// defined. `None`: there is none.
 pub(crate) fn first_difference(
@@ -20,16 +66,9 @@ pub(crate) fn first_difference(
     count: u64,
     answered: &[(Request, Reply)],
 ) -> Result<Option<u64>, AllocError> {
-    let mut draws = Gen::new(seed);
-    let mut state = fresh_state(alloc)?;
+    let mut defined = Defined::new(alloc, seed)?;
     for number in 0..count {
-        let request = draws.next_request(alloc)?;
-        let Answered { next, reply } = answer(alloc, &state, &request)?;
-        state = next;
-        let Some((asked, came)) = answered.get(number as usize) else {
-            return Ok(Some(number + 1));
-        };
-        if !are_alike(alloc, asked, &request)? || !is_reply(alloc, came, reply)? {
+        if !defined.next_is(alloc, answered.get(number as usize))? {
             return Ok(Some(number + 1));
         }
     }

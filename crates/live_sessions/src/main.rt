@@ -30,12 +30,15 @@ use test_scripts::{first_word, numbers};
 fn main(rt: HostRuntime) -> io::Result<()> {
     let alloc = rt.alloc();
     for line in rt.lines(alloc) {
-        let line = line?;
-        println!(rt; "{line}")?;
-        let told = told(alloc, line.as_str())?;
-        print!(rt; "{told}")?;
+        print_told(&rt, alloc, line?.as_str())?;
     }
     Ok(())
+}
+
+/// Prints a line of the script, and what it comes to.
+fn print_told(rt: &HostRuntime, alloc: Global, line: &str) -> io::Result<()> {
+    let told = told(alloc, line)?;
+    print!(rt; "{line}\n{told}")
 }
 
 /// What a line of the script comes to.

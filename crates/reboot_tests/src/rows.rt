@@ -50,7 +50,7 @@ const CLEAN: u64 = 1;
 
 const DATA: u64 = 4;
 
-const ROWS: [Row; 125] = [
+static ROWS: [Row; 125] = [
     // no entry: nothing is written
     Row::New,
     Row::Boots(0, 0, 0, 0),

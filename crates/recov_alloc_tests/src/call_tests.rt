@@ -7,7 +7,6 @@ use crate::rows::{At, Row, make_all};
 use std::test::Fail;
 
 /// Calls on a fresh region of so many undo pages and data pages.
-#[derive(Clone, Copy)]
 struct Table {
     name: &'static str,
     undo: u32,
@@ -15,7 +14,7 @@ struct Table {
     rows: &'static [Row],
 }
 
-const TABLES: [Table; 7] = [
+static TABLES: [Table; 7] = [
     Table {
         name: "freed gaps are found again until all is put back",
         undo: 1,
@@ -107,7 +106,7 @@ const TABLES: [Table; 7] = [
 
 #[test]
 fn calls_answer_as_their_rows_say(rt: HostRuntime) -> Result<(), Fail> {
-    for table in TABLES {
+    for table in TABLES.iter() {
         let mut r = fresh_heap(
             rt.alloc(),
             table.undo.clamp(1, 2),

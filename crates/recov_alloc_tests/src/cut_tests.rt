@@ -44,7 +44,6 @@ enum Settle {
 
 /// Calls that are cut at each of their calls on the region's words in turn, on a fresh region of one undo page and two data
 /// pages for each. The region is started again, and its records are settled.
-#[derive(Clone, Copy)]
 struct Sweep {
     name: &'static str,
     /// What is made before, and the map that it leaves.
@@ -61,7 +60,7 @@ struct Sweep {
     most: u64,
 }
 
-const SWEEPS: [Sweep; 4] = [
+static SWEEPS: [Sweep; 4] = [
     Sweep {
         name: "taking",
         first: &[(Take(10), Taken(0)), (Commit, Done)],
@@ -237,11 +236,11 @@ fn cut_each(
 
 #[test]
 fn every_cut_is_put_back_or_kept(rt: HostRuntime) -> Result<(), Fail> {
-    for sweep in SWEEPS {
-        cut_each(&rt, rt.alloc(), &sweep, Cut::Stop, Settle::PutBack)?;
-        cut_each(&rt, rt.alloc(), &sweep, Cut::Stop, Settle::Keep)?;
-        cut_each(&rt, rt.alloc(), &sweep, Cut::Fault, Settle::PutBack)?;
-        cut_each(&rt, rt.alloc(), &sweep, Cut::Fault, Settle::Keep)?;
+    for sweep in SWEEPS.iter() {
+        cut_each(&rt, rt.alloc(), sweep, Cut::Stop, Settle::PutBack)?;
+        cut_each(&rt, rt.alloc(), sweep, Cut::Stop, Settle::Keep)?;
+        cut_each(&rt, rt.alloc(), sweep, Cut::Fault, Settle::PutBack)?;
+        cut_each(&rt, rt.alloc(), sweep, Cut::Fault, Settle::Keep)?;
     }
     Ok(())
 }

@@ -6,7 +6,6 @@ use crate::same::same;
 use rio_base::{Failed, Host, Sink, Source, read_from};
 use rio_fakes::{MemHost, MemSink, MemSource};
 use std::alloc::{AllocError, Global};
-use std::test::Fail;
 
 /// A call on a file of the host.
 #[derive(Clone, Copy)]
@@ -96,7 +95,7 @@ fn make(host: &mut MemHost, name: &String, call: Call) -> Result<Said, AllocErro
 }
 
 /// Calls on a host without files, in order: the file, the call and its answer.
-const ROWS: [(&str, Call, Said); 21] = [
+static ROWS: [(&str, Call, Said); 21] = [
     ("d", Call::Size, Said::Size(None)),
     ("dd", Call::Put(b"other"), Said::Done),
     ("d", Call::Replace(b"0123456789"), Said::Done),
@@ -125,10 +124,10 @@ const ROWS: [(&str, Call, Said); 21] = [
 ];
 
 #[test]
-fn files_are_made_changed_and_taken_away(rt: HostRuntime) -> Result<(), Fail> {
+fn files_are_made_changed_and_taken_away(rt: HostRuntime) -> Result<(), AllocError> {
     let mut host = MemHost::new(rt.alloc());
     for (row, (name, call, due)) in ROWS.iter().enumerate() {
-        let name = format!(in rt.alloc(); "{name}")?;
+        let name = String::from_str(rt.alloc(), name)?;
         same(&rt, "files", row, &make(&mut host, &name, *call)?, due);
     }
     Ok(())
@@ -137,7 +136,7 @@ fn files_are_made_changed_and_taken_away(rt: HostRuntime) -> Result<(), Fail> {
 /// What a read answers, what a write of its room answers, and the room then. The second call of each fails.
 type Piece = (Result<usize, Failed>, Result<usize, Failed>, [u8; 4]);
 
-const PIECES: [Piece; 4] = [
+static PIECES: [Piece; 4] = [
     (Ok(3), Ok(4), [b'1', b'2', b'3', 0]),
     (Err(Failed), Err(Failed), [b'1', b'2', b'3', 0]),
     (Ok(2), Ok(4), [b'4', b'5', b'3', 0]),
@@ -145,7 +144,7 @@ const PIECES: [Piece; 4] = [
 ];
 
 #[test]
-fn bytes_are_read_and_written_in_pieces(rt: HostRuntime) -> Result<(), Fail> {
+fn bytes_are_read_and_written_in_pieces(rt: HostRuntime) -> Result<(), AllocError> {
     let mut source = MemSource::new(rt.alloc(), b"12345", 3)?;
     let mut sink = MemSink::new(rt.alloc());
     let mut into = [0; 4];

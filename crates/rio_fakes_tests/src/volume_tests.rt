@@ -55,7 +55,7 @@ fn update_is_whole_or_absent(rt: HostRuntime) -> Result<(), Fail> {
 }
 
 /// Whether a run of three words is stored after so many steps, and what stands of it.
-const RUNS: [(bool, [u64; 3]); 5] = [
+static RUNS: [(bool, [u64; 3]); 5] = [
     (false, [0, 0, 0]),
     (false, [3, 0, 0]),
     (false, [3, 5, 0]),
@@ -83,7 +83,7 @@ fn runs_are_stored_up_to_the_stop(rt: HostRuntime) -> Result<(), Fail> {
 }
 
 /// How a run of three words ends where the call of this number fails, and what is stored of it. With 0 none fails.
-const FAULTS: [(Result<(), RunFail>, [u64; 3]); 4] = [
+static FAULTS: [(Result<(), RunFail>, [u64; 3]); 4] = [
     (Ok(()), [3, 5, 8]),
     (Err(RunFail::Fault(0)), [0, 0, 0]),
     (Err(RunFail::Fault(1)), [3, 0, 0]),

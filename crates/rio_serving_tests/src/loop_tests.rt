@@ -12,7 +12,7 @@ use std::test::Fail;
 /// ends and what it wrote.
 type Row = (&'static str, usize, u64, u64, ServeEnd, &'static str);
 
-const ROWS: [Row; 13] = [
+static ROWS: [Row; 13] = [
     ("", 7, 0, 0, ServeEnd::End, ""),
     (
         "turn\nturn\nturn\n",

@@ -5,10 +5,10 @@ use crate::calls::DATA;
 use crate::calls::Said::{Done, Full, Header, Is, Number};
 use crate::rows::{Row, make_all};
 use region_fakes::FaultyRegion;
-use std::test::Fail;
+use std::alloc::AllocError;
 
 /// Tables of calls, each on a fresh region of one undo page and one data page.
-const TABLES: [(&str, &[Row]); 4] = [
+static TABLES: [(&str, &[Row]); 4] = [
     (
         "the oldest record is put back last",
         &[
@@ -58,8 +58,8 @@ const TABLES: [(&str, &[Row]); 4] = [
 ];
 
 #[test]
-fn calls_answer_as_their_rows_say(rt: HostRuntime) -> Result<(), Fail> {
-    for (table, rows) in TABLES {
+fn calls_answer_as_their_rows_say(rt: HostRuntime) -> Result<(), AllocError> {
+    for (table, rows) in TABLES.iter() {
         let mut r = FaultyRegion::fresh(rt.alloc(), 1, 1)?;
         make_all(&rt, table, 0, &mut r, rows);
     }

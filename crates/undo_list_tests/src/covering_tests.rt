@@ -23,13 +23,13 @@ fn calls_for(records: u32) -> u64 {
 }
 
 /// A region in which four ranges were saved, one after the other.
-fn with_saved(alloc: Global, saved: [Places; 4]) -> Result<FaultyRegion, Fail>
+fn with_saved(alloc: Global, saved: &[Places; 4]) -> Result<FaultyRegion, Fail>
     ensures ready { IfOk result FaultyReady }
     ensures region { IfOk result (λ r. IsRegion r.count (faulty_content r)) }
 {
     let mut r = FaultyRegion::fresh(alloc, 4, 1)?;
-    for Places(first, count) in saved {
-        save(&mut r, first, count)?;
+    for Places(first, count) in saved.iter() {
+        save(&mut r, *first, *count)?;
     }
     Ok(r)
 }
@@ -47,7 +47,7 @@ fn ask(r: &mut FaultyRegion, asked: Places) -> Result<(bool, u64), Fail>
 /// What is saved, what is asked, whether it is covered, and the records that are read.
 type Case = (&'static str, [Places; 4], Places, bool, u32);
 
-const CASES: [Case; 22] = [
+static CASES: [Case; 22] = [
     (
         "rising",
         [Places(0, 4), Places(4, 4), Places(8, 4), Places(12, 4)],
@@ -231,14 +231,14 @@ const CASES: [Case; 22] = [
 
 #[test]
 fn ranges_are_taken_together_in_one_pass(rt: HostRuntime) -> Result<(), Fail> {
-    for (table, saved, asked, all, records) in CASES {
+    for (table, saved, asked, all, records) in CASES.iter() {
         let mut r = with_saved(rt.alloc(), saved)?;
         let at = At {
-            table,
+            table: *table,
             cut: 0,
             row: 0,
         };
-        same(&rt, at, &ask(&mut r, asked)?, &(all, calls_for(records)));
+        same(&rt, at, &ask(&mut r, *asked)?, &(*all, calls_for(*records)));
     }
     Ok(())
 }

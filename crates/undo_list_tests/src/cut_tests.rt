@@ -21,7 +21,6 @@ enum Cut {
 
 /// A call that is cut at each of its calls on the region's words in turn, on a fresh region of one undo page and one data
 /// page for each.
-#[derive(Clone, Copy)]
 struct Sweep {
     table: &'static str,
     /// What is made before.
@@ -43,8 +42,7 @@ const CHANGED: &[Row] = &[
     (Change(DATA + 70, 40, 8), Done),
 ];
 
-const SWEEPS: [Sweep; 8] = [
-    LITTLE,
+static SWEEPS: [Sweep; 7] = [
     Sweep {
         table: "every stop of a range leaves the record or none",
         first: CHANGED,
@@ -151,7 +149,7 @@ const KEPT: &[Row] = &[
 ];
 
 /// Two records of few words that overlap. Putting them back is 17 calls.
-const LITTLE: Sweep = Sweep {
+static LITTLE: Sweep = Sweep {
     table: "every stop of putting few words back is made good",
     first: &[(Change(DATA, 2, 7), Done), (Change(DATA, 1, 8), Done)],
     call: Rewind,
@@ -181,7 +179,12 @@ fn tell(r: &mut FaultyRegion, cut: Cut, n: u64) -> Result<(), AllocError>
 
 /// Makes the call of a sweep, cut at its `n`th call on the words, and starts the region again. Answers whether it was done
 /// before.
-fn cut_once(rt: &impl Abort, sweep: &Sweep, r: &mut FaultyRegion, n: u64) -> Result<bool, Fail>
+fn cut_once(
+    rt: &impl Abort,
+    sweep: &Sweep,
+    r: &mut FaultyRegion,
+    n: u64,
+) -> Result<bool, AllocError>
     requires ready { FaultyReady r.old }
     requires region { IsRegion r.old.count (faulty_content r.old) }
     ensures ready { FaultyReady r.new }
@@ -208,7 +211,12 @@ fn cut_once(rt: &impl Abort, sweep: &Sweep, r: &mut FaultyRegion, n: u64) -> Res
 
 /// Makes the call of a sweep as often as its tries, each cut at its own call on the words, and what comes behind it. Answers
 /// whether the first try was done.
-fn cut_tries(rt: &impl Abort, alloc: Global, sweep: &Sweep, cuts: [u64; 3]) -> Result<bool, Fail> {
+fn cut_tries(
+    rt: &impl Abort,
+    alloc: Global,
+    sweep: &Sweep,
+    cuts: [u64; 3],
+) -> Result<bool, AllocError> {
     let mut r = FaultyRegion::fresh(alloc, 1, 1)?;
     make_all(rt, sweep.table, 0, &mut r, sweep.first);
     let done = cut_once(rt, sweep, &mut r, cuts[0])?;
@@ -238,14 +246,15 @@ fn sweep_all(rt: &impl Abort, alloc: Global, sweep: &Sweep) -> Result<(), Fail> 
 
 #[test]
 fn every_cut_leaves_what_its_rows_say(rt: HostRuntime) -> Result<(), Fail> {
-    for sweep in SWEEPS {
-        sweep_all(&rt, rt.alloc(), &sweep)?;
+    sweep_all(&rt, rt.alloc(), &LITTLE)?;
+    for sweep in SWEEPS.iter() {
+        sweep_all(&rt, rt.alloc(), sweep)?;
     }
     Ok(())
 }
 
 /// Of the last two tries each is stopped at each of its calls.
-fn cut_last_tries(rt: &impl Abort, alloc: Global, first: u64) -> Result<(), Fail> {
+fn cut_last_tries(rt: &impl Abort, alloc: Global, first: u64) -> Result<(), AllocError> {
     for second in 1..18 {
         for third in 1..18 {
             cut_tries(rt, alloc, &LITTLE, [first, second, third])?;
@@ -255,7 +264,7 @@ fn cut_last_tries(rt: &impl Abort, alloc: Global, first: u64) -> Result<(), Fail
 }
 
 #[test]
-fn every_three_stops_of_putting_back_are_made_good(rt: HostRuntime) -> Result<(), Fail> {
+fn every_three_stops_of_putting_back_are_made_good(rt: HostRuntime) -> Result<(), AllocError> {
     for first in 1..18 {
         cut_last_tries(&rt, rt.alloc(), first)?;
     }

@@ -5,7 +5,7 @@ use crate::steps::look_at_all;
 use std::test::Fail;
 
 /// The superblock, the bitmap, inodes and their numbers.
-const LAYOUTS: [Step; 144] = [
+static LAYOUTS: [Step; 144] = [
     Sound,
     // rule 1: magic, version, blocks, inodes
     Word(0, 0, 0),

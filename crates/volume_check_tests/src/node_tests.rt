@@ -5,7 +5,7 @@ use crate::steps::look_at_all;
 use std::test::Fail;
 
 /// Entries, names and the tree.
-const NODES: [Step; 176] = [
+static NODES: [Step; 176] = [
     Sound,
     // rule 8: a name without bytes, a slash, an inode past the last, one that is free, and in a directory below the root
     Word(4, 0, 2),

@@ -5,7 +5,7 @@ use crate::steps::look_at_all;
 use std::test::Fail;
 
 /// Headers, undo records and heap maps.
-const REGIONS: [Step; 152] = [
+static REGIONS: [Step; 152] = [
     Sound,
     // rule 11: magic, no undo pages, other counts of pages
     Word(7, 0, 0),

@@ -22,7 +22,7 @@ pub(crate) const BLOCKS: u32 = 64;
 pub(crate) struct Put(pub(crate) u32, pub(crate) u16, pub(crate) u64);
 
 /// The words of the volume that are not zero.
-const WORDS: [Put; 45] = [
+static WORDS: [Put; 45] = [
     // the superblock and the bitmap
     Put(0, 0, 0x4d55_4c4f_564f_4952),
     Put(0, 1, 1),
@@ -102,8 +102,8 @@ impl TestVolume {
     /// The volume that is described above.
     pub(crate) fn new(alloc: Global) -> Result<TestVolume, Fail> {
         let mut v = TestVolume::zeros(alloc)?;
-        for put in WORDS {
-            v.put(put)?;
+        for put in WORDS.iter() {
+            v.put(*put)?;
         }
         Ok(v)
     }

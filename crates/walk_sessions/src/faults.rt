@@ -88,19 +88,25 @@ fn done_part(alloc: Global, request: &Request, done: u64) -> Result<Option<Reque
     }
     match request {
         Request::Write { path, off, bytes } => {
-            let path = path.clone()?;
             let off = *off;
             let bytes = front_of(alloc, bytes, done)?;
+            let path = path.clone()?;
             Ok(Some(Request::Write { path, off, bytes }))
         }
         Request::Put { path, off, bytes } => {
-            let path = path.clone()?;
             let off = *off;
             let bytes = front_of(alloc, bytes, done)?;
+            let path = path.clone()?;
             Ok(Some(Request::Put { path, off, bytes }))
         }
         _ => Ok(None),
     }
+}
+
+/// Makes a request of the plain definition alone.
+fn make_plain(plain: &mut Plain, request: &Request) -> Result<(), AllocError> {
+    plain.answer(request)?;
+    Ok(())
 }
 
 /// Makes what was done of a request that met a fault.
@@ -112,10 +118,7 @@ fn make_part(
 ) -> Result<(), AllocError> {
     let part = done_part(alloc, request, done)?;
     match &part {
-        Some(part) => {
-            plain.answer(part)?;
-            Ok(())
-        }
+        Some(part) => make_plain(plain, part),
         None => Ok(()),
     }
 }
@@ -129,12 +132,17 @@ enum Told {
     Text(Vec<u8>),
 }
 
+/// The text of a reply.
+pub fn text_told(alloc: Global, reply: Reply) -> Result<Vec<u8>, AllocError> {
+    text_of(alloc, &reply)
+}
+
 /// What a reply tells.
 fn what_tells(alloc: Global, reply: Reply) -> Result<Told, AllocError> {
-    match &reply {
-        Reply::Fault(done) => Ok(Told::Fault(*done)),
-        reply => Ok(Told::Text(text_of(alloc, reply)?)),
+    if let Reply::Fault(done) = &reply {
+        return Ok(Told::Fault(*done));
     }
+    Ok(Told::Text(text_told(alloc, reply)?))
 }
 
 /// What answers requests one after another, each while it holds some state.
@@ -304,7 +312,22 @@ fn refuses<C: AnswersRequests>(alloc: Global, core: &mut C, path: &Octets) -> Re
     let Some(reading) = parse_line(alloc, line.as_slice())? else {
         return Ok(false);
     };
-    let text = insisted(alloc, core, &reading)?;
+    is_refused(alloc, core, &reading)
+}
+
+/// Whether the core refuses a request since a transaction may only be aborted.
+fn is_refused<C: AnswersRequests>(
+    alloc: Global,
+    core: &mut C,
+    request: &Request,
+) -> Result<bool, WalkEnd>
+    requires sound { C.sound core.old }
+    requires holds { (s : StateOf) × C.holds core.old s }
+    requires request { IsRequest request.now }
+    ensures sound { C.sound core.new }
+    ensures holds { IfOk result (λ doomed. (s : StateOf) × C.holds core.new s) }
+{
+    let text = insisted(alloc, core, request)?;
     Ok(text.as_slice() == b"err 22\n".as_slice())
 }
 
@@ -427,6 +450,16 @@ fn walk<C: AnswersRequests>(alloc: Global, core: &mut C, run: &Run) -> Result<u3
     Ok(faults)
 }
 
+/// Makes the requests of a run of such a core, counts those that met a fault, and takes the machine back.
+fn walked<M: Machine>(alloc: Global, core: Core<M>, run: &Run) -> (Result<u32, WalkEnd>, M)
+    requires sound { ⟦<Core<M> as Server>⟧.sound core }
+    requires holds { (s : StateOf) × ⟦<Core<M> as Server>⟧.holds core s }
+{
+    let mut core = core;
+    let ended = walk(alloc, &mut core, run);
+    (ended, core.into_machine())
+}
+
 /// A disk with a fresh volume, of which each call with a number that is a multiple of `each` fails, up to the `most`th of
 /// them.
 fn failing_disk(
@@ -456,9 +489,9 @@ pub fn faults_of(
         return Err(AllocError);
     };
     let disk = failing_disk(alloc, &found.shape, each, most)?;
-    let mut core = fresh_core(alloc, found.frames, found.shape, disk)?;
-    let ended = walk(alloc, &mut core, run);
-    let (_, _) = core.into_machine().into_parts();
+    let core = fresh_core(alloc, found.frames, found.shape, disk)?;
+    let (ended, machine) = walked(alloc, core, run);
+    let (_, _) = machine.into_parts();
     Ok(ended)
 }
 

@@ -8,15 +8,18 @@ mod session;
 mod walks;
 
 use crate::session::Session;
-use std::io::{self, BufRead, BufReader, BufWriter, Write};
+use std::io::{self, Write};
 
 fn main(rt: HostRuntime) -> io::Result<()> {
-    let alloc = rt.alloc();
-    let mut session = Session::new(alloc);
-    let mut out = BufWriter::new(alloc, rt.stdout())?;
-    for line in BufReader::new(alloc, rt.stdin())?.lines(alloc) {
+    let mut session = Session::new(rt.alloc());
+    answer_all(&rt, &mut session)
+}
+
+/// Answers the lines of the script.
+fn answer_all(rt: &HostRuntime, session: &mut Session) -> io::Result<()> {
+    for line in rt.lines(rt.alloc()) {
         let told = session.step(line?.as_str())?;
-        out.write_all(told.as_slice())?;
+        rt.stdout().write_all(told.as_slice())?;
     }
-    out.flush()
+    Ok(())
 }

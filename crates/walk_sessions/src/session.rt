@@ -1,9 +1,10 @@
 //! A session: lines of a script say what is at hand, walk, and ask what came.
 
-use crate::core_requests::{Asked, requests_of};
-use crate::faults::{Run, drawn_run, faults_of};
+use crate::core_requests::requests_of;
+use crate::faults::{Run, WalkEnd, drawn_run, faults_of};
 use crate::walks::{Mix, Walk, line_that_differs, walk_of};
 use pair_serving::ServeEnd;
+use rio_base::WordAt;
 use std::alloc::{AllocError, Global};
 use test_scripts::{first_word, number, numbers, tell, tell_line, tell_number, tell_shown};
 use test_servers::{NO_BAD_BLOCK, Served, Sizes, serve_lines_of};
@@ -50,10 +51,7 @@ impl Session {
     /// Does what a word says.
     fn act(&mut self, word: &str, rest: &str, out: &mut Vec<u8>) -> Result<(), AllocError> {
         match word {
-            "==" => {
-                *self = Session::new(self.alloc);
-                Ok(())
-            }
+            "==" => self.begin(),
             "on" | "pieces" => self.set(word, rest),
             ">" => self.run.push_line(self.alloc, rest),
             "?" => self.run.push_reading(self.alloc, rest),
@@ -63,6 +61,12 @@ impl Session {
             "each-fault" => self.meet_each_fault(rest, out),
             _ => self.answer(word, rest, out),
         }
+    }
+
+    /// Begins anew.
+    fn begin(&mut self) -> Result<(), AllocError> {
+        *self = Session::new(self.alloc);
+        Ok(())
     }
 
     /// Takes what a word sets.
@@ -118,19 +122,10 @@ impl Session {
     /// Makes the requests of the lines of a core, and tells the replies, where it stopped, and a word of memory.
     fn ask_core(&mut self, place: &str, out: &mut Vec<u8>) -> Result<(), AllocError> {
         let at = number(place)?;
-        let Asked {
-            text,
-            stopped_on,
-            trapped,
-            word,
-        } = requests_of(self.alloc, self.run.sizes, self.run.lines.as_slice(), at)?;
-        tell(out, text.as_slice())?;
-        if let Some(line) = stopped_on {
-            tell_number(out, "stopped on line ", line as u64)?;
-        }
-        if let Some(at) = trapped {
-            tell_number(out, "trapped ", u64::from(at.0))?;
-        }
+        let asked = requests_of(self.alloc, self.run.sizes, self.run.lines.as_slice(), at)?;
+        tell(out, asked.text.as_slice())?;
+        tell_stop(asked.stopped_on, asked.trapped, out)?;
+        let word = asked.word;
         tell_line(out, format!(in self.alloc; "word {word:x}")?.as_bytes())
     }
 
@@ -139,7 +134,17 @@ impl Session {
     fn meet_drawn_faults(&mut self, rest: &str, out: &mut Vec<u8>) -> Result<(), AllocError> {
         let [seed, each, _] = numbers(rest)?;
         let run = drawn_run(self.alloc, self.run.sizes, seed)?;
-        match faults_of(self.alloc, &run, each, 300)? {
+        let ended = faults_of(self.alloc, &run, each, 300)?;
+        self.take_faults(ended, out)
+    }
+
+    /// Takes how many requests met a fault, and tells whether all was as defined.
+    fn take_faults(
+        &mut self,
+        ended: Result<u32, WalkEnd>,
+        out: &mut Vec<u8>,
+    ) -> Result<(), AllocError> {
+        match ended {
             Ok(met) => {
                 self.faults = self.faults.saturating_add(met);
                 tell_line(out, b"as defined")
@@ -155,13 +160,31 @@ impl Session {
                 // The calls before were all there are.
                 Ok(0) => return tell_line(out, b"as defined"),
                 Ok(met) => self.faults = self.faults.saturating_add(met),
-                Err(end) => {
-                    tell_shown(out, &end)?;
-                    return tell_number(out, "at call ", call);
-                }
+                Err(end) => return tell_at_call(end, call, out),
             }
         }
         tell_line(out, b"as defined, and there are more calls")
+    }
+}
+
+/// Tells how a run ended of which this call failed.
+fn tell_at_call(end: WalkEnd, call: u64, out: &mut Vec<u8>) -> Result<(), AllocError> {
+    tell_shown(out, &end)?;
+    tell_number(out, "at call ", call)
+}
+
+/// Tells on which line a core stopped, and where a wild store trapped, if so.
+fn tell_stop(
+    stopped_on: Option<usize>,
+    trapped: Option<WordAt>,
+    out: &mut Vec<u8>,
+) -> Result<(), AllocError> {
+    if let Some(line) = stopped_on {
+        tell_number(out, "stopped on line ", line as u64)?;
+    }
+    match trapped {
+        Some(at) => tell_number(out, "trapped ", u64::from(at.0)),
+        None => Ok(()),
     }
 }
 

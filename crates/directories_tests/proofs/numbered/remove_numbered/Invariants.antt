@@ -1,5 +1,6 @@
+use Rattle.rio_fakes.specs.ListVolumes.{ListSound, list_kept, list_seen}
 use Rattle.directories_tests.specs.TestDirs.{DirsReady}
 use Rattle.directories_tests.proofs.numbered.remove_numbered.Given as goal
 
 abbrev pub invariant-loop-n : goal.invariant-loop-n
-invariant-loop-n g l = record { dirs : DirsReady l.shape (g.V.Blocks.seen l.v) (g.V.Volume.kept l.v); sound : g.V.Blocks.sound l.v }
+invariant-loop-n g l = record { dirs : DirsReady l.shape (list_seen l.v) (list_kept l.v); sound : ListSound l.v }

@@ -1,5 +1,6 @@
+use Rattle.rio_fakes.specs.ListVolumes.{ListSound, list_kept, list_seen}
 use Rattle.file_store.specs.Ends.{CanServe}
 use Rattle.file_store_tests.proofs.calls.fill_as.Given as goal
 
 abbrev pub invariant-loop-n : goal.invariant-loop-n
-invariant-loop-n g l = record { can : CanServe l.shape (g.V.Blocks.seen l.v) (g.V.Volume.kept l.v); sound : g.V.Blocks.sound l.v }
+invariant-loop-n l = record { can : CanServe l.shape (list_seen l.v) (list_kept l.v); sound : ListSound l.v }

@@ -1,3 +1,4 @@
+use Rattle.rio_fakes.specs.ListVolumes.{list_kept, list_seen}
 use Rattle.rio_requests.specs.Answers.{make_region as make_region_of}
 use Rattle.rio_requests.specs.Parts.{NoneDone}
 use Rattle.file_store.specs.Ends.{SaysIno}
@@ -5,4 +6,4 @@ use Rattle.file_store_tests.proofs.Played.{follows_end}
 use Rattle.file_store_tests.proofs.calls.region_as.Goals as goal
 
 pub returns-clause-follows : goal.returns-clause-follows
-returns-clause-follows g c = follows_end SaysIno c.args.shape.now (g.V.Blocks.seen c.args.v.now) (g.V.Volume.kept c.args.v.now) (g.V.Blocks.seen c.make_region-answer.new.v) (g.V.Volume.kept c.make_region-answer.new.v) (λ s. make_region_of s c.args.path.now c.args.data_pages c.args.undo_pages) (λ s. NoneDone s) c.make_region-answer.result c.is_due.result c.requires.can c.make_region-answer.ensures.leaves c.is_due.ensures
+returns-clause-follows c = follows_end SaysIno c.args.shape.now (list_seen c.args.v.now) (list_kept c.args.v.now) (list_seen c.make_region-answer.new.v) (list_kept c.make_region-answer.new.v) (λ s. make_region_of s c.args.path.now c.args.data_pages c.args.undo_pages) (λ s. NoneDone s) c.make_region-answer.result c.is_due.result c.requires.can c.make_region-answer.ensures.leaves c.is_due.ensures

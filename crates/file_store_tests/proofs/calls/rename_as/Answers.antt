@@ -1,3 +1,4 @@
+use Rattle.rio_fakes.specs.ListVolumes.{list_kept, list_seen}
 use Rattle.rio_requests.specs.Answers.{rename as rename_of}
 use Rattle.rio_requests.specs.Parts.{NoneDone}
 use Rattle.file_store.specs.Ends.{SaysDone}
@@ -6,4 +7,4 @@ use Rattle.file_store_tests.proofs.Played.{follows_end}
 use Rattle.file_store_tests.proofs.calls.rename_as.Goals as goal
 
 pub returns-clause-follows : goal.returns-clause-follows
-returns-clause-follows g c = follows_end SaysDone c.args.shape.now (g.V.Blocks.seen c.args.v.now) (g.V.Volume.kept c.args.v.now) (g.V.Blocks.seen c.rename-answer.new.v) (g.V.Volume.kept c.rename-answer.new.v) (λ s. rename_of s c.args.path.now c.args.to.now (ino_numbers c.from-busy.result)) (λ s. NoneDone s) c.rename-answer.result c.is_due.result c.requires.can c.rename-answer.ensures.leaves c.is_due.ensures
+returns-clause-follows c = follows_end SaysDone c.args.shape.now (list_seen c.args.v.now) (list_kept c.args.v.now) (list_seen c.rename-answer.new.v) (list_kept c.rename-answer.new.v) (λ s. rename_of s c.args.path.now c.args.to.now (ino_numbers c.from-busy.result)) (λ s. NoneDone s) c.rename-answer.result c.is_due.result c.requires.can c.rename-answer.ensures.leaves c.is_due.ensures
