@@ -1,8 +1,9 @@
-//! Lists of names that lie in one run of bytes, so that many names take two allocations and not one each.
+//! Lists of names that lie in one run of bytes, so that many names take three allocations and not one each.
 #![tactic(auto)]
 
 mod fronts;
 mod names;
+mod run;
 mod spans;
 
 pub use fronts::LINE_BYTES;

@@ -5,7 +5,7 @@ ghost use Rattle.std.specs.Cmp.Lexicographic.{slice_cmp};
 ghost use Rattle.std.specs.List.{All};
 ghost use Rattle.std.specs.List.Sorted.{IsPermutation, IsSorted};
 ghost use Rattle.std.specs.Ordering.{nat_cmp};
-ghost use Rattle.name_list.specs.Spans.{IsSpan, bytes_at, span_cmp};
+ghost use Rattle.name_list.specs.Spans.{IsNameSpan, bytes_at, span_cmp};
 
 use std::cmp::Ordering;
 
@@ -40,7 +40,7 @@ fn compare(bytes: &[u8], a: Span, b: Span) -> Ordering
 
 /// Puts spans in the order of their names' bytes.
 pub(crate) fn sort_spans(bytes: &[u8], spans: &mut Vec<Span>)
-    requires { All (IsSpan bytes.now) spans.old.items }
+    requires { All (IsNameSpan bytes.now) spans.old.items }
     ensures all { IsPermutation spans.old.items spans.new.items }
     ensures order { IsSorted (slice_cmp nat_cmp) (map (bytes_at bytes.now) spans.new.items) }
 {

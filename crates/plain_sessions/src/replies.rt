@@ -39,7 +39,7 @@ fn stat_of(parts: &str) -> Result<Reply, AllocError> {
 }
 
 fn names_of(alloc: Global, parts: &str) -> Result<Reply, AllocError> {
-    let mut names = NameList::new(alloc);
+    let mut names = NameList::with_capacity(alloc, 0)?;
     for part in parts.split_whitespace() {
         let name = expanded(alloc, part)?;
         names.push(name.as_slice())?;

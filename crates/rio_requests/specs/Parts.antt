@@ -1,5 +1,5 @@
 -- What a request may leave that a device fault or a stop cut off.
-use Rattle.std.specs.Prelude.{◌≡◌, ◌⊎◌, ◌≤◌, ◌%◌, ℕ, true, List, length, take, Some, Result, Ok}
+use Rattle.std.specs.Prelude.{◌≡◌, ◌⊎◌, ◌≤◌, ◌%◌, ℕ, true, List, length, take, Some, Ok}
 use Rattle.std.specs.FinMap.{get}
 use Rattle.rio_model.specs.declared.node.Node.TheVariants.{Region}
 use Rattle.rio_model.specs.declared.node.RegionNode.{RegionNode}

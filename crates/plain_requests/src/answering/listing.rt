@@ -29,7 +29,7 @@ pub fn names_in(alloc: Global, s: &State, dir: Ino) -> Result<Vec<Octets>, Alloc
 pub fn list_of_names(alloc: Global, names: &[Octets]) -> Result<NameList, AllocError>
     ensures { IfOk result (λ list. list ≡ names.now) }
 {
-    let mut list = NameList::new(alloc);
+    let mut list = NameList::with_capacity(alloc, names.len())?;
     for name in names {
         list.push(name.as_slice())?;
     }
