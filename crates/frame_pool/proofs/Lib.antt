@@ -3,6 +3,7 @@ pub mod Counts
 pub mod Fresh
 pub mod Holding
 pub mod Moves
+pub mod Nexts
 pub mod Ranges
 pub mod Standing
 pub mod Times

@@ -1,5 +1,5 @@
 -- Lists of frames in order of use.
-use Rattle.std.specs.Prelude.{◌≡◌, ℕ, zero, suc, ◌+◌, Bool, not, ◌==◌, if◌then◌else◌, List, [], ◌∷◌, ◌++◌, filter}
+use Rattle.std.specs.Prelude.{◌≡◌, ℕ, zero, suc, ◌+◌, Bool, not, ◌==◌, if◌then◌else◌, List, [], ◌∷◌, ◌++◌, filter, Option, Some, None}
 
 abbrev pub without : ℕ → List ℕ → List ℕ
 without k frames = filter (λ j. not (j == k)) frames
@@ -11,6 +11,11 @@ used_last k frames = without k frames ++ (k ∷ [])
 -- frame k is to be used first
 abbrev pub freed_first : ℕ → List ℕ → List ℕ
 freed_first k frames = k ∷ without k frames
+
+-- the first of a list, if it has one
+abbrev pub first_of : List ℕ → Option ℕ
+first_of [] = None
+first_of (x ∷ xs) = Some x
 
 -- how many of the numbers below n pass the test
 unfoldable pub count_below : (ℕ → Bool) → ℕ → ℕ

@@ -1,6 +1,6 @@
 //! The pool of frames.
 
-ghost use Rattle.std.specs.Prelude.{◌≡◌, ◌≢◌, ◌<◌, ◌≤◌, ◌+◌, ◌^◌, ℕ, true, false, Some, None, IfSome, IfOk, length, slice_index};
+ghost use Rattle.std.specs.Prelude.{◌≡◌, ◌≢◌, ◌<◌, ◌≤◌, ◌+◌, ◌^◌, ◌++◌, ◌∷◌, ℕ, true, false, List, Some, None, IfSome, IfOk, length, slice_index};
 ghost use Rattle.std.proofs.Props.{props};
 ghost use Rattle.frame_pool.specs.Frames.{block_at, free_at, older_at, order_at, pinned_at, younger_at};
 ghost use Rattle.frame_pool.specs.Orders.{StandFirst};
@@ -36,7 +36,7 @@ pub struct FramePool {
 
 impl FramePool {
     ghost use Rattle.std.specs.List.{range_with_len};
-    ghost use Rattle.frame_pool.specs.Orders.{freed_first, used_last};
+    ghost use Rattle.frame_pool.specs.Orders.{first_of, freed_first, used_last};
     ghost use Rattle.frame_pool.specs.Pools.{IsVictim, block_of, blocks_in, frames_in, is_pinned, order_of, pins_in};
 
     /// A pool of so many free frames, frame 0 to be used first, for blocks below `blocks`. `Err` where no memory is left.
@@ -91,6 +91,20 @@ impl FramePool {
             k = frame.younger;
         }
         unreachable!()
+    }
+
+    /// The frame that was used next after frame `k`; `None` where `k` was used last of all.
+    #[tactic(auto, using(crate::proofs::Moves::younger_near))]
+    pub fn next_used(&self, k: u32) -> Option<u32>
+        requires within { k < frames_in self.now }
+        ensures within { IfSome result (λ j. j < frames_in self.now) }
+        ensures next { (xs ys : List ℕ) → order_of self.now ≡ xs ++ (k ∷ ys) → result ≡ first_of ys }
+    {
+        let next = self.frames[k as usize].younger;
+        if next == self.count {
+            return None;
+        }
+        Some(next)
     }
 
     /// Says that frame `k`, which has a block, was used.
