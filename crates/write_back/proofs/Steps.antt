@@ -1,11 +1,13 @@
 -- What the calls below are as steps, and that steps compose.
-use Rattle.std.specs.Prelude.{◌≡◌, ◌≢◌, ℕ, ◌+◌, ◌-◌, ◌*◌, ◌/◌, ◌<◌, ◌≤◌, List, length, slice_index, drop}
-use Rattle.std.proofs.Common.{◌∙◌, ap, sym, subst, arith}
-use Rattle.std.proofs.lemmas.List.{get_or-take, get_or-drop}
-use Rattle.rio_base.specs.Disks.{block_at}
+use Rattle.std.specs.Prelude.{◌≡◌, ◌≢◌, ◌⊎◌, ℕ, ◌+◌, ◌-◌, ◌*◌, ◌<◌, ◌≤◌, Bool, true, false, List, length, slice_index, slice_set, drop, refl}
+use Rattle.std.proofs.Common.{◌∙◌, ap, sym, subst, arith, inl, inr, get_or-set_same, get_or-set_other}
+use Rattle.std.proofs.lemmas.Bool.{cases_eq}
+use Rattle.std.proofs.lemmas.List.{get_or-take, get_or-drop, get_or_past}
+use Rattle.rio_base.specs.Disks.{block_at, is_pending}
 use Rattle.rio_base.specs.Image.{registry_pages}
 use Rattle.rio_base.specs.Machine.{Contents, WritesBlock}
 use Rattle.rio_base.specs.Memory.{page_at}
+use Rattle.rio_base.specs.Rules.{true_false}
 use Rattle.rio_model.specs.Cover.{Coherent, HeldEntry, Keeps, OnDisk, frame_page, home_word}
 use Rattle.rio_model.proofs.CoverSteps.{coherent_on, hold_cleaned, keeps_trans, layout_is}
 use Rattle.rio_model.specs.Registry.{HasLayout, IsValid, OneEntry, frames_of, is_data, is_valid, tag_at, tag_block, without_dirty}
@@ -45,6 +47,22 @@ stays_on_disk old new n k j b s h v same w ne d = subst (λ (ws : List ℕ). OnD
   same = λ x less.
       d.same x less ∙ ap (λ (xs : List ℕ). slice_index xs x) (sym (h.others (tag_block (tag_at old.words j)) (λ e. ne (s.rules.blocks j k w v (e ∙ same)))));
 })
+
+-- a write leaves pending what was, also where the machine was stopped before it
+pub stays_pending : (stopped : Bool) (b : ℕ) (old new : Contents) → (stopped ≡ false → new.pending ≡ slice_set old.pending b true) → (stopped ≡ true → new ≡ old) → (c : ℕ) → is_pending old.pending c ≡ true → is_pending new.pending c ≡ true
+stays_pending true b old new marks frozen c e = ap (λ (m : Contents). is_pending m.pending c) (frozen refl) ∙ e
+stays_pending false b old new marks frozen c e = ap (λ p. is_pending p c) (marks refl) ∙ from (cases_eq c b)
+  where
+    within : (c < length old.pending) ⊎ (length old.pending ≤ c) → c < length old.pending
+    within (inl less) = less
+    within (inr more) = absurd (true_false (sym e ∙ get_or_past old.pending c false more))
+
+    small : (a n : ℕ) → (a < n) ⊎ (n ≤ a)
+    small a n = grind arith
+
+    from : (c ≡ b) ⊎ (c ≢ b) → is_pending (slice_set old.pending b true) c ≡ true
+    from (inl q) = ap (is_pending (slice_set old.pending b true)) q ∙ get_or-set_same old.pending b true false (subst (λ x. x < length old.pending) q (within (small c (length old.pending))))
+    from (inr ne) = get_or-set_other old.pending b c true false ne ∙ e
 
 -- ---- entries
 

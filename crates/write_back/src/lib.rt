@@ -4,5 +4,5 @@
 mod cleaning;
 mod flushing;
 
-pub use cleaning::{clean, evict};
+pub use cleaning::{clean, evict, release, sync_disk, write_entry};
 pub use flushing::flush;

@@ -1,7 +1,7 @@
 use Rattle.std.proofs.Common.{◌<◌, ◌∙◌, subst, sym, ap, arith, length}
 use Rattle.rio_model.specs.Registry.{tag_block}
 use Rattle.rio_model.proofs.CoverSteps.{keeps_write}
-use Rattle.write_back.proofs.Steps.{frame_begins, on_disk}
+use Rattle.write_back.proofs.Steps.{frame_begins, on_disk, stays_pending}
 use Rattle.write_back.proofs.cleaning.write_entry.Goals as goal
 
 pub write_block-requires-clause-block : goal.write_block-requires-clause-block
@@ -21,3 +21,9 @@ pub returns-clause-written : goal.returns-clause-written
 returns-clause-written g c =
     let begins = frame_begins (g.M.Machine.contents c.args.m.now) _ c.args.k c.args.page.0 0 c.requires.coherent c.requires.valid.within c.requires.page in
     on_disk (g.M.Machine.contents c.args.m.now) _ c.args.k _ _ c.write_block.ensures.writes_block.words (c.block-block.ensures ∙ ap tag_block c.load_tag.ensures) c.requires.page (c.in_ok-write_block.ensures.protected (omega (arith, begins)))
+
+pub returns-in_err-write_block-clause-pends : goal.returns-in_err-write_block-clause-pends
+returns-in_err-write_block-clause-pends g c = stays_pending (g.M.Machine.run c.args.m.now).stopped _ (g.M.Machine.contents c.args.m.now) (g.M.Machine.contents c.write_block.new.self) c.write_block.ensures.pending c.write_block.ensures.frozen
+
+pub returns-clause-pends : goal.returns-clause-pends
+returns-clause-pends g c = stays_pending (g.M.Machine.run c.args.m.now).stopped _ (g.M.Machine.contents c.args.m.now) (g.M.Machine.contents c.write_block.new.self) c.write_block.ensures.pending c.write_block.ensures.frozen
