@@ -38,6 +38,7 @@ sound_marked b n mark c t u s m = subst (CacheSound c n) (sym m.rest) (record {
   first = s.first;
   marks = m.count ∙ s.marks;
   buffer = s.buffer;
+  early = s.early;
   bound = s.bound;
   most = s.most;
   room = s.room;
@@ -97,9 +98,9 @@ cleared_frees n k b old new s0 rest one tag found = record {
 pub cleared_lost : (n k b : ℕ) (old new : Contents) → Coherent old n → OneEntry k old.words new.words → tag_at new.words k ≡ 0 → entry_of_block old.words b ≡ Some k → entry_of_block new.words b ≡ None
 cleared_lost n k b old new s one tag found = let f = found_is old.words b k found in ap (entry_of_block new.words) (sym f.1) ∙ found_cleared k old.words new.words one s.rules.blocks f.0 (ap is_valid tag)
 
-pub cleared_sound : (n m k b : ℕ) (old new : Contents) (t u : CacheTables) → CacheSound old n t → Frees b old new → m ≡ n → new.open_page ≡ None → new.disk ≡ old.disk → OneEntry k old.words new.words → tag_at new.words k ≡ 0 → TablesStay t u → block_of u.pool k ≡ None → ((j : ℕ) → j ≢ k → block_of u.pool j ≡ block_of t.pool j) → CacheSound new m u
-cleared_sound n m k b old new t u s h same closed disk one gone stay none others =
-    sound_stays n m old new t u s (coherent_on new n m same (h.coherent n s.coherent)) (record { frames = h.header 2 (omega arith); gate = h.header 4 (omega arith); disk = ap length disk }) closed stay (shadows_gone k old.words new.words one (λ v. absurd (true_false (sym v.valid ∙ ap is_valid gone)))) (bound_one k n old new t u s one (none ∙ sym (ap (λ x. if is_valid x then Some (tag_block x) else None) gone)) others)
+pub cleared_sound : (n m k b : ℕ) (old new : Contents) (t u : CacheTables) → CacheSound old n t → Frees b old new → m ≡ n → new.open_page ≡ None → new.disk ≡ old.disk → new.pending ≡ old.pending → OneEntry k old.words new.words → tag_at new.words k ≡ 0 → TablesStay t u → block_of u.pool k ≡ None → ((j : ℕ) → j ≢ k → block_of u.pool j ≡ block_of t.pool j) → CacheSound new m u
+cleared_sound n m k b old new t u s h same closed disk pending one gone stay none others =
+    sound_stays n m old new t u s (coherent_on new n m same (h.coherent n s.coherent)) (record { frames = h.header 2 (omega arith); gate = h.header 4 (omega arith); disk = disk; pending = pending }) closed stay (shadows_gone k old.words new.words one (λ v. absurd (true_false (sym v.valid ∙ ap is_valid gone)))) (bound_one k n old new t u s one (none ∙ sym (ap (λ x. if is_valid x then Some (tag_block x) else None) gone)) others)
 
 pub frees_same : (b : ℕ) (old new : Contents) → new ≡ old → Frees b old new
 frees_same b old new e = subst (Frees b old) (sym e) (record { others = record { others = λ c w ne. refl }; firm = λ c ne l. l; coherent = λ n s. s; header = λ i less. refl })

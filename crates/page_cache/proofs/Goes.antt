@@ -5,6 +5,7 @@ use Rattle.std.proofs.lemmas.Bool.{ltb-false, lt-ltb}
 use Rattle.rio_base.specs.declared.failures.VolFail.{VolFail}
 use Rattle.rio_base.specs.declared.failures.VolFail.TheVariants.{Fault}
 use Rattle.rio_base.specs.Blocks.{Ends}
+use Rattle.rio_base.specs.Counts.{Rose}
 use Rattle.rio_base.proofs.MachineRules.{ends_as, ends_err}
 use Rattle.rio_base.specs.Machine.{FaultCause, StopReason}
 use Rattle.rio_base.specs.Volume.{Quiet, Runs, StopCause}
@@ -36,7 +37,7 @@ runs_of c d r s l h frames = record {
   limit = record { limit = l.faults.limit };
 }
 
-roomy_is : (frames count : ℕ) → not (nat_lt frames count) ≡ true → count ≤ frames
+pub roomy_is : (frames count : ℕ) → not (nat_lt frames count) ≡ true → count ≤ frames
 roomy_is frames count e = from (nat_lt frames count) refl e
   where
     from : (x : Bool) → nat_lt frames count ≡ x → not x ≡ true → count ≤ frames
@@ -57,6 +58,11 @@ goes_few b t c d r s l h frames few = record { runs = runs_of c d r s l h frames
 -- two calls that did not answer Stopped
 pub ends_ok : (a b c : Running) (one two stop : Type 0) → (one → ⊥) → (two → ⊥) → (stop → ⊥) → StepEnds a b one → StepEnds b c two → StepEnds a c stop
 ends_ok a b c one two stop n m o h k = ends_as a b c one two stop n h k (λ s. absurd (o s)) (λ s. absurd (m s))
+
+-- a count rose after it may have risen
+pub rose_after : (a b c : ℕ) → a ≤ b → Rose b c → Rose a c
+rose_after a b c le (inl more) = inl (omega (arith, le, more))
+rose_after a b c le (inr most) = inr most
 
 -- ---- how a call ends, for the volume
 

@@ -1,9 +1,14 @@
 -- What holds between calls is kept, where entries and tables change a little.
-use Rattle.page_cache.proofs.Common.{◌≡◌, ◌≢◌, ℕ, ◌<◌, ◌≤◌, Bool, true, false, if◌then◌else◌, ◌⊎◌, List, length, slice_index, Option, Some, None, refl, ◌∙◌, ap, sym, subst, inl, inr, arith, cases_eq, Contents, Lasts, true_false, IsValid, OneEntry, frames_of, gate_of, is_dirty, is_valid, shadow_at, tag_at, tag_block, Coherent, HeldEntry, IsBare, Keeps, entry_block, SameEntries, entry_same, tag_same, entry_one, frames_one, tag_one, valid_moved, FramePool, block_of, frames_in, is_pinned, pins_in}
+use Rattle.page_cache.proofs.Common.{◌≡◌, ◌≢◌, ℕ, ◌<◌, ◌≤◌, Bool, true, false, if◌then◌else◌, ◌⊎◌, List, length, slice_index, Option, Some, None, refl, ◌∙◌, ap, sym, subst, inl, inr, arith, cases_eq, Contents, true_false, IsValid, OneEntry, frames_of, gate_of, is_dirty, is_valid, shadow_at, tag_at, tag_block, Coherent, HeldEntry, IsBare, Keeps, coherent_on, entry_block, SameEntries, entry_same, tag_same, entry_one, frames_one, tag_one, valid_moved, FramePool, block_of, frames_in, is_pinned, pins_in}
 use Rattle.rio_model.proofs.CoverFills.{valid_same}
 use Rattle.frame_pool.specs.Pools.{blocks_in}
 use Rattle.page_cache.specs.declared.tables.CacheTables.{CacheTables}
 use Rattle.page_cache.specs.Caches.{CacheSound, IsListed, SameTables}
+use Rattle.page_cache.specs.EarlyBlocks.{Knows, LosesSome}
+use Rattle.page_cache.specs.declared.early.EarlyWrites.{EarlyWrites}
+use Rattle.write_back.specs.Writing.{SameDisk}
+use Rattle.page_cache.specs.Nearing.{Nears}
+use Rattle.page_cache.proofs.EarlyStates.{knows_loses, loses_refl}
 
 -- the pool has so many frames and blocks as before, and the same pins
 pub record SamePins (p q : FramePool) : Type 0 where
@@ -12,11 +17,13 @@ pub record SamePins (p q : FramePool) : Type 0 where
   pub pins : (k : ℕ) → is_pinned q k ≡ is_pinned p k
   pub count : pins_in q ≡ pins_in p
 
--- the tables differ at most in the blocks of frames, the order of use and what the buffer holds
+-- the tables differ at most in the blocks of frames, the order of use, what the buffer holds, and blocks that are no longer
+-- known
 pub record TablesStay (t u : CacheTables) : Type 0 where
   pub same : SameTables t u
   pub pool : SamePins t.pool u.pool
   pub first : u.first_frame ≡ t.first_frame
+  pub early : LosesSome t.early u.early
   pub buffer : length u.buffer.items ≡ length t.buffer.items
 
 -- each entry with a shadow had it, and is still dirty while an update is open
@@ -24,14 +31,19 @@ pub record ShadowsStay (old new : List ℕ) : Type 0 where
   pub was : (k : ℕ) → IsValid new k → shadow_at new k ≢ 0 → IsValid old k × (shadow_at new k ≡ shadow_at old k)
   pub dirty : (k : ℕ) → gate_of old ≡ 1 → IsValid new k → shadow_at new k ≢ 0 → is_dirty (tag_at old k) ≡ true → is_dirty (tag_at new k) ≡ true
 
--- the machine has its sizes and its gate
+-- the machine has its sizes, its gate and its disk, and the same blocks are pending
 pub record SameSizes (old new : Contents) : Type 0 where
   pub frames : frames_of new.words ≡ frames_of old.words
   pub gate : gate_of new.words ≡ gate_of old.words
-  pub disk : length new.disk ≡ length old.disk
+  pub disk : new.disk ≡ old.disk
+  pub pending : new.pending ≡ old.pending
 
-pub sizes_keep : (old new : Contents) → Keeps old new → Lasts old new → SameSizes old new
-sizes_keep old new h l = record { frames = h.header 2 (omega arith); gate = h.header 4 (omega arith); disk = l.blocks }
+pub sizes_keep : (old new : Contents) → Keeps old new → SameDisk old new → SameSizes old new
+sizes_keep old new h still = record { frames = h.header 2 (omega arith); gate = h.header 4 (omega arith); disk = still.disk; pending = still.pending }
+
+-- less is known of the same disk
+pub knows_on : (old new : Contents) (e f : EarlyWrites) → new.disk ≡ old.disk → new.pending ≡ old.pending → LosesSome e f → Knows old.disk old.pending e → Knows new.disk new.pending f
+knows_on old new e f disk pending h k = rw (disk, pending) (knows_loses old.disk old.pending e f k h)
 
 listed_same : (t u : CacheTables) (k : ℕ) → SameTables t u → IsListed t k → IsListed u k
 listed_same t u k same l = record { place = l.place; within = subst (λ n. l.place < n) (sym same.shadows) l.within; here = ap (λ (xs : List ℕ). slice_index xs l.place) same.shadowed ∙ l.here }
@@ -41,10 +53,11 @@ sound_stays n m old new t u s coherent sizes closed stay shadows bound = record 
   coherent = coherent;
   closed = closed;
   frames = stay.pool.frames ∙ s.frames ∙ sym sizes.frames;
-  blocks = stay.pool.blocks ∙ s.blocks ∙ sym sizes.disk;
+  blocks = stay.pool.blocks ∙ s.blocks ∙ sym (ap length sizes.disk);
   first = rw (stay.first, sizes.frames) s.first;
   marks = rw (stay.same.forgotten, sizes.disk) s.marks;
   buffer = stay.buffer ∙ s.buffer;
+  early = knows_on old new t.early u.early sizes.disk sizes.pending stay.early s.early;
   bound = λ k less. bound k (subst (λ f. k < f) sizes.frames less);
   most = subst (λ c. c ≤ 16) (sym stay.same.shadows) s.most;
   room = ap (λ (xs : List ℕ). length xs) stay.same.shadowed ∙ s.room;
@@ -54,6 +67,33 @@ sound_stays n m old new t u s coherent sizes closed stay shadows bound = record 
   pinned = λ k e. let p = s.pinned k (sym (stay.pool.pins k) ∙ e) in (sizes.gate ∙ p.0, listed_same t u k stay.same p.1);
   few = rw (stay.pool.count, stay.same.shadows) s.few;
 }
+
+-- no word of memory differs, and what is known of blocks that were written early is so
+pub sound_near : (n m : ℕ) (old new : Contents) (t u : CacheTables) → CacheSound old n t → m ≡ n → Nears old new t u → new.open_page ≡ None → u.first_frame ≡ t.first_frame → length u.buffer.items ≡ length t.buffer.items → Knows new.disk new.pending u.early → CacheSound new m u
+sound_near n m old new t u s same h closed first buffer early = record {
+  coherent = coherent_on new n m same (h.keeps.coherent n s.coherent);
+  closed = closed;
+  frames = rw (h.pool, h.words) s.frames;
+  blocks = rw (h.pool, h.lasts.blocks) s.blocks;
+  first = rw (first, h.words) s.first;
+  marks = rw (h.tables.forgotten, h.lasts.blocks) s.marks;
+  buffer = buffer ∙ s.buffer;
+  early = early;
+  bound = λ k less. rw (h.pool, h.words) (s.bound k (subst (λ ws. k < frames_of ws) h.words less));
+  most = rw h.tables.shadows s.most;
+  room = ap (λ (xs : List ℕ). length xs) h.tables.shadowed ∙ s.room;
+  shadows = λ k v some. rw (h.words, h.tables.shadows, h.tables.shadowed) (s.shadows k (valid k v) (bare k some));
+  listed = λ i less. rw (h.tables.shadowed, h.words) (s.listed i (subst (λ c. i < c) h.tables.shadows less));
+  edited = λ is k v some. let e = s.edited (ap gate_of (sym h.words) ∙ is) k (valid k v) (bare k some) in (ap (λ ws. is_dirty (tag_at ws k)) h.words ∙ e.0, ap (λ (p : FramePool). is_pinned p k) h.pool ∙ e.1);
+  pinned = λ k e. let p = s.pinned k (ap (λ (q : FramePool). is_pinned q k) (sym h.pool) ∙ e) in (ap gate_of h.words ∙ p.0, listed_same t u k h.tables p.1);
+  few = rw (h.pool, h.tables.shadows) s.few;
+}
+  where
+    valid : (k : ℕ) → IsValid new.words k → IsValid old.words k
+    valid k v = subst (λ ws. IsValid ws k) h.words v
+
+    bare : (k : ℕ) → shadow_at new.words k ≢ 0 → shadow_at old.words k ≢ 0
+    bare k some z = some (ap (λ ws. shadow_at ws k) h.words ∙ z)
 
 -- ---- which tables stay
 
@@ -67,7 +107,7 @@ pub tables_trans : (t u v : CacheTables) → SameTables t u → SameTables u v �
 tables_trans t u v h k = record { forgotten = k.forgotten ∙ h.forgotten; shadowed = k.shadowed ∙ h.shadowed; shadows = k.shadows ∙ h.shadows }
 
 pub tables_same : (t : CacheTables) → TablesStay t t
-tables_same t = record { same = tables_refl t; pool = same_pins t.pool; first = refl; buffer = refl }
+tables_same t = record { same = tables_refl t; pool = same_pins t.pool; first = refl; early = loses_refl t.early; buffer = refl }
 
 -- ---- which shadows stay
 

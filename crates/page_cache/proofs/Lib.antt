@@ -1,5 +1,6 @@
 pub mod Common
 pub mod DirtyMarks
+pub mod EarlyStates
 pub mod Edits
 pub mod FailedUses
 pub mod Fills
@@ -8,6 +9,7 @@ pub mod Frames
 pub mod Freed
 pub mod Goes
 pub mod Kept
+pub mod Nearness
 pub mod Pigeons
 pub mod Pins
 pub mod Rooms

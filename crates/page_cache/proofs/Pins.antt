@@ -23,7 +23,7 @@ shut_unpinned n k c t s shut = from (cases_Bool (is_pinned t.pool k))
     from (inr e) = e
 
 pub pins_refl : (t : CacheTables) → SameButPins t t
-pins_refl t = record { frames = refl; blocks = refl; held = λ k. refl; forgotten = refl; buffer = refl; first = refl; room = refl }
+pins_refl t = record { frames = refl; blocks = refl; held = λ k. refl; forgotten = refl; early = refl; buffer = refl; first = refl; room = refl }
 
 -- frame k is one of those that were given a shadow, from place i on
 pub record ListedFrom (t : CacheTables) (i k : ℕ) : Type 0 where

@@ -10,6 +10,7 @@ use Rattle.rio_model.proofs.CoverSteps.{keeps_trans}
 use Rattle.page_cache.specs.declared.tables.CacheTables.{CacheTables}
 use Rattle.page_cache.specs.Caches.{Adds, CacheSound, FewWrites, SameTables, SameTouches, cache_below, cache_health, cache_kept, cache_seen, was_forgotten}
 use Rattle.page_cache.proofs.Goes.{goes_few}
+use Rattle.write_back.specs.Writing.{SameDisk}
 use Rattle.page_cache.proofs.Kept.{SameSizes, TablesStay, bound_held, bound_one, bound_tags, shadows_entries, shadows_gone, shadows_held, sizes_keep, sound_stays, tables_same}
 use Rattle.page_cache.proofs.Stores.{cached_entries, name_other, narrows_cached}
 use Rattle.page_cache.proofs.Touched.{touches_entries, touches_one}
@@ -36,18 +37,18 @@ begun_tag k j old new one same = from (cases_eq j k)
 -- ---- what holds, after an entry changed
 
 -- frame k was freed
-pub evicted : (k n m : ℕ) (old new : Contents) (t u : CacheTables) → CacheSound old n t → Keeps old new → Lasts old new → m ≡ n → new.open_page ≡ None → OneEntry k old.words new.words → tag_at new.words k ≡ 0 → TablesStay t u → block_of u.pool k ≡ None → ((j : ℕ) → j ≢ k → block_of u.pool j ≡ block_of t.pool j) → CacheSound new m u
-evicted k n m old new t u s h l same closed one gone stay none others =
-    sound_stays n m old new t u s (coherent_on new n m same (h.coherent n s.coherent)) (sizes_keep old new h l) closed stay (shadows_gone k old.words new.words one (λ v. absurd (true_false (sym v.valid ∙ ap is_valid gone)))) (bound_one k n old new t u s one (none ∙ sym (ap (λ x. if is_valid x then Some (tag_block x) else None) gone)) others)
+pub evicted : (k n m : ℕ) (old new : Contents) (t u : CacheTables) → CacheSound old n t → Keeps old new → SameDisk old new → m ≡ n → new.open_page ≡ None → OneEntry k old.words new.words → tag_at new.words k ≡ 0 → TablesStay t u → block_of u.pool k ≡ None → ((j : ℕ) → j ≢ k → block_of u.pool j ≡ block_of t.pool j) → CacheSound new m u
+evicted k n m old new t u s h still same closed one gone stay none others =
+    sound_stays n m old new t u s (coherent_on new n m same (h.coherent n s.coherent)) (sizes_keep old new h still) closed stay (shadows_gone k old.words new.words one (λ v. absurd (true_false (sym v.valid ∙ ap is_valid gone)))) (bound_one k n old new t u s one (none ∙ sym (ap (λ x. if is_valid x then Some (tag_block x) else None) gone)) others)
 
 -- what was said of the page of entry k is still said, and while an update is open it is dirty if it was
-pub kept_at : (k n m : ℕ) (old new : Contents) (t : CacheTables) → CacheSound old n t → Keeps old new → Lasts old new → m ≡ n → new.open_page ≡ None → OneEntry k old.words new.words → HeldEntry k old.words new.words → (gate_of old.words ≡ 1 → shadow_at old.words k ≢ 0 → is_dirty (tag_at old.words k) ≡ true → is_dirty (tag_at new.words k) ≡ true) → CacheSound new m t
-kept_at k n m old new t s h l same closed one held dirty =
-    sound_stays n m old new t t s (coherent_on new n m same (h.coherent n s.coherent)) (sizes_keep old new h l) closed (tables_same t) (shadows_held k old.words new.words one held dirty) (bound_held k n old new t s one held)
+pub kept_at : (k n m : ℕ) (old new : Contents) (t : CacheTables) → CacheSound old n t → Keeps old new → SameDisk old new → m ≡ n → new.open_page ≡ None → OneEntry k old.words new.words → HeldEntry k old.words new.words → (gate_of old.words ≡ 1 → shadow_at old.words k ≢ 0 → is_dirty (tag_at old.words k) ≡ true → is_dirty (tag_at new.words k) ≡ true) → CacheSound new m t
+kept_at k n m old new t s h still same closed one held dirty =
+    sound_stays n m old new t t s (coherent_on new n m same (h.coherent n s.coherent)) (sizes_keep old new h still) closed (tables_same t) (shadows_held k old.words new.words one held dirty) (bound_held k n old new t s one held)
 
 -- the entry is no part of the update
-pub kept_bare : (k n m : ℕ) (old new : Contents) (t : CacheTables) → CacheSound old n t → Keeps old new → Lasts old new → m ≡ n → new.open_page ≡ None → OneEntry k old.words new.words → HeldEntry k old.words new.words → IsBare old.words k → CacheSound new m t
-kept_bare k n m old new t s h l same closed one held bare = kept_at k n m old new t s h l same closed one held (λ is some d. absurd (from bare is some))
+pub kept_bare : (k n m : ℕ) (old new : Contents) (t : CacheTables) → CacheSound old n t → Keeps old new → SameDisk old new → m ≡ n → new.open_page ≡ None → OneEntry k old.words new.words → HeldEntry k old.words new.words → IsBare old.words k → CacheSound new m t
+kept_bare k n m old new t s h still same closed one held bare = kept_at k n m old new t s h still same closed one held (λ is some d. absurd (from bare is some))
   where
     from : IsBare old.words k → gate_of old.words ≡ 1 → shadow_at old.words k ≢ 0 → ⊥
     from (inl shut) is some = shut is
@@ -131,28 +132,28 @@ same_tags n m old new t u s coherent sizes closed same stay frames =
     sound_stays n m old new t u s coherent sizes closed stay (shadows_entries old.words new.words same) (λ j less. frames j ∙ bound_tags n old new t s (λ i x. tag_same old.words new.words i same x) j less)
 
 -- a block was read, and a frame that no entry has was filled
-pub filled_sound : (k n m : ℕ) (old mid new : Contents) (t u : CacheTables) → CacheSound old n t → Keeps old mid → Keeps mid new → Lasts old mid → Lasts mid new → m ≡ n → new.open_page ≡ None → mid.words ≡ old.words → OnePage (frame_page mid.words k) mid.words new.words → TablesStay t u → ((j : ℕ) → block_of u.pool j ≡ block_of t.pool j) → CacheSound new m u
-filled_sound k n m old mid new t u s h i l p same closed e one stay frames =
+pub filled_sound : (k n m : ℕ) (old mid new : Contents) (t u : CacheTables) → CacheSound old n t → Keeps old mid → Keeps mid new → SameDisk old new → m ≡ n → new.open_page ≡ None → mid.words ≡ old.words → OnePage (frame_page mid.words k) mid.words new.words → TablesStay t u → ((j : ℕ) → block_of u.pool j ≡ block_of t.pool j) → CacheSound new m u
+filled_sound k n m old mid new t u s h i still same closed e one stay frames =
     let keeps = keeps_trans old mid new h i in
-    same_tags n m old new t u s (coherent_on new n m same (keeps.coherent n s.coherent)) (sizes_keep old new keeps (lasts_trans old mid new l p)) closed (page_same old.words new.words k (at_first old mid k new.words e one)) stay frames
+    same_tags n m old new t u s (coherent_on new n m same (keeps.coherent n s.coherent)) (sizes_keep old new keeps still) closed (page_same old.words new.words k (at_first old mid k new.words e one)) stay frames
 
 -- no word changed
-pub read_sound : (n m : ℕ) (old new : Contents) (t u : CacheTables) → CacheSound old n t → Keeps old new → Lasts old new → m ≡ n → new.open_page ≡ None → new.words ≡ old.words → TablesStay t u → ((j : ℕ) → block_of u.pool j ≡ block_of t.pool j) → CacheSound new m u
-read_sound n m old new t u s h l same closed e stay frames =
-    same_tags n m old new t u s (coherent_on new n m same (h.coherent n s.coherent)) (sizes_keep old new h l) closed (record { count = ap (λ (ws : List ℕ). length ws) e; each = λ i less. ap (λ (ws : List ℕ). slice_index ws i) e }) stay frames
+pub read_sound : (n m : ℕ) (old new : Contents) (t u : CacheTables) → CacheSound old n t → Keeps old new → SameDisk old new → m ≡ n → new.open_page ≡ None → new.words ≡ old.words → TablesStay t u → ((j : ℕ) → block_of u.pool j ≡ block_of t.pool j) → CacheSound new m u
+read_sound n m old new t u s h still same closed e stay frames =
+    same_tags n m old new t u s (coherent_on new n m same (h.coherent n s.coherent)) (sizes_keep old new h still) closed (record { count = ap (λ (ws : List ℕ). length ws) e; each = λ i less. ap (λ (ws : List ℕ). slice_index ws i) e }) stay frames
 
 -- an entry that isn't valid got other words but the tag
-pub begun_sound : (k n m : ℕ) (old new : Contents) (t : CacheTables) → CacheSound old n t → Keeps old new → Lasts old new → m ≡ n → new.open_page ≡ None → OneEntry k old.words new.words → is_valid (tag_at old.words k) ≡ false → tag_at new.words k ≡ tag_at old.words k → CacheSound new m t
-begun_sound k n m old new t s h l same closed one gone tag =
-    sound_stays n m old new t t s (coherent_on new n m same (h.coherent n s.coherent)) (sizes_keep old new h l) closed (tables_same t) (shadows_gone k old.words new.words one (λ v. absurd (true_false (sym v.valid ∙ ap is_valid tag ∙ gone)))) (bound_tags n old new t s (λ j less. begun_tag k j old.words new.words one tag))
+pub begun_sound : (k n m : ℕ) (old new : Contents) (t : CacheTables) → CacheSound old n t → Keeps old new → SameDisk old new → m ≡ n → new.open_page ≡ None → OneEntry k old.words new.words → is_valid (tag_at old.words k) ≡ false → tag_at new.words k ≡ tag_at old.words k → CacheSound new m t
+begun_sound k n m old new t s h still same closed one gone tag =
+    sound_stays n m old new t t s (coherent_on new n m same (h.coherent n s.coherent)) (sizes_keep old new h still) closed (tables_same t) (shadows_gone k old.words new.words one (λ v. absurd (true_false (sym v.valid ∙ ap is_valid tag ∙ gone)))) (bound_tags n old new t s (λ j less. begun_tag k j old.words new.words one tag))
 
 -- entry k was made, without a shadow, and frame k bound
 pub made_sound : (k b n m : ℕ) (dirty : Bool) (old new : Contents) (t u : CacheTables) → CacheSound old n t → Coherent new m → SameSizes old new → new.open_page ≡ None → Made k b dirty old.words new.words → TablesStay t u → block_of u.pool k ≡ Some b → ((j : ℕ) → j ≢ k → block_of u.pool j ≡ block_of t.pool j) → CacheSound new m u
 made_sound k b n m dirty old new t u s coherent sizes closed made stay bound others =
     sound_stays n m old new t u s coherent sizes closed stay (shadows_gone k old.words new.words made.one (λ v. made.shadow)) (bound_one k n old new t u s made.one (bound ∙ sym (rw (made.valid, made.block) refl)) others)
 
-pub bound_made : (k b n m : ℕ) (old new : Contents) (t u : CacheTables) → CacheSound old n t → Keeps old new → Lasts old new → m ≡ n → new.open_page ≡ None → Made k b false old.words new.words → TablesStay t u → block_of u.pool k ≡ Some b → ((j : ℕ) → j ≢ k → block_of u.pool j ≡ block_of t.pool j) → CacheSound new m u
-bound_made k b n m old new t u s h l same closed made stay bound others = made_sound k b n m false old new t u s (coherent_on new n m same (h.coherent n s.coherent)) (sizes_keep old new h l) closed made stay bound others
+pub bound_made : (k b n m : ℕ) (old new : Contents) (t u : CacheTables) → CacheSound old n t → Keeps old new → SameDisk old new → m ≡ n → new.open_page ≡ None → Made k b false old.words new.words → TablesStay t u → block_of u.pool k ≡ Some b → ((j : ℕ) → j ≢ k → block_of u.pool j ≡ block_of t.pool j) → CacheSound new m u
+bound_made k b n m old new t u s h still same closed made stay bound others = made_sound k b n m false old new t u s (coherent_on new n m same (h.coherent n s.coherent)) (sizes_keep old new h still) closed made stay bound others
 
 pub found_new : (k b : ℕ) (old new : List ℕ) → Made k b false old new → BlockRule new → entry_of_block new b ≡ Some k
 found_new k b old new made rule = found_at new b k rule (is_valid_made k b false old new made) made.block

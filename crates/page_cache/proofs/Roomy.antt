@@ -50,6 +50,14 @@ pub none_free : (k n : ℕ) (c : Contents) (t : CacheTables) → CacheSound c n 
 none_free k n c t s (inl e) v j less gone = none_some (tag_block (tag_at c.words k)) (block_of t.pool k) e (s.bound k v.within ∙ rw v.valid refl)
 none_free k n c t s (inr h) v j less gone = h j (subst (λ m. j < m) (sym s.frames) less) (s.bound j less ∙ rw gone refl)
 
+-- the frame to be used next has a block: so has each
+pub all_valid : (k n : ℕ) (c : Contents) (t : CacheTables) → CacheSound c n t → IsVictim t.pool k → is_valid (tag_at c.words k) ≡ true → (j : ℕ) → j < frames_of c.words → is_valid (tag_at c.words j) ≡ true
+all_valid k n c t s victim is j less = from (is_valid (tag_at c.words j)) refl
+  where
+    from : (v : Bool) → is_valid (tag_at c.words j) ≡ v → is_valid (tag_at c.words j) ≡ true
+    from true e = e
+    from false e = absurd (none_free k n c t s victim.free (record { within = subst (λ f. k < f) s.frames victim.within; valid = is }) j less e)
+
 some_inj : (x y : ℕ) → Some x ≡ Some y → x ≡ y
 some_inj x y e = cc
 

@@ -71,8 +71,8 @@ put_rewrites n k b p w v old new s stored page within small found dirty =
 
 -- ---- the cache
 
-pub rewrites_sound : (n m : ℕ) (words : BlockWords) (old new : Contents) (t : CacheTables) → CacheSound old n t → Rewrites words old new → m ≡ n → new.open_page ≡ None → new.disk ≡ old.disk → SameEntries old.words new.words → CacheSound new m t
-rewrites_sound n m words old new t s h same closed disk entries = sound_holds n m old new t s (h.coherent n) same closed disk (holds_entries old.words new.words entries)
+pub rewrites_sound : (n m : ℕ) (words : BlockWords) (old new : Contents) (t : CacheTables) → CacheSound old n t → Rewrites words old new → m ≡ n → new.open_page ≡ None → new.disk ≡ old.disk → new.pending ≡ old.pending → SameEntries old.words new.words → CacheSound new m t
+rewrites_sound n m words old new t s h same closed disk pending entries = sound_holds n m old new t s (h.coherent n) same closed disk pending (holds_entries old.words new.words entries)
 
 pub run_sound : (n m k b p w count : ℕ) (from : List ℕ) (old new : Contents) (t : CacheTables) → CacheSound old n t → new ≡ record old { words = new.words } → p ≡ frame_page old.words k → w + count ≤ 512 → FrontStored (512 * p + w) count from old.words new.words → entry_of_block old.words b ≡ Some k → is_dirty (tag_at old.words k) ≡ true → m ≡ n → CacheSound new m t
-run_sound n m k b p w count from old new t s rest page fits h found dirty same = rewrites_sound n m (put_run (reads old) b w count from) old new t s (run_rewrites n k b p w count from old new s.coherent rest page fits h found dirty) same (ap (λ (c : Contents). c.open_page) rest ∙ s.closed) (disk_same old new rest) (run_entries k p w count from old.words new.words page fits h)
+run_sound n m k b p w count from old new t s rest page fits h found dirty same = rewrites_sound n m (put_run (reads old) b w count from) old new t s (run_rewrites n k b p w count from old new s.coherent rest page fits h found dirty) same (ap (λ (c : Contents). c.open_page) rest ∙ s.closed) (disk_same old new rest) (pending_same old new rest) (run_entries k p w count from old.words new.words page fits h)

@@ -20,6 +20,7 @@ start_sound n c t coherent closed shut empty fresh = record {
   first = fresh.first;
   marks = fresh.marks;
   buffer = fresh.buffer;
+  early = fresh.early c.disk c.pending;
   bound = λ k less. fresh.free k ∙ sym (ap (λ x. if is_valid x then Some (tag_block x) else None) (empty k less));
   most = omega (arith, fresh.none);
   room = fresh.room;

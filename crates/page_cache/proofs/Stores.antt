@@ -28,8 +28,8 @@ pub record SameHolds (old new : List ℕ) : Type 0 where
   pub shadow : (k : ℕ) → k < frames_of old → shadow_at new k ≡ shadow_at old k
   pub dirty : (k : ℕ) → k < frames_of old → is_dirty (tag_at old k) ≡ true → is_dirty (tag_at new k) ≡ true
 
-pub sound_holds : (n m : ℕ) (old new : Contents) (t : CacheTables) → CacheSound old n t → (Coherent old n → Coherent new n) → m ≡ n → new.open_page ≡ None → new.disk ≡ old.disk → SameHolds old.words new.words → CacheSound new m t
-sound_holds n m old new t s coherent same closed disk h = record {
+pub sound_holds : (n m : ℕ) (old new : Contents) (t : CacheTables) → CacheSound old n t → (Coherent old n → Coherent new n) → m ≡ n → new.open_page ≡ None → new.disk ≡ old.disk → new.pending ≡ old.pending → SameHolds old.words new.words → CacheSound new m t
+sound_holds n m old new t s coherent same closed disk pending h = record {
   coherent = coherent_on new n m same (coherent s.coherent);
   closed = closed;
   frames = s.frames ∙ sym h.frames;
@@ -37,6 +37,7 @@ sound_holds n m old new t s coherent same closed disk h = record {
   first = s.first ∙ ap (λ f. registry_pages f + 17) (sym h.frames);
   marks = s.marks ∙ sym (ap length disk);
   buffer = s.buffer;
+  early = rw (disk, pending) s.early;
   bound = λ k less. let was = within k less in s.bound k was ∙ sym (rw (h.valid k was, h.block k was) refl);
   most = s.most;
   room = s.room;
@@ -165,4 +166,4 @@ pub dirtied_keeps : (n k : ℕ) (old new : Contents) (words : List ℕ) (t : Cac
 dirtied_keeps n k old new words t s stored v one e = keeps_dirty n k old new s.coherent (rest_stored old new words stored) v (dirtied k old.words new.words one e)
 
 pub dirtied_sound : (n m k : ℕ) (old new : Contents) (t : CacheTables) → CacheSound old n t → Keeps old new → m ≡ n → new.open_page ≡ None → new ≡ record old { words = new.words } → OneEntry k old.words new.words → entry_of new.words k ≡ record (entry_of old.words k) { tag = with_dirty (tag_at old.words k) } → CacheSound new m t
-dirtied_sound n m k old new t s h same closed rest one e = sound_holds n m old new t s (h.coherent n) same closed (ap (λ (x : Contents). x.disk) rest) (holds_one k old.words new.words one (dirtied_held k old.words new.words one e) (λ d. dirtied_is k old.words new.words e))
+dirtied_sound n m k old new t s h same closed rest one e = sound_holds n m old new t s (h.coherent n) same closed (ap (λ (x : Contents). x.disk) rest) (ap (λ (x : Contents). x.pending) rest) (holds_one k old.words new.words one (dirtied_held k old.words new.words one e) (λ d. dirtied_is k old.words new.words e))

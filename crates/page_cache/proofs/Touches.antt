@@ -1,5 +1,5 @@
 -- A block becomes part of an update.
-use Rattle.page_cache.proofs.Common.{is_some, ◌≡◌, ◌≢◌, ℕ, ◌+◌, ◌-◌, ◌<◌, ◌≤◌, ◌==◌, ◌||◌, not, Bool, true, false, ◌⊎◌, if◌then◌else◌, List, length, slice_index, slice_set, Option, Some, None, refl, ◌∙◌, ap, sym, subst, inl, inr, arith, cases_eq, eq-eqb, ne_eqb, Contents, Lasts, Running, Steps, true_false, Firm, Goes, PageName, HeldEntry, Keeps, SameNames, entry_of_block, name_in, found_kept, entry_one, frames_one, found_is, coherent_on, IsValid, OneEntry, frames_of, gate_of, is_dirty, shadow_at, tag_at, tag_block, is_pinned, pins_in}
+use Rattle.page_cache.proofs.Common.{is_some, ◌≡◌, ◌≢◌, ℕ, ◌+◌, ◌-◌, ◌<◌, ◌≤◌, ◌==◌, ◌||◌, not, Bool, true, false, ◌⊎◌, if◌then◌else◌, List, slice_index, slice_set, Option, Some, None, refl, ◌∙◌, ap, sym, subst, inl, inr, arith, cases_eq, eq-eqb, ne_eqb, Contents, Lasts, Running, Steps, true_false, Firm, Goes, PageName, HeldEntry, Keeps, SameNames, entry_of_block, name_in, found_kept, entry_one, frames_one, found_is, coherent_on, IsValid, OneEntry, frames_of, gate_of, is_dirty, shadow_at, tag_at, tag_block, is_pinned, pins_in}
 use Rattle.std.proofs.Common.{get_or-set_same, get_or-set_other}
 use Rattle.rio_base.specs.Blocks.{CanName, SamePage}
 use Rattle.rio_base.specs.Volume.{HasRoom, Touches, with_block}
@@ -42,7 +42,7 @@ shadow_kept k old new others same j less = from (cases_eq j k)
 pub given_sound : (n m k : ℕ) (old new : Contents) (t u : CacheTables) → CacheSound old n t → m ≡ n → Keeps old new → new ≡ record old { words = new.words } → new.open_page ≡ None → SameNames old.words new.words → gate_of old.words ≡ 1 → IsValid old.words k → is_dirty (tag_at old.words k) ≡ true → t.shadows < 16
     → shadow_at new.words k ≡ t.shadows + 1 → ((j : ℕ) → j ≢ k → j < frames_of old.words → shadow_at new.words j ≡ shadow_at old.words j)
     → SameButPins t u → u.shadows ≡ t.shadows + 1 → u.shadowed ≡ slice_set t.shadowed t.shadows k → is_pinned u.pool k ≡ true → ((j : ℕ) → j ≢ k → is_pinned u.pool j ≡ is_pinned t.pool j) → pins_in u.pool ≤ pins_in t.pool + 1 → CacheSound new m u
-given_sound n m k old new t u s same h rest closed names is v dirty room given others pins count list pinned kept most = sound_with n m old new t u s (coherent_on new n m same (h.coherent n s.coherent)) closed (ap (λ (c : Contents). length c.disk) rest) names.frames (blocks_named old.words new.words names) pins (record {
+given_sound n m k old new t u s same h rest closed names is v dirty room given others pins count list pinned kept most = sound_with n m old new t u s (coherent_on new n m same (h.coherent n s.coherent)) closed (ap (λ (c : Contents). c.disk) rest) (ap (λ (c : Contents). c.pending) rest) names.frames (blocks_named old.words new.words names) pins (record {
   most = rw count (omega (arith, room));
   shadows = λ j w some. shadows j (valid_before old.words new.words j names w) some (cases_eq j k);
   listed = λ i less. rw names.frames (listed i (subst (λ c. i < c) count less) (cases_eq i t.shadows));

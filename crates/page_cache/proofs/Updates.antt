@@ -1,5 +1,5 @@
 -- What holds between calls is kept by the calls of an update.
-use Rattle.page_cache.proofs.Common.{◌≡◌, ◌≢◌, ℕ, ◌+◌, ◌-◌, ◌<◌, ◌≤◌, ◌==◌, ◌&&◌, not, Bool, true, false, ◌⊎◌, if◌then◌else◌, List, length, slice_index, Option, Some, None, is_some, refl, ◌∙◌, ap, sym, subst, inl, inr, arith, eq-eqb, Contents, true_false, IsValid, frames_of, gate_of, is_dirty, is_valid, shadow_at, tag_at, tag_block, Coherent, SameNames, entry_block, entry_of_block, name_in, found_is, coherent_on, is_pinned, pins_in}
+use Rattle.page_cache.proofs.Common.{◌≡◌, ◌≢◌, ℕ, ◌+◌, ◌-◌, ◌<◌, ◌≤◌, ◌==◌, ◌&&◌, not, Bool, true, false, ◌⊎◌, if◌then◌else◌, List, length, slice_index, Option, Some, None, is_some, refl, ◌∙◌, ap, sym, subst, inl, inr, arith, eq-eqb, Contents, disk_same, pending_same, true_false, IsValid, frames_of, gate_of, is_dirty, is_valid, shadow_at, tag_at, tag_block, Coherent, SameNames, entry_block, entry_of_block, name_in, found_is, coherent_on, is_pinned, pins_in}
 use Rattle.rio_base.specs.Blocks.{Drops}
 use Rattle.rio_base.specs.Image.{entry_at}
 use Rattle.rio_base.specs.Volume.{Begun}
@@ -28,15 +28,16 @@ block_by : ℕ → Option ℕ
 block_by t = if is_valid t then Some (tag_block t) else None
 
 -- the registry says of its pages what it said, and shadows and pins fit it
-pub sound_with : (n m : ℕ) (old new : Contents) (t u : CacheTables) → CacheSound old n t → Coherent new m → new.open_page ≡ None → length new.disk ≡ length old.disk → frames_of new.words ≡ frames_of old.words → ((k : ℕ) → k < frames_of old.words → entry_block new.words k ≡ entry_block old.words k) → SameButPins t u → ShadowsFit new.words u → CacheSound new m u
-sound_with n m old new t u s coherent closed disk frames blocks h f = record {
+pub sound_with : (n m : ℕ) (old new : Contents) (t u : CacheTables) → CacheSound old n t → Coherent new m → new.open_page ≡ None → new.disk ≡ old.disk → new.pending ≡ old.pending → frames_of new.words ≡ frames_of old.words → ((k : ℕ) → k < frames_of old.words → entry_block new.words k ≡ entry_block old.words k) → SameButPins t u → ShadowsFit new.words u → CacheSound new m u
+sound_with n m old new t u s coherent closed disk pending frames blocks h f = record {
   coherent = coherent;
   closed = closed;
   frames = h.frames ∙ s.frames ∙ sym frames;
-  blocks = h.blocks ∙ s.blocks ∙ sym disk;
+  blocks = h.blocks ∙ s.blocks ∙ sym (ap length disk);
   first = rw (h.first, frames) s.first;
   marks = rw (h.forgotten, disk) s.marks;
   buffer = rw h.buffer s.buffer;
+  early = rw (h.early, disk, pending) s.early;
   bound = λ k less. let was = subst (λ f. k < f) frames less in h.held k ∙ s.bound k was ∙ sym (blocks k was);
   most = f.most;
   room = h.room ∙ s.room;
@@ -93,17 +94,14 @@ fit_begun new u bare count none = record {
   few = rw (no_pins u.pool none) (omega arith);
 }
 
-disk_of : (old new : Contents) → new ≡ record old { words = new.words } → length new.disk ≡ length old.disk
-disk_of old new rest = ap (λ (c : Contents). length c.disk) rest
-
 pub sound_shut : (n m : ℕ) (old new : Contents) (t u : CacheTables) → CacheSound old n t → m ≡ n → (Coherent old n → Coherent new n) → new ≡ record old { words = new.words } → new.open_page ≡ None → SameNames old.words new.words → LosesShadows old.words new.words → gate_of new.words ≢ 1 → SameButPins t u → u.shadows ≡ t.shadows → u.shadowed ≡ t.shadowed → ((k : ℕ) → is_pinned u.pool k ≡ false) → CacheSound new m u
-sound_shut n m old new t u s same coherent rest closed names loses shut pins count list none = sound_with n m old new t u s (coherent_on new n m same (coherent s.coherent)) closed (disk_of old new rest) names.frames (blocks_named old.words new.words names) pins (fit_shut old.words new.words t u (fit_of n old t s) names loses shut count list none)
+sound_shut n m old new t u s same coherent rest closed names loses shut pins count list none = sound_with n m old new t u s (coherent_on new n m same (coherent s.coherent)) closed (disk_same old new rest) (pending_same old new rest) names.frames (blocks_named old.words new.words names) pins (fit_shut old.words new.words t u (fit_of n old t s) names loses shut count list none)
 
 pub sound_same : (n m : ℕ) (old new : Contents) (t : CacheTables) → CacheSound old n t → m ≡ n → (Coherent old n → Coherent new n) → new ≡ record old { words = new.words } → new.open_page ≡ None → SameNames old.words new.words → SameShadows old.words new.words → gate_of new.words ≡ gate_of old.words → CacheSound new m t
-sound_same n m old new t s same coherent rest closed names shadows gate = sound_with n m old new t t s (coherent_on new n m same (coherent s.coherent)) closed (disk_of old new rest) names.frames (blocks_named old.words new.words names) (pins_refl t) (fit_same old.words new.words t (fit_of n old t s) names shadows gate)
+sound_same n m old new t s same coherent rest closed names shadows gate = sound_with n m old new t t s (coherent_on new n m same (coherent s.coherent)) closed (disk_same old new rest) (pending_same old new rest) names.frames (blocks_named old.words new.words names) (pins_refl t) (fit_same old.words new.words t (fit_of n old t s) names shadows gate)
 
 pub sound_begun : (n m : ℕ) (old new : Contents) (t u : CacheTables) → CacheSound old n t → m ≡ n → (Coherent old n → Coherent new n) → new ≡ record old { words = new.words } → new.open_page ≡ None → SameNames old.words new.words → AreBare new.words → SameButPins t u → u.shadows ≡ 0 → ((k : ℕ) → is_pinned u.pool k ≡ false) → CacheSound new m u
-sound_begun n m old new t u s same coherent rest closed names bare pins count none = sound_with n m old new t u s (coherent_on new n m same (coherent s.coherent)) closed (disk_of old new rest) names.frames (blocks_named old.words new.words names) pins (fit_begun new.words u bare count none)
+sound_begun n m old new t u s same coherent rest closed names bare pins count none = sound_with n m old new t u s (coherent_on new n m same (coherent s.coherent)) closed (disk_same old new rest) (pending_same old new rest) names.frames (blocks_named old.words new.words names) pins (fit_begun new.words u bare count none)
 
 -- ---- what a reader sees, and what stands
 

@@ -131,7 +131,7 @@ widens_wider : (k : ℕ) (old new : List ℕ) (given : PageName) → Resized k g
 widens_wider k old new given r kind less = record { found = λ b. found_kept k b old new r.one (ap is_valid r.tag) (ap tag_block r.tag); others = λ b j f ne. name_other k j old new r.one ne; own = inr (wider k old new given r kind less) }
 
 sound_resized : (n m k size : ℕ) (old new : Contents) (t : CacheTables) → CacheSound old n t → Keeps old new → m ≡ n → new.open_page ≡ None → new ≡ record old { words = new.words } → Resized k size old.words new.words → CacheSound new m t
-sound_resized n m k size old new t s h same closed rest r = sound_holds n m old new t s (h.coherent n) same closed (ap (λ (x : Contents). x.disk) rest) (record {
+sound_resized n m k size old new t s h same closed rest r = sound_holds n m old new t s (h.coherent n) same closed (ap (λ (x : Contents). x.disk) rest) (ap (λ (x : Contents). x.pending) rest) (record {
   frames = h.header 2 (omega arith);
   gate = h.header 4 (omega arith);
   valid = λ j less. ap is_valid (tag j (cases_eq j k));

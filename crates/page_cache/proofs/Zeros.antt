@@ -20,7 +20,7 @@ filled_entries : (k : ℕ) (old new : List ℕ) → OnePage (frame_page old k) o
 filled_entries k old new one = same_entries (frame_page old k) old new one (frame_past old k)
 
 pub filled_sound : (n m k : ℕ) (old new : Contents) (t : CacheTables) → CacheSound old n t → Keeps old new → new ≡ record old { words = new.words } → OnePage (frame_page old.words k) old.words new.words → m ≡ n → CacheSound new m t
-filled_sound n m k old new t s h rest one same = sound_holds n m old new t s (h.coherent n) same (ap (λ (c : Contents). c.open_page) rest ∙ s.closed) (disk_same old new rest) (holds_entries old.words new.words (filled_entries k old.words new.words one))
+filled_sound n m k old new t s h rest one same = sound_holds n m old new t s (h.coherent n) same (ap (λ (c : Contents). c.open_page) rest ∙ s.closed) (disk_same old new rest) (pending_same old new rest) (holds_entries old.words new.words (filled_entries k old.words new.words one))
 
 pub filled_cached : (k : ℕ) (old new : List ℕ) → OnePage (frame_page old k) old new → SameCached old new
 filled_cached k old new one = cached_entries old new (filled_entries k old new one)
@@ -119,8 +119,8 @@ zeros_adds n k b name old new s made e = record {
 pub new_made : (k b : ℕ) (name : Option PageName) (old new : Contents) → OneEntry k old.words new.words → k < frames_of old.words → is_valid (tag_at old.words k) ≡ false → entry_of_block old.words b ≡ None → InRange name → entry_of new.words k ≡ new_entry b name true → Made k b true old.words new.words
 new_made k b name old new one within gone none range e = made_new k b name true old.words new.words one within gone (free_of b old.words none) range e
 
-pub zeros_sound : (n m k b : ℕ) (old new : Contents) (t u : CacheTables) → CacheSound old n t → Frees b old new → m ≡ n → new.open_page ≡ None → new.disk ≡ old.disk → Made k b true old.words new.words → TablesStay t u → block_of u.pool k ≡ Some b → ((j : ℕ) → j ≢ k → block_of u.pool j ≡ block_of t.pool j) → CacheSound new m u
-zeros_sound n m k b old new t u s h same closed disk made stay bound others = made_sound k b n m true old new t u s (coherent_on new n m same (h.coherent n s.coherent)) (record { frames = h.header 2 (omega arith); gate = h.header 4 (omega arith); disk = ap length disk }) closed made stay bound others
+pub zeros_sound : (n m k b : ℕ) (old new : Contents) (t u : CacheTables) → CacheSound old n t → Frees b old new → m ≡ n → new.open_page ≡ None → new.disk ≡ old.disk → new.pending ≡ old.pending → Made k b true old.words new.words → TablesStay t u → block_of u.pool k ≡ Some b → ((j : ℕ) → j ≢ k → block_of u.pool j ≡ block_of t.pool j) → CacheSound new m u
+zeros_sound n m k b old new t u s h same closed disk pending made stay bound others = made_sound k b n m true old new t u s (coherent_on new n m same (h.coherent n s.coherent)) (record { frames = h.header 2 (omega arith); gate = h.header 4 (omega arith); disk = disk; pending = pending }) closed made stay bound others
 
 -- a call that keeps all frees none
 pub frees_keeps : (b : ℕ) (old new : Contents) → Keeps old new → Frees b old new

@@ -11,6 +11,7 @@ use Rattle.rio_model.specs.Registry.{IsValid, frames_of, gate_of, is_dirty, is_v
 use Rattle.write_back.specs.Writing.{SameDisk}
 use Rattle.rio_model.specs.Cover.{Coherent, StandsAs, causes_of, entry_block, entry_of_block, home_of, home_word, is_loose, name_in, reads, stands}
 use Rattle.page_cache.specs.declared.tables.CacheTables.{CacheTables}
+use Rattle.page_cache.specs.EarlyBlocks.{Knows, KnowsNone}
 
 -- ---- what a reader sees
 
@@ -70,6 +71,8 @@ pub record CacheSound (c : Contents) (scratch : ℕ) (t : CacheTables) : Type 0 
   pub first : t.first_frame ≡ registry_pages (frames_of c.words) + 17
   pub marks : length t.forgotten.items ≡ length c.disk
   pub buffer : length t.buffer.items ≡ 512
+  -- what is known of blocks that were written early is so
+  pub early : Knows c.disk c.pending t.early
   -- the pool has for each frame the block of its entry
   pub bound : (k : ℕ) → k < frames_of c.words → block_of t.pool k ≡ entry_block c.words k
   -- an entry with shadow s is the s-th that was given one, and all 16 are enough
@@ -90,6 +93,7 @@ pub record IsFresh (frames blocks : ℕ) (t : CacheTables) : Type 0 where
   pub marks : length t.forgotten.items ≡ blocks
   pub firm : (b : ℕ) → was_forgotten t b ≡ false
   pub buffer : length t.buffer.items ≡ 512
+  pub early : KnowsNone t.early
   pub free : (k : ℕ) → block_of t.pool k ≡ None
   pub room : length t.shadowed ≡ 16
   pub none : t.shadows ≡ 0

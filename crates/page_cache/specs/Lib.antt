@@ -1,5 +1,7 @@
 pub mod Caches
+pub mod EarlyBlocks
 pub mod Laws
+pub mod Nearing
 pub mod Settled
 pub mod Stores
 pub mod Updating

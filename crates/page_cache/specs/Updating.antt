@@ -11,6 +11,7 @@ pub record SameButPins (t u : CacheTables) : Type 0 where
   pub blocks : blocks_in u.pool ≡ blocks_in t.pool
   pub held : (k : ℕ) → block_of u.pool k ≡ block_of t.pool k
   pub forgotten : u.forgotten ≡ t.forgotten
+  pub early : u.early ≡ t.early
   pub buffer : u.buffer ≡ t.buffer
   pub first : u.first_frame ≡ t.first_frame
   pub room : length u.shadowed ≡ length t.shadowed

@@ -16,10 +16,10 @@ use crate::cache::PageCache;
 use crate::filling::{fill, install_clean, read_home};
 use registry::{Tag, frame_page_of, load_tag};
 use rio_base::{Block, Machine, PageName, Stopped, VolFail};
-use write_back::evict;
+use write_back::release;
 
 impl<M: Machine> PageCache<M> {
-    /// Evicts the block of frame `k`, which isn't pinned: with one block write, if its page is dirty.
+    /// Evicts the block of frame `k`, which isn't pinned: with one block write at most, if its page is dirty.
     #[tactic(auto, using(crate::proofs::Kept::bare_unpinned, crate::proofs::Rooms::frame_bound))]
     fn evict_frame(&mut self, k: u32) -> Result<(), VolFail>
         requires sound { CacheSound (M.contents self.old.machine) (length (M.run self.old.machine).scratch) self.old.tables }
@@ -41,8 +41,11 @@ impl<M: Machine> PageCache<M> {
         ensures fault { FaultCause (M.contents self.old.machine) (M.contents self.new.machine) (IsErrOf result VolFail.Fault) }
         ensures ends { StepEnds (M.run self.old.machine) (M.run self.new.machine) (IsErrOf result VolFail.Stopped) }
     {
-        evict(&mut self.machine, k)?;
+        self.prepare(k)?;
+        let block = self.tag_of(k).block();
+        release(&mut self.machine, k)?;
         self.tables.pool.unbind(k);
+        self.tables.early.clear(block);
         Ok(())
     }
 
@@ -78,7 +81,7 @@ impl<M: Machine> PageCache<M> {
 
     /// The tag of entry `k`.
     #[tactic(auto, using(crate::proofs::Fills::layout_now))]
-    fn tag_of(&self, k: u32) -> Tag
+    pub(crate) fn tag_of(&self, k: u32) -> Tag
         requires coherent { Coherent (M.contents self.now.machine) (length (M.run self.now.machine).scratch) }
         requires entry { k < frames_of (M.contents self.now.machine).words }
         ensures { result.0 ≡ tag_at (M.contents self.now.machine).words k }
@@ -175,7 +178,7 @@ impl<M: Machine> PageCache<M> {
     }
 
     /// The frame of block `b`, which is fetched if it isn't cached: then under this name. It counts as a use.
-    #[tactic(auto, using(crate::proofs::Rooms::keeps_then, rio_base::proofs::MachineRules::ends_then, crate::proofs::Rooms::lasts_then, crate::proofs::Rooms::adds_narrows, crate::proofs::Rooms::adds_after, crate::proofs::Rooms::none_still, crate::proofs::Rooms::none_bound, crate::proofs::Rooms::some_bound, rio_model::proofs::CoverSteps::keeps_refl, rio_base::proofs::MachineRules::steps_refl, rio_base::proofs::MachineRules::lasts_refl, rio_model::proofs::CoverStands::narrows_refl, crate::proofs::Stills::still_refl, crate::proofs::Stills::few_still, crate::proofs::Stills::few_then, crate::proofs::Touched::touches_refl, crate::proofs::Touched::touches_trans, crate::proofs::Kept::tables_refl, crate::proofs::Kept::tables_trans, crate::proofs::Uses::leaves_refl, crate::proofs::Uses::leaves_then))]
+    #[tactic(auto, using(crate::proofs::Rooms::none_bound, crate::proofs::Rooms::some_bound, rio_model::proofs::CoverSteps::keeps_refl, rio_base::proofs::MachineRules::steps_refl, rio_base::proofs::MachineRules::lasts_refl, rio_model::proofs::CoverStands::narrows_refl, crate::proofs::Rooms::adds_narrows, crate::proofs::Stills::still_refl, crate::proofs::Stills::few_still, crate::proofs::Touched::touches_refl, crate::proofs::Kept::tables_refl, crate::proofs::Uses::leaves_refl))]
     pub(crate) fn fetch(&mut self, b: Block, name: Option<PageName>) -> Result<u32, VolFail>
         requires sound { CacheSound (M.contents self.old.machine) (length (M.run self.old.machine).scratch) self.old.tables }
         requires block { b.0 < length (M.contents self.old.machine).disk }
@@ -198,10 +201,38 @@ impl<M: Machine> PageCache<M> {
         ensures fault { FaultCause (M.contents self.old.machine) (M.contents self.new.machine) (IsErrOf result VolFail.Fault) }
         ensures ends { StepEnds (M.run self.old.machine) (M.run self.new.machine) (IsErrOf result VolFail.Stopped) }
     {
+        // Nearly always the block is cached: so what fetches it from the disk is a function of its own, and this one is short.
         if let Some(k) = self.tables.pool.find(b) {
             self.tables.pool.use_slot(k);
             return Ok(k);
         }
+        self.fetch_absent(b, name)
+    }
+
+    /// Fetches block `b`, which isn't cached, under this name: its frame, which counts as used.
+    #[tactic(auto, using(crate::proofs::Rooms::keeps_then, rio_base::proofs::MachineRules::ends_then, crate::proofs::Rooms::lasts_then, crate::proofs::Rooms::adds_narrows, crate::proofs::Rooms::adds_after, crate::proofs::Rooms::none_still, crate::proofs::Stills::few_then, crate::proofs::Touched::touches_trans, crate::proofs::Kept::tables_trans, crate::proofs::Uses::leaves_then))]
+    #[inline(never)]
+    fn fetch_absent(&mut self, b: Block, name: Option<PageName>) -> Result<u32, VolFail>
+        requires sound { CacheSound (M.contents self.old.machine) (length (M.run self.old.machine).scratch) self.old.tables }
+        requires block { b.0 < length (M.contents self.old.machine).disk }
+        requires uncached { entry_of_block (M.contents self.old.machine).words b.0 ≡ None }
+        requires name { InRange name }
+        ensures sound { CacheSound (M.contents self.new.machine) (length (M.run self.new.machine).scratch) self.new.tables }
+        ensures keeps { Keeps (M.contents self.old.machine) (M.contents self.new.machine) }
+        ensures adds { Adds b.0 name (M.contents self.old.machine).words (M.contents self.new.machine).words }
+        ensures found { IfOk result (λ k. entry_of_block (M.contents self.new.machine).words b.0 ≡ Some k) }
+        ensures touches { SameTouches (M.contents self.old.machine).words (M.contents self.new.machine).words }
+        ensures tables { SameTables self.old.tables self.new.tables }
+        ensures used { OnOk result (UsedLast b.0 (M.contents self.new.machine).words self.old.tables self.new.tables) }
+        ensures failed { IsErr result → FailedUse b.0 (M.contents self.new.machine).words self.old.tables self.new.tables }
+        ensures leaves { LeavesOldest self.old.tables (M.contents self.old.machine).words (M.contents self.new.machine).words }
+        ensures writes { FewWrites b.0 self.old.tables (M.contents self.old.machine) (M.contents self.new.machine) }
+        ensures marks { DirtiesOnly None (M.contents self.old.machine).words (M.contents self.new.machine).words }
+        ensures unfetched { IsErrOf result VolFail.Fault → Narrows (M.contents self.old.machine).words (M.contents self.new.machine).words }
+        ensures lasts { Lasts (M.contents self.old.machine) (M.contents self.new.machine) }
+        ensures fault { FaultCause (M.contents self.old.machine) (M.contents self.new.machine) (IsErrOf result VolFail.Fault) }
+        ensures ends { StepEnds (M.run self.old.machine) (M.run self.new.machine) (IsErrOf result VolFail.Stopped) }
+    {
         let k = self.make_room(b)?;
         self.bring(k, b, name)?;
         Ok(k)

@@ -2,9 +2,11 @@
 #![tactic(auto)]
 
 mod cache;
+mod early;
 mod fetching;
 mod filling;
 mod freeing;
+mod leaving;
 mod reading;
 mod storing;
 mod tables;

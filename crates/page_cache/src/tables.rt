@@ -3,6 +3,7 @@
 ghost use Rattle.std.specs.Prelude.{◌≤◌, IfOk};
 ghost use Rattle.page_cache.specs.Caches.{IsFresh};
 
+use crate::early::EarlyWrites;
 use frame_pool::FramePool;
 use rio_base::BLOCK_WORDS;
 use std::alloc::{AllocError, Global};
@@ -17,6 +18,8 @@ pub struct CacheTables {
     pub(crate) pool: FramePool,
     /// Which blocks were forgotten, and not made anew since.
     pub(crate) forgotten: Vec<bool>,
+    /// Which blocks were written before their pages leave, and as which words: none where there is a frame for each.
+    pub(crate) early: EarlyWrites,
     /// A block on its way from the disk.
     pub(crate) buffer: Vec<u64>,
     /// The page of frame 0.
@@ -36,10 +39,12 @@ impl CacheTables {
     {
         let pool = FramePool::new(alloc, frames, blocks)?;
         let forgotten = vec![in alloc; false; blocks as usize]?;
+        let early = EarlyWrites::new(alloc, blocks, blocks <= frames)?;
         let buffer = vec![in alloc; 0; BLOCK_WORDS]?;
         Ok(CacheTables {
             pool,
             forgotten,
+            early,
             buffer,
             first_frame: (frames + 101) / 102 + 17,
             shadowed: [0; SHADOWS],

@@ -84,7 +84,7 @@ pub(crate) fn put_edit<M: Machine>(
 }
 
 /// The shadow of entry `k`, 0 for none.
-fn shadow_of_entry<M: Machine>(m: &M, k: u32) -> u64
+pub(crate) fn shadow_of_entry<M: Machine>(m: &M, k: u32) -> u64
     requires coherent { Coherent (M.contents m.now) (length (M.run m.now).scratch) }
     requires entry { k < frames_of (M.contents m.now).words }
     ensures { result ≡ shadow_at (M.contents m.now).words k }

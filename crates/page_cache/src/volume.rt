@@ -340,6 +340,8 @@ impl<M: Machine> Volume for PageCache<M> {
         ensures unmarked { IsErrOf result VolFail.Fault → (M.contents self.new.machine).words ≡ (M.contents self.old.machine).words }
         ensures order { order_of self.new.tables.pool ≡ order_of self.old.tables.pool }
     {
+        // A flush that fails leaves any of its blocks pending.
+        self.tables.early.lose_all();
         let j = write_back::flush(&mut self.machine, k)?;
         Ok(j)
     }

@@ -1,4 +1,4 @@
-use Rattle.std.proofs.Common.{◌≡◌, arith, refl, sym}
+use Rattle.std.proofs.Common.{arith, refl, sym}
 use Rattle.rio_base.specs.Rules.{true_false}
 use Rattle.rio_base.proofs.MachineRules.{ends_err, ends_then}
 use Rattle.shadow_pages.proofs.shadowing.shadow.Goals as goal

@@ -1,3 +1,4 @@
+use Rattle.page_cache.proofs.EarlyStates.{loses_refl}
 use Rattle.std.proofs.Common.{false, refl}
 use Rattle.page_cache.proofs.Rooms.{adds_made, adds_narrows, begun_narrows, begun_sound, bound_made, found_new, frame_free, free_of, name_made, touches_begun, touches_made, unbound}
 use Rattle.page_cache.proofs.cache.PageCache.bind_frame.Goals as goal
@@ -16,7 +17,7 @@ pub bind-requires-clause-unbound : goal.bind-requires-clause-unbound
 bind-requires-clause-unbound g c = unbound c.args.b.0 _ _ _ c.requires.sound c.requires.uncached
 
 pub returns-in_err-install_clean-clause-sound : goal.returns-in_err-install_clean-clause-sound
-returns-in_err-install_clean-clause-sound g c = begun_sound c.args.k _ _ _ _ _ c.requires.sound c.install_clean.ensures.keeps c.install_clean.ensures.lasts c.install_clean.ensures.ends.steps.scratch_count c.install_clean.ensures.closed c.install_clean.ensures.one_entry c.requires.invalid c.in_err-install_clean.ensures.tag
+returns-in_err-install_clean-clause-sound g c = begun_sound c.args.k _ _ _ _ _ c.requires.sound c.install_clean.ensures.keeps c.install_clean.ensures.still c.install_clean.ensures.ends.steps.scratch_count c.install_clean.ensures.closed c.install_clean.ensures.one_entry c.requires.invalid c.in_err-install_clean.ensures.tag
 
 pub returns-in_err-install_clean-clause-adds : goal.returns-in_err-install_clean-clause-adds
 returns-in_err-install_clean-clause-adds g c = adds_narrows _ _ _ _ (begun_narrows c.args.k _ _ c.install_clean.ensures.one_entry c.in_err-install_clean.ensures.tag c.requires.invalid)
@@ -25,7 +26,7 @@ pub returns-in_err-install_clean-clause-touches : goal.returns-in_err-install_cl
 returns-in_err-install_clean-clause-touches g c = touches_begun c.args.k _ (g.M.Machine.contents c.args.self.now.machine) (g.M.Machine.contents c.install_clean.new.m) c.requires.sound.coherent c.install_clean.ensures.keeps c.install_clean.ensures.one_entry c.requires.invalid c.in_err-install_clean.ensures.tag
 
 pub returns-clause-sound : goal.returns-clause-sound
-returns-clause-sound g c = bound_made c.args.k c.args.b.0 _ _ _ _ _ _ c.requires.sound c.install_clean.ensures.keeps c.install_clean.ensures.lasts c.install_clean.ensures.ends.steps.scratch_count c.install_clean.ensures.closed c.in_ok-install_clean.ensures.made (record { same = record { forgotten = refl; shadowed = refl; shadows = refl }; pool = record { frames = c.bind.ensures.frames; blocks = c.bind.ensures.blocks; pins = c.bind.ensures.pins; count = c.bind.ensures.pins_in }; first = refl; buffer = refl }) c.bind.ensures.bound c.bind.ensures.others
+returns-clause-sound g c = bound_made c.args.k c.args.b.0 _ _ _ _ _ _ c.requires.sound c.install_clean.ensures.keeps c.install_clean.ensures.still c.install_clean.ensures.ends.steps.scratch_count c.install_clean.ensures.closed c.in_ok-install_clean.ensures.made (record { same = record { forgotten = refl; shadowed = refl; shadows = refl }; pool = record { frames = c.bind.ensures.frames; blocks = c.bind.ensures.blocks; pins = c.bind.ensures.pins; count = c.bind.ensures.pins_in }; first = refl; early = loses_refl _; buffer = refl }) c.bind.ensures.bound c.bind.ensures.others
 
 pub returns-clause-adds : goal.returns-clause-adds
 returns-clause-adds g c = adds_made c.args.k c.args.b.0 c.args.name _ _ c.in_ok-install_clean.ensures.made (c.install_clean.ensures.keeps.coherent _ c.requires.sound.coherent).rules.blocks (name_made c.args.k c.args.b.0 c.args.name _ c.in_ok-install_clean.ensures.entry)

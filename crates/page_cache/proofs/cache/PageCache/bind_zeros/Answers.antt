@@ -1,5 +1,7 @@
+use Rattle.page_cache.proofs.EarlyStates.{loses_refl}
 use Rattle.page_cache.proofs.Common.{ap, Contents}
 use Rattle.std.proofs.Common.{refl, true}
+use Rattle.page_cache.proofs.Stills.{still_rest}
 use Rattle.page_cache.proofs.Rooms.{adds_narrows, begun_narrows, begun_sound, frame_free, free_of, unbound}
 use Rattle.page_cache.proofs.Zeros.{begun_keeps, frees_keeps, new_made, zeros_adds, zeros_frees, zeros_sound, made_found}
 use Rattle.page_cache.proofs.cache.PageCache.bind_zeros.Goals as goal
@@ -18,7 +20,7 @@ pub bind-requires-clause-unbound : goal.bind-requires-clause-unbound
 bind-requires-clause-unbound g c = unbound c.args.b.0 _ _ _ c.requires.sound c.requires.uncached
 
 pub returns-in_err-install-clause-sound : goal.returns-in_err-install-clause-sound
-returns-in_err-install-clause-sound g c = begun_sound c.args.k _ _ (g.M.Machine.contents c.args.self.now.machine) (g.M.Machine.contents c.install.new.m) _ c.requires.sound (begun_keeps _ c.args.k (g.M.Machine.contents c.args.self.now.machine) (g.M.Machine.contents c.install.new.m) _ c.requires.sound c.install.ensures.changes.rest c.install.ensures.changes.one_entry c.requires.entry c.requires.invalid c.in_err-install.ensures.begun) c.install.ensures.changes.lasts c.install.ensures.changes.ends.steps.scratch_count c.install.ensures.changes.closed c.install.ensures.changes.one_entry c.requires.invalid c.in_err-install.ensures.begun
+returns-in_err-install-clause-sound g c = begun_sound c.args.k _ _ (g.M.Machine.contents c.args.self.now.machine) (g.M.Machine.contents c.install.new.m) _ c.requires.sound (begun_keeps _ c.args.k (g.M.Machine.contents c.args.self.now.machine) (g.M.Machine.contents c.install.new.m) _ c.requires.sound c.install.ensures.changes.rest c.install.ensures.changes.one_entry c.requires.entry c.requires.invalid c.in_err-install.ensures.begun) (still_rest _ _ c.install.ensures.changes.rest) c.install.ensures.changes.ends.steps.scratch_count c.install.ensures.changes.closed c.install.ensures.changes.one_entry c.requires.invalid c.in_err-install.ensures.begun
 
 pub returns-in_err-install-clause-frees : goal.returns-in_err-install-clause-frees
 returns-in_err-install-clause-frees g c = frees_keeps c.args.b.0 (g.M.Machine.contents c.args.self.now.machine) (g.M.Machine.contents c.install.new.m) (begun_keeps _ c.args.k (g.M.Machine.contents c.args.self.now.machine) (g.M.Machine.contents c.install.new.m) _ c.requires.sound c.install.ensures.changes.rest c.install.ensures.changes.one_entry c.requires.entry c.requires.invalid c.in_err-install.ensures.begun)
@@ -39,7 +41,7 @@ pub returns-clause-adds : goal.returns-clause-adds
 returns-clause-adds g c = zeros_adds _ c.args.k c.args.b.0 c.args.name (g.M.Machine.contents c.args.self.now.machine) (g.M.Machine.contents c.install.new.m) c.requires.sound.coherent (new_made c.args.k c.args.b.0 c.args.name (g.M.Machine.contents c.args.self.now.machine) (g.M.Machine.contents c.install.new.m) c.install.ensures.changes.one_entry c.requires.entry c.requires.invalid c.requires.uncached c.requires.name c.in_ok-install.ensures.entry) c.in_ok-install.ensures.entry
 
 pub returns-clause-sound : goal.returns-clause-sound
-returns-clause-sound g c = zeros_sound _ _ c.args.k c.args.b.0 (g.M.Machine.contents c.args.self.now.machine) (g.M.Machine.contents c.install.new.m) _ _ c.requires.sound (zeros_frees _ c.args.k c.args.b.0 (g.M.Machine.contents c.args.self.now.machine) (g.M.Machine.contents c.install.new.m) c.requires.sound.coherent c.install.ensures.changes.rest (new_made c.args.k c.args.b.0 c.args.name (g.M.Machine.contents c.args.self.now.machine) (g.M.Machine.contents c.install.new.m) c.install.ensures.changes.one_entry c.requires.entry c.requires.invalid c.requires.uncached c.requires.name c.in_ok-install.ensures.entry) c.requires.block c.requires.zeros).1 c.install.ensures.changes.ends.steps.scratch_count c.install.ensures.changes.closed (ap (λ (m : Contents). m.disk) c.install.ensures.changes.rest) (new_made c.args.k c.args.b.0 c.args.name (g.M.Machine.contents c.args.self.now.machine) (g.M.Machine.contents c.install.new.m) c.install.ensures.changes.one_entry c.requires.entry c.requires.invalid c.requires.uncached c.requires.name c.in_ok-install.ensures.entry) (record { same = record { forgotten = refl; shadowed = refl; shadows = refl }; pool = record { frames = c.bind.ensures.frames; blocks = c.bind.ensures.blocks; pins = c.bind.ensures.pins; count = c.bind.ensures.pins_in }; first = refl; buffer = refl }) c.bind.ensures.bound c.bind.ensures.others
+returns-clause-sound g c = zeros_sound _ _ c.args.k c.args.b.0 (g.M.Machine.contents c.args.self.now.machine) (g.M.Machine.contents c.install.new.m) _ _ c.requires.sound (zeros_frees _ c.args.k c.args.b.0 (g.M.Machine.contents c.args.self.now.machine) (g.M.Machine.contents c.install.new.m) c.requires.sound.coherent c.install.ensures.changes.rest (new_made c.args.k c.args.b.0 c.args.name (g.M.Machine.contents c.args.self.now.machine) (g.M.Machine.contents c.install.new.m) c.install.ensures.changes.one_entry c.requires.entry c.requires.invalid c.requires.uncached c.requires.name c.in_ok-install.ensures.entry) c.requires.block c.requires.zeros).1 c.install.ensures.changes.ends.steps.scratch_count c.install.ensures.changes.closed (ap (λ (m : Contents). m.disk) c.install.ensures.changes.rest) (ap (λ (m : Contents). m.pending) c.install.ensures.changes.rest) (new_made c.args.k c.args.b.0 c.args.name (g.M.Machine.contents c.args.self.now.machine) (g.M.Machine.contents c.install.new.m) c.install.ensures.changes.one_entry c.requires.entry c.requires.invalid c.requires.uncached c.requires.name c.in_ok-install.ensures.entry) (record { same = record { forgotten = refl; shadowed = refl; shadows = refl }; pool = record { frames = c.bind.ensures.frames; blocks = c.bind.ensures.blocks; pins = c.bind.ensures.pins; count = c.bind.ensures.pins_in }; first = refl; early = loses_refl _; buffer = refl }) c.bind.ensures.bound c.bind.ensures.others
 
 pub returns-in_err-install-clause-stay : goal.returns-in_err-install-clause-stay
 returns-in_err-install-clause-stay g c = stay_begun c.args.k _ _ c.install.ensures.changes.one_entry c.in_err-install.ensures.begun

@@ -1,3 +1,4 @@
+use Rattle.page_cache.proofs.EarlyStates.{loses_refl}
 use Rattle.page_cache.proofs.Common.{ap, Contents, Entry, found_is}
 use Rattle.std.proofs.Common.{refl}
 use Rattle.page_cache.proofs.Stores.{sound_same}
@@ -38,7 +39,7 @@ returns-clause-sound g c =
     let tag = ap (λ (x : Entry). x.tag) c.in_ok-clear.ensures.entry in
     let old = g.M.Machine.contents c.args.self.now.machine in
     let new = g.M.Machine.contents c.clear.new.m in
-    cleared_sound _ _ c.args.k c.args.b.0 old new _ _ c.requires.sound (cleared_frees _ c.args.k c.args.b.0 old new c.requires.sound.coherent e.rest e.one_entry tag c.requires.found) e.ends.steps.scratch_count e.closed (ap (λ (m : Contents). m.disk) e.rest) e.one_entry tag (record { same = record { forgotten = refl; shadowed = refl; shadows = refl }; pool = record { frames = c.unbind.ensures.frames; blocks = c.unbind.ensures.blocks; pins = c.unbind.ensures.pins; count = c.unbind.ensures.pins_in }; first = refl; buffer = refl }) c.unbind.ensures.unbound c.unbind.ensures.others
+    cleared_sound _ _ c.args.k c.args.b.0 old new _ _ c.requires.sound (cleared_frees _ c.args.k c.args.b.0 old new c.requires.sound.coherent e.rest e.one_entry tag c.requires.found) e.ends.steps.scratch_count e.closed (ap (λ (m : Contents). m.disk) e.rest) (ap (λ (m : Contents). m.pending) e.rest) e.one_entry tag (record { same = record { forgotten = refl; shadowed = refl; shadows = refl }; pool = record { frames = c.unbind.ensures.frames; blocks = c.unbind.ensures.blocks; pins = c.unbind.ensures.pins; count = c.unbind.ensures.pins_in }; first = refl; early = loses_refl _; buffer = refl }) c.unbind.ensures.unbound c.unbind.ensures.others
 
 pub returns-clause-freed : goal.returns-clause-freed
 returns-clause-freed g c = c.unbind.ensures.order

@@ -1,3 +1,4 @@
+use Rattle.page_cache.proofs.EarlyStates.{loses_refl}
 use Rattle.rio_base.proofs.MachineRules.{ends_err}
 use Rattle.page_cache.proofs.Common.{◌∙◌, ap, sym, coherent_on, Contents}
 use Rattle.page_cache.proofs.Fills.{layout_now}
@@ -18,10 +19,10 @@ use Rattle.page_cache.proofs.DirtyMarks.{marks_filled, marks_same}
 use Rattle.page_cache.proofs.Common.{None}
 
 pub returns-in_err-read_home-clause-sound : goal.returns-in_err-read_home-clause-sound
-returns-in_err-read_home-clause-sound g c = read_sound _ _ _ _ _ _ c.requires.sound c.read_home.ensures.keeps c.read_home.ensures.lasts c.read_home.ensures.ends.steps.scratch_count c.read_home.ensures.closed c.read_home.ensures.memory (record { same = record { forgotten = refl; shadowed = refl; shadows = refl }; pool = record { frames = refl; blocks = refl; pins = λ k. refl; count = refl }; first = refl; buffer = c.read_home.ensures.room ∙ sym c.requires.sound.buffer }) (λ j. refl)
+returns-in_err-read_home-clause-sound g c = read_sound _ _ _ _ _ _ c.requires.sound c.read_home.ensures.keeps c.read_home.ensures.still c.read_home.ensures.ends.steps.scratch_count c.read_home.ensures.closed c.read_home.ensures.memory (record { same = record { forgotten = refl; shadowed = refl; shadows = refl }; pool = record { frames = refl; blocks = refl; pins = λ k. refl; count = refl }; first = refl; early = loses_refl _; buffer = c.read_home.ensures.room ∙ sym c.requires.sound.buffer }) (λ j. refl)
 
 pub returns-in_err-fill-clause-sound : goal.returns-in_err-fill-clause-sound
-returns-in_err-fill-clause-sound g c = filled_sound c.args.k _ _ (g.M.Machine.contents c.args.self.now.machine) (g.M.Machine.contents c.read_home.new.m) _ _ _ c.requires.sound c.read_home.ensures.keeps c.fill.ensures.keeps c.read_home.ensures.lasts c.fill.ensures.lasts (c.fill.ensures.ends.steps.scratch_count ∙ c.read_home.ensures.ends.steps.scratch_count) (ap (λ (m : Contents). m.open_page) c.fill.ensures.rest ∙ c.read_home.ensures.closed) c.read_home.ensures.memory c.fill.ensures.one_page (record { same = record { forgotten = refl; shadowed = refl; shadows = refl }; pool = record { frames = refl; blocks = refl; pins = λ k. refl; count = refl }; first = refl; buffer = c.read_home.ensures.room ∙ sym c.requires.sound.buffer }) (λ j. refl)
+returns-in_err-fill-clause-sound g c = filled_sound c.args.k _ _ (g.M.Machine.contents c.args.self.now.machine) (g.M.Machine.contents c.read_home.new.m) _ _ _ c.requires.sound c.read_home.ensures.keeps c.fill.ensures.keeps (still_trans _ _ _ c.read_home.ensures.still (still_rest _ _ c.fill.ensures.rest)) (c.fill.ensures.ends.steps.scratch_count ∙ c.read_home.ensures.ends.steps.scratch_count) (ap (λ (m : Contents). m.open_page) c.fill.ensures.rest ∙ c.read_home.ensures.closed) c.read_home.ensures.memory c.fill.ensures.one_page (record { same = record { forgotten = refl; shadowed = refl; shadows = refl }; pool = record { frames = refl; blocks = refl; pins = λ k. refl; count = refl }; first = refl; early = loses_refl _; buffer = c.read_home.ensures.room ∙ sym c.requires.sound.buffer }) (λ j. refl)
 
 pub returns-in_err-fill-clause-narrows : goal.returns-in_err-fill-clause-narrows
 returns-in_err-fill-clause-narrows g c = filled_narrows (g.M.Machine.contents c.args.self.now.machine) (g.M.Machine.contents c.read_home.new.m) c.args.k _ c.read_home.ensures.memory c.fill.ensures.one_page
@@ -33,7 +34,7 @@ pub returns-in_err-fill-clause-touches : goal.returns-in_err-fill-clause-touches
 returns-in_err-fill-clause-touches g c = touches_filled (g.M.Machine.contents c.args.self.now.machine) (g.M.Machine.contents c.read_home.new.m) c.args.k _ c.read_home.ensures.memory c.fill.ensures.one_page
 
 pub returns-clause-sound : goal.returns-clause-sound
-returns-clause-sound g c = filled_sound c.args.k _ _ (g.M.Machine.contents c.args.self.now.machine) (g.M.Machine.contents c.read_home.new.m) _ _ _ c.requires.sound c.read_home.ensures.keeps c.fill.ensures.keeps c.read_home.ensures.lasts c.fill.ensures.lasts (c.fill.ensures.ends.steps.scratch_count ∙ c.read_home.ensures.ends.steps.scratch_count) (ap (λ (m : Contents). m.open_page) c.fill.ensures.rest ∙ c.read_home.ensures.closed) c.read_home.ensures.memory c.fill.ensures.one_page (record { same = record { forgotten = refl; shadowed = refl; shadows = refl }; pool = record { frames = refl; blocks = refl; pins = λ k. refl; count = refl }; first = refl; buffer = c.read_home.ensures.room ∙ sym c.requires.sound.buffer }) (λ j. refl)
+returns-clause-sound g c = filled_sound c.args.k _ _ (g.M.Machine.contents c.args.self.now.machine) (g.M.Machine.contents c.read_home.new.m) _ _ _ c.requires.sound c.read_home.ensures.keeps c.fill.ensures.keeps (still_trans _ _ _ c.read_home.ensures.still (still_rest _ _ c.fill.ensures.rest)) (c.fill.ensures.ends.steps.scratch_count ∙ c.read_home.ensures.ends.steps.scratch_count) (ap (λ (m : Contents). m.open_page) c.fill.ensures.rest ∙ c.read_home.ensures.closed) c.read_home.ensures.memory c.fill.ensures.one_page (record { same = record { forgotten = refl; shadowed = refl; shadows = refl }; pool = record { frames = refl; blocks = refl; pins = λ k. refl; count = refl }; first = refl; early = loses_refl _; buffer = c.read_home.ensures.room ∙ sym c.requires.sound.buffer }) (λ j. refl)
 
 pub returns-clause-narrows : goal.returns-clause-narrows
 returns-clause-narrows g c = filled_narrows (g.M.Machine.contents c.args.self.now.machine) (g.M.Machine.contents c.read_home.new.m) c.args.k _ c.read_home.ensures.memory c.fill.ensures.one_page

@@ -13,7 +13,7 @@ returns-clause-sound g c =
     let old = g.M.Machine.contents c.args.self.now.machine in
     let stored = c.in_ok-put_word.ensures.stored in
     let page = c.page_of-page.ensures.page in
-    rewrites_sound _ _ _ old _ _ c.requires.sound (put_rewrites _ c.args.k c.args.b.0 _ c.args.w c.args.v old _ c.requires.sound.coherent stored page c.page_of-page.ensures.within c.requires.word c.requires.found c.requires.dirty) c.put_word.ensures.ends.steps.scratch_count (ap (λ (m : Contents). m.open_page) stored ∙ c.requires.sound.closed) (ap (λ (m : Contents). m.disk) stored) (put_entries c.args.k _ c.args.w c.args.v old _ stored page c.requires.word)
+    rewrites_sound _ _ _ old _ _ c.requires.sound (put_rewrites _ c.args.k c.args.b.0 _ c.args.w c.args.v old _ c.requires.sound.coherent stored page c.page_of-page.ensures.within c.requires.word c.requires.found c.requires.dirty) c.put_word.ensures.ends.steps.scratch_count (ap (λ (m : Contents). m.open_page) stored ∙ c.requires.sound.closed) (ap (λ (m : Contents). m.disk) stored) (ap (λ (m : Contents). m.pending) stored) (put_entries c.args.k _ c.args.w c.args.v old _ stored page c.requires.word)
 
 pub returns-clause-rewrites : goal.returns-clause-rewrites
 returns-clause-rewrites g c = put_rewrites _ c.args.k c.args.b.0 _ c.args.w c.args.v (g.M.Machine.contents c.args.self.now.machine) _ c.requires.sound.coherent c.in_ok-put_word.ensures.stored c.page_of-page.ensures.page c.page_of-page.ensures.within c.requires.word c.requires.found c.requires.dirty

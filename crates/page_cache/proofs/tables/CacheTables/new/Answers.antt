@@ -11,6 +11,7 @@ returns c = record {
     marks = same_count c.args.blocks false c.in_ok-forgotten.forgotten.items (c.in_ok-forgotten.ensures.items_if_clones_equal (λ y e. e));
     firm = λ b. none_marked c.args.blocks b c.in_ok-forgotten.forgotten.items (c.in_ok-forgotten.ensures.items_if_clones_equal (λ y e. e));
     buffer = same_count 512 0 c.in_ok-buffer.buffer.items (c.in_ok-buffer.ensures.items_if_clones_equal (λ y e. e));
+    early = c.in_ok-early.ensures;
     free = c.in_ok-pool.ensures.free;
     room = refl;
     none = refl;

@@ -15,10 +15,10 @@ pub flush-requires-clause-shut : goal.flush-requires-clause-shut
 flush-requires-clause-shut g c = shut_by _ c.requires.idle
 
 pub returns-in_err-j-clause-sound : goal.returns-in_err-j-clause-sound
-returns-in_err-j-clause-sound g c = flushed_sound _ _ (g.M.Machine.contents c.args.self.now.machine) (g.M.Machine.contents c.flush.new.m) _ c.requires.sound (shut_by _ c.requires.idle) c.flush.ensures.keeps c.flush.ensures.lasts c.flush.ensures.ends.steps.scratch_count c.flush.ensures.closed c.flush.ensures.held
+returns-in_err-j-clause-sound g c = flushed_sound _ _ (g.M.Machine.contents c.args.self.now.machine) (g.M.Machine.contents c.flush.new.m) _ _ _ c.requires.sound refl c.lose_all.ensures (shut_by _ c.requires.idle) c.flush.ensures.keeps c.flush.ensures.lasts c.flush.ensures.ends.steps.scratch_count c.flush.ensures.closed c.flush.ensures.held
 
 pub returns-clause-sound : goal.returns-clause-sound
-returns-clause-sound g c = flushed_sound _ _ (g.M.Machine.contents c.args.self.now.machine) (g.M.Machine.contents c.flush.new.m) _ c.requires.sound (shut_by _ c.requires.idle) c.flush.ensures.keeps c.flush.ensures.lasts c.flush.ensures.ends.steps.scratch_count c.flush.ensures.closed c.flush.ensures.held
+returns-clause-sound g c = flushed_sound _ _ (g.M.Machine.contents c.args.self.now.machine) (g.M.Machine.contents c.flush.new.m) _ _ _ c.requires.sound refl c.lose_all.ensures (shut_by _ c.requires.idle) c.flush.ensures.keeps c.flush.ensures.lasts c.flush.ensures.ends.steps.scratch_count c.flush.ensures.closed c.flush.ensures.held
 
 pub returns-in_err-j-clause-order : goal.returns-in_err-j-clause-order
 returns-in_err-j-clause-order g c = refl

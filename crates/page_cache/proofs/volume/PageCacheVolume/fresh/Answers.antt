@@ -1,4 +1,4 @@
-use Rattle.page_cache.proofs.Common.{◌∙◌, subst, sym, ap, lasts_trans, steps_trans, order_of}
+use Rattle.page_cache.proofs.Common.{IsErrOf, Stopped, ◌∙◌, subst, sym, ap, arith, lasts_trans, steps_trans, order_of}
 use Rattle.std.proofs.Common.{◌<◌}
 use Rattle.page_cache.proofs.Kept.{tables_trans}
 use Rattle.page_cache.proofs.Rooms.{adds_after, adds_narrows, caches_adds, none_still}
@@ -7,7 +7,7 @@ use Rattle.page_cache.proofs.Freed.{loose_none, marks_after, same_marks, settled
 use Rattle.page_cache.proofs.Zeros.{cleared_then, frees_after, frees_keeps}
 use Rattle.page_cache.proofs.volume.PageCacheVolume.fresh.Goals as goal
 use Rattle.page_cache.proofs.Uses.{leaves_then, used_bound}
-use Rattle.page_cache.proofs.Goes.{ends_of, ends_ok}
+use Rattle.page_cache.proofs.Goes.{ends_of, ends_ok, ends_stopped}
 use Rattle.page_cache.proofs.Stills.{few_then}
 use Rattle.page_cache.specs.declared.tables.CacheTables.{CacheTables}
 use Rattle.page_cache.proofs.DirtyMarks.{marks_any, marks_trans}
@@ -109,6 +109,11 @@ returns-clause-ok g c = (cleared_then c.args.b.0 _ _ _ c.in_ok-bring_zeros.ensur
 
 pub returns-clause-sound : goal.returns-clause-sound
 returns-clause-sound g c = sound_marked c.args.b.0 _ _ (g.M.Machine.contents c.bring_zeros.new.self.machine) c.bring_zeros.new.self.tables c.mark.new.self c.bring_zeros.ensures.sound c.mark.ensures.marks
+
+pub returns-in_err-bring_zeros-clause-ends : goal.returns-in_err-bring_zeros-clause-ends
+returns-in_err-bring_zeros-clause-ends g c =
+    let stop : IsErrOf c.from_residual-in_err-bring_zeros.result Stopped = grind (arith, c.from_residual-in_err-bring_zeros.ensures) in
+    ends_stopped _ _ _ _ _ _ _ _ stop (λ q. cc) refl (lasts_trans (g.M.Machine.contents c.args.self.now.machine) (g.M.Machine.contents c.make_room.new.self.machine) (g.M.Machine.contents c.bring_zeros.new.self.machine) c.make_room.ensures.lasts c.bring_zeros.ensures.lasts) c.in_ok-k.ensures.ends c.in_err-bring_zeros.ensures.ends
 
 pub returns-clause-ends : goal.returns-clause-ends
 returns-clause-ends g c = ends_of _ _ _ _ _ (lasts_trans (g.M.Machine.contents c.args.self.now.machine) (g.M.Machine.contents c.make_room.new.self.machine) (g.M.Machine.contents c.bring_zeros.new.self.machine) c.make_room.ensures.lasts c.bring_zeros.ensures.lasts) (λ q. cc) (ends_ok _ _ _ _ _ _ (λ q. cc) (λ q. cc) (λ q. cc) c.in_ok-k.ensures.ends c.in_ok-bring_zeros.ensures.ends)
