@@ -1,4 +1,5 @@
 pub mod InodeRules
 pub mod Numbers
+pub mod PassedBlocks
 pub mod Stored
 pub mod Used

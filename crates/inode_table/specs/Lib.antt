@@ -1,1 +1,2 @@
 pub mod Inodes
+pub mod Known

@@ -52,7 +52,7 @@ fn first_of_words<V: Blocks>(
 
 /// Which of the 32 inodes from `first` on is the first free one. They are those of one block, which is asked for first, so that
 /// it is fetched where it is not cached, and counts as used.
-fn first_of_block<V: Blocks>(
+pub(crate) fn first_of_block<V: Blocks>(
     v: &mut V,
     shape: &VolumeShape,
     first: Ino,

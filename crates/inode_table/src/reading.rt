@@ -54,6 +54,7 @@ fn inode_of(words: &[u64; INODE_WORDS]) -> Inode
 
 /// Inode `i`, whose kind must be one that there is. The high halves of words 14 and 15 are not looked at. `Fault` and
 /// `Stopped` are those of reading its block.
+#[inline(always)]
 pub fn read_inode<V: Blocks>(v: &mut V, shape: &VolumeShape, i: Ino) -> Result<Inode, VolFail>
     requires sound { V.sound v.old }
     requires shape { HasShape shape.now (V.seen v.old) }

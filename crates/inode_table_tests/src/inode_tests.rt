@@ -4,9 +4,12 @@ ghost use Rattle.std.specs.Prelude.{◌≡◌, ◌≤◌, ◌<◌, false, IfOk, 
 ghost use Rattle.rio_base.specs.Layout.{IsIno, inode_kind};
 ghost use Rattle.rio_fakes.specs.ListVolumes.{ListSound, list_kept, list_seen};
 ghost use Rattle.rio_base.specs.Shapes.{HasShape};
+ghost use Rattle.inode_table.specs.Known.{KnowsFull, StayUsed};
 
 use crate::same::same;
-use inode_table::{Inode, edit_inode, inode_block, least_free, read_inode};
+use inode_table::{
+    FullBlocks, Inode, edit_inode, inode_block, least_free, least_free_with, read_inode,
+};
 use rio_base::{Block, Blocks, Ino, RunFail, Stopped, VolFail, Volume, VolumeShape};
 use rio_fakes::{FaultyVolume, ListVolume};
 use std::alloc::Global;
@@ -53,6 +56,7 @@ fn store<V: Volume>(v: &mut V, i: Ino, inode: &Inode) -> Result<(), VolFail>
     requires idle { (V.kept v.old).updating ≡ false }
     requires ino { IsIno SHAPE i.0 }
     ensures kind { OnOk result (inode_kind (V.seen v.new).words i.0 ≡ inode.now.kind) }
+    ensures others { OnOk result (StayUsed SHAPE i.0 (V.seen v.old).words (V.seen v.new).words) }
     ensures shape { OnOk result (HasShape SHAPE (V.seen v.new)) }
     ensures count { (V.seen v.new).count ≡ (V.seen v.old).count }
     ensures idle { OnOk result ((V.kept v.new).updating ≡ false) }
@@ -178,14 +182,52 @@ fn the_first_free_inode_is_found(rt: HostRuntime) -> Result<(), Fail> {
         let mut v = with_used(rt.alloc(), used)?;
         let due = if used < 64 { Some(Ino(used + 1)) } else { None };
         let least = least_free(&mut v, &SHAPE)?;
+        let known = least_free_with(&mut v, &SHAPE, &mut FullBlocks::new())?;
         let mut asked = FaultyVolume::new(v, 0);
         let word_by_word = least_free(&mut asked, &SHAPE)?;
         same(
             &rt,
             "used inodes",
             used as usize,
-            &(least, word_by_word),
-            &(due, due),
+            &(least, known, word_by_word),
+            &(due, due, due),
+        );
+    }
+    Ok(())
+}
+
+/// The least free inode, by what is known of full blocks.
+fn least_known<V: Volume>(v: &mut V, full: &mut FullBlocks) -> Result<Option<Ino>, VolFail>
+    requires sound { V.sound v.old }
+    requires shape { HasShape SHAPE (V.seen v.old) }
+    requires known { KnowsFull SHAPE full.old (V.seen v.old).words }
+    ensures known { KnowsFull SHAPE full.new (V.seen v.new).words }
+    ensures shape { HasShape SHAPE (V.seen v.new) }
+    ensures count { (V.seen v.new).count ≡ (V.seen v.old).count }
+    ensures idle { (V.kept v.new).updating ≡ (V.kept v.old).updating }
+    ensures sound { V.sound v.new }
+{
+    least_free_with(v, &SHAPE, full)
+}
+
+#[test]
+fn blocks_that_are_known_to_be_full_are_not_read(rt: HostRuntime) -> Result<(), Fail> {
+    for used in 32..65 {
+        let mut v = with_used(rt.alloc(), used)?;
+        let mut full = FullBlocks::new();
+        let first = least_known(&mut v, &mut full)?;
+        // the second block is asked for by one word, and then looked at up to the free inode
+        let reads = if used < 64 { used as u64 - 30 } else { 0 };
+        let mut asked = FaultyVolume::new(v, reads + 1);
+        let again = least_known(&mut asked, &mut full)?;
+        let unknown = least_known(&mut asked, &mut FullBlocks::new());
+        let due = if used < 64 { Some(Ino(used + 1)) } else { None };
+        same(
+            &rt,
+            "known blocks",
+            used as usize,
+            &(first, again, unknown),
+            &(due, due, Err(VolFail::Fault)),
         );
     }
     Ok(())
@@ -195,14 +237,19 @@ fn the_first_free_inode_is_found(rt: HostRuntime) -> Result<(), Fail> {
 fn an_inode_that_is_free_again_is_the_least(rt: HostRuntime) -> Result<(), Fail> {
     for freed in 1..65 {
         let mut v = with_used(rt.alloc(), 64)?;
+        let mut full = FullBlocks::new();
+        let none = least_known(&mut v, &mut full)?;
         store(&mut v, Ino(freed), &numbered(0, 0))?;
+        full.freed(Ino(freed));
+        let known = least_known(&mut v, &mut full)?;
         let least = least_free(&mut v, &SHAPE)?;
+        let due = Some(Ino(freed));
         same(
             &rt,
             "freed inode",
             freed as usize,
-            &least,
-            &Some(Ino(freed)),
+            &(none, known, least),
+            &(None, due, due),
         );
     }
     Ok(())
