@@ -1,5 +1,5 @@
 -- How calls of an update end: a stop, and a fault whose update was rolled back.
-use Rattle.file_pages.proofs.Common.{◌≡◌, ◌≤◌, ◌∙◌, ap, le_trans, subst, sym, Err, Ok, Health, Result, VolFail}
+use Rattle.file_pages.proofs.Common.{◌≡◌, ◌≤◌, ◌∙◌, ap, le_trans, subst, sym, Err, Health, Result, VolFail}
 use Rattle.rio_base.specs.declared.failures.VolFail.TheVariants.{Fault, Stopped}
 use Rattle.rio_base.specs.Blocks.{Ends, Halts}
 use Rattle.rio_base.proofs.Rules.{rose_stays}

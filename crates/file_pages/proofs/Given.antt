@@ -40,3 +40,7 @@ given_of f i given (inr (free, none, least, most)) = record {
 pub given_most : (shape : VolumeShape) (f : BlockWords) (i : ℕ) (given : Inode) → IsNumbered shape f → IsIno shape i → PlansFor f i given → given.size ≤ largest_size
 given_most shape f i given h ino (inl (own, used)) = subst (λ (z : ℕ). z ≤ largest_size) (sym own.size) (h.sizes.each i ino (subst (λ (k : ℕ). 0 < k) own.kind used)).most
 given_most shape f i given h ino (inr (free, none, least, most)) = omega (arith, none)
+
+-- a page that an inode numbers
+pub direct_page : (f : BlockWords) (i : ℕ) (given : Inode) → PlansFor f i given → (p b : ℕ) → p < 24 → p < pages given.size → b ≡ slice_index given.direct p → b ≡ (placed_at f i).block (AtPage p)
+direct_page f i given h p b few within is = let all = given_of f i given h in is ∙ all.direct p few (record { used = all.used; within = within })

@@ -37,6 +37,7 @@ pub mod Spanned
 pub mod Staged
 pub mod Stored
 pub mod Tails
+pub mod Touched
 pub mod Updated
 pub mod Within
 pub mod Written

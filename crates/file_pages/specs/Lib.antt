@@ -11,5 +11,6 @@ pub mod Preparing
 pub mod Spans
 pub mod Staging
 pub mod Storing
+pub mod Touching
 pub mod Updating
 pub mod Writing

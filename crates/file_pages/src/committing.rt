@@ -12,7 +12,8 @@ ghost use Rattle.rio_model.specs.Updates.{Applied};
 ghost use Rattle.block_alloc.specs.Bitmap.{numbers};
 ghost use Rattle.file_pages.specs.Changes.{size_update};
 ghost use Rattle.file_pages.specs.Preparing.{Committed, Prepared};
-ghost use Rattle.file_pages.specs.Updating.{CanChange, CanUpdate, IsTouched, IsUpdated};
+ghost use Rattle.file_pages.specs.Touching.{ChangeTouched};
+ghost use Rattle.file_pages.specs.Updating.{CanChange, CanUpdate, IsUpdated};
 ghost use Rattle.file_pages.specs.Failures.{Unrefused};
 
 use crate::changes::SizeChange;
@@ -33,7 +34,7 @@ fn open_change<V: Volume>(
     requires idle { (V.kept v.old).updating ≡ false }
     requires ino { IsIno shape.now i.0 }
     requires can { CanChange shape.now (V.seen v.old) change.now }
-    ensures ok { OnOk result (IsTouched (V.kept v.new) i.0 change.now.edits × ((V.kept v.new).updating ≡ true) × ((V.seen v.new).words ≡ (V.seen v.old).words)) }
+    ensures ok { OnOk result (ChangeTouched (V.kept v.new) i.0 change.now × ((V.kept v.new).updating ≡ true) × ((V.seen v.new).words ≡ (V.seen v.old).words)) }
     ensures fault { IsErrOf result VolFail.Fault → ((V.kept v.new).updating ≡ false) × ((V.seen v.new).words ≡ (V.seen v.old).words) }
     ensures shape { HasShape shape.now (V.seen v.new) }
     ensures standing { (V.kept v.new).standing ≡ (V.kept v.old).standing }
@@ -66,7 +67,7 @@ fn close_change<V: Volume>(
     requires in_update { (V.kept v.old).updating ≡ true }
     requires ino { IsIno shape.now i.0 }
     requires can { CanUpdate shape.now change.now.edits (numbers change.now.taken) (numbers change.now.freed) }
-    requires touched { IsTouched (V.kept v.old) i.0 change.now.edits }
+    requires touched { ChangeTouched (V.kept v.old) i.0 change.now }
     ensures ok { OnOk result (Applied shape.now (size_update i.0 change.now) (V.seen v.old).words (V.seen v.new).words × ((V.kept v.new).standing ≡ (V.seen v.new).words) × ((V.kept v.new).updating ≡ false)) }
     ensures stopped { ((V.kept v.new).standing ≡ (V.kept v.old).standing) ⊎ Applied shape.now (size_update i.0 change.now) (V.seen v.old).words (V.kept v.new).standing }
     ensures shape { HasShape shape.now (V.seen v.new) }

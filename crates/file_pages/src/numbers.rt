@@ -1,6 +1,6 @@
 //! The blocks of a run of pages, and all blocks of a node.
 
-ghost use Rattle.std.specs.Prelude.{◌≡◌, ◌+◌, ◌-◌, ◌/◌, ◌<◌, ◌≤◌, ◌++◌, ◌∷◌, [], ℕ, max, length, slice_index, if◌then◌else◌, IfOk, OnOk, IsErrOf};
+ghost use Rattle.std.specs.Prelude.{◌≡◌, ◌+◌, ◌-◌, ◌/◌, ◌<◌, ◌≤◌, ◌++◌, ◌∷◌, [], ℕ, max, length, slice_index, if◌then◌else◌, IfOk, IfSome, OnOk, IsErrOf};
 ghost use Rattle.rio_base.specs.Blocks.{Ends, EndsBy, IsRun};
 ghost use Rattle.rio_base.specs.Layout.{IsIno, half, inode_kind};
 ghost use Rattle.rio_model.specs.Placed.{AtPage, AtTable, Placed, placed_at, volume_layout, Owns};
@@ -151,6 +151,19 @@ pub fn page_blocks<V: Blocks>(
         blocks,
     )?;
     Ok(blocks)
+}
+
+/// The block of page `first`, where it is the only one before `end` and its inode numbers it.
+pub fn only_direct(inode: &Inode, first: u32, end: u32) -> Option<Block>
+    ensures { IfSome result (λ b. (first < 24) × (end ≡ first + 1) × (b.0 ≡ slice_index inode.now.direct first)) }
+{
+    if first >= DIRECT_PAGES {
+        return None;
+    }
+    if end != first + 1 {
+        return None;
+    }
+    Some(Block(inode.direct[first as usize]))
 }
 
 /// Adds a table to blocks, where it is one of them.

@@ -1,19 +1,52 @@
 //! Bytes written over bytes that a file has.
 
-ghost use Rattle.std.specs.Prelude.{◌≡◌, ◌+◌, ◌<◌, ◌≤◌, ℕ, length, IsErrOf};
+ghost use Rattle.std.specs.Prelude.{◌≡◌, ◌+◌, ◌*◌, ◌/◌, ◌<◌, ◌≤◌, ℕ, length, IsErrOf};
 ghost use Rattle.rio_base.specs.Blocks.{EndsBy};
 ghost use Rattle.rio_base.specs.Layout.{IsIno};
 ghost use Rattle.rio_base.specs.Volume.{Goes};
+ghost use Rattle.rio_model.specs.Placed.{AtPage, placed_at};
 ghost use Rattle.rio_model.specs.VolumeReady.{Ready};
 ghost use Rattle.inode_table.specs.Inodes.{IsInode};
 ghost use Rattle.file_pages.specs.Writing.{WriteLeaves};
 
 use crate::failures::WriteFail;
-use crate::numbers::page_blocks;
+use crate::numbers::{only_direct, page_blocks};
 use crate::spans::store_span;
 use inode_table::Inode;
-use rio_base::{Ino, PAGE_BYTES, Volume, VolumeShape};
+use rio_base::{Block, Ino, PAGE_BYTES, Volume, VolumeShape};
 use std::alloc::Global;
+
+/// Writes bytes of file `i`, which has `size` bytes, that lie within page `p` of it, which is block `b`.
+fn write_in_page<V: Volume>(
+    v: &mut V,
+    shape: &VolumeShape,
+    i: Ino,
+    size: u64,
+    p: u32,
+    b: Block,
+    off: u64,
+    bytes: &[u8],
+) -> Result<(), WriteFail>
+    requires sound { V.sound v.old }
+    requires ready { Ready shape.now (V.seen v.old) (V.kept v.old) }
+    requires ino { IsIno shape.now i.0 }
+    requires file { (placed_at (V.seen v.old).words i.0).kind ≡ 2 }
+    requires size { size ≡ (placed_at (V.seen v.old).words i.0).size }
+    requires some { 0 < length bytes.now }
+    requires within { off + length bytes.now ≤ size }
+    requires page { p ≡ off / 4096 }
+    requires to { off + length bytes.now ≤ 4096 * (p + 1) }
+    requires block { b.0 ≡ (placed_at (V.seen v.old).words i.0).block (AtPage p) }
+    ensures leaves { WriteLeaves shape.now (V.seen v.old) (V.kept v.old) (V.seen v.new) (V.kept v.new) i.0 off bytes.now result }
+    ensures spacious { IsErrOf result WriteFail.NoSpace → ⊥ }
+    ensures small { IsErrOf result WriteFail.TooLarge → ⊥ }
+    ensures goes { Goes (V.health v.old) (V.below v.old) (V.health v.new) (V.below v.new) }
+    ensures ends { EndsBy (V.health v.old) (V.health v.new) ((k : ℕ) × IsErrOf result (WriteFail.Fault k)) (IsErrOf result WriteFail.Stopped) }
+    ensures sound { V.sound v.new }
+{
+    store_span(v, i, size, &[b], p, off, bytes)?;
+    Ok(())
+}
 
 /// Writes bytes of file `i` that lie within its size, from byte `off` on in rising order.
 pub fn write_within<V: Volume>(
@@ -41,6 +74,9 @@ pub fn write_within<V: Volume>(
 {
     let first = (off / PAGE_BYTES) as u32;
     let end = (off + bytes.len() as u64).div_ceil(PAGE_BYTES) as u32;
+    if let Some(b) = only_direct(inode, first, end) {
+        return write_in_page(v, shape, i, inode.size, first, b, off, bytes);
+    }
     let blocks = page_blocks(alloc, v, shape, i, inode, first, end)?;
     store_span(v, i, inode.size, &blocks, first, off, bytes)?;
     Ok(())

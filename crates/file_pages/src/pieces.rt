@@ -13,6 +13,9 @@ use rio_base::{Block, PageName, RunFail, VolFail, Volume};
 /// Words that 1 KiB takes at any place. For these a small room is cleared, and no whole page.
 const FEW_WORDS: usize = 129;
 
+/// Words that 64 bytes take at any place.
+const LEAST_WORDS: usize = 9;
+
 /// Puts bytes over those of a word, from its byte `at` on.
 fn put_in_word(word: u64, at: usize, bytes: &[u8]) -> u64
     requires { at + length bytes.now ≤ 8 }
@@ -181,7 +184,10 @@ pub fn store_piece<V: Volume>(
     ensures sound { V.sound v.new }
 {
     let count = (at + bytes.len()).div_ceil(8) - at / 8;
-    if count <= FEW_WORDS {
+    if count <= LEAST_WORDS {
+        let mut words = [0; LEAST_WORDS];
+        store_words(v, b, name, at, bytes, &mut words[..count])
+    } else if count <= FEW_WORDS {
         let mut words = [0; FEW_WORDS];
         store_words(v, b, name, at, bytes, &mut words[..count])
     } else {

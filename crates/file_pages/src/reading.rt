@@ -16,7 +16,7 @@ ghost use Rattle.file_pages.specs.Files.{file_bytes};
 ghost use Rattle.file_pages.specs.LookingUp.{LooksUp, page_blocks};
 ghost use Rattle.file_pages.specs.PageBytes.{block_byte, bytes_of};
 
-use crate::numbers::{look_inode, page_blocks};
+use crate::numbers::{look_inode, only_direct, page_blocks};
 use crate::staging::bytes_in_page;
 use byteorder::{ByteOrder, LittleEndian};
 use inode_table::Inode;
@@ -207,6 +207,52 @@ fn push_pages<V: Blocks>(
     Ok(())
 }
 
+/// Bytes `off` to `end` of file `i`, which has `size` bytes. They lie within page `p` of it, which is block `b`.
+fn read_in_page<V: Blocks>(
+    alloc: Global,
+    v: &mut V,
+    shape: &VolumeShape,
+    i: Ino,
+    size: u64,
+    p: u32,
+    b: Block,
+    off: u64,
+    end: u64,
+) -> Result<Octets, ReadFail>
+    requires sound { V.sound v.old }
+    requires shape { HasShape shape.now (V.seen v.old) }
+    requires mapped { IsMapped shape.now (V.seen v.old).words }
+    requires named { AllNamed (volume_layout shape.now (V.seen v.old).words) (V.seen v.old) }
+    requires owns { Owns (volume_layout shape.now (V.seen v.old).words) i.0 (AtPage p) }
+    requires block { b.0 ≡ (placed_at (V.seen v.old).words i.0).block (AtPage p) }
+    requires file { (placed_at (V.seen v.old).words i.0).kind ≡ 2 }
+    requires size { (placed_at (V.seen v.old).words i.0).size ≡ size }
+    requires order { off ≤ end }
+    requires from { 4096 * p ≤ off }
+    requires to { end ≤ 4096 * p + 4096 }
+    requires within { end ≤ size }
+    ensures value { IfOk result (λ bytes. bytes ≡ bytes_in (held (V.seen v.old).words (placed_at (V.seen v.old).words i.0)).word off (end - off)) }
+    ensures looks { LooksUp shape.now (V.seen v.old) (V.seen v.new) }
+    ensures passes { V.passes v.old v.new }
+    ensures ends { EndsBy (V.health v.old) (V.health v.new) (IsErrOf result ReadFail.Fault) (IsErrOf result ReadFail.Stopped) }
+    ensures sound { V.sound v.new }
+{
+    let mut out = Vec::with_capacity(alloc, (end - off) as usize)?;
+    let start = PAGE_BYTES * p as u64;
+    push_page(
+        v,
+        shape,
+        i,
+        size,
+        p,
+        b,
+        (off - start) as usize,
+        (end - start) as usize,
+        &mut out,
+    )?;
+    Ok(Octets::from(out))
+}
+
 /// Bytes `off` to `end` of file `i`, which has this inode.
 fn read_bytes<V: Blocks>(
     alloc: Global,
@@ -235,9 +281,12 @@ fn read_bytes<V: Blocks>(
     if off >= end {
         return Ok(Octets::from(Vec::new(alloc)));
     }
-    let mut out = Vec::with_capacity(alloc, (end - off) as usize)?;
     let first = (off / PAGE_BYTES) as u32;
     let last = end.div_ceil(PAGE_BYTES) as u32;
+    if let Some(b) = only_direct(inode, first, last) {
+        return read_in_page(alloc, v, shape, i, inode.size, first, b, off, end);
+    }
+    let mut out = Vec::with_capacity(alloc, (end - off) as usize)?;
     let blocks = page_blocks(alloc, v, shape, i, inode, first, last)?;
     push_pages(v, shape, i, inode.size, &blocks, off, end, &mut out)?;
     Ok(Octets::from(out))

@@ -1,7 +1,7 @@
 use Rattle.file_pages.proofs.Common.{◌≡◌, ◌/◌, ◌≤◌, ◌∙◌, length, sym, ap, subst, arith, inl, err_from_is_err_and, ◌then◌, ends_by_after, numbers, Layout, placed_at, volume_layout, numbered_of, largest_size, LeavesInUse}
 use Rattle.file_pages.proofs.OrderRules.{leaves_looked}
 use Rattle.file_pages.specs.Spans.{SpanNamed}
-use Rattle.file_pages.proofs.Given.{given_most}
+use Rattle.file_pages.proofs.Given.{direct_page, given_most}
 use Rattle.file_pages.proofs.Listed.{as_many}
 use Rattle.file_pages.proofs.Resized.{held_file}
 use Rattle.file_pages.proofs.Within.{Overwrites, over_done, over_err, overwrites_of, pages_apart, pages_named, pages_over, pages_places}
@@ -159,3 +159,9 @@ page_blocks-requires-clause-ino g c = c.requires.ino
 
 pub store_span-requires-clause-sound : goal.store_span-requires-clause-sound
 store_span-requires-clause-sound g c = c.page_blocks.ensures.sound
+
+pub write_in_page-requires-clause-block : goal.write_in_page-requires-clause-block
+write_in_page-requires-clause-block g c =
+    let x = g.V.Blocks.seen c.args.v.now in
+    let one = c.in-Some.ensures in
+    direct_page x.words c.args.i.0 c.args.inode.now (inl (c.requires.inode, omega (arith, c.requires.file))) (c.args.off / 4096) c.in-Some.b.0 one.0 (omega (arith, c.requires.some, c.requires.within)) one.2

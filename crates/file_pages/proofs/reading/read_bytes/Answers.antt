@@ -1,8 +1,9 @@
 use Rattle.rio_base.proofs.Rules.{ends_by_well}
 use Rattle.file_pages.proofs.Ends.{ends_read}
-use Rattle.file_pages.proofs.Common.{◌/◌, ◌∙◌, length, sym, ap, subst, arith, placed_at, volume_layout, AllNamed, numbers, err_from_is_err_and, ends_by_after, le_trans}
+use Rattle.file_pages.proofs.Common.{◌≡◌, ◌/◌, ◌∙◌, length, sym, ap, subst, arith, inl, placed_at, volume_layout, AllNamed, numbers, err_from_is_err_and, ends_by_after, le_trans}
 use Rattle.file_pages.specs.LookingUp.{page_blocks}
 use Rattle.file_pages.proofs.LookingUpRules.{look_trans, named_on, can_look_up}
+use Rattle.file_pages.proofs.Given.{direct_page}
 use Rattle.file_pages.proofs.PageRead.{many_blocks}
 use Rattle.file_pages.proofs.reading.read_bytes.Goals as goal
 
@@ -91,3 +92,10 @@ returns-in_err-push_pages-clause-ends g c = let p = err_from_is_err_and c.from_r
 
 pub returns-clause-ends : goal.returns-clause-ends
 returns-clause-ends g c = ends_by_well _ _ _ _ (le_trans c.page_blocks.ensures.ends.later c.push_pages.ensures.ends.later) (c.in_ok-push_pages.ensures.ends.runs (λ a. cc) ∙ c.in_ok-blocks.ensures.ends.runs (λ a. cc)) (λ a. cc) (λ a. cc)
+
+pub read_in_page-requires-clause-block : goal.read_in_page-requires-clause-block
+read_in_page-requires-clause-block g c =
+    let x = g.V.Blocks.seen c.args.v.now in
+    let file : c.args.inode.now.kind ≡ 2 = c.requires.inode.kind ∙ c.requires.file in
+    let one = c.in-Some.ensures in
+    direct_page x.words c.args.i.0 c.args.inode.now (inl (c.requires.inode, omega (arith, file))) (c.args.off / 4096) c.in-Some.b.0 one.0 (omega (arith, c.requires.within, c.if-off-end.false)) one.2

@@ -1,4 +1,4 @@
-use Rattle.file_pages.proofs.Common.{◌<◌, ◌∙◌, ◌then◌, ℕ, [], firm_trans, sym, subst}
+use Rattle.file_pages.proofs.Common.{◌<◌, ◌then◌, ℕ, [], firm_trans, sym, subst}
 use Rattle.rio_base.proofs.BlockRules.{shape_dropped}
 use Rattle.rio_base.proofs.Rules.{drops_trans}
 use Rattle.file_pages.proofs.Updated.{applied, sets_none}
