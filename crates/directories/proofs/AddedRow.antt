@@ -1,5 +1,5 @@
 -- One entry more in a directory: where it goes, and the change that it is.
-use Rattle.directories.proofs.Common.{◌≡◌, ◌≢◌, ℕ, ◌+◌, ◌-◌, ◌*◌, ◌/◌, ◌%◌, ◌<◌, ◌≤◌, ◌⊎◌, List, [], ◌∷◌, length, refl, sym, ap, subst, ◌∙◌, arith, inl, inr, cases_eq, cases_lt, Ino, VolumeShape, free_blocks, BlockWords, Health, Seen, Below, Kept, Passes, numbers, Inode, IsInode, PlansSize, free_beside, given_node, planned_node, wanted_blocks, LooksUp, leaves_looked, leaves_trans, ready_left, SizeChange, page_old, Held, held_of, IsName, AtPage, Placed, HasSlot, placed_at, volume_layout, LeavesInUse, Ready}
+use Rattle.directories.proofs.Common.{◌≡◌, ℕ, ◌+◌, ◌-◌, ◌*◌, ◌/◌, ◌%◌, ◌<◌, ◌≤◌, ◌⊎◌, List, [], ◌∷◌, length, refl, sym, ap, subst, ◌∙◌, arith, inl, inr, cases_eq, cases_lt, Ino, VolumeShape, free_blocks, BlockWords, Health, Seen, Below, Kept, Passes, numbers, Inode, IsInode, PlansSize, free_beside, given_node, planned_node, wanted_blocks, LooksUp, leaves_looked, leaves_trans, ready_left, SizeChange, page_old, Held, held_of, IsName, AtPage, Placed, placed_at, volume_layout, LeavesInUse, Ready}
 use Rattle.std.specs.Prelude.{not, slice_index}
 use Rattle.std.specs.List.{filter}
 use Rattle.file_pages.proofs.Planned.{wanted_count}

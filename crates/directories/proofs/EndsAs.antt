@@ -1,13 +1,13 @@
 -- How a call ends, told by an answer of another type.
-use Rattle.directories.proofs.Common.{◌≡◌, refl, sym, ap, subst, ◌∙◌, Result, Health}
+use Rattle.directories.proofs.Common.{◌≡◌, ◌≤◌, refl, sym, ap, subst, ◌∙◌, Result, Health}
 use Rattle.std.specs.Prelude.{Ok, Err, IsErrOf}
 use Rattle.rio_base.specs.declared.failures.VolFail.{VolFail}
 use Rattle.rio_base.specs.declared.failures.VolFail.TheVariants.{Fault, Stopped}
 use Rattle.rio_base.specs.declared.failures.ReadFail.{ReadFail}
-use Rattle.rio_base.specs.declared.failures.ReadFail.TheVariants.{Fault as ReadFault, Stopped as ReadStopped}
+use Rattle.rio_base.specs.declared.failures.ReadFail.TheVariants.{Fault as ReadFault, Stopped as ReadStopped, Memory as ReadMemory}
 use Rattle.rio_base.specs.Blocks.{Ends, EndsBy}
 use Rattle.rio_base.specs.Failures.{read_fail}
-use Rattle.rio_base.proofs.Rules.{ends_by, ends_by_as}
+use Rattle.rio_base.proofs.Rules.{ends_by, ends_by_as, ends_by_well}
 
 err_as : {T U : Type 0} (s t : Health) (e : VolFail) → Ends {T = T} s t (Err e) → Ends {T = U} s t (Err e)
 err_as s t Fault h = record { later = h.later; stays = h.stays; cause = h.cause }
@@ -35,3 +35,7 @@ read_of_vol s t Stopped h = ends_by_as s t _ _ _ _ (λ a. cc) (λ a. refl) (λ a
 
 pub ends_vol_read : {T U : Type 0} (s t : Health) (r : Result T VolFail) (q : Result U ReadFail) (e : VolFail) (d : ReadFail) → r ≡ Err e → q ≡ Err d → d ≡ read_fail e → Ends s t r → EndsRead s t q
 ends_vol_read s t r q e d re qd de h = subst (λ x. EndsRead s t x) (sym (qd ∙ ap Err de)) (read_of_vol s t e (subst (λ x. Ends s t x) re h))
+
+-- a call that gave up for want of memory, after others that ended well
+pub ends_memory : {U : Type 0} (s t : Health) (q : Result U ReadFail) (d : ReadFail) → q ≡ Err d → d ≡ ReadMemory → s.faults ≤ t.faults → t.stopped ≡ s.stopped → EndsRead s t q
+ends_memory {U = U} s t q d qd memory later same = subst (λ (x : Result U ReadFail). EndsRead s t x) (sym (qd ∙ ap Err memory)) (ends_by_well s t _ _ later same (λ a. cc) (λ a. cc))

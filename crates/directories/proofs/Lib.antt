@@ -3,7 +3,9 @@ pub mod CanRead
 pub mod Common
 pub mod EndsAs
 pub mod EntriesHeld
+pub mod EntryRead
 pub mod Found
+pub mod HeldRows
 pub mod Listed
 pub mod MakingOrder
 pub mod MakingRules

@@ -44,8 +44,8 @@ names_read f g b count words old new same few short run so = so ∙ ap (λ xs. o
 
 -- ---- the name of one entry, made of its words
 
-pub name_made : (words bytes : List ℕ) (k n len : ℕ) → bytes ≡ bytes_of (take n (drop (8 * k + 1) words)) → n ≡ 7 → length words ≡ 512 → k < 64 → len ≡ slice_index words (8 * k) / 2 ^ 32 % 2 ^ 8 → len ≤ 56 → take len bytes ≡ name_in (slice_index words) k
-name_made words bytes k n len made seven many low long few =
+pub name_made : (words bytes : List ℕ) (k n len : ℕ) → bytes ≡ bytes_of (take n (drop (8 * k + 1) words)) → n ≡ 7 → 8 * k + 8 ≤ length words → len ≡ slice_index words (8 * k) / 2 ^ 32 % 2 ^ 8 → len ≤ 56 → take len bytes ≡ name_in (slice_index words) k
+name_made words bytes k n len made seven many long few =
     line_run part bytes 0 len len made (omega arith) (omega arith) (omega (arith, few, seven, size))
     ∙ run_same (list_byte part) (byte_in (slice_index words)) (len - 0) 0 (64 * k + 8) each
     ∙ ap (λ m. map (byte_in (slice_index words)) (range_with_len (64 * k + 8) m)) (let none : len - 0 ≡ len = omega arith in none ∙ long)
@@ -54,7 +54,7 @@ name_made words bytes k n len made seven many low long few =
     part = take n (drop (8 * k + 1) words)
 
     size : length part ≡ n
-    size = length-take-le n (drop (8 * k + 1) words) (omega (arith, length-drop (8 * k + 1) words, many, low, seven))
+    size = length-take-le n (drop (8 * k + 1) words) (omega (arith, length-drop (8 * k + 1) words, many, seven))
 
     list_byte : List ℕ → ℕ → ℕ
     list_byte ws y = byte_of (slice_index ws (y / 8)) (y % 8)

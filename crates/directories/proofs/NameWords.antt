@@ -1,7 +1,8 @@
 -- The words of a name, and names of entries compared with them.
 use Rattle.directories.proofs.Common.{◌≡◌, ◌≢◌, ℕ, zero, suc, ◌+◌, ◌-◌, ◌*◌, ◌/◌, ◌%◌, ◌^◌, ◌<◌, ◌≤◌, min, List, ◌∷◌, length, map, drop, bit_and, slice_index, refl, sym, ap, subst, ◌∙◌, arith, ◌⊎◌, inl, inr, range_with_len, cases_lt}
-use Rattle.std.proofs.Common.{get_or, replicate, slice_set}
-use Rattle.std.proofs.lemmas.List.{get_or-drop, get_or-set_other, get_or-set_same, get_or_past, length-take-le}
+use Rattle.std.proofs.Common.{get_or, replicate}
+use Rattle.std.proofs.lemmas.List.{get_or-drop, get_or_past, length-take-le}
+use Rattle.std.proofs.lemmas.Nat.{and_mask}
 use Rattle.std.proofs.lemmas.List.FromFn.{fill_by_all, get_or-map-range_with_len, length-map-range_with_len}
 use borrow.Rule.Slice.PartMut.{put_mid, same_len_mid}
 use Rattle.byteorder.specs.Endian.{IsRead, little_number}
@@ -88,10 +89,10 @@ key_byte name words t b h few small =
     let byte_at : b ≡ (8 * t + b) % 8 = omega (arith, small) in
     (λ q. byte_of (slice_index words (word_at q)) (byte_at q)) ∙ h.bytes (8 * t + b) (omega (arith, few, small))
 
--- an entry of this name has the key's words
-pub key_has : (name : List ℕ) (key : NameKey) (word : ℕ → ℕ) (k t : ℕ) → IsKey name key → t < 7 → name_in word k ≡ name → bit_and (word (8 * k + 1 + t)) (slice_index key.masks t) ≡ slice_index key.words t
-key_has name key word k t h few is =
-    ap (bit_and (word (8 * k + 1 + t))) (h.masks t few)
+-- an entry of this name has the key's words, each under the mask of the bytes that the name has in it
+key_has : (name : List ℕ) (key : NameKey) (word : ℕ → ℕ) (k t m : ℕ) → IsKey name key → t < 7 → m ≡ 2 ^ (8 * part_of name t) - 1 → name_in word k ≡ name → bit_and (word (8 * k + 1 + t)) m ≡ slice_index key.words t
+key_has name key word k t m h few mask is =
+    ap (bit_and (word (8 * k + 1 + t))) mask
     ∙ masked_is (word (8 * k + 1 + t)) (slice_index key.words t) (part_of name t) (omega arith) (h.words.fits t few)
     (λ b low. same b low)
     (λ b past small. key_byte name key.words t b h.words few small ∙ get_or_past name (8 * t + b) 0 (omega (arith, past, small)))
@@ -107,10 +108,18 @@ key_has name key word k t h few is =
         ∙ ap (λ xs. slice_index xs y) is
         ∙ sym (key_byte name key.words t b h.words few (omega (arith, low)))
 
--- and one that has its length and the key's words has the name
-pub key_same : (name : List ℕ) (key : NameKey) (word : ℕ → ℕ) (k : ℕ) → IsKey name key → word (8 * k) / 2 ^ 32 % 2 ^ 8 ≡ length name → ((t : ℕ) → t < 7 → bit_and (word (8 * k + 1 + t)) (slice_index key.masks t) ≡ slice_index key.words t) → name_in word k ≡ name
-key_same name key word k h long all = sym (by_each (byte_in word) name (64 * k + 8) (word (8 * k) / 2 ^ 32 % 2 ^ 8) (sym long) each)
+-- and one that has its length, the key's words before the last and the bytes of the last has the name
+pub key_same : (name : List ℕ) (key : NameKey) (word : ℕ → ℕ) (k : ℕ) → IsKey name key → word (8 * k) / 2 ^ 32 % 2 ^ 8 ≡ length name → bit_and (word (8 * k + 1 + key.last)) key.last_mask ≡ slice_index key.words key.last → ((t : ℕ) → t < key.last → word (8 * k + 1 + t) ≡ slice_index key.words t) → name_in word k ≡ name
+key_same name key word k h long end full = sym (by_each (byte_in word) name (64 * k + 8) (word (8 * k) / 2 ^ 32 % 2 ^ 8) (sym long) each)
   where
+    of_word : (t b : ℕ) → 8 * t + b < length name → b < 8 → ((t < key.last) ⊎ (key.last ≤ t)) → byte_of (word (8 * k + 1 + t)) b ≡ byte_of (slice_index key.words t) b
+    of_word t b low small (inl below) = ap (λ w. byte_of w b) (full t below)
+    of_word t b low small (inr past) =
+        let last = h.last in
+        let same : t ≡ key.last = omega (arith, low, past, last) in
+        masked_byte (word (8 * k + 1 + t)) (slice_index key.words t) (part_of name t) b (omega arith) (omega (arith, low, small))
+        (subst (λ s. bit_and (word (8 * k + 1 + s)) (2 ^ (8 * part_of name s) - 1) ≡ slice_index key.words s) (sym same) (ap (bit_and (word (8 * k + 1 + key.last))) (sym h.last_mask) ∙ end))
+
     each : (y : ℕ) → y < word (8 * k) / 2 ^ 32 % 2 ^ 8 → slice_index name y ≡ byte_in word (64 * k + 8 + y)
     each y low =
         let t = y / 8 in
@@ -123,12 +132,32 @@ key_same name key word k h long all = sym (by_each (byte_in word) name (64 * k +
         let byte_at : b ≡ (64 * k + 8 + y) % 8 = omega arith in
         ap (slice_index name) (sym place)
         ∙ sym (key_byte name key.words t b h.words few small)
-        ∙ sym (masked_byte (word (8 * k + 1 + t)) (slice_index key.words t) (part_of name t) b (omega arith) (omega (arith, low, long, place)) (ap (bit_and (word (8 * k + 1 + t))) (sym (h.masks t few)) ∙ all t few))
+        ∙ sym (of_word t b (omega (arith, low, long, place)) small (cases_lt t key.last))
         ∙ (λ q. byte_of (word (word_at q)) (byte_at q))
 
--- so an entry with another word has another name
-pub key_differs : (name : List ℕ) (key : NameKey) (word : ℕ → ℕ) (k at t : ℕ) → IsKey name key → t < 7 → at ≡ 8 * k + 1 + t → bit_and (word at) (slice_index key.masks t) ≢ slice_index key.words t → name_in word k ≢ name
-key_differs name key word k at t h few place other is = other (ap (λ w. bit_and (word w) (slice_index key.masks t)) place ∙ key_has name key word k t h few is)
+-- so an entry with another last word, or another first one, has another name
+pub last_differs : (name : List ℕ) (key : NameKey) (word : ℕ → ℕ) (k at : ℕ) → IsKey name key → at ≡ 8 * k + 1 + key.last → bit_and (word at) key.last_mask ≢ slice_index key.words key.last → name_in word k ≢ name
+last_differs name key word k at h place other is =
+    let last = h.last in
+    let most = h.few in
+    other (ap (λ w. bit_and (word w) key.last_mask) place ∙ key_has name key word k key.last key.last_mask h (omega (arith, last, most)) h.last_mask is)
+
+pub first_differs : (name : List ℕ) (key : NameKey) (word : ℕ → ℕ) (k : ℕ) → IsKey name key → bit_and (word (8 * k + 1)) key.first_mask ≢ slice_index key.words 0 → name_in word k ≢ name
+first_differs name key word k h other is =
+    let at : 8 * k + 1 ≡ 8 * k + 1 + 0 = omega arith in
+    let all : length name ≡ length name - 8 * 0 = omega arith in
+    let mask : key.first_mask ≡ 2 ^ (8 * part_of name 0) - 1 = h.first_mask ∙ ap (λ n. 2 ^ (8 * min n 8) - 1) all in
+    other (ap (λ w. bit_and (word w) key.first_mask) at ∙ key_has name key word k 0 key.first_mask h (omega arith) mask is)
+
+-- and so has one with another word before the last
+pub full_differs : (name : List ℕ) (key : NameKey) (word : ℕ → ℕ) (k t : ℕ) → IsKey name key → t < key.last → word (8 * k + 1 + t) < 2 ^ 64 → word (8 * k + 1 + t) ≢ slice_index key.words t → name_in word k ≢ name
+full_differs name key word k t h full fits other is =
+    let last = h.last in
+    let most = h.few in
+    let w = word (8 * k + 1 + t) in
+    let whole : 8 * part_of name t ≡ 64 = omega (arith, full, last) in
+    let under : w % 2 ^ 64 ≡ slice_index key.words t = ap (λ n. w % 2 ^ n) (sym whole) ∙ sym (and_mask w (8 * part_of name t)) ∙ key_has name key word k t (2 ^ (8 * part_of name t) - 1) h (omega (arith, full, last, most)) refl is in
+    other (omega (arith, under, fits))
 
 -- an entry has its name wherever its words lie
 pub name_moved : (u v : ℕ → ℕ) (a b : ℕ) (name : List ℕ) → length name ≤ 56 → ((t : ℕ) → t < 8 → u (8 * a + t) ≡ v (8 * b + t)) → name_in u a ≡ name → name_in v b ≡ name
@@ -153,13 +182,6 @@ name_moved u v a b name few same is = ap (λ n. map (byte_in v) (range_with_len 
         let a_word : 8 * a + t ≡ (64 * a + 8 + y) / 8 = omega arith in
         let byte_at : (64 * b + 8 + y) % 8 ≡ (64 * a + 8 + y) % 8 = omega arith in
         (λ q. byte_of (v (b_word q)) (byte_at q)) ∙ ap (λ w. byte_of w ((64 * a + 8 + y) % 8)) (sym (same t (omega (arith, low, long, few))) ∙ ap u a_word)
-
--- one place more of a list filled
-pub set_next : (xs : List ℕ) (t v : ℕ) (F : ℕ → ℕ) → t < length xs → ((s : ℕ) → s < t → slice_index xs s ≡ F s) → v ≡ F t → (s : ℕ) → s < t + 1 → slice_index (slice_set xs t v) s ≡ F s
-set_next xs t v F within each is s low = elim (cases_lt s t) [
-  | inl below ↦ get_or-set_other xs t s v 0 (λ e. omega (arith, below, e)) ∙ each s below
-  | inr past ↦ (let same : s ≡ t = omega (arith, low, past) in ap (slice_index (slice_set xs t v)) same ∙ get_or-set_same xs t v 0 within ∙ is ∙ ap F (sym same))
-]
 
 -- ---- the words of an entry
 

@@ -14,13 +14,14 @@ pub record IsWordsOf (name words : List ℕ) : Type 0 where
   pub bytes : (y : ℕ) → y < 56 → byte_of (slice_index words (y / 8)) (y % 8) ≡ slice_index name y
   pub fits : (t : ℕ) → t < 7 → slice_index words t < 2 ^ 64
 
--- what names are compared with: the words of a name, and masks of the bytes that it has in each
+-- what names are compared with: the words of a name, and masks of the bytes that it has in the first and in the last of them
 pub record IsKey (name : List ℕ) (key : NameKey) : Type 0 where
   pub some : 1 ≤ length name
   pub few : length name ≤ 56
   pub words : IsWordsOf name key.words
-  pub masks : (t : ℕ) → t < 7 → slice_index key.masks t ≡ 2 ^ (8 * min (length name - 8 * t) 8) - 1
   pub last : key.last ≡ (length name - 1) / 8
+  pub first_mask : key.first_mask ≡ 2 ^ (8 * min (length name) 8) - 1
+  pub last_mask : key.last_mask ≡ 2 ^ (8 * min (length name - 8 * key.last) 8) - 1
 
 -- eight words are an entry of this name and inode
 pub record IsEntryOf (name : List ℕ) (i : ℕ) (words : List ℕ) : Type 0 where

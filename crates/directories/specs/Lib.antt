@@ -1,5 +1,6 @@
 pub mod Contents
 pub mod Entries
+pub mod Holding
 pub mod Making
 pub mod Plans
 pub mod Reading

@@ -22,11 +22,13 @@ pub const NAME_BYTES: usize = 56;
 /// Words that have the bytes of a name.
 const NAME_WORDS: usize = 7;
 
-/// A name as the words of an entry have it, for comparing: a word of an entry is the name's where the bits of its mask are.
+/// A name as the words of an entry have it, for comparing. The words from the first to the one before `last` are full. Of the
+/// last word the name has the bytes under its mask, and of the first word those under its own.
 #[derive(Clone, Copy, Debug)]
 pub struct NameKey {
     words: [u64; NAME_WORDS],
-    masks: [u64; NAME_WORDS],
+    first_mask: u64,
+    last_mask: u64,
     last: usize,
 }
 
@@ -53,17 +55,6 @@ fn mask_of(bytes: usize) -> u64
     }
 }
 
-/// The masks of the words of a name of so many bytes.
-fn name_masks(len: usize) -> [u64; NAME_WORDS]
-    ensures { (t : ℕ) → t < 7 → slice_index result t ≡ 2 ^ (8 * min (len - 8 * t) 8) - 1 }
-{
-    let mut masks = [0; NAME_WORDS];
-    for t in 0..NAME_WORDS {
-        masks[t] = mask_of(len.saturating_sub(8 * t));
-    }
-    masks
-}
-
 impl NameKey {
     /// The key of a name.
     pub fn new(name: &[u8]) -> NameKey
@@ -71,10 +62,12 @@ impl NameKey {
         requires few { length name.now ≤ 56 }
         ensures { IsKey name.now result }
     {
+        let last = (name.len() - 1) / 8;
         NameKey {
             words: name_words(name),
-            masks: name_masks(name.len()),
-            last: (name.len() - 1) / 8,
+            first_mask: mask_of(name.len()),
+            last_mask: mask_of(name.len() - 8 * last),
+            last,
         }
     }
 }
@@ -93,10 +86,10 @@ pub fn entry_ino(word: u64) -> Ino
     Ino((word % (1 << 32)) as u32)
 }
 
-/// Whether entry `k` of a page has this name.
+/// Whether entry `k` of a page, or of a part of one, has this name.
 pub fn has_name(words: &[u64], k: usize, name: &[u8], key: &NameKey) -> bool
-    requires len { length words.now ≡ 512 }
-    requires entry { k < 64 }
+    requires len { length words.now ≤ 512 }
+    requires entry { 8 * k + 8 ≤ length words.now }
     requires key { IsKey name.now key.now }
     ensures is { result ≡ true → name_in (slice_index words.now) k ≡ name.now }
     ensures not { result ≡ false → name_in (slice_index words.now) k ≢ name.now }
@@ -105,8 +98,11 @@ pub fn has_name(words: &[u64], k: usize, name: &[u8], key: &NameKey) -> bool
     if name_length(words[at]) != name.len() {
         return false;
     }
-    for t in 0..NAME_WORDS {
-        if words[at + 1 + t] & key.masks[t] != key.words[t] {
+    if words[at + 1 + key.last] & key.last_mask != key.words[key.last] {
+        return false;
+    }
+    for t in 0..key.last {
+        if words[at + 1 + t] != key.words[t] {
             return false;
         }
     }
@@ -121,10 +117,10 @@ pub fn may_have_name(words: &[u64], k: usize, name: &[u8], key: &NameKey) -> boo
     ensures not { result ≡ false → name_in (slice_index words.now) k ≢ name.now }
 {
     let at = ENTRY_WORDS * k + 1;
-    if words[at + key.last] & key.masks[key.last] != key.words[key.last] {
+    if words[at + key.last] & key.last_mask != key.words[key.last] {
         return false;
     }
-    words[at] & key.masks[0] == key.words[0]
+    words[at] & key.first_mask == key.words[0]
 }
 
 /// The words of an entry with this name and inode.

@@ -1,6 +1,6 @@
 //! A name of a directory, looked up.
 
-ghost use Rattle.std.specs.Prelude.{◌≡◌, ◌+◌, ◌*◌, ◌/◌, ◌<◌, ◌≤◌, ℕ, None, length, slice_index, IfOk};
+ghost use Rattle.std.specs.Prelude.{◌≡◌, ◌+◌, ◌*◌, ◌/◌, ◌<◌, ◌≤◌, ℕ, None, length, slice_index, IfOk, IfSome};
 ghost use Rattle.rio_base.specs.Blocks.{CanName, Caches, Ends, Looks};
 ghost use Rattle.rio_base.specs.Shapes.{HasShape};
 ghost use Rattle.rio_model.specs.Held.{held_of};
@@ -11,12 +11,12 @@ ghost use Rattle.inode_table.specs.Inodes.{IsInode};
 ghost use Rattle.file_pages.specs.LookingUp.{LooksUp};
 ghost use Rattle.directories.specs.Entries.{FindsIn, FindsInPage, IsKey};
 ghost use Rattle.directories.specs.Reading.{CanReadDir};
-ghost use Rattle.directories.specs.Rows.{Finds};
+ghost use Rattle.directories.specs.Rows.{Finds, IsEntry};
 
 use crate::entries::{
-    ENTRY_WORDS, NAME_BYTES, NameKey, PAGE_ENTRIES, entry_ino, has_name, may_have_name,
+    ENTRY_BYTES, ENTRY_WORDS, NAME_BYTES, NameKey, PAGE_ENTRIES, entry_ino, has_name, may_have_name,
 };
-use crate::pages::{dir_inode, entries_in_page, page_block};
+use crate::pages::{dir_inode, entries_in_page, page_block, read_entry};
 use inode_table::Inode;
 use rio_base::{Block, Blocks, Ino, VolFail, VolumeShape};
 
@@ -201,4 +201,45 @@ pub fn find<V: Blocks>(
 {
     let inode = dir_inode(v, shape, dir)?;
     find_with(v, shape, dir, &inode, name)
+}
+
+/// What the entry in slot `slot` of a directory, which has this inode, names, where it has this name; `None` where it has another
+/// one, and where the directory has no such slot. It reads that entry alone. `Fault` and `Stopped` are those of reading it.
+pub fn row_at<V: Blocks>(
+    v: &mut V,
+    shape: &VolumeShape,
+    dir: Ino,
+    inode: &Inode,
+    slot: u32,
+    name: &[u8],
+) -> Result<Option<Ino>, VolFail>
+    requires sound { V.sound v.old }
+    requires shape { HasShape shape.now (V.seen v.old) }
+    requires mapped { IsMapped shape.now (V.seen v.old).words }
+    requires named { AllNamed (volume_layout shape.now (V.seen v.old).words) (V.seen v.old) }
+    requires entries { EntryRule (held_of shape.now (V.seen v.old).words) }
+    requires dir { (held_of shape.now (V.seen v.old).words dir.0).kind ≡ 1 }
+    requires inode { IsInode (V.seen v.old).words dir.0 inode.now }
+    ensures value { IfOk result (λ found. IfSome found (λ i. IsEntry (held_of shape.now (V.seen v.old).words dir.0) slot name.now i.0)) }
+    ensures looks { Looks (V.seen v.old) (V.seen v.new) }
+    ensures shape { HasShape shape.now (V.seen v.new) }
+    ensures named { AllNamed (volume_layout shape.now (V.seen v.old).words) (V.seen v.new) }
+    ensures passes { V.passes v.old v.new }
+    ensures ends { Ends (V.health v.old) (V.health v.new) result }
+    ensures sound { V.sound v.new }
+{
+    if name.is_empty() {
+        return Ok(None);
+    }
+    if name.len() > NAME_BYTES {
+        return Ok(None);
+    }
+    if slot as u64 >= inode.size / ENTRY_BYTES {
+        return Ok(None);
+    }
+    let entry = read_entry(v, shape, dir, inode, slot)?;
+    if !has_name(&entry, 0, name, &NameKey::new(name)) {
+        return Ok(None);
+    }
+    Ok(Some(entry_ino(entry[0])))
 }

@@ -5,6 +5,7 @@ mod applying;
 mod changes;
 mod entries;
 mod finding;
+mod holding;
 mod listing;
 mod pages;
 mod planning;
@@ -13,7 +14,8 @@ mod storing;
 
 pub use applying::apply;
 pub use changes::DirChange;
-pub use finding::{find, find_with};
+pub use finding::{find, find_with, row_at};
+pub use holding::hold_names;
 pub use listing::names;
 pub use planning::{plan_add, plan_set};
 pub use removing::{plan_remove, plan_replace};

@@ -24,7 +24,7 @@ use rio_base::{Block, Blocks, Ino, ReadFail, VolumeShape};
 use std::alloc::{AllocError, Global};
 
 /// Makes the bytes of words.
-fn write_bytes(words: &[u64], line: &mut [u8])
+pub fn write_bytes(words: &[u64], line: &mut [u8])
     requires { length line.old ≡ 8 * length words.now }
     ensures { line.new ≡ bytes_of words.now }
 {

@@ -1,6 +1,7 @@
 //! Words of entries, as edits of a prepared change.
 
-ghost use Rattle.std.specs.Prelude.{◌≡◌, ◌+◌, ◌*◌, ◌/◌, ◌%◌, ◌<◌, ◌≤◌, ◌++◌, ℕ, map, slice_index, IfOk, OnOk};
+ghost use Rattle.std.specs.Prelude.{◌≡◌, ◌+◌, ◌*◌, ◌/◌, ◌%◌, ◌<◌, ◌≤◌, ◌++◌, ℕ, map, length, slice_index, vec_capacity, IfOk};
+ghost use Rattle.std.specs.Vec.{vec_len};
 ghost use Rattle.std.specs.List.{Contains};
 ghost use Rattle.rio_base.specs.Blocks.{Ends};
 ghost use Rattle.rio_model.specs.Placed.{AtPage, placed_at};
@@ -96,19 +97,21 @@ pub fn moved_words<V: Blocks>(
     words_for_slot(v, shape, dir, inode, to, words)
 }
 
-/// Adds the edits that store an entry.
-fn push_edits(edits: &mut Vec<Edit>, entry: &EntryWords) -> Result<(), AllocError>
-    requires { entry.now.first + 8 ≤ 512 }
-    ensures { OnOk result (map word_edit edits.new.items ≡ map word_edit edits.old.items ++ entry_edits entry.now) }
+/// Adds the edits that store an entry, in room that is there.
+fn push_edits(edits: &mut Vec<Edit>, entry: &EntryWords)
+    requires within { entry.now.first + 8 ≤ 512 }
+    requires room { vec_len edits.old + 8 ≤ vec_capacity edits.old }
+    ensures edits { map word_edit edits.new.items ≡ map word_edit edits.old.items ++ entry_edits entry.now }
+    ensures len { vec_len edits.new ≡ vec_len edits.old + 8 }
+    ensures capacity { vec_capacity edits.new ≡ vec_capacity edits.old }
 {
     for t in 0..ENTRY_WORDS {
-        edits.push(Edit {
+        edits.push_reserved(Edit {
             block: entry.block,
             word: entry.first + t as u16,
             value: entry.words[t],
-        })?;
+        });
     }
-    Ok(())
 }
 
 /// A change of a directory's size, with the words of entries that are to be stored.
@@ -117,7 +120,8 @@ pub fn with_entries(
     change: SizeChange,
     entries: &[EntryWords],
 ) -> Result<DirChange, AllocError>
-    requires { (e : EntryWordsOf) → Contains entries.now e → e.first + 8 ≤ 512 }
+    requires within { (e : EntryWordsOf) → Contains entries.now e → e.first + 8 ≤ 512 }
+    requires few { length entries.now ≤ 2 }
     ensures dir { IfOk result (λ c. c.dir ≡ dir) }
     ensures inode { IfOk result (λ c. c.inode ≡ change.inode) }
     ensures edits { IfOk result (λ c. map word_edit c.edits ≡ map word_edit change.edits ++ all_edits entries.now) }
@@ -125,8 +129,10 @@ pub fn with_entries(
     ensures freed { IfOk result (λ c. c.freed ≡ change.freed) }
 {
     let mut edits = change.edits.into_vec();
+    // room for all at once: edits pushed one by one would have the vector grow several times
+    edits.reserve(ENTRY_WORDS * entries.len())?;
     for k in 0..entries.len() {
-        push_edits(&mut edits, &entries[k])?;
+        push_edits(&mut edits, &entries[k]);
     }
     Ok(DirChange {
         dir,

@@ -1,5 +1,5 @@
 -- Two plans of two directories made in one update, of which the first takes no block.
-use Rattle.directories.proofs.Common.{◌≡◌, ◌≢◌, ℕ, ◌+◌, ◌-◌, ◌/◌, ◌<◌, ◌≤◌, ◌⊎◌, true, false, List, [], length, map, refl, sym, ap, subst, ◌∙◌, arith, inl, inr, Option, None, Some, nat_lt, Contains, nat_tests, PageName, VolumeShape, free_blocks, CachesBy, BlockWords, Seen, IsIno, Firm, Kept, numbers, Held, held, held_of, held_there, Change, Slot, AtPage, AtTable, Placed, HasSlot, IsFree, Owns, placed_at, volume_layout, Applied, edited, Bears, LeavesInUse, IsMapped, wanted_blocks, word_edit, IsUpdated}
+use Rattle.directories.proofs.Common.{◌≡◌, ◌≢◌, ℕ, ◌≤◌, ◌⊎◌, true, false, List, [], length, map, refl, sym, ap, subst, ◌∙◌, arith, inl, inr, Option, None, Some, Contains, nat_tests, PageName, VolumeShape, free_blocks, CachesBy, BlockWords, Seen, Firm, Kept, numbers, Held, held, held_there, Change, Slot, AtPage, AtTable, Placed, HasSlot, placed_at, volume_layout, Applied, edited, Bears, LeavesInUse, wanted_blocks, word_edit, IsUpdated}
 use Rattle.std.specs.Prelude.{take}
 use Rattle.rio_model.specs.NodeChanges.{Available}
 use Rattle.rio_model.proofs.PlacedRules.{has_same}

@@ -1,5 +1,5 @@
 -- Directories without names are made, and one of them is read.
-use Rattle.std.proofs.Common.{◌≡◌, ◌≢◌, ℕ, ◌≤◌, arith, inl, inr, sym, ap, subst, ◌∙◌}
+use Rattle.std.proofs.Common.{◌≡◌, ℕ, ◌≤◌, arith, inl, inr, sym, ap, ◌∙◌}
 use Rattle.std.proofs.lemmas.Bool.{cases_eq}
 use Rattle.rio_base.specs.declared.places.VolumeShape.{VolumeShape}
 use Rattle.rio_base.specs.Blocks.{Seen}
@@ -21,6 +21,7 @@ dirs_made shape x k ready nodes = record {
     used = λ d j has. absurd (none d j has);
   };
   dirs = dir;
+  apart = λ i at a b in_a in_b same. absurd (none i a (record { dir = dir i at; within = in_a }));
 }
   where
     none : (d j : ℕ) → HasEntry (held_of shape x.words) d j → ⊥

@@ -1,5 +1,5 @@
 -- Plans of tests while an update is open: how many blocks it touches, and that a plan lasts.
-use Rattle.directories.proofs.Common.{Bool, true, false, ◌≡◌, ◌≢◌, ℕ, ◌+◌, ◌<◌, ◌≤◌, ◌⊎◌, ◌==◌, cond, List, length, refl, sym, ap, subst, ◌∙◌, arith, inl, inr, slice_index_or, None, Contains, cases_eq, VolumeShape, CachesBy, caches_by_one, caches_by_trans, BlockWords, Caches, Seen, inode_block, HasShape, Firm, Kept, Held, held_of, placed_at, volume_layout, AllNamed, Bears, Firmly, EntryRule, IsMapped, firm_on, IsEdited, Edit}
+use Rattle.directories.proofs.Common.{Bool, true, false, ◌≡◌, ℕ, ◌+◌, ◌<◌, ◌≤◌, ◌⊎◌, ◌==◌, cond, List, length, refl, sym, ap, subst, ◌∙◌, arith, inl, inr, slice_index_or, None, Contains, cases_eq, VolumeShape, CachesBy, caches_by_one, caches_by_trans, BlockWords, Caches, Seen, inode_block, HasShape, Firm, Kept, held_of, placed_at, volume_layout, AllNamed, Bears, Firmly, EntryRule, IsMapped, firm_on, IsEdited, Edit}
 use Rattle.std.proofs.Common.{◌||◌}
 use Rattle.std.proofs.lemmas.List.{get_or_default}
 use Rattle.rio_base.specs.Blocks.{CanName, Drops, SamePage}
@@ -9,6 +9,7 @@ use Rattle.rio_model.proofs.WordRules.{itself}
 use Rattle.directories.specs.Making.{MayBeMade}
 use Rattle.directories.proofs.MakingOrder.{plan_applies, plan_edits}
 use Rattle.directories.specs.Plans.{InThreeBlocks, PlansDir}
+use Rattle.directories.specs.Rows.{NamesApart}
 use Rattle.directories_tests.specs.TestDirs.{CanMake, CanTouch, DirsOrder, KeepsRows}
 use Rattle.directories.specs.declared.changes.DirChange.{DirChange}
 
@@ -137,6 +138,7 @@ order_passed shape y j z k h words has_shape drops firm = record {
   };
   entries = subst (λ (f : BlockWords). EntryRule (held_of shape f)) (sym words) h.entries;
   dirs = λ i at. subst (λ (f : BlockWords). (held_of shape f i).kind ≡ 1) (sym words) (h.dirs i at);
+  apart = λ i at. subst (λ (f : BlockWords). NamesApart (held_of shape f i)) (sym words) (h.apart i at);
 }
 
 pub firm_false : (k j : Kept) (b : ℕ) → Firm k j → k.loose b ≡ false → j.loose b ≡ false

@@ -1,5 +1,5 @@
 -- The calls of tests keep the volume's directories.
-use Rattle.directories.proofs.Common.{◌≡◌, ◌≢◌, ℕ, ◌*◌, ◌<◌, ◌⊎◌, false, List, refl, sym, ap, subst, ◌∙◌, arith, inl, inr, cases_eq, VolumeShape, CachesBy, BlockWords, Health, Looks, Seen, IsIno, HasShape, Below, Firm, Kept, Passes, Inode, IsInode, Held, HasEntry, entry_ino, entry_name, held_of, held_ino, Change, IsName, Layout, volume_layout, lays_self, Applied, AllNamed, Firmly, LeavesInUse, Ready, EntryRule, IsMapped, LooksUp, named_on, firm_on, ready_left, IsUpdated}
+use Rattle.directories.proofs.Common.{◌≡◌, ◌≢◌, ℕ, ◌*◌, ◌<◌, ◌⊎◌, false, List, refl, sym, ap, subst, ◌∙◌, arith, inl, inr, cases_eq, VolumeShape, CachesBy, BlockWords, Health, Looks, Seen, IsIno, HasShape, Below, Firm, Kept, Passes, Inode, IsInode, Held, HasEntry, entry_ino, entry_name, held_of, held_ino, Change, IsName, Layout, volume_layout, lays_self, Applied, AllNamed, Firmly, LeavesInUse, EntryRule, IsMapped, LooksUp, named_on, firm_on, ready_left, IsUpdated}
 use Rattle.rio_model.proofs.HeldRules.{held_by, held_in_agree, same_all}
 use Rattle.rio_model.specs.Placed.{Agrees}
 use Rattle.rio_model.proofs.PlacedRules.{lays_agree}
@@ -9,7 +9,7 @@ use Rattle.directories.proofs.MakingOrder.{order_made, plan_edits}
 use Rattle.directories.specs.Plans.{PlansDir, dir_update}
 use Rattle.directories.specs.Reading.{CanReadDir}
 use Rattle.directories.specs.RowChanges.{AddsRow, RemovesRow, ReplacesRow, SetsRow}
-use Rattle.directories.specs.Rows.{HasRow}
+use Rattle.directories.specs.Rows.{HasRow, NamesApart}
 use Rattle.directories_tests.specs.TestDirs.{CanMake, DirsOrder, DirsReady, IsTestDir, KeepsRows}
 use Rattle.directories.specs.declared.changes.DirChange.{DirChange}
 use Rattle.directories.proofs.AddedRow.{held_size}
@@ -30,6 +30,7 @@ dirs_left shape x k y j h left =
       ready = ready_left shape x k y j h.ready left;
       entries = subst EntryRule same h.entries;
       dirs = λ i at. subst (λ (held : ℕ → Held). (held i).kind ≡ 1) same (h.dirs i at);
+      apart = λ i at. subst (λ (held : ℕ → Held). NamesApart (held i)) same (h.apart i at);
     }
 
 pub dirs_read : (shape : VolumeShape) (s : Health) (o : Below) (t : Health) (n : Below) (x : Seen) (k : Kept) (y : Seen) (j : Kept) → DirsReady shape x k → Looks x y → HasShape shape y → AllNamed (volume_layout shape x.words) y → Passes s o k t n j → DirsReady shape y j
@@ -45,6 +46,7 @@ dirs_read shape s o t n x k y j h looks has_shape named passes = record {
   };
   entries = subst (λ (f : BlockWords). EntryRule (held_of shape f)) (sym looks.words) h.entries;
   dirs = λ i at. subst (λ (f : BlockWords). (held_of shape f i).kind ≡ 1) (sym looks.words) (h.dirs i at);
+  apart = λ i at. subst (λ (f : BlockWords). NamesApart (held_of shape f i)) (sym looks.words) (h.apart i at);
 }
 
 pub dirs_looked : (shape : VolumeShape) (s : Health) (o : Below) (t : Health) (n : Below) (x : Seen) (k : Kept) (y : Seen) (j : Kept) → DirsReady shape x k → LooksUp shape x y → Passes s o k t n j → DirsReady shape y j
@@ -92,10 +94,10 @@ entries_set shape g k d was dir dirs set = record {
         subst (λ (h : Held). 0 < (held_of shape k (entry_ino h j)).kind) (sym same) (still_used _ (was.used e j (record { dir = subst (λ (h : Held). h.kind ≡ 1) same has.dir; within = subst (λ (h : Held). 64 * j < h.size) same has.within })))
 
 pub ready_dirs : (shape : VolumeShape) (x : Seen) (k : Kept) → DirsReady shape x k → DirsOrder shape x k
-ready_dirs shape x k h = record { order = h.ready.order; entries = h.entries; dirs = h.dirs }
+ready_dirs shape x k h = record { order = h.ready.order; entries = h.entries; dirs = h.dirs; apart = h.apart }
 
 pub dirs_idle : (shape : VolumeShape) (x : Seen) (k : Kept) → DirsOrder shape x k → k.updating ≡ false → DirsReady shape x k
-dirs_idle shape x k h idle = record { ready = ready_order shape x k h.order idle; entries = h.entries; dirs = h.dirs }
+dirs_idle shape x k h idle = record { ready = ready_order shape x k h.order idle; entries = h.entries; dirs = h.dirs; apart = h.apart }
 
 pub plan_order : (shape : VolumeShape) (y : Seen) (j : Kept) (z : Seen) (k : Kept) (c : DirChange) → DirsOrder shape y j → CanMake shape y j c → Applied shape (dir_update c) y.words z.words → HasShape shape z → CachesBy (IsUpdated c.dir.0 c.edits) y z → Firm j k → DirsOrder shape z k
 plan_order shape y j z k c h can applied has_shape caches firm = record {
@@ -104,6 +106,10 @@ plan_order shape y j z k c h can applied has_shape caches firm = record {
   dirs = λ i at. elim (cases_eq i d) [
     | inl here ↦ ap (λ x. (held_of shape z.words x).kind) here ∙ set.own.dir
     | inr away ↦ ap (λ (m : Held). m.kind) (set.others i away) ∙ h.dirs i at
+  ];
+  apart = λ i at. elim (cases_eq i d) [
+    | inl here ↦ subst (λ x. NamesApart (held_of shape z.words x)) (sym here) (set.own.apart (subst (λ x. NamesApart (held_of shape y.words x)) here (h.apart i at)))
+    | inr away ↦ subst (λ (m : Held). NamesApart m) (sym (set.others i away)) (h.apart i at)
   ];
 }
   where
@@ -146,6 +152,7 @@ add_keeps h k name i is at c = record {
     | inl old ↦ inl old
     | inr new ↦ inr (subst IsName (sym new.0) is, subst IsTestDir (sym new.1) at)
   ];
+  apart = c.apart;
 }
 
 pub set_keeps : (h k : Held) (slot : ℕ) (name : List ℕ) (i : ℕ) → IsName name → IsTestDir i → SetsRow slot name i h k → KeepsRows h k
@@ -155,10 +162,11 @@ set_keeps h k slot name i is at c = record {
     | inl old ↦ inl old
     | inr new ↦ inr (subst IsName (sym new.0) is, subst IsTestDir (sym new.1) at)
   ];
+  apart = c.apart;
 }
 
 pub remove_keeps : (h k : Held) (slot : ℕ) → RemovesRow slot h k → KeepsRows h k
-remove_keeps h k slot c = record { dir = c.dir; rows = λ a n row. elim (c.from a n row) [ inl old ↦ inl old | inr none ↦ absurd none ] }
+remove_keeps h k slot c = record { dir = c.dir; rows = λ a n row. elim (c.from a n row) [ inl old ↦ inl old | inr none ↦ absurd none ]; apart = c.apart }
 
 pub replace_keeps : (h k : Held) (slot i gone : ℕ) → IsName (entry_name h slot) → IsTestDir i → ReplacesRow slot i gone h k → KeepsRows h k
 replace_keeps h k slot i gone is at c = record {
@@ -167,6 +175,7 @@ replace_keeps h k slot i gone is at c = record {
     | inl old ↦ inl old
     | inr new ↦ inr (subst IsName (sym new.0) is, subst IsTestDir (sym new.1) at)
   ];
+  apart = c.apart;
 }
 
 -- ---- a directory that is read

@@ -14,7 +14,7 @@ use Rattle.rio_model.specs.VolumeRules.{EntryRule}
 use Rattle.file_pages.specs.declared.changes.Edit.{Edit}
 use Rattle.directories.specs.Making.{MayBeMade}
 use Rattle.directories.specs.Plans.{PlansDir}
-use Rattle.directories.specs.Rows.{HasRow}
+use Rattle.directories.specs.Rows.{HasRow, NamesApart}
 use Rattle.directories.specs.declared.changes.DirChange.{DirChange}
 
 -- its directories
@@ -27,17 +27,20 @@ pub record DirsOrder (shape : VolumeShape) (x : Seen) (k : Kept) : Type 0 where
   pub order : InOrder shape x.words x k
   pub entries : EntryRule (held_of shape x.words)
   pub dirs : (i : ℕ) → IsTestDir i → (held_of shape x.words i).kind ≡ 1
+  pub apart : (i : ℕ) → IsTestDir i → NamesApart (held_of shape x.words i)
 
 -- and may be called
 pub record DirsReady (shape : VolumeShape) (x : Seen) (k : Kept) : Type 0 where
   pub ready : Ready shape x k
   pub entries : EntryRule (held_of shape x.words)
   pub dirs : (i : ℕ) → IsTestDir i → (held_of shape x.words i).kind ≡ 1
+  pub apart : (i : ℕ) → IsTestDir i → NamesApart (held_of shape x.words i)
 
--- a directory still, with no row more but of a name that a path may have for one of the directories
+-- a directory still, with no row more but of a name that a path may have for one of the directories, and no name twice
 pub record KeepsRows (h k : Held) : Type 0 where
   pub dir : k.kind ≡ 1
   pub rows : (name : List ℕ) (i : ℕ) → HasRow k name i → HasRow h name i ⊎ (IsName name × IsTestDir i)
+  pub apart : NamesApart h → NamesApart k
 
 -- a plan that may be made next
 pub record CanMake (shape : VolumeShape) (y : Seen) (j : Kept) (c : DirChange) : Type 0 where

@@ -2,6 +2,7 @@
 
 use crate::dirs::SMALL;
 use crate::rows::{Change, Dir, Row, check_rows};
+use rio_base::Ino;
 use test_volumes::SHAPE;
 
 /// The longest name.
@@ -14,7 +15,7 @@ const LESS: [u8; 55] = [b'x'; 55];
 const TOO_LONG: [u8; 57] = [b'x'; 57];
 
 /// Tables of calls, each on a volume of its own.
-static TABLES: [&[Row]; 8] = [
+static TABLES: [&[Row]; 9] = [
     // names are found and listed in byte order
     &[
         Row::Names(Dir::Root, b"a", None),
@@ -51,6 +52,31 @@ static TABLES: [&[Row]; 8] = [
         Row::Make(Change::Remove(Dir::Root, b"c")),
         Row::Size(Dir::Root, 0),
         Row::Free(252),
+    ],
+    // the entry of one slot is read alone, and all names are held in memory
+    &[
+        Row::Make(Change::Add(Dir::Root, b"a", 2)),
+        Row::Make(Change::Add(Dir::Root, &LONG, 3)),
+        Row::Make(Change::Add(Dir::Root, b"b", 4)),
+        Row::At(Dir::Root, 0, b"a", Some(Ino(2))),
+        Row::At(Dir::Root, 1, &LONG, Some(Ino(3))),
+        Row::At(Dir::Root, 0, b"b", None),
+        Row::At(Dir::Root, 1, &LESS, None),
+        Row::At(Dir::Root, 3, b"a", None),
+        Row::At(Dir::Root, 0, b"", None),
+        Row::At(Dir::Root, 1, &TOO_LONG, None),
+        Row::At(Dir::Other, 0, b"a", None),
+        Row::Held(Dir::Root, b"a", Some((Ino(2), 0))),
+        Row::Held(Dir::Root, &LONG, Some((Ino(3), 1))),
+        Row::Held(Dir::Root, b"b", Some((Ino(4), 2))),
+        Row::Held(Dir::Root, &LESS, None),
+        Row::Held(Dir::Other, b"a", None),
+        Row::Make(Change::Remove(Dir::Root, b"a")),
+        Row::At(Dir::Root, 0, b"a", None),
+        Row::At(Dir::Root, 0, b"b", Some(Ino(4))),
+        Row::At(Dir::Root, 2, b"b", None),
+        Row::Held(Dir::Root, b"b", Some((Ino(4), 0))),
+        Row::Held(Dir::Root, b"a", None),
     ],
     // a directory of many pages grows and shrinks
     &[
@@ -124,5 +150,5 @@ fn rows_are_found_listed_and_changed(rt: HostRuntime) {
     for (k, rows) in TABLES.iter().enumerate() {
         check_rows(&rt, rt.alloc(), &SHAPE, k as u64, rows);
     }
-    check_rows(&rt, rt.alloc(), &SMALL, 8, &FULL);
+    check_rows(&rt, rt.alloc(), &SMALL, 9, &FULL);
 }

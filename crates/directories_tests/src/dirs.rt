@@ -11,6 +11,7 @@ ghost use Rattle.rio_base.specs.Volume.{Firm};
 ghost use Rattle.rio_model.specs.Held.{held_of};
 ghost use Rattle.rio_model.specs.Paths.{IsName};
 ghost use Rattle.block_alloc.specs.Bitmap.{numbers};
+ghost use Rattle.inode_table.specs.Inodes.{IsInode};
 ghost use Rattle.test_volumes.specs.TestVolumes.{IsTestShape};
 ghost use Rattle.file_pages.specs.Updating.{IsEdited, IsTouched, IsUpdated};
 ghost use Rattle.file_pages.specs.declared.changes.Edit.{Edit as EditOf};
@@ -22,7 +23,7 @@ ghost use Rattle.directories.specs.declared.changes.DirChange.{DirChange as DirC
 use block_alloc::free_count;
 use directories::{DirChange, apply, find, names, plan_add, plan_remove, plan_replace, plan_set};
 use file_pages::{Edit, SizeFail};
-use inode_table::{inode_block, read_inode};
+use inode_table::{Inode, inode_block, read_inode};
 use name_list::NameList;
 use rio_base::{Block, Ino, ReadFail, VolFail, Volume, VolumeShape};
 use rio_fakes::ListVolume;
@@ -223,6 +224,22 @@ pub(crate) fn slot_of<V: Volume>(
     }
 }
 
+/// The inode of a directory.
+pub(crate) fn inode_in<V: Volume>(
+    v: &mut V,
+    shape: &VolumeShape,
+    dir: Ino,
+) -> Result<Inode, VolFail>
+    requires sound { V.sound v.old }
+    requires dirs { DirsReady shape.now (V.seen v.old) (V.kept v.old) }
+    requires dir { IsTestDir dir.0 }
+    ensures value { IfOk result (IsInode (V.seen v.new).words dir.0) }
+    ensures dirs { DirsReady shape.now (V.seen v.new) (V.kept v.new) }
+    ensures sound { V.sound v.new }
+{
+    read_inode(v, shape, dir)
+}
+
 /// The bytes of a directory.
 pub(crate) fn size_of<V: Volume>(v: &mut V, shape: &VolumeShape, dir: Ino) -> Result<u64, VolFail>
     requires sound { V.sound v.old }
@@ -232,7 +249,7 @@ pub(crate) fn size_of<V: Volume>(v: &mut V, shape: &VolumeShape, dir: Ino) -> Re
     ensures dirs { DirsReady shape.now (V.seen v.new) (V.kept v.new) }
     ensures sound { V.sound v.new }
 {
-    let inode = read_inode(v, shape, dir)?;
+    let inode = inode_in(v, shape, dir)?;
     Ok(inode.size)
 }
 

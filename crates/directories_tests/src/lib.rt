@@ -8,6 +8,8 @@ mod dir_tests;
 #[cfg(test)]
 mod dirs;
 #[cfg(test)]
+mod held;
+#[cfg(test)]
 mod numbered;
 #[cfg(test)]
 mod rows;

@@ -4,7 +4,8 @@ ghost use Rattle.rio_fakes.specs.ListVolumes.{ListSound, list_kept, list_seen};
 ghost use Rattle.directories_tests.specs.TestDirs.{DirsReady};
 
 use crate::dirs::{ROOT, add, ino_of, remove};
-use rio_base::{Ino, VolFail, VolumeShape};
+use crate::held::hold;
+use rio_base::{Ino, ReadFail, VolFail, VolumeShape};
 use rio_fakes::ListVolume;
 use std::alloc::Global;
 use std::process::Abort;
@@ -51,6 +52,27 @@ pub(crate) fn are_numbered(
 {
     for n in 0..count {
         if ino_of(v, shape, ROOT, numbered(n).as_slice())? != Some(n % 8 + 2) {
+            return Ok(false);
+        }
+    }
+    Ok(true)
+}
+
+/// Whether each of them names its inode, and is told to lie in its slot, where all names of the root are held in memory.
+pub(crate) fn are_held(
+    alloc: Global,
+    v: &mut ListVolume,
+    shape: &VolumeShape,
+    count: u32,
+) -> Result<bool, ReadFail>
+    requires sound { ListSound v.old }
+    requires dirs { DirsReady shape.now (list_seen v.old) (list_kept v.old) }
+    ensures dirs { DirsReady shape.now (list_seen v.new) (list_kept v.new) }
+    ensures sound { ListSound v.new }
+{
+    let names = hold(alloc, v, shape, ROOT)?;
+    for n in 0..count {
+        if names.find(numbered(n).as_slice()) != Ok(Some((Ino(n % 8 + 2), n))) {
             return Ok(false);
         }
     }

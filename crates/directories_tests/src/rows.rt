@@ -10,7 +10,8 @@ use crate::dirs::{
     OTHER, ROOT, add, free_blocks, ino_of, list, move_row, plan_row, remove, replace, set_row,
     size_of, slot_of, with_dirs,
 };
-use crate::numbered::{add_numbered, are_numbered, numbered, remove_numbered};
+use crate::held::{hold, ino_at};
+use crate::numbered::{add_numbered, are_held, are_numbered, numbered, remove_numbered};
 use file_pages::SizeFail;
 use rio_base::{Ino, VolumeShape};
 use rio_fakes::ListVolume;
@@ -56,13 +57,18 @@ pub(crate) enum Row {
     Names(Dir, Name, Option<u32>),
     /// The row of the name lies in this slot.
     Slot(Dir, Name, u32),
+    /// The entry in this slot names this inode under the name, or has another name, or none.
+    At(Dir, u32, Name, Option<Ino>),
+    /// Where all names of the directory are held in memory, the name names this inode and is told to lie in this slot, or names
+    /// none.
+    Held(Dir, Name, Option<(Ino, u32)>),
     /// The directory has so many bytes.
     Size(Dir, u64),
     /// So many blocks are free.
     Free(u32),
     /// The directory has just these names, in this order.
     Lists(Dir, &'static [Name]),
-    /// So many numbered names name their inodes, and the next one names none.
+    /// So many numbered names name their inodes, also where they are held in memory, and the next one names none.
     Numbered(u32),
 }
 
@@ -140,8 +146,36 @@ fn check_list(
     }
 }
 
+/// Compares what a name names, where all names of a directory are held in memory.
+fn check_held(
+    rt: &impl Abort,
+    alloc: Global,
+    v: &mut ListVolume,
+    shape: &VolumeShape,
+    k: u64,
+    dir: Ino,
+    name: Name,
+    due: Option<(Ino, u32)>,
+)
+    requires sound { ListSound v.old }
+    requires dirs { DirsReady shape.now (list_seen v.old) (list_kept v.old) }
+    requires dir { IsTestDir dir.0 }
+    ensures dirs { DirsReady shape.now (list_seen v.new) (list_kept v.new) }
+    ensures sound { ListSound v.new }
+{
+    let names = hold(alloc, v, shape, dir).expect(rt, "its names are held");
+    same(rt, k, &names.find(name), &Ok(due));
+}
+
 /// Looks whether so many numbered names are there, and not the next one.
-fn check_numbered(rt: &impl Abort, v: &mut ListVolume, shape: &VolumeShape, k: u64, count: u32)
+fn check_numbered(
+    rt: &impl Abort,
+    alloc: Global,
+    v: &mut ListVolume,
+    shape: &VolumeShape,
+    k: u64,
+    count: u32,
+)
     requires sound { ListSound v.old }
     requires dirs { DirsReady shape.now (list_seen v.old) (list_kept v.old) }
     ensures dirs { DirsReady shape.now (list_seen v.new) (list_kept v.new) }
@@ -149,6 +183,8 @@ fn check_numbered(rt: &impl Abort, v: &mut ListVolume, shape: &VolumeShape, k: u
 {
     let all = are_numbered(v, shape, count).expect(rt, "the names are found");
     holds(rt, "each names its inode", k, all);
+    let held = are_held(alloc, v, shape, count).expect(rt, "the names are held");
+    holds(rt, "each is held", k, held);
     let next = ino_of(v, shape, ROOT, numbered(count).as_slice()).expect(rt, "the next name");
     same(rt, k, &next, &None);
 }
@@ -181,6 +217,13 @@ fn check_row(
             let came = slot_of(v, shape, dir_of(dir), name).expect(rt, "a slot");
             same(rt, k, &came, &due);
         }
+        Row::At(dir, slot, name, due) => {
+            let came = ino_at(v, shape, dir_of(dir), slot, name).expect(rt, "an entry");
+            same(rt, k, &came, &due);
+        }
+        Row::Held(dir, name, due) => {
+            check_held(rt, alloc, v, shape, k, dir_of(dir), name, due);
+        }
         Row::Size(dir, due) => {
             let came = size_of(v, shape, dir_of(dir)).expect(rt, "a size");
             same(rt, k, &came, &due);
@@ -190,7 +233,7 @@ fn check_row(
             same(rt, k, &came, &due);
         }
         Row::Lists(dir, due) => check_list(rt, alloc, v, shape, k, dir_of(dir), due),
-        Row::Numbered(count) => check_numbered(rt, v, shape, k, count),
+        Row::Numbered(count) => check_numbered(rt, alloc, v, shape, k, count),
     }
 }
 

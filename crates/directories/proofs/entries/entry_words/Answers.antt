@@ -1,4 +1,4 @@
-use Rattle.directories.proofs.Common.{◌≡◌, ◌+◌, ◌*◌, ◌%◌, ◌^◌, ◌∷◌, ◌++◌, [], ◌∙◌, ap, arith, length, subst, sym, append-nil}
+use Rattle.directories.proofs.Common.{◌≡◌, ◌+◌, ◌*◌, ◌%◌, ◌^◌, ◌∷◌, ◌∙◌, ap, arith, length, subst, sym, append-nil}
 use Rattle.std.proofs.Common.{bit_or}
 use Rattle.std.specs.Int.Bits.{or_shifted_r}
 use Rattle.directories.specs.Entries.{IsEntryOf}

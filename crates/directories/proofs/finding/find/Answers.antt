@@ -1,4 +1,4 @@
-use Rattle.directories.proofs.Common.{◌≡◌, ◌∙◌, sym, subst, err_from_is_err_and, IfOk, BlockWords, held_of, volume_layout, AllNamed, IsInode}
+use Rattle.directories.proofs.Common.{◌≡◌, sym, subst, err_from_is_err_and, IfOk, BlockWords, held_of, volume_layout, AllNamed, IsInode}
 use Rattle.rio_base.proofs.BlockRules.{ends_later}
 use Rattle.rio_base.proofs.Rules.{looks_trans}
 use Rattle.directories.specs.Rows.{Finds}

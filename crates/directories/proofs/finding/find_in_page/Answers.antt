@@ -1,4 +1,4 @@
-use Rattle.directories.proofs.Common.{◌*◌, ◌<◌, ◌≡◌, ◌∙◌, ◌-◌, ◌/◌, ℕ, min, sym, ap, subst, arith, IfOk, err_from_is_err_and, BlockWords, held, placed_at, look_trans}
+use Rattle.directories.proofs.Common.{◌*◌, ◌<◌, ◌∙◌, ◌-◌, ◌/◌, ℕ, min, sym, ap, subst, IfOk, err_from_is_err_and, BlockWords, held, placed_at, look_trans}
 use Rattle.rio_base.proofs.BlockRules.{ends_later}
 use Rattle.directories.specs.Entries.{FindsIn}
 use Rattle.directories.proofs.CanRead.{block_on, can_page, can_stays, dir_held, dir_size, has_page, looked_page, page_below, page_on}
@@ -60,3 +60,6 @@ returns-clause-can g c = can_stays c.args.shape.now _ _ c.args.dir.0 c.requires.
 
 pub returns-clause-ends : goal.returns-clause-ends
 returns-clause-ends g c = ends_later _ _ _ c.find_in_block.result c.in_ok-b.ensures.ends.later c.in_ok-b.ensures.ends.cause c.find_in_block.ensures.ends
+
+pub returns-clause-passes : goal.returns-clause-passes
+returns-clause-passes g c = g.met.V.Blocks.passes_trans _ _ _ c.page_block.ensures.passes c.find_in_block.ensures.passes

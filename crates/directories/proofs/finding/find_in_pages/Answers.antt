@@ -1,9 +1,11 @@
-use Rattle.directories.proofs.Common.{◌≡◌, ◌∙◌, arith, sym, ap, subst, None, err_from_is_err_and, BlockWords, IsInode, held_of, look_trans}
+use Rattle.directories.proofs.Common.{◌≡◌, ◌<◌, ◌∙◌, ap, arith, refl, sym, subst, err_from_is_err_and, BlockWords, Held, IsInode, held_of, look_trans, placed_at}
 use Rattle.std.proofs.Common.{le_trans}
 use Rattle.rio_base.proofs.BlockRules.{ends_later}
+use Rattle.file_pages.proofs.LookingUpRules.{look_refl}
 use Rattle.directories.specs.Entries.{FindsInPage}
+use Rattle.directories.proofs.CanRead.{can_look, dir_held}
 use Rattle.directories.proofs.EndsAs.{ends_err, ends_ok}
-use Rattle.directories.proofs.Found.{none_next}
+use Rattle.directories.proofs.Found.{none_next, sized}
 use Rattle.directories.proofs.finding.find_in_pages.Goals as goal
 
 pub returns-in_err-i-clause-looks : goal.returns-in_err-i-clause-looks
@@ -35,3 +37,38 @@ loop-p-preserved g c =
       later = le_trans inv.later call.ends.later;
       running = call.ends.cause ∙ inv.running;
     }
+
+pub loop-p-init : goal.loop-p-init
+loop-p-init g c =
+    let shape = c.args.shape.now in
+    let x = g.V.Blocks.seen c.args.v.now in
+    record {
+      none = λ j within before same. omega (arith, before);
+      sound = c.requires.sound;
+      looks = look_refl shape x (can_look shape x c.args.dir.0 c.requires.can);
+      can = c.requires.can;
+      inode = c.requires.inode;
+      passes = g.met.V.Blocks.passes_refl _;
+      later = omega arith;
+      running = refl;
+    }
+
+pub returns-in_err-i-clause-passes : goal.returns-in_err-i-clause-passes
+returns-in_err-i-clause-passes g c = g.met.V.Blocks.passes_trans _ _ _ c.loop-p.invariant.passes c.find_in_page.ensures.passes
+
+pub returns-in-Some-clause-passes : goal.returns-in-Some-clause-passes
+returns-in-Some-clause-passes g c = g.met.V.Blocks.passes_trans _ _ _ c.loop-p.invariant.passes c.find_in_page.ensures.passes
+
+-- a slot of a directory is small, since its size is
+pub overflow_add-result : goal.overflow_add-result
+overflow_add-result g c =
+    let shape = c.args.shape.now in
+    let x = g.V.Blocks.seen c.args.v.now in
+    let inv = c.loop-p.invariant in
+    let n = placed_at x.words c.args.dir.0 in
+    let dir = c.requires.can.dir in
+    let used : 0 < n.kind = omega (arith, dir) in
+    let fits = c.requires.can.mapped.laid.sizes.each c.args.dir.0 c.requires.can.ino used in
+    let at = subst (λ found. FindsInPage (held_of shape x.words c.args.dir.0) c.loop-p.p c.args.name.now found) c.in-Some.is (subst (λ (f : BlockWords). FindsInPage (held_of shape f c.args.dir.0) c.loop-p.p c.args.name.now c.in_ok-i.field-0) inv.looks.looks.words c.in_ok-i.ensures.value) in
+    let size : (held_of shape x.words c.args.dir.0).size ≡ n.size = ap (λ (h : Held). h.size) (dir_held shape x c.args.dir.0 c.requires.can) ∙ sized x.words n used in
+    omega (arith, at.within, size, fits.most)

@@ -1,4 +1,4 @@
-use Rattle.directories.proofs.Common.{◌≡◌, ◌∙◌, ◌/◌, map, sym, ap, subst, arith, range_with_len, BlockWords, Held, entry_name, held_of, placed_at, look_trans, named_on}
+use Rattle.directories.proofs.Common.{◌∙◌, ◌/◌, map, sym, ap, arith, range_with_len, BlockWords, Held, entry_name, held_of, placed_at, look_trans, named_on}
 use Rattle.directories.proofs.CanRead.{can_read, dir_held}
 use Rattle.directories.proofs.Found.{sized}
 use Rattle.directories.proofs.Listed.{lists_sorted}

@@ -1,4 +1,4 @@
-use Rattle.directories.proofs.Common.{◌*◌, ◌<◌, ◌≡◌, ◌∙◌, ◌-◌, ◌/◌, ◌%◌, ◌^◌, ◌≤◌, ℕ, map, min, sym, ap, subst, arith, range_with_len, err_from_is_err_and, BlockWords, ends_by_after, Held, entry_name, held, held_of, placed_at, look_trans}
+use Rattle.directories.proofs.Common.{◌*◌, ◌<◌, ◌∙◌, ◌-◌, ◌/◌, ◌%◌, ◌^◌, ◌≤◌, ℕ, map, min, sym, ap, subst, range_with_len, err_from_is_err_and, BlockWords, ends_by_after, Held, entry_name, held_of, placed_at, look_trans}
 use Rattle.directories.specs.Entries.{name_in}
 use Rattle.directories.proofs.CanRead.{block_on, can_page, can_stays, dir_held, dir_size, has_page, looked_page, page_below, page_on}
 use Rattle.directories.proofs.EndsAs.{ends_vol_read}

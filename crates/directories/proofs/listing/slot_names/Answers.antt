@@ -1,4 +1,4 @@
-use Rattle.directories.proofs.Common.{◌≡◌, ◌∙◌, ◌++◌, ◌-◌, ◌*◌, ◌/◌, ◌%◌, map, min, arith, sym, ap, subst, range_with_len, err_from_is_err_and, BlockWords, ends_by_after, IsInode, entry_name, held_of, look_trans}
+use Rattle.directories.proofs.Common.{◌∙◌, ◌++◌, ◌-◌, ◌*◌, ◌/◌, ◌%◌, map, min, arith, sym, ap, subst, range_with_len, err_from_is_err_and, BlockWords, ends_by_after, IsInode, entry_name, held_of, look_trans}
 use Rattle.std.proofs.Common.{le_trans}
 use Rattle.file_pages.proofs.LookingUpRules.{look_refl}
 use Rattle.file_pages.proofs.Ends.{ends_read}

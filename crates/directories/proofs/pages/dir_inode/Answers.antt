@@ -1,4 +1,3 @@
-use Rattle.directories.proofs.Common.{arith}
 use Rattle.file_pages.proofs.LookingUpRules.{looked_inode}
 use Rattle.directories.proofs.CanRead.{can_look, can_stays}
 use Rattle.directories.proofs.pages.dir_inode.Goals as goal

@@ -1,16 +1,13 @@
-use Rattle.directories.proofs.Common.{◌≡◌, ◌+◌, ◌*◌, ◌/◌, ◌%◌, ◌<◌, ◌≤◌, ℕ, List, [], length, refl, sym, ap, subst, ◌∙◌, arith, inl, inr, err_from_is_err_and, BlockWords, ◌then◌, ends_by_after, numbers, PlansSize, free_beside, wanted_blocks, leaves_looked, leaves_trans, ready_left, IsInode, held_of, AtPage, placed_at, volume_layout, LeavesInUse}
+use Rattle.directories.proofs.Common.{◌≡◌, ◌+◌, ◌/◌, ◌<◌, ◌≤◌, [], length, sym, ap, subst, ◌∙◌, arith, err_from_is_err_and, BlockWords, ◌then◌, ends_by_after, numbers, PlansSize, free_beside, wanted_blocks, leaves_looked, leaves_trans, ready_left, IsInode, held_of, AtPage, placed_at}
 use Rattle.std.specs.Prelude.{slice_index}
 use Rattle.rio_base.specs.declared.places.Block.{Block}
-use Rattle.file_pages.specs.Changes.{PlansFor}
-use Rattle.file_pages.specs.declared.failures.SizeFail.TheVariants.{NoSpace, TooLarge}
+use Rattle.file_pages.specs.declared.failures.SizeFail.TheVariants.{NoSpace}
 use Rattle.file_pages.proofs.Listed.{as_many}
-use Rattle.file_pages.proofs.Ends.{ends_vol_size, ends_well_memory, ends_well_ok, err_handed, size_err, size_then, unrefused_memory, unrefused_vol}
-use Rattle.directories.specs.Reading.{CanReadDir}
+use Rattle.file_pages.proofs.Ends.{err_handed, size_err}
 use Rattle.directories.specs.Rows.{HasRow}
 use Rattle.directories.specs.declared.storing.EntryWords.{EntryWords}
 use Rattle.directories.proofs.AddedRow.{IsNext, looked_twice, planned_before, room_left, row_planned, space_said, takes_page}
-use Rattle.directories.proofs.CanRead.{can_read, dir_size}
-use Rattle.directories.proofs.PlannedSizes.{dir_fits, plans_dir_inode}
+use Rattle.directories.proofs.CanRead.{can_read}
 use Rattle.directories.proofs.planning.plan_add.Goals as goal
 
 pub returns-in_err-inode-clause-leaves : goal.returns-in_err-inode-clause-leaves

@@ -1,5 +1,5 @@
-use Rattle.directories.proofs.Common.{◌≡◌, ◌+◌, ◌-◌, ◌*◌, ◌/◌, ◌%◌, ◌<◌, ◌∙◌, ap, arith, subst, sym, refl, err_from_is_err_and, ◌then◌, ends_by_after, if_ok_map, look_trans, leaves_looked}
-use Rattle.std.specs.Prelude.{[], ◌∷◌, ℕ, slice_index}
+use Rattle.directories.proofs.Common.{◌≡◌, ◌-◌, ap, arith, refl, err_from_is_err_and, ◌then◌, ends_by_after, if_ok_map, look_trans, leaves_looked}
+use Rattle.std.specs.Prelude.{[], slice_index}
 use Rattle.directories.specs.Contents.{sized_to, with_entry}
 use Rattle.directories.specs.Plans.{PlansDir}
 use Rattle.directories.specs.RowChanges.{RemovesRow}

@@ -1,4 +1,4 @@
-use Rattle.directories.proofs.Common.{sym, subst, ◌≡◌, ◌<◌, ◌/◌, ◌%◌, ◌*◌, ◌+◌, ◌∙◌, ap, ℕ, IfOk, BlockWords, IsInode, AtPage, placed_at, slice_index, err_from_is_err_and, if_ok_map, look_trans}
+use Rattle.directories.proofs.Common.{sym, subst, IfOk, BlockWords, IsInode, placed_at, err_from_is_err_and, look_trans}
 use Rattle.rio_base.proofs.BlockRules.{ends_later}
 use Rattle.directories.specs.Contents.{GoesInto}
 use Rattle.directories.proofs.EndsAs.{ends_err}

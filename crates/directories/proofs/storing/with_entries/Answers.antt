@@ -1,9 +1,15 @@
-use Rattle.directories.proofs.Common.{map, word_edit}
+use Rattle.directories.proofs.Common.{arith, map, word_edit}
 use Rattle.directories.proofs.PushedEdits.{entry_in, entry_pushed}
 use Rattle.directories.proofs.storing.with_entries.Goals as goal
 
 pub push_edits-requires : goal.push_edits-requires
-push_edits-requires c = c.requires _ (entry_in c.args.entries.now c.loop-k.k _ c.loop-k-test.true)
+push_edits-requires c = record {
+  within = c.requires.within _ (entry_in c.args.entries.now c.loop-k.k _ c.loop-k-test.true);
+  room = omega (arith, c.loop-k.invariant.room, c.loop-k-test.true);
+}
 
 pub loop-k-preserved : goal.loop-k-preserved
-loop-k-preserved c = entry_pushed (map word_edit c.args.change.edits) c.args.entries.now c.loop-k.k _ c.loop-k.edits.items c.push_edits.new.edits.items c.loop-k-test.true c.loop-k.invariant c.in_ok-push_edits.ensures
+loop-k-preserved c = record {
+  edits = entry_pushed (map word_edit c.args.change.edits) c.args.entries.now c.loop-k.k _ c.loop-k.edits.items c.push_edits.new.edits.items c.loop-k-test.true c.loop-k.invariant.edits c.push_edits.ensures.edits;
+  room = omega (arith, c.loop-k.invariant.room, c.loop-k-test.true, c.push_edits.ensures.len, c.push_edits.ensures.capacity);
+}

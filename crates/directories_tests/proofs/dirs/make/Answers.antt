@@ -1,4 +1,3 @@
-use Rattle.std.proofs.Common.{sym, ◌∙◌}
 use Rattle.rio_base.proofs.BlockRules.{shape_dropped}
 use Rattle.directories_tests.proofs.OpenPlans.{can_passed, order_passed}
 use Rattle.directories_tests.proofs.PlansMade.{dirs_idle, ready_dirs}

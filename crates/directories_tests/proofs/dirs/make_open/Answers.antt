@@ -1,4 +1,4 @@
-use Rattle.directories.proofs.Common.{refl, sym, subst, inl, None, caches_by_one, caches_by_trans, BlockWords, firm_trans, Applied, IsUpdated}
+use Rattle.directories.proofs.Common.{refl, subst, inl, None, caches_by_one, caches_by_trans, BlockWords, firm_trans, Applied, IsUpdated}
 use Rattle.directories.proofs.MakingOrder.{plan_applies}
 use Rattle.directories.specs.Plans.{dir_update}
 use Rattle.directories_tests.specs.TestDirs.{KeepsRows}

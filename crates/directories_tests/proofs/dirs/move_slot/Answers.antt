@@ -1,4 +1,4 @@
-use Rattle.directories.proofs.Common.{◌≡◌, ℕ, ◌+◌, ◌≤◌, sym, subst, arith, Held, held_of}
+use Rattle.directories.proofs.Common.{ℕ, ◌+◌, ◌≤◌, sym, subst, arith, Held, held_of}
 use Rattle.directories.specs.RowChanges.{AddsRow, RemovesRow}
 use Rattle.directories.specs.Rows.{HasRow}
 use Rattle.directories_tests.specs.TestDirs.{IsTestDir}
