@@ -101,6 +101,10 @@ well_vol {T = T} s t r v is h = ends_by_as s t _ _ _ _ (λ a. absurd a) (λ a. a
 pub well_read : {T : Type 0} (s t : Health) (r : Result T ReadFail) (v : T) → r ≡ Ok v → EndsBy s t (IsErrOf r ReadFault) (IsErrOf r ReadStopped) → EndsBy s t ⊥ ⊥
 well_read {T = T} s t r v is h = ends_by_as s t _ _ _ _ (λ a. absurd a) (λ a. absurd a) (λ a. cc) (subst (λ (x : Result T ReadFail). EndsBy s t (IsErrOf x ReadFault) (IsErrOf x ReadStopped)) is h)
 
+-- or gave up for want of memory
+pub well_memory : {T : Type 0} (s t : Health) (r : Result T ReadFail) → r ≡ Err ReadMemory → EndsBy s t (IsErrOf r ReadFault) (IsErrOf r ReadStopped) → EndsBy s t ⊥ ⊥
+well_memory {T = T} s t r is h = ends_by_as s t _ _ _ _ (λ a. absurd a) (λ a. absurd a) (λ a. cc) (subst (λ (x : Result T ReadFail). EndsBy s t (IsErrOf x ReadFault) (IsErrOf x ReadStopped)) is h)
+
 pub well_size : {T : Type 0} (s t : Health) (r : Result T SizeFail) (v : T) → r ≡ Ok v → EndsBy s t (IsErrOf r SizeFault) (IsErrOf r SizeStopped) → EndsBy s t ⊥ ⊥
 well_size {T = T} s t r v is h = ends_by_as s t _ _ _ _ (λ a. absurd a) (λ a. absurd a) (λ a. cc) (subst (λ (x : Result T SizeFail). EndsBy s t (IsErrOf x SizeFault) (IsErrOf x SizeStopped)) is h)
 

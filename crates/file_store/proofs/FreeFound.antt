@@ -21,7 +21,7 @@ find_first p (suc n) a i from to here below = by (cases_eq a i) (λ off. find_fi
     by (inr off) rest = ap (λ b. cond b (Some a) (find p (range_with_len (a + 1) n))) (below a (omega arith) (omega (arith, from, off))) ∙ rest off
 
 -- a used inode is a node of the state
-used_node : (shape : VolumeShape) (f : BlockWords) (s : State) (i : ℕ) → ReadsAs shape f s → IsIno shape i → 0 < inode_kind f i → is_none (get s.nodes i) ≡ false
+pub used_node : (shape : VolumeShape) (f : BlockWords) (s : State) (i : ℕ) → ReadsAs shape f s → IsIno shape i → 0 < inode_kind f i → is_none (get s.nodes i) ≡ false
 used_node shape f s i reads ino used = by (cases_eq (held_of shape f i).kind 1) (cases_eq (held_of shape f i).kind 2)
   where
     by : ((held_of shape f i).kind ≡ 1) ⊎ ((held_of shape f i).kind ≢ 1) → ((held_of shape f i).kind ≡ 2) ⊎ ((held_of shape f i).kind ≢ 2) → is_none (get s.nodes i) ≡ false

@@ -1,9 +1,8 @@
 -- A name that is free in a directory, and requests that make a row of it.
-use Rattle.file_store.proofs.Common.{◌≡◌, ℕ, ◌*◌, ◌<◌, ◌≤◌, true, false, cond, List, [], ◌∷◌, refl, sym, ap, subst, ◌∙◌, arith, inl, inr, Result, Ok, Err, None, Some, is_some, nat_lt, get, nat_tests, VolFail, Ino, VolumeShape, BlockWords, true_false, Node, Region, State, front_of, last_of, least_free, held_of, walk_to_dir, largest_size, region_words, ReadsAs, Finds, Answered, at_inode, refused, at_row, make_new, new_region}
+use Rattle.file_store.proofs.Common.{◌≡◌, ℕ, ◌*◌, ◌<◌, ◌≤◌, true, false, cond, List, [], ◌∷◌, refl, sym, ap, subst, ◌∙◌, arith, inl, inr, Result, Ok, Err, None, Some, is_some, nat_lt, get, nat_tests, Ino, VolumeShape, BlockWords, true_false, Node, Region, State, front_of, last_of, least_free, held_of, walk_to_dir, largest_size, region_words, ReadsAs, Finds, Answered, at_inode, refused, at_row, make_new, new_region}
 use Rattle.std.specs.Prelude.{Option, length}
-use Rattle.rio_base.specs.declared.failures.VolFail.TheVariants.{Fault as VolFault, Stopped as VolStopped}
 use Rattle.rio_requests.specs.Answers.{make, make_row, region_at, region_row}
-use Rattle.file_store.specs.Failures.{fail_of_vol}
+use Rattle.file_store.specs.Failures.{Unrefused}
 use Rattle.file_store.specs.NewRegions.{FitRegion}
 use Rattle.file_store.proofs.RowReads.{finds_some}
 use Rattle.file_store.specs.Walks.{Comes, FreeRow}
@@ -24,12 +23,15 @@ free_as s names name Memory h = h
 pub free_fails : (s : State) (names : List (List ℕ)) (name : List ℕ) (r q : Result Ino FileFail) (e d : FileFail) → r ≡ Err e → q ≡ Err d → d ≡ e → Comes (walk_to_dir s names) r → FreeRow s names name q
 free_fails s names name r q e d re qd de h = subst (λ (v : Result Ino FileFail). FreeRow s names name v) (sym (qd ∙ ap Err de)) (free_as s names name e (subst (λ (v : Result Ino FileFail). Comes (walk_to_dir s names) v) re h))
 
-vol_as : (s : State) (names : List (List ℕ)) (name : List ℕ) (e : VolFail) → FreeRow s names name (Err (fail_of_vol e))
-vol_as s names name VolFault = refl
-vol_as s names name VolStopped = tt
+unrefused_as : (T : Type 0) (s : State) (names : List (List ℕ)) (name : List ℕ) (e : FileFail) → Unrefused {T = T} (Err e) → FreeRow s names name (Err e)
+unrefused_as T s names name (Refused c) h = absurd h.1
+unrefused_as T s names name (Fault k) h = h
+unrefused_as T s names name Stopped h = tt
+unrefused_as T s names name Memory h = h
 
-pub free_vol : (s : State) (names : List (List ℕ)) (name : List ℕ) (q : Result Ino FileFail) (e : VolFail) (d : FileFail) → q ≡ Err d → d ≡ fail_of_vol e → FreeRow s names name q
-free_vol s names name q e d qd de = subst (λ (v : Result Ino FileFail). FreeRow s names name v) (sym (qd ∙ ap Err de)) (vol_as s names name e)
+-- or could not be looked into
+pub free_unrefused : {T : Type 0} (s : State) (names : List (List ℕ)) (name : List ℕ) (r : Result T FileFail) (q : Result Ino FileFail) (e d : FileFail) → r ≡ Err e → q ≡ Err d → d ≡ e → Unrefused r → FreeRow s names name q
+free_unrefused {T = T} s names name r q e d re qd de h = subst (λ (v : Result Ino FileFail). FreeRow s names name v) (sym (qd ∙ ap Err de)) (unrefused_as T s names name e (subst (λ (v : Result T FileFail). Unrefused v) re h))
 
 -- the name is there
 pub free_over : (shape : VolumeShape) (f : BlockWords) (s : State) (names : List (List ℕ)) (name : List ℕ) (dir : ℕ) (o : Option (Ino × ℕ)) → ReadsAs shape f s → walk_to_dir s names ≡ Ok dir → (held_of shape f dir).kind ≡ 1 → Finds (held_of shape f dir) name o → is_some o ≡ true → FreeRow s names name (Err (Refused 3))

@@ -16,6 +16,9 @@ pub mod FreeFound
 pub mod FreeRows
 pub mod LookedAt
 pub mod LowestTaken
+pub mod MemoData
+pub mod MemoEnds
+pub mod MemoSteps
 pub mod NameSteps
 pub mod NamesListed
 pub mod NewRegionWords

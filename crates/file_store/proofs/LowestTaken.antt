@@ -12,7 +12,7 @@ use Rattle.rio_model.specs.NodeChanges.{AreLowest, UsesLowest}
 use Rattle.file_pages.proofs.Listed.{listed}
 use Rattle.file_pages.proofs.Skipped.{among_none, beside_range, is_left}
 use Rattle.file_pages.specs.Changes.{free_beside, is_among, wanted_blocks}
-use Rattle.file_store.specs.Changes.{AllApplied, change_update, of_dir}
+use Rattle.file_store.specs.Changes.{AllApplied, change_update}
 use Rattle.file_store.specs.declared.changes.NodeChange.{NodeChange}
 use Rattle.file_store.proofs.Fitting.{AllFit, fits_of}
 use Rattle.file_store.proofs.Stood.{Stood}

@@ -9,7 +9,6 @@ use Rattle.file_store.specs.Failures.{fail_of_read, fail_of_vol}
 use Rattle.file_store.specs.Planned.{LeadsBy, Planned, told}
 use Rattle.file_store.specs.declared.changes.NodeChange.{NodeChange}
 use Rattle.file_store.specs.declared.failures.FileFail.{FileFail}
-use Rattle.file_store.specs.declared.failures.FileFail.TheVariants.{Memory}
 use Rattle.file_store.proofs.AnsweredAt.{FailsBy, ends_look, fails_read}
 use Rattle.file_store.proofs.Forgotten.{forgets_committed}
 use Rattle.file_store.proofs.LookedAt.{used_ino}
@@ -54,9 +53,6 @@ ends_planning {shape = shape} {x = x} {k = k} {y = y} {j = j} says s a r e fell 
 
 pub ends_unread : {T : Type 0} {shape : VolumeShape} {x : Seen} {k : Kept} {y : Seen} {j : Kept} (says : T → Reply → Type 0) (s : State) (a : Answered) (r : Result T FileFail) (e : ReadFail) → FailsAs r (fail_of_read e) → CanServe shape x k → Settled x k → LeavesInUse (volume_layout shape x.words) x k y j → ReadsAs shape x.words s → FileEnds says shape x k y j s a (NoneDone s) r
 ends_unread says s a r e fell can settled leaves reads = ends_planning says s a r (fail_of_read e) fell can settled leaves reads (fails_read s a e)
-
-pub ends_full : {T : Type 0} {shape : VolumeShape} {x : Seen} {k : Kept} {y : Seen} {j : Kept} (says : T → Reply → Type 0) (s : State) (a : Answered) (r : Result T FileFail) → FailsAs r Memory → CanServe shape x k → Settled x k → LeavesInUse (volume_layout shape x.words) x k y j → ReadsAs shape x.words s → FileEnds says shape x k y j s a (NoneDone s) r
-ends_full says s a r fell can settled leaves reads = ends_planning says s a r Memory fell can settled leaves reads tt
 
 -- ---- it is committed
 

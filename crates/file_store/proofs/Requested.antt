@@ -1,9 +1,8 @@
 -- A request of one update: what is known of it once all is prepared, that its changes can be made, and how it ends by how
 -- the call does that makes them. x and k are before the request, y and j when all is prepared, z and l after that call.
-use Rattle.file_store.proofs.Common.{◌≡◌, ℕ, ◌+◌, ◌<◌, ◌≤◌, true, List, [], ◌∷◌, map, zero, suc, refl, sym, ap, subst, ◌∙◌, arith, inl, inr, Result, Ok, Err, None, IsErrOf, Contains, VolFail, Block, VolumeShape, free_blocks, BlockWords, EndsBy, Health, Seen, IsIno, Kept, Settled, numbers, Answered, Reply, State, answered, Held, held_of, Slot, AtPage, AtTable, Placed, HasSlot, Owns, Agrees, placed_at, volume_layout, SameLayout, lays_agree, lays_same, lays_self, owned_below, owned_on, SamePlaced, ReadsAs, Bears, LeavesInUse, Ready, IsMapped, wanted_blocks, node_blocks, ready_left, InOrder, Edit, SizeFail, NoSpace, TooLarge, plan_edits, DirChange, row_wanted, with_room}
+use Rattle.file_store.proofs.Common.{◌≡◌, ℕ, ◌+◌, ◌<◌, ◌≤◌, true, List, [], ◌∷◌, map, zero, suc, refl, sym, ap, subst, ◌∙◌, arith, inl, inr, Result, Ok, Err, None, IsErrOf, Contains, VolFail, Block, VolumeShape, free_blocks, BlockWords, Seen, IsIno, Kept, Settled, numbers, Answered, Reply, State, answered, Held, held_of, Slot, AtPage, AtTable, Placed, HasSlot, Owns, Agrees, placed_at, volume_layout, SameLayout, lays_agree, lays_same, lays_self, owned_below, owned_on, SamePlaced, ReadsAs, Bears, LeavesInUse, Ready, IsMapped, wanted_blocks, node_blocks, ready_left, InOrder, Edit, SizeFail, NoSpace, TooLarge, plan_edits, DirChange, row_wanted, with_room}
 use Rattle.std.specs.Prelude.{length}
 use Rattle.rio_base.specs.declared.failures.VolFail.TheVariants.{Fault as VolFault, Stopped as VolStopped}
-use Rattle.rio_base.proofs.Rules.{ends_by_as}
 use Rattle.rio_model.proofs.PlacedRules.{owns_back}
 use Rattle.file_pages.specs.declared.failures.SizeFail.TheVariants.{Fault as SizeFault, Stopped as SizeStopped, Memory as SizeMemory}
 use Rattle.directories.proofs.MakingOrder.{plan_applies}
@@ -16,7 +15,6 @@ use Rattle.file_store.specs.declared.failures.FileFail.{FileFail}
 use Rattle.file_store.specs.declared.failures.FileFail.TheVariants.{Refused, Fault, Stopped, Memory}
 use Rattle.file_store.proofs.AnsweredAt.{FailsBy}
 use Rattle.file_store.proofs.Blocks.{gone_fits, made_fits, stood_fits}
-use Rattle.file_store.proofs.CallEnds.{EndsFile}
 use Rattle.file_store.proofs.Ended.{MayTouch, Reaches, ends_fault, ends_made, ends_stopped}
 use Rattle.file_store.proofs.Fitting.{AllFit, Fits, may_touch}
 use Rattle.file_store.proofs.LookedAt.{used_ino}
@@ -182,13 +180,6 @@ ends_uncommitted {T = T} says shape x k y j z l changes r q e d s a t reply lead
     (uncommitted T says shape x k y j z l changes e s t reply leads h.request h.touched (subst (λ (v : Result (Unit {0}) VolFail). Commits shape changes y j z l v) re h.commits) reach reads none))
 
 -- ---- how it ends before that call
-
--- no memory was left, after calls that ended well
-memory_as : (U : Type 0) (s t : Health) → EndsBy s t ⊥ ⊥ → EndsFile {T = U} s t (Err Memory)
-memory_as U s t h = ends_by_as s t _ _ _ _ (λ a. cc (a.1)) (λ a. cc) (λ a. absurd a) h
-
-pub ends_memory : {U : Type 0} (s t : Health) (q : Result U FileFail) (d : FileFail) → q ≡ Err d → d ≡ Memory → EndsBy s t ⊥ ⊥ → EndsFile s t q
-ends_memory {U = U} s t q d qd de h = subst (λ (v : Result U FileFail). EndsFile s t v) (sym (qd ∙ ap Err de)) (memory_as U s t h)
 
 -- no row more could be planned: 11 where fewer blocks are free than it takes
 pub fails_add : {T : Type 0} (shape : VolumeShape) (f : BlockWords) (s : State) (d : ℕ) (b : Answered) (r : Result T SizeFail) (e : SizeFail) → r ≡ Err e → ReadsAs shape f s → (held_of shape f d).kind ≡ 1 → (IsErrOf r NoSpace → length (free_blocks shape f) < wanted_blocks (held_of shape f d).size ((held_of shape f d).size + 64)) → (IsErrOf r TooLarge → ⊥) → FailsBy s (with_room s (row_wanted s d) b) (fail_of_size e)

@@ -1,5 +1,5 @@
 -- How a request on files ends, over the state that the blocks read as.
-use Rattle.std.specs.Prelude.{◌≡◌, ℕ, ◌⊎◌, ◌≤◌, ◌<◌, ◌++◌, List, [], ◌∷◌, All, length, Some, Result, Ok, Err}
+use Rattle.std.specs.Prelude.{◌≡◌, ℕ, ◌⊎◌, List, Some, Result, Ok, Err}
 use Rattle.rio_base.specs.declared.places.Ino.{Ino}
 use Rattle.rio_base.specs.declared.places.VolumeShape.{VolumeShape}
 use Rattle.rio_base.specs.Blocks.{BlockWords, Seen}
@@ -8,10 +8,8 @@ use Rattle.rio_requests.specs.declared.answered.Answered.{Answered}
 use Rattle.rio_requests.specs.declared.reply.Reply.{Reply}
 use Rattle.rio_requests.specs.declared.reply.Reply.TheVariants.{Ok as Done, Number, Bytes, Stat, Names as NamesOf, Err as RefusedBy}
 use Rattle.rio_model.specs.declared.state.State.{State}
-use Rattle.rio_model.specs.FileParts.{LeadsTo}
 use Rattle.rio_model.specs.Held.{Held, held_of}
 use Rattle.rio_model.specs.NodeChanges.{UsesLowest}
-use Rattle.rio_model.specs.Paths.{IsName, names_of, walk}
 use Rattle.rio_requests.specs.Parts.{PartOf}
 use Rattle.rio_model.specs.Placed.{volume_layout}
 use Rattle.rio_model.specs.VolumeReads.{ReadsAs}

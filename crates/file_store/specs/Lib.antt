@@ -2,6 +2,7 @@ pub mod Changes
 pub mod Committing
 pub mod Ends
 pub mod Failures
+pub mod Memos
 pub mod NewNodes
 pub mod NewRegions
 pub mod Planned

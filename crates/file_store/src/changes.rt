@@ -1,13 +1,13 @@
 //! Changes of nodes that one update makes together.
 
-ghost use Rattle.std.specs.Prelude.{◌≡◌, [], ◌∷◌, IfOk};
+ghost use Rattle.std.specs.Prelude.{◌≡◌};
 ghost use Rattle.file_store.specs.Changes.{IsGone, IsMade, of_size};
 
 use directories::DirChange;
 use file_pages::{EditList, SizeChange};
 use inode_table::Inode;
 use rio_base::{BlockList, Ino};
-use std::alloc::{AllocError, Global};
+use std::alloc::Global;
 
 /// The kind of an inode that is free.
 pub const FREE: u8 = 0;
@@ -103,43 +103,4 @@ pub fn node_gone(alloc: Global, i: Ino, freed: BlockList) -> NodeChange
         taken: BlockList::from(Vec::new(alloc)),
         freed,
     }
-}
-
-/// One change alone.
-pub fn one_change(alloc: Global, change: NodeChange) -> Result<Vec<NodeChange>, AllocError>
-    ensures { IfOk result (λ changes. changes.items ≡ change ∷ []) }
-{
-    let mut changes = Vec::with_capacity(alloc, 1)?;
-    changes.push(change)?;
-    Ok(changes)
-}
-
-/// Two changes, in this order.
-pub fn two_changes(
-    alloc: Global,
-    first: NodeChange,
-    second: NodeChange,
-) -> Result<Vec<NodeChange>, AllocError>
-    ensures { IfOk result (λ changes. changes.items ≡ first ∷ (second ∷ [])) }
-{
-    let mut changes = Vec::with_capacity(alloc, 2)?;
-    changes.push(first)?;
-    changes.push(second)?;
-    Ok(changes)
-}
-
-/// Three changes, in this order.
-pub fn three_changes(
-    alloc: Global,
-    first: NodeChange,
-    second: NodeChange,
-    third: NodeChange,
-) -> Result<Vec<NodeChange>, AllocError>
-    ensures { IfOk result (λ changes. changes.items ≡ first ∷ (second ∷ (third ∷ []))) }
-{
-    let mut changes = Vec::with_capacity(alloc, 3)?;
-    changes.push(first)?;
-    changes.push(second)?;
-    changes.push(third)?;
-    Ok(changes)
 }

@@ -14,11 +14,13 @@ ghost use Rattle.rio_requests.specs.Parts.{NoneDone, WriteDone};
 ghost use Rattle.file_pages.specs.Forgetting.{Forgets};
 ghost use Rattle.file_store.specs.Ends.{CanServe, FileEnds, SaysBytes, SaysCount, SaysDone};
 ghost use Rattle.file_store.specs.Failures.{Faulted};
+ghost use Rattle.file_store.specs.Memos.{InStep};
 ghost use Rattle.inode_table.specs.Inodes.{IsInode};
 ghost use Rattle.file_store.specs.Walks.{FileComes, ino_in};
 
 use crate::changes::{DIRECTORY, REGION};
 use crate::failures::{FileFail, IS_A_DIRECTORY, IS_A_REGION};
+use crate::memo::Memo;
 use crate::walking::{inode_of, walk};
 use inode_table::Inode;
 use rio_base::{Ino, Octets, Volume, VolumeShape};
@@ -28,13 +30,16 @@ use std::alloc::Global;
 fn walk_to_file<V: Volume>(
     v: &mut V,
     shape: &VolumeShape,
+    memo: &mut Memo,
     path: &[u8],
 ) -> Result<(Ino, Inode), FileFail>
     requires sound { V.sound v.old }
     requires can { CanServe shape.now (V.seen v.old) (V.kept v.old) }
+    requires in_step { InStep shape.now (V.seen v.old).words memo.old }
     ensures value { (s : State) → ReadsAs shape.now (V.seen v.old).words s → FileComes s (walk_of s 1 (names_of path.now)) (ino_in result) }
     ensures file { IfOk result (λ at. (held_of shape.now (V.seen v.old).words at.0.0).kind ≡ 2) }
     ensures inode { IfOk result (λ at. IsInode (V.seen v.old).words at.0.0 at.1) }
+    ensures in_step { InStep shape.now (V.seen v.old).words memo.new }
     ensures leaves { LeavesInUse (volume_layout shape.now (V.seen v.old).words) (V.seen v.old) (V.kept v.old) (V.seen v.new) (V.kept v.new) }
     ensures words { (V.seen v.new).words ≡ (V.seen v.old).words }
     ensures can { CanServe shape.now (V.seen v.new) (V.kept v.new) }
@@ -42,7 +47,7 @@ fn walk_to_file<V: Volume>(
     ensures ends { EndsBy (V.health v.old) (V.health v.new) (Faulted result) (IsErrOf result FileFail.Stopped) }
     ensures sound { V.sound v.new }
 {
-    let i = walk(v, shape, path)?;
+    let i = walk(v, shape, memo, path)?;
     let inode = inode_of(v, shape, i)?;
     match inode.kind {
         DIRECTORY => Err(FileFail::Refused(IS_A_DIRECTORY)),
@@ -52,67 +57,76 @@ fn walk_to_file<V: Volume>(
 }
 
 /// Writes bytes to a file from byte `off` on.
-pub fn write<V: Volume>(
+pub fn write_with<V: Volume>(
     alloc: Global,
     v: &mut V,
     shape: &VolumeShape,
+    memo: &mut Memo,
     path: &[u8],
     off: u64,
     bytes: &[u8],
 ) -> Result<u64, FileFail>
     requires sound { V.sound v.old }
     requires can { CanServe shape.now (V.seen v.old) (V.kept v.old) }
+    requires in_step { InStep shape.now (V.seen v.old).words memo.old }
     requires path { IsPath path.now }
     ensures leaves { (s : State) → ReadsAs shape.now (V.seen v.old).words s → FileEnds SaysCount shape.now (V.seen v.old) (V.kept v.old) (V.seen v.new) (V.kept v.new) s (write_of s path.now off bytes.now) (WriteDone s path.now off bytes.now (write_of s path.now off bytes.now)) result }
+    ensures in_step { (IsErrOf result FileFail.Stopped → ⊥) → InStep shape.now (V.seen v.new).words memo.new }
     ensures goes { Goes (V.health v.old) (V.below v.old) (V.health v.new) (V.below v.new) }
     ensures ends { EndsBy (V.health v.old) (V.health v.new) (Faulted result) (IsErrOf result FileFail.Stopped) }
     ensures sound { V.sound v.new }
 {
-    let (i, inode) = walk_to_file(v, shape, path)?;
+    let (i, inode) = walk_to_file(v, shape, memo, path)?;
     let count = file_pages::write_with(alloc, v, shape, i, &inode, off, bytes)?;
     Ok(count)
 }
 
 /// Gives a file another size.
-pub fn truncate<V: Volume>(
+pub fn truncate_with<V: Volume>(
     alloc: Global,
     v: &mut V,
     shape: &VolumeShape,
+    memo: &mut Memo,
     path: &[u8],
     len: u64,
 ) -> Result<(), FileFail>
     requires sound { V.sound v.old }
     requires can { CanServe shape.now (V.seen v.old) (V.kept v.old) }
+    requires in_step { InStep shape.now (V.seen v.old).words memo.old }
     requires path { IsPath path.now }
     ensures leaves { (s : State) → ReadsAs shape.now (V.seen v.old).words s → FileEnds SaysDone shape.now (V.seen v.old) (V.kept v.old) (V.seen v.new) (V.kept v.new) s (truncate_of s path.now len) (NoneDone s) result }
+    ensures in_step { (IsErrOf result FileFail.Stopped → ⊥) → InStep shape.now (V.seen v.new).words memo.new }
     ensures forgets { OnOk result (Forgets (volume_layout shape.now (V.seen v.old).words) (volume_layout shape.now (V.seen v.new).words) (V.seen v.new)) }
     ensures goes { Goes (V.health v.old) (V.below v.old) (V.health v.new) (V.below v.new) }
     ensures ends { EndsBy (V.health v.old) (V.health v.new) (Faulted result) (IsErrOf result FileFail.Stopped) }
     ensures sound { V.sound v.new }
 {
-    let (i, inode) = walk_to_file(v, shape, path)?;
+    let (i, inode) = walk_to_file(v, shape, memo, path)?;
     file_pages::resize_with(alloc, v, shape, i, &inode, len)?;
     Ok(())
 }
 
 /// Bytes of a file from byte `off` on.
-pub fn read<V: Volume>(
+pub fn read_with<V: Volume>(
     alloc: Global,
     v: &mut V,
     shape: &VolumeShape,
+    memo: &mut Memo,
     path: &[u8],
     off: u64,
     len: u64,
 ) -> Result<Octets, FileFail>
     requires sound { V.sound v.old }
     requires can { CanServe shape.now (V.seen v.old) (V.kept v.old) }
+    requires in_step { InStep shape.now (V.seen v.old).words memo.old }
     requires path { IsPath path.now }
     ensures leaves { (s : State) → ReadsAs shape.now (V.seen v.old).words s → FileEnds SaysBytes shape.now (V.seen v.old) (V.kept v.old) (V.seen v.new) (V.kept v.new) s (read_of s path.now off len) (NoneDone s) result }
+    ensures in_step { (IsErrOf result FileFail.Stopped → ⊥) → InStep shape.now (V.seen v.new).words memo.new }
     ensures goes { Goes (V.health v.old) (V.below v.old) (V.health v.new) (V.below v.new) }
     ensures ends { EndsBy (V.health v.old) (V.health v.new) (Faulted result) (IsErrOf result FileFail.Stopped) }
     ensures sound { V.sound v.new }
 {
-    let (i, inode) = walk_to_file(v, shape, path)?;
+    let (i, inode) = walk_to_file(v, shape, memo, path)?;
     let bytes = file_pages::read_with(alloc, v, shape, i, &inode, off, len)?;
     Ok(bytes)
 }

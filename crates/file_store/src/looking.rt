@@ -13,9 +13,11 @@ ghost use Rattle.rio_requests.specs.Parts.{NoneDone};
 ghost use Rattle.rio_model.specs.Paths.{IsPath};
 ghost use Rattle.file_store.specs.Ends.{CanServe, FileEnds, SaysNames, SaysStat};
 ghost use Rattle.file_store.specs.Failures.{Faulted, Unrefused};
+ghost use Rattle.file_store.specs.Memos.{InStep};
 
 use crate::changes::REGION;
 use crate::failures::FileFail;
+use crate::memo::Memo;
 use crate::walking::{inode_of, walk, walk_to_dir};
 use directories::names;
 use file_pages::block_of;
@@ -51,21 +53,24 @@ fn region_bytes<V: Volume>(v: &mut V, shape: &VolumeShape, i: Ino) -> Result<u64
 }
 
 /// Inode number, kind and size of the node at a path.
-pub fn stat<V: Volume>(
+pub fn stat_with<V: Volume>(
     alloc: Global,
     v: &mut V,
     shape: &VolumeShape,
+    memo: &mut Memo,
     path: &[u8],
 ) -> Result<(Ino, u8, u64), FileFail>
     requires sound { V.sound v.old }
     requires can { CanServe shape.now (V.seen v.old) (V.kept v.old) }
+    requires in_step { InStep shape.now (V.seen v.old).words memo.old }
     requires path { IsPath path.now }
     ensures leaves { (s : State) → ReadsAs shape.now (V.seen v.old).words s → FileEnds SaysStat shape.now (V.seen v.old) (V.kept v.old) (V.seen v.new) (V.kept v.new) s (stat_of s path.now) (NoneDone s) result }
+    ensures in_step { (IsErrOf result FileFail.Stopped → ⊥) → InStep shape.now (V.seen v.new).words memo.new }
     ensures goes { Goes (V.health v.old) (V.below v.old) (V.health v.new) (V.below v.new) }
     ensures ends { EndsBy (V.health v.old) (V.health v.new) (Faulted result) (IsErrOf result FileFail.Stopped) }
     ensures sound { V.sound v.new }
 {
-    let i = walk(v, shape, path)?;
+    let i = walk(v, shape, memo, path)?;
     let inode = inode_of(v, shape, i)?;
     let size = if inode.kind == REGION {
         region_bytes(v, shape, i)?
@@ -76,21 +81,24 @@ pub fn stat<V: Volume>(
 }
 
 /// All names of the directory at a path, in byte order.
-pub fn list<V: Volume>(
+pub fn list_with<V: Volume>(
     alloc: Global,
     v: &mut V,
     shape: &VolumeShape,
+    memo: &mut Memo,
     path: &[u8],
 ) -> Result<NameList, FileFail>
     requires sound { V.sound v.old }
     requires can { CanServe shape.now (V.seen v.old) (V.kept v.old) }
+    requires in_step { InStep shape.now (V.seen v.old).words memo.old }
     requires path { IsPath path.now }
     ensures leaves { (s : State) → ReadsAs shape.now (V.seen v.old).words s → FileEnds SaysNames shape.now (V.seen v.old) (V.kept v.old) (V.seen v.new) (V.kept v.new) s (list_of s path.now) (NoneDone s) result }
+    ensures in_step { (IsErrOf result FileFail.Stopped → ⊥) → InStep shape.now (V.seen v.new).words memo.new }
     ensures goes { Goes (V.health v.old) (V.below v.old) (V.health v.new) (V.below v.new) }
     ensures ends { EndsBy (V.health v.old) (V.health v.new) (Faulted result) (IsErrOf result FileFail.Stopped) }
     ensures sound { V.sound v.new }
 {
-    let dir = walk_to_dir(v, shape, path)?;
+    let dir = walk_to_dir(v, shape, memo, path)?;
     let list = names(alloc, v, shape, dir)?;
     Ok(list)
 }

@@ -15,10 +15,12 @@ ghost use Rattle.rio_model.specs.Placed.{volume_layout};
 ghost use Rattle.file_pages.specs.Forgetting.{Forgets};
 ghost use Rattle.file_store.specs.Ends.{CanServe, FileEnds, SaysIno, SaysNumber};
 ghost use Rattle.file_store.specs.Failures.{Faulted};
+ghost use Rattle.file_store.specs.Memos.{InStep};
 
-use crate::changes::{DIRECTORY, FILE, NodeChange, node_made, two_changes};
+use crate::changes::{DIRECTORY, FILE, NodeChange, node_made};
 use crate::committing::commit_planned;
 use crate::failures::{EXISTS, FileFail};
+use crate::memo::Memo;
 use crate::new_nodes::{NewNode, make_new};
 use crate::paths::{cut_last, is_root};
 use crate::walking::dir_without;
@@ -51,7 +53,7 @@ pub fn make_row<V: Volume>(
     ensures sound { V.sound v.new }
 {
     let row = plan_add(alloc, v, shape, dir, name, i)?;
-    let changes = two_changes(alloc, NodeChange::from(row), node_made(alloc, i, kind))?;
+    let changes = [NodeChange::from(row), node_made(alloc, i, kind)];
     commit_planned(v, shape, &changes)
 }
 
@@ -60,14 +62,17 @@ fn make<V: Volume>(
     alloc: Global,
     v: &mut V,
     shape: &VolumeShape,
+    memo: &mut Memo,
     path: &[u8],
     kind: u8,
 ) -> Result<Ino, FileFail>
     requires sound { V.sound v.old }
     requires can { CanServe shape.now (V.seen v.old) (V.kept v.old) }
+    requires in_step { InStep shape.now (V.seen v.old).words memo.old }
     requires path { IsPath path.now }
     requires kind { (kind ≡ 1) ⊎ (kind ≡ 2) }
     ensures leaves { (s : State) → ReadsAs shape.now (V.seen v.old).words s → FileEnds SaysIno shape.now (V.seen v.old) (V.kept v.old) (V.seen v.new) (V.kept v.new) s (make_of s (names_of path.now) (empty_node kind)) (NoneDone s) result }
+    ensures in_step { (IsErrOf result FileFail.Stopped → ⊥) → InStep shape.now (V.seen v.new).words memo.new }
     ensures forgets { OnOk result (Forgets (volume_layout shape.now (V.seen v.old).words) (volume_layout shape.now (V.seen v.new).words) (V.seen v.new)) }
     ensures goes { Goes (V.health v.old) (V.below v.old) (V.health v.new) (V.below v.new) }
     ensures ends { EndsBy (V.health v.old) (V.health v.new) (Faulted result) (IsErrOf result FileFail.Stopped) }
@@ -77,44 +82,50 @@ fn make<V: Volume>(
         return Err(FileFail::Refused(EXISTS));
     }
     let (front, name) = cut_last(path);
-    let dir = dir_without(v, shape, front, name)?;
-    make_new(alloc, v, shape, dir, name, NewNode::Bare(kind))
+    let dir = dir_without(v, shape, memo, front, name)?;
+    make_new(alloc, v, shape, memo, dir, name, NewNode::Bare(kind))
 }
 
 /// Makes a directory without names.
-pub fn mkdir<V: Volume>(
+pub fn mkdir_with<V: Volume>(
     alloc: Global,
     v: &mut V,
     shape: &VolumeShape,
+    memo: &mut Memo,
     path: &[u8],
 ) -> Result<Ino, FileFail>
     requires sound { V.sound v.old }
     requires can { CanServe shape.now (V.seen v.old) (V.kept v.old) }
+    requires in_step { InStep shape.now (V.seen v.old).words memo.old }
     requires path { IsPath path.now }
     ensures leaves { (s : State) → ReadsAs shape.now (V.seen v.old).words s → FileEnds SaysIno shape.now (V.seen v.old) (V.kept v.old) (V.seen v.new) (V.kept v.new) s (mkdir_of s path.now) (NoneDone s) result }
+    ensures in_step { (IsErrOf result FileFail.Stopped → ⊥) → InStep shape.now (V.seen v.new).words memo.new }
     ensures forgets { OnOk result (Forgets (volume_layout shape.now (V.seen v.old).words) (volume_layout shape.now (V.seen v.new).words) (V.seen v.new)) }
     ensures goes { Goes (V.health v.old) (V.below v.old) (V.health v.new) (V.below v.new) }
     ensures ends { EndsBy (V.health v.old) (V.health v.new) (Faulted result) (IsErrOf result FileFail.Stopped) }
     ensures sound { V.sound v.new }
 {
-    make(alloc, v, shape, path, DIRECTORY)
+    make(alloc, v, shape, memo, path, DIRECTORY)
 }
 
 /// Makes a file without bytes.
-pub fn create<V: Volume>(
+pub fn create_with<V: Volume>(
     alloc: Global,
     v: &mut V,
     shape: &VolumeShape,
+    memo: &mut Memo,
     path: &[u8],
 ) -> Result<Ino, FileFail>
     requires sound { V.sound v.old }
     requires can { CanServe shape.now (V.seen v.old) (V.kept v.old) }
+    requires in_step { InStep shape.now (V.seen v.old).words memo.old }
     requires path { IsPath path.now }
     ensures leaves { (s : State) → ReadsAs shape.now (V.seen v.old).words s → FileEnds SaysIno shape.now (V.seen v.old) (V.kept v.old) (V.seen v.new) (V.kept v.new) s (create_of s path.now) (NoneDone s) result }
+    ensures in_step { (IsErrOf result FileFail.Stopped → ⊥) → InStep shape.now (V.seen v.new).words memo.new }
     ensures forgets { OnOk result (Forgets (volume_layout shape.now (V.seen v.old).words) (volume_layout shape.now (V.seen v.new).words) (V.seen v.new)) }
     ensures goes { Goes (V.health v.old) (V.below v.old) (V.health v.new) (V.below v.new) }
     ensures ends { EndsBy (V.health v.old) (V.health v.new) (Faulted result) (IsErrOf result FileFail.Stopped) }
     ensures sound { V.sound v.new }
 {
-    make(alloc, v, shape, path, FILE)
+    make(alloc, v, shape, memo, path, FILE)
 }

@@ -19,7 +19,7 @@ ghost use Rattle.file_store.specs.Failures.{Faulted};
 ghost use Rattle.file_store.specs.WalkRules.{OutOfReach};
 ghost use Rattle.file_store.specs.Walks.{IsRow, ino_numbers};
 
-use crate::changes::{DIRECTORY, NodeChange, node_gone, one_change, three_changes, two_changes};
+use crate::changes::{DIRECTORY, NodeChange, node_gone};
 use crate::committing::commit_planned;
 use crate::failures::{BUSY, EXISTS, FileFail};
 use crate::removing::is_open;
@@ -50,7 +50,7 @@ fn rename_within<V: Volume>(
     ensures sound { V.sound v.new }
 {
     let set = plan_set(alloc, v, shape, from.dir, from.slot, name, from.ino)?;
-    let changes = one_change(alloc, NodeChange::from(set))?;
+    let changes = [NodeChange::from(set)];
     commit_planned(v, shape, &changes)
 }
 
@@ -79,7 +79,7 @@ fn move_across<V: Volume>(
 {
     let goes = plan_remove(alloc, v, shape, from.dir, from.slot)?;
     let comes = plan_add(alloc, v, shape, dir, name, from.ino)?;
-    let changes = two_changes(alloc, NodeChange::from(goes), NodeChange::from(comes))?;
+    let changes = [NodeChange::from(goes), NodeChange::from(comes)];
     commit_planned(v, shape, &changes)
 }
 
@@ -138,11 +138,7 @@ fn replace_within<V: Volume>(
 {
     let replaced = plan_replace(alloc, v, shape, to.dir, to.slot, from.ino, from.slot)?;
     let freed = blocks_of(alloc, v, shape, to.ino)?;
-    let changes = two_changes(
-        alloc,
-        NodeChange::from(replaced),
-        node_gone(alloc, to.ino, freed),
-    )?;
+    let changes = [NodeChange::from(replaced), node_gone(alloc, to.ino, freed)];
     commit_planned(v, shape, &changes)
 }
 
@@ -176,7 +172,7 @@ fn replace_across<V: Volume>(
     let comes = plan_set(alloc, v, shape, to.dir, to.slot, name, from.ino)?;
     let freed = blocks_of(alloc, v, shape, to.ino)?;
     let gone = node_gone(alloc, to.ino, freed);
-    let changes = three_changes(alloc, NodeChange::from(goes), NodeChange::from(comes), gone)?;
+    let changes = [NodeChange::from(goes), NodeChange::from(comes), gone];
     commit_planned(v, shape, &changes)
 }
 

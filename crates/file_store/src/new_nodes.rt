@@ -16,12 +16,14 @@ ghost use Rattle.rio_model.specs.Placed.{volume_layout};
 ghost use Rattle.file_pages.specs.Forgetting.{Forgets};
 ghost use Rattle.file_store.specs.Ends.{CanServe, FileEnds, SaysIno, SaysNumber};
 ghost use Rattle.file_store.specs.Failures.{Faulted};
+ghost use Rattle.file_store.specs.Memos.{InStep};
 ghost use Rattle.file_store.specs.NewNodes.{FitsNode, node_made};
 
 use crate::failures::{FileFail, NO_INODE};
 use crate::making::make_row;
+use crate::memo::Memo;
 use crate::regions::{RegionSizes, make_region_row};
-use inode_table::least_free;
+use inode_table::least_free_with;
 use rio_base::{Ino, Volume, VolumeShape};
 use std::alloc::Global;
 
@@ -69,25 +71,29 @@ pub fn make_new<V: Volume>(
     alloc: Global,
     v: &mut V,
     shape: &VolumeShape,
+    memo: &mut Memo,
     dir: Ino,
     name: &[u8],
     node: NewNode,
 ) -> Result<Ino, FileFail>
     requires sound { V.sound v.old }
     requires can { CanServe shape.now (V.seen v.old) (V.kept v.old) }
+    requires in_step { InStep shape.now (V.seen v.old).words memo.old }
     requires dir { (held_of shape.now (V.seen v.old).words dir.0).kind ≡ 1 }
     requires is_name { IsName name.now }
     requires absent { (n : ℕ) → HasRow (held_of shape.now (V.seen v.old).words dir.0) name.now n → ⊥ }
     requires node { FitsNode node }
     ensures leaves { (s : State) → ReadsAs shape.now (V.seen v.old).words s → FileEnds SaysIno shape.now (V.seen v.old) (V.kept v.old) (V.seen v.new) (V.kept v.new) s (make_new_of s dir.0 name.now (node_made node) (least_free s)) (NoneDone s) result }
+    ensures in_step { (IsErrOf result FileFail.Stopped → ⊥) → InStep shape.now (V.seen v.new).words memo.new }
     ensures forgets { OnOk result (Forgets (volume_layout shape.now (V.seen v.old).words) (volume_layout shape.now (V.seen v.new).words) (V.seen v.new)) }
     ensures goes { Goes (V.health v.old) (V.below v.old) (V.health v.new) (V.below v.new) }
     ensures ends { EndsBy (V.health v.old) (V.health v.new) (Faulted result) (IsErrOf result FileFail.Stopped) }
     ensures sound { V.sound v.new }
 {
-    let Some(i) = least_free(v, shape)? else {
+    let Some(i) = least_free_with(v, shape, &mut memo.full)? else {
         return Err(FileFail::Refused(NO_INODE));
     };
     make_node(alloc, v, shape, dir, name, i, node)?;
+    memo.made(dir, name, i);
     Ok(i)
 }

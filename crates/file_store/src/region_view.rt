@@ -12,11 +12,13 @@ ghost use Rattle.rio_model.specs.VolumeReads.{ReadsAs};
 ghost use Rattle.rio_model.specs.VolumeReady.{LeavesInUse, Ready};
 ghost use Rattle.file_store.specs.Ends.{CanServe};
 ghost use Rattle.file_store.specs.Failures.{Faulted};
+ghost use Rattle.file_store.specs.Memos.{InStep};
 ghost use Rattle.file_store.specs.NewRegions.{FindsRegion};
 ghost use Rattle.file_store.specs.Views.{KeepsInode, OnRegion};
 
 use crate::changes::{FREE, empty_inode};
 use crate::failures::FileFail;
+use crate::memo::Memo;
 use crate::region_pages::{
     read_word, read_words, region_inode, region_words, store_word, store_words,
 };
@@ -81,7 +83,34 @@ impl<V: Volume> RegionView<V> {
         Ok(())
     }
 
-    /// Stands on the region at a path: reads its inode once. After a failure it stands on the region that it stood on, if
+    /// Stands on the region at a path: reads its inode once, and looks names up where they are held. After a failure it stands on
+    /// the region that it stood on, if any.
+    pub fn stand_at_with(&mut self, memo: &mut Memo, path: &[u8]) -> Result<Ino, FileFail>
+        requires sound { V.sound self.old.v }
+        requires can { CanServe self.old.shape (V.seen self.old.v) (V.kept self.old.v) }
+        requires in_step { InStep self.old.shape (V.seen self.old.v).words memo.old }
+        requires path { IsPath path.now }
+        ensures found { (s : State) → ReadsAs self.old.shape (V.seen self.old.v).words s → FindsRegion s path.now result }
+        ensures on { OnOk result (OnRegion self.new.shape (V.seen self.new.v) (V.kept self.new.v) self.new.ino.0 self.new.words) }
+        ensures inode { OnOk result (KeepsInode (V.seen self.new.v).words self.new.ino.0 self.new.inode) }
+        ensures ino { IfOk result (λ i. self.new.ino ≡ i) }
+        ensures kept { OnErr result ((self.new.ino ≡ self.old.ino) × (self.new.words ≡ self.old.words) × (self.new.inode ≡ self.old.inode)) }
+        ensures shape { self.new.shape ≡ self.old.shape }
+        ensures words { (V.seen self.new.v).words ≡ (V.seen self.old.v).words }
+        ensures in_step { InStep self.old.shape (V.seen self.old.v).words memo.new }
+        ensures ready { Ready self.new.shape (V.seen self.new.v) (V.kept self.new.v) }
+        ensures goes { Goes (V.health self.old.v) (V.below self.old.v) (V.health self.new.v) (V.below self.new.v) }
+        ensures ends { EndsBy (V.health self.old.v) (V.health self.new.v) (Faulted result) (IsErrOf result FileFail.Stopped) }
+        ensures sound { V.sound self.new.v }
+    {
+        let (i, inode) = region_at(&mut self.v, &self.shape, memo, path)?;
+        self.words = region_words(&inode);
+        self.ino = i;
+        self.inode = inode;
+        Ok(i)
+    }
+
+    /// The same without anything that is held in memory. After a failure it stands on the region that it stood on, if
     /// any.
     pub fn stand_at(&mut self, path: &[u8]) -> Result<Ino, FileFail>
         requires sound { V.sound self.old.v }
@@ -99,11 +128,8 @@ impl<V: Volume> RegionView<V> {
         ensures ends { EndsBy (V.health self.old.v) (V.health self.new.v) (Faulted result) (IsErrOf result FileFail.Stopped) }
         ensures sound { V.sound self.new.v }
     {
-        let (i, inode) = region_at(&mut self.v, &self.shape, path)?;
-        self.words = region_words(&inode);
-        self.ino = i;
-        self.inode = inode;
-        Ok(i)
+        let mut memo = Memo::none();
+        self.stand_at_with(&mut memo, path)
     }
 
     /// The volume, handed back.

@@ -21,12 +21,14 @@ ghost use Rattle.rio_requests.specs.Answers.{make_new as make_new_of, make_regio
 ghost use Rattle.rio_requests.specs.Parts.{NoneDone};
 ghost use Rattle.file_store.specs.Ends.{CanServe, FileEnds, SaysIno, SaysNumber};
 ghost use Rattle.file_store.specs.Failures.{Faulted};
+ghost use Rattle.file_store.specs.Memos.{InStep};
 ghost use Rattle.file_store.specs.NewRegions.{FindsRegion, FitRegion, PlansRegion, SizesRegion, header_name, header_words};
 ghost use Rattle.file_store.specs.Walks.{FreeRow, ino_in};
 
-use crate::changes::{NodeChange, REGION, empty_inode, node_sized, two_changes};
+use crate::changes::{NodeChange, REGION, empty_inode, node_sized};
 use crate::committing::commit_planned;
 use crate::failures::{EXISTS, FileFail, NOT_A_REGION, TOO_LARGE};
+use crate::memo::Memo;
 use crate::new_nodes::{NewNode, make_new};
 use crate::paths::{cut_last, is_root};
 use crate::walking::{dir_without, inode_of, walk};
@@ -170,25 +172,28 @@ pub fn make_region_row<V: Volume>(
 {
     let row = plan_add(alloc, v, shape, dir, name, i)?;
     let node = plan_region(alloc, v, shape, i, sizes, &row.taken)?;
-    let changes = two_changes(alloc, NodeChange::from(row), node)?;
+    let changes = [NodeChange::from(row), node];
     commit_planned(v, shape, &changes)
 }
 
 /// Makes a region of so many data pages of zeros and undo pages, at a path.
-pub fn make_region<V: Volume>(
+pub fn make_region_with<V: Volume>(
     alloc: Global,
     v: &mut V,
     shape: &VolumeShape,
+    memo: &mut Memo,
     path: &[u8],
     data_pages: u64,
     undo_pages: u64,
 ) -> Result<Ino, FileFail>
     requires sound { V.sound v.old }
     requires can { CanServe shape.now (V.seen v.old) (V.kept v.old) }
+    requires in_step { InStep shape.now (V.seen v.old).words memo.old }
     requires path { IsPath path.now }
     requires pages { 1 ≤ data_pages }
     requires undo { 1 ≤ undo_pages }
     ensures leaves { (s : State) → ReadsAs shape.now (V.seen v.old).words s → FileEnds SaysIno shape.now (V.seen v.old) (V.kept v.old) (V.seen v.new) (V.kept v.new) s (make_region_of s path.now data_pages undo_pages) (NoneDone s) result }
+    ensures in_step { (IsErrOf result FileFail.Stopped → ⊥) → InStep shape.now (V.seen v.new).words memo.new }
     ensures forgets { OnOk result (Forgets (volume_layout shape.now (V.seen v.old).words) (volume_layout shape.now (V.seen v.new).words) (V.seen v.new)) }
     ensures goes { Goes (V.health v.old) (V.below v.old) (V.health v.new) (V.below v.new) }
     ensures ends { EndsBy (V.health v.old) (V.health v.new) (Faulted result) (IsErrOf result FileFail.Stopped) }
@@ -198,26 +203,29 @@ pub fn make_region<V: Volume>(
         return Err(FileFail::Refused(EXISTS));
     }
     let (front, name) = cut_last(path);
-    let dir = dir_without(v, shape, front, name)?;
+    let dir = dir_without(v, shape, memo, front, name)?;
     let Some(sizes) = region_sizes(data_pages, undo_pages) else {
         return Err(FileFail::Refused(TOO_LARGE));
     };
-    make_new(alloc, v, shape, dir, name, NewNode::Sized(sizes))
+    make_new(alloc, v, shape, memo, dir, name, NewNode::Sized(sizes))
 }
 
-/// The region at a path, and its inode. Takes no memory.
+/// The region at a path, and its inode. Never answers want of memory: names that do not fit are not held.
 pub fn region_at<V: Volume>(
     v: &mut V,
     shape: &VolumeShape,
+    memo: &mut Memo,
     path: &[u8],
 ) -> Result<(Ino, Inode), FileFail>
     requires sound { V.sound v.old }
     requires can { CanServe shape.now (V.seen v.old) (V.kept v.old) }
+    requires in_step { InStep shape.now (V.seen v.old).words memo.old }
     requires path { IsPath path.now }
     ensures found { (s : State) → ReadsAs shape.now (V.seen v.old).words s → FindsRegion s path.now (ino_in result) }
     ensures region { IfOk result (λ at. (held_of shape.now (V.seen v.old).words at.0.0).kind ≡ 3) }
     ensures ino { IfOk result (λ at. IsIno shape.now at.0.0) }
     ensures inode { IfOk result (λ at. IsInode (V.seen v.old).words at.0.0 at.1) }
+    ensures in_step { InStep shape.now (V.seen v.old).words memo.new }
     ensures leaves { LeavesInUse (volume_layout shape.now (V.seen v.old).words) (V.seen v.old) (V.kept v.old) (V.seen v.new) (V.kept v.new) }
     ensures words { (V.seen v.new).words ≡ (V.seen v.old).words }
     ensures can { CanServe shape.now (V.seen v.new) (V.kept v.new) }
@@ -226,7 +234,7 @@ pub fn region_at<V: Volume>(
     ensures ends { EndsBy (V.health v.old) (V.health v.new) (Faulted result) (IsErrOf result FileFail.Stopped) }
     ensures sound { V.sound v.new }
 {
-    let i = walk(v, shape, path)?;
+    let i = walk(v, shape, memo, path)?;
     let inode = inode_of(v, shape, i)?;
     if inode.kind != REGION {
         return Err(FileFail::Refused(NOT_A_REGION));
@@ -234,14 +242,21 @@ pub fn region_at<V: Volume>(
     Ok((i, inode))
 }
 
-/// The inode of the region at a path. Takes no memory.
-pub fn region_of<V: Volume>(v: &mut V, shape: &VolumeShape, path: &[u8]) -> Result<Ino, FileFail>
+/// The inode of the region at a path. Never answers want of memory: names that do not fit are not held.
+pub fn region_of_with<V: Volume>(
+    v: &mut V,
+    shape: &VolumeShape,
+    memo: &mut Memo,
+    path: &[u8],
+) -> Result<Ino, FileFail>
     requires sound { V.sound v.old }
     requires can { CanServe shape.now (V.seen v.old) (V.kept v.old) }
+    requires in_step { InStep shape.now (V.seen v.old).words memo.old }
     requires path { IsPath path.now }
     ensures found { (s : State) → ReadsAs shape.now (V.seen v.old).words s → FindsRegion s path.now result }
     ensures region { IfOk result (λ i. (held_of shape.now (V.seen v.old).words i.0).kind ≡ 3) }
     ensures ino { IfOk result (λ i. IsIno shape.now i.0) }
+    ensures in_step { InStep shape.now (V.seen v.old).words memo.new }
     ensures leaves { LeavesInUse (volume_layout shape.now (V.seen v.old).words) (V.seen v.old) (V.kept v.old) (V.seen v.new) (V.kept v.new) }
     ensures words { (V.seen v.new).words ≡ (V.seen v.old).words }
     ensures can { CanServe shape.now (V.seen v.new) (V.kept v.new) }
@@ -250,6 +265,6 @@ pub fn region_of<V: Volume>(v: &mut V, shape: &VolumeShape, path: &[u8]) -> Resu
     ensures ends { EndsBy (V.health v.old) (V.health v.new) (Faulted result) (IsErrOf result FileFail.Stopped) }
     ensures sound { V.sound v.new }
 {
-    let (i, _) = region_at(v, shape, path)?;
+    let (i, _) = region_at(v, shape, memo, path)?;
     Ok(i)
 }

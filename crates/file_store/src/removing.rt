@@ -15,12 +15,14 @@ ghost use Rattle.rio_model.specs.Placed.{volume_layout};
 ghost use Rattle.file_pages.specs.Forgetting.{Forgets};
 ghost use Rattle.file_store.specs.Ends.{CanServe, FileEnds, SaysDone};
 ghost use Rattle.file_store.specs.Failures.{Faulted};
+ghost use Rattle.file_store.specs.Memos.{InStep};
 ghost use Rattle.file_store.specs.Walks.{IsRow, ino_numbers};
 
-use crate::changes::{DIRECTORY, NodeChange, REGION, node_gone, two_changes};
+use crate::changes::{DIRECTORY, NodeChange, REGION, node_gone};
 use crate::committing::commit_planned;
 use crate::failures::{BUSY, FileFail, IS_A_DIRECTORY, IS_ROOT, NOT_A_DIRECTORY, NOT_EMPTY};
-use crate::paths::is_root;
+use crate::memo::Memo;
+use crate::paths::{cut_last, is_root};
 use crate::walking::{Row, inode_of, walk_to_row};
 use directories::plan_remove;
 use file_pages::blocks_of;
@@ -67,26 +69,55 @@ fn remove_row<V: Volume>(
 {
     let goes = plan_remove(alloc, v, shape, row.dir, row.slot)?;
     let freed = blocks_of(alloc, v, shape, row.ino)?;
-    let changes = two_changes(
-        alloc,
-        NodeChange::from(goes),
-        node_gone(alloc, row.ino, freed),
-    )?;
+    let changes = [NodeChange::from(goes), node_gone(alloc, row.ino, freed)];
     commit_planned(v, shape, &changes)
 }
 
-/// Removes a file or a region.
-pub fn unlink<V: Volume>(
+/// Removes the row of a name and its node, and tells so.
+fn take_row<V: Volume>(
     alloc: Global,
     v: &mut V,
     shape: &VolumeShape,
+    memo: &mut Memo,
+    row: Row,
+    name: &[u8],
+) -> Result<(), FileFail>
+    requires sound { V.sound v.old }
+    requires can { CanServe shape.now (V.seen v.old) (V.kept v.old) }
+    requires in_step { InStep shape.now (V.seen v.old).words memo.old }
+    requires row { IsRow shape.now (V.seen v.old).words name.now row }
+    requires used { 0 < (held_of shape.now (V.seen v.old).words row.ino.0).kind }
+    requires bare { (held_of shape.now (V.seen v.old).words row.ino.0).kind ≡ 1 → (held_of shape.now (V.seen v.old).words row.ino.0).size ≡ 0 }
+    ensures leaves { (s : State) → ReadsAs shape.now (V.seen v.old).words s → FileEnds SaysDone shape.now (V.seen v.old) (V.kept v.old) (V.seen v.new) (V.kept v.new) s (answered (without s row.dir.0 name.now row.ino.0) Done) (NoneDone s) result }
+    ensures in_step { (IsErrOf result FileFail.Stopped → ⊥) → InStep shape.now (V.seen v.new).words memo.new }
+    ensures forgets { OnOk result (Forgets (volume_layout shape.now (V.seen v.old).words) (volume_layout shape.now (V.seen v.new).words) (V.seen v.new)) }
+    ensures goes { Goes (V.health v.old) (V.below v.old) (V.health v.new) (V.below v.new) }
+    ensures ends { EndsBy (V.health v.old) (V.health v.new) (Faulted result) (IsErrOf result FileFail.Stopped) }
+    ensures sound { V.sound v.new }
+{
+    let done = remove_row(alloc, v, shape, row);
+    if done.is_err() {
+        return done;
+    }
+    memo.gone(row.dir, name, row.ino);
+    done
+}
+
+/// Removes a file or a region.
+pub fn unlink_with<V: Volume>(
+    alloc: Global,
+    v: &mut V,
+    shape: &VolumeShape,
+    memo: &mut Memo,
     path: &[u8],
     busy: &InoList,
 ) -> Result<(), FileFail>
     requires sound { V.sound v.old }
     requires can { CanServe shape.now (V.seen v.old) (V.kept v.old) }
+    requires in_step { InStep shape.now (V.seen v.old).words memo.old }
     requires path { IsPath path.now }
     ensures leaves { (s : State) → ReadsAs shape.now (V.seen v.old).words s → FileEnds SaysDone shape.now (V.seen v.old) (V.kept v.old) (V.seen v.new) (V.kept v.new) s (unlink_of s path.now (ino_numbers busy.now)) (NoneDone s) result }
+    ensures in_step { (IsErrOf result FileFail.Stopped → ⊥) → InStep shape.now (V.seen v.new).words memo.new }
     ensures forgets { OnOk result (Forgets (volume_layout shape.now (V.seen v.old).words) (volume_layout shape.now (V.seen v.new).words) (V.seen v.new)) }
     ensures goes { Goes (V.health v.old) (V.below v.old) (V.health v.new) (V.below v.new) }
     ensures ends { EndsBy (V.health v.old) (V.health v.new) (Faulted result) (IsErrOf result FileFail.Stopped) }
@@ -95,7 +126,7 @@ pub fn unlink<V: Volume>(
     if is_root(path) {
         return Err(FileFail::Refused(IS_ROOT));
     }
-    let row = walk_to_row(v, shape, path)?;
+    let row = walk_to_row(v, shape, memo, path)?;
     let inode = inode_of(v, shape, row.ino)?;
     if inode.kind == DIRECTORY {
         return Err(FileFail::Refused(IS_A_DIRECTORY));
@@ -103,20 +134,24 @@ pub fn unlink<V: Volume>(
     if is_open(busy, row.ino, &inode) {
         return Err(FileFail::Refused(BUSY));
     }
-    remove_row(alloc, v, shape, row)
+    let (_, name) = cut_last(path);
+    take_row(alloc, v, shape, memo, row, name)
 }
 
 /// Removes a directory without names.
-pub fn rmdir<V: Volume>(
+pub fn rmdir_with<V: Volume>(
     alloc: Global,
     v: &mut V,
     shape: &VolumeShape,
+    memo: &mut Memo,
     path: &[u8],
 ) -> Result<(), FileFail>
     requires sound { V.sound v.old }
     requires can { CanServe shape.now (V.seen v.old) (V.kept v.old) }
+    requires in_step { InStep shape.now (V.seen v.old).words memo.old }
     requires path { IsPath path.now }
     ensures leaves { (s : State) → ReadsAs shape.now (V.seen v.old).words s → FileEnds SaysDone shape.now (V.seen v.old) (V.kept v.old) (V.seen v.new) (V.kept v.new) s (rmdir_of s path.now) (NoneDone s) result }
+    ensures in_step { (IsErrOf result FileFail.Stopped → ⊥) → InStep shape.now (V.seen v.new).words memo.new }
     ensures forgets { OnOk result (Forgets (volume_layout shape.now (V.seen v.old).words) (volume_layout shape.now (V.seen v.new).words) (V.seen v.new)) }
     ensures goes { Goes (V.health v.old) (V.below v.old) (V.health v.new) (V.below v.new) }
     ensures ends { EndsBy (V.health v.old) (V.health v.new) (Faulted result) (IsErrOf result FileFail.Stopped) }
@@ -125,7 +160,7 @@ pub fn rmdir<V: Volume>(
     if is_root(path) {
         return Err(FileFail::Refused(IS_ROOT));
     }
-    let row = walk_to_row(v, shape, path)?;
+    let row = walk_to_row(v, shape, memo, path)?;
     let inode = inode_of(v, shape, row.ino)?;
     if inode.kind != DIRECTORY {
         return Err(FileFail::Refused(NOT_A_DIRECTORY));
@@ -133,5 +168,6 @@ pub fn rmdir<V: Volume>(
     if inode.size != 0 {
         return Err(FileFail::Refused(NOT_EMPTY));
     }
-    remove_row(alloc, v, shape, row)
+    let (_, name) = cut_last(path);
+    take_row(alloc, v, shape, memo, row, name)
 }

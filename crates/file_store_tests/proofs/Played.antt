@@ -1,6 +1,6 @@
 -- How requests of the tests end: another may follow, or the volume is started again.
 use Rattle.std.proofs.Common.{◌≡◌, ℕ, Bool, refl, subst, sym, arith}
-use Rattle.std.specs.Prelude.{◌↔◌, Result, Ok, Err, IsErr, IsErrOf, None}
+use Rattle.std.specs.Prelude.{◌↔◌, Result, Ok, Err, IsErr, IsErrOf, None, OnOk}
 use Rattle.rio_base.specs.declared.failures.Stopped.{Stopped as MachineStopped}
 use Rattle.rio_base.specs.declared.places.VolumeShape.{VolumeShape}
 use Rattle.rio_base.specs.Blocks.{BlockWords, Caches, Health, Looks, Seen}
@@ -18,9 +18,11 @@ use Rattle.file_store.specs.declared.failures.FileFail.{FileFail}
 use Rattle.file_store.specs.declared.failures.FileFail.TheVariants.{Refused, Fault, Stopped, Memory}
 use Rattle.file_store.proofs.EndRules.{can_after}
 use Rattle.file_store.specs.Ends.{CanServe, FileEnds}
+use Rattle.file_store.specs.Memos.{InStep}
+use Rattle.file_store.specs.declared.memo.Memo.{Memo}
 use Rattle.file_store.proofs.Unchanged.{can_again}
 use Rattle.test_volumes.specs.TestVolumes.{IsFresh}
-use Rattle.file_store_tests.specs.Playing.{CanStart, Follows}
+use Rattle.file_store_tests.specs.Playing.{CanStart, Follows, FollowsHeld}
 
 start_as : (T : Type 0) (says : T → Reply → Type 0) (shape : VolumeShape) (x : Seen) (k : Kept) (y : Seen) (j : Kept) (s : State) (a : Answered) (leads : ℕ → State → Type 0) (r : Result T FileFail) → FileEnds says shape x k y j s a leads r → IsErrOf r Stopped → CanStart shape y j
 start_as T says shape x k y j s a leads (Ok v) h stopped = absurd cc
@@ -48,3 +50,13 @@ fresh_can shape x k fresh = record { ready = fresh.ready; state = fresh_state sh
 
 pub started_can : (shape : VolumeShape) (x : Seen) (k : Kept) (y : Seen) (j : Kept) → CanStart shape x k → Ready shape y j → y.words ≡ k.standing → CanServe shape y j
 started_can shape x k y j start ready words = record { ready = ready; state = start.state; reads = subst (λ (f : BlockWords). ReadsAs shape f start.state) (sym words) start.reads }
+
+-- ---- with a memo
+
+held_on : {P : Type 0} (T : Type 0) (r : Result T FileFail) (q : Result Bool MachineStopped) → (IsErr q ↔ IsErrOf r Stopped) → ((IsErrOf r Stopped → ⊥) → P) → OnOk q P
+held_on T r (Ok due) tells on = on (λ stopped. true_false (sym (tells.1 stopped)))
+held_on T r (Err stop) tells on = tt
+
+-- a request that is answered, or stopped
+pub held_end : {T : Type 0} (says : T → Reply → Type 0) (shape : VolumeShape) (x : Seen) (k : Kept) (y : Seen) (j : Kept) (memo : Memo) (a : State → Answered) (leads : State → ℕ → State → Type 0) (r : Result T FileFail) (q : Result Bool MachineStopped) → CanServe shape x k → ((s : State) → ReadsAs shape x.words s → FileEnds says shape x k y j s (a s) (leads s) r) → ((IsErrOf r Stopped → ⊥) → InStep shape y.words memo) → (IsErr q ↔ IsErrOf r Stopped) → FollowsHeld shape y j memo q
+held_end {T = T} says shape x k y j memo a leads r q can h on tells = record { follows = follows_end says shape x k y j a leads r q can h tells; in_step = held_on T r q tells on }

@@ -8,6 +8,8 @@ use Rattle.rio_model.specs.declared.state.State.{State}
 use Rattle.rio_model.specs.VolumeReads.{ReadsAs}
 use Rattle.rio_model.specs.VolumeReady.{StandsReady}
 use Rattle.file_store.specs.Ends.{CanServe}
+use Rattle.file_store.specs.Memos.{InStep}
+use Rattle.file_store.specs.declared.memo.Memo.{Memo}
 
 -- a stopped volume that may be started again
 pub record CanStart (shape : VolumeShape) (x : Seen) (k : Kept) : Type 0 where
@@ -19,3 +21,8 @@ pub record CanStart (shape : VolumeShape) (x : Seen) (k : Kept) : Type 0 where
 pub record Follows {T : Type 0} (shape : VolumeShape) (x : Seen) (k : Kept) (r : Result T MachineStopped) : Type 0 where
   pub ok : OnOk r (CanServe shape x k)
   pub err : OnErr r (CanStart shape x k)
+
+-- and after an answer a memo is in step
+pub record FollowsHeld {T : Type 0} (shape : VolumeShape) (x : Seen) (k : Kept) (memo : Memo) (r : Result T MachineStopped) : Type 0 where
+  pub follows : Follows shape x k r
+  pub in_step : OnOk r (InStep shape x.words memo)

@@ -1,5 +1,6 @@
 //! Requests made one after the other, each of which must answer as its row says.
 
+ghost use Rattle.std.specs.Prelude.{◌≡◌};
 ghost use Rattle.rio_fakes.specs.ListVolumes.{ListSound, list_kept, list_seen};
 ghost use Rattle.file_store.specs.Ends.{CanServe};
 ghost use Rattle.file_store_tests.specs.Playing.{Follows};
@@ -282,9 +283,10 @@ fn region_of_as(v: &mut ListVolume, shape: &VolumeShape, path: &[u8], want: Want
 }
 
 /// Counts the free blocks, which takes no step.
-fn free_as<V: Volume>(v: &mut V, shape: &VolumeShape, want: Want) -> bool
+pub(crate) fn free_as<V: Volume>(v: &mut V, shape: &VolumeShape, want: Want) -> bool
     requires sound { V.sound v.old }
     requires can { CanServe shape.now (V.seen v.old) (V.kept v.old) }
+    ensures words { (V.seen v.new).words ≡ (V.seen v.old).words }
     ensures can { CanServe shape.now (V.seen v.new) (V.kept v.new) }
     ensures sound { V.sound v.new }
 {
@@ -293,9 +295,10 @@ fn free_as<V: Volume>(v: &mut V, shape: &VolumeShape, want: Want) -> bool
 }
 
 /// Reads the words of a block, which takes no step.
-fn block_as(v: &mut ListVolume, shape: &VolumeShape, b: u32, want: Want) -> bool
+pub(crate) fn block_as(v: &mut ListVolume, shape: &VolumeShape, b: u32, want: Want) -> bool
     requires sound { ListSound v.old }
     requires can { CanServe shape.now (list_seen v.old) (list_kept v.old) }
+    ensures words { (list_seen v.new).words ≡ (list_seen v.old).words }
     ensures can { CanServe shape.now (list_seen v.new) (list_kept v.new) }
     ensures sound { ListSound v.new }
 {

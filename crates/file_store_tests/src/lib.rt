@@ -1,5 +1,5 @@
-//! Tests of `file_store`: requests with the answers that must come, requests that are stopped at each of their steps, and
-//! views of regions, also of one whose open transaction is undone after a stop.
+//! Tests of `file_store`: requests with the answers that must come, with and without what is held in memory, requests that are
+//! stopped at each of their steps, and views of regions, also of one whose open transaction is undone after a stop.
 #![tactic(auto)]
 
 #[cfg(test)]
@@ -8,6 +8,8 @@ mod answers;
 mod asks;
 #[cfg(test)]
 mod calls;
+#[cfg(test)]
+mod held_calls;
 #[cfg(test)]
 mod playing;
 #[cfg(test)]

@@ -7,6 +7,7 @@ ghost use Rattle.file_store.specs.Ends.{CanServe};
 
 use crate::asks::Row;
 use crate::calls::first_other;
+use crate::held_calls::first_other_held;
 use rio_base::{Stopped, VolumeShape};
 use rio_fakes::ListVolume;
 use std::alloc::Global;
@@ -118,11 +119,24 @@ pub(crate) fn volume_after(
     v
 }
 
-/// Makes the requests of tables, each on a volume of its own.
+/// Makes the requests of a table on a fresh volume, with a memo of it: each must answer as its row says.
+fn all_answer_held(rt: &impl Abort, alloc: Global, shape: &VolumeShape, table: &str, rows: &[Row])
+    requires { IsTestShape shape.now }
+{
+    let mut v = fresh_volume(rt, alloc, shape, None);
+    match first_other_held(alloc, &mut v, shape, rows) {
+        Ok(None) => {}
+        Ok(Some(row)) => panic!(rt; "{table}: row {row} is answered otherwise with a memo"),
+        Err(Stopped) => panic!(rt; "{table}: stopped with a memo"),
+    }
+}
+
+/// Makes the requests of tables, each on two volumes of its own: with no memo and with one.
 pub(crate) fn on_each_fresh(rt: &impl Abort, alloc: Global, tables: &[Table]) {
     for (table, size, rows) in tables.iter() {
         let shape = shape_of(*size);
         let _v = volume_after(rt, alloc, &shape, table, rows);
+        all_answer_held(rt, alloc, &shape, table, rows);
     }
 }
 

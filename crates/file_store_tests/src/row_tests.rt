@@ -4,7 +4,7 @@ use crate::asks::{Ask, Want};
 use crate::playing::{Size, Table, on_each_fresh};
 use crate::region_rows::REGIONS;
 
-static REQUESTS: [Table; 10] = [
+static REQUESTS: [Table; 11] = [
     (
         "a written file grows over a gap of zeros",
         Size::Usual,
@@ -146,6 +146,44 @@ static REQUESTS: [Table; 10] = [
             (Ask::Unlink(b"/n00"), Want::Done),
             (Ask::Free, Want::Number(249)),
             (Ask::List(b"/"), Want::Numbered(64)),
+        ],
+    ),
+    (
+        "names of a directory larger than a page",
+        Size::ManyNodes,
+        &[
+            (Ask::Fill(66), Want::Done),
+            (Ask::Stat(b"/n65"), Want::Stat(67, 2, 0)),
+            (Ask::Create(b"/new"), Want::Number(68)),
+            (Ask::Create(b"/new"), Want::Refused(3)),
+            (Ask::Write(b"/new", 0, b"hello"), Want::Number(5)),
+            (Ask::Read(b"/new", 1, 9), Want::Bytes(b"ello")),
+            (Ask::Truncate(b"/new", 2), Want::Done),
+            (Ask::Unlink(b"/n01"), Want::Done),
+            (Ask::Unlink(b"/n01"), Want::Refused(2)),
+            (Ask::Stat(b"/new"), Want::Stat(68, 2, 2)),
+            (Ask::Create(b"/n01"), Want::Number(3)),
+            (Ask::Rename(b"/n00", b"/old"), Want::Done),
+            (Ask::Stat(b"/n00"), Want::Refused(2)),
+            (Ask::Stat(b"/old"), Want::Stat(2, 2, 0)),
+            (Ask::Rename(b"/n02", b"/n03"), Want::Done),
+            (Ask::Stat(b"/n02"), Want::Refused(2)),
+            (Ask::Stat(b"/n03"), Want::Stat(4, 2, 0)),
+            (Ask::Mkdir(b"/dir"), Want::Number(5)),
+            (Ask::Rename(b"/old", b"/dir/old"), Want::Done),
+            (Ask::Stat(b"/old"), Want::Refused(2)),
+            (Ask::Create(b"/dir/other"), Want::Number(69)),
+            (Ask::Rename(b"/new", b"/dir/other"), Want::Done),
+            (Ask::Stat(b"/dir/other"), Want::Stat(68, 2, 2)),
+            (Ask::List(b"/dir"), Want::Names(&[b"old", b"other"])),
+            (Ask::Rmdir(b"/dir"), Want::Refused(6)),
+            (Ask::Unlink(b"/dir/old"), Want::Done),
+            (Ask::Unlink(b"/dir/other"), Want::Done),
+            (Ask::Rmdir(b"/dir"), Want::Done),
+            (Ask::Stat(b"/dir"), Want::Refused(2)),
+            (Ask::Region(b"/words", 1, 1), Want::Number(2)),
+            (Ask::RegionOf(b"/words"), Want::Number(2)),
+            (Ask::Create(b"/last"), Want::Number(5)),
         ],
     ),
     (

@@ -6,6 +6,7 @@ use Rattle.file_store.specs.declared.failures.FileFail.TheVariants.{Refused}
 use Rattle.file_store.proofs.AnsweredAt.{ends_after, ends_look}
 use Rattle.file_store.proofs.CallEnds.{after_well, ends_on, ends_refused, well}
 use Rattle.file_store.proofs.FreeRows.{fails_make, made_free}
+use Rattle.file_store.proofs.MemoSteps.{same_step}
 use Rattle.file_store.proofs.Requested.{ends_as}
 use Rattle.file_store.proofs.making.make.Goals as goal
 
@@ -87,3 +88,9 @@ returns-clause-goes g c = c.dir_without.ensures.goes then c.make_new.ensures.goe
 
 pub returns-clause-ends : goal.returns-clause-ends
 returns-clause-ends g c = after_well _ _ _ _ _ (well _ _ c.dir_without.result _ c.in_ok-dir.was c.dir_without.ensures.ends) c.make_new.ensures.ends
+
+pub returns-in_err-dir-clause-in_step : goal.returns-in_err-dir-clause-in_step
+returns-in_err-dir-clause-in_step g c = λ on. same_step c.args.shape.now _ _ _ (c.dir_without.ensures.words) c.dir_without.ensures.in_step
+
+pub make_new-requires-clause-in_step : goal.make_new-requires-clause-in_step
+make_new-requires-clause-in_step g c = same_step c.args.shape.now _ _ _ (c.dir_without.ensures.words) c.dir_without.ensures.in_step

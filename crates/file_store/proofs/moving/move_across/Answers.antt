@@ -4,9 +4,8 @@ use Rattle.rio_requests.specs.Answers.{move_row as move_row_of}
 use Rattle.file_store.specs.Changes.{of_dir}
 use Rattle.file_store.specs.Ends.{SaysDone}
 use Rattle.file_store.proofs.CallEnds.{after_well, ends_read, ends_size, well_read, well_size}
-use Rattle.file_store.proofs.Planning.{can_still, ends_full, ends_planning, ends_unread, leaves_on, still}
+use Rattle.file_store.proofs.Planning.{can_still, ends_planning, ends_unread, leaves_on, still}
 use Rattle.file_store.proofs.RenamedRows.{MovedRow, fails_move, moved_leads, moved_planned}
-use Rattle.file_store.proofs.Requested.{ends_memory}
 use Rattle.file_store.proofs.RowRoom.{row_fits}
 use Rattle.file_store.proofs.moving.move_across.Goals as goal
 
@@ -63,35 +62,21 @@ returns-in_err-comes-clause-ends g c =
     let failed = err_from_is_err_and c.from_residual-in_err-comes.result c.from_residual-in_err-comes.ensures.1 in
     after_well _ _ _ _ _ (well_read _ _ c.plan_remove.result _ c.in_ok-goes.was c.plan_remove.ensures.ends) (ends_size _ _ c.plan_add.result c.from_residual-in_err-comes.result _ failed.0 c.in_err-comes.was failed.1 failed.2 c.plan_add.ensures.ends)
 
-pub returns-in_err-changes-clause-leaves : goal.returns-in_err-changes-clause-leaves
-returns-in_err-changes-clause-leaves g c =
-    let from = c.args.from in
-    let failed = err_from_is_err_and c.from_residual-in_err-changes.result c.from_residual-in_err-changes.ensures.1 in
-    λ s a reads row_is apart. ends_full SaysDone s (move_row_of s from.dir.0 a c.args.dir.0 c.args.name.now from.ino.0) c.from_residual-in_err-changes.result failed c.requires.can (g.met.V.Volume.settled _ c.requires.sound) (leaves_on c.requires.can c.plan_remove.ensures.leaves c.plan_add.ensures.leaves) reads
-
-pub returns-in_err-changes-clause-goes : goal.returns-in_err-changes-clause-goes
-returns-in_err-changes-clause-goes g c = c.plan_remove.ensures.goes then c.plan_add.ensures.goes
-
-pub returns-in_err-changes-clause-ends : goal.returns-in_err-changes-clause-ends
-returns-in_err-changes-clause-ends g c =
-    let failed = err_from_is_err_and c.from_residual-in_err-changes.result c.from_residual-in_err-changes.ensures.1 in
-    ends_memory _ _ c.from_residual-in_err-changes.result _ failed.1 failed.2 (after_well _ _ _ _ _ (well_read _ _ c.plan_remove.result _ c.in_ok-goes.was c.plan_remove.ensures.ends) (well_size _ _ c.plan_add.result _ c.in_ok-comes.was c.plan_add.ensures.ends))
-
 pub commit_planned-requires-clause-planned : goal.commit_planned-requires-clause-planned
 commit_planned-requires-clause-planned g c =
     let row : MovedRow _ _ _ _ _ _ _ c.args.from c.args.dir.0 c.args.name.now _ _ = record { ready = c.requires.can.ready; settled = g.met.V.Volume.settled _ c.requires.sound; leaves = c.plan_remove.ensures.leaves; later = c.plan_add.ensures.leaves; goes = c.in_ok-goes.ensures.ok; comes = c.in_ok-comes.ensures.ok; dir = c.requires.from.1.dir; to = c.requires.dir } in
-    (_, moved_planned row (c.deref.ensures.value ∙ c.in_ok-changes.ensures ∙ ap (λ a. a ∷ c.from-2.result ∷ []) c.from.ensures ∙ ap (λ a. of_dir c.in_ok-goes.goes ∷ a ∷ []) c.from-2.ensures) c.requires.two)
+    (_, moved_planned row (ap (λ a. a ∷ c.from-2.result ∷ []) c.from.ensures ∙ ap (λ a. of_dir c.in_ok-goes.goes ∷ a ∷ []) c.from-2.ensures) c.requires.two)
 
 pub returns-clause-leaves : goal.returns-clause-leaves
 returns-clause-leaves g c =
     let row : MovedRow _ _ _ _ _ _ _ c.args.from c.args.dir.0 c.args.name.now _ _ = record { ready = c.requires.can.ready; settled = g.met.V.Volume.settled _ c.requires.sound; leaves = c.plan_remove.ensures.leaves; later = c.plan_add.ensures.leaves; goes = c.in_ok-goes.ensures.ok; comes = c.in_ok-comes.ensures.ok; dir = c.requires.from.1.dir; to = c.requires.dir } in
-    let is = c.deref.ensures.value ∙ c.in_ok-changes.ensures ∙ ap (λ a. a ∷ c.from-2.result ∷ []) c.from.ensures ∙ ap (λ a. of_dir c.in_ok-goes.goes ∷ a ∷ []) c.from-2.ensures in
+    let is = ap (λ a. a ∷ c.from-2.result ∷ []) c.from.ensures ∙ ap (λ a. of_dir c.in_ok-goes.goes ∷ a ∷ []) c.from-2.ensures in
     λ s a reads row_is apart. c.commit_planned.ensures.leaves Done _ _ s _ (moved_leads s a row is c.requires.two c.in_ok-comes.ensures.space reads row_is c.requires.is_name c.requires.absent apart)
 
 pub returns-clause-forgets : goal.returns-clause-forgets
 returns-clause-forgets g c =
     let row : MovedRow _ _ _ _ _ _ _ c.args.from c.args.dir.0 c.args.name.now _ _ = record { ready = c.requires.can.ready; settled = g.met.V.Volume.settled _ c.requires.sound; leaves = c.plan_remove.ensures.leaves; later = c.plan_add.ensures.leaves; goes = c.in_ok-goes.ensures.ok; comes = c.in_ok-comes.ensures.ok; dir = c.requires.from.1.dir; to = c.requires.dir } in
-    c.commit_planned.ensures.forgets _ (moved_planned row (c.deref.ensures.value ∙ c.in_ok-changes.ensures ∙ ap (λ a. a ∷ c.from-2.result ∷ []) c.from.ensures ∙ ap (λ a. of_dir c.in_ok-goes.goes ∷ a ∷ []) c.from-2.ensures) c.requires.two)
+    c.commit_planned.ensures.forgets _ (moved_planned row (ap (λ a. a ∷ c.from-2.result ∷ []) c.from.ensures ∙ ap (λ a. of_dir c.in_ok-goes.goes ∷ a ∷ []) c.from-2.ensures) c.requires.two)
 
 pub returns-clause-goes : goal.returns-clause-goes
 returns-clause-goes g c = c.plan_remove.ensures.goes then c.plan_add.ensures.goes then c.commit_planned.ensures.goes

@@ -1,11 +1,10 @@
-use Rattle.file_store.proofs.Common.{◌∙◌, [], ◌∷◌, refl, ap, err_from_is_err_and, ◌then◌, entry_ino, held_of}
+use Rattle.file_store.proofs.Common.{[], ◌∷◌, refl, ap, err_from_is_err_and, ◌then◌, entry_ino, held_of}
 use Rattle.rio_requests.specs.declared.reply.Reply.TheVariants.{Ok as Done}
 use Rattle.rio_requests.specs.Answers.{move_row as move_row_of}
 use Rattle.file_store.specs.Ends.{SaysDone}
 use Rattle.file_store.proofs.CallEnds.{after_well, ends_read, well_read}
-use Rattle.file_store.proofs.Planning.{ends_full, ends_unread}
+use Rattle.file_store.proofs.Planning.{ends_unread}
 use Rattle.file_store.proofs.RenamedRows.{RenamedRow, renamed_leads, renamed_planned}
-use Rattle.file_store.proofs.Requested.{ends_memory}
 use Rattle.file_store.proofs.moving.rename_within.Goals as goal
 
 pub plan_set-requires-clause-entries : goal.plan_set-requires-clause-entries
@@ -30,31 +29,20 @@ returns-in_err-set-clause-ends g c =
     let failed = err_from_is_err_and c.from_residual.result c.from_residual.ensures.1 in
     ends_read _ _ c.plan_set.result c.from_residual.result _ failed.0 c.in_err-set.was failed.1 failed.2 c.plan_set.ensures.ends
 
-pub returns-in_err-changes-clause-leaves : goal.returns-in_err-changes-clause-leaves
-returns-in_err-changes-clause-leaves g c =
-    let from = c.args.from in
-    let failed = err_from_is_err_and c.from_residual-in_err-changes.result c.from_residual-in_err-changes.ensures.1 in
-    λ s a reads row_is apart. ends_full SaysDone s (move_row_of s from.dir.0 a from.dir.0 c.args.name.now from.ino.0) c.from_residual-in_err-changes.result failed c.requires.can (g.met.V.Volume.settled _ c.requires.sound) c.plan_set.ensures.leaves reads
-
-pub returns-in_err-changes-clause-ends : goal.returns-in_err-changes-clause-ends
-returns-in_err-changes-clause-ends g c =
-    let failed = err_from_is_err_and c.from_residual-in_err-changes.result c.from_residual-in_err-changes.ensures.1 in
-    ends_memory _ _ c.from_residual-in_err-changes.result _ failed.1 failed.2 (well_read _ _ c.plan_set.result _ c.in_ok-set.was c.plan_set.ensures.ends)
-
 pub commit_planned-requires-clause-planned : goal.commit_planned-requires-clause-planned
 commit_planned-requires-clause-planned g c =
     let row : RenamedRow _ _ _ _ _ c.args.from c.args.name.now _ = record { ready = c.requires.can.ready; settled = g.met.V.Volume.settled _ c.requires.sound; leaves = c.plan_set.ensures.leaves; plan = c.in_ok-set.ensures.ok; dir = c.requires.from.1.dir } in
-    (_, renamed_planned row (c.deref.ensures.value ∙ c.in_ok-changes.ensures ∙ ap (λ a. a ∷ []) c.from.ensures))
+    (_, renamed_planned row (ap (λ a. a ∷ []) c.from.ensures))
 
 pub returns-clause-leaves : goal.returns-clause-leaves
 returns-clause-leaves g c =
     let row : RenamedRow _ _ _ _ _ c.args.from c.args.name.now _ = record { ready = c.requires.can.ready; settled = g.met.V.Volume.settled _ c.requires.sound; leaves = c.plan_set.ensures.leaves; plan = c.in_ok-set.ensures.ok; dir = c.requires.from.1.dir } in
-    λ s a reads row_is apart. c.commit_planned.ensures.leaves Done _ _ s _ (renamed_leads s a row (c.deref.ensures.value ∙ c.in_ok-changes.ensures ∙ ap (λ a. a ∷ []) c.from.ensures) reads row_is c.requires.is_name c.requires.absent apart)
+    λ s a reads row_is apart. c.commit_planned.ensures.leaves Done _ _ s _ (renamed_leads s a row (ap (λ a. a ∷ []) c.from.ensures) reads row_is c.requires.is_name c.requires.absent apart)
 
 pub returns-clause-forgets : goal.returns-clause-forgets
 returns-clause-forgets g c =
     let row : RenamedRow _ _ _ _ _ c.args.from c.args.name.now _ = record { ready = c.requires.can.ready; settled = g.met.V.Volume.settled _ c.requires.sound; leaves = c.plan_set.ensures.leaves; plan = c.in_ok-set.ensures.ok; dir = c.requires.from.1.dir } in
-    c.commit_planned.ensures.forgets _ (renamed_planned row (c.deref.ensures.value ∙ c.in_ok-changes.ensures ∙ ap (λ a. a ∷ []) c.from.ensures))
+    c.commit_planned.ensures.forgets _ (renamed_planned row (ap (λ a. a ∷ []) c.from.ensures))
 
 pub returns-clause-goes : goal.returns-clause-goes
 returns-clause-goes g c = c.plan_set.ensures.goes then c.commit_planned.ensures.goes

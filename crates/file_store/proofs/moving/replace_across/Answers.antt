@@ -5,9 +5,8 @@ use Rattle.file_store.specs.Changes.{of_dir}
 use Rattle.file_store.specs.Ends.{SaysDone}
 use Rattle.file_store.proofs.CallEnds.{after_well, ends_read, well_read}
 use Rattle.file_store.proofs.LookedAt.{used_ino}
-use Rattle.file_store.proofs.Planning.{can_still, ends_full, ends_unread, leaves_on, look_still, looked, still, used_still}
+use Rattle.file_store.proofs.Planning.{can_still, ends_unread, leaves_on, look_still, looked, still, used_still}
 use Rattle.file_store.proofs.RenamedRows.{AcrossRow, across_leads, across_planned}
-use Rattle.file_store.proofs.Requested.{ends_memory}
 use Rattle.file_store.proofs.moving.replace_across.Goals as goal
 
 pub plan_remove-requires-clause-entries : goal.plan_remove-requires-clause-entries
@@ -75,35 +74,22 @@ returns-in_err-freed-clause-ends g c =
     let failed = err_from_is_err_and c.from_residual-in_err-freed.result c.from_residual-in_err-freed.ensures.1 in
     after_well _ _ _ _ _ (after_well _ _ _ _ _ (well_read _ _ c.plan_remove.result _ c.in_ok-goes.was c.plan_remove.ensures.ends) (well_read _ _ c.plan_set.result _ c.in_ok-comes.was c.plan_set.ensures.ends)) (ends_read _ _ c.blocks_of.result c.from_residual-in_err-freed.result _ failed.0 c.in_err-freed.was failed.1 failed.2 c.blocks_of.ensures.ends)
 
-pub returns-in_err-changes-clause-leaves : goal.returns-in_err-changes-clause-leaves
-returns-in_err-changes-clause-leaves g c =
-    let failed = err_from_is_err_and c.from_residual-in_err-changes.result c.from_residual-in_err-changes.ensures.1 in
-    λ s a reads row_is. ends_full SaysDone s (answered (replaced s c.args.from.dir.0 a c.args.to.dir.0 c.args.name.now c.args.from.ino.0 c.args.to.ino.0) Done) c.from_residual-in_err-changes.result failed c.requires.can (g.met.V.Volume.settled _ c.requires.sound) (leaves_on c.requires.can (leaves_on c.requires.can c.plan_remove.ensures.leaves c.plan_set.ensures.leaves) (looked (can_still c.requires.can (leaves_on c.requires.can c.plan_remove.ensures.leaves c.plan_set.ensures.leaves)) c.blocks_of.ensures.looks (g.met.V.Volume.passes_keeps _ _ c.blocks_of.ensures.passes))) reads
-
-pub returns-in_err-changes-clause-goes : goal.returns-in_err-changes-clause-goes
-returns-in_err-changes-clause-goes g c = c.plan_remove.ensures.goes then c.plan_set.ensures.goes then (g.met.V.Volume.passes_keeps _ _ c.blocks_of.ensures.passes).goes
-
-pub returns-in_err-changes-clause-ends : goal.returns-in_err-changes-clause-ends
-returns-in_err-changes-clause-ends g c =
-    let failed = err_from_is_err_and c.from_residual-in_err-changes.result c.from_residual-in_err-changes.ensures.1 in
-    ends_memory _ _ c.from_residual-in_err-changes.result _ failed.1 failed.2 (after_well _ _ _ _ _ (after_well _ _ _ _ _ (well_read _ _ c.plan_remove.result _ c.in_ok-goes.was c.plan_remove.ensures.ends) (well_read _ _ c.plan_set.result _ c.in_ok-comes.was c.plan_set.ensures.ends)) (well_read _ _ c.blocks_of.result _ c.in_ok-freed.was c.blocks_of.ensures.ends))
-
 pub commit_planned-requires-clause-planned : goal.commit_planned-requires-clause-planned
 commit_planned-requires-clause-planned g c =
     let row : AcrossRow _ _ _ _ _ _ _ _ _ c.args.from c.args.to c.args.name.now _ _ _ _ = record { ready = c.requires.can.ready; settled = g.met.V.Volume.settled _ c.requires.sound; leaves = c.plan_remove.ensures.leaves; later = c.plan_set.ensures.leaves; last = looked (can_still c.requires.can (leaves_on c.requires.can c.plan_remove.ensures.leaves c.plan_set.ensures.leaves)) c.blocks_of.ensures.looks (g.met.V.Volume.passes_keeps _ _ c.blocks_of.ensures.passes); words = c.blocks_of.ensures.looks.looks.words; goes = c.in_ok-goes.ensures.ok; comes = c.in_ok-comes.ensures.ok; listed = c.in_ok-freed.ensures.value; gone = c.node_gone-gone.ensures; dir = c.requires.from.1.dir; to_dir = c.requires.to.dir; used = c.requires.used_to } in
-    let is = c.deref.ensures.value ∙ c.in_ok-changes.ensures ∙ ap (λ a. a ∷ c.from-2.result ∷ c.node_gone-gone.result ∷ []) c.from.ensures ∙ ap (λ a. of_dir c.in_ok-goes.goes ∷ a ∷ c.node_gone-gone.result ∷ []) c.from-2.ensures in
+    let is = ap (λ a. a ∷ c.from-2.result ∷ c.node_gone-gone.result ∷ []) c.from.ensures ∙ ap (λ a. of_dir c.in_ok-goes.goes ∷ a ∷ c.node_gone-gone.result ∷ []) c.from-2.ensures in
     (_, across_planned c.requires.can.state c.requires.from.0 row is c.requires.two c.requires.can.reads (record { old = c.requires.from.1; over = c.requires.to; other = c.requires.other; leaf = c.requires.leaf; leaf_to = c.requires.leaf_to }))
 
 pub returns-clause-leaves : goal.returns-clause-leaves
 returns-clause-leaves g c =
     let row : AcrossRow _ _ _ _ _ _ _ _ _ c.args.from c.args.to c.args.name.now _ _ _ _ = record { ready = c.requires.can.ready; settled = g.met.V.Volume.settled _ c.requires.sound; leaves = c.plan_remove.ensures.leaves; later = c.plan_set.ensures.leaves; last = looked (can_still c.requires.can (leaves_on c.requires.can c.plan_remove.ensures.leaves c.plan_set.ensures.leaves)) c.blocks_of.ensures.looks (g.met.V.Volume.passes_keeps _ _ c.blocks_of.ensures.passes); words = c.blocks_of.ensures.looks.looks.words; goes = c.in_ok-goes.ensures.ok; comes = c.in_ok-comes.ensures.ok; listed = c.in_ok-freed.ensures.value; gone = c.node_gone-gone.ensures; dir = c.requires.from.1.dir; to_dir = c.requires.to.dir; used = c.requires.used_to } in
-    let is = c.deref.ensures.value ∙ c.in_ok-changes.ensures ∙ ap (λ a. a ∷ c.from-2.result ∷ c.node_gone-gone.result ∷ []) c.from.ensures ∙ ap (λ a. of_dir c.in_ok-goes.goes ∷ a ∷ c.node_gone-gone.result ∷ []) c.from-2.ensures in
+    let is = ap (λ a. a ∷ c.from-2.result ∷ c.node_gone-gone.result ∷ []) c.from.ensures ∙ ap (λ a. of_dir c.in_ok-goes.goes ∷ a ∷ c.node_gone-gone.result ∷ []) c.from-2.ensures in
     λ s a reads row_is. c.commit_planned.ensures.leaves Done _ _ s _ (across_leads s a row is c.requires.two reads (record { old = row_is; over = c.requires.to; other = c.requires.other; leaf = c.requires.leaf; leaf_to = c.requires.leaf_to }))
 
 pub returns-clause-forgets : goal.returns-clause-forgets
 returns-clause-forgets g c =
     let row : AcrossRow _ _ _ _ _ _ _ _ _ c.args.from c.args.to c.args.name.now _ _ _ _ = record { ready = c.requires.can.ready; settled = g.met.V.Volume.settled _ c.requires.sound; leaves = c.plan_remove.ensures.leaves; later = c.plan_set.ensures.leaves; last = looked (can_still c.requires.can (leaves_on c.requires.can c.plan_remove.ensures.leaves c.plan_set.ensures.leaves)) c.blocks_of.ensures.looks (g.met.V.Volume.passes_keeps _ _ c.blocks_of.ensures.passes); words = c.blocks_of.ensures.looks.looks.words; goes = c.in_ok-goes.ensures.ok; comes = c.in_ok-comes.ensures.ok; listed = c.in_ok-freed.ensures.value; gone = c.node_gone-gone.ensures; dir = c.requires.from.1.dir; to_dir = c.requires.to.dir; used = c.requires.used_to } in
-    let is = c.deref.ensures.value ∙ c.in_ok-changes.ensures ∙ ap (λ a. a ∷ c.from-2.result ∷ c.node_gone-gone.result ∷ []) c.from.ensures ∙ ap (λ a. of_dir c.in_ok-goes.goes ∷ a ∷ c.node_gone-gone.result ∷ []) c.from-2.ensures in
+    let is = ap (λ a. a ∷ c.from-2.result ∷ c.node_gone-gone.result ∷ []) c.from.ensures ∙ ap (λ a. of_dir c.in_ok-goes.goes ∷ a ∷ c.node_gone-gone.result ∷ []) c.from-2.ensures in
     c.commit_planned.ensures.forgets _ (across_planned c.requires.can.state c.requires.from.0 row is c.requires.two c.requires.can.reads (record { old = c.requires.from.1; over = c.requires.to; other = c.requires.other; leaf = c.requires.leaf; leaf_to = c.requires.leaf_to }))
 
 pub returns-clause-goes : goal.returns-clause-goes

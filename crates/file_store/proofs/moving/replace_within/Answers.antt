@@ -3,9 +3,8 @@ use Rattle.rio_requests.specs.declared.reply.Reply.TheVariants.{Ok as Done}
 use Rattle.file_store.specs.Ends.{SaysDone}
 use Rattle.file_store.proofs.CallEnds.{after_well, ends_read, well_read}
 use Rattle.file_store.proofs.LookedAt.{used_ino}
-use Rattle.file_store.proofs.Planning.{can_still, ends_full, ends_unread, leaves_on, look_still, looked, used_still}
+use Rattle.file_store.proofs.Planning.{can_still, ends_unread, leaves_on, look_still, looked, used_still}
 use Rattle.file_store.proofs.RenamedRows.{WithinRow, within_leads, within_planned}
-use Rattle.file_store.proofs.Requested.{ends_memory}
 use Rattle.file_store.proofs.moving.replace_within.Goals as goal
 
 pub plan_replace-requires-clause-entries : goal.plan_replace-requires-clause-entries
@@ -54,33 +53,20 @@ returns-in_err-freed-clause-ends g c =
     let failed = err_from_is_err_and c.from_residual-in_err-freed.result c.from_residual-in_err-freed.ensures.1 in
     after_well _ _ _ _ _ (well_read _ _ c.plan_replace.result _ c.in_ok-replaced.was c.plan_replace.ensures.ends) (ends_read _ _ c.blocks_of.result c.from_residual-in_err-freed.result _ failed.0 c.in_err-freed.was failed.1 failed.2 c.blocks_of.ensures.ends)
 
-pub returns-in_err-changes-clause-leaves : goal.returns-in_err-changes-clause-leaves
-returns-in_err-changes-clause-leaves g c =
-    let failed = err_from_is_err_and c.from_residual-in_err-changes.result c.from_residual-in_err-changes.ensures.1 in
-    λ s a b reads row_is over. ends_full SaysDone s (answered (replaced s c.args.from.dir.0 a c.args.to.dir.0 b c.args.from.ino.0 c.args.to.ino.0) Done) c.from_residual-in_err-changes.result failed c.requires.can (g.met.V.Volume.settled _ c.requires.sound) (leaves_on c.requires.can c.plan_replace.ensures.leaves (looked (can_still c.requires.can c.plan_replace.ensures.leaves) c.blocks_of.ensures.looks (g.met.V.Volume.passes_keeps _ _ c.blocks_of.ensures.passes))) reads
-
-pub returns-in_err-changes-clause-goes : goal.returns-in_err-changes-clause-goes
-returns-in_err-changes-clause-goes g c = c.plan_replace.ensures.goes then (g.met.V.Volume.passes_keeps _ _ c.blocks_of.ensures.passes).goes
-
-pub returns-in_err-changes-clause-ends : goal.returns-in_err-changes-clause-ends
-returns-in_err-changes-clause-ends g c =
-    let failed = err_from_is_err_and c.from_residual-in_err-changes.result c.from_residual-in_err-changes.ensures.1 in
-    ends_memory _ _ c.from_residual-in_err-changes.result _ failed.1 failed.2 (after_well _ _ _ _ _ (well_read _ _ c.plan_replace.result _ c.in_ok-replaced.was c.plan_replace.ensures.ends) (well_read _ _ c.blocks_of.result _ c.in_ok-freed.was c.blocks_of.ensures.ends))
-
 pub commit_planned-requires-clause-planned : goal.commit_planned-requires-clause-planned
 commit_planned-requires-clause-planned g c =
     let row : WithinRow _ _ _ _ _ _ _ c.args.from c.args.to _ _ _ = record { ready = c.requires.can.ready; settled = g.met.V.Volume.settled _ c.requires.sound; leaves = c.plan_replace.ensures.leaves; later = looked (can_still c.requires.can c.plan_replace.ensures.leaves) c.blocks_of.ensures.looks (g.met.V.Volume.passes_keeps _ _ c.blocks_of.ensures.passes); words = c.blocks_of.ensures.looks.looks.words; plan = c.in_ok-replaced.ensures.ok; listed = c.in_ok-freed.ensures.value; gone = c.node_gone.ensures; dir = c.requires.to.1.dir; used = c.requires.used_to } in
-    (_, within_planned c.requires.can.state c.requires.from.0 c.requires.to.0 row (c.deref.ensures.value ∙ c.in_ok-changes.ensures ∙ ap (λ a. a ∷ c.node_gone.result ∷ []) c.from.ensures) c.requires.one c.requires.can.reads (record { old = c.requires.from.1; over = c.requires.to.1; other = c.requires.other; leaf = c.requires.leaf; leaf_to = c.requires.leaf_to }))
+    (_, within_planned c.requires.can.state c.requires.from.0 c.requires.to.0 row (ap (λ a. a ∷ c.node_gone.result ∷ []) c.from.ensures) c.requires.one c.requires.can.reads (record { old = c.requires.from.1; over = c.requires.to.1; other = c.requires.other; leaf = c.requires.leaf; leaf_to = c.requires.leaf_to }))
 
 pub returns-clause-leaves : goal.returns-clause-leaves
 returns-clause-leaves g c =
     let row : WithinRow _ _ _ _ _ _ _ c.args.from c.args.to _ _ _ = record { ready = c.requires.can.ready; settled = g.met.V.Volume.settled _ c.requires.sound; leaves = c.plan_replace.ensures.leaves; later = looked (can_still c.requires.can c.plan_replace.ensures.leaves) c.blocks_of.ensures.looks (g.met.V.Volume.passes_keeps _ _ c.blocks_of.ensures.passes); words = c.blocks_of.ensures.looks.looks.words; plan = c.in_ok-replaced.ensures.ok; listed = c.in_ok-freed.ensures.value; gone = c.node_gone.ensures; dir = c.requires.to.1.dir; used = c.requires.used_to } in
-    λ s a b reads row_is to_is. c.commit_planned.ensures.leaves Done _ _ s _ (within_leads s a b row (c.deref.ensures.value ∙ c.in_ok-changes.ensures ∙ ap (λ a. a ∷ c.node_gone.result ∷ []) c.from.ensures) c.requires.one reads (record { old = row_is; over = to_is; other = c.requires.other; leaf = c.requires.leaf; leaf_to = c.requires.leaf_to }))
+    λ s a b reads row_is to_is. c.commit_planned.ensures.leaves Done _ _ s _ (within_leads s a b row (ap (λ a. a ∷ c.node_gone.result ∷ []) c.from.ensures) c.requires.one reads (record { old = row_is; over = to_is; other = c.requires.other; leaf = c.requires.leaf; leaf_to = c.requires.leaf_to }))
 
 pub returns-clause-forgets : goal.returns-clause-forgets
 returns-clause-forgets g c =
     let row : WithinRow _ _ _ _ _ _ _ c.args.from c.args.to _ _ _ = record { ready = c.requires.can.ready; settled = g.met.V.Volume.settled _ c.requires.sound; leaves = c.plan_replace.ensures.leaves; later = looked (can_still c.requires.can c.plan_replace.ensures.leaves) c.blocks_of.ensures.looks (g.met.V.Volume.passes_keeps _ _ c.blocks_of.ensures.passes); words = c.blocks_of.ensures.looks.looks.words; plan = c.in_ok-replaced.ensures.ok; listed = c.in_ok-freed.ensures.value; gone = c.node_gone.ensures; dir = c.requires.to.1.dir; used = c.requires.used_to } in
-    c.commit_planned.ensures.forgets _ (within_planned c.requires.can.state c.requires.from.0 c.requires.to.0 row (c.deref.ensures.value ∙ c.in_ok-changes.ensures ∙ ap (λ a. a ∷ c.node_gone.result ∷ []) c.from.ensures) c.requires.one c.requires.can.reads (record { old = c.requires.from.1; over = c.requires.to.1; other = c.requires.other; leaf = c.requires.leaf; leaf_to = c.requires.leaf_to }))
+    c.commit_planned.ensures.forgets _ (within_planned c.requires.can.state c.requires.from.0 c.requires.to.0 row (ap (λ a. a ∷ c.node_gone.result ∷ []) c.from.ensures) c.requires.one c.requires.can.reads (record { old = c.requires.from.1; over = c.requires.to.1; other = c.requires.other; leaf = c.requires.leaf; leaf_to = c.requires.leaf_to }))
 
 pub returns-clause-goes : goal.returns-clause-goes
 returns-clause-goes g c = c.plan_replace.ensures.goes then (g.met.V.Volume.passes_keeps _ _ c.blocks_of.ensures.passes).goes then c.commit_planned.ensures.goes

@@ -1,4 +1,4 @@
-use Rattle.file_store.proofs.Common.{◌≡◌, ◌⊎◌, sym, subst, Some, ReadsAs, State, NoneDone}
+use Rattle.file_store.proofs.Common.{sym, subst, Some, ReadsAs, State, NoneDone}
 use Rattle.rio_requests.specs.Answers.{make_new as make_new_of}
 use Rattle.file_store.specs.Ends.{FileEnds, SaysNumber}
 use Rattle.file_store.specs.NewNodes.{FitsNode, node_made}

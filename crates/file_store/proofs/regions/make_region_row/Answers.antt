@@ -1,11 +1,10 @@
-use Rattle.file_store.proofs.Common.{[], ◌∷◌, ap, ◌∙◌, arith, err_from_is_err_and, Some, ◌then◌, Region, with_new, make_new, new_region, Number}
+use Rattle.file_store.proofs.Common.{[], ◌∷◌, ap, arith, err_from_is_err_and, Some, ◌then◌, Region, with_new, make_new, new_region, Number}
 use Rattle.file_store.specs.Ends.{SaysNumber}
 use Rattle.file_store.proofs.CallEnds.{after_well, ends_size, well_size}
 use Rattle.file_store.proofs.FreeFound.{free_held}
-use Rattle.file_store.proofs.Planning.{can_still, ends_full, ends_planning, leads, leaves_on, planned_reached}
+use Rattle.file_store.proofs.Planning.{can_still, ends_planning, leads, leaves_on, planned_reached}
 use Rattle.file_store.proofs.RegionRoom.{blocks_free, fails_region, fails_row, region_room}
 use Rattle.file_store.proofs.RegionRows.{RegionRow, free_still, region_reaches, region_requested}
-use Rattle.file_store.proofs.Requested.{ends_memory}
 use Rattle.file_store.proofs.RowRoom.{row_fits}
 use Rattle.file_store.proofs.regions.make_region_row.Goals as goal
 
@@ -52,26 +51,13 @@ returns-in_err-node-clause-ends g c =
     let failed = err_from_is_err_and c.from_residual-in_err-node.result c.from_residual-in_err-node.ensures.1 in
     after_well _ _ _ _ _ (well_size _ _ c.plan_add.result _ c.in_ok-row.was c.plan_add.ensures.ends) (ends_size _ _ c.plan_region.result c.from_residual-in_err-node.result _ failed.0 c.in_err-node.was failed.1 failed.2 c.plan_region.ensures.ends)
 
-pub returns-in_err-changes-clause-leaves : goal.returns-in_err-changes-clause-leaves
-returns-in_err-changes-clause-leaves g c =
-    let failed = err_from_is_err_and c.from_residual-in_err-changes.result c.from_residual-in_err-changes.ensures.1 in
-    λ s reads. ends_full (SaysNumber c.args.i.0) s (make_new s c.args.dir.0 c.args.name.now (Region (new_region c.args.sizes.data_pages c.args.sizes.undo_pages)) (Some c.args.i.0)) c.from_residual-in_err-changes.result failed c.requires.can (g.met.V.Volume.settled _ c.requires.sound) (leaves_on c.requires.can c.plan_add.ensures.leaves c.plan_region.ensures.leaves) reads
-
-pub returns-in_err-changes-clause-goes : goal.returns-in_err-changes-clause-goes
-returns-in_err-changes-clause-goes g c = c.plan_add.ensures.goes then c.plan_region.ensures.goes
-
-pub returns-in_err-changes-clause-ends : goal.returns-in_err-changes-clause-ends
-returns-in_err-changes-clause-ends g c =
-    let failed = err_from_is_err_and c.from_residual-in_err-changes.result c.from_residual-in_err-changes.ensures.1 in
-    ends_memory _ _ c.from_residual-in_err-changes.result _ failed.1 failed.2 (after_well _ _ _ _ _ (well_size _ _ c.plan_add.result _ c.in_ok-row.was c.plan_add.ensures.ends) (well_size _ _ c.plan_region.result _ c.in_ok-node.was c.plan_region.ensures.ends))
-
 pub commit_planned-requires-clause-planned : goal.commit_planned-requires-clause-planned
 commit_planned-requires-clause-planned g c =
     let a = c.in_ok-row.row in
     let n = c.in_ok-node.node in
     let row : RegionRow _ _ _ _ _ _ _ c.args.dir.0 c.args.name.now c.args.i.0 c.args.sizes a n = record { ready = c.requires.can.ready; leaves = c.plan_add.ensures.leaves; then = c.plan_region.ensures.leaves; spared = c.plan_region.ensures.spared; plan = c.in_ok-row.ensures.ok; region = c.in_ok-node.ensures.ok; fit = c.requires.sizes; dir = c.requires.dir; ino = c.requires.ino; free = free_held c.args.shape.now (g.V.Blocks.seen c.args.v.now).words c.args.i.0 c.requires.ino c.requires.free; is_name = c.requires.is_name; absent = c.requires.absent } in
     let request = region_requested _ _ _ _ _ _ _ _ _ _ _ a n (g.met.V.Volume.settled _ c.requires.sound) row in
-    let is = c.deref.ensures.value ∙ c.in_ok-changes.ensures ∙ ap (λ b. b ∷ n ∷ []) c.from.ensures in
+    let is = ap (λ b. b ∷ n ∷ []) c.from.ensures in
     (_, planned_reached is (omega arith) request (with_new c.requires.can.state c.args.dir.0 c.args.name.now c.args.i.0 (Region (new_region c.args.sizes.data_pages c.args.sizes.undo_pages))) (λ z. region_reaches _ _ _ _ _ _ _ z _ _ _ _ a n c.requires.can.state row c.requires.can.reads))
 
 pub returns-clause-leaves : goal.returns-clause-leaves
@@ -80,7 +66,7 @@ returns-clause-leaves g c =
     let n = c.in_ok-node.node in
     let row : RegionRow _ _ _ _ _ _ _ c.args.dir.0 c.args.name.now c.args.i.0 c.args.sizes a n = record { ready = c.requires.can.ready; leaves = c.plan_add.ensures.leaves; then = c.plan_region.ensures.leaves; spared = c.plan_region.ensures.spared; plan = c.in_ok-row.ensures.ok; region = c.in_ok-node.ensures.ok; fit = c.requires.sizes; dir = c.requires.dir; ino = c.requires.ino; free = free_held c.args.shape.now (g.V.Blocks.seen c.args.v.now).words c.args.i.0 c.requires.ino c.requires.free; is_name = c.requires.is_name; absent = c.requires.absent } in
     let request = region_requested _ _ _ _ _ _ _ _ _ _ _ a n (g.met.V.Volume.settled _ c.requires.sound) row in
-    let is = c.deref.ensures.value ∙ c.in_ok-changes.ensures ∙ ap (λ b. b ∷ n ∷ []) c.from.ensures in
+    let is = ap (λ b. b ∷ n ∷ []) c.from.ensures in
     λ s reads. c.commit_planned.ensures.leaves (Number c.args.i.0) _ _ s _ (leads (Number c.args.i.0) s (make_new s c.args.dir.0 c.args.name.now (Region (new_region c.args.sizes.data_pages c.args.sizes.undo_pages)) (Some c.args.i.0)) (with_new s c.args.dir.0 c.args.name.now c.args.i.0 (Region (new_region c.args.sizes.data_pages c.args.sizes.undo_pages))) is request (λ z. region_reaches _ _ _ _ _ _ _ z _ _ _ _ a n s row reads)
     (region_room c.args.shape.now (g.V.Blocks.seen c.args.v.now) (g.V.Volume.kept c.args.v.now) (g.V.Blocks.seen c.plan_add.new.v) (g.V.Volume.kept c.plan_add.new.v) c.args.dir.0 c.args.name.now c.args.i.0 c.args.sizes a s c.requires.sizes c.requires.can.ready c.plan_add.ensures.leaves reads c.requires.dir c.in_ok-row.ensures.ok c.in_ok-row.ensures.space c.in_ok-node.ensures.space) reads)
 
@@ -90,7 +76,7 @@ returns-clause-forgets g c =
     let n = c.in_ok-node.node in
     let row : RegionRow _ _ _ _ _ _ _ c.args.dir.0 c.args.name.now c.args.i.0 c.args.sizes a n = record { ready = c.requires.can.ready; leaves = c.plan_add.ensures.leaves; then = c.plan_region.ensures.leaves; spared = c.plan_region.ensures.spared; plan = c.in_ok-row.ensures.ok; region = c.in_ok-node.ensures.ok; fit = c.requires.sizes; dir = c.requires.dir; ino = c.requires.ino; free = free_held c.args.shape.now (g.V.Blocks.seen c.args.v.now).words c.args.i.0 c.requires.ino c.requires.free; is_name = c.requires.is_name; absent = c.requires.absent } in
     let request = region_requested _ _ _ _ _ _ _ _ _ _ _ a n (g.met.V.Volume.settled _ c.requires.sound) row in
-    let is = c.deref.ensures.value ∙ c.in_ok-changes.ensures ∙ ap (λ b. b ∷ n ∷ []) c.from.ensures in
+    let is = ap (λ b. b ∷ n ∷ []) c.from.ensures in
     c.commit_planned.ensures.forgets _ (planned_reached is (omega arith) request (with_new c.requires.can.state c.args.dir.0 c.args.name.now c.args.i.0 (Region (new_region c.args.sizes.data_pages c.args.sizes.undo_pages))) (λ z. region_reaches _ _ _ _ _ _ _ z _ _ _ _ a n c.requires.can.state row c.requires.can.reads))
 
 pub returns-clause-goes : goal.returns-clause-goes

@@ -1,10 +1,9 @@
-use Rattle.file_store.proofs.Common.{[], ◌∷◌, refl, ap, ◌∙◌, arith, err_from_is_err_and, ◌then◌, answered, without}
+use Rattle.file_store.proofs.Common.{[], ◌∷◌, refl, ap, arith, err_from_is_err_and, ◌then◌, answered, without}
 use Rattle.rio_requests.specs.declared.reply.Reply.TheVariants.{Ok as Done}
 use Rattle.file_store.specs.Ends.{SaysDone}
 use Rattle.file_store.proofs.CallEnds.{after_well, ends_read, well_read}
 use Rattle.file_store.proofs.LookedAt.{used_ino}
-use Rattle.file_store.proofs.Planning.{can_still, ends_full, ends_unread, leads, leaves_on, look_still, looked, planned_reached, used_still}
-use Rattle.file_store.proofs.Requested.{ends_memory}
+use Rattle.file_store.proofs.Planning.{can_still, ends_unread, leads, leaves_on, look_still, looked, planned_reached, used_still}
 use Rattle.file_store.proofs.RowsGone.{GoneRow, gone_reaches, gone_requested}
 use Rattle.file_store.proofs.removing.remove_row.Goals as goal
 
@@ -46,35 +45,22 @@ returns-in_err-freed-clause-ends g c =
     let failed = err_from_is_err_and c.from_residual-in_err-freed.result c.from_residual-in_err-freed.ensures.1 in
     after_well _ _ _ _ _ (well_read _ _ c.plan_remove.result _ c.in_ok-goes.was c.plan_remove.ensures.ends) (ends_read _ _ c.blocks_of.result c.from_residual-in_err-freed.result _ failed.0 c.in_err-freed.was failed.1 failed.2 c.blocks_of.ensures.ends)
 
-pub returns-in_err-changes-clause-leaves : goal.returns-in_err-changes-clause-leaves
-returns-in_err-changes-clause-leaves g c =
-    let failed = err_from_is_err_and c.from_residual-in_err-changes.result c.from_residual-in_err-changes.ensures.1 in
-    λ s name reads is_row. ends_full SaysDone s (answered (without s c.args.row.dir.0 name c.args.row.ino.0) Done) c.from_residual-in_err-changes.result failed c.requires.can (g.met.V.Volume.settled _ c.requires.sound) (leaves_on c.requires.can c.plan_remove.ensures.leaves (looked (can_still c.requires.can c.plan_remove.ensures.leaves) c.blocks_of.ensures.looks (g.met.V.Volume.passes_keeps _ _ c.blocks_of.ensures.passes))) reads
-
-pub returns-in_err-changes-clause-goes : goal.returns-in_err-changes-clause-goes
-returns-in_err-changes-clause-goes g c = c.plan_remove.ensures.goes then (g.met.V.Volume.passes_keeps _ _ c.blocks_of.ensures.passes).goes
-
-pub returns-in_err-changes-clause-ends : goal.returns-in_err-changes-clause-ends
-returns-in_err-changes-clause-ends g c =
-    let failed = err_from_is_err_and c.from_residual-in_err-changes.result c.from_residual-in_err-changes.ensures.1 in
-    ends_memory _ _ c.from_residual-in_err-changes.result _ failed.1 failed.2 (after_well _ _ _ _ _ (well_read _ _ c.plan_remove.result _ c.in_ok-goes.was c.plan_remove.ensures.ends) (well_read _ _ c.blocks_of.result _ c.in_ok-freed.was c.blocks_of.ensures.ends))
-
 pub commit_planned-requires-clause-planned : goal.commit_planned-requires-clause-planned
 commit_planned-requires-clause-planned g c =
     let row : GoneRow _ _ _ _ _ _ _ c.args.row.dir.0 c.args.row.slot c.requires.row.0 c.args.row.ino.0 _ c.in_ok-goes.goes c.node_gone.result = record { ready = c.requires.can.ready; leaves = c.plan_remove.ensures.leaves; later = looked (can_still c.requires.can c.plan_remove.ensures.leaves) c.blocks_of.ensures.looks (g.met.V.Volume.passes_keeps _ _ c.blocks_of.ensures.passes); words = c.blocks_of.ensures.looks.looks.words; plan = c.in_ok-goes.ensures.ok; listed = c.in_ok-freed.ensures.value; gone = c.node_gone.ensures; dir = c.requires.row.1.dir; entry = c.requires.row.1.entry; used = c.requires.used; bare = c.requires.bare } in
-    let is = c.deref.ensures.value ∙ c.in_ok-changes.ensures ∙ ap (λ a. a ∷ c.node_gone.result ∷ []) c.from.ensures in
+    let is = ap (λ a. a ∷ c.node_gone.result ∷ []) c.from.ensures in
     (_, planned_reached is (omega arith) (gone_requested _ _ _ _ _ _ _ _ _ _ _ _ c.in_ok-goes.goes c.node_gone.result (g.met.V.Volume.settled _ c.requires.sound) row) (without c.requires.can.state c.args.row.dir.0 c.requires.row.0 c.args.row.ino.0) (λ z. gone_reaches _ _ _ _ _ _ _ z _ _ _ _ _ c.in_ok-goes.goes c.node_gone.result c.requires.can.state row c.requires.can.reads))
 
 pub returns-clause-leaves : goal.returns-clause-leaves
 returns-clause-leaves g c =
-    let is = c.deref.ensures.value ∙ c.in_ok-changes.ensures ∙ ap (λ a. a ∷ c.node_gone.result ∷ []) c.from.ensures in
+    let is = ap (λ a. a ∷ c.node_gone.result ∷ []) c.from.ensures in
     λ s name reads is_row. (let row : GoneRow _ _ _ _ _ _ _ c.args.row.dir.0 c.args.row.slot name c.args.row.ino.0 _ c.in_ok-goes.goes c.node_gone.result = record { ready = c.requires.can.ready; leaves = c.plan_remove.ensures.leaves; later = looked (can_still c.requires.can c.plan_remove.ensures.leaves) c.blocks_of.ensures.looks (g.met.V.Volume.passes_keeps _ _ c.blocks_of.ensures.passes); words = c.blocks_of.ensures.looks.looks.words; plan = c.in_ok-goes.ensures.ok; listed = c.in_ok-freed.ensures.value; gone = c.node_gone.ensures; dir = is_row.dir; entry = is_row.entry; used = c.requires.used; bare = c.requires.bare } in
     c.commit_planned.ensures.leaves Done _ _ s _ (leads Done s (answered (without s c.args.row.dir.0 name c.args.row.ino.0) Done) (without s c.args.row.dir.0 name c.args.row.ino.0) is (gone_requested _ _ _ _ _ _ _ _ _ _ _ _ c.in_ok-goes.goes c.node_gone.result (g.met.V.Volume.settled _ c.requires.sound) row) (λ z. gone_reaches _ _ _ _ _ _ _ z _ _ _ _ _ c.in_ok-goes.goes c.node_gone.result s row reads) refl reads))
 
 pub returns-clause-forgets : goal.returns-clause-forgets
 returns-clause-forgets g c =
     let row : GoneRow _ _ _ _ _ _ _ c.args.row.dir.0 c.args.row.slot c.requires.row.0 c.args.row.ino.0 _ c.in_ok-goes.goes c.node_gone.result = record { ready = c.requires.can.ready; leaves = c.plan_remove.ensures.leaves; later = looked (can_still c.requires.can c.plan_remove.ensures.leaves) c.blocks_of.ensures.looks (g.met.V.Volume.passes_keeps _ _ c.blocks_of.ensures.passes); words = c.blocks_of.ensures.looks.looks.words; plan = c.in_ok-goes.ensures.ok; listed = c.in_ok-freed.ensures.value; gone = c.node_gone.ensures; dir = c.requires.row.1.dir; entry = c.requires.row.1.entry; used = c.requires.used; bare = c.requires.bare } in
-    let is = c.deref.ensures.value ∙ c.in_ok-changes.ensures ∙ ap (λ a. a ∷ c.node_gone.result ∷ []) c.from.ensures in
+    let is = ap (λ a. a ∷ c.node_gone.result ∷ []) c.from.ensures in
     c.commit_planned.ensures.forgets _ (planned_reached is (omega arith) (gone_requested _ _ _ _ _ _ _ _ _ _ _ _ c.in_ok-goes.goes c.node_gone.result (g.met.V.Volume.settled _ c.requires.sound) row) (without c.requires.can.state c.args.row.dir.0 c.requires.row.0 c.args.row.ino.0) (λ z. gone_reaches _ _ _ _ _ _ _ z _ _ _ _ _ c.in_ok-goes.goes c.node_gone.result c.requires.can.state row c.requires.can.reads))
 
 pub returns-clause-goes : goal.returns-clause-goes

@@ -2,6 +2,7 @@ use Rattle.file_store.proofs.Common.{◌≡◌, ℕ, sym, subst, err_from_is_err
 use Rattle.file_store.specs.Failures.{Refuses}
 use Rattle.file_store.proofs.CallEnds.{after_well, ends_ok, ends_on, well}
 use Rattle.file_store.proofs.LookedAt.{row_used, step_no_dir, step_no_row, step_taken}
+use Rattle.file_store.proofs.MemoSteps.{same_step}
 use Rattle.file_store.proofs.Unchanged.{leaves_then}
 use Rattle.file_store.proofs.walking.step.Goals as goal
 
@@ -51,3 +52,12 @@ returns-clause-goes g c = c.must_be_dir.ensures.goes then c.row_of.ensures.goes
 
 pub returns-clause-ends : goal.returns-clause-ends
 returns-clause-ends g c = ends_ok _ _ _ (after_well _ _ _ _ _ (well _ _ c.must_be_dir.result _ c.in_ok-inode.was c.must_be_dir.ensures.ends) (well _ _ c.row_of.result _ c.in_ok-i.was c.row_of.ensures.ends))
+
+pub row_of-requires-clause-in_step : goal.row_of-requires-clause-in_step
+row_of-requires-clause-in_step g c = same_step c.args.shape.now _ _ c.args.memo.now c.must_be_dir.ensures.words c.requires.in_step
+
+pub returns-in_err-i-clause-in_step : goal.returns-in_err-i-clause-in_step
+returns-in_err-i-clause-in_step g c = same_step c.args.shape.now _ _ _ (sym c.must_be_dir.ensures.words) c.row_of.ensures.in_step
+
+pub returns-clause-in_step : goal.returns-clause-in_step
+returns-clause-in_step g c = same_step c.args.shape.now _ _ _ (sym c.must_be_dir.ensures.words) c.row_of.ensures.in_step

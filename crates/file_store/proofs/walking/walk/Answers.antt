@@ -1,6 +1,7 @@
 use Rattle.file_store.proofs.Common.{◌<◌, arith, refl, sym, subst, ◌∙◌, err_from_is_err_and, ends_by_well, goes_refl, ◌then◌, held_of, ReadsAs, leaves_refl}
 use Rattle.file_store.proofs.CallEnds.{after_well, ends_ok, ends_on, well}
 use Rattle.file_store.proofs.LookedAt.{comes_same}
+use Rattle.file_store.proofs.MemoSteps.{same_step}
 use Rattle.file_store.proofs.Reached.{root_held}
 use Rattle.file_store.proofs.Unchanged.{leaves_then}
 use Rattle.file_store.proofs.WalkedOn.{left_fails, left_next, left_none}
@@ -17,6 +18,7 @@ loop-at-init g c =
       used = omega (arith, root);
       leaves = leaves_refl shape x _ c.requires.can.ready;
       words = refl;
+      in_step = c.requires.in_step;
       can = c.requires.can;
       goes = goes_refl _ _;
       well = ends_by_well _ _ _ _ (omega arith) refl (λ a. a) (λ a. a);
@@ -61,6 +63,7 @@ loop-at-preserved g c =
       used = subst (λ f. 0 < (held_of shape f now.i.0).kind) inv.words now.ensures.used;
       leaves = leaves_then shape _ _ _ _ _ _ inv.leaves inv.words call.leaves;
       words = call.words ∙ inv.words;
+      in_step = same_step shape _ _ _ (sym inv.words) call.in_step;
       can = call.can;
       goes = inv.goes then call.goes;
       well = after_well _ _ _ _ _ inv.well (well _ _ c.step.result _ now.was call.ends);
@@ -72,3 +75,9 @@ returns-clause-value g c = λ s reads. c.loop-at.invariant.walked s reads ∙ le
 
 pub returns-clause-ends : goal.returns-clause-ends
 returns-clause-ends g c = ends_ok _ _ _ c.loop-at.invariant.well
+
+pub step-requires-clause-in_step : goal.step-requires-clause-in_step
+step-requires-clause-in_step g c = same_step c.args.shape.now _ _ _ c.loop-at.invariant.words c.loop-at.invariant.in_step
+
+pub returns-in_err-i-clause-in_step : goal.returns-in_err-i-clause-in_step
+returns-in_err-i-clause-in_step g c = same_step c.args.shape.now _ _ _ (sym c.loop-at.invariant.words) c.step.ensures.in_step

@@ -1,5 +1,6 @@
 use Rattle.file_store.proofs.Common.{◌≡◌, ◌+◌, ◌-◌, ◌<◌, ◌≤◌, length, EndsBy, Goes, held_of, names_of, walk, volume_layout, ReadsAs, LeavesInUse, State}
 use Rattle.file_store.specs.Ends.{CanServe}
+use Rattle.file_store.specs.Memos.{InStep}
 use Rattle.file_store.proofs.WalkedOn.{walk_left}
 use Rattle.file_store.proofs.walking.walk.Given as goal
 
@@ -16,6 +17,7 @@ invariant-loop-at g l =
       used : 0 < (held_of l.shape first l.i.0).kind;
       leaves : LeavesInUse (volume_layout l.shape first) (seen l.fn.v) (kept l.fn.v) (seen l.v) (kept l.v);
       words : (seen l.v).words ≡ first;
+      in_step : InStep l.shape first l.memo;
       can : CanServe l.shape (seen l.v) (kept l.v);
       goes : Goes (health l.fn.v) (g.V.Volume.below l.fn.v) (health l.v) (g.V.Volume.below l.v);
       well : EndsBy (health l.fn.v) (health l.v) ⊥ ⊥;

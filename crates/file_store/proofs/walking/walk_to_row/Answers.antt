@@ -3,6 +3,7 @@ use Rattle.file_store.specs.Failures.{Refuses}
 use Rattle.file_store.specs.Walks.{ino_in}
 use Rattle.file_store.proofs.CallEnds.{after_well, ends_ok, ends_on, well}
 use Rattle.file_store.proofs.LookedAt.{row_missing, row_no_dir, row_there, row_used}
+use Rattle.file_store.proofs.MemoSteps.{same_step}
 use Rattle.file_store.proofs.Unchanged.{leaves_then}
 use Rattle.file_store.proofs.walking.walk_to_row.Goals as goal
 
@@ -81,3 +82,12 @@ returns-clause-goes g c = c.dir_at.ensures.goes then c.row_of.ensures.goes
 
 pub returns-clause-ends : goal.returns-clause-ends
 returns-clause-ends g c = ends_ok _ _ _ (after_well _ _ _ _ _ (well _ _ c.dir_at.result _ c.in_ok-dir.was c.dir_at.ensures.ends) (well _ _ c.row_of.result _ c.in_ok-ino.was c.row_of.ensures.ends))
+
+pub row_of-requires-clause-in_step : goal.row_of-requires-clause-in_step
+row_of-requires-clause-in_step g c = same_step c.args.shape.now _ _ _ c.dir_at.ensures.words c.dir_at.ensures.in_step
+
+pub returns-in_err-ino-clause-in_step : goal.returns-in_err-ino-clause-in_step
+returns-in_err-ino-clause-in_step g c = same_step c.args.shape.now _ _ _ (sym c.dir_at.ensures.words) c.row_of.ensures.in_step
+
+pub returns-clause-in_step : goal.returns-clause-in_step
+returns-clause-in_step g c = same_step c.args.shape.now _ _ _ (sym c.dir_at.ensures.words) c.row_of.ensures.in_step

@@ -1,0 +1,108 @@
+use Rattle.file_store.proofs.Common.{◌≡◌, refl, sym, ap, subst, inl, err_from_is_err_and, ◌then◌, held_of, names_of, walk, ReadsAs, WriteDone}
+use Rattle.std.proofs.Common.{Ok}
+use Rattle.rio_requests.specs.Answers.{write as write_of, write_file}
+use Rattle.file_store.specs.Ends.{SaysCount}
+use Rattle.file_store.proofs.AnsweredAt.{ends_after, ends_look, fails_file, write_ends_err, write_ends_ok}
+use Rattle.file_store.proofs.CallEnds.{after_well, ends_ok, ends_on, ends_write, well, well_write}
+use Rattle.inode_table.specs.Inodes.{IsInode}
+use Rattle.file_store.specs.Walks.{ino_in}
+use Rattle.file_store.proofs.MemoData.{write_parts, write_same}
+use Rattle.file_store.proofs.MemoEnds.{step_untold}
+use Rattle.file_store.proofs.MemoSteps.{same_step}
+use Rattle.file_store.proofs.data.write_with.Goals as goal
+
+pub returns-in_err-i-clause-leaves : goal.returns-in_err-i-clause-leaves
+returns-in_err-i-clause-leaves g c =
+    let path = c.args.path.now in
+    let bytes = c.args.bytes.now in
+    let p = err_from_is_err_and c.from_residual.result c.from_residual.ensures.1 in
+    λ s reads. ends_look SaysCount c.args.shape.now (g.V.Blocks.seen c.args.v.now) (g.V.Volume.kept c.args.v.now) (g.V.Blocks.seen c.walk_to_file.new.v) (g.V.Volume.kept c.walk_to_file.new.v) s (write_of s path c.args.off bytes) (WriteDone s path c.args.off bytes (write_of s path c.args.off bytes)) c.from_residual.result _ p.0 p.1 p.2
+    c.requires.can.ready (g.met.V.Volume.settled _ c.requires.sound) c.walk_to_file.ensures.leaves reads (inl (refl, refl))
+    (fails_file s (walk s 1 (names_of path)) (λ i. write_file s c.args.off bytes i) (ino_in c.walk_to_file.result) _ (ap ino_in c.in_err-i.was) (c.walk_to_file.ensures.value s reads))
+
+pub returns-in_err-i-clause-ends : goal.returns-in_err-i-clause-ends
+returns-in_err-i-clause-ends g c =
+    let p = err_from_is_err_and c.from_residual.result c.from_residual.ensures.1 in
+    ends_on _ _ c.walk_to_file.result c.from_residual.result _ p.0 c.in_err-i.was p.1 p.2 c.walk_to_file.ensures.ends
+
+pub write_with-requires-clause-inode : goal.write_with-requires-clause-inode
+write_with-requires-clause-inode g c = subst (λ f. IsInode f c.in_ok-i.i.0 c.in_ok-i.inode) (sym c.walk_to_file.ensures.words) c.in_ok-i.ensures.inode
+
+pub write_with-requires-clause-file : goal.write_with-requires-clause-file
+write_with-requires-clause-file g c = subst (λ f. (held_of c.args.shape.now f c.in_ok-i.i.0).kind ≡ 2) (sym c.walk_to_file.ensures.words) c.in_ok-i.ensures.file
+
+pub returns-in_err-count-clause-leaves : goal.returns-in_err-count-clause-leaves
+returns-in_err-count-clause-leaves g c =
+    let shape = c.args.shape.now in
+    let path = c.args.path.now in
+    let off = c.args.off in
+    let bytes = c.args.bytes.now in
+    let m = g.V.Blocks.seen c.walk_to_file.new.v in
+    let l = g.V.Volume.kept c.walk_to_file.new.v in
+    let y = g.V.Blocks.seen c.write_with.new.v in
+    let j = g.V.Volume.kept c.write_with.new.v in
+    let i = c.in_ok-i.i.0 in
+    let way = c.walk_to_file.ensures in
+    let call = c.write_with.ensures in
+    let p = err_from_is_err_and c.from_residual-in_err-count.result c.from_residual-in_err-count.ensures.1 in
+    λ s reads. ends_after SaysCount shape (g.V.Blocks.seen c.args.v.now) (g.V.Volume.kept c.args.v.now) m l y j s (write_of s path off bytes) (WriteDone s path off bytes (write_of s path off bytes)) c.from_residual-in_err-count.result way.leaves way.words
+    (write_ends_err shape m l y j s path off bytes i c.write_with.result c.from_residual-in_err-count.result _ p.0 c.in_err-count.was p.1 p.2
+    (subst (λ f. ReadsAs shape f s) (sym way.words) reads) (c.in_ok-i.ensures.value s reads) (subst (λ f. (held_of shape f i).kind ≡ 2) (sym way.words) c.in_ok-i.ensures.file)
+    (record { value = call.value; ok = call.ok; space = call.space; too_large = call.too_large; no_space = call.no_space; refused = call.refused; fault = call.fault; stopped = call.stopped; ready = call.ready }))
+
+pub returns-in_err-count-clause-goes : goal.returns-in_err-count-clause-goes
+returns-in_err-count-clause-goes g c = c.walk_to_file.ensures.goes then c.write_with.ensures.goes
+
+pub returns-in_err-count-clause-ends : goal.returns-in_err-count-clause-ends
+returns-in_err-count-clause-ends g c =
+    let p = err_from_is_err_and c.from_residual-in_err-count.result c.from_residual-in_err-count.ensures.1 in
+    after_well _ _ _ _ _ (well _ _ c.walk_to_file.result _ c.in_ok-i.was c.walk_to_file.ensures.ends) (ends_write _ _ c.write_with.result c.from_residual-in_err-count.result _ p.0 c.in_err-count.was p.1 p.2 c.write_with.ensures.ends)
+
+pub returns-clause-leaves : goal.returns-clause-leaves
+returns-clause-leaves g c =
+    let shape = c.args.shape.now in
+    let path = c.args.path.now in
+    let off = c.args.off in
+    let bytes = c.args.bytes.now in
+    let m = g.V.Blocks.seen c.walk_to_file.new.v in
+    let l = g.V.Volume.kept c.walk_to_file.new.v in
+    let y = g.V.Blocks.seen c.write_with.new.v in
+    let j = g.V.Volume.kept c.write_with.new.v in
+    let i = c.in_ok-i.i.0 in
+    let way = c.walk_to_file.ensures in
+    let call = c.write_with.ensures in
+    λ s reads. ends_after SaysCount shape (g.V.Blocks.seen c.args.v.now) (g.V.Volume.kept c.args.v.now) m l y j s (write_of s path off bytes) (WriteDone s path off bytes (write_of s path off bytes)) (Ok c.in_ok-count.count) way.leaves way.words
+    (write_ends_ok shape m l y j s path off bytes i _ c.write_with.result c.in_ok-count.was
+    (subst (λ f. ReadsAs shape f s) (sym way.words) reads) (c.in_ok-i.ensures.value s reads) (subst (λ f. (held_of shape f i).kind ≡ 2) (sym way.words) c.in_ok-i.ensures.file)
+    (record { value = call.value; ok = call.ok; space = call.space; too_large = call.too_large; no_space = call.no_space; refused = call.refused; fault = call.fault; stopped = call.stopped; ready = call.ready }))
+
+pub returns-clause-goes : goal.returns-clause-goes
+returns-clause-goes g c = c.walk_to_file.ensures.goes then c.write_with.ensures.goes
+
+pub returns-clause-ends : goal.returns-clause-ends
+returns-clause-ends g c = ends_ok _ _ _ (after_well _ _ _ _ _ (well _ _ c.walk_to_file.result _ c.in_ok-i.was c.walk_to_file.ensures.ends) (well_write _ _ c.write_with.result _ c.in_ok-count.was c.write_with.ensures.ends))
+
+pub returns-in_err-i-clause-in_step : goal.returns-in_err-i-clause-in_step
+returns-in_err-i-clause-in_step g c = λ on. same_step c.args.shape.now _ _ _ (c.walk_to_file.ensures.words) c.walk_to_file.ensures.in_step
+
+pub returns-in_err-count-clause-in_step : goal.returns-in_err-count-clause-in_step
+returns-in_err-count-clause-in_step g c = λ on.
+    let shape = c.args.shape.now in
+    let x = g.V.Blocks.seen c.args.v.now in
+    let k = g.V.Volume.kept c.args.v.now in
+    let y = g.V.Blocks.seen c.write_with.new.v in
+    let j = g.V.Volume.kept c.write_with.new.v in
+    let s = c.requires.can.state in
+    let reads = c.requires.can.reads in
+    step_untold SaysCount shape x k y j s (write_of s c.args.path.now c.args.off c.args.bytes.now) (WriteDone s c.args.path.now c.args.off c.args.bytes.now (write_of s c.args.path.now c.args.off c.args.bytes.now)) c.walk_to_file.new.memo c.from_residual-in_err-count.result c.walk_to_file.ensures.in_step reads (write_parts s c.args.path.now c.args.off c.args.bytes.now (write_of s c.args.path.now c.args.off c.args.bytes.now)) (write_same s c.args.path.now c.args.off c.args.bytes.now) (returns-in_err-count-clause-leaves g c s reads) on
+
+pub returns-clause-in_step : goal.returns-clause-in_step
+returns-clause-in_step g c = λ on.
+    let shape = c.args.shape.now in
+    let x = g.V.Blocks.seen c.args.v.now in
+    let k = g.V.Volume.kept c.args.v.now in
+    let y = g.V.Blocks.seen c.write_with.new.v in
+    let j = g.V.Volume.kept c.write_with.new.v in
+    let s = c.requires.can.state in
+    let reads = c.requires.can.reads in
+    step_untold SaysCount shape x k y j s (write_of s c.args.path.now c.args.off c.args.bytes.now) (WriteDone s c.args.path.now c.args.off c.args.bytes.now (write_of s c.args.path.now c.args.off c.args.bytes.now)) c.walk_to_file.new.memo (Ok c.in_ok-count.count) c.walk_to_file.ensures.in_step reads (write_parts s c.args.path.now c.args.off c.args.bytes.now (write_of s c.args.path.now c.args.off c.args.bytes.now)) (write_same s c.args.path.now c.args.off c.args.bytes.now) (returns-clause-leaves g c s reads) on
