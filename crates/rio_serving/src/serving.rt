@@ -108,7 +108,7 @@ fn serve_lines<C: Server, S: Source, K: Sink>(
             Err(_) => return Ok(ServeEnd::SinkFault),
         }
         let reply = reply_to(alloc, core, request, spare)?;
-        match waiting.add::<C, K>(reply, waits, sink) {
+        match waiting.add::<C, K>(&reply, waits, sink) {
             Ok(()) => {}
             Err(_) => return Ok(ServeEnd::SinkFault),
         }
@@ -134,14 +134,14 @@ fn ask<C: Server, S: Source, K: Sink>(
 {
     if let Some(line) = reader.held_line() {
         let len = line.len();
-        match meaning_of::<C>(line, spare) {
+        match C::parse(line, spare) {
             Ok(request) => {
                 reader.pass_line(len);
                 return Ok(request);
             }
-            Err(end) => {
+            Err(_) => {
                 return match waiting.release(sink) {
-                    Ok(()) => Err(end),
+                    Ok(()) => Err(ServeEnd::Memory),
                     Err(_) => Err(ServeEnd::SinkFault),
                 };
             }

@@ -53,12 +53,12 @@ impl Waiting {
     /// Writes a reply, or lets it wait behind those that do. It is written only where none waits.
     pub fn add<C: Server, K: Sink>(
         &mut self,
-        reply: C::Reply,
+        reply: &C::Reply,
         waits: bool,
         sink: &mut K,
     ) -> Result<(), Failed>
         requires { (waits ≡ true) ⊎ (self.old ≡ []) }
-        ensures sends { Sends result (K.written sink.old) (K.faults sink.old) self.old (C.protocol.text reply) (K.written sink.new) (K.faults sink.new) self.new }
+        ensures sends { Sends result (K.written sink.old) (K.faults sink.old) self.old (C.protocol.text reply.now) (K.written sink.new) (K.faults sink.new) self.new }
         ensures none { OnOk result ((waits ≡ true) ⊎ (self.new ≡ [])) }
     {
         if waits {
@@ -68,19 +68,19 @@ impl Waiting {
     }
 
     /// Lets a reply wait behind those that do. Where the room is full, it writes.
-    fn put<C: Server, K: Sink>(&mut self, reply: C::Reply, sink: &mut K) -> Result<(), Failed>
-        ensures { Sends result (K.written sink.old) (K.faults sink.old) self.old (C.protocol.text reply) (K.written sink.new) (K.faults sink.new) self.new }
+    fn put<C: Server, K: Sink>(&mut self, reply: &C::Reply, sink: &mut K) -> Result<(), Failed>
+        ensures { Sends result (K.written sink.old) (K.faults sink.old) self.old (C.protocol.text reply.now) (K.written sink.new) (K.faults sink.new) self.new }
     {
-        self.held = C::put_reply(&reply, self.room.as_mut_slice(), self.held, sink)?;
+        self.held = C::put_reply(reply, self.room.as_mut_slice(), self.held, sink)?;
         Ok(())
     }
 
     /// Writes a reply, where none waits.
-    fn write<C: Server, K: Sink>(&mut self, reply: C::Reply, sink: &mut K) -> Result<(), Failed>
+    fn write<C: Server, K: Sink>(&mut self, reply: &C::Reply, sink: &mut K) -> Result<(), Failed>
         requires { self.old ≡ [] }
-        ensures sends { Sends result (K.written sink.old) (K.faults sink.old) [] (C.protocol.text reply) (K.written sink.new) (K.faults sink.new) [] }
+        ensures sends { Sends result (K.written sink.old) (K.faults sink.old) [] (C.protocol.text reply.now) (K.written sink.new) (K.faults sink.new) [] }
         ensures none { self.new ≡ [] }
     {
-        C::write_reply(&reply, self.room.as_mut_slice(), sink)
+        C::write_reply(reply, self.room.as_mut_slice(), sink)
     }
 }

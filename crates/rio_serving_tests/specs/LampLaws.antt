@@ -1,8 +1,6 @@
 -- Laws of a lamp's lines.
-use Rattle.std.proofs.Common.{◌≡◌, ◌≤◌, ◌<◌, ℕ, List, [], ◌∷◌, ◌++◌, length, refl, ap, ◌∙◌, arith}
-use Rattle.std.specs.Prelude.{Option, Some, None}
-use Rattle.rio_base.specs.Blocks.{Health}
-use Rattle.rio_base.specs.Volume.{Below}
+use Rattle.std.proofs.Common.{◌≡◌, ◌≤◌, ◌<◌, ℕ, List, length, refl, ap, ◌∙◌, arith}
+use Rattle.std.specs.Prelude.{Some, None}
 use Rattle.rio_serving.specs.Gathering.{GoesLess, RunsOn, StaysCalm, StaysStill}
 use Rattle.rio_serving.specs.Protocol.{GoesMore, GoesNone}
 use Rattle.rio_serving_tests.specs.declared.lamp.Switch.TheVariants.{Turn, Look, Halt}
