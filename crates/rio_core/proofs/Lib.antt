@@ -6,6 +6,7 @@ pub mod FileSteps
 pub mod FormRules
 pub mod HeldRules
 pub mod Lookups
+pub mod MemoRules
 pub mod ReadMoves
 pub mod Recoveries
 pub mod RegionEnds

@@ -71,3 +71,7 @@ told_stop T says (Err Stopped) (Err s) is e = refl
 
 pub reply_ends : {T : Type 0} (says : T → Reply → Type 0) (s t : Health) (q : Result T FileFail) (p : Result Reply MachineStopped) → NeverFault says → Replies says q p → EndsBy s t (FileFaulted q) (IsErrOf q Stopped) → EndsBy s t (TellsFault p) (IsErr p)
 reply_ends {T = T} says s t q p never told ends = ends_by_as s t (FileFaulted q) (IsErrOf q Stopped) (TellsFault p) (IsErr p) (fault_told T says q p never told) (stop_told T says q p told) (told_stop T says q p told) ends
+
+-- a reply comes only where the call was not stopped
+pub not_stopped : {T : Type 0} (says : T → Reply → Type 0) (q : Result T FileFail) (p : Result Reply MachineStopped) → Replies says q p → (IsErr p → ⊥) → IsErrOf q Stopped → ⊥
+not_stopped {T = T} says q p told on stop = on (told_stop T says q p told stop)

@@ -1,12 +1,12 @@
 -- How a request ends over a running core.
 use Rattle.rio_core.proofs.Common.{◌≡◌, ℕ, ◌*◌, false, refl, sym, ap, subst, ◌∙◌, inl, inr, List, map, IfOk, IsErr, Ino, VolumeShape, BlockWords, Seen, Kept, Settled, Reply, Request, State, crashed, volume_layout, LeavesInUse, Ready, Stands, Marks}
 use Rattle.std.proofs.Common.{◌+◌}
-use Rattle.std.specs.Prelude.{Result, Ok, Err, Some}
+use Rattle.std.specs.Prelude.{Result, Ok, Err, OnErr, OnOk, Some}
 use Rattle.rio_base.specs.declared.failures.Stopped.{Stopped as MachineStopped}
 use Rattle.rio_base.specs.declared.failures.VolFail.{VolFail}
 use Rattle.rio_base.specs.declared.failures.VolFail.TheVariants.{Fault as DiskFault, Stopped as HaltFault}
-use Rattle.rio_base.specs.Blocks.{Drops, Ends, EndsBy, Health, Looks}
-use Rattle.rio_base.specs.Volume.{Below, Firm, Goes, Runs}
+use Rattle.rio_base.specs.Blocks.{Drops, Ends, EndsBy, Halts, Health, Looks}
+use Rattle.rio_base.specs.Volume.{Below, Firm, Goes, Passes, Runs}
 use Rattle.rio_requests.specs.declared.reply.Reply.TheVariants.{Ok as Done, Inos, Fault as Faulted}
 use Rattle.rio_requests.specs.declared.request.Request.TheVariants.{Flush, Sync, Txns}
 use Rattle.rio_requests.specs.Answer.{answered}
@@ -87,3 +87,26 @@ fault_runs s t HaltFault is h = absurd (not_fault is)
   where
     not_fault : HaltFault ≡ DiskFault → ⊥
     not_fault e = cc
+
+-- ---- a page is written ahead
+
+pub ahead_leaves : (shape : VolumeShape) (x : Seen) (k : Kept) (h : Health) (b : Below) (y : Seen) (j : Kept) (g : Health) (c : Below) → Ready shape x k → Looks x y → Drops x y → Passes h b k g c j → LeavesInUse (volume_layout shape x.words) x k y j
+ahead_leaves shape x k h b y j g c ready looks drops passes = flush_leaves shape x k y j ready looks passes.standing passes.firm drops (passes.updating ∙ ready.idle)
+
+pub ahead_holds : (shape : VolumeShape) (x : Seen) (k : Kept) (h : Health) (b : Below) (marks : Marks) (y : Seen) (j : Kept) (g : Health) (c : Below) (s : State) (end : Result (Unit {0}) MachineStopped) → Holds shape x k h b marks s → LeavesInUse (volume_layout shape x.words) x k y j → Runs h b g c → Halts h g end → OnOk end (Holds shape y j g c marks s)
+ahead_holds shape x k h b marks y j g c s (Ok v) holds leaves runs ends = record {
+  serves = same_serves shape x k y j marks s holds.serves leaves;
+  running = ends.cause ∙ holds.running;
+  pages = holds.pages ∙ ap (λ m. m.protected + m.scratch) (sym runs.memory);
+  scratch = holds.scratch ∙ ap (λ m. m.scratch) (sym runs.memory);
+}
+ahead_holds shape x k h b marks y j g c s (Err e) holds leaves runs ends = tt
+
+pub ahead_stands : (shape : VolumeShape) (x : Seen) (k : Kept) (y : Seen) (j : Kept) (marks : Marks) (s : State) (end : Result (Unit {0}) MachineStopped) → Serves shape x k marks s → Settled x k → LeavesInUse (volume_layout shape x.words) x k y j → OnErr end (Stands shape y j (crashed s))
+ahead_stands shape x k y j marks s (Ok v) serves settled leaves = tt
+ahead_stands shape x k y j marks s (Err e) serves settled leaves = stands_same shape x k y j (crashed s) serves.ready settled leaves serves.reads
+
+-- the machine stopped then: the request was not begun
+pub ahead_answers : (holds stands : State → Type 0) (s : State) (r : Request) (p : Result Reply MachineStopped) → IsErr p → stands s → Answering holds stands s r p
+ahead_answers holds stands s r (Ok reply) is still = absurd (cc (is))
+ahead_answers holds stands s r (Err e) is still = (s, inl refl, still)

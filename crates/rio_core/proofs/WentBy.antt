@@ -31,6 +31,20 @@ file_forms r (inr (inr (inr (inr (inr (inr (inr (inr (inl (path, to, is)))))))))
 file_forms r (inr (inr (inr (inr (inr (inr (inr (inr (inr (inl (path, is))))))))))) = subst MakesSteps (sym is) tt
 file_forms r (inr (inr (inr (inr (inr (inr (inr (inr (inr (inr (path, is))))))))))) = subst MakesSteps (sym is) tt
 
+-- they are no flush
+pub file_kept : (r : Request) → OfFiles r → NoFlush r
+file_kept r (inl (path, is)) = subst NoFlush (sym is) tt
+file_kept r (inr (inl (path, is))) = subst NoFlush (sym is) tt
+file_kept r (inr (inr (inl (path, pages, undo, is)))) = subst NoFlush (sym is) tt
+file_kept r (inr (inr (inr (inl (path, off, bytes, is))))) = subst NoFlush (sym is) tt
+file_kept r (inr (inr (inr (inr (inl (path, off, len, is)))))) = subst NoFlush (sym is) tt
+file_kept r (inr (inr (inr (inr (inr (inl (path, len, is))))))) = subst NoFlush (sym is) tt
+file_kept r (inr (inr (inr (inr (inr (inr (inl (path, is)))))))) = subst NoFlush (sym is) tt
+file_kept r (inr (inr (inr (inr (inr (inr (inr (inl (path, is))))))))) = subst NoFlush (sym is) tt
+file_kept r (inr (inr (inr (inr (inr (inr (inr (inr (inl (path, to, is)))))))))) = subst NoFlush (sym is) tt
+file_kept r (inr (inr (inr (inr (inr (inr (inr (inr (inr (inl (path, is))))))))))) = subst NoFlush (sym is) tt
+file_kept r (inr (inr (inr (inr (inr (inr (inr (inr (inr (inr (path, is))))))))))) = subst NoFlush (sym is) tt
+
 abbrev pub OfRegions : List ℕ → Request → Type 0
 OfRegions path r = (r ≡ Begin path) ⊎ ((off : ℕ) × (len : ℕ) × (r ≡ Range path off len)) ⊎ ((off : ℕ) × (bytes : List ℕ) × (r ≡ Put path off bytes)) ⊎ ((off : ℕ) × (len : ℕ) × (r ≡ Get path off len)) ⊎ ((units : ℕ) × (r ≡ Alloc path units)) ⊎ ((at : ℕ) × (r ≡ Free path at)) ⊎ (r ≡ Commit path) ⊎ (r ≡ Abort path)
 
@@ -125,3 +139,8 @@ went_txns {E = E} r s b list reply is tells = subst (λ (q : Request). Went (Som
     by : (l : Result (List Ino) E) → TellsTxns l reply → fault_of reply ≡ 0
     by (Ok inos) told = ap fault_of told
     by (Err e) told = ap fault_of told
+
+-- a list of open transactions is told by no fault
+pub txns_no_fault : {E : Type 0} (list : Result (List Ino) E) (reply : Reply) → TellsTxns list reply → TellsFault (Ok reply) → ⊥
+txns_no_fault (Ok inos) reply told f = subst (λ (q : Reply). TellsFault (Ok q)) told f
+txns_no_fault (Err e) reply told f = subst (λ (q : Reply). TellsFault (Ok q)) told f

@@ -1,26 +1,23 @@
 -- Laws of the requests that do nothing, which a core owes as a server of lines.
-use Rattle.std.proofs.Common.{◌≡◌, ◌≢◌, ◌+◌, ◌≤◌, ◌⊎◌, ℕ, zero, suc, min, false, true, List, [], ◌∷◌, take, drop, length, refl, sym, ap, subst, ◌∙◌, inl, inr, arith, length-take}
+use Rattle.std.proofs.Common.{◌≡◌, ◌≢◌, ◌+◌, ◌≤◌, ◌⊎◌, ℕ, zero, suc, min, false, true, List, [], ◌∷◌, take, drop, refl, sym, ap, subst, ◌∙◌, inl, inr, arith, length-take}
 use Rattle.std.specs.Prelude.{Option, Some, None, Result, Ok, Err}
 use Rattle.std.specs.FinMap.{get}
-use Rattle.rio_base.specs.Blocks.{Health}
 use Rattle.rio_base.specs.Counts.{RoseBy}
-use Rattle.rio_base.specs.Volume.{Below}
 use Rattle.rio_model.specs.declared.node.Node.{Node}
 use Rattle.rio_model.specs.declared.node.Node.TheVariants.{Dir, File, Region}
 use Rattle.rio_model.specs.declared.node.RegionNode.{RegionNode}
 use Rattle.rio_model.specs.declared.state.State.{State}
-use Rattle.rio_model.specs.declared.txn.Txn.{Txn}
 use Rattle.rio_model.specs.Paths.{names_of, walk, walk_to_dir}
 use Rattle.rio_requests.specs.declared.answered.Answered.{Answered}
 use Rattle.rio_requests.specs.declared.reply.Reply.{Reply}
 use Rattle.rio_requests.specs.declared.request.Request.{Request}
-use Rattle.rio_requests.specs.declared.request.Request.TheVariants.{Read, Stat as StatOf, List as ListOf, Sync, Get, Txns, Flush, Wild, Arm}
+use Rattle.rio_requests.specs.declared.request.Request.TheVariants.{Read, Stat as StatOf, List as ListOf, Sync, Get, Txns, Flush, Arm}
 use Rattle.rio_requests.specs.Answer.{at_inode, on_file}
 use Rattle.rio_requests.specs.Answers.{answer_of, stat_node}
 use Rattle.rio_requests.specs.Parts.{FaultStep}
 use Rattle.rio_requests.specs.RegionAnswers.{Outcome, get_on}
-use Rattle.rio_requests.specs.Transactions.{at_region, looked, on_region, txn_at}
-use Rattle.rio_requests.specs.Went.{Halting, NoFlush, NoFlushes, Went, armed_by, fault_of, faults_in, last_armed}
+use Rattle.rio_requests.specs.Transactions.{looked, on_region, txn_at}
+use Rattle.rio_requests.specs.Went.{Halting, NoFlush, NoFlushes, armed_by, fault_of, faults_in, last_armed}
 use Rattle.rio_serving.specs.declared.effects.Effect.TheVariants.{Nothing, Changes, Arms}
 use Rattle.rio_serving.specs.Gathering.{AreQuiet, GoesLess, RunsOn, StaysCalm, StaysStill, effect_in}
 use Rattle.rio_core.specs.Lines.{IsCalm, core_protocol, effect_of}

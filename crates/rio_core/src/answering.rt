@@ -6,6 +6,7 @@ ghost use Rattle.rio_base.specs.Volume.{Goes};
 ghost use Rattle.rio_requests.specs.Requests.{IsRequest};
 ghost use Rattle.rio_model.specs.declared.state.State.{State};
 ghost use Rattle.rio_requests.specs.CrashFiles.{OnFiles};
+ghost use Rattle.file_store.specs.Memos.{InStep};
 ghost use Rattle.rio_core.specs.Serving.{RequestEnds, Serves, TellsFault};
 
 use crate::replies::{
@@ -13,64 +14,115 @@ use crate::replies::{
     stat_reply,
 };
 use file_store::{
-    create, list, make_region, mkdir, read, rename, rmdir, stat, truncate, unlink, write,
+    Memo, create_with, list_with, make_region_with, mkdir_with, read_with, rename_with, rmdir_with,
+    stat_with, truncate_with, unlink_with, write_with,
 };
 use rio_base::{Stopped, Volume, VolumeShape};
 use rio_requests::{Reply, Request};
 use std::alloc::Global;
 use vista_region::OpenTable;
 
-/// Answers a request on files and directories. The open transactions stay as they are: a region that has one is not removed.
-pub fn answer_on<V: Volume>(
+/// Answers a request on files and directories. The open transactions stay as they are: a region that has one is not removed. What
+/// is held in memory is in step afterwards, unless the machine is stopped.
+fn answer_on<V: Volume>(
     alloc: Global,
     v: &mut V,
     shape: &VolumeShape,
+    memo: &mut Memo,
     table: &OpenTable,
     request: &Request,
 ) -> Result<Reply, Stopped>
     requires sound { V.sound v.old }
     requires serves { (s : State) × Serves shape.now (V.seen v.old) (V.kept v.old) table.now s }
+    requires in_step { InStep shape.now (V.seen v.old).words memo.old }
     requires request { IsRequest request.now }
     requires files { OnFiles request.now }
     ensures answered { (s : State) → Serves shape.now (V.seen v.old) (V.kept v.old) table.now s → RequestEnds shape.now (V.seen v.new) (V.kept v.new) table.now s request.now result }
+    ensures in_step { (IsErr result → ⊥) → InStep shape.now (V.seen v.new).words memo.new }
     ensures goes { Goes (V.health v.old) (V.below v.old) (V.health v.new) (V.below v.new) }
     ensures ends { EndsBy (V.health v.old) (V.health v.new) (TellsFault result) (IsErr result) }
     ensures sound { V.sound v.new }
 {
     match request {
-        Request::Mkdir { path } => ino_reply(mkdir(alloc, v, shape, path.as_slice())),
-        Request::Create { path } => ino_reply(create(alloc, v, shape, path.as_slice())),
-        Request::Write { path, off, bytes } => count_reply(write(
+        Request::Mkdir { path } => ino_reply(mkdir_with(alloc, v, shape, memo, path.as_slice())),
+        Request::Create { path } => ino_reply(create_with(alloc, v, shape, memo, path.as_slice())),
+        Request::Write { path, off, bytes } => count_reply(write_with(
             alloc,
             v,
             shape,
+            memo,
             path.as_slice(),
             *off,
             bytes.as_slice(),
         )),
         Request::Read { path, off, len } => {
-            bytes_reply(read(alloc, v, shape, path.as_slice(), *off, *len))
+            bytes_reply(read_with(alloc, v, shape, memo, path.as_slice(), *off, *len))
         }
         Request::Truncate { path, len } => {
-            done_reply(truncate(alloc, v, shape, path.as_slice(), *len))
+            done_reply(truncate_with(alloc, v, shape, memo, path.as_slice(), *len))
         }
         Request::Region {
             path,
             data_pages,
             undo_pages,
-        } => ino_reply(make_region(alloc, v, shape, path.as_slice(), *data_pages, *undo_pages)),
+        } => ino_reply(make_region_with(
+            alloc,
+            v,
+            shape,
+            memo,
+            path.as_slice(),
+            *data_pages,
+            *undo_pages,
+        )),
         Request::Unlink { path } => match table.open_list(alloc) {
-            Ok(busy) => done_reply(unlink(alloc, v, shape, path.as_slice(), &busy)),
+            Ok(busy) => done_reply(unlink_with(alloc, v, shape, memo, path.as_slice(), &busy)),
             Err(_) => Ok(Reply::Err(NO_MEMORY)),
         },
-        Request::Rmdir { path } => done_reply(rmdir(alloc, v, shape, path.as_slice())),
+        Request::Rmdir { path } => done_reply(rmdir_with(alloc, v, shape, memo, path.as_slice())),
         Request::Rename { path, to } => match table.open_list(alloc) {
-            Ok(busy) => done_reply(rename(alloc, v, shape, path.as_slice(), to.as_slice(), &busy)),
+            Ok(busy) => done_reply(rename_with(
+                alloc,
+                v,
+                shape,
+                memo,
+                path.as_slice(),
+                to.as_slice(),
+                &busy,
+            )),
             Err(_) => Ok(Reply::Err(NO_MEMORY)),
         },
-        Request::Stat { path } => stat_reply(stat(alloc, v, shape, path.as_slice())),
-        Request::List { path } => names_reply(list(alloc, v, shape, path.as_slice())),
+        Request::Stat { path } => stat_reply(stat_with(alloc, v, shape, memo, path.as_slice())),
+        Request::List { path } => names_reply(list_with(alloc, v, shape, memo, path.as_slice())),
         // Not reached: other requests are answered elsewhere.
         _ => Ok(Reply::Err(BAD_REQUEST)),
     }
+}
+
+/// Answers a request on files and directories. The open transactions stay as they are: a region that has one is not removed. Where
+/// the machine is stopped, all that is held in memory is let go: it is not known what the blocks have become.
+pub fn answer_files<V: Volume>(
+    alloc: Global,
+    v: &mut V,
+    shape: &VolumeShape,
+    memo: &mut Memo,
+    table: &OpenTable,
+    request: &Request,
+) -> Result<Reply, Stopped>
+    requires sound { V.sound v.old }
+    requires serves { (s : State) × Serves shape.now (V.seen v.old) (V.kept v.old) table.now s }
+    requires in_step { InStep shape.now (V.seen v.old).words memo.old }
+    requires request { IsRequest request.now }
+    requires files { OnFiles request.now }
+    ensures answered { (s : State) → Serves shape.now (V.seen v.old) (V.kept v.old) table.now s → RequestEnds shape.now (V.seen v.new) (V.kept v.new) table.now s request.now result }
+    ensures in_step { InStep shape.now (V.seen v.new).words memo.new }
+    ensures goes { Goes (V.health v.old) (V.below v.old) (V.health v.new) (V.below v.new) }
+    ensures ends { EndsBy (V.health v.old) (V.health v.new) (TellsFault result) (IsErr result) }
+    ensures sound { V.sound v.new }
+{
+    let answer = answer_on(alloc, v, shape, memo, table, request);
+    if answer.is_ok() {
+        return answer;
+    }
+    memo.forget();
+    answer
 }

@@ -7,13 +7,15 @@ ghost use Rattle.rio_model.specs.declared.node.RegionNode.{RegionNode};
 ghost use Rattle.rio_model.specs.declared.state.State.{State};
 ghost use Rattle.rio_model.specs.Paths.{IsPath};
 ghost use Rattle.rio_requests.specs.Requests.{IsRequest};
+ghost use Rattle.rio_model.specs.RegionMoves.{RestHeld};
+ghost use Rattle.file_store.specs.Memos.{InStep};
 ghost use Rattle.file_store.specs.Views.{KeepsInode, OnRegion};
 ghost use Rattle.vista_region.specs.Ends.{Fits};
 ghost use Rattle.rio_core.specs.CallEnds.{CalledOn, IsAt, words_at};
 ghost use Rattle.rio_core.specs.Serving.{RequestEnds, Serves, TellsFault};
 
 use crate::replies::{BAD_REQUEST, begin_reply, fail_reply, get_reply, number_reply, txn_reply};
-use file_store::RegionView;
+use file_store::{Memo, RegionView};
 use rio_base::{Stopped, Volume};
 use rio_requests::{Reply, Request};
 use std::alloc::Global;
@@ -23,22 +25,25 @@ use vista_region::OpenTable;
 pub fn answer_region<V: Volume>(
     alloc: Global,
     view: &mut RegionView<V>,
+    memo: &mut Memo,
     table: &mut OpenTable,
     path: &[u8],
     request: &Request,
 ) -> Result<Reply, Stopped>
     requires sound { V.sound view.old.v }
     requires serves { (s : State) × Serves view.old.shape (V.seen view.old.v) (V.kept view.old.v) table.old s }
+    requires in_step { InStep view.old.shape (V.seen view.old.v).words memo.old }
     requires request { IsRequest request.now }
     requires path { IsPath path.now }
     requires at { IsAt path.now request.now }
     ensures answered { (s : State) → Serves view.old.shape (V.seen view.old.v) (V.kept view.old.v) table.old s → RequestEnds view.old.shape (V.seen view.new.v) (V.kept view.new.v) table.new s request.now result }
+    ensures in_step { InStep view.new.shape (V.seen view.new.v).words memo.new }
     ensures shape { view.new.shape ≡ view.old.shape }
     ensures goes { Goes (V.health view.old.v) (V.below view.old.v) (V.health view.new.v) (V.below view.new.v) }
     ensures ends { EndsBy (V.health view.old.v) (V.health view.new.v) (TellsFault result) (IsErr result) }
     ensures sound { V.sound view.new.v }
 {
-    match view.stand_at(path) {
+    match view.stand_at_with(memo, path) {
         Ok(_) => answer_at(alloc, view, table, request),
         Err(fail) => fail_reply(fail),
     }
@@ -58,6 +63,7 @@ fn answer_at<V: Volume>(
     requires request { IsRequest request.now }
     requires at { (path : List ℕ) × IsAt path request.now }
     ensures answered { (s : State) (path : List ℕ) (r : RegionNode) → CalledOn view.old.shape (V.seen view.old.v).words (V.seen view.old.v).words table.old s path view.old.ino.0 view.old.words r → IsAt path request.now → RequestEnds view.old.shape (V.seen view.new.v) (V.kept view.new.v) table.new s request.now result }
+    ensures rest { RestHeld view.old.shape view.old.ino.0 (V.seen view.old.v).words (V.seen view.new.v).words }
     ensures shape { view.new.shape ≡ view.old.shape }
     ensures goes { Goes (V.health view.old.v) (V.below view.old.v) (V.health view.new.v) (V.below view.new.v) }
     ensures ends { EndsBy (V.health view.old.v) (V.health view.new.v) (TellsFault result) (IsErr result) }

@@ -1,25 +1,29 @@
 //! The running core: a cache on a machine, and what is kept of the state that its blocks read as.
 
-ghost use Rattle.std.specs.Prelude.{◌≡◌, ◌+◌, ◌<◌, ◌≤◌, ◌^◌, [], ◌∷◌, ℕ, Some, Ok, IsErr, IfErr, IfOk, MatchOption, OnErr};
+ghost use Rattle.std.specs.Prelude.{◌≡◌, ◌+◌, ◌<◌, ◌≤◌, ◌^◌, [], ◌∷◌, ℕ, Some, Ok, IsErr, IfErr, IfOk, MatchOption, OnErr, OnOk};
 ghost use Rattle.rio_base.specs.Machine.{after_wild};
 ghost use Rattle.rio_base.specs.declared.wild.Wild.TheVariants.{Changed, Trapped};
-ghost use Rattle.rio_base.specs.Blocks.{EndsBy};
-ghost use Rattle.rio_base.specs.Volume.{Quiet, Runs};
+ghost use Rattle.rio_base.specs.Blocks.{EndsBy, Halts};
+ghost use Rattle.rio_base.specs.Volume.{Goes, Quiet, Runs};
 ghost use Rattle.rio_requests.specs.Requests.{IsRequest};
 ghost use Rattle.rio_requests.specs.declared.request.Request.TheVariants.{Arm, Flush, Sync, Txns, Wild};
 ghost use Rattle.rio_requests.specs.Went.{NoFlush, StoppedOn, Went};
 ghost use Rattle.rio_requests.specs.declared.reply.Reply.TheVariants.{Err as Refused, Ok as Done};
 ghost use Rattle.rio_model.specs.declared.state.State.{State};
+ghost use Rattle.rio_model.specs.Paths.{IsPath};
 ghost use Rattle.rio_requests.specs.Crash.{crashed};
+ghost use Rattle.rio_requests.specs.CrashFiles.{OnFiles};
 ghost use Rattle.file_store.specs.Ends.{Stands};
-ghost use Rattle.page_cache.specs.Caches.{Tells};
+ghost use Rattle.file_store.specs.Memos.{InStep};
+ghost use Rattle.page_cache.specs.Caches.{Tells, cache_seen};
 ghost use Rattle.write_back.specs.Flushing.{Flushed};
+ghost use Rattle.rio_core.specs.CallEnds.{IsAt};
 ghost use Rattle.rio_core.specs.Serving.{Answering, Holds, TellsFault};
 
-use crate::answering::answer_on;
+use crate::answering::answer_files;
 use crate::regions::answer_region;
 use crate::replies::txns_reply;
-use file_store::RegionView;
+use file_store::{Memo, RegionView};
 use page_cache::PageCache;
 use rio_base::{Blocks, Machine, Stopped, VolFail, Volume, VolumeShape, Wild as StoreEnd, WordAt};
 use rio_requests::{Reply, Request};
@@ -29,10 +33,13 @@ use vista_region::OpenTable;
 /// The number of the reply to a place that memory does not have.
 const OUT_OF_RANGE: u8 = 19;
 
-/// A cache that holds a state, seen through a view of one region's words at a time, and the table of the open transactions.
-pub struct Core<M> {
+/// A cache that holds a state, seen through a view of one region's words at a time, the table of the open transactions, and what is
+/// held in memory for quicker answers, which is always in step with the cache's blocks.
+pub struct Core<M: Machine> {
     view: RegionView<PageCache<M>>,
     table: OpenTable,
+    memo: Memo,
+    ghost in_step: { InStep view.shape (cache_seen (M.contents view.v.machine)).words memo },
 }
 
 impl<M: Machine> Core<M> {
@@ -51,7 +58,8 @@ impl<M: Machine> Core<M> {
         match OpenTable::new(alloc) {
             Ok(table) => {
                 let view = RegionView::over(cache, shape);
-                Ok(Core { view, table })
+                let memo = Memo::new(alloc);
+                Ok(Core { view, table, memo })
             }
             Err(error) => Err((cache, error)),
         }
@@ -63,7 +71,11 @@ impl<M: Machine> Core<M> {
         ensures machine { result ≡ self.view.v.machine }
         ensures tells { Tells (M.contents result) (M.run result) (⟦<PageCache<M> as Blocks>⟧.seen self.view.v) (⟦<PageCache<M> as Blocks>⟧.health self.view.v) (⟦<PageCache<M> as Volume>⟧.below self.view.v) (⟦<PageCache<M> as Volume>⟧.kept self.view.v) }
     {
-        let Core { view, table: _ } = self;
+        let Core {
+            view,
+            table: _,
+            memo: _,
+        } = self;
         view.into_volume().into_machine()
     }
 }
@@ -107,15 +119,7 @@ pub fn answer_one<M: Machine>(
         | Request::Alloc { path, .. }
         | Request::Free { path, .. }
         | Request::Commit { path }
-        | Request::Abort { path } => {
-            answer_region(
-                alloc,
-                &mut core.view,
-                &mut core.table,
-                path.as_slice(),
-                request,
-            )
-        }
+        | Request::Abort { path } => serve_region(alloc, core, path.as_slice(), request),
         Request::Mkdir { .. }
         | Request::Create { .. }
         | Request::Region { .. }
@@ -126,16 +130,78 @@ pub fn answer_one<M: Machine>(
         | Request::Rmdir { .. }
         | Request::Rename { .. }
         | Request::Stat { .. }
-        | Request::List { .. } => {
-            answer_on(
-                alloc,
-                &mut core.view.v,
-                &core.view.shape,
-                &core.table,
-                request,
-            )
-        }
+        | Request::List { .. } => serve_files(alloc, core, request),
     }
+}
+
+/// Answers a request on the region at a path, and on its transaction. It may fetch pages, so one may be written ahead first.
+fn serve_region<M: Machine>(
+    alloc: Global,
+    core: &mut Core<M>,
+    path: &[u8],
+    request: &Request,
+) -> Result<Reply, Stopped>
+    requires sound { ⟦<PageCache<M> as Blocks>⟧.sound core.old.view.v }
+    requires holds { (s : State) × Holds core.old.view.shape (⟦<PageCache<M> as Blocks>⟧.seen core.old.view.v) (⟦<PageCache<M> as Volume>⟧.kept core.old.view.v) (⟦<PageCache<M> as Blocks>⟧.health core.old.view.v) (⟦<PageCache<M> as Volume>⟧.below core.old.view.v) core.old.table s }
+    requires request { IsRequest request.now }
+    requires path { IsPath path.now }
+    requires at { IsAt path.now request.now }
+    ensures answered { (s : State) → Holds core.old.view.shape (⟦<PageCache<M> as Blocks>⟧.seen core.old.view.v) (⟦<PageCache<M> as Volume>⟧.kept core.old.view.v) (⟦<PageCache<M> as Blocks>⟧.health core.old.view.v) (⟦<PageCache<M> as Volume>⟧.below core.old.view.v) core.old.table s → Answering (Holds core.new.view.shape (⟦<PageCache<M> as Blocks>⟧.seen core.new.view.v) (⟦<PageCache<M> as Volume>⟧.kept core.new.view.v) (⟦<PageCache<M> as Blocks>⟧.health core.new.view.v) (⟦<PageCache<M> as Volume>⟧.below core.new.view.v) core.new.table) (λ t. Stands core.new.view.shape (⟦<PageCache<M> as Blocks>⟧.seen core.new.view.v) (⟦<PageCache<M> as Volume>⟧.kept core.new.view.v) (crashed t)) s request.now result }
+    ensures goes { Goes (⟦<PageCache<M> as Blocks>⟧.health core.old.view.v) (⟦<PageCache<M> as Volume>⟧.below core.old.view.v) (⟦<PageCache<M> as Blocks>⟧.health core.new.view.v) (⟦<PageCache<M> as Volume>⟧.below core.new.view.v) }
+    ensures ends { EndsBy (⟦<PageCache<M> as Blocks>⟧.health core.old.view.v) (⟦<PageCache<M> as Blocks>⟧.health core.new.view.v) (TellsFault result) (IsErr result) }
+    ensures sound { ⟦<PageCache<M> as Blocks>⟧.sound core.new.view.v }
+{
+    write_ahead(core)?;
+    answer_region(
+        alloc,
+        &mut core.view,
+        &mut core.memo,
+        &mut core.table,
+        path,
+        request,
+    )
+}
+
+/// Answers a request on files and directories. It may fetch pages, so one may be written ahead first.
+fn serve_files<M: Machine>(
+    alloc: Global,
+    core: &mut Core<M>,
+    request: &Request,
+) -> Result<Reply, Stopped>
+    requires sound { ⟦<PageCache<M> as Blocks>⟧.sound core.old.view.v }
+    requires holds { (s : State) × Holds core.old.view.shape (⟦<PageCache<M> as Blocks>⟧.seen core.old.view.v) (⟦<PageCache<M> as Volume>⟧.kept core.old.view.v) (⟦<PageCache<M> as Blocks>⟧.health core.old.view.v) (⟦<PageCache<M> as Volume>⟧.below core.old.view.v) core.old.table s }
+    requires request { IsRequest request.now }
+    requires files { OnFiles request.now }
+    ensures answered { (s : State) → Holds core.old.view.shape (⟦<PageCache<M> as Blocks>⟧.seen core.old.view.v) (⟦<PageCache<M> as Volume>⟧.kept core.old.view.v) (⟦<PageCache<M> as Blocks>⟧.health core.old.view.v) (⟦<PageCache<M> as Volume>⟧.below core.old.view.v) core.old.table s → Answering (Holds core.new.view.shape (⟦<PageCache<M> as Blocks>⟧.seen core.new.view.v) (⟦<PageCache<M> as Volume>⟧.kept core.new.view.v) (⟦<PageCache<M> as Blocks>⟧.health core.new.view.v) (⟦<PageCache<M> as Volume>⟧.below core.new.view.v) core.new.table) (λ t. Stands core.new.view.shape (⟦<PageCache<M> as Blocks>⟧.seen core.new.view.v) (⟦<PageCache<M> as Volume>⟧.kept core.new.view.v) (crashed t)) s request.now result }
+    ensures goes { Goes (⟦<PageCache<M> as Blocks>⟧.health core.old.view.v) (⟦<PageCache<M> as Volume>⟧.below core.old.view.v) (⟦<PageCache<M> as Blocks>⟧.health core.new.view.v) (⟦<PageCache<M> as Volume>⟧.below core.new.view.v) }
+    ensures ends { EndsBy (⟦<PageCache<M> as Blocks>⟧.health core.old.view.v) (⟦<PageCache<M> as Blocks>⟧.health core.new.view.v) (TellsFault result) (IsErr result) }
+    ensures sound { ⟦<PageCache<M> as Blocks>⟧.sound core.new.view.v }
+{
+    write_ahead(core)?;
+    answer_files(
+        alloc,
+        &mut core.view.v,
+        &core.view.shape,
+        &mut core.memo,
+        &core.table,
+        request,
+    )
+}
+
+/// May write one page that is to leave the cache soon, so that one sync serves many when they leave. A disk that refuses the page
+/// makes no reply of a fault.
+fn write_ahead<M: Machine>(core: &mut Core<M>) -> Result<(), Stopped>
+    requires sound { ⟦<PageCache<M> as Blocks>⟧.sound core.old.view.v }
+    requires holds { (s : State) × Holds core.old.view.shape (⟦<PageCache<M> as Blocks>⟧.seen core.old.view.v) (⟦<PageCache<M> as Volume>⟧.kept core.old.view.v) (⟦<PageCache<M> as Blocks>⟧.health core.old.view.v) (⟦<PageCache<M> as Volume>⟧.below core.old.view.v) core.old.table s }
+    ensures holds { (s : State) → Holds core.old.view.shape (⟦<PageCache<M> as Blocks>⟧.seen core.old.view.v) (⟦<PageCache<M> as Volume>⟧.kept core.old.view.v) (⟦<PageCache<M> as Blocks>⟧.health core.old.view.v) (⟦<PageCache<M> as Volume>⟧.below core.old.view.v) core.old.table s → OnOk result (Holds core.new.view.shape (⟦<PageCache<M> as Blocks>⟧.seen core.new.view.v) (⟦<PageCache<M> as Volume>⟧.kept core.new.view.v) (⟦<PageCache<M> as Blocks>⟧.health core.new.view.v) (⟦<PageCache<M> as Volume>⟧.below core.new.view.v) core.new.table s) }
+    ensures stands { (s : State) → Holds core.old.view.shape (⟦<PageCache<M> as Blocks>⟧.seen core.old.view.v) (⟦<PageCache<M> as Volume>⟧.kept core.old.view.v) (⟦<PageCache<M> as Blocks>⟧.health core.old.view.v) (⟦<PageCache<M> as Volume>⟧.below core.old.view.v) core.old.table s → OnErr result (Stands core.new.view.shape (⟦<PageCache<M> as Blocks>⟧.seen core.new.view.v) (⟦<PageCache<M> as Volume>⟧.kept core.new.view.v) (crashed s)) }
+    ensures shape { core.new.view.shape ≡ core.old.view.shape }
+    ensures table { core.new.table ≡ core.old.table }
+    ensures goes { Goes (⟦<PageCache<M> as Blocks>⟧.health core.old.view.v) (⟦<PageCache<M> as Volume>⟧.below core.old.view.v) (⟦<PageCache<M> as Blocks>⟧.health core.new.view.v) (⟦<PageCache<M> as Volume>⟧.below core.new.view.v) }
+    ensures ends { Halts (⟦<PageCache<M> as Blocks>⟧.health core.old.view.v) (⟦<PageCache<M> as Blocks>⟧.health core.new.view.v) result }
+    ensures sound { ⟦<PageCache<M> as Blocks>⟧.sound core.new.view.v }
+{
+    core.view.v.write_ahead()
 }
 
 /// Answers a flush: the first `count` dirty frames are clean afterwards, and nothing is pending.

@@ -7,148 +7,148 @@ use Rattle.file_store.specs.Ends.{FileEnds, SaysBytes, SaysCount, SaysDone, Says
 use Rattle.rio_core.specs.Serving.{RequestEnds}
 use Rattle.rio_core.proofs.FileRequests.{lacks_memory, none_other, request_ends}
 use Rattle.rio_core.proofs.Lookups.{rows_open}
-use Rattle.rio_core.proofs.ReplyEnds.{no_bytes, no_done, no_names, no_number, no_stat, reply_ends}
+use Rattle.rio_core.proofs.ReplyEnds.{not_stopped, no_bytes, no_done, no_names, no_number, no_stat, reply_ends}
 use Rattle.rio_core.proofs.Standing.{serves_can}
 use Rattle.rio_core.proofs.answering.answer_on.Goals as goal
 
-pub mkdir-requires-clause-can : goal.mkdir-requires-clause-can
-mkdir-requires-clause-can g c = serves_can c.args.shape.now (g.V.Blocks.seen c.args.v.now) (g.V.Volume.kept c.args.v.now) c.args.table.now c.requires.serves.0 c.requires.serves.1
+pub mkdir_with-requires-clause-can : goal.mkdir_with-requires-clause-can
+mkdir_with-requires-clause-can g c = serves_can c.args.shape.now (g.V.Blocks.seen c.args.v.now) (g.V.Volume.kept c.args.v.now) c.args.table.now c.requires.serves.0 c.requires.serves.1
 
-pub create-requires-clause-can : goal.create-requires-clause-can
-create-requires-clause-can g c = serves_can c.args.shape.now (g.V.Blocks.seen c.args.v.now) (g.V.Volume.kept c.args.v.now) c.args.table.now c.requires.serves.0 c.requires.serves.1
+pub create_with-requires-clause-can : goal.create_with-requires-clause-can
+create_with-requires-clause-can g c = serves_can c.args.shape.now (g.V.Blocks.seen c.args.v.now) (g.V.Volume.kept c.args.v.now) c.args.table.now c.requires.serves.0 c.requires.serves.1
 
-pub write-requires-clause-can : goal.write-requires-clause-can
-write-requires-clause-can g c = serves_can c.args.shape.now (g.V.Blocks.seen c.args.v.now) (g.V.Volume.kept c.args.v.now) c.args.table.now c.requires.serves.0 c.requires.serves.1
+pub write_with-requires-clause-can : goal.write_with-requires-clause-can
+write_with-requires-clause-can g c = serves_can c.args.shape.now (g.V.Blocks.seen c.args.v.now) (g.V.Volume.kept c.args.v.now) c.args.table.now c.requires.serves.0 c.requires.serves.1
 
-pub read-requires-clause-can : goal.read-requires-clause-can
-read-requires-clause-can g c = serves_can c.args.shape.now (g.V.Blocks.seen c.args.v.now) (g.V.Volume.kept c.args.v.now) c.args.table.now c.requires.serves.0 c.requires.serves.1
+pub read_with-requires-clause-can : goal.read_with-requires-clause-can
+read_with-requires-clause-can g c = serves_can c.args.shape.now (g.V.Blocks.seen c.args.v.now) (g.V.Volume.kept c.args.v.now) c.args.table.now c.requires.serves.0 c.requires.serves.1
 
-pub truncate-requires-clause-can : goal.truncate-requires-clause-can
-truncate-requires-clause-can g c = serves_can c.args.shape.now (g.V.Blocks.seen c.args.v.now) (g.V.Volume.kept c.args.v.now) c.args.table.now c.requires.serves.0 c.requires.serves.1
+pub truncate_with-requires-clause-can : goal.truncate_with-requires-clause-can
+truncate_with-requires-clause-can g c = serves_can c.args.shape.now (g.V.Blocks.seen c.args.v.now) (g.V.Volume.kept c.args.v.now) c.args.table.now c.requires.serves.0 c.requires.serves.1
 
-pub make_region-requires-clause-can : goal.make_region-requires-clause-can
-make_region-requires-clause-can g c = serves_can c.args.shape.now (g.V.Blocks.seen c.args.v.now) (g.V.Volume.kept c.args.v.now) c.args.table.now c.requires.serves.0 c.requires.serves.1
+pub make_region_with-requires-clause-can : goal.make_region_with-requires-clause-can
+make_region_with-requires-clause-can g c = serves_can c.args.shape.now (g.V.Blocks.seen c.args.v.now) (g.V.Volume.kept c.args.v.now) c.args.table.now c.requires.serves.0 c.requires.serves.1
 
-pub unlink-requires-clause-can : goal.unlink-requires-clause-can
-unlink-requires-clause-can g c = serves_can c.args.shape.now (g.V.Blocks.seen c.args.v.now) (g.V.Volume.kept c.args.v.now) c.args.table.now c.requires.serves.0 c.requires.serves.1
+pub unlink_with-requires-clause-can : goal.unlink_with-requires-clause-can
+unlink_with-requires-clause-can g c = serves_can c.args.shape.now (g.V.Blocks.seen c.args.v.now) (g.V.Volume.kept c.args.v.now) c.args.table.now c.requires.serves.0 c.requires.serves.1
 
-pub rmdir-requires-clause-can : goal.rmdir-requires-clause-can
-rmdir-requires-clause-can g c = serves_can c.args.shape.now (g.V.Blocks.seen c.args.v.now) (g.V.Volume.kept c.args.v.now) c.args.table.now c.requires.serves.0 c.requires.serves.1
+pub rmdir_with-requires-clause-can : goal.rmdir_with-requires-clause-can
+rmdir_with-requires-clause-can g c = serves_can c.args.shape.now (g.V.Blocks.seen c.args.v.now) (g.V.Volume.kept c.args.v.now) c.args.table.now c.requires.serves.0 c.requires.serves.1
 
-pub rename-requires-clause-can : goal.rename-requires-clause-can
-rename-requires-clause-can g c = serves_can c.args.shape.now (g.V.Blocks.seen c.args.v.now) (g.V.Volume.kept c.args.v.now) c.args.table.now c.requires.serves.0 c.requires.serves.1
+pub rename_with-requires-clause-can : goal.rename_with-requires-clause-can
+rename_with-requires-clause-can g c = serves_can c.args.shape.now (g.V.Blocks.seen c.args.v.now) (g.V.Volume.kept c.args.v.now) c.args.table.now c.requires.serves.0 c.requires.serves.1
 
-pub stat-requires-clause-can : goal.stat-requires-clause-can
-stat-requires-clause-can g c = serves_can c.args.shape.now (g.V.Blocks.seen c.args.v.now) (g.V.Volume.kept c.args.v.now) c.args.table.now c.requires.serves.0 c.requires.serves.1
+pub stat_with-requires-clause-can : goal.stat_with-requires-clause-can
+stat_with-requires-clause-can g c = serves_can c.args.shape.now (g.V.Blocks.seen c.args.v.now) (g.V.Volume.kept c.args.v.now) c.args.table.now c.requires.serves.0 c.requires.serves.1
 
-pub list-requires-clause-can : goal.list-requires-clause-can
-list-requires-clause-can g c = serves_can c.args.shape.now (g.V.Blocks.seen c.args.v.now) (g.V.Volume.kept c.args.v.now) c.args.table.now c.requires.serves.0 c.requires.serves.1
+pub list_with-requires-clause-can : goal.list_with-requires-clause-can
+list_with-requires-clause-can g c = serves_can c.args.shape.now (g.V.Blocks.seen c.args.v.now) (g.V.Volume.kept c.args.v.now) c.args.table.now c.requires.serves.0 c.requires.serves.1
 
 pub returns-in-Mkdir-clause-answered : goal.returns-in-Mkdir-clause-answered
 returns-in-Mkdir-clause-answered g c =
     let shape = c.args.shape.now in
     let x = g.V.Blocks.seen c.args.v.now in
     let k = g.V.Volume.kept c.args.v.now in
-    let y = g.V.Blocks.seen c.mkdir.new.v in
-    let j = g.V.Volume.kept c.mkdir.new.v in
+    let y = g.V.Blocks.seen c.mkdir_with.new.v in
+    let j = g.V.Volume.kept c.mkdir_with.new.v in
     let p = c.as_slice.result.now in
     let r = Mkdir p in
     let is : c.args.request.now ≡ r = c.in-Mkdir.is ∙ ap Mkdir (sym c.as_slice.ensures) in
-    λ s serves. subst (λ a. RequestEnds shape y j c.args.table.now s a c.ino_reply.result) (sym is) (request_ends SaysIno shape x k y j c.args.table.now s r c.mkdir.result c.ino_reply.result (λ v a b h i. h ∙ sym i) tt tt serves (c.mkdir.ensures.leaves (crashed s) serves.reads) c.ino_reply.ensures)
+    λ s serves. subst (λ a. RequestEnds shape y j c.args.table.now s a c.ino_reply.result) (sym is) (request_ends SaysIno shape x k y j c.args.table.now s r c.mkdir_with.result c.ino_reply.result (λ v a b h i. h ∙ sym i) tt tt serves (c.mkdir_with.ensures.leaves (crashed s) serves.reads) c.ino_reply.ensures)
 
 pub returns-in-Mkdir-clause-ends : goal.returns-in-Mkdir-clause-ends
-returns-in-Mkdir-clause-ends g c = reply_ends SaysIno _ _ c.mkdir.result c.ino_reply.result (λ v n h. no_number h) c.ino_reply.ensures c.mkdir.ensures.ends
+returns-in-Mkdir-clause-ends g c = reply_ends SaysIno _ _ c.mkdir_with.result c.ino_reply.result (λ v n h. no_number h) c.ino_reply.ensures c.mkdir_with.ensures.ends
 
 pub returns-in-Create-clause-answered : goal.returns-in-Create-clause-answered
 returns-in-Create-clause-answered g c =
     let shape = c.args.shape.now in
     let x = g.V.Blocks.seen c.args.v.now in
     let k = g.V.Volume.kept c.args.v.now in
-    let y = g.V.Blocks.seen c.create.new.v in
-    let j = g.V.Volume.kept c.create.new.v in
+    let y = g.V.Blocks.seen c.create_with.new.v in
+    let j = g.V.Volume.kept c.create_with.new.v in
     let p = c.as_slice-in-Create.result.now in
     let r = Create p in
     let is : c.args.request.now ≡ r = c.in-Create.is ∙ ap Create (sym c.as_slice-in-Create.ensures) in
-    λ s serves. subst (λ a. RequestEnds shape y j c.args.table.now s a c.ino_reply-in-Create.result) (sym is) (request_ends SaysIno shape x k y j c.args.table.now s r c.create.result c.ino_reply-in-Create.result (λ v a b h i. h ∙ sym i) tt tt serves (c.create.ensures.leaves (crashed s) serves.reads) c.ino_reply-in-Create.ensures)
+    λ s serves. subst (λ a. RequestEnds shape y j c.args.table.now s a c.ino_reply-in-Create.result) (sym is) (request_ends SaysIno shape x k y j c.args.table.now s r c.create_with.result c.ino_reply-in-Create.result (λ v a b h i. h ∙ sym i) tt tt serves (c.create_with.ensures.leaves (crashed s) serves.reads) c.ino_reply-in-Create.ensures)
 
 pub returns-in-Create-clause-ends : goal.returns-in-Create-clause-ends
-returns-in-Create-clause-ends g c = reply_ends SaysIno _ _ c.create.result c.ino_reply-in-Create.result (λ v n h. no_number h) c.ino_reply-in-Create.ensures c.create.ensures.ends
+returns-in-Create-clause-ends g c = reply_ends SaysIno _ _ c.create_with.result c.ino_reply-in-Create.result (λ v n h. no_number h) c.ino_reply-in-Create.ensures c.create_with.ensures.ends
 
 pub returns-in-Write-clause-answered : goal.returns-in-Write-clause-answered
 returns-in-Write-clause-answered g c =
     let shape = c.args.shape.now in
     let x = g.V.Blocks.seen c.args.v.now in
     let k = g.V.Volume.kept c.args.v.now in
-    let y = g.V.Blocks.seen c.write.new.v in
-    let j = g.V.Volume.kept c.write.new.v in
+    let y = g.V.Blocks.seen c.write_with.new.v in
+    let j = g.V.Volume.kept c.write_with.new.v in
     let p = c.as_slice-in-Write.result.now in
     let q = c.as_slice-in-Write-2.result.now in
     let r = Write p c.in-Write.off q in
     let is : c.args.request.now ≡ r = c.in-Write.is ∙ ap (λ a. Write a c.in-Write.off c.in-Write.bytes) (sym c.as_slice-in-Write.ensures) ∙ ap (Write p c.in-Write.off) (sym c.as_slice-in-Write-2.ensures) in
-    λ s serves. subst (λ a. RequestEnds shape y j c.args.table.now s a c.count_reply.result) (sym is) (request_ends SaysCount shape x k y j c.args.table.now s r c.write.result c.count_reply.result (λ v a b h i. h ∙ sym i) tt tt serves (c.write.ensures.leaves (crashed s) serves.reads) c.count_reply.ensures)
+    λ s serves. subst (λ a. RequestEnds shape y j c.args.table.now s a c.count_reply.result) (sym is) (request_ends SaysCount shape x k y j c.args.table.now s r c.write_with.result c.count_reply.result (λ v a b h i. h ∙ sym i) tt tt serves (c.write_with.ensures.leaves (crashed s) serves.reads) c.count_reply.ensures)
 
 pub returns-in-Write-clause-ends : goal.returns-in-Write-clause-ends
-returns-in-Write-clause-ends g c = reply_ends SaysCount _ _ c.write.result c.count_reply.result (λ v n h. no_number h) c.count_reply.ensures c.write.ensures.ends
+returns-in-Write-clause-ends g c = reply_ends SaysCount _ _ c.write_with.result c.count_reply.result (λ v n h. no_number h) c.count_reply.ensures c.write_with.ensures.ends
 
 pub returns-in-Read-clause-answered : goal.returns-in-Read-clause-answered
 returns-in-Read-clause-answered g c =
     let shape = c.args.shape.now in
     let x = g.V.Blocks.seen c.args.v.now in
     let k = g.V.Volume.kept c.args.v.now in
-    let y = g.V.Blocks.seen c.read.new.v in
-    let j = g.V.Volume.kept c.read.new.v in
+    let y = g.V.Blocks.seen c.read_with.new.v in
+    let j = g.V.Volume.kept c.read_with.new.v in
     let p = c.as_slice-in-Read.result.now in
     let r = Read p c.in-Read.off c.in-Read.len in
     let is : c.args.request.now ≡ r = c.in-Read.is ∙ ap (λ a. Read a c.in-Read.off c.in-Read.len) (sym c.as_slice-in-Read.ensures) in
-    λ s serves. subst (λ a. RequestEnds shape y j c.args.table.now s a c.bytes_reply.result) (sym is) (request_ends SaysBytes shape x k y j c.args.table.now s r c.read.result c.bytes_reply.result (λ v a b h i. h ∙ sym i) tt tt serves (c.read.ensures.leaves (crashed s) serves.reads) c.bytes_reply.ensures)
+    λ s serves. subst (λ a. RequestEnds shape y j c.args.table.now s a c.bytes_reply.result) (sym is) (request_ends SaysBytes shape x k y j c.args.table.now s r c.read_with.result c.bytes_reply.result (λ v a b h i. h ∙ sym i) tt tt serves (c.read_with.ensures.leaves (crashed s) serves.reads) c.bytes_reply.ensures)
 
 pub returns-in-Read-clause-ends : goal.returns-in-Read-clause-ends
-returns-in-Read-clause-ends g c = reply_ends SaysBytes _ _ c.read.result c.bytes_reply.result (λ v n h. no_bytes h) c.bytes_reply.ensures c.read.ensures.ends
+returns-in-Read-clause-ends g c = reply_ends SaysBytes _ _ c.read_with.result c.bytes_reply.result (λ v n h. no_bytes h) c.bytes_reply.ensures c.read_with.ensures.ends
 
 pub returns-in-Truncate-clause-answered : goal.returns-in-Truncate-clause-answered
 returns-in-Truncate-clause-answered g c =
     let shape = c.args.shape.now in
     let x = g.V.Blocks.seen c.args.v.now in
     let k = g.V.Volume.kept c.args.v.now in
-    let y = g.V.Blocks.seen c.truncate.new.v in
-    let j = g.V.Volume.kept c.truncate.new.v in
+    let y = g.V.Blocks.seen c.truncate_with.new.v in
+    let j = g.V.Volume.kept c.truncate_with.new.v in
     let p = c.as_slice-in-Truncate.result.now in
     let r = Truncate p c.in-Truncate.len in
     let is : c.args.request.now ≡ r = c.in-Truncate.is ∙ ap (λ a. Truncate a c.in-Truncate.len) (sym c.as_slice-in-Truncate.ensures) in
-    λ s serves. subst (λ a. RequestEnds shape y j c.args.table.now s a c.done_reply.result) (sym is) (request_ends {T = Unit {0}} SaysDone shape x k y j c.args.table.now s r c.truncate.result c.done_reply.result (λ v a b h i. h ∙ sym i) tt tt serves (c.truncate.ensures.leaves (crashed s) serves.reads) c.done_reply.ensures)
+    λ s serves. subst (λ a. RequestEnds shape y j c.args.table.now s a c.done_reply.result) (sym is) (request_ends {T = Unit {0}} SaysDone shape x k y j c.args.table.now s r c.truncate_with.result c.done_reply.result (λ v a b h i. h ∙ sym i) tt tt serves (c.truncate_with.ensures.leaves (crashed s) serves.reads) c.done_reply.ensures)
 
 pub returns-in-Truncate-clause-ends : goal.returns-in-Truncate-clause-ends
-returns-in-Truncate-clause-ends g c = reply_ends {T = Unit {0}} SaysDone _ _ c.truncate.result c.done_reply.result (λ v n h. no_done h) c.done_reply.ensures c.truncate.ensures.ends
+returns-in-Truncate-clause-ends g c = reply_ends {T = Unit {0}} SaysDone _ _ c.truncate_with.result c.done_reply.result (λ v n h. no_done h) c.done_reply.ensures c.truncate_with.ensures.ends
 
 pub returns-in-Region-clause-answered : goal.returns-in-Region-clause-answered
 returns-in-Region-clause-answered g c =
     let shape = c.args.shape.now in
     let x = g.V.Blocks.seen c.args.v.now in
     let k = g.V.Volume.kept c.args.v.now in
-    let y = g.V.Blocks.seen c.make_region.new.v in
-    let j = g.V.Volume.kept c.make_region.new.v in
+    let y = g.V.Blocks.seen c.make_region_with.new.v in
+    let j = g.V.Volume.kept c.make_region_with.new.v in
     let p = c.as_slice-in-Region.result.now in
     let r = MakeRegion p c.in-Region.data_pages c.in-Region.undo_pages in
     let is : c.args.request.now ≡ r = c.in-Region.is ∙ ap (λ a. MakeRegion a c.in-Region.data_pages c.in-Region.undo_pages) (sym c.as_slice-in-Region.ensures) in
-    λ s serves. subst (λ a. RequestEnds shape y j c.args.table.now s a c.ino_reply-in-Region.result) (sym is) (request_ends SaysIno shape x k y j c.args.table.now s r c.make_region.result c.ino_reply-in-Region.result (λ v a b h i. h ∙ sym i) tt tt serves (c.make_region.ensures.leaves (crashed s) serves.reads) c.ino_reply-in-Region.ensures)
+    λ s serves. subst (λ a. RequestEnds shape y j c.args.table.now s a c.ino_reply-in-Region.result) (sym is) (request_ends SaysIno shape x k y j c.args.table.now s r c.make_region_with.result c.ino_reply-in-Region.result (λ v a b h i. h ∙ sym i) tt tt serves (c.make_region_with.ensures.leaves (crashed s) serves.reads) c.ino_reply-in-Region.ensures)
 
 pub returns-in-Region-clause-ends : goal.returns-in-Region-clause-ends
-returns-in-Region-clause-ends g c = reply_ends SaysIno _ _ c.make_region.result c.ino_reply-in-Region.result (λ v n h. no_number h) c.ino_reply-in-Region.ensures c.make_region.ensures.ends
+returns-in-Region-clause-ends g c = reply_ends SaysIno _ _ c.make_region_with.result c.ino_reply-in-Region.result (λ v n h. no_number h) c.ino_reply-in-Region.ensures c.make_region_with.ensures.ends
 
 pub returns-in-Ok-clause-answered : goal.returns-in-Ok-clause-answered
 returns-in-Ok-clause-answered g c =
     let shape = c.args.shape.now in
     let x = g.V.Blocks.seen c.args.v.now in
     let k = g.V.Volume.kept c.args.v.now in
-    let y = g.V.Blocks.seen c.unlink.new.v in
-    let j = g.V.Volume.kept c.unlink.new.v in
+    let y = g.V.Blocks.seen c.unlink_with.new.v in
+    let j = g.V.Volume.kept c.unlink_with.new.v in
     let p = c.as_slice-in-Ok.result.now in
     let r = Unlink p in
     let is : c.args.request.now ≡ r = c.in-Unlink.is ∙ ap Unlink (sym c.as_slice-in-Ok.ensures) in
-    λ s serves. subst (λ a. RequestEnds shape y j c.args.table.now s a c.done_reply-in-Ok.result) (sym is) (request_ends {T = Unit {0}} SaysDone shape x k y j c.args.table.now s r c.unlink.result c.done_reply-in-Ok.result (λ v a b h i. h ∙ sym i) tt tt serves (subst (λ busy. FileEnds {T = Unit {0}} SaysDone shape x k y j (crashed s) (unlink (crashed s) p busy) (NoneDone (crashed s)) c.unlink.result) (c.in-Ok.ensures ∙ rows_open c.args.table.now s serves.regions.marked) (c.unlink.ensures.leaves (crashed s) serves.reads)) c.done_reply-in-Ok.ensures)
+    λ s serves. subst (λ a. RequestEnds shape y j c.args.table.now s a c.done_reply-in-Ok.result) (sym is) (request_ends {T = Unit {0}} SaysDone shape x k y j c.args.table.now s r c.unlink_with.result c.done_reply-in-Ok.result (λ v a b h i. h ∙ sym i) tt tt serves (subst (λ busy. FileEnds {T = Unit {0}} SaysDone shape x k y j (crashed s) (unlink (crashed s) p busy) (NoneDone (crashed s)) c.unlink_with.result) (c.in-Ok.ensures ∙ rows_open c.args.table.now s serves.regions.marked) (c.unlink_with.ensures.leaves (crashed s) serves.reads)) c.done_reply-in-Ok.ensures)
 
 pub returns-in-Ok-clause-ends : goal.returns-in-Ok-clause-ends
-returns-in-Ok-clause-ends g c = reply_ends {T = Unit {0}} SaysDone _ _ c.unlink.result c.done_reply-in-Ok.result (λ v n h. no_done h) c.done_reply-in-Ok.ensures c.unlink.ensures.ends
+returns-in-Ok-clause-ends g c = reply_ends {T = Unit {0}} SaysDone _ _ c.unlink_with.result c.done_reply-in-Ok.result (λ v n h. no_done h) c.done_reply-in-Ok.ensures c.unlink_with.ensures.ends
 
 pub returns-in-Err-clause-answered : goal.returns-in-Err-clause-answered
 returns-in-Err-clause-answered g c =
@@ -162,31 +162,31 @@ returns-in-Rmdir-clause-answered g c =
     let shape = c.args.shape.now in
     let x = g.V.Blocks.seen c.args.v.now in
     let k = g.V.Volume.kept c.args.v.now in
-    let y = g.V.Blocks.seen c.rmdir.new.v in
-    let j = g.V.Volume.kept c.rmdir.new.v in
+    let y = g.V.Blocks.seen c.rmdir_with.new.v in
+    let j = g.V.Volume.kept c.rmdir_with.new.v in
     let p = c.as_slice-in-Rmdir.result.now in
     let r = Rmdir p in
     let is : c.args.request.now ≡ r = c.in-Rmdir.is ∙ ap Rmdir (sym c.as_slice-in-Rmdir.ensures) in
-    λ s serves. subst (λ a. RequestEnds shape y j c.args.table.now s a c.done_reply-in-Rmdir.result) (sym is) (request_ends {T = Unit {0}} SaysDone shape x k y j c.args.table.now s r c.rmdir.result c.done_reply-in-Rmdir.result (λ v a b h i. h ∙ sym i) tt tt serves (c.rmdir.ensures.leaves (crashed s) serves.reads) c.done_reply-in-Rmdir.ensures)
+    λ s serves. subst (λ a. RequestEnds shape y j c.args.table.now s a c.done_reply-in-Rmdir.result) (sym is) (request_ends {T = Unit {0}} SaysDone shape x k y j c.args.table.now s r c.rmdir_with.result c.done_reply-in-Rmdir.result (λ v a b h i. h ∙ sym i) tt tt serves (c.rmdir_with.ensures.leaves (crashed s) serves.reads) c.done_reply-in-Rmdir.ensures)
 
 pub returns-in-Rmdir-clause-ends : goal.returns-in-Rmdir-clause-ends
-returns-in-Rmdir-clause-ends g c = reply_ends {T = Unit {0}} SaysDone _ _ c.rmdir.result c.done_reply-in-Rmdir.result (λ v n h. no_done h) c.done_reply-in-Rmdir.ensures c.rmdir.ensures.ends
+returns-in-Rmdir-clause-ends g c = reply_ends {T = Unit {0}} SaysDone _ _ c.rmdir_with.result c.done_reply-in-Rmdir.result (λ v n h. no_done h) c.done_reply-in-Rmdir.ensures c.rmdir_with.ensures.ends
 
 pub returns-in-Ok-open_list-clause-answered : goal.returns-in-Ok-open_list-clause-answered
 returns-in-Ok-open_list-clause-answered g c =
     let shape = c.args.shape.now in
     let x = g.V.Blocks.seen c.args.v.now in
     let k = g.V.Volume.kept c.args.v.now in
-    let y = g.V.Blocks.seen c.rename.new.v in
-    let j = g.V.Volume.kept c.rename.new.v in
+    let y = g.V.Blocks.seen c.rename_with.new.v in
+    let j = g.V.Volume.kept c.rename_with.new.v in
     let p = c.as_slice-in-Ok-open_list.result.now in
     let q = c.as_slice-in-Ok-open_list-2.result.now in
     let r = Rename p q in
     let is : c.args.request.now ≡ r = c.in-Rename.is ∙ ap (λ a. Rename a c.in-Rename.to) (sym c.as_slice-in-Ok-open_list.ensures) ∙ ap (Rename p) (sym c.as_slice-in-Ok-open_list-2.ensures) in
-    λ s serves. subst (λ a. RequestEnds shape y j c.args.table.now s a c.done_reply-in-Ok-open_list.result) (sym is) (request_ends {T = Unit {0}} SaysDone shape x k y j c.args.table.now s r c.rename.result c.done_reply-in-Ok-open_list.result (λ v a b h i. h ∙ sym i) tt tt serves (subst (λ busy. FileEnds {T = Unit {0}} SaysDone shape x k y j (crashed s) (rename (crashed s) p q busy) (NoneDone (crashed s)) c.rename.result) (c.in-Ok-open_list.ensures ∙ rows_open c.args.table.now s serves.regions.marked) (c.rename.ensures.leaves (crashed s) serves.reads)) c.done_reply-in-Ok-open_list.ensures)
+    λ s serves. subst (λ a. RequestEnds shape y j c.args.table.now s a c.done_reply-in-Ok-open_list.result) (sym is) (request_ends {T = Unit {0}} SaysDone shape x k y j c.args.table.now s r c.rename_with.result c.done_reply-in-Ok-open_list.result (λ v a b h i. h ∙ sym i) tt tt serves (subst (λ busy. FileEnds {T = Unit {0}} SaysDone shape x k y j (crashed s) (rename (crashed s) p q busy) (NoneDone (crashed s)) c.rename_with.result) (c.in-Ok-open_list.ensures ∙ rows_open c.args.table.now s serves.regions.marked) (c.rename_with.ensures.leaves (crashed s) serves.reads)) c.done_reply-in-Ok-open_list.ensures)
 
 pub returns-in-Ok-open_list-clause-ends : goal.returns-in-Ok-open_list-clause-ends
-returns-in-Ok-open_list-clause-ends g c = reply_ends {T = Unit {0}} SaysDone _ _ c.rename.result c.done_reply-in-Ok-open_list.result (λ v n h. no_done h) c.done_reply-in-Ok-open_list.ensures c.rename.ensures.ends
+returns-in-Ok-open_list-clause-ends g c = reply_ends {T = Unit {0}} SaysDone _ _ c.rename_with.result c.done_reply-in-Ok-open_list.result (λ v n h. no_done h) c.done_reply-in-Ok-open_list.ensures c.rename_with.ensures.ends
 
 pub returns-in-Err-open_list-clause-answered : goal.returns-in-Err-open_list-clause-answered
 returns-in-Err-open_list-clause-answered g c =
@@ -200,32 +200,65 @@ returns-in-Stat-clause-answered g c =
     let shape = c.args.shape.now in
     let x = g.V.Blocks.seen c.args.v.now in
     let k = g.V.Volume.kept c.args.v.now in
-    let y = g.V.Blocks.seen c.stat.new.v in
-    let j = g.V.Volume.kept c.stat.new.v in
+    let y = g.V.Blocks.seen c.stat_with.new.v in
+    let j = g.V.Volume.kept c.stat_with.new.v in
     let p = c.as_slice-in-Stat.result.now in
     let r = StatOf p in
     let is : c.args.request.now ≡ r = c.in-Stat.is ∙ ap StatOf (sym c.as_slice-in-Stat.ensures) in
-    λ s serves. subst (λ a. RequestEnds shape y j c.args.table.now s a c.stat_reply.result) (sym is) (request_ends SaysStat shape x k y j c.args.table.now s r c.stat.result c.stat_reply.result (λ v a b h i. h ∙ sym i) tt tt serves (c.stat.ensures.leaves (crashed s) serves.reads) c.stat_reply.ensures)
+    λ s serves. subst (λ a. RequestEnds shape y j c.args.table.now s a c.stat_reply.result) (sym is) (request_ends SaysStat shape x k y j c.args.table.now s r c.stat_with.result c.stat_reply.result (λ v a b h i. h ∙ sym i) tt tt serves (c.stat_with.ensures.leaves (crashed s) serves.reads) c.stat_reply.ensures)
 
 pub returns-in-Stat-clause-ends : goal.returns-in-Stat-clause-ends
-returns-in-Stat-clause-ends g c = reply_ends SaysStat _ _ c.stat.result c.stat_reply.result (λ v n h. no_stat h) c.stat_reply.ensures c.stat.ensures.ends
+returns-in-Stat-clause-ends g c = reply_ends SaysStat _ _ c.stat_with.result c.stat_reply.result (λ v n h. no_stat h) c.stat_reply.ensures c.stat_with.ensures.ends
 
 pub returns-in-List-clause-answered : goal.returns-in-List-clause-answered
 returns-in-List-clause-answered g c =
     let shape = c.args.shape.now in
     let x = g.V.Blocks.seen c.args.v.now in
     let k = g.V.Volume.kept c.args.v.now in
-    let y = g.V.Blocks.seen c.list.new.v in
-    let j = g.V.Volume.kept c.list.new.v in
+    let y = g.V.Blocks.seen c.list_with.new.v in
+    let j = g.V.Volume.kept c.list_with.new.v in
     let p = c.as_slice-in-List.result.now in
     let r = ListOf p in
     let is : c.args.request.now ≡ r = c.in-List.is ∙ ap ListOf (sym c.as_slice-in-List.ensures) in
-    λ s serves. subst (λ a. RequestEnds shape y j c.args.table.now s a c.names_reply.result) (sym is) (request_ends SaysNames shape x k y j c.args.table.now s r c.list.result c.names_reply.result (λ v a b h i. h ∙ sym i) tt tt serves (c.list.ensures.leaves (crashed s) serves.reads) c.names_reply.ensures)
+    λ s serves. subst (λ a. RequestEnds shape y j c.args.table.now s a c.names_reply.result) (sym is) (request_ends SaysNames shape x k y j c.args.table.now s r c.list_with.result c.names_reply.result (λ v a b h i. h ∙ sym i) tt tt serves (c.list_with.ensures.leaves (crashed s) serves.reads) c.names_reply.ensures)
 
 pub returns-in-List-clause-ends : goal.returns-in-List-clause-ends
-returns-in-List-clause-ends g c = reply_ends SaysNames _ _ c.list.result c.names_reply.result (λ v n h. no_names h) c.names_reply.ensures c.list.ensures.ends
+returns-in-List-clause-ends g c = reply_ends SaysNames _ _ c.list_with.result c.names_reply.result (λ v n h. no_names h) c.names_reply.ensures c.list_with.ensures.ends
 
 pub returns-in_default : goal.returns-in_default
 returns-in_default g c =
     let d = c.in_default in
     absurd (none_other c.args.request.now (record { mkdir = d.not-Mkdir; create = d.not-Create; region = d.not-Region; write = d.not-Write; read = d.not-Read; truncate = d.not-Truncate; unlink = d.not-Unlink; rmdir = d.not-Rmdir; rename = d.not-Rename; stat = d.not-Stat; list = d.not-List }) c.requires.files)
+
+pub returns-in-Mkdir-clause-in_step : goal.returns-in-Mkdir-clause-in_step
+returns-in-Mkdir-clause-in_step g c = λ on. c.mkdir_with.ensures.in_step (not_stopped SaysIno c.mkdir_with.result c.ino_reply.result c.ino_reply.ensures on)
+
+pub returns-in-Create-clause-in_step : goal.returns-in-Create-clause-in_step
+returns-in-Create-clause-in_step g c = λ on. c.create_with.ensures.in_step (not_stopped SaysIno c.create_with.result c.ino_reply-in-Create.result c.ino_reply-in-Create.ensures on)
+
+pub returns-in-Write-clause-in_step : goal.returns-in-Write-clause-in_step
+returns-in-Write-clause-in_step g c = λ on. c.write_with.ensures.in_step (not_stopped SaysCount c.write_with.result c.count_reply.result c.count_reply.ensures on)
+
+pub returns-in-Read-clause-in_step : goal.returns-in-Read-clause-in_step
+returns-in-Read-clause-in_step g c = λ on. c.read_with.ensures.in_step (not_stopped SaysBytes c.read_with.result c.bytes_reply.result c.bytes_reply.ensures on)
+
+pub returns-in-Truncate-clause-in_step : goal.returns-in-Truncate-clause-in_step
+returns-in-Truncate-clause-in_step g c = λ on. c.truncate_with.ensures.in_step (not_stopped {T = Unit {0}} SaysDone c.truncate_with.result c.done_reply.result c.done_reply.ensures on)
+
+pub returns-in-Region-clause-in_step : goal.returns-in-Region-clause-in_step
+returns-in-Region-clause-in_step g c = λ on. c.make_region_with.ensures.in_step (not_stopped SaysIno c.make_region_with.result c.ino_reply-in-Region.result c.ino_reply-in-Region.ensures on)
+
+pub returns-in-Ok-clause-in_step : goal.returns-in-Ok-clause-in_step
+returns-in-Ok-clause-in_step g c = λ on. c.unlink_with.ensures.in_step (not_stopped {T = Unit {0}} SaysDone c.unlink_with.result c.done_reply-in-Ok.result c.done_reply-in-Ok.ensures on)
+
+pub returns-in-Rmdir-clause-in_step : goal.returns-in-Rmdir-clause-in_step
+returns-in-Rmdir-clause-in_step g c = λ on. c.rmdir_with.ensures.in_step (not_stopped {T = Unit {0}} SaysDone c.rmdir_with.result c.done_reply-in-Rmdir.result c.done_reply-in-Rmdir.ensures on)
+
+pub returns-in-Ok-open_list-clause-in_step : goal.returns-in-Ok-open_list-clause-in_step
+returns-in-Ok-open_list-clause-in_step g c = λ on. c.rename_with.ensures.in_step (not_stopped {T = Unit {0}} SaysDone c.rename_with.result c.done_reply-in-Ok-open_list.result c.done_reply-in-Ok-open_list.ensures on)
+
+pub returns-in-Stat-clause-in_step : goal.returns-in-Stat-clause-in_step
+returns-in-Stat-clause-in_step g c = λ on. c.stat_with.ensures.in_step (not_stopped SaysStat c.stat_with.result c.stat_reply.result c.stat_reply.ensures on)
+
+pub returns-in-List-clause-in_step : goal.returns-in-List-clause-in_step
+returns-in-List-clause-in_step g c = λ on. c.list_with.ensures.in_step (not_stopped SaysNames c.list_with.result c.names_reply.result c.names_reply.ensures on)

@@ -1,6 +1,7 @@
 use Rattle.rio_core.proofs.Common.{◌≡◌, ◌∙◌, Ok, sym, ap, subst, IsErr, IsErrOf, Begin, Range, Put, Get, Alloc, Free, Commit, Abort, IsFault, Stopped}
 use Rattle.rio_base.proofs.Rules.{ends_by_as}
 use Rattle.vista_region.specs.declared.failures.GetFail.TheVariants.{Fault as GetFault, Stopped as GetStopped}
+use Rattle.rio_model.specs.RegionMoves.{rest_refl}
 use Rattle.rio_core.specs.CallEnds.{IsAt}
 use Rattle.rio_core.specs.Serving.{RequestEnds, TellsFault}
 use Rattle.rio_core.proofs.Lookups.{none_region}
@@ -117,3 +118,27 @@ pub returns-in_default : goal.returns-in_default
 returns-in_default g c =
     let d = c.in_default in
     absurd (none_region c.requires.at.0 c.args.request.now (record { begin = d.not-Begin; range = d.not-Range; put = d.not-Put; get = d.not-Get; alloc = d.not-Alloc; free = d.not-Free; commit = d.not-Commit; abort = d.not-Abort }) c.requires.at.1)
+
+pub returns-in-Range-clause-rest : goal.returns-in-Range-clause-rest
+returns-in-Range-clause-rest g c = c.set_range.ensures.stays.rest.rest
+
+pub returns-in-Put-clause-rest : goal.returns-in-Put-clause-rest
+returns-in-Put-clause-rest g c = c.put.ensures.stays.rest.rest
+
+pub returns-in-Get-clause-rest : goal.returns-in-Get-clause-rest
+returns-in-Get-clause-rest g c = c.get.ensures.stays.rest.rest
+
+pub returns-in-Alloc-clause-rest : goal.returns-in-Alloc-clause-rest
+returns-in-Alloc-clause-rest g c = c.allocate.ensures.stays.rest.rest
+
+pub returns-in-Free-clause-rest : goal.returns-in-Free-clause-rest
+returns-in-Free-clause-rest g c = c.release.ensures.stays.rest.rest
+
+pub returns-in-Commit-clause-rest : goal.returns-in-Commit-clause-rest
+returns-in-Commit-clause-rest g c = c.commit.ensures.stays.rest.rest
+
+pub returns-in-Abort-clause-rest : goal.returns-in-Abort-clause-rest
+returns-in-Abort-clause-rest g c = c.abort.ensures.stays.rest.rest
+
+pub returns-in-Begin-clause-rest : goal.returns-in-Begin-clause-rest
+returns-in-Begin-clause-rest g c = rest_refl _ _ _

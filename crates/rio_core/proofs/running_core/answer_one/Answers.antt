@@ -1,9 +1,12 @@
-use Rattle.rio_core.proofs.Common.{Ok, sym, subst, refl, crashed, Stands}
+use Rattle.rio_core.proofs.Common.{Ok, refl, sym, subst, crashed, Stands}
+use Rattle.std.proofs.Common.{le_refl}
+use Rattle.rio_base.specs.Rules.{true_false}
+use Rattle.rio_base.proofs.Rules.{ends_by_well}
 use Rattle.rio_requests.specs.declared.reply.Reply.TheVariants.{Ok as Done}
 use Rattle.page_cache.specs.Caches.{cache_below, cache_health, cache_kept, cache_seen}
-use Rattle.rio_core.specs.Serving.{Answering, Holds}
-use Rattle.rio_core.proofs.Served.{answering, synced, txns_told}
-use Rattle.rio_core.proofs.WentBy.{file_forms, region_forms, stopped_on, went_on, went_sync, went_txns}
+use Rattle.rio_core.specs.Serving.{Answering, Holds, TellsFault}
+use Rattle.rio_core.proofs.Served.{synced, txns_told}
+use Rattle.rio_core.proofs.WentBy.{file_forms, file_kept, region_forms, stopped_on, txns_no_fault, went_on, went_sync, went_txns}
 use Rattle.rio_requests.specs.Went.{MakesSteps, NoFlush}
 use Rattle.rio_core.proofs.running_core.answer_one.Goals as goal
 
@@ -28,40 +31,6 @@ returns-in-Txns-clause-answered g c =
     let h = cache_health (g.M.Machine.contents m) (g.M.Machine.run m) in
     let b = cache_below (g.M.Machine.contents m) (g.M.Machine.run m) in
     λ s holds. subst (λ r. Answering (Holds shape x k h b marks) (λ u. Stands shape x k (crashed u)) s r (Ok c.txns_reply.result)) (sym c.in-Txns.is) (txns_told shape x k h b marks s c.open_list.result c.txns_reply.result holds c.open_list.ensures c.txns_reply.ensures)
-
-pub returns-in-Begin-clause-answered : goal.returns-in-Begin-clause-answered
-returns-in-Begin-clause-answered g c =
-    let shape = c.args.core.now.view.shape in
-    let m = c.args.core.now.view.v.machine in
-    let n = c.answer_region.new.view.v.machine in
-    let marks = c.args.core.now.table in
-    let x = cache_seen (g.M.Machine.contents m) in
-    let k = cache_kept (g.M.Machine.contents m) c.args.core.now.view.v.tables in
-    let h = cache_health (g.M.Machine.contents m) (g.M.Machine.run m) in
-    let b = cache_below (g.M.Machine.contents m) (g.M.Machine.run m) in
-    let y = cache_seen (g.M.Machine.contents n) in
-    let j = cache_kept (g.M.Machine.contents n) c.answer_region.new.view.v.tables in
-    let e = cache_health (g.M.Machine.contents n) (g.M.Machine.run n) in
-    let d = cache_below (g.M.Machine.contents n) (g.M.Machine.run n) in
-    let call = c.answer_region.ensures in
-    λ s holds. answering shape x k h b marks c.answer_region.new.view.shape y j e d c.answer_region.new.table s c.args.request.now c.answer_region.result call.shape holds (call.answered s holds.serves) call.goes call.ends
-
-pub returns-in-Mkdir-clause-answered : goal.returns-in-Mkdir-clause-answered
-returns-in-Mkdir-clause-answered g c =
-    let shape = c.args.core.now.view.shape in
-    let m = c.args.core.now.view.v.machine in
-    let n = c.answer_on.new.v.machine in
-    let marks = c.args.core.now.table in
-    let x = cache_seen (g.M.Machine.contents m) in
-    let k = cache_kept (g.M.Machine.contents m) c.args.core.now.view.v.tables in
-    let h = cache_health (g.M.Machine.contents m) (g.M.Machine.run m) in
-    let b = cache_below (g.M.Machine.contents m) (g.M.Machine.run m) in
-    let y = cache_seen (g.M.Machine.contents n) in
-    let j = cache_kept (g.M.Machine.contents n) c.answer_on.new.v.tables in
-    let e = cache_health (g.M.Machine.contents n) (g.M.Machine.run n) in
-    let d = cache_below (g.M.Machine.contents n) (g.M.Machine.run n) in
-    let call = c.answer_on.ensures in
-    λ s holds. answering shape x k h b marks shape y j e d marks s c.args.request.now c.answer_on.result refl holds (call.answered s holds.serves) call.goes call.ends
 
 pub returns-in-Flush-clause-answered : goal.returns-in-Flush-clause-answered
 returns-in-Flush-clause-answered g c =
@@ -91,44 +60,44 @@ returns-in-Begin-clause-went g c =
     let m = c.args.core.now.view.v.machine in
     let h = cache_health (g.M.Machine.contents m) (g.M.Machine.run m) in
     let b = cache_below (g.M.Machine.contents m) (g.M.Machine.run m) in
-    let n = c.answer_region.new.view.v.machine in
+    let n = c.serve_region.new.core.view.v.machine in
     let e = cache_health (g.M.Machine.contents n) (g.M.Machine.run n) in
     let d = cache_below (g.M.Machine.contents n) (g.M.Machine.run n) in
-    let call = c.answer_region.ensures in
-    went_on c.args.request.now c.answer_region.result h b e d (region_forms c.in-Begin.path c.args.request.now c.in-Begin.is) call.goes.runs (λ none. call.goes.quiet) call.ends
+    let call = c.serve_region.ensures in
+    went_on c.args.request.now c.serve_region.result h b e d (region_forms c.in-Begin.path c.args.request.now c.in-Begin.is) call.goes.runs (λ none. call.goes.quiet) call.ends
 
 pub returns-in-Begin-clause-stopped_on : goal.returns-in-Begin-clause-stopped_on
 returns-in-Begin-clause-stopped_on g c =
     let m = c.args.core.now.view.v.machine in
     let h = cache_health (g.M.Machine.contents m) (g.M.Machine.run m) in
     let b = cache_below (g.M.Machine.contents m) (g.M.Machine.run m) in
-    let n = c.answer_region.new.view.v.machine in
+    let n = c.serve_region.new.core.view.v.machine in
     let e = cache_health (g.M.Machine.contents n) (g.M.Machine.run n) in
     let d = cache_below (g.M.Machine.contents n) (g.M.Machine.run n) in
-    let call = c.answer_region.ensures in
-    stopped_on c.args.request.now c.answer_region.result h b e d (region_forms c.in-Begin.path c.args.request.now c.in-Begin.is) c.requires.holds.1.running call.goes.runs (λ none. call.goes.quiet) call.ends
+    let call = c.serve_region.ensures in
+    stopped_on c.args.request.now c.serve_region.result h b e d (region_forms c.in-Begin.path c.args.request.now c.in-Begin.is) c.requires.holds.1.running call.goes.runs (λ none. call.goes.quiet) call.ends
 
 pub returns-in-Mkdir-clause-went : goal.returns-in-Mkdir-clause-went
 returns-in-Mkdir-clause-went g c =
     let m = c.args.core.now.view.v.machine in
     let h = cache_health (g.M.Machine.contents m) (g.M.Machine.run m) in
     let b = cache_below (g.M.Machine.contents m) (g.M.Machine.run m) in
-    let n = c.answer_on.new.v.machine in
+    let n = c.serve_files.new.core.view.v.machine in
     let e = cache_health (g.M.Machine.contents n) (g.M.Machine.run n) in
     let d = cache_below (g.M.Machine.contents n) (g.M.Machine.run n) in
-    let call = c.answer_on.ensures in
-    went_on c.args.request.now c.answer_on.result h b e d (file_forms c.args.request.now c.in-Mkdir.is) call.goes.runs (λ none. call.goes.quiet) call.ends
+    let call = c.serve_files.ensures in
+    went_on c.args.request.now c.serve_files.result h b e d (file_forms c.args.request.now c.in-Mkdir.is) call.goes.runs (λ none. call.goes.quiet) call.ends
 
 pub returns-in-Mkdir-clause-stopped_on : goal.returns-in-Mkdir-clause-stopped_on
 returns-in-Mkdir-clause-stopped_on g c =
     let m = c.args.core.now.view.v.machine in
     let h = cache_health (g.M.Machine.contents m) (g.M.Machine.run m) in
     let b = cache_below (g.M.Machine.contents m) (g.M.Machine.run m) in
-    let n = c.answer_on.new.v.machine in
+    let n = c.serve_files.new.core.view.v.machine in
     let e = cache_health (g.M.Machine.contents n) (g.M.Machine.run n) in
     let d = cache_below (g.M.Machine.contents n) (g.M.Machine.run n) in
-    let call = c.answer_on.ensures in
-    stopped_on c.args.request.now c.answer_on.result h b e d (file_forms c.args.request.now c.in-Mkdir.is) c.requires.holds.1.running call.goes.runs (λ none. call.goes.quiet) call.ends
+    let call = c.serve_files.ensures in
+    stopped_on c.args.request.now c.serve_files.result h b e d (file_forms c.args.request.now c.in-Mkdir.is) c.requires.holds.1.running call.goes.runs (λ none. call.goes.quiet) call.ends
 
 pub returns-in-Flush-clause-went : goal.returns-in-Flush-clause-went
 returns-in-Flush-clause-went g c =
@@ -169,3 +138,9 @@ returns-in-Arm-clause-answered g c =
     let e = cache_health (g.M.Machine.contents n.view.v.machine) (g.M.Machine.run n.view.v.machine) in
     let d = cache_below (g.M.Machine.contents n.view.v.machine) (g.M.Machine.run n.view.v.machine) in
     λ s holds. subst (λ r. Answering (Holds n.view.shape y j e d n.table) (λ u. Stands n.view.shape y j (crashed u)) s r (Ok c.arm_store.result)) (sym c.in-Arm.is) (c.arm_store.ensures.answered s holds)
+
+pub returns-in-Txns-clause-ends : goal.returns-in-Txns-clause-ends
+returns-in-Txns-clause-ends g c = ends_by_well _ _ (TellsFault (Ok c.txns_reply.result)) _ (le_refl _) refl (txns_no_fault c.open_list.result c.txns_reply.result c.txns_reply.ensures) (λ stop. true_false (sym stop))
+
+pub returns-in-Mkdir-clause-flushed : goal.returns-in-Mkdir-clause-flushed
+returns-in-Mkdir-clause-flushed g c = λ count is done. absurd (subst NoFlush is (file_kept c.args.request.now c.in-Mkdir.is))
