@@ -25,7 +25,7 @@ enum Came {
     Opened,
     Answer(Said),
     /// The word of each of the file's four blocks, and how many calls of the host failed.
-    Left([Option<u64>; 4], u64),
+    Left((Option<u64>, Option<u64>, Option<u64>, Option<u64>), u64),
     /// The file beside is not what it was.
     BesideChanged,
     NoDisk,
@@ -34,7 +34,7 @@ enum Came {
 /// A step, and what comes of it.
 type Row = (Step, Came);
 
-const ROWS: [Row; 41] = [
+static ROWS: [Row; 41] = [
     // What is written is in the file before a sync.
     (Step::New([0, 0]), Came::Opened),
     (Step::Make(Call::Write(2, 5)), Came::Answer(Said::Done)),
@@ -42,7 +42,7 @@ const ROWS: [Row; 41] = [
     (Step::Make(Call::Read(1)), Came::Answer(Said::Words([0, 0]))),
     (
         Step::Close,
-        Came::Left([Some(0), Some(0), Some(5), Some(0)], 0),
+        Came::Left((Some(0), Some(0), Some(5), Some(0)), 0),
     ),
     // A block whose write failed reads as new, and the file has it after the next sync.
     (Step::New([4, 0]), Came::Opened),
@@ -52,14 +52,14 @@ const ROWS: [Row; 41] = [
     (Step::Make(Call::Sync), Came::Answer(Said::Done)),
     (
         Step::Close,
-        Came::Left([Some(1), Some(2), Some(0), Some(0)], 1),
+        Came::Left((Some(1), Some(2), Some(0), Some(0)), 1),
     ),
     // Before that sync it has the old bytes.
     (Step::New([3, 0]), Came::Opened),
     (Step::Make(Call::Write(3, 9)), Came::Answer(Said::Failed)),
     (
         Step::Close,
-        Came::Left([Some(0), Some(0), Some(0), Some(0)], 1),
+        Came::Left((Some(0), Some(0), Some(0), Some(0)), 1),
     ),
     // A sync whose second write fails as well answers Failed, and the next one writes again.
     (Step::New([3, 4]), Came::Opened),
@@ -68,14 +68,14 @@ const ROWS: [Row; 41] = [
     (Step::Make(Call::Sync), Came::Answer(Said::Done)),
     (
         Step::Close,
-        Came::Left([Some(1), Some(0), Some(0), Some(0)], 2),
+        Came::Left((Some(1), Some(0), Some(0), Some(0)), 2),
     ),
     (Step::New([3, 4]), Came::Opened),
     (Step::Make(Call::Write(0, 1)), Came::Answer(Said::Failed)),
     (Step::Make(Call::Sync), Came::Answer(Said::Failed)),
     (
         Step::Close,
-        Came::Left([Some(0), Some(0), Some(0), Some(0)], 2),
+        Came::Left((Some(0), Some(0), Some(0), Some(0)), 2),
     ),
     // A sync writes again only what failed: here calls 5 and 6 are its write and its sync, and call 7 is the next write.
     (Step::New([4, 7]), Came::Opened),
@@ -85,7 +85,7 @@ const ROWS: [Row; 41] = [
     (Step::Make(Call::Write(2, 3)), Came::Answer(Said::Failed)),
     (
         Step::Close,
-        Came::Left([Some(1), Some(2), Some(0), Some(0)], 2),
+        Came::Left((Some(1), Some(2), Some(0), Some(0)), 2),
     ),
     // After it nothing is left to be written again: calls 4 and 5 are the sync's, and call 6 is the second sync.
     (Step::New([3, 6]), Came::Opened),
@@ -94,7 +94,7 @@ const ROWS: [Row; 41] = [
     (Step::Make(Call::Sync), Came::Answer(Said::Failed)),
     (
         Step::Close,
-        Came::Left([Some(0), Some(2), Some(0), Some(0)], 2),
+        Came::Left((Some(0), Some(2), Some(0), Some(0)), 2),
     ),
     // A block that failed and was then written has the newer words.
     (Step::New([3, 0]), Came::Opened),
@@ -105,7 +105,7 @@ const ROWS: [Row; 41] = [
     (Step::Make(Call::Read(1)), Came::Answer(Said::Words([4, 4]))),
     (
         Step::Close,
-        Came::Left([Some(0), Some(4), Some(0), Some(0)], 1),
+        Came::Left((Some(0), Some(4), Some(0), Some(0)), 1),
     ),
 ];
 
@@ -123,6 +123,7 @@ fn left(alloc: Global, disk: HostDisk<MemHost>) -> Result<Came, AllocError> {
     if !beside {
         return Ok(Came::BesideChanged);
     }
+    let words = (words[0], words[1], words[2], words[3]);
     Ok(Came::Left(words, host.faults()))
 }
 
@@ -155,9 +156,9 @@ fn take(
 #[test]
 fn file_has_what_was_written(rt: HostRuntime) -> Result<(), Fail> {
     let mut disk = None;
-    for row in 0..ROWS.len() {
-        let came = take(rt.alloc(), &mut disk, ROWS[row].0)?;
-        same(&rt, "calls", row, &came, &ROWS[row].1);
+    for (row, (step, due)) in ROWS.iter().enumerate() {
+        let came = take(rt.alloc(), &mut disk, *step)?;
+        same(&rt, "calls", row, &came, due);
     }
     Ok(())
 }

@@ -9,7 +9,7 @@ use std::test::Fail;
 /// How many bytes the file has, or `None` for no file; which call of the host fails, or 0; how many blocks the disk has, or
 /// why there is none; and how many faults were counted. The first call asks for the size, and the second reads: where the
 /// second is to fail and no fault comes, nothing was read.
-const ROWS: [(Option<usize>, u64, Result<u32, HostDiskFail>, u64); 14] = [
+static ROWS: [(Option<usize>, u64, Result<u32, HostDiskFail>, u64); 14] = [
     (None, 0, Err(HostDiskFail::Absent), 0),
     (None, 2, Err(HostDiskFail::Absent), 0),
     (None, 1, Err(HostDiskFail::Fault), 1),

@@ -58,6 +58,9 @@ walks_stored s t b name k is h less count = record {
   named = λ c cached. each_named s t b c h (λ away. k.others c away cached) (can_name_stored s t b (walk_name b) (can_walk s b h less) (subst (CachesStored s t b) is k)) cached (cases_eq c b);
 }
 
+pub walks_put : (s t : Seen) (b : ℕ) → CachesStored s t b None → Walks s → b < 40 → t.count ≡ s.count → Walks t
+walks_put s t b k h less count = walks_stored s t b None k (sym (nameless b less)) h (omega (arith, less)) count
+
 pub walks_dropped : (s t : Seen) → Drops s t → Walks s → t.count ≡ s.count → Walks t
 walks_dropped s t k h count = record { count = count ∙ h.count; named = λ c cached. kept s t c h (k.kept c cached) }
 

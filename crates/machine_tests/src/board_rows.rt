@@ -1,12 +1,12 @@
-//! Tables of calls on boards, each call with what must come of it. A table is a text of lines.
+//! Tables of calls on boards, each call with what must come of it. A table is a text: the lines of each board, with an empty line
+//! between two of them.
 //!
-//! `board MEMORY` begins a board, and behind the colon stands what it is to show. Its memory is `small`, `zeros` or `counted`, and
-//! `stop N` or `fault N` behind that says what befalls it. In any other line stand a call or what the board is asked, as
-//! [`Rig::make`] names it, its numbers, and behind the colon what comes of it.
+//! The first line of a board is `board MEMORY`, and behind the colon stands what it is to show. Its memory is `small`, `zeros` or
+//! `counted`, and `stop N` or `fault N` behind that says what befalls it. In any other line stand a call or what the board is asked,
+//! as [`Rig::make`] names it, its numbers, and behind the colon what comes of it.
 
 use crate::machines::Mishap;
 use crate::rig::{Memory, Rig};
-use crate::same::same;
 use std::alloc::{AllocError, Global};
 use std::process::Abort;
 use test_scripts::{first_word, number};
@@ -33,51 +33,76 @@ fn mishap(text: &str) -> Result<Mishap, AllocError> {
     }
 }
 
+/// The memory of a board.
+fn memory(word: &str) -> Result<Memory, AllocError> {
+    match word {
+        "small" => Ok(Memory::Small),
+        "zeros" => Ok(Memory::Zeros),
+        "counted" => Ok(Memory::Counted),
+        _ => Err(AllocError),
+    }
+}
+
 /// A board as its line says.
-fn board(alloc: Global, text: &str) -> Result<Rig, AllocError> {
-    let (word, rest) = first_word(text);
-    let memory = match word {
-        "small" => Memory::Small,
-        "zeros" => Memory::Zeros,
-        "counted" => Memory::Counted,
-        _ => return Err(AllocError),
+fn board(alloc: Global, line: &str) -> Result<Rig, AllocError> {
+    let (said, _shows) = parts(line);
+    let Some(said) = said.strip_prefix("board ") else {
+        return Err(AllocError);
     };
-    Rig::new(alloc, memory, mishap(rest)?)
+    let (word, rest) = first_word(said);
+    Rig::new(alloc, memory(word)?, mishap(rest)?)
+}
+
+/// What stands before the colon of a line, and what stands behind it.
+fn parts(line: &str) -> (&str, &str) {
+    line.split_once(':').unwrap_or((line, ""))
 }
 
 /// What comes of a call, as a text.
-fn shown(alloc: Global, rig: &mut Rig, word: &str, rest: &str) -> Result<String, AllocError> {
+fn shown(alloc: Global, rig: &mut Rig, call: &str) -> Result<String, AllocError> {
+    let (word, rest) = first_word(call);
     let came = rig.make(word, &numbers(alloc, rest)?);
     format!(in alloc; "{came:?}")
 }
 
-/// Does what a line says, the `k`th of a table.
-fn step(
-    rt: &impl Abort,
-    alloc: Global,
-    rig: &mut Rig,
-    k: usize,
-    line: &str,
-) -> Result<(), AllocError> {
-    let (call, due) = line.split_once(':').unwrap_or((line, ""));
-    let (word, rest) = first_word(call);
-    if word == "board" {
-        *rig = board(alloc, rest)?;
-        return Ok(());
+/// Makes the call of a line, the `k`th behind that of the board.
+fn step(rt: &impl Abort, alloc: Global, rig: &mut Rig, board: &str, k: usize, line: &str) {
+    let (call, due) = parts(line);
+    let Ok(came) = shown(alloc, rig, call) else {
+        panic!(rt; "{board}, line {k}: {line}");
+    };
+    if came.as_str() != due.trim() {
+        panic!(rt; "{board}, line {k}: {line}, and not {came}");
     }
-    let came = shown(alloc, rig, word, rest)?;
-    same(rt, line, k, &came.as_str(), &due.trim());
-    Ok(())
 }
 
-/// Goes through the lines of a table. The last board is as they leave it.
-pub(crate) fn check(rt: &impl Abort, alloc: Global, table: &str) -> Result<Rig, AllocError> {
-    let mut rig = Rig::new(alloc, Memory::Small, Mishap::Nothing)?;
-    for (k, line) in table.lines().enumerate() {
-        let line = line.trim();
-        if !line.is_empty() {
-            step(rt, alloc, &mut rig, k, line)?;
-        }
+/// Makes the calls of lines.
+fn make_all(rt: &impl Abort, alloc: Global, rig: &mut Rig, board: &str, calls: &str) {
+    for (k, line) in calls.lines().enumerate() {
+        step(rt, alloc, rig, board, k, line.trim());
     }
-    Ok(rig)
+}
+
+/// The board of these lines, as its calls leave it.
+pub(crate) fn check_board(rt: &impl Abort, alloc: Global, lines: &str) -> Rig {
+    let (line, calls) = lines.trim().split_once('\n').unwrap_or((lines, ""));
+    let Ok(mut rig) = board(alloc, line) else {
+        panic!(rt; "no board: {line}");
+    };
+    make_all(rt, alloc, &mut rig, line, calls);
+    rig
+}
+
+/// Goes through the boards of a table.
+fn check_table(rt: &impl Abort, alloc: Global, table: &str) {
+    for lines in table.split("\n\n") {
+        let _rig = check_board(rt, alloc, lines);
+    }
+}
+
+/// Goes through tables.
+pub(crate) fn check_each(rt: &impl Abort, alloc: Global, tables: &[&str]) {
+    for table in tables.iter() {
+        check_table(rt, alloc, table);
+    }
 }

@@ -3,10 +3,12 @@
 ghost use Rattle.std.specs.Prelude.{◌≡◌, length};
 ghost use Rattle.block_disk.specs.MemDisks.{state_of};
 
-use crate::board_rows::check;
+use crate::board_rows::{check_board, check_each};
 use crate::cached::word_in;
+use crate::copy_rows::COPIES;
 use crate::machines::board_with;
 use crate::same::same;
+use crate::window_rows::WINDOWS;
 use block_disk::{DiskChoice, MemDisk};
 use machine_readers::save;
 use phys_memory::ListMem;
@@ -15,9 +17,10 @@ use std::alloc::Global;
 use std::process::Abort;
 use std::test::Fail;
 
-#[test]
-fn a_stopped_or_trapped_step_keeps_the_old_word(rt: HostRuntime) -> Result<(), Fail> {
-    let rows = "
+/// Stops, traps, wild stores and a failed sync.
+static BOARDS: [&str; 3] = [
+    // a stopped or trapped step keeps the old word
+    "
         board zeros stop 3: a stop keeps the old word
         open 2: Done
         store 1024 5: Done
@@ -54,14 +57,9 @@ fn a_stopped_or_trapped_step_keeps_the_old_word(rt: HostRuntime) -> Result<(), F
         store 1024 5: Stopped
         close: Done
         word 0: Number(0)
-    ";
-    check(&rt, rt.alloc(), rows)?;
-    Ok(())
-}
-
-#[test]
-fn a_wild_store_is_met_by_where_it_falls(rt: HostRuntime) -> Result<(), Fail> {
-    let rows = "
+    ",
+    // a wild store is met by where it falls
+    "
         board zeros: it is spared on the open page
         open 2: Done
         wild 1024 9: Met(Spared)
@@ -83,14 +81,9 @@ fn a_wild_store_is_met_by_where_it_falls(rt: HostRuntime) -> Result<(), Fail> {
         wild 511 9: Met(Trapped)
         trapped: Place(Some(WordAt(511)))
         stopped: Is(true)
-    ";
-    check(&rt, rt.alloc(), rows)?;
-    Ok(())
-}
-
-#[test]
-fn a_failed_sync_is_a_fault(rt: HostRuntime) -> Result<(), Fail> {
-    let rows = "
+    ",
+    // a failed sync is a fault
+    "
         board counted fault 2: the second call of the disk fails
         blocks: Number(4)
         write 3 2: Done
@@ -98,22 +91,26 @@ fn a_failed_sync_is_a_fault(rt: HostRuntime) -> Result<(), Fail> {
         sync: Done
         read 3: Number(1535)
         steps: Number(3)
-    ";
-    check(&rt, rt.alloc(), rows)?;
-    Ok(())
+    ",
+];
+
+#[test]
+fn boards_answer_as_their_lines_say(rt: HostRuntime) {
+    check_each(&rt, rt.alloc(), &BOARDS);
+    check_each(&rt, rt.alloc(), &COPIES);
+    check_each(&rt, rt.alloc(), &WINDOWS);
 }
 
 #[test]
-fn memory_and_disk_are_given_back(rt: HostRuntime) -> Result<(), Fail> {
+fn memory_and_disk_are_given_back(rt: HostRuntime) {
     let rows = "
         board zeros: a word is stored
         open 2: Done
         store 1024 5: Done
     ";
-    let (mem, disk) = check(&rt, rt.alloc(), rows)?.into_parts();
+    let (mem, disk) = check_board(&rt, rt.alloc(), rows).into_parts();
     let came = (mem.len(), word_in(&mem, 1024), disk.count()); // the words, the one that was stored, and the blocks
     same(&rt, "what is given back", 0, &came, &(42_496, 5, 4));
-    Ok(())
 }
 
 /// The first words of the blocks 2 and 3.
@@ -143,7 +140,7 @@ fn around_a_crash(
         write 2 3: Done
         write 3 4: Stopped
     ";
-    let (_, mut disk) = check(rt, alloc, rows)?.into_parts();
+    let (_, mut disk) = check_board(rt, alloc, rows).into_parts();
     let before = first_words(alloc, &mut disk)?;
     disk.after_crash(choice);
     let after = first_words(alloc, &mut disk)?;
@@ -189,22 +186,36 @@ fn after_save(alloc: Global, steps: u64) -> Result<Saved, Fail> {
     })
 }
 
+/// What is found where the save is made.
+const WHOLE: Saved = Saved {
+    done: true,
+    stopped: false,
+    word: 5,
+    read: 5,
+};
+
+/// What is found where it is stopped behind its first step.
+const CUT: Saved = Saved {
+    done: false,
+    stopped: true,
+    word: 5,
+    read: 0,
+};
+
+/// What is found where it is stopped before that.
+const NONE: Saved = Saved {
+    done: false,
+    stopped: true,
+    word: 0,
+    read: 0,
+};
+
+/// What is found after as many steps as there are rows before.
+static SAVES: [Saved; 5] = [NONE, CUT, CUT, WHOLE, WHOLE];
+
 #[test]
 fn a_save_is_whole_or_stopped(rt: HostRuntime) -> Result<(), Fail> {
-    let whole = Saved {
-        done: true,
-        stopped: false,
-        word: 5,
-        read: 5,
-    };
-    let cut = Saved {
-        done: false,
-        stopped: true,
-        word: 5,
-        read: 0,
-    };
-    let none = Saved { word: 0, ..cut };
-    for (k, due) in [none, cut, cut, whole, whole].iter().enumerate() {
+    for (k, due) in SAVES.iter().enumerate() {
         same(&rt, "steps", k, &after_save(rt.alloc(), k as u64)?, due);
     }
     Ok(())

@@ -181,7 +181,14 @@ fn a_cache_whose_disk_fails_is_walked(rt: HostRuntime) -> Result<(), Fail> {
     Ok(())
 }
 
-/// Compares what comes of a walk that is stopped after so many steps, for each choice of how the disk crashes.
+/// The choices of how the disk crashes.
+static CHOICES: [(&str, DiskChoice); 3] = [
+    ("steps, as read", DiskChoice::AsRead),
+    ("steps, as synced", DiskChoice::AsSynced),
+    ("steps, filled", DiskChoice::Filled(0xab)),
+];
+
+/// Compares what comes of a walk that is stopped after so many steps, for each of these choices.
 fn check_stop(rt: &impl Abort, alloc: Global, steps: u64) -> Result<(), Fail> {
     let course = Course {
         seed: 5,
@@ -193,12 +200,8 @@ fn check_stop(rt: &impl Abort, alloc: Global, steps: u64) -> Result<(), Fail> {
         end: Err(WalkEnd::Stopped),
         wrong: None,
     };
-    for (name, choice) in [
-        ("steps, as read", DiskChoice::AsRead),
-        ("steps, as synced", DiskChoice::AsSynced),
-        ("steps, filled", DiskChoice::Filled(0xab)),
-    ] {
-        let came = outcome_of(alloc, course, choice)?;
+    for (name, choice) in CHOICES.iter() {
+        let came = outcome_of(alloc, course, *choice)?;
         same(rt, name, steps as usize, &came, &due);
     }
     Ok(())

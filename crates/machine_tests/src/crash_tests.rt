@@ -50,22 +50,18 @@ fn judged(alloc: Global, choice: DiskChoice, stands: Stands) -> Result<Option<Bl
     judge_crash(alloc, mem, written_disk(alloc)?, choice, &mut plain)
 }
 
+/// The choices of what is pending, and what the judge says of each.
+static CRASHES: [(DiskChoice, Option<Block>); 3] = [
+    (DiskChoice::AsRead, None),
+    (DiskChoice::AsSynced, None),
+    (DiskChoice::Filled(7), Some(Block(3))),
+];
+
 #[test]
 fn a_crash_is_judged(rt: HostRuntime) -> Result<(), Fail> {
-    let rows = [
-        (DiskChoice::AsRead, None),
-        (DiskChoice::AsSynced, None),
-        (DiskChoice::Filled(7), Some(Block(3))),
-    ];
-    for k in 0..rows.len() {
-        let (choice, due) = rows[k];
-        same(
-            &rt,
-            "crashes",
-            k,
-            &judged(rt.alloc(), choice, Stands::Front)?,
-            &due,
-        );
+    for (k, (choice, due)) in CRASHES.iter().enumerate() {
+        let came = judged(rt.alloc(), *choice, Stands::Front)?;
+        same(&rt, "crashes", k, &came, due);
     }
     Ok(())
 }

@@ -17,7 +17,6 @@ use registry::{
 };
 use rio_base::{Block, Ino, Machine, PageName, Stopped};
 use std::alloc::{AllocError, Global};
-use std::test::Fail;
 
 /// A machine with the words of a fresh image, whose entry 3 can be changed, and where no entry has a tag.
 #[tactic(auto, using(crate::proofs::TestImages::can_change, crate::proofs::TestImages::front_frames, crate::proofs::TestImages::front_tag))]
@@ -141,58 +140,68 @@ fn came_of(alloc: Global, stage: Stage, stop_after: Option<u64>) -> Result<Came,
     Ok(look(&mut m, stage))
 }
 
-/// Entry 3 with this tag and shadow.
-fn entry(tag: u64, shadow: u64) -> Option<Entry> {
-    Some(Entry {
-        tag,
+/// What is found of a free entry.
+const FREE: Came = Came {
+    end: Ok(()),
+    tag: 0,
+    entry: None,
+    image: Ok(()),
+};
+
+/// What is found where making it was stopped.
+const CUT: Came = Came {
+    end: Err(Stopped),
+    tag: 0,
+    entry: None,
+    image: Ok(()),
+};
+
+/// What is found of an entry that is made: it is clean.
+const MADE: Came = Came {
+    end: Ok(()),
+    tag: 0x0000_0009_0000_0005,
+    entry: Some(Entry {
+        tag: 0x0000_0009_0000_0005,
         file: 2,
         index: 1,
         size: 7,
-        shadow,
-    })
-}
+        shadow: 0,
+    }),
+    image: Ok(()),
+};
+
+/// What is found of one that is dirty and has a shadow page.
+const SHADOWED: Came = Came {
+    end: Ok(()),
+    tag: 0x0000_0009_0000_0007,
+    entry: Some(Entry {
+        tag: 0x0000_0009_0000_0007,
+        file: 2,
+        index: 1,
+        size: 7,
+        shadow: 16,
+    }),
+    image: Err(BadImage(11)),
+};
+
+/// How far an entry is brought, after how many steps that is stopped, and what is found.
+static STAGES: [(Stage, Option<u64>, Came); 9] = [
+    (Stage::Fresh, None, FREE),
+    (Stage::Made, None, MADE),
+    (Stage::Shadowed, None, SHADOWED),
+    (Stage::Cleared, None, FREE),
+    (Stage::Made, Some(0), CUT),
+    (Stage::Made, Some(1), CUT),
+    (Stage::Made, Some(2), CUT),
+    (Stage::Made, Some(3), CUT),
+    (Stage::Made, Some(4), CUT),
+];
 
 #[test]
-fn an_entry_is_made_changed_and_cleared(rt: HostRuntime) -> Result<(), Fail> {
-    let made = entry(0x0000_0009_0000_0005, 0);
-    let shadowed = entry(0x0000_0009_0000_0007, 16);
-    let done = Ok(());
-    let cut = Err(Stopped);
-    let sound = Ok(());
-    let bad = Err(BadImage(11));
-    let rows = [
-        (Stage::Fresh, None, done, 0, None, sound),
-        (Stage::Made, None, done, 0x0000_0009_0000_0005, made, sound),
-        (
-            Stage::Shadowed,
-            None,
-            done,
-            0x0000_0009_0000_0007,
-            shadowed,
-            bad,
-        ),
-        (Stage::Cleared, None, done, 0, None, sound),
-        (Stage::Made, Some(0), cut, 0, None, sound),
-        (Stage::Made, Some(1), cut, 0, None, sound),
-        (Stage::Made, Some(2), cut, 0, None, sound),
-        (Stage::Made, Some(3), cut, 0, None, sound),
-        (Stage::Made, Some(4), cut, 0, None, sound),
-    ];
-    for k in 0..rows.len() {
-        let (stage, stop_after, end, tag, entry, image) = rows[k];
-        let due = Came {
-            end,
-            tag,
-            entry,
-            image,
-        };
-        same(
-            &rt,
-            "stages",
-            k,
-            &came_of(rt.alloc(), stage, stop_after)?,
-            &due,
-        );
+fn an_entry_is_made_changed_and_cleared(rt: HostRuntime) -> Result<(), AllocError> {
+    for (k, (stage, stop_after, due)) in STAGES.iter().enumerate() {
+        let came = came_of(rt.alloc(), *stage, *stop_after)?;
+        same(&rt, "stages", k, &came, due);
     }
     Ok(())
 }

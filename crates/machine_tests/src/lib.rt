@@ -3,6 +3,8 @@
 #![tactic(auto)]
 
 #[cfg(test)]
+mod ahead_tests;
+#[cfg(test)]
 mod board_rows;
 #[cfg(test)]
 mod board_tests;
@@ -13,7 +15,7 @@ mod cache_walks;
 #[cfg(test)]
 mod cached;
 #[cfg(test)]
-mod copy_tests;
+mod copy_rows;
 #[cfg(test)]
 mod crash_tests;
 #[cfg(test)]
@@ -43,6 +45,6 @@ mod walks;
 #[cfg(test)]
 mod wild_tests;
 #[cfg(test)]
-mod window_tests;
+mod window_rows;
 #[cfg(test)]
 mod write_back_tests;

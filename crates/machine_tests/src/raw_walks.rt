@@ -110,33 +110,30 @@ fn left_in_block(alloc: Global, course: Course) -> Result<Left, AllocError> {
     Ok(Left { end, words })
 }
 
-const fn drawn(seed: u64, actions: u32, roomy: bool, mishap: Mishap) -> Course {
-    Course {
-        seed,
-        actions,
-        roomy,
-        mishap,
-    }
-}
+/// Walks: the seed, how many actions, whether the cache has a frame for each block, and what befalls it.
+static COURSES: [(u64, u32, bool, Mishap); 9] = [
+    (1, 4_000, false, Mishap::Nothing),
+    (2, 4_000, false, Mishap::Nothing),
+    (3, 4_000, false, Mishap::Nothing),
+    (4, 200, false, Mishap::Fault(1)),
+    (4, 200, false, Mishap::Fault(40)),
+    (5, 4_000, false, Mishap::Stop(0)),
+    (5, 4_000, false, Mishap::Stop(700)),
+    (5, 4_000, false, Mishap::Stop(2_999)),
+    (6, 2_000, true, Mishap::Nothing),
+];
 
 #[test]
 fn drawn_walks_leave_the_same_in_both_memories(rt: HostRuntime) -> Result<(), Fail> {
-    for (k, course) in [
-        drawn(1, 4_000, false, Mishap::Nothing),
-        drawn(2, 4_000, false, Mishap::Nothing),
-        drawn(3, 4_000, false, Mishap::Nothing),
-        drawn(4, 200, false, Mishap::Fault(1)),
-        drawn(4, 200, false, Mishap::Fault(40)),
-        drawn(5, 4_000, false, Mishap::Stop(0)),
-        drawn(5, 4_000, false, Mishap::Stop(700)),
-        drawn(5, 4_000, false, Mishap::Stop(2_999)),
-        drawn(6, 2_000, true, Mishap::Nothing),
-    ]
-    .iter()
-    .enumerate()
-    {
-        let list = left_in_list(rt.alloc(), *course)?;
-        let block = left_in_block(rt.alloc(), *course)?;
+    for (k, (seed, actions, roomy, mishap)) in COURSES.iter().enumerate() {
+        let course = Course {
+            seed: *seed,
+            actions: *actions,
+            roomy: *roomy,
+            mishap: *mishap,
+        };
+        let list = left_in_list(rt.alloc(), course)?;
+        let block = left_in_block(rt.alloc(), course)?;
         let alike = list.words.as_slice() == block.words.as_slice();
         same(&rt, "courses", k, &(block.end, alike), &(list.end, true));
     }

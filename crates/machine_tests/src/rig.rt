@@ -34,8 +34,105 @@ pub(crate) enum Came {
     Place(Option<WordAt>),
     /// The call may not be made there.
     OutOfPlace,
-    /// There is no such call.
+    /// There is no such call, or it has other numbers.
     NoCall,
+}
+
+/// A call, or what a board is asked.
+#[derive(Clone, Copy)]
+enum Call {
+    /// `open P`: a page is opened.
+    Open,
+    /// `close`: the open page is closed.
+    Close,
+    /// `write B P`: a page is written as a block.
+    Write,
+    /// `sync`: all that was written is brought to the device.
+    Sync,
+    /// `read B`: a block is read, and its last word told.
+    Read,
+    /// `wild AT V`: a wild store falls now: where, and what it stores.
+    Wild,
+    /// `arm STEPS AT V`: a wild store is armed, to fall after so many steps: where, and what it stores.
+    Arm,
+    /// `store AT V`: a word of the open page is stored.
+    Store,
+    /// `run AT V..`: words of the open page are stored, from a place on.
+    Run,
+    /// `copy FROM TO`: a page is copied to the open page.
+    CopyPage,
+    /// `put_two P V`: a value is put as the first and the last word of a page, through one window.
+    PutTwo,
+    /// `put_one P W V`: a word of a closed page is put.
+    PutOne,
+    /// `put_run P W V..`: words of a closed page are put, from one of its words on.
+    PutRun,
+    /// `word AT`: the word at a place.
+    Word,
+    /// `page_len P`: how many words a page that is lent has.
+    PageLen,
+    /// `page_word P W`: a word of a page that is lent.
+    PageWord,
+    /// `front N`: whether so many words at the front of page 2 are those of page 20, and the others its own, on a board whose
+    /// words are their own places.
+    Front,
+    /// `steps`: how many steps were made.
+    Steps,
+    /// `spared`: how many wild stores were spared.
+    Spared,
+    /// `stopped`: whether the board is stopped.
+    Halted,
+    /// `trapped`: where a wild store trapped.
+    Trapped,
+    /// `pages`: how many pages memory has.
+    Pages,
+    /// `blocks`: how many blocks the disk has.
+    Blocks,
+}
+
+/// The calls by name, each with how many numbers stand behind its name, and whether more may.
+static CALLS: [(&str, usize, bool, Call); 23] = [
+    ("open", 1, false, Call::Open),
+    ("close", 0, false, Call::Close),
+    ("write", 2, false, Call::Write),
+    ("sync", 0, false, Call::Sync),
+    ("read", 1, false, Call::Read),
+    ("wild", 2, false, Call::Wild),
+    ("arm", 3, false, Call::Arm),
+    ("store", 2, false, Call::Store),
+    ("run", 1, true, Call::Run),
+    ("copy", 2, false, Call::CopyPage),
+    ("put_two", 2, false, Call::PutTwo),
+    ("put_one", 3, false, Call::PutOne),
+    ("put_run", 2, true, Call::PutRun),
+    ("word", 1, false, Call::Word),
+    ("page_len", 1, false, Call::PageLen),
+    ("page_word", 2, false, Call::PageWord),
+    ("front", 1, false, Call::Front),
+    ("steps", 0, false, Call::Steps),
+    ("spared", 0, false, Call::Spared),
+    ("stopped", 0, false, Call::Halted),
+    ("trapped", 0, false, Call::Trapped),
+    ("pages", 0, false, Call::Pages),
+    ("blocks", 0, false, Call::Blocks),
+];
+
+/// The call of this name that has so many numbers.
+fn call_of(word: &str, count: usize) -> Option<Call> {
+    for (name, least, more, call) in CALLS.iter() {
+        if *name == word && has_as_many(count, *least, *more) {
+            return Some(*call);
+        }
+    }
+    None
+}
+
+/// Whether a call may have so many numbers.
+fn has_as_many(count: usize, least: usize, more: bool) -> bool {
+    if more {
+        return least <= count;
+    }
+    count == least
 }
 
 impl From<Result<(), Stopped>> for Came {
@@ -325,78 +422,59 @@ impl Rig {
         }
     }
 
-    /// What the board tells, where `word` asks it:
-    ///
-    /// - `word AT`: the word at a place.
-    /// - `page_len P`: how many words a page that is lent has.
-    /// - `page_word P W`: a word of a page that is lent.
-    /// - `front N`: whether so many words at the front of page 2 are those of page 20, and the others its own, on a board whose
-    ///   words are their own places.
-    /// - `steps`: how many steps were made.
-    /// - `spared`: how many wild stores were spared.
-    /// - `stopped`: whether the board is stopped.
-    /// - `trapped`: where a wild store trapped.
-    /// - `pages`: how many pages memory has.
-    /// - `blocks`: how many blocks the disk has.
-    fn tell(&self, word: &str, a: u32, b: u64) -> Came {
-        match word {
-            "word" => self.word(a),
-            "page_len" => Came::Number(self.page(a).len() as u64),
-            "page_word" => self.page_word(a, b as usize),
-            "front" => Came::Is(has_front(self.page(2), a as usize)),
-            "steps" => Came::Number(self.board.steps()),
-            "spared" => Came::Number(self.board.spared()),
-            "stopped" => Came::Is(self.board.stopped()),
-            "trapped" => Came::Place(self.board.trapped()),
-            "pages" => Came::Number(self.board.pages() as u64),
-            "blocks" => Came::Number(self.board.disk_blocks() as u64),
+    /// Answers what the board is asked. Any other call is none.
+    fn tell(&self, call: Call, a: u32, b: u64) -> Came {
+        match call {
+            Call::Word => self.word(a),
+            Call::PageLen => Came::Number(self.page(a).len() as u64),
+            Call::PageWord => self.page_word(a, b as usize),
+            Call::Front => Came::Is(has_front(self.page(2), a as usize)),
+            Call::Steps => Came::Number(self.board.steps()),
+            Call::Spared => Came::Number(self.board.spared()),
+            Call::Halted => Came::Is(self.board.stopped()),
+            Call::Trapped => Came::Place(self.board.trapped()),
+            Call::Pages => Came::Number(self.board.pages() as u64),
+            Call::Blocks => Came::Number(self.board.disk_blocks() as u64),
             _ => Came::NoCall,
         }
     }
 
-    /// Makes a call that changes words, and answers what came of it. Any word that is none is asked of the board. The calls:
-    ///
-    /// - `store AT V`: a word of the open page is stored.
-    /// - `run AT V..`: words of the open page are stored, from a place on.
-    /// - `copy FROM TO`: a page is copied to the open page.
-    /// - `put_two P V`: a value is put as the first and the last word of a page, through one window.
-    /// - `put_one P W V`: a word of a closed page is put.
-    /// - `put_run P W V..`: words of a closed page are put, from one of its words on.
-    fn change(&mut self, word: &str, numbers: &[u64]) -> Came {
+    /// Makes a call that changes words, and answers what came of it. Any other is asked of the board.
+    fn change(&mut self, call: Call, numbers: &[u64]) -> Came {
         let [first, second, third] = first_three(numbers);
         let a = place(first);
-        match word {
-            "store" => self.store(a, second),
-            "run" => self.store_run(a, behind(numbers, 1)),
-            "copy" => self.copy(a, place(second)),
-            "put_two" => self.put_two(a, second),
-            "put_one" => self.put_one(a, word_place(second), third),
-            "put_run" => self.put_run(a, word_place(second), behind(numbers, 2)),
-            _ => self.tell(word, a, second),
+        match call {
+            Call::Store => self.store(a, second),
+            Call::Run => self.store_run(a, behind(numbers, 1)),
+            Call::CopyPage => self.copy(a, place(second)),
+            Call::PutTwo => self.put_two(a, second),
+            Call::PutOne => self.put_one(a, word_place(second), third),
+            Call::PutRun => self.put_run(a, word_place(second), behind(numbers, 2)),
+            _ => self.tell(call, a, second),
         }
     }
 
-    /// Makes a call, and answers what came of it: one of those above, or
-    ///
-    /// - `open P`: a page is opened.
-    /// - `close`: the open page is closed.
-    /// - `write B P`: a page is written as a block.
-    /// - `sync`: all that was written is brought to the device.
-    /// - `read B`: a block is read, and its last word told.
-    /// - `wild AT V`: a wild store falls now: where, and what it stores.
-    /// - `arm STEPS AT V`: a wild store is armed, to fall after so many steps: where, and what it stores.
-    pub(crate) fn make(&mut self, word: &str, numbers: &[u64]) -> Came {
+    /// Makes a call, and answers what came of it.
+    fn make_call(&mut self, call: Call, numbers: &[u64]) -> Came {
         let [first, second, third] = first_three(numbers);
         let (a, b) = (place(first), place(second));
-        match word {
-            "open" => self.open(a),
-            "close" => self.close(),
-            "write" => self.write(a, b),
-            "sync" => self.sync(),
-            "read" => self.read(a),
-            "wild" => self.wild(a, second),
-            "arm" => self.arm(first, b, third),
-            _ => self.change(word, numbers),
+        match call {
+            Call::Open => self.open(a),
+            Call::Close => self.close(),
+            Call::Write => self.write(a, b),
+            Call::Sync => self.sync(),
+            Call::Read => self.read(a),
+            Call::Wild => self.wild(a, second),
+            Call::Arm => self.arm(first, b, third),
+            _ => self.change(call, numbers),
+        }
+    }
+
+    /// Makes the call of this name with these numbers, and answers what came of it: a [`Call`], where it has as many.
+    pub(crate) fn make(&mut self, word: &str, numbers: &[u64]) -> Came {
+        match call_of(word, numbers.len()) {
+            Some(call) => self.make_call(call, numbers),
+            None => Came::NoCall,
         }
     }
 }

@@ -19,7 +19,6 @@ use rio_base::{Machine, Page, Stopped, WordAt};
 use shadow_pages::{begin, commit, shadow, undo};
 use std::alloc::{AllocError, Global};
 use std::process::Abort;
-use std::test::Fail;
 
 /// The tags of two dirty entries of metadata, with the blocks 5 and 6.
 const FIRST: u64 = 0x0000_0005_0000_0003;
@@ -332,8 +331,8 @@ fn came_of(alloc: Global, updates: Updates, stop_after: Option<u64>) -> Result<C
 }
 
 /// Updates, the steps after which they are stopped, and what must come of it.
-#[derive(Clone, Copy)]
 struct Row {
+    name: &'static str,
     updates: Updates,
     stops: &'static [u64],
     /// After how many steps all are made.
@@ -342,8 +341,42 @@ struct Row {
     stands: [u64; 2],
 }
 
+static ROWS: [Row; 3] = [
+    // each step of the gate, of the shadows and of the edits, and the ends and a middle of each copy
+    Row {
+        name: "steps of an update",
+        updates: Updates::One,
+        stops: &[
+            0, 1, 2, 300, 512, 513, 514, 515, 800, 1_026, 1_027, 1_028, 1_029, 1_030, 1_031,
+        ],
+        made_after: 1_030,
+        stands: [0, 7],
+    },
+    // from the first copy back on
+    Row {
+        name: "steps of an update taken back",
+        updates: Updates::Undone,
+        stops: &[
+            1_029, 1_030, 1_300, 1_541, 1_542, 1_800, 2_053, 2_054, 2_055,
+        ],
+        made_after: 2_054,
+        stands: [0, 0],
+    },
+    // it first takes two shadows away
+    Row {
+        name: "steps of a second update",
+        updates: Updates::Two,
+        stops: &[
+            1_030, 1_031, 1_032, 1_033, 1_034, 1_300, 1_545, 1_546, 1_547, 1_800, 2_058, 2_059,
+            2_060, 2_061, 2_062, 2_063,
+        ],
+        made_after: 2_062,
+        stands: [7, 8],
+    },
+];
+
 /// Makes the updates once for each stop, on a machine of its own. The index in a failure is the number of steps.
-fn check(rt: &impl Abort, alloc: Global, table: &str, row: &Row) -> Result<(), Fail> {
+fn check(rt: &impl Abort, alloc: Global, row: &Row) -> Result<(), AllocError> {
     for k in 0..row.stops.len() {
         let steps = row.stops[k];
         let done = row.made_after <= steps;
@@ -354,37 +387,21 @@ fn check(rt: &impl Abort, alloc: Global, table: &str, row: &Row) -> Result<(), F
             reads: true,
         };
         let came = came_of(alloc, row.updates, Some(steps))?;
-        same(rt, table, steps as usize, &came, &due);
+        same(rt, row.name, steps as usize, &came, &due);
     }
     Ok(())
 }
 
 #[test]
-fn an_update_stands_whole_or_not_at_all(rt: HostRuntime) -> Result<(), Fail> {
-    // each step of the gate, of the shadows and of the edits, and the ends and a middle of each copy
-    let row = Row {
-        updates: Updates::One,
-        stops: &[
-            0, 1, 2, 300, 512, 513, 514, 515, 800, 1_026, 1_027, 1_028, 1_029, 1_030, 1_031,
-        ],
-        made_after: 1_030,
-        stands: [0, 7],
-    };
-    check(&rt, rt.alloc(), "steps of an update", &row)
+fn an_update_stands_whole_or_not_at_all(rt: HostRuntime) -> Result<(), AllocError> {
+    for row in ROWS.iter() {
+        check(&rt, rt.alloc(), row)?;
+    }
+    Ok(())
 }
 
 #[test]
-fn an_update_is_taken_back(rt: HostRuntime) -> Result<(), Fail> {
-    // from the first copy back on
-    let row = Row {
-        updates: Updates::Undone,
-        stops: &[
-            1_029, 1_030, 1_300, 1_541, 1_542, 1_800, 2_053, 2_054, 2_055,
-        ],
-        made_after: 2_054,
-        stands: [0, 0],
-    };
-    check(&rt, rt.alloc(), "steps of an update taken back", &row)?;
+fn a_second_update_is_taken_back(rt: HostRuntime) -> Result<(), AllocError> {
     let due = Came {
         done: true,
         standing: (7, 7),
@@ -393,19 +410,4 @@ fn an_update_is_taken_back(rt: HostRuntime) -> Result<(), Fail> {
     let came = came_of(rt.alloc(), Updates::SecondUndone, None)?;
     same(&rt, "a second update taken back", 0, &came, &due);
     Ok(())
-}
-
-#[test]
-fn a_second_update_stands_whole_or_not_at_all(rt: HostRuntime) -> Result<(), Fail> {
-    // it first takes two shadows away
-    let row = Row {
-        updates: Updates::Two,
-        stops: &[
-            1_030, 1_031, 1_032, 1_033, 1_034, 1_300, 1_545, 1_546, 1_547, 1_800, 2_058, 2_059,
-            2_060, 2_061, 2_062, 2_063,
-        ],
-        made_after: 2_062,
-        stands: [7, 8],
-    };
-    check(&rt, rt.alloc(), "steps of a second update", &row)
 }

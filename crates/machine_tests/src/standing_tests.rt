@@ -91,17 +91,18 @@ fn pending_standing(alloc: Global, choice: DiskChoice) -> Result<Vec<u64>, Fail>
     crashed(alloc, &image(alloc, 1)?, disk, choice)
 }
 
+/// The choices of what is pending, and the first word of block 51 then.
+static PENDING: [(DiskChoice, u64); 3] = [
+    (DiskChoice::AsRead, 6),
+    (DiskChoice::AsSynced, 5),
+    (DiskChoice::Filled(0xab), 0xabab_abab_abab_abab),
+];
+
 #[test]
 fn a_pending_block_without_entry_stands_as_the_stop_leaves_it(rt: HostRuntime) -> Result<(), Fail> {
-    let rows = [
-        (DiskChoice::AsRead, 6),
-        (DiskChoice::AsSynced, 5),
-        (DiskChoice::Filled(0xab), 0xabab_abab_abab_abab),
-    ];
-    for k in 0..rows.len() {
-        let (choice, first) = rows[k];
-        let came = three_of(&pending_standing(rt.alloc(), choice)?);
-        same(&rt, "crashes", k, &came, &[8, 6, first]);
+    for (k, (choice, first)) in PENDING.iter().enumerate() {
+        let came = three_of(&pending_standing(rt.alloc(), *choice)?);
+        same(&rt, "crashes", k, &came, &[8, 6, *first]);
     }
     Ok(())
 }
@@ -117,17 +118,18 @@ fn is_beyond(alloc: Global, at: usize, v: u64) -> Result<bool, Fail> {
     Ok(matches!(&found, Err(Unread::Beyond)))
 }
 
+/// Places, words there, and whether a memory with this word is beyond its limits.
+static LIMITS: [(usize, u64, bool); 4] = [
+    (531, 16, false), // the last shadow page
+    (531, 17, true),
+    (2, 8_193, true),
+    (2, 8_192, true), // frames would lie behind the last word
+];
+
 #[test]
 fn a_memory_beyond_its_limits_is_refused(rt: HostRuntime) -> Result<(), Fail> {
-    let rows = [
-        (531, 16, false), // the last shadow page
-        (531, 17, true),
-        (2, 8_193, true),
-        (2, 8_192, true), // frames would lie behind the last word
-    ];
-    for k in 0..rows.len() {
-        let (at, v, due) = rows[k];
-        same(&rt, "memories", k, &is_beyond(rt.alloc(), at, v)?, &due);
+    for (k, (at, v, due)) in LIMITS.iter().enumerate() {
+        same(&rt, "memories", k, &is_beyond(rt.alloc(), *at, *v)?, due);
     }
     Ok(())
 }
@@ -160,26 +162,36 @@ fn judged(alloc: Global, stands: Stands, words: &[u64]) -> Result<Option<Block>,
     Ok(plain.judge(&with_front(alloc, words)?))
 }
 
+/// A block that stands otherwise than it may.
+const WRONG: Option<Block> = Some(Block(3));
+
+/// What the judge says of words where nothing, the whole or a front may stand.
+type Judged = (Option<Block>, Option<Block>, Option<Block>);
+
+/// The words that stand, and what the judge says of them.
+static FRONTS: [([u64; 3], Judged); 7] = [
+    ([0, 0, 0], (None, None, None)),
+    ([7, 0, 0], (WRONG, WRONG, None)),
+    ([7, 8, 0], (WRONG, WRONG, None)),
+    ([7, 8, 9], (WRONG, None, None)),
+    ([0, 8, 9], (WRONG, WRONG, WRONG)),
+    ([7, 0, 9], (WRONG, WRONG, WRONG)),
+    ([7, 8, 8], (WRONG, WRONG, WRONG)),
+];
+
+/// What the judge says of these words.
+fn judged_all(alloc: Global, stored: &[u64; 3]) -> Result<Judged, Fail> {
+    Ok((
+        judged(alloc, Stands::Nothing, stored)?,
+        judged(alloc, Stands::Whole, stored)?,
+        judged(alloc, Stands::Front, stored)?,
+    ))
+}
+
 #[test]
 fn fronts_and_whole_updates_are_told_from_others(rt: HostRuntime) -> Result<(), Fail> {
-    let wrong = Some(Block(3));
-    let rows = [
-        ([0, 0, 0], [None, None, None]),
-        ([7, 0, 0], [wrong, wrong, None]),
-        ([7, 8, 0], [wrong, wrong, None]),
-        ([7, 8, 9], [wrong, None, None]),
-        ([0, 8, 9], [wrong, wrong, wrong]),
-        ([7, 0, 9], [wrong, wrong, wrong]),
-        ([7, 8, 8], [wrong, wrong, wrong]),
-    ];
-    for k in 0..rows.len() {
-        let (stored, due) = rows[k];
-        let came = [
-            judged(rt.alloc(), Stands::Nothing, &stored)?,
-            judged(rt.alloc(), Stands::Whole, &stored)?,
-            judged(rt.alloc(), Stands::Front, &stored)?,
-        ];
-        same(&rt, "fronts", k, &came, &due);
+    for (k, (stored, due)) in FRONTS.iter().enumerate() {
+        same(&rt, "fronts", k, &judged_all(rt.alloc(), stored)?, due);
     }
     Ok(())
 }

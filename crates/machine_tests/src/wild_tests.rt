@@ -92,15 +92,16 @@ fn after_wild(alloc: Global, at: WordAt) -> Result<(Wild, Result<u64, VolFail>, 
     Ok((met, read, word_in(&mem, at.0)))
 }
 
+/// Where a wild store falls, and what is found of it.
+static WILD: [(WordAt, (Wild, Result<u64, VolFail>, u64)); 2] = [
+    (IN_FRAME, (Wild::Trapped, Err(VolFail::Stopped), 0)),
+    (IN_SCRATCH, (Wild::Changed, Ok(0), 9)),
+];
+
 #[test]
 fn a_wild_store_stops_the_cache_or_falls_on_scratch(rt: HostRuntime) -> Result<(), Fail> {
-    let rows = [
-        (IN_FRAME, (Wild::Trapped, Err(VolFail::Stopped), 0)),
-        (IN_SCRATCH, (Wild::Changed, Ok(0), 9)),
-    ];
-    for k in 0..rows.len() {
-        let (at, due) = rows[k];
-        same(&rt, "wild stores", k, &after_wild(rt.alloc(), at)?, &due);
+    for (k, (at, due)) in WILD.iter().enumerate() {
+        same(&rt, "wild stores", k, &after_wild(rt.alloc(), *at)?, due);
     }
     Ok(())
 }
@@ -160,24 +161,32 @@ fn after_armed(alloc: Global, at: WordAt) -> Result<Armed, Fail> {
     })
 }
 
+/// Where the armed store falls, and what is found of both.
+static ARMED: [(WordAt, Armed); 2] = [
+    (
+        IN_FRAME,
+        Armed {
+            end: Err(VolFail::Stopped),
+            trapped: Some(IN_FRAME),
+            word: 0,
+            stands: 0,
+        },
+    ),
+    (
+        IN_SCRATCH,
+        Armed {
+            end: Ok(()),
+            trapped: None,
+            word: 9,
+            stands: 7,
+        },
+    ),
+];
+
 #[test]
 fn an_armed_store_stops_the_call_or_falls_on_scratch(rt: HostRuntime) -> Result<(), Fail> {
-    let stopped = Armed {
-        end: Err(VolFail::Stopped),
-        trapped: Some(IN_FRAME),
-        word: 0,
-        stands: 0,
-    };
-    let done = Armed {
-        end: Ok(()),
-        trapped: None,
-        word: 9,
-        stands: 7,
-    };
-    let rows = [(IN_FRAME, stopped), (IN_SCRATCH, done)];
-    for k in 0..rows.len() {
-        let (at, due) = rows[k];
-        same(&rt, "armed stores", k, &after_armed(rt.alloc(), at)?, &due);
+    for (k, (at, due)) in ARMED.iter().enumerate() {
+        same(&rt, "armed stores", k, &after_armed(rt.alloc(), *at)?, due);
     }
     Ok(())
 }
@@ -237,23 +246,19 @@ fn after_three(alloc: Global, at: WordAt, n: usize) -> Result<(Result<(), RunFai
     Ok((end, word_in(&mem, at.0)))
 }
 
+/// Where the armed store falls, how many words are stored, how that ends, and the word at the place.
+static RUNS: [(WordAt, usize, (Result<(), RunFail>, u64)); 4] = [
+    (IN_SCRATCH, 2, (Ok(()), 0)),
+    (IN_SCRATCH, 3, (Ok(()), 9)),
+    (IN_FRAME, 2, (Ok(()), 0)),
+    (IN_FRAME, 3, (Err(RunFail::Stopped), 0)),
+];
+
 #[test]
 fn an_armed_store_falls_after_its_steps_and_not_before(rt: HostRuntime) -> Result<(), Fail> {
-    let rows = [
-        (IN_SCRATCH, 2, (Ok(()), 0)),
-        (IN_SCRATCH, 3, (Ok(()), 9)),
-        (IN_FRAME, 2, (Ok(()), 0)),
-        (IN_FRAME, 3, (Err(RunFail::Stopped), 0)),
-    ];
-    for k in 0..rows.len() {
-        let (at, n, due) = rows[k];
-        same(
-            &rt,
-            "steps before",
-            k,
-            &after_three(rt.alloc(), at, n)?,
-            &due,
-        );
+    for (k, (at, n, due)) in RUNS.iter().enumerate() {
+        let came = after_three(rt.alloc(), *at, *n)?;
+        same(&rt, "steps before", k, &came, due);
     }
     Ok(())
 }

@@ -14,7 +14,6 @@ use registry::load_tag;
 use rio_base::{Machine, VolFail};
 use std::alloc::{AllocError, Global};
 use std::process::Abort;
-use std::test::Fail;
 use write_back::{clean, evict, flush};
 
 /// A machine over a disk of 8 blocks, which this befalls.
@@ -112,7 +111,7 @@ fn check(
     table: &str,
     call: Call,
     rows: &[Row],
-) -> Result<(), Fail> {
+) -> Result<(), AllocError> {
     for k in 0..rows.len() {
         let (mishap, end, steps, [dirty, clean, on_disk]) = rows[k];
         let found = Found {
@@ -130,44 +129,59 @@ fn check(
 /// Nothing was written back.
 const UNTOUCHED: [u32; 3] = [0b11111, 0, 0];
 
-#[test]
-fn a_page_is_cleaned_or_stays_dirty(rt: HostRuntime) -> Result<(), Fail> {
-    let rows = [
-        (Mishap::Nothing, End::Done, 3, [0b11011, 0b100, 0b100]),
-        (Mishap::Fault(1), End::Fault, 1, UNTOUCHED),
-        (Mishap::Fault(2), End::Fault, 2, UNTOUCHED),
-    ];
-    check(&rt, rt.alloc(), "cleaned", Call::Clean, &rows)
-}
+/// Calls, each with rows.
+static TABLES: [(&str, Call, &[Row]); 5] = [
+    (
+        "a page is cleaned or stays dirty",
+        Call::Clean,
+        &[
+            (Mishap::Nothing, End::Done, 3, [0b11011, 0b100, 0b100]),
+            (Mishap::Fault(1), End::Fault, 1, UNTOUCHED),
+            (Mishap::Fault(2), End::Fault, 2, UNTOUCHED),
+        ],
+    ),
+    (
+        "an evicted page is on the disk",
+        Call::Evict,
+        &[
+            (Mishap::Nothing, End::Done, 4, [0b11011, 0, 0b100]),
+            (Mishap::Stop(0), End::Stopped, 0, UNTOUCHED),
+            (Mishap::Stop(1), End::Stopped, 1, UNTOUCHED),
+            (Mishap::Stop(2), End::Stopped, 2, [0b11111, 0, 0b100]),
+            (Mishap::Stop(3), End::Stopped, 3, [0b11011, 0b100, 0b100]),
+        ],
+    ),
+    (
+        "a flush of none",
+        Call::Flush(0),
+        &[(Mishap::Nothing, End::Flushed(0), 1, UNTOUCHED)],
+    ),
+    (
+        "a flush of more than are dirty",
+        Call::Flush(9),
+        &[(Mishap::Nothing, End::Flushed(5), 11, [0, 0b11111, 0b11111])],
+    ),
+    (
+        "a flush cleans the first two dirty entries",
+        Call::Flush(2),
+        &[
+            (Mishap::Nothing, End::Flushed(2), 5, [0b11100, 0b11, 0b11]),
+            (Mishap::Fault(1), End::Fault, 1, UNTOUCHED),
+            (Mishap::Fault(2), End::Fault, 2, UNTOUCHED),
+            (Mishap::Fault(3), End::Fault, 3, UNTOUCHED),
+            (Mishap::Stop(0), End::Stopped, 0, UNTOUCHED),
+            (Mishap::Stop(1), End::Stopped, 1, UNTOUCHED),
+            (Mishap::Stop(2), End::Stopped, 2, UNTOUCHED),
+            (Mishap::Stop(3), End::Stopped, 3, [0b11111, 0, 0b11]),
+            (Mishap::Stop(4), End::Stopped, 4, [0b11110, 0b1, 0b11]),
+        ],
+    ),
+];
 
 #[test]
-fn an_evicted_page_is_on_the_disk(rt: HostRuntime) -> Result<(), Fail> {
-    let rows = [
-        (Mishap::Nothing, End::Done, 4, [0b11011, 0, 0b100]),
-        (Mishap::Stop(0), End::Stopped, 0, UNTOUCHED),
-        (Mishap::Stop(1), End::Stopped, 1, UNTOUCHED),
-        (Mishap::Stop(2), End::Stopped, 2, [0b11111, 0, 0b100]),
-        (Mishap::Stop(3), End::Stopped, 3, [0b11011, 0b100, 0b100]),
-    ];
-    check(&rt, rt.alloc(), "evicted", Call::Evict, &rows)
-}
-
-#[test]
-fn a_flush_cleans_the_first_dirty_entries(rt: HostRuntime) -> Result<(), Fail> {
-    let none = [(Mishap::Nothing, End::Flushed(0), 1, UNTOUCHED)];
-    check(&rt, rt.alloc(), "flush of none", Call::Flush(0), &none)?;
-    let all = [(Mishap::Nothing, End::Flushed(5), 11, [0, 0b11111, 0b11111])];
-    check(&rt, rt.alloc(), "flush of more", Call::Flush(9), &all)?;
-    let two = [
-        (Mishap::Nothing, End::Flushed(2), 5, [0b11100, 0b11, 0b11]),
-        (Mishap::Fault(1), End::Fault, 1, UNTOUCHED),
-        (Mishap::Fault(2), End::Fault, 2, UNTOUCHED),
-        (Mishap::Fault(3), End::Fault, 3, UNTOUCHED),
-        (Mishap::Stop(0), End::Stopped, 0, UNTOUCHED),
-        (Mishap::Stop(1), End::Stopped, 1, UNTOUCHED),
-        (Mishap::Stop(2), End::Stopped, 2, UNTOUCHED),
-        (Mishap::Stop(3), End::Stopped, 3, [0b11111, 0, 0b11]),
-        (Mishap::Stop(4), End::Stopped, 4, [0b11110, 0b1, 0b11]),
-    ];
-    check(&rt, rt.alloc(), "flush of two", Call::Flush(2), &two)
+fn calls_that_write_back_answer_as_their_rows_say(rt: HostRuntime) -> Result<(), AllocError> {
+    for (table, call, rows) in TABLES.iter() {
+        check(&rt, rt.alloc(), table, *call, rows)?;
+    }
+    Ok(())
 }

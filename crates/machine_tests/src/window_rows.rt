@@ -1,11 +1,9 @@
-//! Tests of windows on boards of two protected pages.
+//! Windows on boards of two protected pages.
 
-use crate::board_rows::check;
-use std::test::Fail;
-
-#[test]
-fn a_window_puts_words_of_its_page(rt: HostRuntime) -> Result<(), Fail> {
-    let rows = "
+/// Words that are put through windows.
+pub(crate) static WINDOWS: [&str; 2] = [
+    // a window puts words of its page
+    "
         board small: two words, and one
         put_two 1 7: Done
         put_one 1 3 8: Done
@@ -20,14 +18,9 @@ fn a_window_puts_words_of_its_page(rt: HostRuntime) -> Result<(), Fail> {
         word 1023: Number(0)
         put_one 1 3 8: Stopped
         word 515: Number(0)
-    ";
-    check(&rt, rt.alloc(), rows)?;
-    Ok(())
-}
-
-#[test]
-fn a_run_is_put_up_to_the_end_of_its_page(rt: HostRuntime) -> Result<(), Fail> {
-    let rows = "
+    ",
+    // a run is put up to the end of its page
+    "
         board small: at the end
         put_run 0 509 7 8 9: Done
         word 508: Number(0)
@@ -43,7 +36,5 @@ fn a_run_is_put_up_to_the_end_of_its_page(rt: HostRuntime) -> Result<(), Fail> {
         word 514: Number(0)
         put_run 1 2 9: Stopped
         put_run 1 512: Done
-    ";
-    check(&rt, rt.alloc(), rows)?;
-    Ok(())
-}
+    ",
+];

@@ -1,11 +1,9 @@
-//! Tests of copies, runs of words and pages that are lent, on boards whose words are their own places.
+//! Copies, runs of words and pages that are lent, on boards whose words are their own places.
 
-use crate::board_rows::check;
-use std::test::Fail;
-
-#[test]
-fn a_page_is_copied_word_by_word(rt: HostRuntime) -> Result<(), Fail> {
-    let rows = "
+/// Copies of pages, runs of words, and pages that are lent.
+pub(crate) static COPIES: [&str; 6] = [
+    // a page is copied word by word
+    "
         board counted: a whole page
         open 2: Done
         copy 1 2: Done
@@ -33,14 +31,9 @@ fn a_page_is_copied_word_by_word(rt: HostRuntime) -> Result<(), Fail> {
         arm 5 0 9: Done
         copy 20 2: Stopped
         trapped: Place(None)
-    ";
-    check(&rt, rt.alloc(), rows)?;
-    Ok(())
-}
-
-#[test]
-fn an_armed_store_falls_within_a_copy_or_behind_it(rt: HostRuntime) -> Result<(), Fail> {
-    let rows = "
+    ",
+    // an armed store falls within a copy or behind it
+    "
         board counted: it traps within a copy
         open 2: Done
         arm 100 0 9: Done
@@ -74,17 +67,10 @@ fn an_armed_store_falls_within_a_copy_or_behind_it(rt: HostRuntime) -> Result<()
         copy 21 2: Stopped
         front 512: Is(true)
         trapped: Place(Some(WordAt(0)))
-    ";
-    check(&rt, rt.alloc(), rows)?;
-    Ok(())
-}
-
-#[test]
-fn a_page_of_scratch_is_copied_as_it_is_when_its_words_are_read(
-    rt: HostRuntime,
-) -> Result<(), Fail> {
-    let rows = "
-        board counted: a whole page
+    ",
+    // a page of scratch is copied as it is when its words are read
+    "
+        board counted: a whole page of scratch
         open 2: Done
         copy 82 2: Done
         word 1024: Number(41984)
@@ -124,14 +110,9 @@ fn a_page_of_scratch_is_copied_as_it_is_when_its_words_are_read(
         copy 82 2: Done
         word 1124: Number(42084)
         word 42084: Number(9)
-    ";
-    check(&rt, rt.alloc(), rows)?;
-    Ok(())
-}
-
-#[test]
-fn a_run_at_the_end_of_a_page_is_whole_or_stopped(rt: HostRuntime) -> Result<(), Fail> {
-    let rows = "
+    ",
+    // a run at the end of a page is whole or stopped
+    "
         board counted stop 0: after no step
         open 2: Done
         run 1533 7 8 9: Stopped
@@ -176,16 +157,9 @@ fn a_run_at_the_end_of_a_page_is_whole_or_stopped(rt: HostRuntime) -> Result<(),
         word 1535: Number(9)
         word 1536: Number(1536)
         steps: Number(3)
-    ";
-    check(&rt, rt.alloc(), rows)?;
-    Ok(())
-}
-
-#[test]
-fn a_run_goes_on_behind_an_armed_store_and_an_empty_one_is_no_step(
-    rt: HostRuntime,
-) -> Result<(), Fail> {
-    let rows = "
+    ",
+    // a run goes on behind an armed store and an empty one is no step
+    "
         board counted: it goes on behind an armed store
         open 2: Done
         arm 1 41984 5: Done
@@ -201,19 +175,12 @@ fn a_run_goes_on_behind_an_armed_store_and_an_empty_one_is_no_step(
         open 2: Done
         run 1030: Done
         steps: Number(0)
-    ";
-    check(&rt, rt.alloc(), rows)?;
-    Ok(())
-}
-
-#[test]
-fn pages_are_lent_as_they_read(rt: HostRuntime) -> Result<(), Fail> {
-    let rows = "
+    ",
+    // pages are lent as they read
+    "
         board counted: the first, a middle and the last word
         page_len 3: Number(512)
         page_word 3 7: Number(1543)
         page_word 82 511: Number(42495)
-    ";
-    check(&rt, rt.alloc(), rows)?;
-    Ok(())
-}
+    ",
+];

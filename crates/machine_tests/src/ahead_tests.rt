@@ -1,0 +1,120 @@
+//! A test of pages that are written before they leave a cache: one sync serves many of them.
+
+ghost use Rattle.std.specs.Prelude.{◌≡◌, ◌<◌, false};
+ghost use Rattle.machine_tests.specs.Walks.{Walks};
+
+use crate::cache_walks::cache_of;
+use crate::crashes::crashed;
+use crate::same::same;
+use block_disk::{DiskChoice, MemDisk};
+use machine_readers::BLOCKS;
+use page_cache::PageCache;
+use rio_base::{BLOCK_WORDS, Block, Blocks, Machine, VolFail, Volume};
+use std::alloc::Global;
+use std::test::Fail;
+
+/// Stores 7 as the first word of a block of metadata.
+#[tactic(auto, using(crate::proofs::WalkNames::walk_place, crate::proofs::WalkNames::can_touch, crate::proofs::WalkNames::walks_put))]
+fn store_first<V: Volume>(v: &mut V, b: u32) -> Result<(), VolFail>
+    requires sound { V.sound v.old }
+    requires walks { Walks (V.seen v.old) }
+    requires idle { (V.kept v.old).updating ≡ false }
+    requires block { b < 40 }
+    ensures idle { (V.kept v.new).updating ≡ false }
+    ensures walks { Walks (V.seen v.new) }
+    ensures sound { V.sound v.new }
+{
+    v.store(Block(b), None, 0, 7)
+}
+
+/// Writes a page ahead.
+#[tactic(auto, using(crate::proofs::WalkNames::walks_dropped))]
+fn write_ahead<M: Machine>(v: &mut PageCache<M>) -> Result<(), VolFail>
+    requires sound { ⟦<PageCache<M> as Blocks>⟧.sound v.old }
+    requires walks { Walks (⟦<PageCache<M> as Blocks>⟧.seen v.old) }
+    requires idle { (⟦<PageCache<M> as Volume>⟧.kept v.old).updating ≡ false }
+    ensures idle { (⟦<PageCache<M> as Volume>⟧.kept v.new).updating ≡ false }
+    ensures walks { Walks (⟦<PageCache<M> as Blocks>⟧.seen v.new) }
+    ensures sound { ⟦<PageCache<M> as Blocks>⟧.sound v.new }
+{
+    v.write_ahead()?;
+    Ok(())
+}
+
+/// Stores into a block, after a page was written ahead, if one is to be.
+fn turn<M: Machine>(v: &mut PageCache<M>, b: u32, ahead: bool) -> Result<(), VolFail>
+    requires sound { ⟦<PageCache<M> as Blocks>⟧.sound v.old }
+    requires walks { Walks (⟦<PageCache<M> as Blocks>⟧.seen v.old) }
+    requires idle { (⟦<PageCache<M> as Volume>⟧.kept v.old).updating ≡ false }
+    requires block { b < 40 }
+    ensures idle { (⟦<PageCache<M> as Volume>⟧.kept v.new).updating ≡ false }
+    ensures walks { Walks (⟦<PageCache<M> as Blocks>⟧.seen v.new) }
+    ensures sound { ⟦<PageCache<M> as Blocks>⟧.sound v.new }
+{
+    if !ahead {
+        return store_first(v, b);
+    }
+    write_ahead(v)?;
+    store_first(v, b)
+}
+
+/// Stores into the blocks 0 to 39 in turn, 128 times in all: a cache of 32 frames never has the next one.
+fn go_round<M: Machine>(v: &mut PageCache<M>, ahead: bool) -> Result<(), VolFail>
+    requires sound { ⟦<PageCache<M> as Blocks>⟧.sound v.old }
+    requires walks { Walks (⟦<PageCache<M> as Blocks>⟧.seen v.old) }
+    requires idle { (⟦<PageCache<M> as Volume>⟧.kept v.old).updating ≡ false }
+    ensures sound { ⟦<PageCache<M> as Blocks>⟧.sound v.new }
+{
+    for k in 0..128u32 {
+        turn(v, k % 40, ahead)?;
+    }
+    Ok(())
+}
+
+/// What came of it.
+#[derive(Clone, Copy, Debug, PartialEq, Eq)]
+struct Came {
+    end: Result<(), VolFail>,
+    /// How many blocks were written.
+    writes: u64,
+    /// How many of the 40 blocks stand as stored, after a crash that lost each pending block.
+    stand: u32,
+}
+
+/// How many of the first 40 blocks have 7 as their first word.
+fn sevens(words: &[u64]) -> u32 {
+    let mut count = 0u32;
+    for b in 0..40usize {
+        if words.get(BLOCK_WORDS * b) == Some(&7) {
+            count = count.saturating_add(1);
+        }
+    }
+    count
+}
+
+/// Goes round on a cache of 32 frames: what came of it, and how many steps were no write of a block.
+fn came_of(alloc: Global, ahead: bool) -> Result<(Came, u64), Fail> {
+    let mut v = cache_of(alloc, 32, MemDisk::new(alloc, BLOCKS)?, None)?;
+    let end = go_round(&mut v, ahead);
+    let machine = v.into_machine();
+    let steps = machine.steps();
+    let (mem, disk) = machine.into_parts();
+    let writes = disk.writes();
+    let found = crashed(alloc, &mem.into_words(), disk, DiskChoice::AsSynced)?;
+    let stand = sevens(&found);
+    Ok((Came { end, writes, stand }, steps.saturating_sub(writes)))
+}
+
+/// Both make the same stores. Of 96 pages that leave, each has a sync of its own, or 7 syncs serve them all: that of the
+/// first page, those 2, 4, 8 and 16 pages later, as each round writes one more ahead, and then one for 32 pages.
+#[test]
+fn one_sync_serves_many_pages_that_leave(rt: HostRuntime) -> Result<(), Fail> {
+    let (alone, alone_steps) = came_of(rt.alloc(), false)?;
+    let (ahead, ahead_steps) = came_of(rt.alloc(), true)?;
+    let end = Ok(());
+    let due = [(96, 40), (127, 40)].map(|(writes, stand)| Came { end, writes, stand });
+    same(&rt, "written", 0, &[alone, ahead], &due);
+    let saved = alone_steps.saturating_sub(ahead_steps);
+    same(&rt, "syncs less", 0, &saved, &(96 - 7));
+    Ok(())
+}
