@@ -1,5 +1,5 @@
 -- A cache that has just been booted, as a core: it holds the state that memory and disk stood for.
-use Rattle.std.specs.Prelude.{◌≡◌, ℕ, ◌+◌, ◌*◌, [], false, length}
+use Rattle.std.specs.Prelude.{◌≡◌, ℕ, ◌+◌, [], false, length}
 use Rattle.std.proofs.Common.{sym, subst, arith}
 use Rattle.rio_base.specs.declared.places.VolumeShape.{VolumeShape}
 use Rattle.rio_base.specs.Blocks.{BlockWords, Seen}

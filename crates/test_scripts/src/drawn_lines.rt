@@ -1,5 +1,5 @@
 //! Drawn request lines for walks: for the same seed the same. They name 40 files in 4 directories, the directories, and 4
-//! regions.
+//! regions; or else many files in 2 directories.
 
 ghost use Rattle.std.specs.Prelude.{◌<◌};
 
@@ -105,6 +105,19 @@ const ON_REGIONS: [Group; 6] = [
     ),
 ];
 
+/// Lines on many names of two directories: 16 draws. More names are made than go.
+const ON_NAMES: [Group; 6] = [
+    (1, &["list %t"]),
+    (
+        1,
+        &["mkdir %t", "mkdir %t", "rmdir %t", "mkdir %q", "rmdir %q"],
+    ),
+    (2, &["rename %q %q"]),
+    (2, &["unlink %q"]),
+    (2, &["stat %q"]),
+    (8, &["create %q"]),
+];
+
 /// The form of a line, drawn as its groups say.
 fn drawn_form(draws: &mut Draws, groups: &[Group], all: u32) -> &'static str {
     let mut draw = draws.below(all.max(1));
@@ -158,6 +171,17 @@ fn push_path(alloc: Global, line: &mut String, draws: &mut Draws) -> Result<(), 
         return Ok(());
     }
     push_number(alloc, line, "/n", draws.below(10))
+}
+
+/// Puts the path of one of two directories behind a line.
+fn push_one_of_two(alloc: Global, line: &mut String, draws: &mut Draws) -> Result<(), AllocError> {
+    push_number(alloc, line, "/d", draws.below(2))
+}
+
+/// Puts a path behind a line that is one of 128 in each of two directories.
+fn push_one_of_many(alloc: Global, line: &mut String, draws: &mut Draws) -> Result<(), AllocError> {
+    push_one_of_two(alloc, line, draws)?;
+    push_number(alloc, line, "/n", draws.below(128))
 }
 
 /// Puts the path of a region behind a line, and one time in 16 that of a file.
@@ -230,6 +254,8 @@ fn push_drawn(
         "d" => push_dir(alloc, line, draws),
         "p" => push_path(alloc, line, draws),
         "r" => push_region(alloc, line, draws),
+        "t" => push_one_of_two(alloc, line, draws),
+        "q" => push_one_of_many(alloc, line, draws),
         "w" => {
             let count = draws.below(5000) >> draws.below(12);
             push_bytes(line, draws, count)
@@ -264,6 +290,12 @@ pub fn drawn_line(alloc: Global, draws: &mut Draws, regions: u32) -> Result<Stri
     } else {
         drawn_form(draws, &ON_FILES, 16)
     };
+    drawn_as(alloc, draws, form)
+}
+
+/// A line on many names of two directories. It is no flush.
+pub fn drawn_name_line(alloc: Global, draws: &mut Draws) -> Result<String, AllocError> {
+    let form = drawn_form(draws, &ON_NAMES, 16);
     drawn_as(alloc, draws, form)
 }
 

@@ -4,7 +4,7 @@
 
 mod drawn_lines;
 
-pub use drawn_lines::{Draws, drawn_flush, drawn_line, reading_of_file};
+pub use drawn_lines::{Draws, drawn_flush, drawn_line, drawn_name_line, reading_of_file};
 use std::alloc::{AllocError, Global};
 use std::fmt::Debug;
 

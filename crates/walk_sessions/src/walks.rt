@@ -1,30 +1,53 @@
 //! Walks of drawn requests, whose replies are those of the plain definition.
 
 use std::alloc::{AllocError, Global};
-use test_scripts::{Draws, drawn_flush, drawn_line};
+use test_scripts::{Draws, drawn_flush, drawn_line, drawn_name_line};
 use test_servers::{Plain, Sizes};
+
+/// How many of 16 lines are on regions, where most are.
+const ON_REGIONS: u32 = 13;
+
+/// What lines are on.
+#[derive(Clone, Copy, Debug)]
+enum Subject {
+    /// Files and directories.
+    Files,
+    /// Regions, most of them.
+    Regions,
+    /// Many names of two directories.
+    Names,
+}
 
 /// What is drawn.
 #[derive(Clone, Copy, Debug)]
 pub struct Mix {
-    /// How many of 16 lines are on regions.
-    regions: u32,
+    subject: Subject,
     /// Whether some lines between the others flush. The others are the same.
     flushes: bool,
 }
 
 impl Mix {
-    /// The mix of this name: `files`, `flushed-files`, `regions` or `flushed-regions`. Of the last two most lines are on
-    /// regions.
+    /// The mix of this name: `files`, `regions` or `names`, or one of these behind `flushed-`.
     pub fn named(name: &str) -> Option<Mix> {
-        let (regions, flushes) = match name {
-            "files" => (0, false),
-            "flushed-files" => (0, true),
-            "regions" => (13, false),
-            "flushed-regions" => (13, true),
+        let (subject, flushes) = match name {
+            "files" => (Subject::Files, false),
+            "flushed-files" => (Subject::Files, true),
+            "regions" => (Subject::Regions, false),
+            "flushed-regions" => (Subject::Regions, true),
+            "names" => (Subject::Names, false),
+            "flushed-names" => (Subject::Names, true),
             _ => return None,
         };
-        Some(Mix { regions, flushes })
+        Some(Mix { subject, flushes })
+    }
+
+    /// The next line that is no flush.
+    fn drawn(&self, alloc: Global, draws: &mut Draws) -> Result<String, AllocError> {
+        match self.subject {
+            Subject::Files => drawn_line(alloc, draws, 0),
+            Subject::Regions => drawn_line(alloc, draws, ON_REGIONS),
+            Subject::Names => drawn_name_line(alloc, draws),
+        }
     }
 }
 
@@ -69,7 +92,7 @@ pub fn walk_of(
             let line = drawn_flush(alloc, &mut flush_draws)?;
             walk.push(&mut plain, line)?;
         }
-        let line = drawn_line(alloc, &mut draws, mix.regions)?;
+        let line = mix.drawn(alloc, &mut draws)?;
         walk.push(&mut plain, on_scratch(alloc, sizes, line)?)?;
     }
     Ok(walk)

@@ -1,4 +1,3 @@
-use Rattle.std.specs.Prelude.{length}
 use Rattle.rio_model.specs.declared.state.State.{State}
 use Rattle.page_cache.specs.Caches.{cache_below, cache_health, cache_kept, cache_seen}
 use Rattle.rio_core.specs.Serving.{Holds}
