@@ -6,9 +6,9 @@ use Rattle.std.proofs.lemmas.List.{get_or-append_right, get_or_append_left, get_
 use borrow.Rule.Slice.PartMut.{put_mid}
 use Rattle.rio_base.specs.Disks.{block_at}
 use Rattle.rio_model.specs.Cover.{home_word}
-use Rattle.page_cache.specs.declared.early.Early.{Early}
-use Rattle.page_cache.specs.declared.early.Early.TheVariants.{Free, Written}
-use Rattle.page_cache.specs.declared.early.EarlyWrites.{EarlyWrites}
+use Rattle.page_cache.specs.declared.slots.Early.{Early}
+use Rattle.page_cache.specs.declared.slots.Early.TheVariants.{Free, Written}
+use Rattle.page_cache.specs.declared.slots.EarlyWrites.{EarlyWrites}
 use Rattle.page_cache.specs.EarlyBlocks.{HasWords, Knows, LosesSome, SettlesAll, is_settled_slot, owner_of, slot_at}
 
 -- ---- a block's words are put in their place
@@ -126,7 +126,7 @@ knows_settled disk pending marks old new k h none = record {
   settled = λ s b owner is. none b;
 }
 
-some_is : (b c : ℕ) → Some c ≡ Some b → c ≡ b
+pub some_is : (b c : ℕ) → Some c ≡ Some b → c ≡ b
 some_is b c e = cc
 
 -- the words of slot s are those of block c

@@ -1,7 +1,7 @@
 -- A cache after a flush: entries say of their pages what they said.
 use Rattle.page_cache.proofs.Common.{◌≡◌, ◌≢◌, ℕ, ◌<◌, ◌==◌, false, None, refl, ◌∙◌, sym, subst, arith, coherent_on, Contents, Lasts, HeldEntry, Keeps, entry_block, IsValid, frames_of, gate_of}
 use Rattle.page_cache.specs.declared.tables.CacheTables.{CacheTables}
-use Rattle.page_cache.specs.declared.early.EarlyWrites.{EarlyWrites}
+use Rattle.page_cache.specs.declared.slots.EarlyWrites.{EarlyWrites}
 use Rattle.page_cache.specs.Caches.{CacheSound}
 use Rattle.page_cache.specs.EarlyBlocks.{KnowsNone}
 

@@ -5,7 +5,7 @@ use Rattle.frame_pool.specs.Pools.{blocks_in}
 use Rattle.page_cache.specs.declared.tables.CacheTables.{CacheTables}
 use Rattle.page_cache.specs.Caches.{CacheSound, IsListed, SameTables}
 use Rattle.page_cache.specs.EarlyBlocks.{Knows, LosesSome}
-use Rattle.page_cache.specs.declared.early.EarlyWrites.{EarlyWrites}
+use Rattle.page_cache.specs.declared.slots.EarlyWrites.{EarlyWrites}
 use Rattle.write_back.specs.Writing.{SameDisk}
 use Rattle.page_cache.specs.Nearing.{Nears}
 use Rattle.page_cache.proofs.EarlyStates.{knows_loses, loses_refl}

@@ -1,5 +1,6 @@
 pub mod Common
 pub mod DirtyMarks
+pub mod EarlyHints
 pub mod EarlyStates
 pub mod Edits
 pub mod FailedUses
@@ -27,4 +28,5 @@ pub mod Updates
 pub mod Uses
 pub mod Widths
 pub mod Wilds
+pub mod WordRuns
 pub mod Zeros

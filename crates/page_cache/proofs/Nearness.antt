@@ -13,7 +13,7 @@ use Rattle.rio_model.proofs.CoverStands.{narrows_refl}
 use Rattle.rio_model.proofs.CoverSteps.{keeps_refl, keeps_trans}
 use Rattle.rio_model.specs.Cover.{OnDisk, frame_page, home_word}
 use Rattle.write_back.specs.Writing.{SameDisk}
-use Rattle.page_cache.specs.declared.early.EarlyWrites.{EarlyWrites}
+use Rattle.page_cache.specs.declared.slots.EarlyWrites.{EarlyWrites}
 use Rattle.page_cache.specs.declared.tables.CacheTables.{CacheTables}
 use Rattle.page_cache.specs.Caches.{CacheSound, cache_below, cache_health, cache_kept, cache_seen, is_touched}
 use Rattle.page_cache.specs.EarlyBlocks.{HasWords, Knows, LosesSome, SettlesAll, owner_of, slot_at}

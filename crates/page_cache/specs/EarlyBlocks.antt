@@ -1,16 +1,11 @@
 -- Which blocks were written before their pages leave, as which words, and of which of them nothing is pending.
-use Rattle.std.specs.Prelude.{◌≡◌, ◌⊎◌, ℕ, ◌+◌, ◌*◌, ◌<◌, Bool, true, false, List, slice_index, slice_index_or, Option, Some, None}
+use Rattle.std.specs.Prelude.{◌≡◌, ◌⊎◌, ℕ, ◌+◌, ◌*◌, ◌<◌, Bool, true, false, List, slice_index, slice_index_or, Some}
 use Rattle.rio_base.specs.Disks.{is_pending}
 use Rattle.rio_model.specs.Cover.{home_word}
-use Rattle.page_cache.specs.declared.early.Early.{Early}
-use Rattle.page_cache.specs.declared.early.Early.TheVariants.{Free, Written, Settled}
-use Rattle.page_cache.specs.declared.early.EarlyWrites.{EarlyWrites}
-
--- the block of a slot, if it is of one
-abbrev pub owner_of : Early → Option ℕ
-owner_of Free = None
-owner_of (Written b) = Some b.0
-owner_of (Settled b) = Some b.0
+use Rattle.page_cache.specs.declared.slots.Early.{Early}
+use Rattle.page_cache.specs.declared.slots.Early.TheVariants.{Free, Written, Settled}
+use Rattle.page_cache.specs.declared.slots.EarlyWrites.{EarlyWrites}
+pub use Rattle.page_cache.specs.EarlySlots.{owner_of}
 
 abbrev pub is_settled_slot : Early → Bool
 is_settled_slot Free = false

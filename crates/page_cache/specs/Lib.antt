@@ -1,5 +1,6 @@
 pub mod Caches
 pub mod EarlyBlocks
+pub mod EarlySlots
 pub mod Laws
 pub mod Nearing
 pub mod Settled

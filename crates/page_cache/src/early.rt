@@ -1,26 +1,21 @@
-//! Which blocks were written before their pages leave the cache, and as which words.
+//! Which blocks were written before their pages leave the cache, and as which words: what is asked and told of them.
 
-ghost use Rattle.std.specs.Prelude.{◌≡◌, ◌≢◌, ◌<◌, ◌≤◌, ◌+◌, ◌*◌, ℕ, Bool, true, false, List, Some, IfOk, IfSome, length, slice_index_or};
+ghost use Rattle.std.specs.Prelude.{◌≡◌, ◌≢◌, ◌<◌, ◌≤◌, ◌+◌, ◌*◌, ℕ, Bool, true, false, List, None, Some, IfOk, IfSome, drop, length, slice_index_or, take};
 ghost use Rattle.rio_base.specs.Disks.{is_pending};
 ghost use Rattle.rio_base.specs.Memory.{FrontStored};
-ghost use Rattle.page_cache.specs.EarlyBlocks.{HasWords, Knows, KnowsNone, LosesSome, SettlesAll, is_settled_slot, owner_of, slot_at};
+ghost use Rattle.page_cache.specs.EarlyBlocks.{HasWords, Knows, KnowsNone, LosesSome, SettlesAll, is_settled_slot, slot_at};
+ghost use Rattle.page_cache.specs.EarlySlots.{owner_of};
 
+use crate::slots::{Early, EarlyWrites, SLOTS};
 use rio_base::{BLOCK_WORDS, Block};
 use std::alloc::{AllocError, Global};
+use std::simd::prelude::*;
 
-/// How many blocks are known at most.
-const SLOTS: usize = 64;
+/// How many words are compared together.
+const RUN: usize = 8;
 
-/// Of which block a slot is, and how far that is.
-#[derive(Clone, Copy)]
-pub enum Early {
-    /// Of none.
-    Free,
-    /// It was written, and not synced since.
-    Written(Block),
-    /// It was written and synced, and no write of it was begun since: it isn't pending.
-    Settled(Block),
-}
+/// Of how many writes one is of a page that is looked for from the front on.
+const TURN: u32 = 4;
 
 impl Early {
     /// Whether it is of block `b`.
@@ -47,23 +42,6 @@ impl Early {
     }
 }
 
-/// Blocks that were written, each with its words as they were written: the disk has them still, since each write of a block
-/// takes its slot away first. So it is known without a read whether a page was stored into since. No call but `new` takes
-/// memory.
-#[derive(Drop)]
-pub struct EarlyWrites {
-    /// Of which block each slot is.
-    pub(crate) slots: [Early; SLOTS],
-    /// The words of the slots, in their order, or no word at all: then no block is ever known.
-    pub(crate) words: Vec<u64>,
-    /// Which slot each block had last. It is a hint: the slot says whether it is of the block.
-    hints: Vec<u8>,
-    /// The slot to be used next.
-    next: u32,
-    /// How many slots are of a block. It is a hint.
-    used: u32,
-}
-
 /// Slots of no block.
 fn no_blocks() -> [Early; SLOTS]
     ensures { (s : ℕ) → slice_index_or result s Early.Free ≡ Early.Free }
@@ -87,16 +65,6 @@ fn no_hints(alloc: Global, blocks: u32, none: bool) -> Result<Vec<u8>, AllocErro
     vec![in alloc; 0; blocks as usize]
 }
 
-/// Hints that block `b` has slot `s`.
-fn put_hint(hints: &mut [u8], b: Block, s: usize)
-    requires slot { s < 64 }
-{
-    let at = b.0 as usize;
-    if at < hints.len() {
-        hints[at] = s as u8;
-    }
-}
-
 /// So many slots, and this one, if it was free.
 fn with_slot(used: u32, slot: Early) -> u32 {
     match slot {
@@ -110,7 +78,29 @@ fn with_slot(used: u32, slot: Early) -> u32 {
 fn are_same(a: &[u64], b: &[u64]) -> bool
     ensures { result ≡ true → a.now ≡ b.now }
 {
-    a == b
+    if a.len() != b.len() {
+        return false;
+    }
+    let mut at = 0;
+    'runs: while a.len() - at >= RUN {
+        if !is_same_run(a, b, at) {
+            return false;
+        }
+        at += RUN;
+    }
+    a[at..] == b[at..]
+}
+
+/// Whether the words of the run from `at` on are the same in both.
+#[inline(always)]
+fn is_same_run(a: &[u64], b: &[u64], at: usize) -> bool
+    requires first { at + 8 ≤ length a.now }
+    requires second { at + 8 ≤ length b.now }
+    ensures { result ≡ true → take 8 (drop at a.now) ≡ take 8 (drop at b.now) }
+{
+    let left = u64x8::from_slice(&a[at..]);
+    let right = u64x8::from_slice(&b[at..]);
+    left.simd_ne(right).to_bitmask() == 0
 }
 
 /// Puts the words of a block in the place of slot `s`.
@@ -151,6 +141,8 @@ impl EarlyWrites {
     /// The slot of block `b`, if it has one.
     fn slot_of(&self, b: Block) -> Option<usize>
         ensures within { IfSome result (λ s. s < 64) }
+        ensures none { result ≡ None → (s : ℕ) → owner_of (slot_at self.now s) ≢ Some b.0 }
+        ensures only { IfSome result (λ s. (t : ℕ) → owner_of (slot_at self.now t) ≡ Some b.0 → t ≡ s) }
         ensures owner { IfSome result (λ s. owner_of (slot_at self.now s) ≡ Some b.0) }
     {
         let at = b.0 as usize;
@@ -165,6 +157,20 @@ impl EarlyWrites {
             return Some(s);
         }
         None
+    }
+
+    /// The block that was written last, if it is known still, and none each time that a page is to be looked for from the front
+    /// on. Pages behind one that was used since it was written are the last to leave, so that few are looked for behind it.
+    pub(crate) fn last(&self) -> Option<Block> {
+        if self.next % TURN == 0 {
+            return None;
+        }
+        let s = (self.next as usize + SLOTS - 1) % SLOTS;
+        match self.slots[s] {
+            Early::Free => None,
+            Early::Written(b) => Some(b),
+            Early::Settled(b) => Some(b),
+        }
     }
 
     /// How many blocks are known.
@@ -208,9 +214,10 @@ impl EarlyWrites {
         ensures loses { LosesSome self.old self.new }
         ensures off { (s : ℕ) → owner_of (slot_at self.new s) ≢ Some b.0 }
     {
-        for s in 0..SLOTS {
-            self.clear_slot(s, b);
-        }
+        let Some(s) = self.slot_of(b) else {
+            return;
+        };
+        self.clear_slot(s, b);
     }
 
     /// Slot `s` is not of block `b`.
@@ -226,20 +233,25 @@ impl EarlyWrites {
         }
     }
 
-    /// Block `b` was written, as these words.
+    /// Block `b`, which isn't known, was written, as these words.
     #[tactic(auto, using(crate::proofs::EarlyStates::knows_put))]
     pub(crate) fn wrote(&mut self, b: Block, page: &[u64])
         requires words { length page.now ≡ 512 }
+        requires off { (s : ℕ) → owner_of (slot_at self.old s) ≢ Some b.0 }
         ensures { (disk : List (List ℕ)) → (pending : List Bool) → Knows disk pending self.old → HasWords page.now disk b.0 → Knows disk pending self.new }
     {
         let s = self.next as usize % SLOTS;
         if self.words.len() < BLOCK_WORDS * SLOTS {
             return;
         }
+        let at = b.0 as usize;
+        if self.hints.len() <= at {
+            return;
+        }
         self.used = with_slot(self.used, self.slots[s]);
         self.slots[s] = Early::Written(b);
+        self.hints[at] = s as u8;
         put_words(self.words.as_mut_slice(), s, page);
-        put_hint(self.hints.as_mut_slice(), b, s);
         self.next = s as u32 + 1;
     }
 

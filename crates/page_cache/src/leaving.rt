@@ -77,6 +77,35 @@ impl<M: Machine> PageCache<M> {
         shadow_of_entry(&self.machine, k) == 0
     }
 
+    /// The page that leaves after the one that was written last, if it isn't that of frame `k` and may be written early. Those
+    /// in front of it were mostly written before, so that it saves looking at each of them again.
+    fn next_behind_last(&self, k: u32) -> Option<u32>
+        requires sound { CacheSound (M.contents self.now.machine) (length (M.run self.now.machine).scratch) self.now.tables }
+        ensures other { IfSome result (λ j. j ≢ k) }
+        ensures valid { IfSome result (λ j. IsValid (M.contents self.now.machine).words j) }
+        ensures dirty { IfSome result (λ j. is_dirty (tag_at (M.contents self.now.machine).words j) ≡ true) }
+    {
+        let Some(b) = self.tables.early.last() else {
+            return None;
+        };
+        if self.machine.disk_blocks() <= b.0 {
+            return None;
+        }
+        let Some(last) = self.tables.pool.find(b) else {
+            return None;
+        };
+        let Some(next) = self.tables.pool.next_used(last) else {
+            return None;
+        };
+        if next == k {
+            return None;
+        }
+        if self.can_send(next) {
+            return Some(next);
+        }
+        None
+    }
+
     /// Of the pages that may be written early, the one that leaves soonest after that of frame `k`, if it is near.
     fn next_to_send(&self, k: u32) -> Option<u32>
         requires sound { CacheSound (M.contents self.now.machine) (length (M.run self.now.machine).scratch) self.now.tables }
@@ -85,6 +114,9 @@ impl<M: Machine> PageCache<M> {
         ensures valid { IfSome result (λ j. IsValid (M.contents self.now.machine).words j) }
         ensures dirty { IfSome result (λ j. is_dirty (tag_at (M.contents self.now.machine).words j) ≡ true) }
     {
+        if let Some(next) = self.next_behind_last(k) {
+            return Some(next);
+        }
         let mut last = k;
         for _passed in 0..AHEAD {
             let Some(next) = self.tables.pool.next_used(last) else {

@@ -8,6 +8,7 @@ mod filling;
 mod freeing;
 mod leaving;
 mod reading;
+mod slots;
 mod storing;
 mod tables;
 mod updating;

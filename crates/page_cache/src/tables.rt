@@ -3,7 +3,7 @@
 ghost use Rattle.std.specs.Prelude.{◌≤◌, IfOk};
 ghost use Rattle.page_cache.specs.Caches.{IsFresh};
 
-use crate::early::EarlyWrites;
+use crate::slots::EarlyWrites;
 use frame_pool::FramePool;
 use rio_base::BLOCK_WORDS;
 use std::alloc::{AllocError, Global};

@@ -8,11 +8,11 @@ use Rattle.page_cache.proofs.cache.PageCache.send.Goals as goal
 pub frame-requires : goal.frame-requires
 frame-requires g c = let within = c.frame_page_of-page.ensures.within in record { page = rw c.write_entry.ensures.words (omega (arith, within)) }
 
-pub wrote-requires : goal.wrote-requires
-wrote-requires g c =
+pub wrote-requires-clause-words : goal.wrote-requires-clause-words
+wrote-requires-clause-words g c =
     let within = c.frame_page_of-page.ensures.within in
     let words = c.write_entry.ensures.words in
-    record { words = ap (λ (xs : List ℕ). length xs) (c.frame.ensures.protected (rw words (omega (arith, within)))) ∙ page_full (g.M.Machine.contents c.write_entry.new.m).words c.frame_page_of-page.result.0 (rw words within) }
+    ap (λ (xs : List ℕ). length xs) (c.frame.ensures.protected (rw words (omega (arith, within)))) ∙ page_full (g.M.Machine.contents c.write_entry.new.m).words c.frame_page_of-page.result.0 (rw words within)
 
 pub returns-in_err-write_entry-clause-nears : goal.returns-in_err-write_entry-clause-nears
 returns-in_err-write_entry-clause-nears g c = record { keeps = c.write_entry.ensures.keeps; words = c.write_entry.ensures.words; lasts = c.write_entry.ensures.lasts; tables = record { forgotten = refl; shadowed = refl; shadows = refl }; pool = refl }

@@ -1,5 +1,5 @@
 use Rattle.page_cache.specs.EarlyBlocks.{SettlesAll}
-use Rattle.page_cache.proofs.early.EarlyWrites.settle.Given as goal
+use Rattle.page_cache.proofs.slots.EarlyWrites.settle.Given as goal
 
 abbrev pub invariant-loop-s : goal.invariant-loop-s
 invariant-loop-s l = SettlesAll l.initial.self l.self

@@ -1,5 +1,5 @@
 use Rattle.page_cache.specs.EarlyBlocks.{LosesSome}
-use Rattle.page_cache.proofs.early.EarlyWrites.lose.Given as goal
+use Rattle.page_cache.proofs.slots.EarlyWrites.lose.Given as goal
 
 abbrev pub invariant-loop-s : goal.invariant-loop-s
 invariant-loop-s l = LosesSome l.initial.self l.self
