@@ -55,3 +55,4 @@ pub mod Unchanged
 pub mod Views
 pub mod WalkRules
 pub mod WalkedOn
+pub mod WalksHeld

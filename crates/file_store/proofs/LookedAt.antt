@@ -151,6 +151,10 @@ walk_next s i j name more h = walk_over s i (name ∷ []) more ∙ ap (λ (w : R
 pub comes_same : (walked other : Result ℕ ℕ) (q : Result Ino FileFail) → walked ≡ other → Comes other q → Comes walked q
 comes_same walked other q same h = subst (λ (w : Result ℕ ℕ). Comes w q) (sym same) h
 
+-- a failure handed on
+pub comes_handed : (walked : Result ℕ ℕ) (r q : Result Ino FileFail) (e d : FileFail) → r ≡ Err e → q ≡ Err d → d ≡ e → Comes walked r → Comes walked q
+comes_handed walked r q e d re qd de h = subst (λ (v : Result Ino FileFail). Comes walked v) (re ∙ sym (qd ∙ ap Err de)) h
+
 -- where its inode is told too: that failed
 pub comes_in : (walked : Result ℕ ℕ) (r : Result (Ino × Inode) FileFail) (q : Result Ino FileFail) (e d : FileFail) → r ≡ Err e → q ≡ Err d → d ≡ e → Comes walked (ino_in r) → Comes walked q
 comes_in walked r q e d re qd de h = subst (λ (v : Result Ino FileFail). Comes walked v) (ap ino_in re ∙ sym (qd ∙ ap Err de)) h

@@ -9,12 +9,14 @@ use Rattle.inode_table.specs.declared.full_blocks.FullBlocks.{FullBlocks}
 use Rattle.name_index.specs.Agreeing.{Agrees, AreNames, held_in}
 use Rattle.name_index.specs.Rows.{NamesOfDir}
 use Rattle.directories.specs.Holding.{HoldsRows}
-use Rattle.file_store.specs.Memos.{InStep, StayBut, StayThere}
+use Rattle.file_store.specs.Memos.{InStep, LeadsThere, StayBut, StayThere}
+use Rattle.file_store.specs.declared.last_path.LastPath.{LastPath}
 use Rattle.file_store.specs.declared.memo.Memo.{Memo}
 use Rattle.file_store.proofs.FreeFound.{free_held, used_node}
 use Rattle.file_store.proofs.LookedAt.{row_read}
 use Rattle.file_store.proofs.NameSteps.{gone_there}
 use Rattle.file_store.proofs.Reached.{kind_held}
+use Rattle.file_store.proofs.WalksHeld.{leads_on}
 
 -- ---- the same blocks
 
@@ -66,15 +68,16 @@ used_but shape f g s t i was is stay = λ j ino away used. still_used shape f g 
 
 -- ---- from blocks f that read as s to blocks g that read as t
 
-pub step_to : (shape : VolumeShape) (f g : BlockWords) (s t : State) (m n : Memo) → InStep shape f m → ReadsAs shape f s → ReadsAs shape g t → (Agrees m.names s.names → Agrees n.names t.names) → (KnowsFull shape m.full f → KnowsFull shape n.full g) → InStep shape g n
-step_to shape f g s t m n h was is names full = record {
+pub step_to : (shape : VolumeShape) (f g : BlockWords) (s t : State) (m n : Memo) → InStep shape f m → ReadsAs shape f s → ReadsAs shape g t → (Agrees m.names s.names → Agrees n.names t.names) → (KnowsFull shape m.full f → KnowsFull shape n.full g) → (LeadsThere m.path s → LeadsThere n.path t) → InStep shape g n
+step_to shape f g s t m n h was is names full path = record {
   names = λ u reads. subst (λ (ns : Names). Agrees n.names ns) (one_names shape g t u is reads) (names (h.names s was));
   full = full h.full;
+  path = λ u reads. leads_on shape g t u n.path reads (one_names shape g u t reads is) (path (h.path s was));
 }
 
 -- where names stay, and nodes too
 pub kept_step : (shape : VolumeShape) (f g : BlockWords) (s t : State) (m : Memo) → InStep shape f m → ReadsAs shape f s → ReadsAs shape g t → t.names ≡ s.names → StayThere s t → InStep shape g m
-kept_step shape f g s t m h was is same stay = step_to shape f g s t m m h was is (subst (λ (ns : Names). Agrees m.names ns) (sym same)) (full_stays shape f g s t m.full was is stay)
+kept_step shape f g s t m h was is same stay = step_to shape f g s t m m h was is (subst (λ (ns : Names). Agrees m.names ns) (sym same)) (full_stays shape f g s t m.full was is stay) (leads_on shape g s t m.path is same)
 
 -- ---- what each change leaves of nodes
 
@@ -114,10 +117,11 @@ pub none_there : (shape : VolumeShape) (f : BlockWords) (s : State) (d : ℕ) (n
 none_there shape f s d name reads dir none i row = none-some i (sym none ∙ row_read shape f s d row.0 name i reads dir row.1)
 
 -- where no further names are held
-pub closed_step : (shape : VolumeShape) (f : BlockWords) (m n : Memo) → n.names.dirs ≡ m.names.dirs → n.full ≡ m.full → InStep shape f m → InStep shape f n
-closed_step shape f m n dirs full h = record {
+pub closed_step : (shape : VolumeShape) (f : BlockWords) (m n : Memo) → n.names.dirs ≡ m.names.dirs → n.full ≡ m.full → n.path ≡ m.path → InStep shape f m → InStep shape f n
+closed_step shape f m n dirs full path h = record {
   names = λ s reads. λ dir held is. h.names s reads dir held (ap (λ ds. held_in ds dir) (sym dirs) ∙ is);
   full = subst (λ (fl : FullBlocks). KnowsFull shape fl f) (sym full) h.full;
+  path = λ s reads. subst (λ (last : LastPath). LeadsThere last s) (sym path) (h.path s reads);
 }
 
 -- ---- a call on the words of a region
@@ -126,6 +130,7 @@ pub rest_step : (shape : VolumeShape) (i : ℕ) (f g : BlockWords) (s : State) (
 rest_step shape i f g s m rest region reads h = record {
   names = λ u after. subst (λ (ns : Names). Agrees m.names ns) (names_agree shape f g s u there back reads after) (h.names s reads);
   full = record { each = λ j ino mark. used j ino (h.full.each j ino mark) (cases_eq j i) };
+  path = λ u after. leads_on shape g s u m.path after (sym (names_agree shape f g s u there back reads after)) (h.path s reads);
 }
   where
     there : SameDirs (held_of shape f) (held_of shape g)

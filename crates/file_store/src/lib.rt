@@ -8,6 +8,7 @@ mod committing;
 mod data;
 mod failures;
 mod finding;
+mod last_path;
 mod looking;
 mod making;
 mod memo;

@@ -125,8 +125,8 @@ fn step<V: Volume>(
     Ok(i)
 }
 
-/// The node at a path. No bytes are the root's path too.
-pub fn walk<V: Volume>(
+/// The node at a path, name by name.
+fn walk_names<V: Volume>(
     v: &mut V,
     shape: &VolumeShape,
     memo: &mut Memo,
@@ -152,6 +152,34 @@ pub fn walk<V: Volume>(
         i = step(v, shape, memo, i, &path[at..end])?;
         at = end + 1;
     }
+    Ok(i)
+}
+
+/// The node at a path. No bytes are the root's path too. Where it is the path that was walked last, no block is read.
+pub fn walk<V: Volume>(
+    v: &mut V,
+    shape: &VolumeShape,
+    memo: &mut Memo,
+    path: &[u8],
+) -> Result<Ino, FileFail>
+    requires sound { V.sound v.old }
+    requires can { CanServe shape.now (V.seen v.old) (V.kept v.old) }
+    requires in_step { InStep shape.now (V.seen v.old).words memo.old }
+    ensures value { (s : State) → ReadsAs shape.now (V.seen v.old).words s → Comes (walk_of s 1 (names_of path.now)) result }
+    ensures used { IfOk result (λ i. 0 < (held_of shape.now (V.seen v.old).words i.0).kind) }
+    ensures in_step { InStep shape.now (V.seen v.old).words memo.new }
+    ensures leaves { LeavesInUse (volume_layout shape.now (V.seen v.old).words) (V.seen v.old) (V.kept v.old) (V.seen v.new) (V.kept v.new) }
+    ensures words { (V.seen v.new).words ≡ (V.seen v.old).words }
+    ensures can { CanServe shape.now (V.seen v.new) (V.kept v.new) }
+    ensures goes { Goes (V.health v.old) (V.below v.old) (V.health v.new) (V.below v.new) }
+    ensures ends { EndsBy (V.health v.old) (V.health v.new) (Faulted result) (IsErrOf result FileFail.Stopped) }
+    ensures sound { V.sound v.new }
+{
+    if let Some(i) = memo.path.find(path) {
+        return Ok(i);
+    }
+    let i = walk_names(v, shape, memo, path)?;
+    memo.path.keep(path, i);
     Ok(i)
 }
 

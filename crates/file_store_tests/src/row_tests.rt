@@ -4,7 +4,16 @@ use crate::asks::{Ask, Want};
 use crate::playing::{Size, Table, on_each_fresh};
 use crate::region_rows::REGIONS;
 
-static REQUESTS: [Table; 11] = [
+/// A path of one long name.
+const LONG_NAME: &[u8] = b"/nnnnnnnnnnnnnnnnnnnnnnnnnnnnnnnnnnnnnnnnnnnnnnnnnnnnnnnn";
+
+/// The longest path that is held in memory.
+const OF_64: &[u8] = b"/nnnnnnnnnnnnnnnnnnnnnnnnnnnnnnnnnnnnnnnnnnnnnnnnnnnnnnnn/held64";
+
+/// One that is longer by a byte.
+const OF_65: &[u8] = b"/nnnnnnnnnnnnnnnnnnnnnnnnnnnnnnnnnnnnnnnnnnnnnnnnnnnnnnnn/walked7";
+
+static REQUESTS: [Table; 13] = [
     (
         "a written file grows over a gap of zeros",
         Size::Usual,
@@ -184,6 +193,55 @@ static REQUESTS: [Table; 11] = [
             (Ask::Region(b"/words", 1, 1), Want::Number(2)),
             (Ask::RegionOf(b"/words"), Want::Number(2)),
             (Ask::Create(b"/last"), Want::Number(5)),
+        ],
+    ),
+    (
+        "a path leads elsewhere once a name changed",
+        Size::Usual,
+        &[
+            (Ask::Mkdir(b"/a"), Want::Number(2)),
+            (Ask::Create(b"/a/f"), Want::Number(3)),
+            (Ask::Write(b"/a/f", 0, b"one"), Want::Number(3)),
+            (Ask::Mkdir(b"/b"), Want::Number(4)),
+            (Ask::Create(b"/b/f"), Want::Number(5)),
+            (Ask::Read(b"/a/f", 0, 9), Want::Bytes(b"one")),
+            (Ask::Read(b"/b/f", 0, 9), Want::Bytes(b"")),
+            (Ask::Read(b"/a/f", 0, 9), Want::Bytes(b"one")),
+            (Ask::Rename(b"/a/f", b"/a/g"), Want::Done),
+            (Ask::Read(b"/a/f", 0, 9), Want::Refused(2)),
+            (Ask::Read(b"/a/g", 0, 9), Want::Bytes(b"one")),
+            (Ask::Rename(b"/b/f", b"/a/g"), Want::Done),
+            (Ask::Stat(b"/a/g"), Want::Stat(5, 2, 0)),
+            (Ask::Unlink(b"/a/g"), Want::Done),
+            (Ask::Stat(b"/a/g"), Want::Refused(2)),
+            (Ask::Create(b"/a/g"), Want::Number(3)),
+            (Ask::Stat(b"/a/g"), Want::Stat(3, 2, 0)),
+            (Ask::Rename(b"/a", b"/c"), Want::Done),
+            (Ask::Stat(b"/a/g"), Want::Refused(2)),
+            (Ask::Stat(b"/c/g"), Want::Stat(3, 2, 0)),
+            (Ask::Write(b"/c/g", 10_000, b"a"), Want::Number(1)),
+            (Ask::Truncate(b"/c/g", 9_000), Want::Done),
+            (Ask::Stat(b"/c/g"), Want::Stat(3, 2, 9_000)),
+            (Ask::List(b"/b"), Want::Names(&[])),
+            (Ask::Rmdir(b"/b"), Want::Done),
+            (Ask::List(b"/b"), Want::Refused(2)),
+            (Ask::Region(b"/b", 1, 1), Want::Number(4)),
+            (Ask::RegionOf(b"/b"), Want::Number(4)),
+            (Ask::List(b"/b"), Want::Refused(4)),
+        ],
+    ),
+    (
+        "paths of 64 bytes and more",
+        Size::Usual,
+        &[
+            (Ask::Mkdir(LONG_NAME), Want::Number(2)),
+            (Ask::Create(OF_64), Want::Number(3)),
+            (Ask::Create(OF_65), Want::Number(4)),
+            (Ask::Write(OF_64, 0, b"one"), Want::Number(3)),
+            (Ask::Write(OF_65, 0, b"two"), Want::Number(3)),
+            (Ask::Read(OF_64, 0, 9), Want::Bytes(b"one")),
+            (Ask::Read(OF_65, 0, 9), Want::Bytes(b"two")),
+            (Ask::Stat(OF_64), Want::Stat(3, 2, 3)),
         ],
     ),
     (

@@ -33,7 +33,7 @@ returns-in_err-all-clause-ends g c =
     ends_on _ _ c.put_names.result c.from_residual.result _ p.0 c.in_err-all.was p.1 p.2 c.put_names.ensures.ends
 
 pub returns-then-not-all-clause-in_step : goal.returns-then-not-all-clause-in_step
-returns-then-not-all-clause-in_step g c = closed_step c.args.shape.now (g.V.Blocks.seen c.args.v.now).words c.args.memo.now _ c.close.ensures refl c.requires.in_step
+returns-then-not-all-clause-in_step g c = closed_step c.args.shape.now (g.V.Blocks.seen c.args.v.now).words c.args.memo.now _ c.close.ensures refl refl c.requires.in_step
 
 pub returns-then-not-all-clause-ends : goal.returns-then-not-all-clause-ends
 returns-then-not-all-clause-ends g c = ends_ok _ _ _ (well _ _ c.put_names.result _ c.in_ok-all.was c.put_names.ensures.ends)
@@ -46,6 +46,7 @@ returns-clause-in_step g c =
     record {
       names = λ s reads. c.hold.ensures s.names (c.requires.in_step.names s reads) (rows_are shape f s d _ reads c.requires.dir (c.in_ok-all.ensures.all c.if-not-all.false));
       full = c.requires.in_step.full;
+      path = c.requires.in_step.path;
     }
 
 pub returns-clause-ends : goal.returns-clause-ends

@@ -143,10 +143,10 @@ pub returns-clause-ends : goal.returns-clause-ends
 returns-clause-ends g c = ends_ok _ _ _ (after_well _ _ _ _ _ (well_vol _ _ c.least_free_with.result _ c.in_ok-i.was c.least_free_with.ensures.ends) (well _ _ c.make_node.result _ c.in_ok-make_node.was c.make_node.ensures.ends))
 
 pub returns-in_err-i-clause-in_step : goal.returns-in_err-i-clause-in_step
-returns-in_err-i-clause-in_step g c = λ on. same_step c.args.shape.now (g.V.Blocks.seen c.args.v.now).words _ _ c.least_free_with.ensures.looks.words (record { names = c.requires.in_step.names; full = c.least_free_with.ensures.known })
+returns-in_err-i-clause-in_step g c = λ on. same_step c.args.shape.now (g.V.Blocks.seen c.args.v.now).words _ _ c.least_free_with.ensures.looks.words (record { names = c.requires.in_step.names; full = c.least_free_with.ensures.known; path = c.requires.in_step.path })
 
 pub returns-in_default-clause-in_step : goal.returns-in_default-clause-in_step
-returns-in_default-clause-in_step g c = λ on. same_step c.args.shape.now (g.V.Blocks.seen c.args.v.now).words _ _ c.least_free_with.ensures.looks.words (record { names = c.requires.in_step.names; full = c.least_free_with.ensures.known })
+returns-in_default-clause-in_step g c = λ on. same_step c.args.shape.now (g.V.Blocks.seen c.args.v.now).words _ _ c.least_free_with.ensures.looks.words (record { names = c.requires.in_step.names; full = c.least_free_with.ensures.known; path = c.requires.in_step.path })
 
 pub returns-in_err-make_node-clause-in_step : goal.returns-in_err-make_node-clause-in_step
 returns-in_err-make_node-clause-in_step g c = λ on.
@@ -158,7 +158,7 @@ returns-in_err-make_node-clause-in_step g c = λ on.
     let s = c.requires.can.state in
     let reads = c.requires.can.reads in
     let p = err_from_is_err_and c.from_residual-in_err-make_node.result c.from_residual-in_err-make_node.ensures.1 in
-    step_failed SaysIno shape x k y j s (make_new_of s c.args.dir.0 c.args.name.now (node_made c.args.node) (least_of s)) (NoneDone s) _ c.from_residual-in_err-make_node.result (ap is_err p.1) (record { names = c.requires.in_step.names; full = c.least_free_with.ensures.known }) reads (none_same s) (returns-in_err-make_node-clause-leaves g c s reads) on
+    step_failed SaysIno shape x k y j s (make_new_of s c.args.dir.0 c.args.name.now (node_made c.args.node) (least_of s)) (NoneDone s) _ c.from_residual-in_err-make_node.result (ap is_err p.1) (record { names = c.requires.in_step.names; full = c.least_free_with.ensures.known; path = c.requires.in_step.path }) reads (none_same s) (returns-in_err-make_node-clause-leaves g c s reads) on
 
 pub returns-clause-in_step : goal.returns-clause-in_step
 returns-clause-in_step g c = λ on.
@@ -176,5 +176,5 @@ returns-clause-in_step g c = λ on.
     let node = node_made c.args.node in
     let same = c.least_free_with.ensures.looks.words in
     let done = was_done (SaysNumber i) shape m l y j s (make_new_of s d name node (Some i)) (NoneDone s) c.make_node.result (ap is_err c.in_ok-make_node.was) (c.make_node.ensures.leaves s (subst (λ f. ReadsAs shape f s) (sym same) reads)) in
-    c.made.ensures shape x.words y.words s (with_new s d name i node) (record { names = c.requires.in_step.names; full = c.least_free_with.ensures.known }) reads
+    c.made.ensures shape x.words y.words s (with_new s d name i node) (record { names = c.requires.in_step.names; full = c.least_free_with.ensures.known; path = c.requires.in_step.path }) reads
     (subst (λ (t : State). ReadsAs shape y.words t) (new_next s d name i node done.reply done.told done.said) done.reads) refl (stay_new s d name i node)

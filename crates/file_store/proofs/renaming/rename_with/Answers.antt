@@ -235,3 +235,12 @@ rename_row-requires-clause-out g c =
     let walked : Walked s path to c.in_ok-walk.field-0.0 c.in_ok-dir.dir.0 = record { from = (c.in_ok-walk.ensures.value s reads); some = (c.is_root.ensures.not c.if-is_root.false); to = ap (walk_to_dir_of s) c.cut_last.ensures.front ∙ c.in_ok-dir.ensures.value s (subst (λ f. ReadsAs shape f s) (sym c.walk.ensures.words) reads) } in
     let row = c.in_ok-from.ensures.value s (subst (λ f. ReadsAs shape f s) (sym (c.walk_to_dir.ensures.words ∙ c.walk.ensures.words)) reads) in
     rename_out s path to c.in_ok-walk.field-0.0 c.in_ok-dir.dir.0 from reads.tree walked (c.is_root-2.ensures.not c.if-is_root-2.false) (sym c.is_below.ensures.is ∙ c.if-is_below.false) row)
+
+pub cut_last-requires-clause-some : goal.cut_last-requires-clause-some
+cut_last-requires-clause-some g c = c.is_root.ensures.not c.if-is_root.false
+
+pub is_below-requires-clause-some : goal.is_below-requires-clause-some
+is_below-requires-clause-some g c = c.is_root-2.ensures.not c.if-is_root-2.false
+
+pub walk_to_row-requires-clause-some : goal.walk_to_row-requires-clause-some
+walk_to_row-requires-clause-some g c = c.is_root-2.ensures.not c.if-is_root-2.false

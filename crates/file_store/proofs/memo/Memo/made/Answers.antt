@@ -7,3 +7,4 @@ pub returns : goal.returns
 returns c = λ shape f g s t h was is names stay. step_to shape f g s t c.args.self.now _ h was is
     (λ a. subst (λ (ns : Names). Agrees c.put.new.self ns) (sym names) (c.put.ensures s.names a))
     (full_stays shape f g s t c.args.self.now.full was is stay)
+    (λ held. c.let_go.ensures t)

@@ -7,3 +7,4 @@ pub returns : goal.returns
 returns c = λ shape f g s t h was is two names stay. step_to shape f g s t c.args.self.now _ h was is
     (λ a. subst (λ (ns : Names). Agrees c.rename.new.self ns) (sym names) (c.rename.ensures s.names a two))
     (full_stays shape f g s t c.args.self.now.full was is stay)
+    (λ held. c.let_go.ensures t)

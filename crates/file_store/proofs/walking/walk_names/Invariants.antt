@@ -2,7 +2,7 @@ use Rattle.file_store.proofs.Common.{◌≡◌, ◌+◌, ◌-◌, ◌<◌, ◌�
 use Rattle.file_store.specs.Ends.{CanServe}
 use Rattle.file_store.specs.Memos.{InStep}
 use Rattle.file_store.proofs.WalkedOn.{walk_left}
-use Rattle.file_store.proofs.walking.walk.Given as goal
+use Rattle.file_store.proofs.walking.walk_names.Given as goal
 
 -- the walk so far ended at node i, and goes on at byte `at`
 abbrev pub invariant-loop-at : goal.invariant-loop-at
