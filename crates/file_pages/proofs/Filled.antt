@@ -176,3 +176,15 @@ words_filled first last word skip head bytes words part rest tail k few is some 
         ∙ own.last_word ((y - 8) % 8) (omega arith) (omega (arith, room, after, past, low))
         ∙ ap was (let e : 8 * (length words - 1) + (y - 8) % 8 ≡ y = omega (arith, room, after, past, low) in e)
         ∙ sym (over_out was skip bytes (length bytes) y (inr past))
+
+-- where the first word has none before them, those behind them are in the last word alone
+pub words_begun : (first last skip : ℕ) (bytes old words : List ℕ) → skip ≡ 0 → length old ≡ (length bytes + 7) / 8 → ((y : ℕ) → y < 8 * length old → list_byte words y ≡ over (λ x. byte_of last (x % 8)) 0 bytes (length bytes) y) → (was : ℕ → ℕ) → EndsHave was skip (length bytes) (length old) first last → (y : ℕ) → y < 8 * length old → list_byte words y ≡ over was skip bytes (length bytes) y
+words_begun first last skip bytes old words none room filled was own y low = filled y low ∙ by (cases_lt y (length bytes)) ∙ ap (λ s. over was s bytes (length bytes) y) (sym none)
+  where
+    by : ((y < length bytes) ⊎ (length bytes ≤ y)) → over (λ x. byte_of last (x % 8)) 0 bytes (length bytes) y ≡ over was 0 bytes (length bytes) y
+    by (inl to) = front_in (λ x. byte_of last (x % 8)) bytes y to ∙ sym (front_in was bytes y to)
+    by (inr past) =
+        over_out (λ x. byte_of last (x % 8)) 0 bytes (length bytes) y (inr (omega (arith, past)))
+        ∙ own.last_word (y % 8) (omega arith) (omega (arith, none, room, past, low))
+        ∙ ap was (let e : 8 * (length old - 1) + y % 8 ≡ y = omega (arith, room, past, low) in e)
+        ∙ sym (over_out was 0 bytes (length bytes) y (inr (omega (arith, past))))

@@ -51,6 +51,10 @@ pub fn fill_words(first: u64, last: u64, at: usize, bytes: &[u8], words: &mut [u
     ensures bytes { (was : ℕ → ℕ) → EndsHave was (at % 8) (length bytes.now) (length words.old) first last → (y : ℕ) → y < 8 * length words.old → list_byte words.new y ≡ over was (at % 8) bytes.now (length bytes.now) y }
 {
     let skip = at % 8;
+    if skip == 0 {
+        fill_rest(last, bytes, words);
+        return;
+    }
     let head = (8 - skip).min(bytes.len());
     words[0] = put_in_word(first, skip, &bytes[..head]);
     fill_rest(last, &bytes[head..], &mut words[1..]);
