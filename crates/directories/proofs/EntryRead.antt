@@ -1,5 +1,5 @@
 -- An entry of a directory that was read by itself.
-use Rattle.directories.proofs.Common.{◌≡◌, ℕ, ◌+◌, ◌*◌, ◌/◌, ◌%◌, ◌^◌, ◌<◌, ◌≤◌, List, length, slice_index, refl, sym, ap, subst, ◌∙◌, arith, BlockWords, VolumeShape, Seen, Held, entry_ino, entry_name, held, held_of, AtPage, Placed, placed_at}
+use Rattle.directories.proofs.Common.{◌≡◌, ◌≢◌, ℕ, ◌+◌, ◌*◌, ◌/◌, ◌%◌, ◌^◌, ◌<◌, ◌≤◌, List, length, slice_index, refl, sym, ap, subst, ◌∙◌, arith, BlockWords, VolumeShape, Seen, Held, entry_ino, entry_name, held, held_of, AtPage, Placed, placed_at}
 use Rattle.directories.specs.Entries.{name_in}
 use Rattle.directories.specs.Reading.{CanReadDir}
 use Rattle.directories.specs.Rows.{IsEntry}
@@ -50,3 +50,7 @@ slot_read shape x d j size words h is low each = subst (λ (k : Held). IsSlot k 
 -- an entry of this name is the name's row
 pub slot_named : (h : Held) (j : ℕ) (words name : List ℕ) (i : ℕ) → IsSlot h j words → name_in (slice_index words) 0 ≡ name → i ≡ slice_index words 0 % 2 ^ 32 → IsEntry h j name i
 slot_named h j words name i slot is ino = record { within = slot.within; named = sym slot.named ∙ is; ino = sym slot.ino ∙ sym ino }
+
+-- and one of another name is not
+pub slot_other : (h : Held) (j : ℕ) (words name : List ℕ) → IsSlot h j words → name_in (slice_index words) 0 ≢ name → (i : ℕ) → IsEntry h j name i → ⊥
+slot_other h j words name slot other i row = other (slot.named ∙ row.named)

@@ -3,7 +3,7 @@ use Rattle.directories.proofs.Common.{◌≡◌, ◌≢◌, ℕ, ◌+◌, ◌-�
 use Rattle.std.specs.Prelude.{Ok, Err}
 use Rattle.rio_base.specs.Blocks.{IsRun}
 use Rattle.rio_model.proofs.WordRules.{held_word}
-use Rattle.directories.specs.Entries.{FindsIn, FindsInPage}
+use Rattle.directories.specs.Entries.{FindsIn, FindsInPage, name_in}
 use Rattle.directories.proofs.NameWords.{name_moved}
 
 -- entries of other words that are the same
@@ -17,6 +17,17 @@ finds_moved u v count name (Some found) few same h = (h.0, name_moved u v found.
 -- those of a block that was read
 pub finds_read : (f g : BlockWords) (b count : ℕ) (words name : List ℕ) (found : Option (Ino × ℕ)) → f ≡ g → count ≤ 64 → length name ≤ 56 → IsRun f b 0 512 words → FindsIn (slice_index words) count name found → FindsIn (g b) count name found
 finds_read f g b count words name found same few short run = finds_moved (slice_index words) (g b) count name found short (λ k t low small. run.each (8 * k + t) (omega (arith, low, small, few)) ∙ (let at : 0 + (8 * k + t) ≡ 8 * k + t = omega arith in ap (f b) at) ∙ ap (λ (h : BlockWords). h b (8 * k + t)) same)
+
+-- none of the entries up to one has the name, and none of those behind it
+pub none_then : (word : ℕ → ℕ) (name : List ℕ) (from k to : ℕ) → ((j : ℕ) → from ≤ j → j < k → name_in word j ≢ name) → ((j : ℕ) → k ≤ j → j < to → name_in word j ≢ name) → (j : ℕ) → from ≤ j → j < to → name_in word j ≢ name
+none_then word name from k to before behind j low high = elim (cases_lt j k) [
+  | inl below ↦ before j low below
+  | inr past ↦ behind j past high
+]
+
+-- the same from the first on
+pub none_behind : (word : ℕ → ℕ) (name : List ℕ) (k to : ℕ) → ((j : ℕ) → j < k → name_in word j ≢ name) → ((j : ℕ) → k ≤ j → j < to → name_in word j ≢ name) → (j : ℕ) → j < to → name_in word j ≢ name
+none_behind word name k to before behind j high = none_then word name 0 k to (λ i low below. before i below) behind j (omega arith) high
 
 -- ---- of a page of a directory
 

@@ -142,6 +142,16 @@ last_differs name key word k at h place other is =
     let most = h.few in
     other (ap (λ w. bit_and (word w) key.last_mask) place ∙ key_has name key word k key.last key.last_mask h (omega (arith, last, most)) h.last_mask is)
 
+-- and so have four entries that follow each other
+pub four_differ : (name : List ℕ) (key : NameKey) (word : ℕ → ℕ) (k at : ℕ) → IsKey name key → at ≡ 8 * k + 1 + key.last → bit_and (word at) key.last_mask ≢ slice_index key.words key.last → bit_and (word (at + 8)) key.last_mask ≢ slice_index key.words key.last → bit_and (word (at + 16)) key.last_mask ≢ slice_index key.words key.last → bit_and (word (at + 24)) key.last_mask ≢ slice_index key.words key.last → (j : ℕ) → k ≤ j → j < k + 4 → name_in word j ≢ name
+four_differ name key word k at h place first second third fourth j low high = by (cases_lt j (k + 1)) (cases_lt j (k + 2)) (cases_lt j (k + 3))
+  where
+    by : ((j < k + 1) ⊎ (k + 1 ≤ j)) → ((j < k + 2) ⊎ (k + 2 ≤ j)) → ((j < k + 3) ⊎ (k + 3 ≤ j)) → name_in word j ≢ name
+    by (inl below) _ _ = last_differs name key word j at h (omega (arith, place, low, below)) first
+    by (inr from) (inl below) _ = last_differs name key word j (at + 8) h (omega (arith, place, from, below)) second
+    by (inr _) (inr from) (inl below) = last_differs name key word j (at + 16) h (omega (arith, place, from, below)) third
+    by (inr _) (inr _) (inr from) = last_differs name key word j (at + 24) h (omega (arith, place, from, high)) fourth
+
 pub first_differs : (name : List ℕ) (key : NameKey) (word : ℕ → ℕ) (k : ℕ) → IsKey name key → bit_and (word (8 * k + 1)) key.first_mask ≢ slice_index key.words 0 → name_in word k ≢ name
 first_differs name key word k h other is =
     let at : 8 * k + 1 ≡ 8 * k + 1 + 0 = omega arith in

@@ -123,6 +123,30 @@ pub fn may_have_name(words: &[u64], k: usize, name: &[u8], key: &NameKey) -> boo
     words[at] & key.first_mask == key.words[0]
 }
 
+/// Whether none of the four entries of a page from `k` on has this name, by the last word that it would have in each.
+pub fn passes_four(words: &[u64], k: usize, name: &[u8], key: &NameKey) -> bool
+    requires len { length words.now ≡ 512 }
+    requires entries { k + 4 ≤ 64 }
+    requires key { IsKey name.now key.now }
+    ensures none { result ≡ true → (j : ℕ) → k ≤ j → j < k + 4 → name_in (slice_index words.now) j ≢ name.now }
+{
+    let at = ENTRY_WORDS * k + 1 + key.last;
+    let word = key.words[key.last];
+    if words[at] & key.last_mask == word {
+        return false;
+    }
+    if words[at + ENTRY_WORDS] & key.last_mask == word {
+        return false;
+    }
+    if words[at + 2 * ENTRY_WORDS] & key.last_mask == word {
+        return false;
+    }
+    if words[at + 3 * ENTRY_WORDS] & key.last_mask == word {
+        return false;
+    }
+    true
+}
+
 /// The words of an entry with this name and inode.
 pub fn entry_words(name: &[u8], i: Ino) -> [u64; ENTRY_WORDS]
     requires { length name.now ≤ 56 }

@@ -1,6 +1,6 @@
 //! A name of a directory, looked up.
 
-ghost use Rattle.std.specs.Prelude.{◌≡◌, ◌+◌, ◌*◌, ◌/◌, ◌<◌, ◌≤◌, ℕ, None, length, slice_index, IfOk, IfSome};
+ghost use Rattle.std.specs.Prelude.{◌≡◌, ◌≢◌, ◌+◌, ◌*◌, ◌/◌, ◌<◌, ◌≤◌, ℕ, None, length, slice_index, IfOk, IfSome};
 ghost use Rattle.rio_base.specs.Blocks.{CanName, Caches, Ends, Looks};
 ghost use Rattle.rio_base.specs.Shapes.{HasShape};
 ghost use Rattle.rio_model.specs.Held.{held_of};
@@ -9,16 +9,37 @@ ghost use Rattle.rio_model.specs.VolumeReady.{AllNamed};
 ghost use Rattle.rio_model.specs.VolumeRules.{EntryRule, IsMapped};
 ghost use Rattle.inode_table.specs.Inodes.{IsInode};
 ghost use Rattle.file_pages.specs.LookingUp.{LooksUp};
-ghost use Rattle.directories.specs.Entries.{FindsIn, FindsInPage, IsKey};
+ghost use Rattle.directories.specs.Entries.{FindsIn, FindsInPage, IsKey, name_in};
 ghost use Rattle.directories.specs.Reading.{CanReadDir};
 ghost use Rattle.directories.specs.Rows.{Finds, IsEntry};
 
 use crate::entries::{
-    ENTRY_BYTES, ENTRY_WORDS, NAME_BYTES, NameKey, PAGE_ENTRIES, entry_ino, has_name, may_have_name,
+    ENTRY_BYTES, ENTRY_WORDS, NAME_BYTES, NameKey, PAGE_ENTRIES, entry_ino, has_name,
+    may_have_name, passes_four,
 };
 use crate::pages::{dir_inode, entries_in_page, page_block, read_entry};
 use inode_table::Inode;
 use rio_base::{Block, Blocks, Ino, VolFail, VolumeShape};
+
+/// The entry up to which those from `from` on are passed over by fours, none of which has the name. There are `count` in these words.
+fn past_fours(words: &[u64], from: usize, count: usize, name: &[u8], key: &NameKey) -> usize
+    requires len { length words.now ≡ 512 }
+    requires few { count ≤ 64 }
+    requires from { from ≤ count }
+    requires key { IsKey name.now key.now }
+    ensures low { from ≤ result }
+    ensures high { result ≤ count }
+    ensures none { (j : ℕ) → from ≤ j → j < result → name_in (slice_index words.now) j ≢ name.now }
+{
+    let mut k = from;
+    while 4 <= count - k {
+        if !passes_four(words, k, name, key) {
+            return k;
+        }
+        k += 4;
+    }
+    k
+}
 
 /// The first of the `count` entries in these words that has the name.
 fn find_in(words: &[u64], count: usize, name: &[u8], key: &NameKey) -> Option<(Ino, u32)>
@@ -27,12 +48,18 @@ fn find_in(words: &[u64], count: usize, name: &[u8], key: &NameKey) -> Option<(I
     requires key { IsKey name.now key.now }
     ensures { FindsIn (slice_index words.now) count name.now result }
 {
-    for k in 0..count {
+    let mut from = 0;
+    while from < count {
+        let k = past_fours(words, from, count, name, key);
+        if k == count {
+            return None;
+        }
         if may_have_name(words, k, name, key) {
             if has_name(words, k, name, key) {
                 return Some((entry_ino(words[ENTRY_WORDS * k]), k as u32));
             }
         }
+        from = k + 1;
     }
     None
 }
@@ -221,6 +248,7 @@ pub fn row_at<V: Blocks>(
     requires dir { (held_of shape.now (V.seen v.old).words dir.0).kind ≡ 1 }
     requires inode { IsInode (V.seen v.old).words dir.0 inode.now }
     ensures value { IfOk result (λ found. IfSome found (λ i. IsEntry (held_of shape.now (V.seen v.old).words dir.0) slot name.now i.0)) }
+    ensures none { IfOk result (λ found. found ≡ None → (i : ℕ) → IsEntry (held_of shape.now (V.seen v.old).words dir.0) slot name.now i → ⊥) }
     ensures looks { Looks (V.seen v.old) (V.seen v.new) }
     ensures shape { HasShape shape.now (V.seen v.new) }
     ensures named { AllNamed (volume_layout shape.now (V.seen v.old).words) (V.seen v.new) }
