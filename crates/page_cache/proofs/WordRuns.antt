@@ -26,16 +26,16 @@ none_differ (x ∷ xs) (y ∷ ys) long none =
     λ i. eqb-true x y parts.0 i ∷ none_differ xs ys (omega (arith, long)) parts.1 i
 
 -- a run of both, where no bit of the comparison is set
-pub same_run : (at : ℕ) (a b : List ℕ) → at + 8 ≤ length a → at + 8 ≤ length b
-    → eqb (mask_l (map (top (hbits w64)) (zip2 (λ x y. cond (differs x y) (2 ^ bits w64 - 1) 0) (take 8 (drop at a)) (take 8 (drop at b)))) % 2 ^ 64) 0 ≡ true
-    → take 8 (drop at a) ≡ take 8 (drop at b)
+pub same_run : (at : ℕ) (a b : List ℕ) → at + 16 ≤ length a → at + 16 ≤ length b
+    → eqb (mask_l (map (top (hbits w64)) (zip2 (λ x y. cond (differs x y) (2 ^ bits w64 - 1) 0) (take 16 (drop at a)) (take 16 (drop at b)))) % 2 ^ 64) 0 ≡ true
+    → take 16 (drop at a) ≡ take 16 (drop at b)
 same_run at a b first second told =
-    let xs = take 8 (drop at a) in
-    let ys = take 8 (drop at b) in
-    let left : length xs ≡ 8 = length-chunk at 8 a first in
-    let right : length ys ≡ 8 = length-chunk at 8 b second in
+    let xs = take 16 (drop at a) in
+    let ys = take 16 (drop at b) in
+    let left : length xs ≡ 16 = length-chunk at 16 a first in
+    let right : length ys ≡ 16 = length-chunk at 16 b second in
     let long : length xs ≡ length ys = left ∙ sym right in
-    let lanes : length (zip2 differs xs ys) ≡ 8 = length-zip2 differs xs ys long ∙ left in
+    let lanes : length (zip2 differs xs ys) ≡ 16 = length-zip2 differs xs ys long ∙ left in
     let mask = ap (λ ms. mask_l ms % 2 ^ 64) (tops_compared w64 differs xs ys) ∙ mask_l-mod (zip2 differs xs ys) 64 (omega (arith, lanes)) in
     none_differ xs ys long (sym mask ∙ eqb-true _ _ told)
 

@@ -12,7 +12,7 @@ use std::alloc::{AllocError, Global};
 use std::simd::prelude::*;
 
 /// How many words are compared together.
-const RUN: usize = 8;
+const RUN: usize = 16;
 
 /// Of how many writes one is of a page that is looked for from the front on.
 const TURN: u32 = 4;
@@ -94,12 +94,12 @@ fn are_same(a: &[u64], b: &[u64]) -> bool
 /// Whether the words of the run from `at` on are the same in both.
 #[inline(always)]
 fn is_same_run(a: &[u64], b: &[u64], at: usize) -> bool
-    requires first { at + 8 ≤ length a.now }
-    requires second { at + 8 ≤ length b.now }
-    ensures { result ≡ true → take 8 (drop at a.now) ≡ take 8 (drop at b.now) }
+    requires first { at + 16 ≤ length a.now }
+    requires second { at + 16 ≤ length b.now }
+    ensures { result ≡ true → take 16 (drop at a.now) ≡ take 16 (drop at b.now) }
 {
-    let left = u64x8::from_slice(&a[at..]);
-    let right = u64x8::from_slice(&b[at..]);
+    let left = u64x16::from_slice(&a[at..]);
+    let right = u64x16::from_slice(&b[at..]);
     left.simd_ne(right).to_bitmask() == 0
 }
 
