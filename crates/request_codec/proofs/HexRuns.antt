@@ -69,6 +69,12 @@ run_read digits values long fits many lane =
           (lane j below ∙ ap₂ min (splatted minus digits 32 48 j long below) (letter j below));
     }
 
+-- the same with numbers that are these
+pub run_read_by : (a b c d : ℕ) → a ≡ 58 → b ≡ 223 → c ≡ 3 → d ≡ 48 → (digits values : List ℕ) → length digits ≡ 32 → Each1 (Fits w8) digits → length values ≡ 32 → ((j : ℕ) → j < 32 → slice_index values j ≡ min (slice_index (zip2 minus digits (replicate 32 d)) j) (slice_index (zip2 plus (zip2 bit_and (zip2 minus digits (replicate 32 a)) (replicate 32 b)) (replicate 32 c)) j)) → ReadsRun digits (zip2 plus (zip2 bit_and (zip2 minus digits (replicate 32 a)) (replicate 32 b)) (replicate 32 c)) values
+run_read_by a b c d is_a is_b is_c is_d digits values long fits many lane =
+    let same : zip2 plus (zip2 bit_and (zip2 minus digits (replicate 32 a)) (replicate 32 b)) (replicate 32 c) ≡ letters digits = (λ i. zip2 plus (zip2 bit_and (zip2 minus digits (replicate 32 (is_a i))) (replicate 32 (is_b i))) (replicate 32 (is_c i))) in
+    subst (λ l. ReadsRun digits l values) (sym same) (run_read digits values long fits many (λ j below. lane j below ∙ (λ i. min (slice_index (zip2 minus digits (replicate 32 (is_d i))) j) (slice_index (same i) j))))
+
 -- ---- two values joined
 
 two : (p : ℕ) (xs : List ℕ) → length xs ≡ 2 → number_l p xs ≡ get_or xs 0 0 + p * get_or xs 1 0

@@ -17,13 +17,15 @@ const RUN_BYTES: usize = 32;
 const HALF_BYTES: usize = 16;
 
 /// What the bytes of half a run are as letters, where A to F in either case count from 10 on and other digits for more, and what they
-/// are as digits.
+/// are as digits. `none` is 0.
 #[inline(always)]
-fn read_run(digits: u8x32) -> (u8x32, u8x32)
+fn read_run(digits: u8x32, none: u8) -> (u8x32, u8x32)
+    requires { none ≡ 0 }
     ensures { ReadsRun digits result.0 result.1 }
 {
-    let letters = ((digits - u8x32::splat(b':')) & u8x32::splat(NO_CASE)) + u8x32::splat(3);
-    let values = lesser(digits - u8x32::splat(b'0'), letters);
+    let ranks = digits - u8x32::splat(b':' + none);
+    let letters = (ranks & u8x32::splat(NO_CASE - none)) + u8x32::splat(3 + none);
+    let values = lesser(digits - u8x32::splat(b'0' + none), letters);
     (letters, values)
 }
 
@@ -65,8 +67,9 @@ pub fn decode_runs(digits: &[u8], out: &mut [u8]) -> Option<usize>
     decode_many(digits, out)
 }
 
-/// The same, where there is a run. It is no part of its caller, so that what each run is compared with is near. The compiler makes
-/// two steps of a product by 4097 where it knows the number.
+/// The same, where there is a run. It is no part of its caller, so that what each run is compared with is near. Numbers that the
+/// compiler does not know it keeps in registers; those that it knows it reads from memory in each run, and makes two steps of a product by
+/// 4097. So each is added to a length that is 0.
 #[inline(never)]
 fn decode_many(digits: &[u8], out: &mut [u8]) -> Option<usize>
     requires { length digits.now ≡ 2 * length out.old }
@@ -75,14 +78,18 @@ fn decode_many(digits: &[u8], out: &mut [u8]) -> Option<usize>
     let mut least = u8x32::splat(255);
     let mut largest = u8x32::splat(0);
     let whole = out.len() / RUN_BYTES * RUN_BYTES;
-    let weight = 0x1001 + (digits.len() - 2 * out.len()) as u16;
+    let none = (digits.len() - 2 * out.len()) as u8;
+    let weight = 0x1001 + none as u16;
     let mut done = 0;
     'runs: while done < whole {
-        let (letters, values) = read_run(u8x32::from_slice(&digits[2 * done..]));
+        let (letters, values) = read_run(u8x32::from_slice(&digits[2 * done..]), none);
         least = lesser(least, letters);
         largest = larger(largest, values);
         joined(values, weight).copy_to_slice(&mut out[done..]);
-        let (letters, values) = read_run(u8x32::from_slice(&digits[2 * (done + HALF_BYTES)..]));
+        let (letters, values) = read_run(
+            u8x32::from_slice(&digits[2 * (done + HALF_BYTES)..]),
+            none,
+        );
         least = lesser(least, letters);
         largest = larger(largest, values);
         joined(values, weight).copy_to_slice(&mut out[done + HALF_BYTES..]);
