@@ -13,12 +13,21 @@ use std::rt::Files;
 /// How many names are tried for a new file beside an old one. A run that is killed leaves one of them behind.
 const TRIES: u32 = 1_000_000;
 
-/// A host over real files. It tells no content, and counts each call that failed.
+/// A file that is open to be written, and the name under which it was opened.
+#[derive(Drop)]
+struct Written<F: Drop> {
+    name: String,
+    file: F,
+}
+
+/// A host over real files. It tells no content, and counts each call that failed. The file that was written last stays open for the
+/// next write of it. It is let go of where a write of it fails, where another file is written, and at each sync and replacement.
 #[derive(Drop)]
 pub struct OsHost<R: Files + Drop> {
     alloc: Global,
     files: R,
     faults: u64,
+    written: Option<Written<R::File>>,
 }
 
 impl<R: Files + Drop> OsHost<R> {
@@ -30,7 +39,44 @@ impl<R: Files + Drop> OsHost<R> {
             alloc,
             files,
             faults: 0,
+            written: None,
         }
+    }
+
+    /// The file that was written last, if it was opened under this name. Either way none is kept afterwards.
+    fn take_written(&mut self, name: &String) -> Option<Written<R::File>>
+        ensures { self.new.faults ≡ self.old.faults }
+    {
+        match self.written.take() {
+            Some(written) if written.name == *name => Some(written),
+            _ => None,
+        }
+    }
+
+    /// Writes all of `from` from byte `off` on into a file that is there.
+    fn write_piece(&mut self, name: &String, off: u64, from: &[u8]) -> io::Result<()>
+        ensures { self.new.faults ≡ self.old.faults }
+    {
+        let Some(mut written) = self.take_written(name) else {
+            return self.open_and_write(name, off, from);
+        };
+        write_from(&mut written.file, off, from)?;
+        self.written = Some(written);
+        Ok(())
+    }
+
+    /// The same of a file that is not open. It stays open where there is memory for its name.
+    fn open_and_write(&mut self, name: &String, off: u64, from: &[u8]) -> io::Result<()>
+        ensures { self.new.faults ≡ self.old.faults }
+    {
+        let mut file = OpenOptions::new()
+            .write(true)
+            .open(&self.files, name.as_str())?;
+        write_from(&mut file, off, from)?;
+        if let Ok(name) = name.clone() {
+            self.written = Some(Written { name, file });
+        }
+        Ok(())
     }
 
     /// Counts an outcome that is an error.
@@ -64,16 +110,18 @@ impl<R: Files + Drop> Host for OsHost<R> {
     }
 
     fn write_at(&mut self, name: &String, off: u64, from: &[u8]) -> Result<(), Failed> {
-        let outcome = write_piece(&self.files, name, off, from);
+        let outcome = self.write_piece(name, off, from);
         self.counted(outcome)
     }
 
     fn sync(&mut self, name: &String) -> Result<(), Failed> {
+        self.written = None;
         let outcome = sync_file(&self.files, name);
         self.counted(outcome)
     }
 
     fn replace(&mut self, name: &String, from: &[u8]) -> Result<(), Failed> {
+        self.written = None;
         let outcome = replace_file(self.alloc, &self.files, name, from);
         let folder = self.counted(outcome)?;
         // The new file is there. That its folder cannot be synced is counted, and doesn't bring the old one back.
@@ -115,9 +163,8 @@ fn read_piece<R: Files>(files: &R, name: &String, off: u64, into: &mut [u8]) -> 
     Ok(n)
 }
 
-/// Writes all of `from` from byte `off` on into a file that is there.
-fn write_piece<R: Files>(files: &R, name: &String, off: u64, from: &[u8]) -> io::Result<()> {
-    let mut file = OpenOptions::new().write(true).open(files, name.as_str())?;
+/// Writes all of `from` from byte `off` of a file on.
+fn write_from<F: Write + Seek>(file: &mut F, off: u64, from: &[u8]) -> io::Result<()> {
     file.seek(SeekFrom::Start(off))?;
     file.write_all(from)
 }
