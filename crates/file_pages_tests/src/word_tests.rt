@@ -42,8 +42,10 @@ fn made(at: usize, bytes: &[u8]) -> Option<([u64; 3], usize)> {
     if count > 3 {
         return None;
     }
+    // One word alone is the first and the last.
+    let last = if count == 1 { FIRST } else { LAST };
     let mut words = [0; 3];
-    fill_words(FIRST, LAST, at, bytes, &mut words[..count]);
+    fill_words(FIRST, last, at, bytes, &mut words[..count]);
     Some((words, count))
 }
 
