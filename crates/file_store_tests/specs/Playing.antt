@@ -7,9 +7,9 @@ use Rattle.rio_base.specs.Volume.{Kept}
 use Rattle.rio_model.specs.declared.state.State.{State}
 use Rattle.rio_model.specs.VolumeReads.{ReadsAs}
 use Rattle.rio_model.specs.VolumeReady.{StandsReady}
-use Rattle.file_store.specs.Ends.{CanServe}
-use Rattle.file_store.specs.Memos.{InStep}
-use Rattle.file_store.specs.declared.memo.Memo.{Memo}
+use Rattle.file_tree.specs.Ends.{CanServe}
+use Rattle.file_tree.specs.Memos.{InStep}
+use Rattle.file_tree.specs.declared.memo.Memo.{Memo}
 
 -- a stopped volume that may be started again
 pub record CanStart (shape : VolumeShape) (x : Seen) (k : Kept) : Type 0 where

@@ -2,7 +2,7 @@
 
 ghost use Rattle.std.specs.Prelude.{◌≡◌};
 ghost use Rattle.rio_fakes.specs.ListVolumes.{ListSound, list_kept, list_seen};
-ghost use Rattle.file_store.specs.Ends.{CanServe};
+ghost use Rattle.file_tree.specs.Ends.{CanServe};
 ghost use Rattle.file_store_tests.specs.Playing.{Follows};
 
 use crate::answers::{Answer, is_count, is_due};

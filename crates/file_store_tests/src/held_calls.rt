@@ -1,16 +1,17 @@
 //! The same requests by one who holds names and full blocks of inodes in memory, in a memo that is kept from call to call.
 
 ghost use Rattle.rio_fakes.specs.ListVolumes.{ListSound, list_kept, list_seen};
-ghost use Rattle.file_store.specs.Ends.{CanServe};
-ghost use Rattle.file_store.specs.Memos.{InStep};
+ghost use Rattle.file_tree.specs.Ends.{CanServe};
+ghost use Rattle.file_tree.specs.Memos.{InStep};
 ghost use Rattle.file_store_tests.specs.Playing.{FollowsHeld};
 
 use crate::answers::{Answer, is_due};
 use crate::asks::{Ask, Row, Want, numbered};
 use crate::calls::{block_as, free_as};
-use file_store::{
-    Memo, create_with, list_with, make_region_with, mkdir_with, read_with, region_of_with,
-    rename_with, rmdir_with, stat_with, truncate_with, unlink_with, write_with,
+use file_store::{read_with, truncate_with, write_with};
+use file_tree::{
+    Memo, create_with, list_with, make_region_with, mkdir_with, region_of_with, rename_with,
+    rmdir_with, stat_with, unlink_with,
 };
 use request_codec::is_path;
 use rio_base::{InoList, Stopped, Volume, VolumeShape};

@@ -7,7 +7,7 @@ ghost use Rattle.vista_region.specs.Ends.{Fits};
 
 use crate::asks::{Ask, Row, Want};
 use crate::views::{start_again, view_of};
-use file_store::RegionView;
+use region_view::RegionView;
 use rio_base::{Ino, RegionWords, UNDO_HEAD, VolFail};
 use rio_fakes::ListVolume;
 use std::alloc::Global;

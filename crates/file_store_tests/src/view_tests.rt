@@ -1,11 +1,13 @@
 //! The words of a region, read and stored through a view of it.
 
 ghost use Rattle.rio_fakes.specs.ListVolumes.{ListSound, list_kept, list_seen};
-ghost use Rattle.file_store.specs.Ends.{CanServe};
+ghost use Rattle.file_tree.specs.Ends.{CanServe};
 
 use crate::asks::{Ask, Row, Want};
 use crate::views::{Call, Due, MAGIC, failing, on_words, start_again, view_after, view_of};
-use file_store::{FileFail, RegionView};
+use file_store::stand_at;
+use file_tree::FileFail;
+use region_view::RegionView;
 use request_codec::is_path;
 use rio_base::{Ino, RegionWords};
 use rio_fakes::ListVolume;
@@ -38,7 +40,7 @@ const IN_A_DIRECTORY: &[Row] = &[
 fn a_view_stays_where_it_stands_after_a_refusal(rt: HostRuntime) {
     let mut view = view_after(&rt, rt.alloc(), IN_A_DIRECTORY);
     assert!(rt; is_path(b"/d"));
-    assert!(rt; view.stand_at(b"/d") == Err(FileFail::Refused(8)));
+    assert!(rt; stand_at(&mut view, b"/d") == Err(FileFail::Refused(8)));
     assert!(rt; view.len() == 0);
 }
 

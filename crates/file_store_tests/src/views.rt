@@ -3,11 +3,12 @@
 ghost use Rattle.std.specs.Prelude.{◌≡◌, ◌+◌, ◌≤◌, true};
 ghost use Rattle.rio_fakes.specs.ListVolumes.{ListSound, list_kept, list_seen};
 ghost use Rattle.rio_model.specs.Heap.{IsSoundRegion};
-ghost use Rattle.file_store.specs.Ends.{CanServe};
+ghost use Rattle.file_tree.specs.Ends.{CanServe};
 
 use crate::asks::Row;
 use crate::playing::volume_after;
-use file_store::RegionView;
+use file_store::stand_at;
+use region_view::RegionView;
 use request_codec::is_path;
 use rio_base::{Ino, RegionWords, RunFail, VolFail};
 use rio_fakes::{FaultyVolume, ListVolume};
@@ -71,7 +72,7 @@ pub(crate) fn view_of(
     if !is_path(path) {
         panic!(rt; "no path");
     }
-    let ino = match view.stand_at(path) {
+    let ino = match stand_at(&mut view, path) {
         Ok(ino) => ino,
         Err(fail) => panic!(rt; "no region: {fail:?}"),
     };

@@ -12,7 +12,7 @@ use Rattle.rio_model.specs.Undo.{IsRegion, UndoRecord, Undoes, undo_records}
 use Rattle.rio_model.specs.VolumeReads.{ReadsAs}
 use Rattle.rio_model.specs.VolumeRules.{IsMapped}
 use Rattle.rio_model.proofs.RegionMoves.{reads_recovered}
-use Rattle.file_store.specs.Views.{OnRegion, SameBeside}
+use Rattle.region_view.specs.Views.{OnRegion, SameBeside}
 use Rattle.region_recovery.specs.RegionLists.{has_records, is_some_record}
 
 -- the words of a region keep the format

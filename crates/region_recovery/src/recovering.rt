@@ -12,7 +12,7 @@ ghost use Rattle.rio_model.specs.VolumeReads.{ReadsAs};
 ghost use Rattle.rio_model.specs.VolumeReady.{Ready};
 ghost use Rattle.region_recovery.specs.RegionLists.{AreRecovered, has_records, ino_numbers, region_inos, undone_count};
 
-use file_store::RegionView;
+use region_view::RegionView;
 use rio_base::{Ino, VolFail, Volume};
 use vista_region::recover;
 

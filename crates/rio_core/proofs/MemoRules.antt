@@ -5,9 +5,9 @@ use Rattle.rio_base.specs.Rules.{true_false}
 use Rattle.rio_base.specs.Blocks.{BlockWords}
 use Rattle.rio_model.specs.declared.state.State.{State}
 use Rattle.rio_model.specs.VolumeReads.{ReadsAs}
-use Rattle.file_store.specs.Memos.{InStep}
-use Rattle.file_store.specs.declared.memo.Memo.{Memo}
-use Rattle.file_store.proofs.MemoSteps.{same_step}
+use Rattle.file_tree.specs.Memos.{InStep}
+use Rattle.file_tree.specs.declared.memo.Memo.{Memo}
+use Rattle.file_tree.proofs.MemoSteps.{same_step}
 
 pub shaped_step : (old new : VolumeShape) (f g : BlockWords) (m : Memo) → new ≡ old → g ≡ f → InStep old f m → InStep new g m
 shaped_step old new f g m shape words h = subst (λ (q : VolumeShape). InStep q g m) (sym shape) (same_step old f g m words h)

@@ -3,7 +3,7 @@ use Rattle.rio_core.proofs.Common.{◌≡◌, ℕ, ◌⊎◌, Bool, true, false,
 use Rattle.std.specs.Prelude.{IfErr, OnOk}
 use Rattle.rio_base.specs.declared.failures.Stopped.{Stopped as MachineStopped}
 use Rattle.rio_requests.specs.declared.reply.Reply.TheVariants.{Ok as Done}
-use Rattle.file_store.specs.Views.{SameBeside}
+use Rattle.region_view.specs.Views.{SameBeside}
 use Rattle.vista_region.specs.Ends.{OnFault, PutPart, get_refusal_of, says_bytes}
 use Rattle.vista_region.specs.declared.failures.BeginFail.{BeginFail}
 use Rattle.vista_region.specs.declared.failures.BeginFail.TheVariants.{Busy}

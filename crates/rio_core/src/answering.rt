@@ -6,16 +6,17 @@ ghost use Rattle.rio_base.specs.Volume.{Goes};
 ghost use Rattle.rio_requests.specs.Requests.{IsRequest};
 ghost use Rattle.rio_model.specs.declared.state.State.{State};
 ghost use Rattle.rio_requests.specs.CrashFiles.{OnFiles};
-ghost use Rattle.file_store.specs.Memos.{InStep};
+ghost use Rattle.file_tree.specs.Memos.{InStep};
 ghost use Rattle.rio_core.specs.Serving.{RequestEnds, Serves, TellsFault};
 
 use crate::replies::{
     BAD_REQUEST, NO_MEMORY, bytes_reply, count_reply, done_reply, ino_reply, names_reply,
     stat_reply,
 };
-use file_store::{
-    Memo, create_with, list_with, make_region_with, mkdir_with, read_with, rename_with, rmdir_with,
-    stat_with, truncate_with, unlink_with, write_with,
+use file_store::{read_with, truncate_with, write_with};
+use file_tree::{
+    Memo, create_with, list_with, make_region_with, mkdir_with, rename_with, rmdir_with, stat_with,
+    unlink_with,
 };
 use rio_base::{Stopped, Volume, VolumeShape};
 use rio_requests::{Reply, Request};

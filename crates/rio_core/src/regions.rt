@@ -8,14 +8,15 @@ ghost use Rattle.rio_model.specs.declared.state.State.{State};
 ghost use Rattle.rio_model.specs.Paths.{IsPath};
 ghost use Rattle.rio_requests.specs.Requests.{IsRequest};
 ghost use Rattle.rio_model.specs.RegionMoves.{RestHeld};
-ghost use Rattle.file_store.specs.Memos.{InStep};
-ghost use Rattle.file_store.specs.Views.{KeepsInode, OnRegion};
+ghost use Rattle.file_tree.specs.Memos.{InStep};
+ghost use Rattle.region_view.specs.Views.{KeepsInode, OnRegion};
 ghost use Rattle.vista_region.specs.Ends.{Fits};
 ghost use Rattle.rio_core.specs.CallEnds.{CalledOn, IsAt, words_at};
 ghost use Rattle.rio_core.specs.Serving.{RequestEnds, Serves, TellsFault};
 
 use crate::replies::{BAD_REQUEST, begin_reply, fail_reply, get_reply, number_reply, txn_reply};
-use file_store::{Memo, RegionView};
+use file_tree::{Memo, stand_at_with};
+use region_view::RegionView;
 use rio_base::{Stopped, Volume};
 use rio_requests::{Reply, Request};
 use std::alloc::Global;
@@ -43,7 +44,7 @@ pub fn answer_region<V: Volume>(
     ensures ends { EndsBy (V.health view.old.v) (V.health view.new.v) (TellsFault result) (IsErr result) }
     ensures sound { V.sound view.new.v }
 {
-    match view.stand_at_with(memo, path) {
+    match stand_at_with(view, memo, path) {
         Ok(_) => answer_at(alloc, view, table, request),
         Err(fail) => fail_reply(fail),
     }

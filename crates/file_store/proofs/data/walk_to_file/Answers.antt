@@ -1,8 +1,8 @@
-use Rattle.file_store.proofs.Common.{◌≡◌, arith, ◌<◌, sym, ap, subst, ◌∙◌, err_from_is_err_and, ◌then◌, held_of, names_of, walk, IsInode}
-use Rattle.file_store.proofs.CallEnds.{after_well, ends_ok, ends_on, ends_refused, well}
-use Rattle.file_store.proofs.LookedAt.{file_dir, file_inode, file_left, file_region, file_walk, inode_kind_held}
-use Rattle.file_store.proofs.Unchanged.{leaves_then}
-use Rattle.file_store.specs.Walks.{ino_in}
+use Rattle.file_tree.proofs.Common.{◌≡◌, arith, ◌<◌, sym, ap, subst, ◌∙◌, err_from_is_err_and, ◌then◌, held_of, names_of, walk, IsInode}
+use Rattle.file_tree.proofs.CallEnds.{after_well, ends_ok, ends_on, ends_refused, well}
+use Rattle.file_tree.proofs.LookedAt.{file_dir, file_inode, file_left, file_region, file_walk, inode_kind_held}
+use Rattle.file_tree.proofs.Unchanged.{leaves_then}
+use Rattle.file_tree.specs.Walks.{ino_in}
 use Rattle.file_store.proofs.data.walk_to_file.Goals as goal
 
 pub returns-in_err-i-clause-value : goal.returns-in_err-i-clause-value

@@ -1,7 +1,7 @@
 use Rattle.rio_fakes.specs.ListVolumes.{list_kept, list_seen}
 use Rattle.rio_requests.specs.Answers.{read as read_of}
 use Rattle.rio_requests.specs.Parts.{NoneDone}
-use Rattle.file_store.specs.Ends.{SaysBytes}
+use Rattle.file_tree.specs.Ends.{SaysBytes}
 use Rattle.file_store_tests.proofs.Played.{follows_end}
 use Rattle.file_store_tests.proofs.calls.read_as.Goals as goal
 

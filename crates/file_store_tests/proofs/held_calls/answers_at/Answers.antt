@@ -1,6 +1,6 @@
 use Rattle.rio_requests.specs.Answers.{list as list_of, mkdir as mkdir_of, read as read_of, rmdir as rmdir_of, stat as stat_of, truncate as truncate_of}
 use Rattle.rio_requests.specs.Parts.{NoneDone}
-use Rattle.file_store.specs.Ends.{SaysBytes, SaysDone, SaysIno, SaysNames, SaysStat}
+use Rattle.file_tree.specs.Ends.{SaysBytes, SaysDone, SaysIno, SaysNames, SaysStat}
 use Rattle.file_store_tests.proofs.Played.{held_end}
 use Rattle.file_store_tests.proofs.held_calls.answers_at.Goals as goal
 

@@ -1,5 +1,5 @@
-use Rattle.file_store.specs.Ends.{CanServe}
-use Rattle.file_store.specs.Memos.{InStep}
+use Rattle.file_tree.specs.Ends.{CanServe}
+use Rattle.file_tree.specs.Memos.{InStep}
 use Rattle.file_store_tests.proofs.held_calls.fill_held.Given as goal
 
 abbrev pub invariant-loop-n : goal.invariant-loop-n

@@ -1,6 +1,6 @@
 use Rattle.rio_fakes.specs.ListVolumes.{ListSound, list_kept, list_seen}
-use Rattle.file_store.specs.Ends.{CanServe}
-use Rattle.file_store.specs.Memos.{InStep}
+use Rattle.file_tree.specs.Ends.{CanServe}
+use Rattle.file_tree.specs.Memos.{InStep}
 use Rattle.file_store_tests.proofs.held_calls.first_other_held.Given as goal
 
 abbrev pub invariant-loop-t : goal.invariant-loop-t

@@ -1,7 +1,7 @@
 use Rattle.rio_requests.specs.Answers.{rename as rename_of}
 use Rattle.rio_requests.specs.Parts.{NoneDone}
-use Rattle.file_store.specs.Ends.{SaysDone}
-use Rattle.file_store.specs.Walks.{ino_numbers}
+use Rattle.file_tree.specs.Ends.{SaysDone}
+use Rattle.file_tree.specs.Walks.{ino_numbers}
 use Rattle.file_store_tests.proofs.Played.{held_end}
 use Rattle.file_store_tests.proofs.held_calls.rename_held.Goals as goal
 

@@ -1,6 +1,6 @@
 use Rattle.rio_requests.specs.Answers.{write as write_of}
 use Rattle.rio_requests.specs.Parts.{WriteDone}
-use Rattle.file_store.specs.Ends.{SaysCount}
+use Rattle.file_tree.specs.Ends.{SaysCount}
 use Rattle.file_store_tests.proofs.Played.{held_end}
 use Rattle.file_store_tests.proofs.held_calls.write_held.Goals as goal
 

@@ -5,7 +5,7 @@ use Rattle.rio_base.specs.declared.places.VolumeShape.{VolumeShape}
 use Rattle.rio_base.specs.Rules.{◌then◌}
 use Rattle.rio_base.proofs.BlockRules.{ends_later}
 use Rattle.rio_model.specs.VolumeReady.{Ready}
-use Rattle.file_store.specs.Views.{KeepsInode, OnRegion}
+use Rattle.region_view.specs.Views.{KeepsInode, OnRegion}
 use Rattle.region_recovery.proofs.EndsAs.{ends_err, ran_ok}
 use Rattle.region_recovery.proofs.OneRegion.{had_records, none_left, reads_turned, stands_on, stood_size, turned}
 use Rattle.region_recovery.proofs.recovering.recover_region.Goals as goal

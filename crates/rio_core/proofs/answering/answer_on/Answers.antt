@@ -3,7 +3,7 @@ use Rattle.rio_requests.specs.declared.reply.Reply.TheVariants.{Err as RefusedBy
 use Rattle.rio_requests.specs.declared.request.Request.TheVariants.{Mkdir, Create, Region as MakeRegion, Write, Read, Truncate, Unlink, Rmdir, Rename, Stat as StatOf, List as ListOf}
 use Rattle.rio_requests.specs.Answers.{rename, unlink}
 use Rattle.rio_requests.specs.Parts.{NoneDone}
-use Rattle.file_store.specs.Ends.{FileEnds, SaysBytes, SaysCount, SaysDone, SaysIno, SaysNames, SaysStat}
+use Rattle.file_tree.specs.Ends.{FileEnds, SaysBytes, SaysCount, SaysDone, SaysIno, SaysNames, SaysStat}
 use Rattle.rio_core.specs.Serving.{RequestEnds}
 use Rattle.rio_core.proofs.FileRequests.{lacks_memory, none_other, request_ends}
 use Rattle.rio_core.proofs.Lookups.{rows_open}

@@ -1,4 +1,4 @@
-use Rattle.file_store.proofs.MemoSteps.{same_step}
+use Rattle.file_tree.proofs.MemoSteps.{same_step}
 use Rattle.page_cache.specs.Caches.{cache_below, cache_health, cache_kept, cache_seen}
 use Rattle.page_cache.specs.Settled.{cache_settled}
 use Rattle.rio_core.proofs.Served.{ahead_holds, ahead_leaves, ahead_stands}

@@ -1,0 +1,63 @@
+use Rattle.file_tree.proofs.Common.{◌≡◌, ℕ, sym, subst, err_from_is_err_and, ◌then◌, held_of, IsInode, HasRow, IsEntry}
+use Rattle.file_tree.specs.Failures.{Refuses}
+use Rattle.file_tree.proofs.CallEnds.{after_well, ends_ok, ends_on, well}
+use Rattle.file_tree.proofs.LookedAt.{row_used, step_no_dir, step_no_row, step_taken}
+use Rattle.file_tree.proofs.MemoSteps.{same_step}
+use Rattle.file_tree.proofs.Unchanged.{leaves_then}
+use Rattle.file_tree.proofs.walking.step.Goals as goal
+
+pub returns-in_err-inode-clause-value : goal.returns-in_err-inode-clause-value
+returns-in_err-inode-clause-value g c =
+    let p = err_from_is_err_and c.from_residual.result c.from_residual.ensures.1 in
+    step_no_dir c.args.shape.now (g.V.Blocks.seen c.args.v.now).words c.args.dir.0 c.args.name.now c.must_be_dir.result c.from_residual.result _ p.0 c.in_err-inode.was p.1 p.2 c.must_be_dir.ensures.refused
+
+pub returns-in_err-inode-clause-ends : goal.returns-in_err-inode-clause-ends
+returns-in_err-inode-clause-ends g c =
+    let p = err_from_is_err_and c.from_residual.result c.from_residual.ensures.1 in
+    ends_on _ _ c.must_be_dir.result c.from_residual.result _ p.0 c.in_err-inode.was p.1 p.2 c.must_be_dir.ensures.ends
+
+pub row_of-requires-clause-dir : goal.row_of-requires-clause-dir
+row_of-requires-clause-dir g c = subst (λ f. (held_of c.args.shape.now f c.args.dir.0).kind ≡ 1) (sym c.must_be_dir.ensures.words) c.in_ok-inode.ensures.ok
+
+pub row_of-requires-clause-inode : goal.row_of-requires-clause-inode
+row_of-requires-clause-inode g c = subst (λ f. IsInode f c.args.dir.0 c.in_ok-inode.inode) (sym c.must_be_dir.ensures.words) c.in_ok-inode.ensures.inode
+
+pub returns-in_err-i-clause-value : goal.returns-in_err-i-clause-value
+returns-in_err-i-clause-value g c =
+    let p = err_from_is_err_and c.from_residual-in_err-i.result c.from_residual-in_err-i.ensures.1 in
+    step_no_row c.args.shape.now (g.V.Blocks.seen c.args.v.now).words c.args.dir.0 c.args.name.now c.row_of.result c.from_residual-in_err-i.result _ p.0 c.in_ok-inode.ensures.ok c.in_err-i.was p.1 p.2 (subst (λ f. Refuses c.row_of.result 2 ((n : ℕ) → HasRow (held_of c.args.shape.now f c.args.dir.0) c.args.name.now n → ⊥)) c.must_be_dir.ensures.words c.row_of.ensures.refused)
+
+pub returns-in_err-i-clause-leaves : goal.returns-in_err-i-clause-leaves
+returns-in_err-i-clause-leaves g c = leaves_then c.args.shape.now _ _ _ _ _ _ c.must_be_dir.ensures.leaves c.must_be_dir.ensures.words c.row_of.ensures.leaves
+
+pub returns-in_err-i-clause-goes : goal.returns-in_err-i-clause-goes
+returns-in_err-i-clause-goes g c = c.must_be_dir.ensures.goes then c.row_of.ensures.goes
+
+pub returns-in_err-i-clause-ends : goal.returns-in_err-i-clause-ends
+returns-in_err-i-clause-ends g c =
+    let p = err_from_is_err_and c.from_residual-in_err-i.result c.from_residual-in_err-i.ensures.1 in
+    after_well _ _ _ _ _ (well _ _ c.must_be_dir.result _ c.in_ok-inode.was c.must_be_dir.ensures.ends) (ends_on _ _ c.row_of.result c.from_residual-in_err-i.result _ p.0 c.in_err-i.was p.1 p.2 c.row_of.ensures.ends)
+
+pub returns-clause-value : goal.returns-clause-value
+returns-clause-value g c = step_taken c.args.shape.now (g.V.Blocks.seen c.args.v.now).words c.args.dir.0 _ c.args.name.now _ c.in_ok-inode.ensures.ok (subst (λ f. IsEntry (held_of c.args.shape.now f c.args.dir.0) c.in_ok-i.field-0-1 c.args.name.now c.in_ok-i.i.0) c.must_be_dir.ensures.words c.in_ok-i.ensures.row)
+
+pub returns-clause-used : goal.returns-clause-used
+returns-clause-used g c = row_used c.args.shape.now (g.V.Blocks.seen c.args.v.now).words c.requires.can.state c.args.dir.0 _ c.args.name.now _ c.requires.can.reads c.in_ok-inode.ensures.ok (subst (λ f. IsEntry (held_of c.args.shape.now f c.args.dir.0) c.in_ok-i.field-0-1 c.args.name.now c.in_ok-i.i.0) c.must_be_dir.ensures.words c.in_ok-i.ensures.row)
+
+pub returns-clause-leaves : goal.returns-clause-leaves
+returns-clause-leaves g c = leaves_then c.args.shape.now _ _ _ _ _ _ c.must_be_dir.ensures.leaves c.must_be_dir.ensures.words c.row_of.ensures.leaves
+
+pub returns-clause-goes : goal.returns-clause-goes
+returns-clause-goes g c = c.must_be_dir.ensures.goes then c.row_of.ensures.goes
+
+pub returns-clause-ends : goal.returns-clause-ends
+returns-clause-ends g c = ends_ok _ _ _ (after_well _ _ _ _ _ (well _ _ c.must_be_dir.result _ c.in_ok-inode.was c.must_be_dir.ensures.ends) (well _ _ c.row_of.result _ c.in_ok-i.was c.row_of.ensures.ends))
+
+pub row_of-requires-clause-in_step : goal.row_of-requires-clause-in_step
+row_of-requires-clause-in_step g c = same_step c.args.shape.now _ _ c.args.memo.now c.must_be_dir.ensures.words c.requires.in_step
+
+pub returns-in_err-i-clause-in_step : goal.returns-in_err-i-clause-in_step
+returns-in_err-i-clause-in_step g c = same_step c.args.shape.now _ _ _ (sym c.must_be_dir.ensures.words) c.row_of.ensures.in_step
+
+pub returns-clause-in_step : goal.returns-clause-in_step
+returns-clause-in_step g c = same_step c.args.shape.now _ _ _ (sym c.must_be_dir.ensures.words) c.row_of.ensures.in_step

@@ -1,0 +1,20 @@
+use Rattle.file_tree.proofs.Common.{err_from_is_err_and, names_of, walk_to_dir}
+use Rattle.file_tree.proofs.CallEnds.{ends_ok, ends_on, well}
+use Rattle.file_tree.proofs.LookedAt.{comes_in}
+use Rattle.file_tree.proofs.walking.walk_to_dir.Goals as goal
+
+pub returns-in_err-dir-clause-value : goal.returns-in_err-dir-clause-value
+returns-in_err-dir-clause-value g c =
+    let p = err_from_is_err_and c.from_residual.result c.from_residual.ensures.1 in
+    λ s reads. comes_in (walk_to_dir s (names_of c.args.path.now)) c.dir_at.result c.from_residual.result _ p.0 c.in_err-dir.was p.1 p.2 (c.dir_at.ensures.value s reads)
+
+pub returns-in_err-dir-clause-ends : goal.returns-in_err-dir-clause-ends
+returns-in_err-dir-clause-ends g c =
+    let p = err_from_is_err_and c.from_residual.result c.from_residual.ensures.1 in
+    ends_on _ _ c.dir_at.result c.from_residual.result _ p.0 c.in_err-dir.was p.1 p.2 c.dir_at.ensures.ends
+
+pub returns-clause-value : goal.returns-clause-value
+returns-clause-value g c = λ s reads. c.in_ok-dir.ensures.value s reads
+
+pub returns-clause-ends : goal.returns-clause-ends
+returns-clause-ends g c = ends_ok _ _ _ (well _ _ c.dir_at.result _ c.in_ok-dir.was c.dir_at.ensures.ends)

@@ -1,0 +1,93 @@
+use Rattle.file_tree.proofs.Common.{◌≡◌, ℕ, ap, sym, subst, err_from_is_err_and, ◌then◌, held_of, names_of, IsInode, HasRow, IsEntry}
+use Rattle.file_tree.specs.Failures.{Refuses}
+use Rattle.file_tree.specs.Walks.{ino_in}
+use Rattle.file_tree.proofs.CallEnds.{after_well, ends_ok, ends_on, well}
+use Rattle.file_tree.proofs.LookedAt.{row_missing, row_no_dir, row_there, row_used}
+use Rattle.file_tree.proofs.MemoSteps.{same_step}
+use Rattle.file_tree.proofs.Unchanged.{leaves_then}
+use Rattle.file_tree.proofs.walking.walk_to_row.Goals as goal
+
+pub returns-in_err-dir-clause-value : goal.returns-in_err-dir-clause-value
+returns-in_err-dir-clause-value g c =
+    let p = err_from_is_err_and c.from_residual.result c.from_residual.ensures.1 in
+    λ s reads. row_no_dir s (names_of c.args.path.now) (names_of c.cut_last.result.0.now) (ino_in c.dir_at.result) c.from_residual.result _ p.0 c.cut_last.ensures.front (ap ino_in c.in_err-dir.was) p.1 p.2 (c.dir_at.ensures.value s reads)
+
+pub returns-in_err-dir-clause-ends : goal.returns-in_err-dir-clause-ends
+returns-in_err-dir-clause-ends g c =
+    let p = err_from_is_err_and c.from_residual.result c.from_residual.ensures.1 in
+    ends_on _ _ c.dir_at.result c.from_residual.result _ p.0 c.in_err-dir.was p.1 p.2 c.dir_at.ensures.ends
+
+pub row_of-requires-clause-dir : goal.row_of-requires-clause-dir
+row_of-requires-clause-dir g c = subst (λ f. (held_of c.args.shape.now f c.in_ok-dir.dir.0).kind ≡ 1) (sym c.dir_at.ensures.words) c.in_ok-dir.ensures.dir
+
+pub row_of-requires-clause-inode : goal.row_of-requires-clause-inode
+row_of-requires-clause-inode g c = subst (λ f. IsInode f c.in_ok-dir.dir.0 c.in_ok-dir.inode) (sym c.dir_at.ensures.words) c.in_ok-dir.ensures.inode
+
+pub returns-in_err-ino-clause-value : goal.returns-in_err-ino-clause-value
+returns-in_err-ino-clause-value g c =
+    let shape = c.args.shape.now in
+    let f = (g.V.Blocks.seen c.args.v.now).words in
+    let cut = c.cut_last in
+    let dir = c.in_ok-dir in
+    let p = err_from_is_err_and c.from_residual-in_err-ino.result c.from_residual-in_err-ino.ensures.1 in
+    λ s reads. row_missing shape f s (names_of c.args.path.now) (names_of cut.result.0.now) cut.result.1.now dir.dir.0 c.row_of.result c.from_residual-in_err-ino.result _ p.0 cut.ensures.front cut.ensures.last (dir.ensures.value s reads) c.in_err-ino.was p.1 p.2
+    (subst (λ h. Refuses c.row_of.result 2 ((n : ℕ) → HasRow (held_of shape h dir.dir.0) cut.result.1.now n → ⊥)) c.dir_at.ensures.words c.row_of.ensures.refused) reads
+
+pub returns-in_err-ino-clause-leaves : goal.returns-in_err-ino-clause-leaves
+returns-in_err-ino-clause-leaves g c = leaves_then c.args.shape.now _ _ _ _ _ _ c.dir_at.ensures.leaves c.dir_at.ensures.words c.row_of.ensures.leaves
+
+pub returns-in_err-ino-clause-goes : goal.returns-in_err-ino-clause-goes
+returns-in_err-ino-clause-goes g c = c.dir_at.ensures.goes then c.row_of.ensures.goes
+
+pub returns-in_err-ino-clause-ends : goal.returns-in_err-ino-clause-ends
+returns-in_err-ino-clause-ends g c =
+    let p = err_from_is_err_and c.from_residual-in_err-ino.result c.from_residual-in_err-ino.ensures.1 in
+    after_well _ _ _ _ _ (well _ _ c.dir_at.result _ c.in_ok-dir.was c.dir_at.ensures.ends) (ends_on _ _ c.row_of.result c.from_residual-in_err-ino.result _ p.0 c.in_err-ino.was p.1 p.2 c.row_of.ensures.ends)
+
+pub returns-clause-value : goal.returns-clause-value
+returns-clause-value g c =
+    let shape = c.args.shape.now in
+    let f = (g.V.Blocks.seen c.args.v.now).words in
+    let cut = c.cut_last in
+    let dir = c.in_ok-dir in
+    let row = c.in_ok-ino in
+    λ s reads. row_there shape f s (names_of c.args.path.now) (names_of cut.result.0.now) cut.result.1.now dir.dir.0 row.slot row.ino.0 cut.ensures.front cut.ensures.last (dir.ensures.value s reads) dir.ensures.dir
+    (subst (λ h. IsEntry (held_of shape h dir.dir.0) row.slot cut.result.1.now row.ino.0) c.dir_at.ensures.words c.in_ok-ino.ensures.row) reads
+
+pub returns-clause-row : goal.returns-clause-row
+returns-clause-row g c =
+    let shape = c.args.shape.now in
+    let f = (g.V.Blocks.seen c.args.v.now).words in
+    let dir = c.in_ok-dir in
+    let row = c.in_ok-ino in
+    record {
+      dir = dir.ensures.dir;
+      entry = subst (λ n. IsEntry (held_of shape f dir.dir.0) row.slot n row.ino.0) (sym c.cut_last.ensures.last) (subst (λ h. IsEntry (held_of shape h dir.dir.0) row.slot c.cut_last.result.1.now row.ino.0) c.dir_at.ensures.words c.in_ok-ino.ensures.row);
+    }
+
+pub returns-clause-used : goal.returns-clause-used
+returns-clause-used g c =
+    let shape = c.args.shape.now in
+    let f = (g.V.Blocks.seen c.args.v.now).words in
+    let dir = c.in_ok-dir in
+    let row = c.in_ok-ino in
+    let can = c.requires.can in
+    row_used shape f can.state dir.dir.0 _ c.cut_last.result.1.now _ can.reads dir.ensures.dir (subst (λ h. IsEntry (held_of shape h dir.dir.0) row.slot c.cut_last.result.1.now row.ino.0) c.dir_at.ensures.words c.in_ok-ino.ensures.row)
+
+pub returns-clause-leaves : goal.returns-clause-leaves
+returns-clause-leaves g c = leaves_then c.args.shape.now _ _ _ _ _ _ c.dir_at.ensures.leaves c.dir_at.ensures.words c.row_of.ensures.leaves
+
+pub returns-clause-goes : goal.returns-clause-goes
+returns-clause-goes g c = c.dir_at.ensures.goes then c.row_of.ensures.goes
+
+pub returns-clause-ends : goal.returns-clause-ends
+returns-clause-ends g c = ends_ok _ _ _ (after_well _ _ _ _ _ (well _ _ c.dir_at.result _ c.in_ok-dir.was c.dir_at.ensures.ends) (well _ _ c.row_of.result _ c.in_ok-ino.was c.row_of.ensures.ends))
+
+pub row_of-requires-clause-in_step : goal.row_of-requires-clause-in_step
+row_of-requires-clause-in_step g c = same_step c.args.shape.now _ _ _ c.dir_at.ensures.words c.dir_at.ensures.in_step
+
+pub returns-in_err-ino-clause-in_step : goal.returns-in_err-ino-clause-in_step
+returns-in_err-ino-clause-in_step g c = same_step c.args.shape.now _ _ _ (sym c.dir_at.ensures.words) c.row_of.ensures.in_step
+
+pub returns-clause-in_step : goal.returns-clause-in_step
+returns-clause-in_step g c = same_step c.args.shape.now _ _ _ (sym c.dir_at.ensures.words) c.row_of.ensures.in_step

@@ -1,0 +1,10 @@
+pub mod Changes
+pub mod Committing
+pub mod Ends
+pub mod Failures
+pub mod Memos
+pub mod NewNodes
+pub mod NewRegions
+pub mod Planned
+pub mod WalkRules
+pub mod Walks

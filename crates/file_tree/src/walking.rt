@@ -1,0 +1,303 @@
+//! What stands at a path.
+
+ghost use Rattle.std.specs.Prelude.{◌≡◌, ◌<◌, ℕ, [], ◌∷◌, length, IfOk, OnOk, IsErrOf};
+ghost use Rattle.rio_base.specs.Blocks.{EndsBy};
+ghost use Rattle.rio_base.specs.Volume.{Goes};
+ghost use Rattle.rio_model.specs.States.{last_of};
+ghost use Rattle.rio_model.specs.Held.{held_of};
+ghost use Rattle.rio_model.specs.Paths.{IsPath, names_of, walk as walk_of, walk_to_dir as walk_to_dir_of};
+ghost use Rattle.rio_model.specs.Placed.{volume_layout};
+ghost use Rattle.rio_model.specs.VolumeReads.{ReadsAs};
+ghost use Rattle.rio_model.specs.VolumeReady.{LeavesInUse};
+ghost use Rattle.rio_model.specs.declared.state.State.{State};
+ghost use Rattle.inode_table.specs.Inodes.{IsInode};
+ghost use Rattle.directories.specs.Rows.{HasRow, IsEntry};
+ghost use Rattle.file_tree.specs.Ends.{CanServe};
+ghost use Rattle.file_tree.specs.Failures.{Faulted, Refuses, Unrefused};
+ghost use Rattle.file_tree.specs.Memos.{InStep};
+ghost use Rattle.file_tree.specs.Walks.{Comes, FreeRow, IsRow, RowComes, ino_in};
+
+use crate::changes::DIRECTORY;
+use crate::failures::{EXISTS, FileFail, NOT_A_DIRECTORY, NOT_FOUND};
+use crate::finding::look_up;
+use crate::memo::Memo;
+use crate::paths::{cut_last, name_end};
+use inode_table::{Inode, read_inode};
+use rio_base::{Ino, Volume, VolumeShape};
+
+/// The root directory.
+const ROOT: Ino = Ino(1);
+
+/// The inode of a node.
+pub fn inode_of<V: Volume>(v: &mut V, shape: &VolumeShape, i: Ino) -> Result<Inode, FileFail>
+    requires sound { V.sound v.old }
+    requires can { CanServe shape.now (V.seen v.old) (V.kept v.old) }
+    requires used { 0 < (held_of shape.now (V.seen v.old).words i.0).kind }
+    ensures value { IfOk result (IsInode (V.seen v.old).words i.0) }
+    ensures other { Unrefused result }
+    ensures leaves { LeavesInUse (volume_layout shape.now (V.seen v.old).words) (V.seen v.old) (V.kept v.old) (V.seen v.new) (V.kept v.new) }
+    ensures words { (V.seen v.new).words ≡ (V.seen v.old).words }
+    ensures can { CanServe shape.now (V.seen v.new) (V.kept v.new) }
+    ensures goes { Goes (V.health v.old) (V.below v.old) (V.health v.new) (V.below v.new) }
+    ensures ends { EndsBy (V.health v.old) (V.health v.new) (Faulted result) (IsErrOf result FileFail.Stopped) }
+    ensures sound { V.sound v.new }
+{
+    let inode = read_inode(v, shape, i)?;
+    Ok(inode)
+}
+
+/// The inode of a directory. Refuses a node that is none.
+fn must_be_dir<V: Volume>(v: &mut V, shape: &VolumeShape, i: Ino) -> Result<Inode, FileFail>
+    requires sound { V.sound v.old }
+    requires can { CanServe shape.now (V.seen v.old) (V.kept v.old) }
+    requires used { 0 < (held_of shape.now (V.seen v.old).words i.0).kind }
+    ensures ok { OnOk result ((held_of shape.now (V.seen v.old).words i.0).kind ≡ 1) }
+    ensures inode { IfOk result (IsInode (V.seen v.old).words i.0) }
+    ensures refused { Refuses result 4 ((held_of shape.now (V.seen v.old).words i.0).kind ≡ 1 → ⊥) }
+    ensures leaves { LeavesInUse (volume_layout shape.now (V.seen v.old).words) (V.seen v.old) (V.kept v.old) (V.seen v.new) (V.kept v.new) }
+    ensures words { (V.seen v.new).words ≡ (V.seen v.old).words }
+    ensures can { CanServe shape.now (V.seen v.new) (V.kept v.new) }
+    ensures goes { Goes (V.health v.old) (V.below v.old) (V.health v.new) (V.below v.new) }
+    ensures ends { EndsBy (V.health v.old) (V.health v.new) (Faulted result) (IsErrOf result FileFail.Stopped) }
+    ensures sound { V.sound v.new }
+{
+    let inode = inode_of(v, shape, i)?;
+    if inode.kind != DIRECTORY {
+        return Err(FileFail::Refused(NOT_A_DIRECTORY));
+    }
+    Ok(inode)
+}
+
+/// What a name of a directory, which has this inode, names, and the slot of its row.
+fn row_of<V: Volume>(
+    v: &mut V,
+    shape: &VolumeShape,
+    memo: &mut Memo,
+    dir: Ino,
+    inode: &Inode,
+    name: &[u8],
+) -> Result<(Ino, u32), FileFail>
+    requires sound { V.sound v.old }
+    requires can { CanServe shape.now (V.seen v.old) (V.kept v.old) }
+    requires in_step { InStep shape.now (V.seen v.old).words memo.old }
+    requires dir { (held_of shape.now (V.seen v.old).words dir.0).kind ≡ 1 }
+    requires inode { IsInode (V.seen v.old).words dir.0 inode.now }
+    ensures row { IfOk result (λ row. IsEntry (held_of shape.now (V.seen v.old).words dir.0) row.1 name.now row.0.0) }
+    ensures refused { Refuses result 2 ((n : ℕ) → HasRow (held_of shape.now (V.seen v.old).words dir.0) name.now n → ⊥) }
+    ensures in_step { InStep shape.now (V.seen v.old).words memo.new }
+    ensures leaves { LeavesInUse (volume_layout shape.now (V.seen v.old).words) (V.seen v.old) (V.kept v.old) (V.seen v.new) (V.kept v.new) }
+    ensures words { (V.seen v.new).words ≡ (V.seen v.old).words }
+    ensures can { CanServe shape.now (V.seen v.new) (V.kept v.new) }
+    ensures goes { Goes (V.health v.old) (V.below v.old) (V.health v.new) (V.below v.new) }
+    ensures ends { EndsBy (V.health v.old) (V.health v.new) (Faulted result) (IsErrOf result FileFail.Stopped) }
+    ensures sound { V.sound v.new }
+{
+    match look_up(v, shape, memo, dir, inode, name)? {
+        Some(row) => Ok(row),
+        None => Err(FileFail::Refused(NOT_FOUND)),
+    }
+}
+
+/// The step from a node by a name.
+fn step<V: Volume>(
+    v: &mut V,
+    shape: &VolumeShape,
+    memo: &mut Memo,
+    dir: Ino,
+    name: &[u8],
+) -> Result<Ino, FileFail>
+    requires sound { V.sound v.old }
+    requires can { CanServe shape.now (V.seen v.old) (V.kept v.old) }
+    requires in_step { InStep shape.now (V.seen v.old).words memo.old }
+    requires used { 0 < (held_of shape.now (V.seen v.old).words dir.0).kind }
+    ensures value { (s : State) → ReadsAs shape.now (V.seen v.old).words s → Comes (walk_of s dir.0 (name.now ∷ [])) result }
+    ensures used { IfOk result (λ i. 0 < (held_of shape.now (V.seen v.old).words i.0).kind) }
+    ensures in_step { InStep shape.now (V.seen v.old).words memo.new }
+    ensures leaves { LeavesInUse (volume_layout shape.now (V.seen v.old).words) (V.seen v.old) (V.kept v.old) (V.seen v.new) (V.kept v.new) }
+    ensures words { (V.seen v.new).words ≡ (V.seen v.old).words }
+    ensures can { CanServe shape.now (V.seen v.new) (V.kept v.new) }
+    ensures goes { Goes (V.health v.old) (V.below v.old) (V.health v.new) (V.below v.new) }
+    ensures ends { EndsBy (V.health v.old) (V.health v.new) (Faulted result) (IsErrOf result FileFail.Stopped) }
+    ensures sound { V.sound v.new }
+{
+    let inode = must_be_dir(v, shape, dir)?;
+    let (i, _) = row_of(v, shape, memo, dir, &inode, name)?;
+    Ok(i)
+}
+
+/// The node at a path, name by name.
+fn walk_names<V: Volume>(
+    v: &mut V,
+    shape: &VolumeShape,
+    memo: &mut Memo,
+    path: &[u8],
+) -> Result<Ino, FileFail>
+    requires sound { V.sound v.old }
+    requires can { CanServe shape.now (V.seen v.old) (V.kept v.old) }
+    requires in_step { InStep shape.now (V.seen v.old).words memo.old }
+    ensures value { (s : State) → ReadsAs shape.now (V.seen v.old).words s → Comes (walk_of s 1 (names_of path.now)) result }
+    ensures used { IfOk result (λ i. 0 < (held_of shape.now (V.seen v.old).words i.0).kind) }
+    ensures in_step { InStep shape.now (V.seen v.old).words memo.new }
+    ensures leaves { LeavesInUse (volume_layout shape.now (V.seen v.old).words) (V.seen v.old) (V.kept v.old) (V.seen v.new) (V.kept v.new) }
+    ensures words { (V.seen v.new).words ≡ (V.seen v.old).words }
+    ensures can { CanServe shape.now (V.seen v.new) (V.kept v.new) }
+    ensures goes { Goes (V.health v.old) (V.below v.old) (V.health v.new) (V.below v.new) }
+    ensures ends { EndsBy (V.health v.old) (V.health v.new) (Faulted result) (IsErrOf result FileFail.Stopped) }
+    ensures sound { V.sound v.new }
+{
+    let mut i = ROOT;
+    let mut at = 1;
+    while at < path.len() {
+        let end = name_end(path, at);
+        i = step(v, shape, memo, i, &path[at..end])?;
+        at = end + 1;
+    }
+    Ok(i)
+}
+
+/// The node at a path. No bytes are the root's path too. Where it is the path that was walked last, no block is read.
+pub fn walk<V: Volume>(
+    v: &mut V,
+    shape: &VolumeShape,
+    memo: &mut Memo,
+    path: &[u8],
+) -> Result<Ino, FileFail>
+    requires sound { V.sound v.old }
+    requires can { CanServe shape.now (V.seen v.old) (V.kept v.old) }
+    requires in_step { InStep shape.now (V.seen v.old).words memo.old }
+    ensures value { (s : State) → ReadsAs shape.now (V.seen v.old).words s → Comes (walk_of s 1 (names_of path.now)) result }
+    ensures used { IfOk result (λ i. 0 < (held_of shape.now (V.seen v.old).words i.0).kind) }
+    ensures in_step { InStep shape.now (V.seen v.old).words memo.new }
+    ensures leaves { LeavesInUse (volume_layout shape.now (V.seen v.old).words) (V.seen v.old) (V.kept v.old) (V.seen v.new) (V.kept v.new) }
+    ensures words { (V.seen v.new).words ≡ (V.seen v.old).words }
+    ensures can { CanServe shape.now (V.seen v.new) (V.kept v.new) }
+    ensures goes { Goes (V.health v.old) (V.below v.old) (V.health v.new) (V.below v.new) }
+    ensures ends { EndsBy (V.health v.old) (V.health v.new) (Faulted result) (IsErrOf result FileFail.Stopped) }
+    ensures sound { V.sound v.new }
+{
+    if let Some(i) = memo.path.find(path) {
+        return Ok(i);
+    }
+    let i = walk_names(v, shape, memo, path)?;
+    memo.path.keep(path, i);
+    Ok(i)
+}
+
+/// The directory at a path, and its inode.
+fn dir_at<V: Volume>(
+    v: &mut V,
+    shape: &VolumeShape,
+    memo: &mut Memo,
+    path: &[u8],
+) -> Result<(Ino, Inode), FileFail>
+    requires sound { V.sound v.old }
+    requires can { CanServe shape.now (V.seen v.old) (V.kept v.old) }
+    requires in_step { InStep shape.now (V.seen v.old).words memo.old }
+    ensures value { (s : State) → ReadsAs shape.now (V.seen v.old).words s → Comes (walk_to_dir_of s (names_of path.now)) (ino_in result) }
+    ensures dir { IfOk result (λ at. (held_of shape.now (V.seen v.old).words at.0.0).kind ≡ 1) }
+    ensures inode { IfOk result (λ at. IsInode (V.seen v.old).words at.0.0 at.1) }
+    ensures in_step { InStep shape.now (V.seen v.old).words memo.new }
+    ensures leaves { LeavesInUse (volume_layout shape.now (V.seen v.old).words) (V.seen v.old) (V.kept v.old) (V.seen v.new) (V.kept v.new) }
+    ensures words { (V.seen v.new).words ≡ (V.seen v.old).words }
+    ensures can { CanServe shape.now (V.seen v.new) (V.kept v.new) }
+    ensures goes { Goes (V.health v.old) (V.below v.old) (V.health v.new) (V.below v.new) }
+    ensures ends { EndsBy (V.health v.old) (V.health v.new) (Faulted result) (IsErrOf result FileFail.Stopped) }
+    ensures sound { V.sound v.new }
+{
+    let dir = walk(v, shape, memo, path)?;
+    let inode = must_be_dir(v, shape, dir)?;
+    Ok((dir, inode))
+}
+
+/// The directory at a path.
+pub fn walk_to_dir<V: Volume>(
+    v: &mut V,
+    shape: &VolumeShape,
+    memo: &mut Memo,
+    path: &[u8],
+) -> Result<Ino, FileFail>
+    requires sound { V.sound v.old }
+    requires can { CanServe shape.now (V.seen v.old) (V.kept v.old) }
+    requires in_step { InStep shape.now (V.seen v.old).words memo.old }
+    ensures value { (s : State) → ReadsAs shape.now (V.seen v.old).words s → Comes (walk_to_dir_of s (names_of path.now)) result }
+    ensures dir { IfOk result (λ i. (held_of shape.now (V.seen v.old).words i.0).kind ≡ 1) }
+    ensures in_step { InStep shape.now (V.seen v.old).words memo.new }
+    ensures leaves { LeavesInUse (volume_layout shape.now (V.seen v.old).words) (V.seen v.old) (V.kept v.old) (V.seen v.new) (V.kept v.new) }
+    ensures words { (V.seen v.new).words ≡ (V.seen v.old).words }
+    ensures can { CanServe shape.now (V.seen v.new) (V.kept v.new) }
+    ensures goes { Goes (V.health v.old) (V.below v.old) (V.health v.new) (V.below v.new) }
+    ensures ends { EndsBy (V.health v.old) (V.health v.new) (Faulted result) (IsErrOf result FileFail.Stopped) }
+    ensures sound { V.sound v.new }
+{
+    let (dir, _) = dir_at(v, shape, memo, path)?;
+    Ok(dir)
+}
+
+/// The directory at a path, which must not have this name.
+pub fn dir_without<V: Volume>(
+    v: &mut V,
+    shape: &VolumeShape,
+    memo: &mut Memo,
+    path: &[u8],
+    name: &[u8],
+) -> Result<Ino, FileFail>
+    requires sound { V.sound v.old }
+    requires can { CanServe shape.now (V.seen v.old) (V.kept v.old) }
+    requires in_step { InStep shape.now (V.seen v.old).words memo.old }
+    ensures value { (s : State) → ReadsAs shape.now (V.seen v.old).words s → FreeRow s (names_of path.now) name.now result }
+    ensures dir { IfOk result (λ i. (held_of shape.now (V.seen v.old).words i.0).kind ≡ 1) }
+    ensures absent { IfOk result (λ i. (n : ℕ) → HasRow (held_of shape.now (V.seen v.old).words i.0) name.now n → ⊥) }
+    ensures in_step { InStep shape.now (V.seen v.old).words memo.new }
+    ensures leaves { LeavesInUse (volume_layout shape.now (V.seen v.old).words) (V.seen v.old) (V.kept v.old) (V.seen v.new) (V.kept v.new) }
+    ensures words { (V.seen v.new).words ≡ (V.seen v.old).words }
+    ensures can { CanServe shape.now (V.seen v.new) (V.kept v.new) }
+    ensures goes { Goes (V.health v.old) (V.below v.old) (V.health v.new) (V.below v.new) }
+    ensures ends { EndsBy (V.health v.old) (V.health v.new) (Faulted result) (IsErrOf result FileFail.Stopped) }
+    ensures sound { V.sound v.new }
+{
+    let (dir, inode) = dir_at(v, shape, memo, path)?;
+    if look_up(v, shape, memo, dir, &inode, name)?.is_some() {
+        return Err(FileFail::Refused(EXISTS));
+    }
+    Ok(dir)
+}
+
+/// A row: its directory and slot, and the node that it names.
+#[derive(Clone, Copy, Debug)]
+pub struct Row {
+    /// The directory.
+    pub dir: Ino,
+    /// The slot of its entry there.
+    pub slot: u32,
+    /// The node that it names.
+    pub ino: Ino,
+}
+
+/// The row of the last name of a path, which has one name or more.
+pub fn walk_to_row<V: Volume>(
+    v: &mut V,
+    shape: &VolumeShape,
+    memo: &mut Memo,
+    path: &[u8],
+) -> Result<Row, FileFail>
+    requires sound { V.sound v.old }
+    requires can { CanServe shape.now (V.seen v.old) (V.kept v.old) }
+    requires in_step { InStep shape.now (V.seen v.old).words memo.old }
+    requires path { IsPath path.now }
+    requires some { 0 < length (names_of path.now) }
+    ensures value { (s : State) → ReadsAs shape.now (V.seen v.old).words s → RowComes s (names_of path.now) result }
+    ensures row { IfOk result (IsRow shape.now (V.seen v.old).words (last_of (names_of path.now))) }
+    ensures used { IfOk result (λ row. 0 < (held_of shape.now (V.seen v.old).words row.ino.0).kind) }
+    ensures in_step { InStep shape.now (V.seen v.old).words memo.new }
+    ensures leaves { LeavesInUse (volume_layout shape.now (V.seen v.old).words) (V.seen v.old) (V.kept v.old) (V.seen v.new) (V.kept v.new) }
+    ensures words { (V.seen v.new).words ≡ (V.seen v.old).words }
+    ensures can { CanServe shape.now (V.seen v.new) (V.kept v.new) }
+    ensures goes { Goes (V.health v.old) (V.below v.old) (V.health v.new) (V.below v.new) }
+    ensures ends { EndsBy (V.health v.old) (V.health v.new) (Faulted result) (IsErrOf result FileFail.Stopped) }
+    ensures sound { V.sound v.new }
+{
+    let (front, name) = cut_last(path);
+    let (dir, inode) = dir_at(v, shape, memo, front)?;
+    let (ino, slot) = row_of(v, shape, memo, dir, &inode, name)?;
+    Ok(Row { dir, slot, ino })
+}
