@@ -1,5 +1,5 @@
 -- What is found of memory and disk, and why nothing is.
-use Rattle.warm_reboot.proofs.Common.{Bool, List, None, Option, Some, false, length, refl, ℕ, ◌+◌, ◌<◌, ◌≡◌, ap, arith, inl, inr, subst, sym, ◌∙◌, is_pending, slice_index, Contents, Running, frames_of, tag_at, tag_block, Restorable}
+use Rattle.page_restore.proofs.Common.{Bool, List, None, Option, Some, false, length, refl, ℕ, ◌+◌, ◌<◌, ◌≡◌, ap, arith, inl, inr, subst, sym, ◌∙◌, is_pending, slice_index, Contents, Running, frames_of, tag_at, tag_block, Restorable}
 use Rattle.rio_base.specs.Blocks.{BlockWords}
 use Rattle.rio_base.specs.Image.{HasHeader, registry_pages}
 use Rattle.rio_base.specs.Rules.{true_false}
@@ -22,13 +22,13 @@ use Rattle.rio_model.proofs.OneReading.{one_reading}
 use Rattle.rio_model.proofs.StandingStates.{AreWhole, one_shape, stands_with_reads}
 use Rattle.rio_model.proofs.StateSteps.{walk_kept}
 use Rattle.rio_model.proofs.VolumeFailRules.{none_fails_standing}
+use Rattle.page_restore.specs.Stale.{MarksStale}
 use Rattle.warm_reboot.specs.declared.report.BootFail.{BootFail}
 use Rattle.warm_reboot.specs.declared.report.BootFail.TheVariants.{BadImage, BadVolume, Fault, Memory, Stopped}
 use Rattle.registry.specs.Views.{view_seen}
 use Rattle.region_recovery.specs.RegionLists.{region_inos}
 use Rattle.warm_reboot.specs.Boots.{StandsNow}
 use Rattle.warm_reboot.specs.Examining.{IsExamined, IsLeastMisfit, TellsNoRule, Unexamined}
-use Rattle.warm_reboot.specs.Stale.{MarksStale}
 
 -- ---- one state
 

@@ -1,13 +1,6 @@
-pub mod ClearTurns
-pub mod Common
-pub mod Due
 pub mod Examines
 pub mod Marks
 pub mod MisfitWalk
 pub mod Outcomes
-pub mod Restores
-pub mod SettleTurns
 pub mod Starts
-pub mod Steps
 pub mod Survivals
-pub mod WriteTurns

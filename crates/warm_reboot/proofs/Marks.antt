@@ -1,5 +1,5 @@
 -- What the owner of a block says of its entry: whether the page is stale, and whether the entry bears a name that it may.
-use Rattle.warm_reboot.proofs.Common.{Bool, List, None, Option, Some, false, length, not, refl, slice_index_or, true, ℕ, ◌+◌, ◌<◌, ◌≡◌, ◌≢◌, ◌≤◌, ◌⊎◌, ap, arith, inl, inr, subst, sym, ◌∙◌, cases_Bool, cases_eq, true_false, IsValid, frames_of, is_data, is_valid, tag_at, tag_block}
+use Rattle.page_restore.proofs.Common.{Bool, List, None, Option, Some, false, length, not, refl, slice_index_or, true, ℕ, ◌+◌, ◌<◌, ◌≡◌, ◌≢◌, ◌≤◌, ◌⊎◌, ap, arith, inl, inr, subst, sym, ◌∙◌, cases_Bool, cases_eq, true_false, IsValid, frames_of, is_data, is_valid, tag_at, tag_block}
 use Rattle.std.specs.Prelude.{◌↔◌, IsTrue, cond, if◌then◌else◌, slice_set, ◌/◌, ◌==◌}
 use Rattle.std.proofs.Common.{get_or-set_same, get_or-set_other}
 use Rattle.std.proofs.lemmas.Bool.Decides.{nat_tests}
@@ -17,7 +17,7 @@ use Rattle.rio_model.specs.Standing.{EntryFits}
 use Rattle.rio_model.specs.VolumeReady.{Bears}
 use Rattle.rio_model.specs.VolumeRules.{IsLaid}
 use Rattle.rio_model.proofs.OwnerRules.{OwnerLets, may_bear_by_owner, owned_by, owner_lets}
-use Rattle.warm_reboot.specs.Stale.{MarksStale, SaysStale}
+use Rattle.page_restore.specs.Stale.{MarksStale, SaysStale}
 
 -- ---- stale pages
 

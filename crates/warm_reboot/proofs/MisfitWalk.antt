@@ -1,5 +1,5 @@
 -- The walk that finds the least block whose entry does not fit.
-use Rattle.warm_reboot.proofs.Common.{List, None, Option, Some, ℕ, ◌+◌, ◌<◌, ◌≡◌, ◌≢◌, ◌≤◌, ◌⊎◌, arith, inl, inr, subst, sym, cases_eq, Contents, IsValid, frames_of, tag_at, tag_block}
+use Rattle.page_restore.proofs.Common.{List, None, Option, Some, ℕ, ◌+◌, ◌<◌, ◌≡◌, ◌≢◌, ◌≤◌, ◌⊎◌, arith, inl, inr, subst, sym, cases_eq, Contents, IsValid, frames_of, tag_at, tag_block}
 use Rattle.std.specs.Prelude.{min}
 use Rattle.rio_base.specs.declared.places.Block.{Block}
 use Rattle.rio_base.specs.declared.places.VolumeShape.{VolumeShape}

@@ -1,5 +1,5 @@
 -- How a reboot ends, from how its parts do.
-use Rattle.warm_reboot.proofs.Common.{Bool, List, length, true, ℕ, ◌≡◌, ◌≤◌, ap, arith, subst, sym, ◌∙◌, Contents, Running, IsHome, frames_of, is_dirty, tag_at}
+use Rattle.page_restore.proofs.Common.{Bool, List, length, true, ℕ, ◌≡◌, ◌≤◌, ap, arith, subst, sym, ◌∙◌, Contents, Running, IsHome, frames_of, is_dirty, tag_at}
 use Rattle.std.specs.Prelude.{◌⊎◌, Result, Ok, Err, IfOk, IfErr, MatchResult}
 use Rattle.std.proofs.Common.{inl, inr}
 use Rattle.rio_base.specs.Blocks.{Seen}
@@ -24,6 +24,9 @@ use Rattle.registry.specs.Views.{Viewed}
 use Rattle.registry.specs.ViewLaws.{viewed_trans}
 use Rattle.page_cache.specs.Caches.{cache_below, cache_health}
 use Rattle.page_cache.proofs.Goes.{runs_of}
+use Rattle.page_restore.specs.Reports.{AreSoMany, CountsPages, IsUnsaved}
+use Rattle.page_restore.specs.Stale.{MarksStale}
+use Rattle.page_restore.specs.declared.kinds.PageCounts.{PageCounts}
 use Rattle.region_recovery.specs.RegionLists.{region_inos}
 use Rattle.region_recovery.proofs.HeldRegions.{regions_held, undone_held}
 use Rattle.warm_reboot.specs.Boots.{AreMarked, IsCutOff, StandsNow, Starts}
@@ -31,9 +34,6 @@ use Rattle.warm_reboot.proofs.Starts.{stands_now}
 use Rattle.warm_reboot.proofs.Survivals.{cut_later, survives_viewed}
 use Rattle.warm_reboot.specs.Examining.{IsExamined, Unexamined, handed}
 use Rattle.warm_reboot.specs.Reboots.{Booted, Recovers, Unbooted}
-use Rattle.warm_reboot.specs.Reports.{AreSoMany, CountsPages, IsUnsaved}
-use Rattle.warm_reboot.specs.Stale.{MarksStale}
-use Rattle.warm_reboot.specs.declared.kinds.PageCounts.{PageCounts}
 use Rattle.warm_reboot.specs.declared.report.BootFail.{BootFail}
 use Rattle.warm_reboot.specs.declared.report.BootFail.TheVariants.{BadImage, BadVolume, Fault as BootFault, Memory, Stopped as BootStopped}
 use Rattle.warm_reboot.specs.declared.report.BootReport.{BootReport}

@@ -1,5 +1,5 @@
 -- A cache on what a restore leaves.
-use Rattle.warm_reboot.proofs.Common.{Bool, List, false, length, refl, true, ap, ℕ, ◌*◌, ◌+◌, ◌<◌, ◌≡◌, ◌⊎◌, arith, subst, sym, ◌∙◌, block_at, is_pending, true_false, Contents, Running, frames_of, tag_at, Endures, Restorable, none_apart, stale_block}
+use Rattle.page_restore.proofs.Common.{Bool, List, false, length, refl, true, ap, ℕ, ◌*◌, ◌+◌, ◌<◌, ◌≡◌, ◌⊎◌, arith, subst, sym, ◌∙◌, block_at, is_pending, true_false, Contents, Running, frames_of, tag_at, Endures, Restorable, none_apart, stale_block}
 use Rattle.rio_base.specs.Blocks.{Seen}
 use Rattle.rio_base.specs.Image.{registry_pages}
 use Rattle.rio_base.specs.Volume.{Kept, Runs}
@@ -17,10 +17,10 @@ use Rattle.rio_model.proofs.VolumeReadRules.{held_of_agree, reads_agree}
 use Rattle.page_cache.specs.Caches.{IsFresh, Started, cache_below, cache_health}
 use Rattle.page_cache.specs.declared.tables.CacheTables.{CacheTables}
 use Rattle.page_cache.proofs.Goes.{runs_of}
-use Rattle.warm_reboot.proofs.Restores.{stale_of, wanted_of}
+use Rattle.page_restore.proofs.Restores.{stale_of, wanted_of}
+use Rattle.page_restore.specs.Phases.{PhaseEnds}
+use Rattle.page_restore.specs.Stale.{MarksStale}
 use Rattle.warm_reboot.specs.Boots.{AreMarked, StandsNow, Starts, Survives}
-use Rattle.warm_reboot.specs.Phases.{PhaseEnds}
-use Rattle.warm_reboot.specs.Stale.{MarksStale}
 
 -- ---- the frames are as many
 

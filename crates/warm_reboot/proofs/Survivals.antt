@@ -1,5 +1,5 @@
 -- What stands over the parts of a reboot, one after the other.
-use Rattle.warm_reboot.proofs.Common.{Bool, Err, false, length, refl, true, ℕ, ◌≡◌, ◌≢◌, ◌≤◌, ap, arith, subst, sym, ◌∙◌, is_pending, Contents, Running, Endures, Restorable, none_apart}
+use Rattle.page_restore.proofs.Common.{Bool, Err, false, length, refl, true, ℕ, ◌≡◌, ◌≢◌, ◌≤◌, ap, arith, subst, sym, ◌∙◌, is_pending, Contents, Running, Endures, Restorable, none_apart}
 use Rattle.std.specs.Prelude.{Option, None, Some, ◌==◌}
 use Rattle.rio_base.specs.Blocks.{BlockWords, Ends, Home}
 use Rattle.rio_base.specs.Counts.{Rose}

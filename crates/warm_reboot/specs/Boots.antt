@@ -14,7 +14,7 @@ use Rattle.rio_model.specs.Standing.{Sound, StandsFor, StandsWith}
 use Rattle.rio_model.specs.VolumeFails.{SaysShape}
 use Rattle.rio_model.specs.VolumeReads.{ReadsAs}
 use Rattle.rio_model.specs.VolumeReady.{Ready}
-use Rattle.warm_reboot.specs.Stale.{MarksStale}
+use Rattle.page_restore.specs.Stale.{MarksStale}
 
 -- ---- what memory and disk stand for
 

@@ -13,12 +13,12 @@ use Rattle.rio_model.specs.VolumeFails.{FailsPair}
 use Rattle.rio_model.specs.VolumeReads.{ReadsAs}
 use Rattle.rio_model.specs.VolumeReady.{Ready}
 use Rattle.registry.specs.Views.{Viewed}
+use Rattle.page_restore.specs.Reports.{CountsPages}
 use Rattle.region_recovery.specs.RegionLists.{AreRecovered, region_inos, undone_count}
 use Rattle.warm_reboot.specs.declared.report.BootFail.{BootFail}
 use Rattle.warm_reboot.specs.declared.report.BootFail.TheVariants.{BadImage, BadVolume, Fault, Memory, Stopped}
 use Rattle.warm_reboot.specs.declared.report.BootReport.{BootReport}
 use Rattle.warm_reboot.specs.Boots.{IsCutOff, StandsNow}
-use Rattle.warm_reboot.specs.Reports.{CountsPages}
 
 -- the undo lists of all regions are emptied: the volume reads as the state that it read as, and so many lists had a record.
 -- Nothing is newly cached where there is no region

@@ -10,9 +10,9 @@ ghost use Rattle.rio_model.specs.Placed.{volume_layout};
 ghost use Rattle.rio_model.specs.Registry.{HasLayout};
 ghost use Rattle.rio_model.specs.Standing.{StandsFor};
 ghost use Rattle.registry.specs.Views.{Viewed};
+ghost use Rattle.page_restore.specs.Stale.{MarksStale};
 ghost use Rattle.region_recovery.specs.RegionLists.{ino_numbers, region_inos};
 ghost use Rattle.warm_reboot.specs.Examining.{IsExamined, TellsNoRule, Unexamined};
-ghost use Rattle.warm_reboot.specs.Stale.{MarksStale};
 
 use crate::marking::mark_stale;
 use crate::misfits::least_misfit;

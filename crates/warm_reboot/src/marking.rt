@@ -13,7 +13,7 @@ ghost use Rattle.rio_model.specs.VolumeReady.{Bears};
 ghost use Rattle.rio_model.specs.VolumeRules.{IsLaid};
 ghost use Rattle.inode_table.specs.Inodes.{IsInode, IsMetadata};
 ghost use Rattle.registry.specs.Entries.{entry_of};
-ghost use Rattle.warm_reboot.specs.Stale.{MarksStale, SaysStale};
+ghost use Rattle.page_restore.specs.Stale.{MarksStale, SaysStale};
 
 use inode_table::{BLOCK_INODES, Inode, read_inode};
 use registry::{Entry, Tag, frame_count, load_tag};

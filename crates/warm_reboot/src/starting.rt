@@ -9,14 +9,13 @@ ghost use Rattle.rio_model.specs.Placed.{Layout, volume_layout};
 ghost use Rattle.rio_model.specs.Registry.{frames_of, gate_of, is_data, tag_at};
 ghost use Rattle.rio_model.specs.Standing.{EntriesFit, Restorable, Restored};
 ghost use Rattle.page_cache.specs.Caches.{CacheSound, IsFresh, cache_below, cache_health, cache_kept, cache_seen};
+ghost use Rattle.page_restore.specs.Phases.{PhaseEnds};
+ghost use Rattle.page_restore.specs.Reports.{CountsPages};
+ghost use Rattle.page_restore.specs.Stale.{MarksStale};
 ghost use Rattle.warm_reboot.specs.Boots.{AreMarked, StandsNow, Starts, Survives};
-ghost use Rattle.warm_reboot.specs.Phases.{PhaseEnds};
-ghost use Rattle.warm_reboot.specs.Reports.{CountsPages};
-ghost use Rattle.warm_reboot.specs.Stale.{MarksStale};
 
-use crate::kinds::PageCounts;
-use crate::restoring::restore;
 use page_cache::{CacheTables, PageCache};
+use page_restore::{PageCounts, restore};
 use rio_base::{Machine, VolFail};
 
 /// Restores memory and disk, and starts a cache on them whose blocks read as the state that they stood for. `tables` are made

@@ -1,11 +1,11 @@
-use Rattle.warm_reboot.proofs.Common.{List, subst, sym}
+use Rattle.page_restore.proofs.Common.{List, subst, sym}
 use Rattle.rio_model.specs.declared.census.Owner.{Owner}
 use Rattle.rio_model.specs.Censuses.{HasOwners}
 use Rattle.rio_model.specs.Cover.{stands}
 use Rattle.rio_model.specs.Placed.{volume_layout}
 use Rattle.registry.specs.ViewLaws.{viewed_trans}
+use Rattle.page_restore.specs.Stale.{MarksStale}
 use Rattle.warm_reboot.proofs.Examines.{fails_twelve, is_examined, kinds_read, marks_read, regions_read, shape_read}
-use Rattle.warm_reboot.specs.Stale.{MarksStale}
 use Rattle.warm_reboot.proofs.examining.look_at_pair.Goals as goal
 
 pub returns-in-Some-clause-unexamined : goal.returns-in-Some-clause-unexamined

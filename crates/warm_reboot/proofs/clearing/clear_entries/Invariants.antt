@@ -1,5 +1,0 @@
-use Rattle.warm_reboot.proofs.ClearTurns.{Cleared}
-use Rattle.warm_reboot.proofs.clearing.clear_entries.Given as goal
-
-abbrev pub invariant-loop-k : goal.invariant-loop-k
-invariant-loop-k g l = Cleared l.marks l.k (g.M.Machine.contents l.initial.m) (g.M.Machine.contents l.m) (g.M.Machine.run l.initial.m) (g.M.Machine.run l.m)
