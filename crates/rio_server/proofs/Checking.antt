@@ -27,9 +27,10 @@ use Rattle.pair_files.proofs.PairRules.{fails_pair, file_blocks, image_parts, lo
 use Rattle.warm_reboot.specs.Examining.{Unexamined}
 use Rattle.warm_reboot.specs.declared.report.BootFail.{BootFail}
 use Rattle.warm_reboot.specs.declared.report.BootFail.TheVariants.{BadImage as ImageFails, BadVolume as VolumeFails, Fault as BlockFault, Stopped as MachineStopped, Memory as NotExamined}
-use Rattle.rio_server.specs.declared.ends.CheckEnd.{CheckEnd}
-use Rattle.rio_server.specs.declared.ends.CheckEnd.TheVariants.{Sound, BadImage as ImageRefused, BadVolume as VolumeRefused, Absent as NotThere, HostFault as NotRead, Memory as NoMemory}
-use Rattle.rio_server.specs.Check.{Checks, Examined, Examines, Finds, Found, HasDisk, HasWords, IsSureOf, check_status, unexamined_end, unloaded_end}
+use Rattle.command_lines.specs.declared.ends.CheckEnd.{CheckEnd}
+use Rattle.command_lines.specs.declared.ends.CheckEnd.TheVariants.{Sound, BadImage as ImageRefused, BadVolume as VolumeRefused, Absent as NotThere, HostFault as NotRead, Memory as NoMemory}
+use Rattle.command_lines.specs.CheckLines.{check_status}
+use Rattle.rio_server.specs.Check.{Checks, Examined, Examines, Finds, Found, HasDisk, HasWords, IsSureOf, unexamined_end, unloaded_end}
 
 -- ---- nothing was loaded
 

@@ -14,13 +14,13 @@ use Rattle.rio_words.specs.declared.fail.WordsFail.{WordsFail}
 use Rattle.rio_words.specs.declared.fail.WordsFail.TheVariants.{Usage}
 use Rattle.rio_base.specs.Streams.{appended}
 use Rattle.rio_drill.specs.Drills.{Drills, WroteFront, memory_line as told_line}
-use Rattle.rio_server.specs.declared.ends.FormatEnd.{FormatEnd}
-use Rattle.rio_server.specs.declared.ends.FormatEnd.TheVariants.{Formatted, DiskFault, ImageFault, Memory as NoRoom}
-use Rattle.rio_server.specs.declared.ends.CheckEnd.TheVariants.{Memory as NotLooked}
-use Rattle.rio_server.specs.declared.ends.RegistryEnd.TheVariants.{Memory as NotRead}
+use Rattle.rio_server.specs.declared.format.FormatEnd.{FormatEnd}
+use Rattle.rio_server.specs.declared.format.FormatEnd.TheVariants.{Formatted, DiskFault, ImageFault, Memory as NoRoom}
+use Rattle.command_lines.specs.declared.ends.CheckEnd.TheVariants.{Memory as NotLooked}
+use Rattle.command_lines.specs.declared.ends.RegistryEnd.TheVariants.{Memory as NotRead}
 use Rattle.rio_server.specs.declared.format.FormatSizes.{FormatSizes}
 use Rattle.rio_server.specs.Check.{Checks}
-use Rattle.rio_server.specs.Command.{WritesLine, memory_line}
+use Rattle.command_lines.specs.Command.{WritesLine, memory_line}
 use Rattle.rio_server.specs.Commands.{CheckRuns, DrillRuns, FormatRuns, IsServe, NamesAbsent, Obeyed, Obeys, RegistryRuns}
 use Rattle.rio_server.specs.Format.{Formats, format_sizes, format_status}
 use Rattle.rio_server.specs.Outside.{Benched, HostRose, Outside, SinkRose, SourceRose}

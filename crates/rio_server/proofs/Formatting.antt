@@ -1,10 +1,10 @@
 -- How formatting ends.
 use Rattle.std.proofs.Common.{◌≡◌, ℕ, List, ap, subst, ◌∙◌, Option}
 use Rattle.rio_base.specs.Hosts.{Files}
-use Rattle.rio_server.specs.declared.ends.FormatEnd.{FormatEnd}
+use Rattle.rio_server.specs.declared.format.FormatEnd.{FormatEnd}
 use Rattle.rio_server.specs.declared.format.FreshPair.{FreshPair}
 use Rattle.rio_server.specs.declared.format.FormatSizes.{FormatSizes}
-use Rattle.rio_server.specs.Command.{WritesLine}
+use Rattle.command_lines.specs.Command.{WritesLine}
 use Rattle.rio_server.specs.Format.{Formats, IsPrepared, files_after, format_line, format_status, image_bytes}
 
 pub formats_at : (end : FormatEnd) (image disk : List ℕ) (sizes : FormatSizes) (pair : FreshPair) (status : ℕ) (rose : Type 0)

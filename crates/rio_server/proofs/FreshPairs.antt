@@ -35,8 +35,8 @@ use Rattle.pair_files.specs.Pairs.{AreBlocksIn, HasPair, IsPair, pair_machine}
 use Rattle.pair_files.proofs.BytesIn.{AreWords, blocks_of_in}
 use Rattle.pair_files.proofs.LeftFiles.{with_beside, with_here_told}
 use Rattle.rio_server.specs.declared.format.FormatSizes.{FormatSizes}
-use Rattle.rio_server.specs.declared.ends.FormatEnd.{FormatEnd}
-use Rattle.rio_server.specs.declared.ends.FormatEnd.TheVariants.{Formatted, DiskFault, ImageFault, Memory}
+use Rattle.rio_server.specs.declared.format.FormatEnd.{FormatEnd}
+use Rattle.rio_server.specs.declared.format.FormatEnd.TheVariants.{Formatted, DiskFault, ImageFault, Memory}
 use Rattle.rio_server.specs.Format.{disk_bytes, files_after, format_status, image_bytes, root_state}
 
 -- ---- words of 64 bits

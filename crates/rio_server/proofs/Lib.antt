@@ -10,4 +10,3 @@ pub mod ServeRefusals
 pub mod ServedPairs
 pub mod StopCauses
 pub mod StoppedMachines
-pub mod Telling

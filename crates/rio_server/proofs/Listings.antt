@@ -1,10 +1,21 @@
 -- How a look at a registry ends.
-use Rattle.std.proofs.Common.{◌≡◌, ◌≢◌, ℕ, List, Option, inl, inr, arith}
+use Rattle.std.proofs.Common.{◌≡◌, ◌≢◌, ℕ, List, [], Option, Err, inl, inr, arith}
 use Rattle.std.specs.Prelude.{◌⊎◌}
+use Rattle.rio_base.specs.Counts.{Rose}
 use Rattle.rio_base.specs.Hosts.{Files, IsAbsent}
-use Rattle.rio_server.specs.declared.ends.RegistryEnd.{RegistryEnd}
-use Rattle.rio_server.specs.declared.ends.RegistryEnd.TheVariants.{Listed, Refused, Absent, HostFault, SinkFault, Memory}
-use Rattle.rio_server.specs.Registry.{EndsAs, Lists, registry_status}
+use Rattle.request_codec.specs.Sending.{Sends}
+use Rattle.request_codec.proofs.Sendings.{sends_cut}
+use Rattle.command_lines.specs.declared.ends.RegistryEnd.{RegistryEnd}
+use Rattle.command_lines.specs.declared.ends.RegistryEnd.TheVariants.{Listed, Refused, Absent, HostFault, SinkFault, Memory}
+use Rattle.command_lines.specs.RegistryLines.{registry_status}
+use Rattle.rio_server.specs.Registry.{CutListing, EndsAs, Lists, registry_text}
+
+-- ---- what was sent
+
+pub cut_listing : {T E : Type 0} {e : E} {a : Option (List ℕ)} {f : ℕ} (words : List ℕ) {b : Option (List ℕ)} {f1 : ℕ} → Sends {T = T} (Err e) a f [] (registry_text words) b f1 [] → CutListing words (Rose f f1) a b
+cut_listing words s =
+    let cut = sends_cut s in
+    record { cause = s.err.rose; count = cut.0; most = cut.1; front = cut.2 }
 
 -- ---- what a run says of its status
 

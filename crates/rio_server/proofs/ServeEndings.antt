@@ -20,9 +20,10 @@ use Rattle.pair_serving.specs.ServedScenes.{RunsFrom, Served, loop_end}
 use Rattle.pair_serving.specs.Strikes.{AsksNoStrike}
 use Rattle.pair_serving.specs.declared.ends.LinesEnd.{LinesEnd}
 use Rattle.pair_serving.specs.declared.ends.LinesEnd.TheVariants.{Ended as LoopEnded, Trapped}
-use Rattle.rio_server.specs.Command.{WritesLine}
+use Rattle.command_lines.specs.Command.{WritesLine}
 use Rattle.rio_server.specs.Outside.{Benched, HostRose, Outside, SinkRose, SourceRose}
-use Rattle.rio_server.specs.Serve.{MadeStatus, ServeCauses, ServeRuns, Stops, StopsAt, Untouched, does_serve, lines_status, loop_line, outcome_at, outset_at, serve_line, serve_status, stop_line, stopped_line, trap_told, trapped_line}
+use Rattle.command_lines.specs.ServeLines.{lines_status, loop_line, serve_line, serve_status, stop_line, stopped_line, trapped_line}
+use Rattle.rio_server.specs.Serve.{MadeStatus, ServeCauses, ServeRuns, Stops, StopsAt, Untouched, does_serve, outcome_at, outset_at, trap_told}
 use Rattle.rio_server.proofs.InputLines.{given_all}
 use Rattle.rio_server.proofs.ServeRefusals.{refusals}
 use Rattle.rio_server.proofs.ServedPairs.{leaves_pair, scene_with, served_as, stops_at, streams_before, streams_behind}

@@ -13,7 +13,8 @@ use Rattle.pair_files.specs.declared.names.PairFile.TheVariants.{Image, Disk}
 use Rattle.pair_files.proofs.PairRules.{breaks_none, none_breaks, volume_none}
 use Rattle.pair_serving.specs.declared.ends.LinesEnd.{LinesEnd}
 use Rattle.rio_server.specs.Outside.{Benched, Outside}
-use Rattle.rio_server.specs.Serve.{Decided, DecidedByImage, ServeRefusals, does_serve, outcome_at, outset_at, serve_status}
+use Rattle.command_lines.specs.ServeLines.{serve_status}
+use Rattle.rio_server.specs.Serve.{Decided, DecidedByImage, ServeRefusals, does_serve, outcome_at, outset_at}
 
 -- ---- a file is there or not, and has one list of bytes
 

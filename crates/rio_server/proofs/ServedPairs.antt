@@ -20,7 +20,8 @@ use Rattle.pair_serving.specs.declared.ends.LinesEnd.{LinesEnd}
 use Rattle.pair_serving.specs.declared.ends.LinesEnd.TheVariants.{Ended as LoopEnded, Trapped}
 use Rattle.pair_serving.proofs.Sizes.{keeps_then, part_keeps, run_keeps}
 use Rattle.rio_server.specs.Outside.{Benched, Outside}
-use Rattle.rio_server.specs.Serve.{LeavesPair, ReadsNoFlush, RunServes, ServesLines, StopsAt, StopsLines, does_serve, outcome_at, outset_at, serve_status}
+use Rattle.command_lines.specs.ServeLines.{serve_status}
+use Rattle.rio_server.specs.Serve.{LeavesPair, ReadsNoFlush, RunServes, ServesLines, StopsAt, StopsLines, does_serve, outcome_at, outset_at}
 use Rattle.rio_server.proofs.StopCauses.{IsCalm, calm_at, stops_by}
 
 -- ---- scenes, by what is known of them

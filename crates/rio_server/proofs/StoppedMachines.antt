@@ -10,7 +10,8 @@ use Rattle.pair_files.specs.declared.ends.PairEnd.{PairEnd}
 use Rattle.pair_files.specs.declared.ends.PairEnd.TheVariants.{Absent, BadImage, BadVolume, BootFault, BootStopped, HostFault, Memory, Unsaved, Worked}
 use Rattle.pair_serving.specs.declared.ends.LinesEnd.{LinesEnd}
 use Rattle.pair_serving.specs.declared.ends.LinesEnd.TheVariants.{Ended as LoopEnded, Trapped}
-use Rattle.rio_server.specs.Serve.{does_serve, serve_status}
+use Rattle.command_lines.specs.ServeLines.{serve_status}
+use Rattle.rio_server.specs.Serve.{does_serve}
 
 abbrev stopped_in : Option Leaving → Bool
 stopped_in None = false

@@ -7,11 +7,11 @@ use Rattle.rio_base.specs.Bytes.{bytes_of}
 use Rattle.image_codec.specs.Image.{fresh_image_words}
 use Rattle.rio_base.specs.Image.{image_pages}
 use Rattle.image_codec.specs.Volume.{fresh_volume_words}
-use Rattle.rio_server.specs.declared.ends.FormatEnd.{FormatEnd}
-use Rattle.rio_server.specs.declared.ends.FormatEnd.TheVariants.{Formatted, DiskFault, ImageFault, Memory}
+use Rattle.rio_server.specs.declared.format.FormatEnd.{FormatEnd}
+use Rattle.rio_server.specs.declared.format.FormatEnd.TheVariants.{Formatted, DiskFault, ImageFault, Memory}
 use Rattle.rio_server.specs.declared.format.FreshPair.{FreshPair}
 use Rattle.rio_server.specs.declared.format.FormatSizes.{FormatSizes}
-use Rattle.rio_server.specs.Command.{WritesLine}
+use Rattle.command_lines.specs.Command.{WritesLine, host_fault_line}
 use Rattle.rio_model.specs.declared.state.State.{State}
 use Rattle.rio_model.specs.Fresh.{fresh_state}
 
@@ -42,9 +42,6 @@ format_status Formatted = 0
 format_status Memory = 6
 format_status DiskFault = 7
 format_status ImageFault = 7
-
-abbrev pub host_fault_line : List ℕ → List ℕ
-host_fault_line name = codes "host fault: " ++ (name ++ codes "\n")
 
 -- the line that is written at each end
 abbrev pub format_line : FormatEnd → List ℕ → List ℕ → FormatSizes → List ℕ

@@ -1,4 +1,3 @@
-pub mod Command
 pub mod Outside
 pub mod Format
 pub mod Registry

@@ -1,6 +1,5 @@
--- The lines that `registry` lists, and what a run of it leaves.
+-- The listing of `registry`, and what a run of it leaves.
 use Rattle.std.specs.Prelude.{◌≡◌, ◌≤◌, ℕ, List, [], ◌++◌, length, take, flat_map, codes, if◌then◌else◌, Option, ◌⊎◌}
-use Rattle.std.specs.Fmt.{decimal}
 use Rattle.std.specs.List.{range_with_len}
 use Rattle.rio_base.specs.Hosts.{Files, IsAbsent}
 use Rattle.rio_base.specs.Streams.{appended}
@@ -8,29 +7,13 @@ use Rattle.rio_model.specs.Registry.{file_at, frames_of, gate_of, index_at, is_d
 use Rattle.pair_files.specs.Images.{Breaks, HoldsImage}
 use Rattle.pair_files.specs.declared.failures.LoadFail.{LoadFail}
 use Rattle.pair_files.specs.declared.failures.LoadFail.TheVariants.{Absent as NotThere, BadImage, BadLength, Fault, Memory as NotLoaded}
-use Rattle.rio_server.specs.declared.ends.RegistryEnd.{RegistryEnd}
-use Rattle.rio_server.specs.declared.ends.RegistryEnd.TheVariants.{Listed, Refused, Absent, HostFault, SinkFault, Memory}
-use Rattle.rio_server.specs.declared.registry_lines.Row.{Row}
-use Rattle.rio_server.specs.Command.{WritesLine}
-use Rattle.rio_server.specs.Format.{host_fault_line}
+use Rattle.command_lines.specs.declared.ends.RegistryEnd.{RegistryEnd}
+use Rattle.command_lines.specs.declared.ends.RegistryEnd.TheVariants.{Listed, Refused, Absent, HostFault, SinkFault, Memory}
+use Rattle.command_lines.specs.declared.registry_lines.Row.{Row}
+use Rattle.command_lines.specs.Command.{WritesLine}
+use Rattle.command_lines.specs.RegistryLines.{field, registry_line, registry_status, row_line}
 
 -- ---- the listing
-
--- a word, and a number behind it
-abbrev pub field : List ℕ → ℕ → List ℕ
-field word n = word ++ decimal n
-
--- which block a frame has, and in which state
-abbrev pub block_part : Row → List ℕ
-block_part row = decimal row.frame ++ field (codes " block ") row.block ++ (if row.dirty then codes " dirty" else codes " clean") ++ (if row.of_file then codes " data" else codes " meta")
-
--- which page of which file that is
-abbrev pub file_part : Row → List ℕ
-file_part row = field (codes " file ") row.file ++ field (codes " index ") row.index ++ field (codes " size ") row.size ++ field (codes " shadow ") row.shadow ++ codes "\n"
-
--- the line of a frame's entry
-abbrev pub row_line : Row → List ℕ
-row_line row = block_part row ++ file_part row
 
 -- entry k of these words, as it is listed
 abbrev pub row_of : List ℕ → ℕ → Row
@@ -57,32 +40,6 @@ abbrev pub registry_text : List ℕ → List ℕ
 registry_text words = header_line words ++ flat_map (entry_line words) (range_with_len 0 (frames_of words))
 
 -- ---- the ends
-
--- the status of each end
-abbrev pub registry_status : RegistryEnd → ℕ
-registry_status Listed = 0
-registry_status (Refused rule) = 3
-registry_status Memory = 6
-registry_status Absent = 7
-registry_status HostFault = 7
-registry_status SinkFault = 9
-
--- the line of an image that breaks this rule
-abbrev pub image_rule_line : ℕ → List ℕ
-image_rule_line rule = field (codes "image refused: rule ") rule ++ codes "\n"
-
--- the line of a file that is not there
-abbrev pub absent_line : List ℕ → List ℕ
-absent_line name = codes "no such file: " ++ (name ++ codes "\n")
-
--- the line that is written at an end where nothing is listed
-abbrev pub registry_line : RegistryEnd → List ℕ → List ℕ
-registry_line Listed image = []
-registry_line (Refused rule) image = image_rule_line rule
-registry_line Memory image = codes "out of memory\n"
-registry_line Absent image = absent_line image
-registry_line HostFault image = host_fault_line image
-registry_line SinkFault image = []
 
 -- why nothing is listed, as far as the file and the host say it
 abbrev pub Misses : RegistryEnd → List ℕ → Type 0 → Option Files → Type 0

@@ -1,5 +1,5 @@
 -- What a run of `serve` leaves of a pair of files, and what its status tells.
-use Rattle.std.specs.Prelude.{◌≡◌, ◌≢◌, ◌≤◌, ◌<◌, ◌^◌, ◌⊎◌, ◌++◌, ℕ, true, List, [], length, codes, Option, Some, None}
+use Rattle.std.specs.Prelude.{◌≡◌, ◌≢◌, ◌≤◌, ◌<◌, ◌^◌, ◌⊎◌, ℕ, true, List, length, Option, Some, None}
 use Rattle.rio_base.specs.Counts.{Rose, RoseBy}
 use Rattle.rio_base.specs.Hosts.{Files, IsAbsent}
 use Rattle.rio_bench.specs.Benches.{Leaving}
@@ -17,76 +17,17 @@ use Rattle.pair_files.specs.Images.{Breaks, HoldsImage}
 use Rattle.pair_files.specs.Pairs.{BreaksVolume, HasPair, IsRestored, IsRoomy, file_of}
 use Rattle.pair_files.specs.Scenes.{Scene, streams_of}
 use Rattle.pair_files.specs.declared.ends.PairEnd.{PairEnd}
-use Rattle.pair_files.specs.declared.ends.PairEnd.TheVariants.{Absent, BadImage, BadVolume, BootFault, BootStopped, HostFault, Memory, Unsaved, Worked}
+use Rattle.pair_files.specs.declared.ends.PairEnd.TheVariants.{Absent, BootFault, BootStopped, HostFault, Memory, Worked}
 use Rattle.pair_files.specs.declared.names.PairFile.TheVariants.{Image, Disk}
-use Rattle.pair_serving.specs.ServedScenes.{AsksNoFlush, Served, loop_end, trap_of}
+use Rattle.pair_serving.specs.ServedScenes.{AsksNoFlush, Served, trap_of}
 use Rattle.pair_serving.specs.Strikes.{AsksNoStrike, StopsBy}
 use Rattle.pair_serving.specs.declared.ends.LinesEnd.{LinesEnd}
 use Rattle.pair_serving.specs.declared.ends.LinesEnd.TheVariants.{Ended as LoopEnded, Trapped}
-use Rattle.rio_server.specs.Check.{name_of, volume_rule_line}
-use Rattle.rio_server.specs.Command.{WritesLine, memory_line}
-use Rattle.rio_server.specs.Format.{host_fault_line}
+use Rattle.command_lines.specs.CheckLines.{volume_rule_line}
+use Rattle.command_lines.specs.Command.{WritesLine}
+use Rattle.command_lines.specs.ServeLines.{serve_line, serve_status, stopped_line, trapped_line}
 use Rattle.rio_server.specs.Outside.{Benched, HostRose, Outside, SinkRose, SourceRose}
-use Rattle.rio_server.specs.Registry.{absent_line, field, image_rule_line}
-
--- ---- statuses and their lines
-
-abbrev pub lines_status : ServeEnd → ℕ
-lines_status End = 0
-lines_status NoMemory = 6
-lines_status SourceFault = 8
-lines_status SinkFault = 9
-lines_status Stopped = 10
-lines_status InputLimit = 11
-
--- the status of each end. A trap is a stop
-abbrev pub serve_status : PairEnd LinesEnd → ℕ
-serve_status (Worked end) = lines_status (loop_end end)
-serve_status (BadImage rule) = 3
-serve_status (BadVolume rule b) = 4
-serve_status BootFault = 5
-serve_status Memory = 6
-serve_status (Absent file) = 7
-serve_status (HostFault file) = 7
-serve_status (Unsaved end) = 7
-serve_status BootStopped = 10
-
--- after how many steps the machine stopped
-abbrev pub stopped_line : ℕ → List ℕ
-stopped_line steps = field (codes "stopped ") steps ++ codes "\n"
-
--- on which word a wild store trapped
-abbrev pub trapped_line : ℕ → List ℕ
-trapped_line at = field (codes "trapped ") at ++ codes "\n"
-
--- without a stop that was given none is told: see `stopped` of ServeCauses
-abbrev pub stop_line : Option ℕ → List ℕ
-stop_line (Some steps) = stopped_line steps
-stop_line None = []
-
-abbrev pub loop_line : ServeEnd → Option ℕ → List ℕ
-loop_line End stop = []
-loop_line NoMemory stop = memory_line
-loop_line SourceFault stop = codes "source fault\n"
-loop_line SinkFault stop = []
-loop_line Stopped stop = stop_line stop
-loop_line InputLimit stop = codes "input limit\n"
-
-abbrev pub lines_line : LinesEnd → Option ℕ → List ℕ
-lines_line (LoopEnded end) stop = loop_line end stop
-lines_line (Trapped at) stop = trapped_line at.0
-
--- the line that is written at each end, behind the replies
-abbrev pub serve_line : PairEnd LinesEnd → List ℕ → List ℕ → Option ℕ → List ℕ
-serve_line (Worked end) image disk stop = lines_line end stop
-serve_line (BadImage rule) image disk stop = image_rule_line rule
-serve_line (BadVolume rule b) image disk stop = volume_rule_line rule b.0
-serve_line BootFault image disk stop = codes "device fault at boot\n"
-serve_line Memory image disk stop = memory_line
-serve_line (Absent file) image disk stop = absent_line (name_of file image disk)
-serve_line (HostFault file) image disk stop = host_fault_line (name_of file image disk)
-serve_line (Unsaved end) image disk stop = host_fault_line image
-serve_line BootStopped image disk stop = stop_line stop
+use Rattle.command_lines.specs.RegistryLines.{image_rule_line}
 
 -- the place of the wild store whose trap is told
 abbrev pub trap_told : PairEnd LinesEnd → Option ℕ

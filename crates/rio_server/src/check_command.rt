@@ -14,10 +14,9 @@ ghost use Rattle.pair_files.specs.Loads.{IsDiskLoaded, IsImageLoaded, IsImageRea
 ghost use Rattle.pair_files.specs.Pairs.{HasPair};
 ghost use Rattle.rio_server.specs.Check.{Checks, Examined, Found, HasDisk, HasWords, IsSureOf, unexamined_end, unloaded_end};
 
-use crate::check_lines::tell_check;
-use crate::ends::CheckEnd;
 use block_disk::HostDisk;
 use board::Board;
+use command_lines::{CheckEnd, tell_check};
 use pair_files::{LoadFail, LoadedPair, PairFile, PairImage, PairNames, load_pair};
 use phys_memory::{Memory, memory_of};
 use request_codec::ROOM_BYTES;

@@ -5,10 +5,10 @@ ghost use Rattle.std.specs.String.{string_bytes};
 ghost use Rattle.rio_base.specs.Image.{AreImageSizes, image_pages};
 ghost use Rattle.rio_base.specs.Shapes.{IsServed};
 ghost use Rattle.rio_base.specs.Counts.{Rose};
-ghost use Rattle.rio_server.specs.Format.{Formats, IsPrepared, files_after, format_status, format_line, image_bytes, disk_bytes, host_fault_line};
+ghost use Rattle.command_lines.specs.Command.{host_fault_line};
+ghost use Rattle.rio_server.specs.Format.{Formats, IsPrepared, files_after, format_status, format_line, image_bytes, disk_bytes};
 
-use crate::ends::FormatEnd;
-use crate::last_line::say;
+use command_lines::say;
 use image_codec::{fresh_image, fresh_volume, write_image};
 use rio_base::{BLOCK_WORDS, Host, Sink, VolumeShape};
 use std::alloc::{AllocError, Global};
@@ -48,6 +48,19 @@ pub struct FreshPair {
     image_fault: String,
     /// What is said where the volume isn't.
     disk_fault: String,
+}
+
+/// How formatting ended.
+#[derive(Clone, Copy, Debug, PartialEq, Eq)]
+pub enum FormatEnd {
+    /// Both files are written.
+    Formatted,
+    /// The volume's file could not be replaced.
+    DiskFault,
+    /// The memory image's file could not be replaced.
+    ImageFault,
+    /// There was no memory for the pair.
+    Memory,
 }
 
 /// Writes a fresh pair of files, DISK first, and a line on how it went. Answers the status: 0 where both are written, 6

@@ -2,16 +2,11 @@
 #![tactic(auto)]
 
 mod check_command;
-mod check_lines;
-mod ends;
 mod format;
-mod last_line;
 mod program;
 mod registry_command;
-mod registry_lines;
 mod registry_listing;
 mod serve_command;
-mod serve_lines;
 
 pub use pair_serving::{LinesEnd, ServeEnd, serve};
 pub use program::{end_without_memory, run};

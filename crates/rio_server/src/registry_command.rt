@@ -7,11 +7,10 @@ ghost use Rattle.rio_model.specs.Registry.{HasLayout};
 ghost use Rattle.pair_files.specs.Images.{HoldsImage};
 ghost use Rattle.rio_server.specs.Registry.{Lists, Misses, Writes, unlisted_end};
 
-use crate::ends::RegistryEnd;
-use crate::registry_lines::tell;
 use crate::registry_listing::list_registry;
 use block_disk::MemDisk;
 use board::Board;
+use command_lines::{RegistryEnd, tell_registry};
 use pair_files::{LoadFail, board_of, load_image};
 use phys_memory::Memory;
 use request_codec::ROOM_BYTES;
@@ -36,7 +35,7 @@ pub fn show_registry<K: Sink, H: Host>(
     let mut room = [0u8; ROOM_BYTES];
     match find_board(alloc, image, host) {
         Ok(board) => list_board(&board, &mut room, sink),
-        Err(end) => tell(end, image, &mut room, sink),
+        Err(end) => tell_registry(end, image, &mut room, sink),
     }
 }
 

@@ -5,8 +5,8 @@ ghost use Rattle.std.specs.String.{string_bytes};
 ghost use Rattle.rio_server.specs.Outside.{benched, outside};
 ghost use Rattle.rio_server.specs.Serve.{ServeRuns};
 
-use crate::serve_lines::tell_end;
 use block_disk::HostDisk;
+use command_lines::tell_end;
 use pair_files::{PairNames, work_on_pair};
 use pair_serving::Serving;
 use request_codec::ROOM_BYTES;

@@ -1,5 +1,5 @@
 use Rattle.std.proofs.Common.{◌∙◌}
-use Rattle.rio_server.specs.declared.ends.FormatEnd.TheVariants.{DiskFault, ImageFault}
+use Rattle.rio_server.specs.declared.format.FormatEnd.TheVariants.{DiskFault, ImageFault}
 use Rattle.rio_server.proofs.Formatting.{formats_at}
 use Rattle.rio_server.proofs.format.format.Goals as goal
 

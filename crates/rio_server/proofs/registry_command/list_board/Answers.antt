@@ -1,5 +1,5 @@
 use Rattle.std.proofs.Common.{refl, inr}
-use Rattle.rio_server.proofs.Telling.{cut_listing}
+use Rattle.rio_server.proofs.Listings.{cut_listing}
 use Rattle.rio_server.proofs.registry_command.list_board.Goals as goal
 
 pub returns-in-Err-clause-writes : goal.returns-in-Err-clause-writes

@@ -1,0 +1,4 @@
+pub mod Command
+pub mod RegistryLines
+pub mod CheckLines
+pub mod ServeLines
