@@ -5,13 +5,13 @@ ghost use Rattle.machine_tests.specs.Walks.{Walks};
 
 use crate::cache_walks::cache_of;
 use crate::crashes::crashed;
+use crate::machines::Mishap;
 use crate::same::same;
-use block_disk::{DiskChoice, MemDisk};
-use machine_readers::BLOCKS;
+use block_disk::DiskChoice;
 use page_cache::PageCache;
 use rio_base::{BLOCK_WORDS, Block, Blocks, Machine, VolFail, Volume};
 use std::alloc::Global;
-use std::test::Fail;
+use std::process::Abort;
 
 /// Stores 7 as the first word of a block of metadata.
 #[tactic(auto, using(crate::proofs::WalkNames::walk_place, crate::proofs::WalkNames::can_touch, crate::proofs::WalkNames::walks_put))]
@@ -71,16 +71,6 @@ fn go_round<M: Machine>(v: &mut PageCache<M>, ahead: bool) -> Result<(), VolFail
     Ok(())
 }
 
-/// What came of it.
-#[derive(Clone, Copy, Debug, PartialEq, Eq)]
-struct Came {
-    end: Result<(), VolFail>,
-    /// How many blocks were written.
-    writes: u64,
-    /// How many of the 40 blocks stand as stored, after a crash that lost each pending block.
-    stand: u32,
-}
-
 /// How many of the first 40 blocks have 7 as their first word.
 fn sevens(words: &[u64]) -> u32 {
     let mut count = 0u32;
@@ -92,29 +82,35 @@ fn sevens(words: &[u64]) -> u32 {
     count
 }
 
+/// What came of it: how it ended, how many blocks were written, and how many of the 40 blocks stand as stored, after a crash
+/// that lost each pending block.
+type Came = (Result<(), VolFail>, u64, u32);
+
 /// Goes round on a cache of 32 frames: what came of it, and how many steps were no write of a block.
-fn came_of(alloc: Global, ahead: bool) -> Result<(Came, u64), Fail> {
-    let mut v = cache_of(alloc, 32, MemDisk::new(alloc, BLOCKS)?, None)?;
+fn came_of(rt: &impl Abort, alloc: Global, ahead: bool) -> (Came, u64) {
+    let mut v = cache_of(rt, alloc, 32, Mishap::Nothing);
     let end = go_round(&mut v, ahead);
     let machine = v.into_machine();
     let steps = machine.steps();
     let (mem, disk) = machine.into_parts();
     let writes = disk.writes();
-    let found = crashed(alloc, &mem.into_words(), disk, DiskChoice::AsSynced)?;
-    let stand = sevens(&found);
-    Ok((Came { end, writes, stand }, steps.saturating_sub(writes)))
+    let found = crashed(rt, alloc, &mem.into_words(), disk, DiskChoice::AsSynced);
+    ((end, writes, sevens(&found)), steps.saturating_sub(writes))
 }
 
 /// Both make the same stores. Of 96 pages that leave, each has a sync of its own, or 7 syncs serve them all: that of the
 /// first page, those 2, 4, 8 and 16 pages later, as each round writes one more ahead, and then one for 32 pages.
 #[test]
-fn one_sync_serves_many_pages_that_leave(rt: HostRuntime) -> Result<(), Fail> {
-    let (alone, alone_steps) = came_of(rt.alloc(), false)?;
-    let (ahead, ahead_steps) = came_of(rt.alloc(), true)?;
-    let end = Ok(());
-    let due = [(96, 40), (127, 40)].map(|(writes, stand)| Came { end, writes, stand });
-    same(&rt, "written", 0, &[alone, ahead], &due);
+fn one_sync_serves_many_pages_that_leave(rt: HostRuntime) {
+    let (alone, alone_steps) = came_of(&rt, rt.alloc(), false);
+    let (ahead, ahead_steps) = came_of(&rt, rt.alloc(), true);
     let saved = alone_steps.saturating_sub(ahead_steps);
-    same(&rt, "syncs less", 0, &saved, &(96 - 7));
-    Ok(())
+    let due = ((Ok(()), 96, 40), (Ok(()), 127, 40), 96 - 7);
+    same(
+        &rt,
+        "written, and syncs less",
+        0,
+        &(alone, ahead, saved),
+        &due,
+    );
 }

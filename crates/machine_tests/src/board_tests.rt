@@ -1,222 +1,263 @@
 //! Tests of boards: stops, traps, wild stores and the disk.
 
-ghost use Rattle.std.specs.Prelude.{◌≡◌, length};
+ghost use Rattle.std.specs.Prelude.{◌≡◌, ◌<◌, length};
 ghost use Rattle.block_disk.specs.MemDisks.{state_of};
 
-use crate::board_rows::{check_board, check_each};
+use crate::board_rows::{Case, check_board, check_each};
 use crate::cached::word_in;
 use crate::copy_rows::COPIES;
-use crate::machines::board_with;
+use crate::machines::{Mishap, board_on, disk_of};
+use crate::rig::{Call, Came, Memory};
 use crate::same::same;
 use crate::window_rows::WINDOWS;
 use block_disk::{DiskChoice, MemDisk};
-use machine_readers::save;
+use machine_readers::{save, zeros};
 use phys_memory::ListMem;
-use rio_base::{Block, DiskBlocks, Machine, MemWords, Page, WordAt};
+use rio_base::{Block, DiskBlocks, Machine, MemWords, Page, Wild, WordAt};
 use std::alloc::Global;
 use std::process::Abort;
-use std::test::Fail;
 
 /// Stops, traps, wild stores and a failed sync.
-static BOARDS: [&str; 3] = [
+static BOARDS: [Case; 8] = [
     // a stopped or trapped step keeps the old word
-    "
-        board zeros stop 3: a stop keeps the old word
-        open 2: Done
-        store 1024 5: Done
-        store 1025 6: Done
-        store 1026 7: Done
-        store 1027 8: Stopped
-        word 1026: Number(7)
-        word 1027: Number(0)
-        steps: Number(3)
-
-        board zeros: an armed store traps before its step
-        open 2: Done
-        arm 2 0 9: Done
-        store 1024 5: Done
-        store 1025 6: Done
-        store 1026 7: Stopped
-        trapped: Place(Some(WordAt(0)))
-        steps: Number(2)
-
-        board small stop 1: a stop comes before an armed store of the same step
-        open 1: Done
-        arm 1 0 9: Done
-        store 512 5: Done
-        store 513 6: Stopped
-        trapped: Place(None)
-        steps: Number(1)
-
-        board zeros: a trap stops every further step
-        wild 0 9: Met(Trapped)
-        stopped: Is(true)
-        write 3 1: Stopped
-        sync: Stopped
-        open 2: Done
-        store 1024 5: Stopped
-        close: Done
-        word 0: Number(0)
-    ",
+    (
+        "a stop keeps the old word",
+        Memory::Zeros,
+        Mishap::Stop(3),
+        &[
+            (Call::Open(2), Came::Done),
+            (Call::Store(1024, 5), Came::Done),
+            (Call::Store(1025, 6), Came::Done),
+            (Call::Store(1026, 7), Came::Done),
+            (Call::Store(1027, 8), Came::Stopped),
+            (Call::Word(1026), Came::Number(7)),
+            (Call::Word(1027), Came::Number(0)),
+            (Call::Steps, Came::Number(3)),
+        ],
+    ),
+    (
+        "an armed store traps before its step",
+        Memory::Zeros,
+        Mishap::Nothing,
+        &[
+            (Call::Open(2), Came::Done),
+            (Call::Arm(2, 0, 9), Came::Done),
+            (Call::Store(1024, 5), Came::Done),
+            (Call::Store(1025, 6), Came::Done),
+            (Call::Store(1026, 7), Came::Stopped),
+            (Call::Trapped, Came::Place(Some(WordAt(0)))),
+            (Call::Steps, Came::Number(2)),
+        ],
+    ),
+    (
+        "a stop comes before an armed store of the same step",
+        Memory::Small,
+        Mishap::Stop(1),
+        &[
+            (Call::Open(1), Came::Done),
+            (Call::Arm(1, 0, 9), Came::Done),
+            (Call::Store(512, 5), Came::Done),
+            (Call::Store(513, 6), Came::Stopped),
+            (Call::Trapped, Came::Place(None)),
+            (Call::Steps, Came::Number(1)),
+        ],
+    ),
+    (
+        "a trap stops every further step",
+        Memory::Zeros,
+        Mishap::Nothing,
+        &[
+            (Call::Wild(0, 9), Came::Met(Wild::Trapped)),
+            (Call::Halted, Came::Is(true)),
+            (Call::Write(3, 1), Came::Stopped),
+            (Call::Sync, Came::Stopped),
+            (Call::Open(2), Came::Done),
+            (Call::Store(1024, 5), Came::Stopped),
+            (Call::Close, Came::Done),
+            (Call::Word(0), Came::Number(0)),
+        ],
+    ),
     // a wild store is met by where it falls
-    "
-        board zeros: it is spared on the open page
-        open 2: Done
-        wild 1024 9: Met(Spared)
-        word 1024: Number(0)
-        spared: Number(1)
-
-        board zeros: it is made on scratch
-        pages: Number(83)
-        wild 41984 9: Met(Changed)
-        word 41984: Number(9)
-        stopped: Is(false)
-
-        board small: it traps on any other page
-        open 1: Done
-        wild 512 9: Met(Spared)
-        wild 1024 9: Met(Changed)
-        spared: Number(1)
-        stopped: Is(false)
-        wild 511 9: Met(Trapped)
-        trapped: Place(Some(WordAt(511)))
-        stopped: Is(true)
-    ",
+    (
+        "it is spared on the open page",
+        Memory::Zeros,
+        Mishap::Nothing,
+        &[
+            (Call::Open(2), Came::Done),
+            (Call::Wild(1024, 9), Came::Met(Wild::Spared)),
+            (Call::Word(1024), Came::Number(0)),
+            (Call::Spared, Came::Number(1)),
+        ],
+    ),
+    (
+        "it is made on scratch",
+        Memory::Zeros,
+        Mishap::Nothing,
+        &[
+            (Call::Pages, Came::Number(83)),
+            (Call::Wild(41_984, 9), Came::Met(Wild::Changed)),
+            (Call::Word(41_984), Came::Number(9)),
+            (Call::Halted, Came::Is(false)),
+        ],
+    ),
+    (
+        "it traps on any other page",
+        Memory::Small,
+        Mishap::Nothing,
+        &[
+            (Call::Open(1), Came::Done),
+            (Call::Wild(512, 9), Came::Met(Wild::Spared)),
+            (Call::Wild(1024, 9), Came::Met(Wild::Changed)),
+            (Call::Spared, Came::Number(1)),
+            (Call::Halted, Came::Is(false)),
+            (Call::Wild(511, 9), Came::Met(Wild::Trapped)),
+            (Call::Trapped, Came::Place(Some(WordAt(511)))),
+            (Call::Halted, Came::Is(true)),
+        ],
+    ),
     // a failed sync is a fault
-    "
-        board counted fault 2: the second call of the disk fails
-        blocks: Number(4)
-        write 3 2: Done
-        sync: Fault
-        sync: Done
-        read 3: Number(1535)
-        steps: Number(3)
-    ",
+    (
+        "the second call of the disk fails",
+        Memory::Counted,
+        Mishap::Fault(2),
+        &[
+            (Call::Blocks, Came::Number(4)),
+            (Call::Write(3, 2), Came::Done),
+            (Call::Sync, Came::Fault),
+            (Call::Sync, Came::Done),
+            (Call::Read(3), Came::Number(1535)),
+            (Call::Steps, Came::Number(3)),
+        ],
+    ),
 ];
 
 #[test]
-fn boards_answer_as_their_lines_say(rt: HostRuntime) {
+fn boards_answer_as_their_rows_say(rt: HostRuntime) {
     check_each(&rt, rt.alloc(), &BOARDS);
     check_each(&rt, rt.alloc(), &COPIES);
     check_each(&rt, rt.alloc(), &WINDOWS);
 }
 
+/// A word that is stored.
+static STORED: Case = (
+    "a word is stored",
+    Memory::Zeros,
+    Mishap::Nothing,
+    &[
+        (Call::Open(2), Came::Done),
+        (Call::Store(1024, 5), Came::Done),
+    ],
+);
+
 #[test]
 fn memory_and_disk_are_given_back(rt: HostRuntime) {
-    let rows = "
-        board zeros: a word is stored
-        open 2: Done
-        store 1024 5: Done
-    ";
-    let (mem, disk) = check_board(&rt, rt.alloc(), rows).into_parts();
+    let (mem, disk) = check_board(&rt, rt.alloc(), &STORED).into_parts();
     let came = (mem.len(), word_in(&mem, 1024), disk.count()); // the words, the one that was stored, and the blocks
     same(&rt, "what is given back", 0, &came, &(42_496, 5, 4));
 }
 
 /// The first words of the blocks 2 and 3.
-fn first_words(alloc: Global, disk: &mut MemDisk) -> Result<[u64; 2], Fail>
-    requires { length (state_of disk.old).blocks ≡ 4 }
-    ensures { length (state_of disk.new).blocks ≡ 4 }
+fn first_words(rt: &impl Abort, disk: &mut MemDisk, into: &mut Vec<u64>) -> [u64; 2]
+    requires disk { length (state_of disk.old).blocks ≡ 4 }
+    requires room { length into.old.items ≡ 512 }
+    ensures disk { length (state_of disk.new).blocks ≡ 4 }
+    ensures room { length into.new.items ≡ 512 }
 {
-    let mut into = vec![in alloc; 7; 512]?;
-    disk.read(Block(2), &mut into)?;
+    if disk.read(Block(2), into).is_err() {
+        panic!(rt; "block 2 is not read");
+    }
     let two = into[0];
-    into.as_mut_slice().fill(7);
-    disk.read(Block(3), &mut into)?;
-    Ok([two, into[0]])
+    if disk.read(Block(3), into).is_err() {
+        panic!(rt; "block 3 is not read");
+    }
+    [two, into[0]]
 }
 
-/// The first words of the blocks 2 and 3 after a stop within a write of block 3, and after the crash behind it. Each word of memory
-/// is its place. Block 3 had page 2 at the last sync, and page 3 was written to block 2 after it.
-fn around_a_crash(
-    rt: &impl Abort,
-    alloc: Global,
-    choice: DiskChoice,
-) -> Result<[[u64; 2]; 2], Fail> {
-    let rows = "
-        board counted stop 3: a write is stopped
-        write 3 2: Done
-        sync: Done
-        write 2 3: Done
-        write 3 4: Stopped
-    ";
-    let (_, mut disk) = check_board(rt, alloc, rows).into_parts();
-    let before = first_words(alloc, &mut disk)?;
+/// A write that is stopped. Block 3 had page 2 at the last sync, and page 3 was written to block 2 after it.
+static CRASHING: Case = (
+    "a write is stopped",
+    Memory::Counted,
+    Mishap::Stop(3),
+    &[
+        (Call::Write(3, 2), Came::Done),
+        (Call::Sync, Came::Done),
+        (Call::Write(2, 3), Came::Done),
+        (Call::Write(3, 4), Came::Stopped),
+    ],
+);
+
+/// The first words of the blocks 2 and 3 after a stop within a write of block 3, and after the crash behind it.
+fn around_a_crash(rt: &impl Abort, alloc: Global, choice: DiskChoice) -> [[u64; 2]; 2] {
+    let (_, mut disk) = check_board(rt, alloc, &CRASHING).into_parts();
+    let Ok(mut into) = zeros(alloc, 512) else {
+        panic!(rt; "no room");
+    };
+    let before = first_words(rt, &mut disk, &mut into);
     disk.after_crash(choice);
-    let after = first_words(alloc, &mut disk)?;
-    Ok([before, after])
+    [before, first_words(rt, &mut disk, &mut into)]
 }
 
 /// A word that is filled with the byte 1.
 const ONES: u64 = 0x0101_0101_0101_0101;
 
+/// How the disk crashes, and the first words of the blocks 2 and 3 before and after it. Each word of memory is its place.
+static CRASHES: [(DiskChoice, [[u64; 2]; 2]); 3] = [
+    (DiskChoice::AsRead, [[1536, 1024], [1536, 1024]]),
+    (DiskChoice::AsSynced, [[1536, 1024], [0, 1024]]),
+    (DiskChoice::Filled(1), [[1536, 1024], [ONES, ONES]]),
+];
+
 #[test]
-fn a_stopped_write_is_told_to_the_disk(rt: HostRuntime) -> Result<(), Fail> {
-    let as_read = around_a_crash(&rt, rt.alloc(), DiskChoice::AsRead)?;
-    same(&rt, "as read", 0, &as_read, &[[1536, 1024], [1536, 1024]]);
-    let as_synced = around_a_crash(&rt, rt.alloc(), DiskChoice::AsSynced)?;
-    same(&rt, "as synced", 0, &as_synced, &[[1536, 1024], [0, 1024]]);
-    let filled = around_a_crash(&rt, rt.alloc(), DiskChoice::Filled(1))?;
-    same(&rt, "filled", 0, &filled, &[[1536, 1024], [ONES, ONES]]);
-    Ok(())
+fn a_stopped_write_is_told_to_the_disk(rt: HostRuntime) {
+    for k in 0..3 {
+        let (choice, due) = CRASHES[k];
+        same(
+            &rt,
+            "crashes",
+            k,
+            &around_a_crash(&rt, rt.alloc(), choice),
+            &due,
+        );
+    }
 }
 
-/// What is found after a save of a page that begins with 5, on a board of zeros.
-#[derive(Clone, Copy, Debug, PartialEq, Eq)]
-struct Saved {
-    done: bool,
-    stopped: bool,
-    /// The first word of the page.
-    word: u64,
-    /// The first word of what the block was read into.
-    read: u64,
-}
+/// What is found after a save of a page that begins with 5, on a board of zeros: whether it was made, whether the board is
+/// stopped, the first word of the page, and the first word of what the block was read into.
+type Saved = (bool, bool, u64, u64);
 
 /// Saves the page on a board that stops after so many steps.
-fn after_save(alloc: Global, steps: u64) -> Result<Saved, Fail> {
-    let mem = ListMem::new(alloc, 83)?;
-    let mut board = board_with(alloc, mem, 4, Some(steps))?;
-    let mut into = vec![in alloc; 0; 512]?;
+fn after_save(rt: &impl Abort, alloc: Global, steps: u64) -> Saved {
+    let Ok(mem) = ListMem::new(alloc, 83) else {
+        panic!(rt; "no memory");
+    };
+    let Ok(mut into) = zeros(alloc, 512) else {
+        panic!(rt; "no room");
+    };
+    let disk = disk_of(rt, alloc, 4, Mishap::Nothing);
+    let mut board = board_on(mem, disk, Some(steps));
     let done = save(&mut board, Page(2), 5, Block(3), &mut into).is_ok();
-    Ok(Saved {
-        done,
-        stopped: board.stopped(),
-        word: board.load(WordAt(1024)),
-        read: into[0],
-    })
+    (done, board.stopped(), board.load(WordAt(1024)), into[0])
 }
 
-/// What is found where the save is made.
-const WHOLE: Saved = Saved {
-    done: true,
-    stopped: false,
-    word: 5,
-    read: 5,
-};
+/// What is found where it is stopped before its first step, where it is stopped behind that, and where it is made.
+const NONE: Saved = (false, true, 0, 0);
 
-/// What is found where it is stopped behind its first step.
-const CUT: Saved = Saved {
-    done: false,
-    stopped: true,
-    word: 5,
-    read: 0,
-};
+const CUT: Saved = (false, true, 5, 0);
 
-/// What is found where it is stopped before that.
-const NONE: Saved = Saved {
-    done: false,
-    stopped: true,
-    word: 0,
-    read: 0,
-};
+const WHOLE: Saved = (true, false, 5, 5);
 
 /// What is found after as many steps as there are rows before.
 static SAVES: [Saved; 5] = [NONE, CUT, CUT, WHOLE, WHOLE];
 
 #[test]
-fn a_save_is_whole_or_stopped(rt: HostRuntime) -> Result<(), Fail> {
-    for (k, due) in SAVES.iter().enumerate() {
-        same(&rt, "steps", k, &after_save(rt.alloc(), k as u64)?, due);
+fn a_save_is_whole_or_stopped(rt: HostRuntime) {
+    for k in 0..5 {
+        same(
+            &rt,
+            "steps",
+            k,
+            &after_save(&rt, rt.alloc(), k as u64),
+            &SAVES[k],
+        );
     }
-    Ok(())
 }

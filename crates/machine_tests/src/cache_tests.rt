@@ -6,12 +6,12 @@ ghost use Rattle.machine_tests.specs.Walks.{Walks};
 
 use crate::cache_walks::cache_of;
 use crate::crashes::crashed;
+use crate::machines::Mishap;
 use crate::same::same;
-use block_disk::{DiskChoice, MemDisk};
-use machine_readers::BLOCKS;
+use block_disk::DiskChoice;
 use rio_base::{BLOCK_WORDS, Block, Blocks, VolFail, Volume};
 use std::alloc::Global;
-use std::test::Fail;
+use std::process::Abort;
 
 /// Reads the first word of a block of metadata.
 #[tactic(auto, using(crate::proofs::WalkNames::walk_place, crate::proofs::WalkNames::can_touch, crate::proofs::WalkNames::walks_touched))]
@@ -61,19 +61,18 @@ fn lent_after<V: Volume>(v: &mut V) -> (Result<(), VolFail>, [bool; 4])
     (end, lent)
 }
 
-#[test]
-fn the_block_used_longest_ago_leaves(rt: HostRuntime) -> Result<(), Fail> {
-    let mut v = cache_of(rt.alloc(), 32, MemDisk::new(rt.alloc(), BLOCKS)?, None)?;
+/// The same on a fresh cache of 32 frames.
+fn lent(rt: &impl Abort, alloc: Global) -> (Result<(), VolFail>, [bool; 4]) {
+    let mut v = cache_of(rt, alloc, 32, Mishap::Nothing);
     let came = lent_after(&mut v);
     let (_, _) = v.into_machine().into_parts();
-    same(
-        &rt,
-        "what is in memory",
-        0,
-        &came,
-        &(Ok(()), [true, false, true, true]),
-    );
-    Ok(())
+    came
+}
+
+#[test]
+fn the_block_used_longest_ago_leaves(rt: HostRuntime) {
+    let due = (Ok(()), [true, false, true, true]);
+    same(&rt, "what is in memory", 0, &lent(&rt, rt.alloc()), &due);
 }
 
 /// Touches a block of metadata in the open update, and makes its first word 7.
@@ -109,49 +108,40 @@ fn update_two<V: Volume>(v: &mut V) -> Result<(), VolFail>
     Ok(())
 }
 
-/// What stands of the first words of the two blocks.
-#[derive(Clone, Copy, Debug, PartialEq, Eq)]
-enum Stands {
-    /// Both as before, or both as the update makes them.
-    Whole,
-    /// Anything else.
-    Torn([u64; 2]),
-}
+/// How an update ended, how many steps it made, and the first words of the two blocks that stand then.
+type Updated = (Result<(), VolFail>, u64, [u64; 2]);
 
-/// How the update ends that stops after so many steps, if it does, how many it made, and the first words of the two blocks
-/// that stand then.
-fn updated(
-    alloc: Global,
-    stop_after: Option<u64>,
-) -> Result<(Result<(), VolFail>, u64, [u64; 2]), Fail> {
-    let disk = MemDisk::new(alloc, BLOCKS)?;
-    let mut v = cache_of(alloc, 32, disk, stop_after)?;
+/// Makes the update on a fresh cache of 32 frames, which this befalls.
+fn updated(rt: &impl Abort, alloc: Global, mishap: Mishap) -> Updated {
+    let mut v = cache_of(rt, alloc, 32, mishap);
     let end = update_two(&mut v);
     let machine = v.into_machine();
     let steps = machine.steps();
     let (mem, disk) = machine.into_parts();
-    let found = crashed(alloc, &mem.into_words(), disk, DiskChoice::AsSynced)?;
-    Ok((end, steps, [found[BLOCK_WORDS * 5], found[BLOCK_WORDS * 6]]))
+    let found = crashed(rt, alloc, &mem.into_words(), disk, DiskChoice::AsSynced);
+    (end, steps, [found[BLOCK_WORDS * 5], found[BLOCK_WORDS * 6]])
 }
 
-/// How the update ends that stops after so many steps, and what stands then.
-fn stopped_update(alloc: Global, steps: u64) -> Result<(Result<(), VolFail>, Stands), Fail> {
-    let (end, _, words) = updated(alloc, Some(steps))?;
-    if words == [0, 0] || words == [7, 7] {
-        return Ok((end, Stands::Whole));
+/// Stops the update after each number of steps: both words stand as before, or both as it makes them.
+fn check_stops(rt: &impl Abort, alloc: Global, all: u64) {
+    for steps in 0..all {
+        let (end, _, words) = updated(rt, alloc, Mishap::Stop(steps));
+        let [first, _] = words;
+        let v = if first == 7 { 7 } else { 0 };
+        same(
+            rt,
+            "steps",
+            steps as usize,
+            &(end, words),
+            &(Err(VolFail::Stopped), [v, v]),
+        );
     }
-    Ok((end, Stands::Torn(words)))
 }
 
 #[test]
-fn an_update_over_a_cache_stands_whole(rt: HostRuntime) -> Result<(), Fail> {
-    let (_, all, _) = updated(rt.alloc(), None)?;
-    let due = (Err(VolFail::Stopped), Stands::Whole);
-    for steps in 0..all {
-        let came = stopped_update(rt.alloc(), steps)?;
-        same(&rt, "steps", steps as usize, &came, &due);
-    }
-    let came = updated(rt.alloc(), Some(all))?;
+fn an_update_over_a_cache_stands_whole(rt: HostRuntime) {
+    let (_, all, _) = updated(&rt, rt.alloc(), Mishap::Nothing);
+    check_stops(&rt, rt.alloc(), all);
+    let came = updated(&rt, rt.alloc(), Mishap::Stop(all));
     same(&rt, "all steps", 0, &came, &(Ok(()), all, [7, 7]));
-    Ok(())
 }

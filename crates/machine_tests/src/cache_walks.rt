@@ -1,10 +1,10 @@
 //! Walks over the page cache of a machine in memory, over a disk of 64 blocks: without a stop, with calls of the disk that
 //! fail, stopped at each step, and with a frame for each block.
 
-ghost use Rattle.std.specs.Prelude.{◌≡◌, ◌<◌, ◌≤◌, ℕ, false, IfOk, length, slice_index};
-ghost use Rattle.block_disk.specs.MemDisks.{state_of};
+ghost use Rattle.std.specs.Prelude.{◌≡◌, ◌<◌, ◌≤◌, ℕ, false, slice_index};
 ghost use Rattle.image_codec.specs.Image.{IsImage};
 ghost use Rattle.rio_base.specs.Image.{AreImageSizes, entry_at};
+ghost use Rattle.page_cache.specs.Caches.{IsFresh};
 ghost use Rattle.machine_tests.specs.Blanks.{IsBlank};
 ghost use Rattle.machine_tests.specs.Walks.{Walks};
 
@@ -21,69 +21,74 @@ use machine_readers::BLOCKS;
 use page_cache::{CacheTables, PageCache};
 use phys_memory::ListMem;
 use rio_base::{Block, Blocks, Machine, Volume};
-use std::alloc::{AllocError, Global};
+use std::alloc::Global;
 use std::process::Abort;
-use std::test::Fail;
 
 /// The words of a fresh image with so many frames and one scratch page. The header is looked at, so that its sizes and its
 /// gate are known.
-pub(crate) fn blank_image(alloc: Global, frames: u32) -> Result<Vec<u64>, AllocError>
+pub(crate) fn blank_image(rt: &impl Abort, alloc: Global, frames: u32) -> Vec<u64>
     requires sizes { AreImageSizes frames 1 }
-    ensures image { IfOk result (λ words. IsImage words.items) }
-    ensures frames { IfOk result (λ words. slice_index words.items 2 ≡ frames) }
-    ensures scratch { IfOk result (λ words. slice_index words.items 3 ≡ 1) }
-    ensures gate { IfOk result (λ words. slice_index words.items 4 ≡ 0) }
-    ensures empty { IfOk result (λ words. (k : ℕ) → k < frames → slice_index words.items (entry_at k) ≡ 0) }
+    ensures image { IsImage result.items }
+    ensures frames { slice_index result.items 2 ≡ frames }
+    ensures scratch { slice_index result.items 3 ≡ 1 }
+    ensures gate { slice_index result.items 4 ≡ 0 }
+    ensures empty { (k : ℕ) → k < frames → slice_index result.items (entry_at k) ≡ 0 }
 {
-    let words = fresh_image(alloc, frames, 1)?;
+    let Ok(words) = fresh_image(alloc, frames, 1) else {
+        panic!(rt; "no image");
+    };
     if words[2] != frames as u64 {
-        return Err(AllocError);
+        panic!(rt; "another number of frames");
     }
     if words[3] != 1 {
-        return Err(AllocError);
+        panic!(rt; "another number of scratch pages");
     }
     if words[4] != 0 {
-        return Err(AllocError);
+        panic!(rt; "an open gate");
     }
-    Ok(words)
+    words
 }
 
-/// A machine over such an image and this disk, with no block in memory.
-fn blank_board(
-    alloc: Global,
-    frames: u32,
-    disk: MemDisk,
-    stop_after: Option<u64>,
-) -> Result<MemBoard, AllocError>
+/// A machine over such an image and a disk of 64 blocks of zeros, which this befalls, with no block in memory.
+fn blank_board(rt: &impl Abort, alloc: Global, frames: u32, mishap: Mishap) -> MemBoard
     requires sizes { AreImageSizes frames 1 }
-    requires disk { length (state_of disk).blocks ≡ 64 }
-    ensures blank { IfOk result (λ m. IsBlank frames (⟦<Board<ListMem, MemDisk> as Machine>⟧.contents m) (⟦<Board<ListMem, MemDisk> as Machine>⟧.run m)) }
-    ensures running { IfOk result (λ m. (⟦<Board<ListMem, MemDisk> as Machine>⟧.run m).stopped ≡ false) }
+    ensures blank { IsBlank frames (⟦<Board<ListMem, MemDisk> as Machine>⟧.contents result) (⟦<Board<ListMem, MemDisk> as Machine>⟧.run result) }
+    ensures running { (⟦<Board<ListMem, MemDisk> as Machine>⟧.run result).stopped ≡ false }
 {
-    let words = blank_image(alloc, frames)?;
-    Ok(board_on(ListMem::from_words(words), disk, stop_after))
+    let words = blank_image(rt, alloc, frames);
+    let disk = disk_of(rt, alloc, BLOCKS, mishap);
+    board_on(ListMem::from_words(words), disk, mishap.stop_after())
 }
 
-/// A cache with so many frames over a disk of 64 blocks, with no block in it. It stops where a step is asked for beyond
-/// `stop_after`.
-#[tactic(auto, using(crate::proofs::BlankImages::fresh_for, crate::proofs::BlankImages::blank_idle))]
-pub(crate) fn cache_of(
-    alloc: Global,
-    frames: u32,
-    disk: MemDisk,
-    stop_after: Option<u64>,
-) -> Result<PageCache<MemBoard>, AllocError>
+/// The tables of a cache with so many frames over 64 blocks, with no block in it.
+pub(crate) fn blank_tables(rt: &impl Abort, alloc: Global, frames: u32) -> CacheTables
     requires least { 32 ≤ frames }
     requires most { frames ≤ 64 }
-    requires disk { length (state_of disk).blocks ≡ 64 }
-    ensures sound { IfOk result (λ v. ⟦<PageCache<Board<ListMem, MemDisk>> as Blocks>⟧.sound v) }
-    ensures walks { IfOk result (λ v. Walks (⟦<PageCache<Board<ListMem, MemDisk>> as Blocks>⟧.seen v)) }
-    ensures idle { IfOk result (λ v. (⟦<PageCache<Board<ListMem, MemDisk>> as Volume>⟧.kept v).updating ≡ false) }
-    ensures running { IfOk result (λ v. (⟦<PageCache<Board<ListMem, MemDisk>> as Blocks>⟧.health v).stopped ≡ false) }
+    ensures { IsFresh frames 64 result }
 {
-    let machine = blank_board(alloc, frames, disk, stop_after)?;
-    let tables = CacheTables::new(alloc, frames, BLOCKS)?;
-    Ok(PageCache::start(machine, tables))
+    match CacheTables::new(alloc, frames, BLOCKS) {
+        Ok(tables) => tables,
+        Err(_) => panic!(rt; "no tables"),
+    }
+}
+
+/// A cache with so many frames over a disk of 64 blocks of zeros, which this befalls, with no block in it.
+#[tactic(auto, using(crate::proofs::BlankImages::fresh_for, crate::proofs::BlankImages::blank_idle))]
+pub(crate) fn cache_of(
+    rt: &impl Abort,
+    alloc: Global,
+    frames: u32,
+    mishap: Mishap,
+) -> PageCache<MemBoard>
+    requires least { 32 ≤ frames }
+    requires most { frames ≤ 64 }
+    ensures sound { ⟦<PageCache<Board<ListMem, MemDisk>> as Blocks>⟧.sound result }
+    ensures walks { Walks (⟦<PageCache<Board<ListMem, MemDisk>> as Blocks>⟧.seen result) }
+    ensures idle { (⟦<PageCache<Board<ListMem, MemDisk>> as Volume>⟧.kept result).updating ≡ false }
+    ensures running { (⟦<PageCache<Board<ListMem, MemDisk>> as Blocks>⟧.health result).stopped ≡ false }
+{
+    let machine = blank_board(rt, alloc, frames, mishap);
+    PageCache::start(machine, blank_tables(rt, alloc, frames))
 }
 
 /// A walk over a cache.
@@ -101,7 +106,6 @@ pub(crate) struct Course {
 pub(crate) fn go<V: Volume>(
     v: &mut V,
     plain: &mut PlainBlocks,
-    draws: &mut Draws,
     course: Course,
 ) -> Result<(), WalkEnd>
     requires sound { V.sound v.old }
@@ -109,76 +113,68 @@ pub(crate) fn go<V: Volume>(
     requires idle { (V.kept v.old).updating ≡ false }
     ensures sound { V.sound v.new }
 {
+    let mut draws = Draws::new(course.seed, !course.roomy);
     if course.mishap.stop_after().is_some() {
-        return walk(v, plain, draws, course.actions);
+        return walk(v, plain, &mut draws, course.actions);
     }
-    walk_through(v, plain, draws, course.actions)
+    walk_through(v, plain, &mut draws, course.actions)
 }
 
 /// Goes through a walk on a cache with no block in it, and takes the cache apart where the walk ends. Answers how it ended.
 pub(crate) fn walked(
+    rt: &impl Abort,
     alloc: Global,
     plain: &mut PlainBlocks,
     course: Course,
-) -> Result<(Result<(), WalkEnd>, ListMem, MemDisk), AllocError> {
-    let disk = disk_of(alloc, BLOCKS, course.mishap)?;
+) -> (Result<(), WalkEnd>, ListMem, MemDisk) {
     let frames = if course.roomy { 64 } else { 32 };
-    let mut v = cache_of(alloc, frames, disk, course.mishap.stop_after())?;
-    let mut draws = Draws::new(course.seed, !course.roomy);
-    let end = go(&mut v, plain, &mut draws, course);
+    let mut v = cache_of(rt, alloc, frames, course.mishap);
+    let end = go(&mut v, plain, course);
     let (mem, disk) = v.into_machine().into_parts();
-    Ok((end, mem, disk))
+    (end, mem, disk)
 }
 
 /// How a walk ended, and the first block that stands otherwise than the plain lists say where the disk then crashes.
-#[derive(Clone, Copy, Debug, PartialEq, Eq)]
-struct Outcome {
-    end: Result<(), WalkEnd>,
-    wrong: Option<Block>,
-}
+type Outcome = (Result<(), WalkEnd>, Option<Block>);
 
 /// What comes of a walk, where the disk crashes so.
-fn outcome_of(alloc: Global, course: Course, choice: DiskChoice) -> Result<Outcome, Fail> {
-    let mut plain = PlainBlocks::new(alloc)?;
-    let (end, mem, disk) = walked(alloc, &mut plain, course)?;
-    let wrong = judge_crash(alloc, mem, disk, choice, &mut plain)?;
-    Ok(Outcome { end, wrong })
+fn outcome_of(rt: &impl Abort, alloc: Global, course: Course, choice: DiskChoice) -> Outcome {
+    let mut plain = PlainBlocks::new(rt, alloc);
+    let (end, mem, disk) = walked(rt, alloc, &mut plain, course);
+    (end, judge_crash(rt, alloc, mem, disk, choice, &mut plain))
 }
 
-/// What must come of a walk that is not stopped.
-const WHOLE: Outcome = Outcome {
-    end: Ok(()),
-    wrong: None,
-};
+/// What must come of a walk that is not stopped, and of one that is.
+const WHOLE: Outcome = (Ok(()), None);
+
+const STOPPED: Outcome = (Err(WalkEnd::Stopped), None);
+
+/// A walk over a cache of 32 frames.
+fn short_of_frames(seed: u64, actions: u32, mishap: Mishap) -> Course {
+    Course {
+        seed,
+        actions,
+        roomy: false,
+        mishap,
+    }
+}
 
 #[test]
-fn a_cache_is_walked(rt: HostRuntime) -> Result<(), Fail> {
+fn a_cache_is_walked(rt: HostRuntime) {
     for seed in 1..4 {
-        let course = Course {
-            seed,
-            actions: 4_000,
-            roomy: false,
-            mishap: Mishap::Nothing,
-        };
-        let came = outcome_of(rt.alloc(), course, DiskChoice::AsSynced)?;
+        let walk = short_of_frames(seed, 4_000, Mishap::Nothing);
+        let came = outcome_of(&rt, rt.alloc(), walk, DiskChoice::AsSynced);
         same(&rt, "seeds", seed as usize, &came, &WHOLE);
     }
-    Ok(())
 }
 
 #[test]
-fn a_cache_whose_disk_fails_is_walked(rt: HostRuntime) -> Result<(), Fail> {
+fn a_cache_whose_disk_fails_is_walked(rt: HostRuntime) {
     for n in 1..100 {
-        let course = Course {
-            seed: 4,
-            actions: 200,
-            roomy: false,
-            mishap: Mishap::Fault(n),
-        };
-        let came = outcome_of(rt.alloc(), course, DiskChoice::AsSynced)?;
+        let walk = short_of_frames(4, 200, Mishap::Fault(n));
+        let came = outcome_of(&rt, rt.alloc(), walk, DiskChoice::AsSynced);
         same(&rt, "calls of the disk", n as usize, &came, &WHOLE);
     }
-    Ok(())
 }
 
 /// The choices of how the disk crashes.
@@ -189,47 +185,41 @@ static CHOICES: [(&str, DiskChoice); 3] = [
 ];
 
 /// Compares what comes of a walk that is stopped after so many steps, for each of these choices.
-fn check_stop(rt: &impl Abort, alloc: Global, steps: u64) -> Result<(), Fail> {
-    let course = Course {
-        seed: 5,
-        actions: 4_000,
-        roomy: false,
-        mishap: Mishap::Stop(steps),
-    };
-    let due = Outcome {
-        end: Err(WalkEnd::Stopped),
-        wrong: None,
-    };
+fn check_stop(rt: &impl Abort, alloc: Global, steps: u64) {
+    let walk = short_of_frames(5, 4_000, Mishap::Stop(steps));
     for (name, choice) in CHOICES.iter() {
-        let came = outcome_of(alloc, course, *choice)?;
-        same(rt, name, steps as usize, &came, &due);
+        let came = outcome_of(rt, alloc, walk, *choice);
+        same(rt, name, steps as usize, &came, &STOPPED);
     }
-    Ok(())
 }
 
 #[test]
-fn a_walk_over_a_cache_is_stopped_at_each_step(rt: HostRuntime) -> Result<(), Fail> {
+fn a_walk_over_a_cache_is_stopped_at_each_step(rt: HostRuntime) {
     for steps in 0..3_000 {
-        check_stop(&rt, rt.alloc(), steps)?;
+        check_stop(&rt, rt.alloc(), steps);
     }
-    Ok(())
 }
 
 /// How a walk without flushes over a cache with a frame for each block ends, and whether it wrote no block.
-fn roomy_walk(alloc: Global) -> Result<(Result<(), WalkEnd>, bool), Fail> {
-    let mut plain = PlainBlocks::new(alloc)?;
+fn roomy_walk(rt: &impl Abort, alloc: Global) -> (Result<(), WalkEnd>, bool) {
+    let mut plain = PlainBlocks::new(rt, alloc);
     let course = Course {
         seed: 6,
         actions: 2_000,
         roomy: true,
         mishap: Mishap::Nothing,
     };
-    let (end, _, disk) = walked(alloc, &mut plain, course)?;
-    Ok((end, is_unwritten(alloc, disk)?))
+    let (end, _, disk) = walked(rt, alloc, &mut plain, course);
+    (end, is_unwritten(rt, alloc, disk))
 }
 
 #[test]
-fn a_roomy_cache_writes_only_at_flushes(rt: HostRuntime) -> Result<(), Fail> {
-    same(&rt, "walks", 0, &roomy_walk(rt.alloc())?, &(Ok(()), true));
-    Ok(())
+fn a_roomy_cache_writes_only_at_flushes(rt: HostRuntime) {
+    same(
+        &rt,
+        "walks",
+        0,
+        &roomy_walk(&rt, rt.alloc()),
+        &(Ok(()), true),
+    );
 }

@@ -1,29 +1,32 @@
 //! Machines with dirty pages, for the tests of what writes back: 64 frames, one page of scratch, and a disk of 8 blocks.
 //! The first entries are dirty: entry k is of block k, and the first word of its page is 10 + k. The disk's blocks are 0.
 
-ghost use Rattle.std.specs.Prelude.{◌≡◌, ◌<◌, ◌≤◌, ◌+◌, ◌*◌, ℕ, true, false, None, IsTrue, IfOk, length};
-ghost use Rattle.block_disk.specs.MemDisks.{state_of};
+ghost use Rattle.std.specs.Prelude.{◌≡◌, ◌<◌, ◌≤◌, ◌+◌, ◌*◌, ℕ, true, false, None, IsTrue, length};
 ghost use Rattle.rio_model.specs.Registry.{HasLayout, frames_of, tag_at};
 ghost use Rattle.machine_tests.specs.Ready.{IsTestHeader, NoneOrDirty, Ready};
 
-use crate::machines::MemBoard;
+use crate::machines::{MemBoard, Mishap, board_on, disk_of};
 use block_disk::{DiskChoice, MemDisk};
 use board::Board;
+use machine_readers::zeros;
 use phys_memory::ListMem;
 use registry::{Tag, check_image, load_tag};
 use rio_base::{Block, DiskBlocks, IMAGE_MAGIC, Machine, MemWords, WordAt};
-use std::alloc::{AllocError, Global};
+use std::alloc::Global;
+use std::process::Abort;
 
 /// The words of a machine with 83 pages.
 pub(crate) const WORDS: usize = 42_496;
 
 /// The words of an image whose first `dirty` entries are dirty.
-fn image_with(alloc: Global, count: usize, dirty: usize) -> Result<Vec<u64>, AllocError>
+fn image_with(rt: &impl Abort, alloc: Global, count: usize, dirty: usize) -> Vec<u64>
     requires dirty { dirty ≤ 8 }
     requires room { 16384 ≤ count }
-    ensures { IfOk result (λ words. length words.items ≡ count) }
+    ensures { length result.items ≡ count }
 {
-    let mut words = vec![in alloc; 0u64; count]?;
+    let Ok(mut words) = zeros(alloc, count) else {
+        panic!(rt; "no image");
+    };
     words[0] = IMAGE_MAGIC;
     words[1] = 1;
     words[2] = 64;
@@ -33,7 +36,7 @@ fn image_with(alloc: Global, count: usize, dirty: usize) -> Result<Vec<u64>, All
         words[515 + 5 * k] = 4096;
         words[512 * (18 + k)] = 10 + k as u64;
     }
-    Ok(words)
+    words
 }
 
 /// Whether the tag is none, or dirty and of one of the 8 blocks.
@@ -98,37 +101,33 @@ fn is_ready<M: Machine>(m: &M) -> bool
     are_dirty(m)
 }
 
-/// A machine over such an image and this disk.
-pub(crate) fn machine_with(
-    alloc: Global,
-    disk: MemDisk,
-    dirty: usize,
-    stop_after: Option<u64>,
-) -> Result<MemBoard, AllocError>
+/// A machine over such an image, which this befalls.
+pub(crate) fn machine_with(rt: &impl Abort, alloc: Global, dirty: usize, mishap: Mishap) -> MemBoard
     requires dirty { dirty ≤ 8 }
-    requires disk { length (state_of disk).blocks ≡ 8 }
-    ensures { IfOk result (λ m. Ready (⟦<Board<ListMem, MemDisk> as Machine>⟧.contents m) (⟦<Board<ListMem, MemDisk> as Machine>⟧.run m)) }
+    ensures { Ready (⟦<Board<ListMem, MemDisk> as Machine>⟧.contents result) (⟦<Board<ListMem, MemDisk> as Machine>⟧.run result) }
 {
-    let words = image_with(alloc, WORDS, dirty)?;
-    let m = Board::new(ListMem::from_words(words), disk, 1, stop_after);
+    let words = image_with(rt, alloc, WORDS, dirty);
+    let disk = disk_of(rt, alloc, 8, mishap);
+    let m = board_on(ListMem::from_words(words), disk, mishap.stop_after());
     if !is_ready(&m) {
-        return Err(AllocError);
+        panic!(rt; "not ready");
     }
-    Ok(m)
+    m
 }
 
-/// What is found after a run, of the first 8 entries and blocks: bit k says it of entry k or block k.
-#[derive(Clone, Copy, Debug, PartialEq, Eq)]
-pub(crate) struct Found {
-    /// The entry is dirty.
-    pub(crate) dirty: u32,
-    /// The entry is clean.
-    pub(crate) clean: u32,
-    /// The device has the word 10 + k.
-    pub(crate) on_disk: u32,
-    /// The block reads as the word 10 + k: its entry's page does, or else the device's block.
-    pub(crate) reads: u32,
-}
+/// What is found after a run, of the first 8 entries and blocks, where bit k says it of entry k or block k: the entry is dirty;
+/// it is clean; the device has the word 10 + k; and the block reads as that word, where its entry's page does, or else the
+/// device's block.
+pub(crate) type Found = [u8; 4];
+
+/// The first bit of each of the four, in one word.
+const DIRTY: u32 = 1;
+
+const CLEAN: u32 = 1 << 8;
+
+const ON_DISK: u32 = 1 << 16;
+
+const READS: u32 = 1 << 24;
 
 /// The word at a place, or 0 past the last.
 pub(crate) fn word_in(mem: &ListMem, at: u32) -> u64 {
@@ -140,60 +139,52 @@ pub(crate) fn word_in(mem: &ListMem, at: u32) -> u64 {
 }
 
 /// The first word of a block, or 0 past the last and where the disk fails.
-fn first_of<D: DiskBlocks>(alloc: Global, disk: &mut D, b: u32) -> Result<u64, AllocError> {
-    let mut into = vec![in alloc; 0u64; 512]?;
+fn first_of(disk: &mut MemDisk, b: u32, into: &mut Vec<u64>) -> u64
+    requires { length into.old.items ≡ 512 }
+    ensures { length into.new.items ≡ 512 }
+{
+    into[0] = 0;
     if b < disk.count() {
-        let _read = disk.read(Block(b), &mut into);
-        return Ok(into[0]);
+        let _read = disk.read(Block(b), into);
     }
-    Ok(0)
+    into[0]
 }
 
-/// Bit `k`, or none.
-fn bit_if(k: u32, set: bool) -> u32
-    requires { k < 8 }
-{
-    if set { 1 << k } else { 0 }
+/// What is found of an entry with this tag, whose page and whose block on the device have the word, or have not.
+fn of_entry(tag: Tag, page: bool, home: bool) -> u32 {
+    if !tag.is_valid() {
+        return if home { ON_DISK | READS } else { 0 };
+    }
+    let state = if tag.is_dirty() { DIRTY } else { CLEAN };
+    let on_disk = if home { ON_DISK } else { 0 };
+    if page && (tag.is_dirty() || home) {
+        return state | on_disk | READS;
+    }
+    state | on_disk
 }
 
 /// What is found of entry and block k.
-fn look_at(alloc: Global, mem: &ListMem, disk: &mut MemDisk, k: u32) -> Result<Found, AllocError>
-    requires { k < 8 }
+fn look_at(mem: &ListMem, disk: &mut MemDisk, into: &mut Vec<u64>, k: u32) -> u32
+    requires few { k < 8 }
+    requires room { length into.old.items ≡ 512 }
+    ensures { length into.new.items ≡ 512 }
 {
     let tag = Tag(word_in(mem, 512 + 5 * k));
-    let page = word_in(mem, 512 * (18 + k)) == 10 + u64::from(k);
-    let home = first_of(alloc, disk, k)? == 10 + u64::from(k);
-    let dirty = tag.is_valid() && tag.is_dirty();
-    let clean = tag.is_valid() && !tag.is_dirty();
-    let reads = if tag.is_valid() {
-        page && (dirty || home)
-    } else {
-        home
-    };
-    Ok(Found {
-        dirty: bit_if(k, dirty),
-        clean: bit_if(k, clean),
-        on_disk: bit_if(k, home),
-        reads: bit_if(k, reads),
-    })
+    let word = 10 + u64::from(k);
+    let page = word_in(mem, 512 * (18 + k)) == word;
+    of_entry(tag, page, first_of(disk, k, into) == word)
 }
 
 /// Takes a machine apart after a crash that lost each pending block, and looks at its first 8 entries and blocks.
-pub(crate) fn found_in(alloc: Global, m: MemBoard) -> Result<Found, AllocError> {
+pub(crate) fn found_in(rt: &impl Abort, alloc: Global, m: MemBoard) -> Found {
+    let Ok(mut into) = zeros(alloc, 512) else {
+        panic!(rt; "no room");
+    };
     let (mem, mut disk) = m.into_parts();
     disk.after_crash(DiskChoice::AsSynced);
-    let mut found = Found {
-        dirty: 0,
-        clean: 0,
-        on_disk: 0,
-        reads: 0,
-    };
+    let mut found = 0;
     for k in 0..8 {
-        let one = look_at(alloc, &mem, &mut disk, k)?;
-        found.dirty |= one.dirty;
-        found.clean |= one.clean;
-        found.on_disk |= one.on_disk;
-        found.reads |= one.reads;
+        found |= look_at(&mem, &mut disk, &mut into, k) << k;
     }
-    Ok(found)
+    found.to_le_bytes()
 }

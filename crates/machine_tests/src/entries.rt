@@ -1,11 +1,11 @@
 //! The registry in the words of a fresh image with 64 frames and one scratch page, which has 83 pages.
 
-ghost use Rattle.std.specs.Prelude.{◌≡◌, ◌<◌, ℕ, true, false, IfOk, OnOk};
+ghost use Rattle.std.specs.Prelude.{◌≡◌, ◌<◌, ℕ, true, false, OnOk};
 ghost use Rattle.rio_model.specs.Registry.{frames_of, is_valid, tag_at};
 ghost use Rattle.registry.specs.Changes.{CanChange};
 ghost use Rattle.registry.specs.Entries.{IsFree};
 
-use crate::machines::{MemBoard, board_with};
+use crate::machines::{MemBoard, Mishap, board_on, disk_of};
 use crate::same::same;
 use block_disk::MemDisk;
 use board::Board;
@@ -16,23 +16,27 @@ use registry::{
     set_shadow, set_size,
 };
 use rio_base::{Block, Ino, Machine, PageName, Stopped};
-use std::alloc::{AllocError, Global};
+use std::alloc::Global;
+use std::process::Abort;
 
 /// A machine with the words of a fresh image, whose entry 3 can be changed, and where no entry has a tag.
 #[tactic(auto, using(crate::proofs::TestImages::can_change, crate::proofs::TestImages::front_frames, crate::proofs::TestImages::front_tag))]
-fn image_machine(alloc: Global, stop_after: Option<u64>) -> Result<MemBoard, AllocError>
-    ensures can { IfOk result (λ m. CanChange 3 (⟦<Board<ListMem, MemDisk> as Machine>⟧.contents m) (⟦<Board<ListMem, MemDisk> as Machine>⟧.run m)) }
-    ensures frames { IfOk result (λ m. frames_of (⟦<Board<ListMem, MemDisk> as Machine>⟧.contents m).words ≡ 64) }
-    ensures empty { IfOk result (λ m. (k : ℕ) → k < 64 → tag_at (⟦<Board<ListMem, MemDisk> as Machine>⟧.contents m).words k ≡ 0) }
+fn image_machine(rt: &impl Abort, alloc: Global, stop_after: Option<u64>) -> MemBoard
+    ensures can { CanChange 3 (⟦<Board<ListMem, MemDisk> as Machine>⟧.contents result) (⟦<Board<ListMem, MemDisk> as Machine>⟧.run result) }
+    ensures frames { frames_of (⟦<Board<ListMem, MemDisk> as Machine>⟧.contents result).words ≡ 64 }
+    ensures empty { (k : ℕ) → k < 64 → tag_at (⟦<Board<ListMem, MemDisk> as Machine>⟧.contents result).words k ≡ 0 }
 {
-    let words = fresh_image(alloc, 64, 1)?;
+    let Ok(words) = fresh_image(alloc, 64, 1) else {
+        panic!(rt; "no image");
+    };
     if words[2] != 64 {
-        return Err(AllocError);
+        panic!(rt; "another number of frames");
     }
     if words[3] != 1 {
-        return Err(AllocError);
+        panic!(rt; "another number of scratch pages");
     }
-    board_with(alloc, ListMem::from_words(words), 4, stop_after)
+    let disk = disk_of(rt, alloc, 4, Mishap::Nothing);
+    board_on(ListMem::from_words(words), disk, stop_after)
 }
 
 /// Makes entry 3 the entry of page 1 of file 2, in block 9: dirty and of 5 bytes, and then clean and of 7.
@@ -102,15 +106,13 @@ fn bring<M: Machine>(m: &mut M, stage: Stage) -> Result<(), Stopped>
     Ok(())
 }
 
-/// What is found of entry 3 and of the image.
-#[derive(Clone, Copy, Debug, PartialEq, Eq)]
-struct Came {
-    end: Result<(), Stopped>,
-    tag: u64,
-    /// Its words, where it is valid.
-    entry: Option<Entry>,
-    image: Result<(), BadImage>,
-}
+/// What is found: how bringing entry 3 so far ended, its tag, its words where it is valid, and what is said of the image.
+type Came = (
+    Result<(), Stopped>,
+    u64,
+    Option<Entry>,
+    Result<(), BadImage>,
+);
 
 /// Brings entry 3 so far, and looks what is found.
 #[tactic(auto, using(crate::proofs::TestImages::none_taken, crate::proofs::TestImages::untagged))]
@@ -126,63 +128,48 @@ fn look<M: Machine>(m: &mut M, stage: Stage) -> Came
     } else {
         None
     };
-    Came {
-        end,
-        tag: tag.0,
-        entry,
-        image: check_image(m),
-    }
+    (end, tag.0, entry, check_image(m))
 }
 
 /// Brings entry 3 so far on a machine that stops after so many steps, if it does.
-fn came_of(alloc: Global, stage: Stage, stop_after: Option<u64>) -> Result<Came, AllocError> {
-    let mut m = image_machine(alloc, stop_after)?;
-    Ok(look(&mut m, stage))
+fn came_of(rt: &impl Abort, alloc: Global, stage: Stage, stop_after: Option<u64>) -> Came {
+    let mut m = image_machine(rt, alloc, stop_after);
+    look(&mut m, stage)
 }
 
 /// What is found of a free entry.
-const FREE: Came = Came {
-    end: Ok(()),
-    tag: 0,
-    entry: None,
-    image: Ok(()),
-};
+const FREE: Came = (Ok(()), 0, None, Ok(()));
 
 /// What is found where making it was stopped.
-const CUT: Came = Came {
-    end: Err(Stopped),
-    tag: 0,
-    entry: None,
-    image: Ok(()),
-};
+const CUT: Came = (Err(Stopped), 0, None, Ok(()));
 
 /// What is found of an entry that is made: it is clean.
-const MADE: Came = Came {
-    end: Ok(()),
-    tag: 0x0000_0009_0000_0005,
-    entry: Some(Entry {
+const MADE: Came = (
+    Ok(()),
+    0x0000_0009_0000_0005,
+    Some(Entry {
         tag: 0x0000_0009_0000_0005,
         file: 2,
         index: 1,
         size: 7,
         shadow: 0,
     }),
-    image: Ok(()),
-};
+    Ok(()),
+);
 
 /// What is found of one that is dirty and has a shadow page.
-const SHADOWED: Came = Came {
-    end: Ok(()),
-    tag: 0x0000_0009_0000_0007,
-    entry: Some(Entry {
+const SHADOWED: Came = (
+    Ok(()),
+    0x0000_0009_0000_0007,
+    Some(Entry {
         tag: 0x0000_0009_0000_0007,
         file: 2,
         index: 1,
         size: 7,
         shadow: 16,
     }),
-    image: Err(BadImage(11)),
-};
+    Err(BadImage(11)),
+);
 
 /// How far an entry is brought, after how many steps that is stopped, and what is found.
 static STAGES: [(Stage, Option<u64>, Came); 9] = [
@@ -198,10 +185,14 @@ static STAGES: [(Stage, Option<u64>, Came); 9] = [
 ];
 
 #[test]
-fn an_entry_is_made_changed_and_cleared(rt: HostRuntime) -> Result<(), AllocError> {
+fn an_entry_is_made_changed_and_cleared(rt: HostRuntime) {
     for (k, (stage, stop_after, due)) in STAGES.iter().enumerate() {
-        let came = came_of(rt.alloc(), *stage, *stop_after)?;
-        same(&rt, "stages", k, &came, due);
+        same(
+            &rt,
+            "stages",
+            k,
+            &came_of(&rt, rt.alloc(), *stage, *stop_after),
+            due,
+        );
     }
-    Ok(())
 }

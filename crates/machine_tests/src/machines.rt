@@ -9,6 +9,7 @@ use board::Board;
 use phys_memory::ListMem;
 use rio_base::Machine;
 use std::alloc::{AllocError, Global};
+use std::process::Abort;
 
 /// What befalls a machine or its disk.
 #[derive(Clone, Copy)]
@@ -31,16 +32,20 @@ impl Mishap {
 }
 
 /// A disk of so many blocks of zeros, which this befalls.
-pub(crate) fn disk_of(alloc: Global, blocks: u32, mishap: Mishap) -> Result<MemDisk, AllocError>
-    ensures { IfOk result (λ disk. length (state_of disk).blocks ≡ blocks) }
+pub(crate) fn disk_of(rt: &impl Abort, alloc: Global, blocks: u32, mishap: Mishap) -> MemDisk
+    ensures { length (state_of result).blocks ≡ blocks }
 {
-    let mut disk = MemDisk::new(alloc, blocks)?;
+    let Ok(mut disk) = MemDisk::new(alloc, blocks) else {
+        panic!(rt; "no disk");
+    };
     if let Mishap::Fault(n) = mishap {
         if 0 < n {
-            disk.fail_call(n)?;
+            let Ok(()) = disk.fail_call(n) else {
+                panic!(rt; "no fault");
+            };
         }
     }
-    Ok(disk)
+    disk
 }
 
 /// A board in memory.
@@ -56,30 +61,10 @@ pub(crate) fn board_on(mem: ListMem, disk: MemDisk, stop_after: Option<u64>) -> 
     ensures scratch { length (⟦<Board<ListMem, MemDisk> as Machine>⟧.run result).scratch ≡ 512 }
     ensures closed { (⟦<Board<ListMem, MemDisk> as Machine>⟧.contents result).open_page ≡ None }
     ensures disk { (⟦<Board<ListMem, MemDisk> as Machine>⟧.contents result).disk ≡ (state_of disk).blocks }
+    ensures blocks { length (⟦<Board<ListMem, MemDisk> as Machine>⟧.contents result).disk ≡ length (state_of disk).blocks }
     ensures running { (⟦<Board<ListMem, MemDisk> as Machine>⟧.run result).stopped ≡ false }
 {
     Board::new(mem, disk, 1, stop_after)
-}
-
-/// A board over this memory, with one page of scratch, and a disk of so many blocks of zeros.
-pub(crate) fn board_with(
-    alloc: Global,
-    mem: ListMem,
-    blocks: u32,
-    stop_after: Option<u64>,
-) -> Result<MemBoard, AllocError>
-    requires pages { length (words_of mem) % 512 ≡ 0 }
-    requires room { 512 < length (words_of mem) }
-    ensures protected { IfOk result (λ b. (⟦<Board<ListMem, MemDisk> as Machine>⟧.contents b).words ≡ take (length (words_of mem) - 512) (words_of mem)) }
-    ensures rest { IfOk result (λ b. (⟦<Board<ListMem, MemDisk> as Machine>⟧.run b).scratch ≡ drop (length (words_of mem) - 512) (words_of mem)) }
-    ensures words { IfOk result (λ b. length (⟦<Board<ListMem, MemDisk> as Machine>⟧.contents b).words ≡ length (words_of mem) - 512) }
-    ensures scratch { IfOk result (λ b. length (⟦<Board<ListMem, MemDisk> as Machine>⟧.run b).scratch ≡ 512) }
-    ensures closed { IfOk result (λ b. (⟦<Board<ListMem, MemDisk> as Machine>⟧.contents b).open_page ≡ None) }
-    ensures disk { IfOk result (λ b. length (⟦<Board<ListMem, MemDisk> as Machine>⟧.contents b).disk ≡ blocks) }
-    ensures running { IfOk result (λ b. (⟦<Board<ListMem, MemDisk> as Machine>⟧.run b).stopped ≡ false) }
-{
-    let disk = MemDisk::new(alloc, blocks)?;
-    Ok(Board::new(mem, disk, 1, stop_after))
 }
 
 /// Words that are their own places.

@@ -1,10 +1,11 @@
 //! The 64 blocks of a volume as plain lists, which every word that a walk reads is compared with.
 
-ghost use Rattle.std.specs.Prelude.{◌≡◌, ◌+◌, ◌<◌, ◌≤◌, IfOk, length};
+ghost use Rattle.std.specs.Prelude.{◌≡◌, ◌+◌, ◌<◌, ◌≤◌, length};
 
 use machine_readers::{ALL_WORDS, BLOCKS, zeros};
 use rio_base::{BLOCK_WORDS, Block};
-use std::alloc::{AllocError, AllocFailed, Global};
+use std::alloc::Global;
+use std::process::Abort;
 
 /// How many of the stores of the running action may stand where a stop cuts it off.
 #[derive(Clone, Copy)]
@@ -19,7 +20,7 @@ pub(crate) enum Stands {
 
 /// A word that the running action stores, by its place in the list of all words.
 #[derive(Clone, Copy)]
-pub(crate) struct Put {
+struct Put {
     at: usize,
     v: u64,
 }
@@ -34,17 +35,32 @@ pub(crate) struct PlainBlocks {
     /// Of which blocks it is told what they read as: not of one that was forgotten and is not made anew.
     told: Vec<bool>,
     puts: Vec<Put>,
+    /// No memory was left for a store. Nothing may then read as it does.
+    short: bool,
     stands: Stands,
     ghost words_count: { length words.items ≡ 32768 },
     ghost standing_count: { length standing.items ≡ 32768 },
     ghost told_count: { length told.items ≡ 64 },
 }
 
-/// So many marks that are set.
-fn marks(alloc: Global, count: usize) -> Result<Vec<bool>, AllocError>
-    ensures { IfOk result (λ marks. length marks.items ≡ count) }
+/// The words of 64 blocks of zeros.
+pub(crate) fn all_zeros(rt: &impl Abort, alloc: Global) -> Vec<u64>
+    ensures { length result.items ≡ 32768 }
 {
-    vec![in alloc; true; count]
+    match zeros(alloc, ALL_WORDS) {
+        Ok(words) => words,
+        Err(_) => panic!(rt; "no words"),
+    }
+}
+
+/// A mark for each block, which is set.
+fn marks(rt: &impl Abort, alloc: Global) -> Vec<bool>
+    ensures { length result.items ≡ 64 }
+{
+    match vec![in alloc; true; BLOCKS as usize] {
+        Ok(marks) => marks,
+        Err(_) => panic!(rt; "no marks"),
+    }
 }
 
 /// The place of a word in the list of all words.
@@ -81,14 +97,15 @@ fn make(puts: &[Put], n: usize, standing: &mut [u64], words: &mut [u64])
 
 impl PlainBlocks {
     /// Blocks of zeros that stand, with no action running.
-    pub(crate) fn new(alloc: Global) -> Result<PlainBlocks, AllocError> {
-        Ok(PlainBlocks {
-            words: zeros(alloc, ALL_WORDS)?,
-            standing: zeros(alloc, ALL_WORDS)?,
-            told: marks(alloc, BLOCKS as usize)?,
+    pub(crate) fn new(rt: &impl Abort, alloc: Global) -> PlainBlocks {
+        PlainBlocks {
+            words: all_zeros(rt, alloc),
+            standing: all_zeros(rt, alloc),
+            told: marks(rt, alloc),
             puts: Vec::new(alloc),
+            short: false,
             stands: Stands::Front,
-        })
+        }
     }
 
     /// Whether a block may read so, from word `w` on. One that is not told may read as anything.
@@ -96,6 +113,9 @@ impl PlainBlocks {
         requires block { b.0 < 64 }
         requires run { w + length words.now ≤ 512 }
     {
+        if self.short {
+            return false;
+        }
         let from = BLOCK_WORDS * b.0 as usize + w as usize;
         !self.told[b.0 as usize] || &self.words[from..from + words.len()] == words
     }
@@ -112,14 +132,15 @@ impl PlainBlocks {
     }
 
     /// The running action stores a word.
-    pub(crate) fn store(&mut self, b: Block, w: u16, v: u64) -> Result<(), AllocFailed<Put>>
+    pub(crate) fn store(&mut self, b: Block, w: u16, v: u64)
         requires block { b.0 < 64 }
         requires word { w < 512 }
     {
         let at = place(b, w);
-        self.puts.push(Put { at, v })?;
+        if self.puts.push(Put { at, v }).is_err() {
+            self.short = true;
+        }
         self.words[at] = v;
-        Ok(())
     }
 
     /// The running action is over: its first `n` stores were made, and the others were not.

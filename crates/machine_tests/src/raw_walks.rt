@@ -1,15 +1,14 @@
 //! The drawn walks over a page cache once more, on a machine whose memory is one raw block: they end as over a list, and leave
 //! the same words.
 
-ghost use Rattle.std.specs.Prelude.{◌≡◌, ◌-◌, ◌<◌, ◌≤◌, ◌%◌, false, None, IfOk, length, take, drop};
+ghost use Rattle.std.specs.Prelude.{◌≡◌, ◌-◌, ◌<◌, ◌≤◌, ◌%◌, ◌^◌, false, None, length, take, drop};
 ghost use Rattle.block_disk.specs.MemDisks.{state_of};
 ghost use Rattle.rio_base.specs.Image.{AreImageSizes};
 ghost use Rattle.phys_memory.specs.PhysMem.{words_of};
 ghost use Rattle.machine_tests.specs.Blanks.{IsBlank};
 ghost use Rattle.machine_tests.specs.Walks.{Walks};
 
-use crate::cache_walks::{Course, blank_image, go, walked};
-use crate::draws::Draws;
+use crate::cache_walks::{Course, blank_image, blank_tables, go, walked};
 use crate::machines::{Mishap, disk_of};
 use crate::plain_blocks::PlainBlocks;
 use crate::same::same;
@@ -17,11 +16,11 @@ use crate::walk::WalkEnd;
 use block_disk::MemDisk;
 use board::Board;
 use machine_readers::BLOCKS;
-use page_cache::{CacheTables, PageCache};
+use page_cache::PageCache;
 use phys_memory::PhysMem;
 use rio_base::{Blocks, Machine, MemWords, Page, Volume};
-use std::alloc::{AllocError, Global};
-use std::test::Fail;
+use std::alloc::Global;
+use std::process::Abort;
 
 /// A board in raw memory.
 type RawBoard = Board<PhysMem, MemDisk>;
@@ -39,75 +38,83 @@ fn board_on(mem: PhysMem, disk: MemDisk, stop_after: Option<u64>) -> RawBoard
     Board::new(mem, disk, 1, stop_after)
 }
 
-/// A machine over a fresh image in raw memory and this disk, with no block in memory.
-fn blank_board(
-    alloc: Global,
-    frames: u32,
-    disk: MemDisk,
-    stop_after: Option<u64>,
-) -> Result<RawBoard, AllocError>
-    requires sizes { AreImageSizes frames 1 }
-    requires disk { length (state_of disk).blocks ≡ 64 }
-    ensures blank { IfOk result (λ m. IsBlank frames (⟦<Board<PhysMem, MemDisk> as Machine>⟧.contents m) (⟦<Board<PhysMem, MemDisk> as Machine>⟧.run m)) }
-    ensures running { IfOk result (λ m. (⟦<Board<PhysMem, MemDisk> as Machine>⟧.run m).stopped ≡ false) }
+/// Raw memory of these words.
+fn raw_memory(rt: &impl Abort, alloc: Global, words: &[u64]) -> PhysMem
+    requires { length words.now < 2 ^ 32 }
+    ensures { words_of result ≡ words.now }
 {
-    let words = blank_image(alloc, frames)?;
-    let mem = PhysMem::of_words(alloc, &words)?;
-    Ok(board_on(mem, disk, stop_after))
+    match PhysMem::of_words(alloc, words) {
+        Ok(mem) => mem,
+        Err(_) => panic!(rt; "no memory"),
+    }
 }
 
-/// A cache with so many frames over a disk of 64 blocks, with no block in it.
+/// A machine over a fresh image in raw memory and a disk of 64 blocks of zeros, which this befalls, with no block in
+/// memory.
+fn blank_board(rt: &impl Abort, alloc: Global, frames: u32, mishap: Mishap) -> RawBoard
+    requires sizes { AreImageSizes frames 1 }
+    ensures blank { IsBlank frames (⟦<Board<PhysMem, MemDisk> as Machine>⟧.contents result) (⟦<Board<PhysMem, MemDisk> as Machine>⟧.run result) }
+    ensures running { (⟦<Board<PhysMem, MemDisk> as Machine>⟧.run result).stopped ≡ false }
+{
+    let words = blank_image(rt, alloc, frames);
+    let mem = raw_memory(rt, alloc, &words);
+    let disk = disk_of(rt, alloc, BLOCKS, mishap);
+    board_on(mem, disk, mishap.stop_after())
+}
+
+/// A cache with so many frames over such a machine, with no block in it.
 #[tactic(auto, using(crate::proofs::BlankImages::fresh_for, crate::proofs::BlankImages::blank_idle))]
-fn cache_of(
-    alloc: Global,
-    frames: u32,
-    disk: MemDisk,
-    stop_after: Option<u64>,
-) -> Result<PageCache<RawBoard>, AllocError>
+fn cache_of(rt: &impl Abort, alloc: Global, frames: u32, mishap: Mishap) -> PageCache<RawBoard>
     requires least { 32 ≤ frames }
     requires most { frames ≤ 64 }
-    requires disk { length (state_of disk).blocks ≡ 64 }
-    ensures sound { IfOk result (λ v. ⟦<PageCache<Board<PhysMem, MemDisk>> as Blocks>⟧.sound v) }
-    ensures walks { IfOk result (λ v. Walks (⟦<PageCache<Board<PhysMem, MemDisk>> as Blocks>⟧.seen v)) }
-    ensures idle { IfOk result (λ v. (⟦<PageCache<Board<PhysMem, MemDisk>> as Volume>⟧.kept v).updating ≡ false) }
-    ensures running { IfOk result (λ v. (⟦<PageCache<Board<PhysMem, MemDisk>> as Blocks>⟧.health v).stopped ≡ false) }
+    ensures sound { ⟦<PageCache<Board<PhysMem, MemDisk>> as Blocks>⟧.sound result }
+    ensures walks { Walks (⟦<PageCache<Board<PhysMem, MemDisk>> as Blocks>⟧.seen result) }
+    ensures idle { (⟦<PageCache<Board<PhysMem, MemDisk>> as Volume>⟧.kept result).updating ≡ false }
 {
-    let machine = blank_board(alloc, frames, disk, stop_after)?;
-    let tables = CacheTables::new(alloc, frames, BLOCKS)?;
-    Ok(PageCache::start(machine, tables))
+    let machine = blank_board(rt, alloc, frames, mishap);
+    PageCache::start(machine, blank_tables(rt, alloc, frames))
 }
 
 /// How a walk ended, and the words that it left in memory.
-#[derive(Drop)]
-struct Left {
-    end: Result<(), WalkEnd>,
-    words: Vec<u64>,
-}
+type Left = (Result<(), WalkEnd>, Vec<u64>);
 
 /// What a walk leaves of memory that is a list.
-fn left_in_list(alloc: Global, course: Course) -> Result<Left, AllocError> {
-    let mut plain = PlainBlocks::new(alloc)?;
-    let (end, mem, _) = walked(alloc, &mut plain, course)?;
-    Ok(Left {
-        end,
-        words: mem.into_words(),
-    })
+fn left_in_list(rt: &impl Abort, alloc: Global, course: Course) -> Left {
+    let mut plain = PlainBlocks::new(rt, alloc);
+    let (end, mem, _) = walked(rt, alloc, &mut plain, course);
+    (end, mem.into_words())
+}
+
+/// The words of raw memory.
+fn words_of_block(rt: &impl Abort, alloc: Global, mem: &PhysMem) -> Vec<u64> {
+    let mut words = Vec::new(alloc);
+    for page in 0..mem.len() / 512 {
+        if words.extend_from_slice(mem.frame(Page(page))).is_err() {
+            panic!(rt; "no memory");
+        }
+    }
+    words
 }
 
 /// What the same walk leaves of raw memory.
-fn left_in_block(alloc: Global, course: Course) -> Result<Left, AllocError> {
-    let mut plain = PlainBlocks::new(alloc)?;
-    let disk = disk_of(alloc, BLOCKS, course.mishap)?;
+fn left_in_block(rt: &impl Abort, alloc: Global, course: Course) -> Left {
+    let mut plain = PlainBlocks::new(rt, alloc);
     let frames = if course.roomy { 64 } else { 32 };
-    let mut v = cache_of(alloc, frames, disk, course.mishap.stop_after())?;
-    let mut draws = Draws::new(course.seed, !course.roomy);
-    let end = go(&mut v, &mut plain, &mut draws, course);
+    let mut v = cache_of(rt, alloc, frames, course.mishap);
+    let end = go(&mut v, &mut plain, course);
     let (mem, _) = v.into_machine().into_parts();
-    let mut words = Vec::new(alloc);
-    for page in 0..mem.len() / 512 {
-        words.extend_from_slice(mem.frame(Page(page)))?;
-    }
-    Ok(Left { end, words })
+    (end, words_of_block(rt, alloc, &mem))
+}
+
+/// Whether a walk ends and leaves the same in both memories: how it ends in both, and whether the words are the same.
+fn ends_of(
+    rt: &impl Abort,
+    alloc: Global,
+    course: Course,
+) -> (Result<(), WalkEnd>, Result<(), WalkEnd>, bool) {
+    let (list_end, list) = left_in_list(rt, alloc, course);
+    let (block_end, block) = left_in_block(rt, alloc, course);
+    (list_end, block_end, list.as_slice() == block.as_slice())
 }
 
 /// Walks: the seed, how many actions, whether the cache has a frame for each block, and what befalls it.
@@ -124,18 +131,16 @@ static COURSES: [(u64, u32, bool, Mishap); 9] = [
 ];
 
 #[test]
-fn drawn_walks_leave_the_same_in_both_memories(rt: HostRuntime) -> Result<(), Fail> {
-    for (k, (seed, actions, roomy, mishap)) in COURSES.iter().enumerate() {
+fn drawn_walks_leave_the_same_in_both_memories(rt: HostRuntime) {
+    for k in 0..9 {
+        let (seed, actions, roomy, mishap) = COURSES[k];
         let course = Course {
-            seed: *seed,
-            actions: *actions,
-            roomy: *roomy,
-            mishap: *mishap,
+            seed,
+            actions,
+            roomy,
+            mishap,
         };
-        let list = left_in_list(rt.alloc(), course)?;
-        let block = left_in_block(rt.alloc(), course)?;
-        let alike = list.words.as_slice() == block.words.as_slice();
-        same(&rt, "courses", k, &(block.end, alike), &(list.end, true));
+        let (list, block, alike) = ends_of(&rt, rt.alloc(), course);
+        same(&rt, "courses", k, &(block, alike), &(list, true));
     }
-    Ok(())
 }

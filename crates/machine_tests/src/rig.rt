@@ -7,16 +7,18 @@ ghost use Rattle.block_disk.specs.MemDisks.{state_of};
 use crate::machines::{MemBoard, Mishap, board_on, counted, disk_of};
 use block_disk::MemDisk;
 use board::Board;
+use machine_readers::zeros;
 use page_protect::{Window, put_run, put_word};
 use phys_memory::ListMem;
 use rio_base::{BLOCK_WORDS, Block, DiskFail, Machine, Page, Stopped, Wild, WordAt};
 use std::alloc::{AllocError, Global};
+use std::process::Abort;
 
 /// The most words that a board's memory has.
 const MOST_WORDS: usize = 42_496;
 
 /// What came of a call.
-#[derive(Clone, Copy, Debug)]
+#[derive(Clone, Copy, Debug, PartialEq, Eq)]
 pub(crate) enum Came {
     /// It was made.
     Done,
@@ -34,105 +36,58 @@ pub(crate) enum Came {
     Place(Option<WordAt>),
     /// The call may not be made there.
     OutOfPlace,
-    /// There is no such call, or it has other numbers.
-    NoCall,
 }
 
 /// A call, or what a board is asked.
 #[derive(Clone, Copy)]
-enum Call {
-    /// `open P`: a page is opened.
-    Open,
-    /// `close`: the open page is closed.
+pub(crate) enum Call {
+    /// This page is opened.
+    Open(u32),
+    /// The open page is closed.
     Close,
-    /// `write B P`: a page is written as a block.
-    Write,
-    /// `sync`: all that was written is brought to the device.
+    /// This block is written with that page.
+    Write(u32, u32),
+    /// All that was written is brought to the device.
     Sync,
-    /// `read B`: a block is read, and its last word told.
-    Read,
-    /// `wild AT V`: a wild store falls now: where, and what it stores.
-    Wild,
-    /// `arm STEPS AT V`: a wild store is armed, to fall after so many steps: where, and what it stores.
-    Arm,
-    /// `store AT V`: a word of the open page is stored.
-    Store,
-    /// `run AT V..`: words of the open page are stored, from a place on.
-    Run,
-    /// `copy FROM TO`: a page is copied to the open page.
-    CopyPage,
-    /// `put_two P V`: a value is put as the first and the last word of a page, through one window.
-    PutTwo,
-    /// `put_one P W V`: a word of a closed page is put.
-    PutOne,
-    /// `put_run P W V..`: words of a closed page are put, from one of its words on.
-    PutRun,
-    /// `word AT`: the word at a place.
-    Word,
-    /// `page_len P`: how many words a page that is lent has.
-    PageLen,
-    /// `page_word P W`: a word of a page that is lent.
-    PageWord,
-    /// `front N`: whether so many words at the front of page 2 are those of page 20, and the others its own, on a board whose
+    /// This block is read, and its last word told.
+    Read(u32),
+    /// A wild store falls now: where, and what it stores.
+    Wild(u32, u64),
+    /// A wild store is armed, to fall after so many steps: where, and what it stores.
+    Arm(u64, u32, u64),
+    /// A word of the open page is stored: where, and the word.
+    Store(u32, u64),
+    /// Words of the open page are stored, from this place on.
+    Run(u32, &'static [u64]),
+    /// This page is copied to that one, which is open.
+    Copy(u32, u32),
+    /// A value is put as the first and the last word of this page, through one window.
+    PutTwo(u32, u64),
+    /// A word of this closed page is put: which, and the word.
+    PutOne(u32, u16, u64),
+    /// Words of this closed page are put, from that one of its words on.
+    PutRun(u32, u16, &'static [u64]),
+    /// The word at this place.
+    Word(u32),
+    /// How many words this page has as it is lent.
+    PageLen(u32),
+    /// A word of this page as it is lent.
+    PageWord(u32, usize),
+    /// Whether so many words at the front of page 2 are those of page 20, and the others its own, on a board whose
     /// words are their own places.
-    Front,
-    /// `steps`: how many steps were made.
+    Front(usize),
+    /// How many steps were made.
     Steps,
-    /// `spared`: how many wild stores were spared.
+    /// How many wild stores were spared.
     Spared,
-    /// `stopped`: whether the board is stopped.
+    /// Whether the board is stopped.
     Halted,
-    /// `trapped`: where a wild store trapped.
+    /// Where a wild store trapped.
     Trapped,
-    /// `pages`: how many pages memory has.
+    /// How many pages memory has.
     Pages,
-    /// `blocks`: how many blocks the disk has.
+    /// How many blocks the disk has.
     Blocks,
-}
-
-/// The calls by name, each with how many numbers stand behind its name, and whether more may.
-static CALLS: [(&str, usize, bool, Call); 23] = [
-    ("open", 1, false, Call::Open),
-    ("close", 0, false, Call::Close),
-    ("write", 2, false, Call::Write),
-    ("sync", 0, false, Call::Sync),
-    ("read", 1, false, Call::Read),
-    ("wild", 2, false, Call::Wild),
-    ("arm", 3, false, Call::Arm),
-    ("store", 2, false, Call::Store),
-    ("run", 1, true, Call::Run),
-    ("copy", 2, false, Call::CopyPage),
-    ("put_two", 2, false, Call::PutTwo),
-    ("put_one", 3, false, Call::PutOne),
-    ("put_run", 2, true, Call::PutRun),
-    ("word", 1, false, Call::Word),
-    ("page_len", 1, false, Call::PageLen),
-    ("page_word", 2, false, Call::PageWord),
-    ("front", 1, false, Call::Front),
-    ("steps", 0, false, Call::Steps),
-    ("spared", 0, false, Call::Spared),
-    ("stopped", 0, false, Call::Halted),
-    ("trapped", 0, false, Call::Trapped),
-    ("pages", 0, false, Call::Pages),
-    ("blocks", 0, false, Call::Blocks),
-];
-
-/// The call of this name that has so many numbers.
-fn call_of(word: &str, count: usize) -> Option<Call> {
-    for (name, least, more, call) in CALLS.iter() {
-        if *name == word && has_as_many(count, *least, *more) {
-            return Some(*call);
-        }
-    }
-    None
-}
-
-/// Whether a call may have so many numbers.
-fn has_as_many(count: usize, least: usize, more: bool) -> bool {
-    if more {
-        return least <= count;
-    }
-    count == least
 }
 
 impl From<Result<(), Stopped>> for Came {
@@ -172,8 +127,8 @@ impl Memory {
         ensures room { IfOk result (λ words. 512 < length words.items) }
     {
         match self {
-            Memory::Small => vec![in alloc; 0; 1_536],
-            Memory::Zeros => vec![in alloc; 0; 42_496],
+            Memory::Small => zeros(alloc, 1_536),
+            Memory::Zeros => zeros(alloc, 42_496),
             Memory::Counted => counted(alloc, 42_496),
         }
     }
@@ -208,27 +163,6 @@ fn put_two<M: Machine>(m: &mut M, p: Page, v: u64) -> Result<(), Stopped>
     Ok(())
 }
 
-/// The first three numbers. Those that are not there are 0.
-fn first_three(numbers: &[u64]) -> [u64; 3] {
-    let nth = |k: usize| numbers.get(k).copied().unwrap_or(0);
-    [nth(0), nth(1), nth(2)]
-}
-
-/// A number as a place, a page or a block. A larger one is one that no board has.
-fn place(n: u64) -> u32 {
-    u32::try_from(n).unwrap_or(u32::MAX)
-}
-
-/// A number as the place of a word in its page. A larger one is one that no page has.
-fn word_place(n: u64) -> u16 {
-    u16::try_from(n).unwrap_or(u16::MAX)
-}
-
-/// The numbers behind the first `n`.
-fn behind(numbers: &[u64], n: usize) -> &[u64] {
-    numbers.get(n..).unwrap_or(&[])
-}
-
 /// A board, and which of its pages is open.
 #[derive(Drop)]
 pub(crate) struct Rig {
@@ -244,18 +178,22 @@ pub(crate) struct Rig {
 
 impl Rig {
     /// A board over such a memory, which this befalls, with no page open.
-    pub(crate) fn new(alloc: Global, memory: Memory, mishap: Mishap) -> Result<Rig, AllocError> {
-        let words = memory.words(alloc)?;
+    pub(crate) fn new(rt: &impl Abort, alloc: Global, memory: Memory, mishap: Mishap) -> Rig {
+        let Ok(words) = memory.words(alloc) else {
+            panic!(rt; "no memory");
+        };
         if MOST_WORDS < words.len() {
-            return Err(AllocError);
+            panic!(rt; "too much memory");
         }
-        let mem = ListMem::from_words(words);
-        let disk = disk_of(alloc, 4, mishap)?;
-        Ok(Rig {
-            board: board_on(mem, disk, mishap.stop_after()),
+        let Ok(room) = zeros(alloc, 512) else {
+            panic!(rt; "no room");
+        };
+        let disk = disk_of(rt, alloc, 4, mishap);
+        Rig {
+            board: board_on(ListMem::from_words(words), disk, mishap.stop_after()),
             page: None,
-            room: vec![in alloc; 0; 512]?,
-        })
+            room,
+        }
     }
 
     /// The memory and the disk.
@@ -270,10 +208,14 @@ impl Rig {
         board.into_parts()
     }
 
-    /// Whether there is such a protected page.
-    fn is_page(&self, p: u32) -> bool
-        ensures { IsTrue result → 512 * p < length (⟦<Board<ListMem, MemDisk> as Machine>⟧.contents self.now.board).words }
+    /// Whether no page is open, and there is such a protected page.
+    fn is_shut(&self, p: u32) -> bool
+        ensures closed { IsTrue result → (⟦<Board<ListMem, MemDisk> as Machine>⟧.contents self.now.board).open_page ≡ None }
+        ensures page { IsTrue result → 512 * p < length (⟦<Board<ListMem, MemDisk> as Machine>⟧.contents self.now.board).words }
     {
+        if self.page.is_some() {
+            return false;
+        }
         p < self.board.pages() - 1
     }
 
@@ -285,10 +227,7 @@ impl Rig {
     }
 
     fn open(&mut self, p: u32) -> Came {
-        if self.page.is_some() {
-            return Came::OutOfPlace;
-        }
-        if !self.is_page(p) {
+        if !self.is_shut(p) {
             return Came::OutOfPlace;
         }
         self.board.open_page(Page(p));
@@ -333,7 +272,7 @@ impl Rig {
     }
 
     fn write(&mut self, b: u32, from: u32) -> Came {
-        if self.page.is_some() || 4 <= b || !self.is_page(from) {
+        if 4 <= b || !self.is_shut(from) {
             return Came::OutOfPlace;
         }
         Came::from(self.board.write_block(Block(b), Page(from)))
@@ -377,21 +316,21 @@ impl Rig {
     }
 
     fn put_two(&mut self, p: u32, v: u64) -> Came {
-        if self.page.is_some() || !self.is_page(p) {
+        if !self.is_shut(p) {
             return Came::OutOfPlace;
         }
         Came::from(put_two(&mut self.board, Page(p), v))
     }
 
     fn put_one(&mut self, p: u32, w: u16, v: u64) -> Came {
-        if self.page.is_some() || 512 <= w || !self.is_page(p) {
+        if 512 <= w || !self.is_shut(p) {
             return Came::OutOfPlace;
         }
         Came::from(put_word(&mut self.board, Page(p), w, v))
     }
 
     fn put_run(&mut self, p: u32, w: u16, words: &[u64]) -> Came {
-        if self.page.is_some() || 512 < w || !self.is_page(p) {
+        if 512 < w || !self.is_shut(p) {
             return Came::OutOfPlace;
         }
         if BLOCK_WORDS - (w as usize) < words.len() {
@@ -422,59 +361,40 @@ impl Rig {
         }
     }
 
-    /// Answers what the board is asked. Any other call is none.
-    fn tell(&self, call: Call, a: u32, b: u64) -> Came {
+    /// Answers what the board is asked. Any other call is out of place.
+    fn tell(&self, call: Call) -> Came {
         match call {
-            Call::Word => self.word(a),
-            Call::PageLen => Came::Number(self.page(a).len() as u64),
-            Call::PageWord => self.page_word(a, b as usize),
-            Call::Front => Came::Is(has_front(self.page(2), a as usize)),
+            Call::Word(at) => self.word(at),
+            Call::PageLen(p) => Came::Number(self.page(p).len() as u64),
+            Call::PageWord(p, w) => self.page_word(p, w),
+            Call::Front(n) => Came::Is(has_front(self.page(2), n)),
             Call::Steps => Came::Number(self.board.steps()),
             Call::Spared => Came::Number(self.board.spared()),
             Call::Halted => Came::Is(self.board.stopped()),
             Call::Trapped => Came::Place(self.board.trapped()),
             Call::Pages => Came::Number(self.board.pages() as u64),
             Call::Blocks => Came::Number(self.board.disk_blocks() as u64),
-            _ => Came::NoCall,
+            _ => Came::OutOfPlace,
         }
     }
 
-    /// Makes a call that changes words, and answers what came of it. Any other is asked of the board.
-    fn change(&mut self, call: Call, numbers: &[u64]) -> Came {
-        let [first, second, third] = first_three(numbers);
-        let a = place(first);
+    /// Makes a call, or asks the board, and answers what came of it.
+    pub(crate) fn make(&mut self, call: Call) -> Came {
         match call {
-            Call::Store => self.store(a, second),
-            Call::Run => self.store_run(a, behind(numbers, 1)),
-            Call::CopyPage => self.copy(a, place(second)),
-            Call::PutTwo => self.put_two(a, second),
-            Call::PutOne => self.put_one(a, word_place(second), third),
-            Call::PutRun => self.put_run(a, word_place(second), behind(numbers, 2)),
-            _ => self.tell(call, a, second),
-        }
-    }
-
-    /// Makes a call, and answers what came of it.
-    fn make_call(&mut self, call: Call, numbers: &[u64]) -> Came {
-        let [first, second, third] = first_three(numbers);
-        let (a, b) = (place(first), place(second));
-        match call {
-            Call::Open => self.open(a),
+            Call::Open(p) => self.open(p),
             Call::Close => self.close(),
-            Call::Write => self.write(a, b),
+            Call::Write(b, from) => self.write(b, from),
             Call::Sync => self.sync(),
-            Call::Read => self.read(a),
-            Call::Wild => self.wild(a, second),
-            Call::Arm => self.arm(first, b, third),
-            _ => self.change(call, numbers),
-        }
-    }
-
-    /// Makes the call of this name with these numbers, and answers what came of it: a [`Call`], where it has as many.
-    pub(crate) fn make(&mut self, word: &str, numbers: &[u64]) -> Came {
-        match call_of(word, numbers.len()) {
-            Some(call) => self.make_call(call, numbers),
-            None => Came::NoCall,
+            Call::Read(b) => self.read(b),
+            Call::Wild(at, v) => self.wild(at, v),
+            Call::Arm(steps, at, v) => self.arm(steps, at, v),
+            Call::Store(at, v) => self.store(at, v),
+            Call::Run(at, words) => self.store_run(at, words),
+            Call::Copy(from, to) => self.copy(from, to),
+            Call::PutTwo(p, v) => self.put_two(p, v),
+            Call::PutOne(p, w, v) => self.put_one(p, w, v),
+            Call::PutRun(p, w, words) => self.put_run(p, w, words),
+            _ => self.tell(call),
         }
     }
 }

@@ -1,13 +1,13 @@
 //! Updates of two blocks of metadata, stopped at each step. The image has 64 frames and one scratch page: its shadow page
 //! `s` is page `1 + s`, and its frame `k` page `18 + k`. Entries 3 and 4 have the blocks 5 and 6.
 
-ghost use Rattle.std.specs.Prelude.{◌≡◌, ◌≢◌, ◌<◌, ◌≤◌, ◌⊎◌, ℕ, true, false, None, IfOk, OnOk, length};
+ghost use Rattle.std.specs.Prelude.{◌≡◌, ◌≢◌, ◌<◌, ◌≤◌, ◌⊎◌, ℕ, true, false, None, OnOk, length};
 ghost use Rattle.rio_base.specs.Image.{HasHeader};
 ghost use Rattle.rio_model.specs.Registry.{HasLayout, IsValid, KeepsRegistry, frames_of, gate_of, scratch_of, shadow_at, tag_at, tag_of};
 ghost use Rattle.machine_tests.specs.TwoEntries.{HasTwo};
 ghost use Rattle.shadow_pages.specs.Updates.{AreBare};
 
-use crate::machines::{MemBoard, board_with};
+use crate::machines::{MemBoard, Mishap, board_on, disk_of};
 use crate::same::same;
 use block_disk::MemDisk;
 use board::Board;
@@ -17,7 +17,7 @@ use phys_memory::ListMem;
 use registry::{check_image, load_tag, read_entry};
 use rio_base::{Machine, Page, Stopped, WordAt};
 use shadow_pages::{begin, commit, shadow, undo};
-use std::alloc::{AllocError, Global};
+use std::alloc::Global;
 use std::process::Abort;
 
 /// The tags of two dirty entries of metadata, with the blocks 5 and 6.
@@ -26,18 +26,20 @@ const FIRST: u64 = 0x0000_0005_0000_0003;
 const SECOND: u64 = 0x0000_0006_0000_0003;
 
 /// The words of an image with the two entries.
-fn marked_image(alloc: Global) -> Result<Vec<u64>, AllocError>
-    ensures { IfOk result (λ words. length words.items ≡ 42496) }
+fn marked_image(rt: &impl Abort, alloc: Global) -> Vec<u64>
+    ensures { length result.items ≡ 42496 }
 {
-    let mut words = fresh_image(alloc, 64, 1)?;
+    let Ok(mut words) = fresh_image(alloc, 64, 1) else {
+        panic!(rt; "no image");
+    };
     if words.len() != 42_496 {
-        return Err(AllocError);
+        panic!(rt; "another image");
     }
     words[527] = FIRST;
     words[530] = 4096;
     words[532] = SECOND;
     words[535] = 4096;
-    Ok(words)
+    words
 }
 
 /// Whether the header is that of an image with 64 frames and one scratch page, and no update is open.
@@ -139,16 +141,17 @@ fn has_two<M: Machine>(m: &M) -> bool
 }
 
 /// A board with the two entries, whose frames are zeros.
-fn two_entries(alloc: Global, stop_after: Option<u64>) -> Result<MemBoard, AllocError>
-    ensures two { IfOk result (λ m. HasTwo (⟦<Board<ListMem, MemDisk> as Machine>⟧.contents m) (⟦<Board<ListMem, MemDisk> as Machine>⟧.run m)) }
-    ensures gate { IfOk result (λ m. gate_of (⟦<Board<ListMem, MemDisk> as Machine>⟧.contents m).words ≡ 0) }
+fn two_entries(rt: &impl Abort, alloc: Global, stop_after: Option<u64>) -> MemBoard
+    ensures two { HasTwo (⟦<Board<ListMem, MemDisk> as Machine>⟧.contents result) (⟦<Board<ListMem, MemDisk> as Machine>⟧.run result) }
+    ensures gate { gate_of (⟦<Board<ListMem, MemDisk> as Machine>⟧.contents result).words ≡ 0 }
 {
-    let words = marked_image(alloc)?;
-    let m = board_with(alloc, ListMem::from_words(words), 8, stop_after)?;
+    let words = marked_image(rt, alloc);
+    let disk = disk_of(rt, alloc, 8, Mishap::Nothing);
+    let m = board_on(ListMem::from_words(words), disk, stop_after);
     if !has_two(&m) {
-        return Err(AllocError);
+        panic!(rt; "not the two entries");
     }
-    Ok(m)
+    m
 }
 
 /// Gives entry `k` the shadow `s`, which neither has.
@@ -299,15 +302,9 @@ fn make<M: Machine>(m: &mut M, updates: Updates) -> Result<(), Stopped>
     }
 }
 
-/// What is found after updates.
-#[derive(Clone, Copy, Debug, PartialEq, Eq)]
-struct Came {
-    done: bool,
-    /// The words 0 of both blocks as they stand.
-    standing: (u64, u64),
-    /// Both blocks read as they stand, or not all updates were made.
-    reads: bool,
-}
+/// What is found after updates: whether all were made, the words 0 of both blocks as they stand, and whether both blocks read
+/// so, or not all updates were made.
+type Came = (bool, (u64, u64), bool);
 
 /// Makes updates, and looks what stands.
 fn look<M: Machine>(m: &mut M, updates: Updates) -> Came
@@ -317,17 +314,13 @@ fn look<M: Machine>(m: &mut M, updates: Updates) -> Came
     let done = make(m, updates).is_ok();
     let standing = both_standing(m);
     let read = (reading(m, 3), reading(m, 4));
-    Came {
-        done,
-        standing,
-        reads: !done || read == standing,
-    }
+    (done, standing, !done || read == standing)
 }
 
 /// Makes updates on a machine that stops after so many steps, if it does, and looks what stands.
-fn came_of(alloc: Global, updates: Updates, stop_after: Option<u64>) -> Result<Came, AllocError> {
-    let mut m = two_entries(alloc, stop_after)?;
-    Ok(look(&mut m, updates))
+fn came_of(rt: &impl Abort, alloc: Global, updates: Updates, stop_after: Option<u64>) -> Came {
+    let mut m = two_entries(rt, alloc, stop_after);
+    look(&mut m, updates)
 }
 
 /// Updates, the steps after which they are stopped, and what must come of it.
@@ -376,38 +369,31 @@ static ROWS: [Row; 3] = [
 ];
 
 /// Makes the updates once for each stop, on a machine of its own. The index in a failure is the number of steps.
-fn check(rt: &impl Abort, alloc: Global, row: &Row) -> Result<(), AllocError> {
+fn check(rt: &impl Abort, alloc: Global, row: &Row) {
     for k in 0..row.stops.len() {
         let steps = row.stops[k];
         let done = row.made_after <= steps;
         let v = if done { row.stands[1] } else { row.stands[0] };
-        let due = Came {
-            done,
-            standing: (v, v),
-            reads: true,
-        };
-        let came = came_of(alloc, row.updates, Some(steps))?;
-        same(rt, row.name, steps as usize, &came, &due);
+        let came = came_of(rt, alloc, row.updates, Some(steps));
+        same(rt, row.name, steps as usize, &came, &(done, (v, v), true));
     }
-    Ok(())
 }
 
 #[test]
-fn an_update_stands_whole_or_not_at_all(rt: HostRuntime) -> Result<(), AllocError> {
+fn an_update_stands_whole_or_not_at_all(rt: HostRuntime) {
     for row in ROWS.iter() {
-        check(&rt, rt.alloc(), row)?;
+        check(&rt, rt.alloc(), row);
     }
-    Ok(())
 }
 
 #[test]
-fn a_second_update_is_taken_back(rt: HostRuntime) -> Result<(), AllocError> {
-    let due = Came {
-        done: true,
-        standing: (7, 7),
-        reads: true,
-    };
-    let came = came_of(rt.alloc(), Updates::SecondUndone, None)?;
-    same(&rt, "a second update taken back", 0, &came, &due);
-    Ok(())
+fn a_second_update_is_taken_back(rt: HostRuntime) {
+    let came = came_of(&rt, rt.alloc(), Updates::SecondUndone, None);
+    same(
+        &rt,
+        "a second update taken back",
+        0,
+        &came,
+        &(true, (7, 7), true),
+    );
 }

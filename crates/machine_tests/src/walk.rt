@@ -7,7 +7,6 @@ ghost use Rattle.machine_tests.specs.Walks.{Walks, walk_name};
 use crate::draws::Draws;
 use crate::plain_blocks::{PlainBlocks, Stands};
 use rio_base::{Block, Ino, PageName, RunFail, Stopped, VolFail, Volume};
-use std::alloc::{AllocError, AllocFailed};
 
 /// The most words of a run.
 const RUN_WORDS: usize = 64;
@@ -19,25 +18,11 @@ pub(crate) enum WalkEnd {
     Stopped,
     /// A word of this block read otherwise than the plain lists say.
     Differs(Block),
-    /// No memory was left for the plain lists.
-    Memory,
 }
 
 impl From<Stopped> for WalkEnd {
     fn from(_fail: Stopped) -> WalkEnd {
         WalkEnd::Stopped
-    }
-}
-
-impl From<AllocError> for WalkEnd {
-    fn from(_fail: AllocError) -> WalkEnd {
-        WalkEnd::Memory
-    }
-}
-
-impl<T: Drop> From<AllocFailed<T>> for WalkEnd {
-    fn from(_fail: AllocFailed<T>) -> WalkEnd {
-        WalkEnd::Memory
     }
 }
 
@@ -127,7 +112,7 @@ fn store_word<V: Volume>(
     ensures sound { V.sound v.new }
 {
     plain.begin(Stands::Front);
-    plain.store(b, w, word)?;
+    plain.store(b, w, word);
     match v.store(b, name_of(b), w, word) {
         Ok(()) => plain.end(),
         Err(VolFail::Fault) => plain.end_with(0),
@@ -137,15 +122,14 @@ fn store_word<V: Volume>(
 }
 
 /// Tells the plain lists that a run of words is stored.
-fn plan_run(plain: &mut PlainBlocks, b: Block, w: u16, words: &[u64]) -> Result<(), WalkEnd>
+fn plan_run(plain: &mut PlainBlocks, b: Block, w: u16, words: &[u64])
     requires block { b.0 < 64 }
     requires run { w + length words.now ≤ 512 }
 {
     plain.begin(Stands::Front);
     for i in 0..words.len() {
-        plain.store(b, w + i as u16, words[i])?;
+        plain.store(b, w + i as u16, words[i]);
     }
-    Ok(())
 }
 
 /// Stores a run of words.
@@ -166,7 +150,7 @@ fn store_run<V: Volume>(
     ensures walks { Walks (V.seen v.new) }
     ensures sound { V.sound v.new }
 {
-    plan_run(plain, b, w, words)?;
+    plan_run(plain, b, w, words);
     match v.store_run(b, name_of(b), w, words) {
         Ok(()) => plain.end(),
         Err(RunFail::Fault(n)) => plain.end_with(n as usize),
@@ -231,7 +215,7 @@ fn edit<V: Volume>(
 {
     let w = draws.word_place();
     let word = draws.word();
-    plain.store(b, w, word)?;
+    plain.store(b, w, word);
     v.edit(b, w, word)?;
     if draws.below(2) == 0 {
         return Ok(());

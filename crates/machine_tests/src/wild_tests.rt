@@ -1,47 +1,32 @@
 //! Tests of wild stores on the memory of a page cache, now and armed to fall within a call. The cache has 32 frames, so
 //! that memory has 51 pages, of which the last is scratch.
 
-ghost use Rattle.std.specs.Prelude.{◌≡◌, ◌<◌, ◌≤◌, false, length, IfOk};
+ghost use Rattle.std.specs.Prelude.{◌≡◌, ◌<◌, ◌≤◌, false, length};
 ghost use Rattle.machine_tests.specs.Walks.{Walks};
 
 use crate::cache_tests::read_first;
 use crate::cache_walks::cache_of;
 use crate::cached::word_in;
 use crate::crashes::crashed;
-use crate::machines::MemBoard;
+use crate::machines::Mishap;
 use crate::same::same;
-use block_disk::{DiskChoice, MemDisk};
-use board::Board;
-use machine_readers::BLOCKS;
+use block_disk::DiskChoice;
 use page_cache::PageCache;
-use phys_memory::ListMem;
 use rio_base::{BLOCK_WORDS, Block, Blocks, Machine, RunFail, VolFail, Volume, Wild, WordAt};
 use std::alloc::Global;
-use std::test::Fail;
+use std::process::Abort;
 
 /// The first word of frame 3, and that of the scratch page.
 const IN_FRAME: WordAt = WordAt(10_752);
 
 const IN_SCRATCH: WordAt = WordAt(25_600);
 
-/// A cache with no block in it.
-fn cache(alloc: Global) -> Result<PageCache<MemBoard>, Fail>
-    ensures sound { IfOk result (λ v. ⟦<PageCache<Board<ListMem, MemDisk>> as Blocks>⟧.sound v) }
-    ensures walks { IfOk result (λ v. Walks (⟦<PageCache<Board<ListMem, MemDisk>> as Blocks>⟧.seen v)) }
-    ensures idle { IfOk result (λ v. (⟦<PageCache<Board<ListMem, MemDisk>> as Volume>⟧.kept v).updating ≡ false) }
-    ensures running { IfOk result (λ v. (⟦<PageCache<Board<ListMem, MemDisk>> as Blocks>⟧.health v).stopped ≡ false) }
-{
-    let disk = MemDisk::new(alloc, BLOCKS)?;
-    Ok(cache_of(alloc, 32, disk, None)?)
-}
-
 #[test]
-fn a_cache_tells_its_blocks_and_pages(rt: HostRuntime) -> Result<(), Fail> {
-    let v = cache(rt.alloc())?;
+fn a_cache_tells_its_blocks_and_pages(rt: HostRuntime) {
+    let v = cache_of(&rt, rt.alloc(), 32, Mishap::Nothing);
     let came = [v.volume_blocks(), v.machine().pages()];
     let (_, _) = v.into_machine().into_parts();
     same(&rt, "blocks and pages", 0, &came, &[64, 51]);
-    Ok(())
 }
 
 /// A wild store of 9 now, to a place that every memory under a cache has.
@@ -82,28 +67,36 @@ fn struck<M: Machine>(v: &mut PageCache<M>, at: WordAt) -> (Wild, Result<u64, Vo
 }
 
 /// What a wild store of 9 to a place meets, what block 5 then reads as, and the word at the place.
-fn after_wild(alloc: Global, at: WordAt) -> Result<(Wild, Result<u64, VolFail>, u64), Fail> {
+type Struck = (Wild, Result<u64, VolFail>, u64);
+
+/// Makes the wild store on a fresh cache.
+fn after_wild(rt: &impl Abort, alloc: Global, at: WordAt) -> Struck {
     if 26_112 <= at.0 {
-        Err("no such word")?;
+        panic!(rt; "no such word");
     }
-    let mut v = cache(alloc)?;
+    let mut v = cache_of(rt, alloc, 32, Mishap::Nothing);
     let (met, read) = struck(&mut v, at);
     let (mem, _) = v.into_machine().into_parts();
-    Ok((met, read, word_in(&mem, at.0)))
+    (met, read, word_in(&mem, at.0))
 }
 
 /// Where a wild store falls, and what is found of it.
-static WILD: [(WordAt, (Wild, Result<u64, VolFail>, u64)); 2] = [
+static WILD: [(WordAt, Struck); 2] = [
     (IN_FRAME, (Wild::Trapped, Err(VolFail::Stopped), 0)),
     (IN_SCRATCH, (Wild::Changed, Ok(0), 9)),
 ];
 
 #[test]
-fn a_wild_store_stops_the_cache_or_falls_on_scratch(rt: HostRuntime) -> Result<(), Fail> {
+fn a_wild_store_stops_the_cache_or_falls_on_scratch(rt: HostRuntime) {
     for (k, (at, due)) in WILD.iter().enumerate() {
-        same(&rt, "wild stores", k, &after_wild(rt.alloc(), *at)?, due);
+        same(
+            &rt,
+            "wild stores",
+            k,
+            &after_wild(&rt, rt.alloc(), *at),
+            due,
+        );
     }
-    Ok(())
 }
 
 /// Stores 7 as the first word of block 5.
@@ -129,66 +122,42 @@ fn store_armed<M: Machine>(v: &mut PageCache<M>, at: WordAt) -> Result<(), VolFa
     store_first(v)
 }
 
-/// What is found of a store of 7 to block 5, while a wild store of 9 is armed to fall after its first step.
-#[derive(Clone, Copy, Debug, PartialEq, Eq)]
-struct Armed {
-    end: Result<(), VolFail>,
-    /// Where the wild store trapped.
-    trapped: Option<WordAt>,
-    /// The word at the place of the wild store.
-    word: u64,
-    /// The first word of block 5 that stands.
-    stands: u64,
-}
+/// What is found of a store of 7 to block 5, while a wild store of 9 is armed to fall after its first step: how it ended,
+/// where the wild store trapped, the word at the place of the wild store, and the first word of block 5 that stands.
+type Armed = (Result<(), VolFail>, Option<WordAt>, u64, u64);
 
-/// Makes the two stores, the wild one to this place.
-fn after_armed(alloc: Global, at: WordAt) -> Result<Armed, Fail> {
+/// Makes the two stores on a fresh cache, the wild one to this place.
+fn after_armed(rt: &impl Abort, alloc: Global, at: WordAt) -> Armed {
     if 26_112 <= at.0 {
-        Err("no such word")?;
+        panic!(rt; "no such word");
     }
-    let mut v = cache(alloc)?;
+    let mut v = cache_of(rt, alloc, 32, Mishap::Nothing);
     let end = store_armed(&mut v, at);
     let machine = v.into_machine();
     let trapped = machine.trapped();
     let (mem, disk) = machine.into_parts();
     let word = word_in(&mem, at.0);
-    let found = crashed(alloc, &mem.into_words(), disk, DiskChoice::AsSynced)?;
-    Ok(Armed {
-        end,
-        trapped,
-        word,
-        stands: found[BLOCK_WORDS * 5],
-    })
+    let found = crashed(rt, alloc, &mem.into_words(), disk, DiskChoice::AsSynced);
+    (end, trapped, word, found[BLOCK_WORDS * 5])
 }
 
 /// Where the armed store falls, and what is found of both.
 static ARMED: [(WordAt, Armed); 2] = [
-    (
-        IN_FRAME,
-        Armed {
-            end: Err(VolFail::Stopped),
-            trapped: Some(IN_FRAME),
-            word: 0,
-            stands: 0,
-        },
-    ),
-    (
-        IN_SCRATCH,
-        Armed {
-            end: Ok(()),
-            trapped: None,
-            word: 9,
-            stands: 7,
-        },
-    ),
+    (IN_FRAME, (Err(VolFail::Stopped), Some(IN_FRAME), 0, 0)),
+    (IN_SCRATCH, (Ok(()), None, 9, 7)),
 ];
 
 #[test]
-fn an_armed_store_stops_the_call_or_falls_on_scratch(rt: HostRuntime) -> Result<(), Fail> {
+fn an_armed_store_stops_the_call_or_falls_on_scratch(rt: HostRuntime) {
     for (k, (at, due)) in ARMED.iter().enumerate() {
-        same(&rt, "armed stores", k, &after_armed(rt.alloc(), *at)?, due);
+        same(
+            &rt,
+            "armed stores",
+            k,
+            &after_armed(&rt, rt.alloc(), *at),
+            due,
+        );
     }
-    Ok(())
 }
 
 /// Has block 5 cached.
@@ -231,23 +200,27 @@ fn run_armed<M: Machine>(v: &mut PageCache<M>, at: WordAt, words: &[u64]) -> Res
     store_front(v, words)
 }
 
-/// How a run of `n` stores to block 5 ends, and the word at the place of a wild store of 9 that is armed to fall after
-/// three steps. The block is cached and its page clean: so the page's mark is the first step, and each word is one more.
-fn after_three(alloc: Global, at: WordAt, n: usize) -> Result<(Result<(), RunFail>, u64), Fail> {
+/// How a run of stores to block 5 ends, and the word at the place of a wild store of 9 that is armed to fall after three
+/// steps.
+type Run = (Result<(), RunFail>, u64);
+
+/// Makes a run of `n` stores on a fresh cache. The block is cached and its page clean: so the page's mark is the first step,
+/// and each word is one more.
+fn after_three(rt: &impl Abort, alloc: Global, at: WordAt, n: usize) -> Run {
     if 26_112 <= at.0 {
-        Err("no such word")?;
+        panic!(rt; "no such word");
     }
     if 3 < n {
-        Err("too many words")?;
+        panic!(rt; "too many words");
     }
-    let mut v = cache(alloc)?;
+    let mut v = cache_of(rt, alloc, 32, Mishap::Nothing);
     let end = run_armed(&mut v, at, &[7; 3][..n]);
     let (mem, _) = v.into_machine().into_parts();
-    Ok((end, word_in(&mem, at.0)))
+    (end, word_in(&mem, at.0))
 }
 
 /// Where the armed store falls, how many words are stored, how that ends, and the word at the place.
-static RUNS: [(WordAt, usize, (Result<(), RunFail>, u64)); 4] = [
+static RUNS: [(WordAt, usize, Run); 4] = [
     (IN_SCRATCH, 2, (Ok(()), 0)),
     (IN_SCRATCH, 3, (Ok(()), 9)),
     (IN_FRAME, 2, (Ok(()), 0)),
@@ -255,10 +228,14 @@ static RUNS: [(WordAt, usize, (Result<(), RunFail>, u64)); 4] = [
 ];
 
 #[test]
-fn an_armed_store_falls_after_its_steps_and_not_before(rt: HostRuntime) -> Result<(), Fail> {
+fn an_armed_store_falls_after_its_steps_and_not_before(rt: HostRuntime) {
     for (k, (at, n, due)) in RUNS.iter().enumerate() {
-        let came = after_three(rt.alloc(), *at, *n)?;
-        same(&rt, "steps before", k, &came, due);
+        same(
+            &rt,
+            "steps before",
+            k,
+            &after_three(&rt, rt.alloc(), *at, *n),
+            due,
+        );
     }
-    Ok(())
 }
