@@ -2,24 +2,25 @@
 //! is run, and what came is printed under each line.
 #![tactic(auto)]
 
-mod core_requests;
+mod beside;
 mod faults;
+mod machines;
 mod session;
 mod walks;
 
-use crate::session::Session;
-use std::io::{self, Write};
+use crate::session::tell_script;
+use std::io::{self, Read, Write};
 
 fn main(rt: HostRuntime) -> io::Result<()> {
-    let mut session = Session::new(rt.alloc());
-    answer_all(&rt, &mut session)
+    let mut script = String::new(rt.alloc());
+    let mut out = Vec::new(rt.alloc());
+    answer(rt, &mut script, &mut out)
 }
 
-/// Answers the lines of the script.
-fn answer_all(rt: &HostRuntime, session: &mut Session) -> io::Result<()> {
-    for line in rt.lines(rt.alloc()) {
-        let told = session.step(line?.as_str())?;
-        rt.stdout().write_all(told.as_slice())?;
-    }
-    Ok(())
+/// Reads the script, and prints what it comes to, or as far as memory lasts.
+fn answer(rt: HostRuntime, script: &mut String, out: &mut Vec<u8>) -> io::Result<()> {
+    rt.stdin().read_to_string(script)?;
+    let outcome = tell_script(rt.alloc(), script.as_str(), out);
+    rt.stdout().write_all(out.as_slice())?;
+    Ok(outcome?)
 }

@@ -1,198 +1,311 @@
 //! A session: lines of a script say what is at hand, walk, and ask what came.
 
-use crate::core_requests::requests_of;
-use crate::faults::{Run, WalkEnd, drawn_run, faults_of};
-use crate::walks::{Mix, Walk, line_that_differs, walk_of};
+use crate::beside::{Beside, WalkEnd};
+use crate::machines::{How, Left, run_over};
+use crate::walks::{Mix, Run, line_that_differs, push_line};
 use pair_serving::ServeEnd;
-use rio_base::WordAt;
 use std::alloc::{AllocError, Global};
-use test_scripts::{first_word, number, numbers, tell, tell_line, tell_number, tell_shown};
+use test_scripts::{first_word, number, numbers, tell, tell_line, tell_number};
 use test_servers::{NO_BAD_BLOCK, Served, Sizes, serve_lines_of};
+
+/// What a line of the script begins with.
+#[derive(Clone, Copy)]
+enum Word {
+    Begin,
+    On,
+    Pieces,
+    Line,
+    Reading,
+    Walk,
+    Core,
+    Faults,
+    EachFault,
+    Writes,
+    FaultsOver,
+}
+
+static WORDS: [(&str, Word); 11] = [
+    ("==", Word::Begin),
+    ("on", Word::On),
+    ("pieces", Word::Pieces),
+    (">", Word::Line),
+    ("?", Word::Reading),
+    ("walk", Word::Walk),
+    ("core", Word::Core),
+    ("faults", Word::Faults),
+    ("each-fault", Word::EachFault),
+    ("writes", Word::Writes),
+    ("faults-over", Word::FaultsOver),
+];
+
+/// The word that this is.
+fn word_of(text: &str) -> Option<Word> {
+    for (known, word) in WORDS.iter() {
+        if *known == text {
+            return Some(*word);
+        }
+    }
+    None
+}
 
 /// What is at hand, and what the walks so far left.
 #[derive(Drop)]
-pub struct Session {
+struct Session {
     alloc: Global,
     /// How many bytes the source gives at most in one call.
     pieces: usize,
     /// The sizes and the lines of a run, and the lines that are read after each fault.
     run: Run,
+    /// The run that was drawn last.
+    drawn: Run,
+    /// The plain definition, and what came of the last run.
+    beside: Beside,
     /// How many blocks the last walk wrote.
     writes: u64,
     /// How many requests met a fault.
-    faults: u32,
+    faults: u64,
+}
+
+/// Tells each line of a script, and behind it what it comes to. Of a comment and of an empty line nothing is told.
+pub fn tell_script(alloc: Global, script: &str, out: &mut Vec<u8>) -> Result<(), AllocError> {
+    let mut session = Session::new(alloc)?;
+    session.tell_lines(script, out)
 }
 
 impl Session {
     /// No line, pieces of 4,096 bytes, and no size.
-    pub fn new(alloc: Global) -> Session {
-        Session {
+    fn new(alloc: Global) -> Result<Session, AllocError> {
+        let beside = Beside::new(alloc)?;
+        Ok(Session {
             alloc,
             pieces: 4096,
-            run: Run::new(alloc, Sizes::of(0, 0, 0)),
+            run: Run::new(alloc),
+            drawn: Run::new(alloc),
+            beside,
             writes: 0,
             faults: 0,
-        }
-    }
-
-    /// Does what a line of the script says. Answers the line, and behind it what it came to. Of a comment and of an empty
-    /// line nothing is told.
-    pub fn step(&mut self, line: &str) -> Result<Vec<u8>, AllocError> {
-        if line.is_empty() || line.starts_with('#') {
-            return Ok(Vec::new(self.alloc));
-        }
-        let mut out = Vec::from_slice(self.alloc, line.as_bytes())?;
-        out.push(b'\n')?;
-        let (word, rest) = first_word(line);
-        self.act(word, rest, &mut out)?;
-        Ok(out)
-    }
-
-    /// Does what a word says.
-    fn act(&mut self, word: &str, rest: &str, out: &mut Vec<u8>) -> Result<(), AllocError> {
-        match word {
-            "==" => self.begin(),
-            "on" | "pieces" => self.set(word, rest),
-            ">" => self.run.push_line(self.alloc, rest),
-            "?" => self.run.push_reading(self.alloc, rest),
-            "walk" => self.walk(rest, out),
-            "core" => self.ask_core(rest, out),
-            "faults" => self.meet_drawn_faults(rest, out),
-            "each-fault" => self.meet_each_fault(rest, out),
-            _ => self.answer(word, rest, out),
-        }
+        })
     }
 
     /// Begins anew.
-    fn begin(&mut self) -> Result<(), AllocError> {
-        *self = Session::new(self.alloc);
-        Ok(())
+    fn begin(&mut self) {
+        self.pieces = 4096;
+        self.run.begin(Sizes::of(0, 0, 0));
+        self.writes = 0;
+        self.faults = 0;
     }
 
-    /// Takes what a word sets.
-    fn set(&mut self, word: &str, rest: &str) -> Result<(), AllocError> {
-        let [first, second, third] = numbers(rest)?;
-        match word {
-            "on" => self.run.sizes = Sizes::of(first, second, third),
-            _ => self.pieces = first as usize,
+    /// Tells lines, and what they come to.
+    fn tell_lines(&mut self, script: &str, out: &mut Vec<u8>) -> Result<(), AllocError> {
+        for line in script.lines() {
+            if !line.is_empty() && !line.starts_with('#') {
+                self.tell(line, out)?;
+            }
         }
         Ok(())
     }
 
-    /// Tells what a word asks.
-    fn answer(&mut self, word: &str, rest: &str, out: &mut Vec<u8>) -> Result<(), AllocError> {
-        match word {
-            "writes" if self.writes > 0 => tell_line(out, b"some"),
-            "writes" => tell_line(out, b"none"),
-            "faults-over" => self.tell_faults_over(rest, out),
-            _ => tell_line(out, b"no such word"),
+    /// Tells a line, and what it comes to.
+    fn tell(&mut self, line: &str, out: &mut Vec<u8>) -> Result<(), AllocError> {
+        out.extend_from_slice(line.as_bytes())?;
+        out.push(b'\n')?;
+        let (word, rest) = first_word(line);
+        match word_of(word) {
+            Some(word) => self.act(word, rest, out),
+            None => tell_line(out, b"no such word"),
         }
+    }
+
+    /// Does what a word says.
+    fn act(&mut self, word: Word, rest: &str, out: &mut Vec<u8>) -> Result<(), AllocError> {
+        match word {
+            Word::Begin => {
+                self.begin();
+                Ok(())
+            }
+            Word::On => self.set_sizes(rest),
+            Word::Pieces => self.set_pieces(rest),
+            Word::Line => push_line(&mut self.run.lines, rest),
+            Word::Reading => push_line(&mut self.run.readings, rest),
+            Word::Walk => self.walk(rest, out),
+            Word::Core => self.ask_core(rest, out),
+            Word::Faults => self.meet_drawn_faults(rest, out),
+            Word::EachFault => self.meet_each_fault(rest, out),
+            Word::Writes => self.tell_writes(out),
+            Word::FaultsOver => self.tell_faults_over(rest, out),
+        }
+    }
+
+    /// Takes how many frames, blocks and inodes there are.
+    fn set_sizes(&mut self, rest: &str) -> Result<(), AllocError> {
+        let [frames, blocks, inodes] = numbers(rest)?;
+        self.run.sizes = Sizes::of(frames, blocks, inodes);
+        Ok(())
+    }
+
+    /// Takes how many bytes come at once.
+    fn set_pieces(&mut self, rest: &str) -> Result<(), AllocError> {
+        self.pieces = number(rest)? as usize;
+        Ok(())
+    }
+
+    /// Tells whether the last walk wrote a block.
+    fn tell_writes(&self, out: &mut Vec<u8>) -> Result<(), AllocError> {
+        if self.writes > 0 {
+            return tell_line(out, b"some");
+        }
+        tell_line(out, b"none")
     }
 
     /// Tells whether more requests than so many met a fault, and else how many did.
     fn tell_faults_over(&self, rest: &str, out: &mut Vec<u8>) -> Result<(), AllocError> {
-        let faults = u64::from(self.faults);
-        if faults > number(rest)? {
+        if self.faults > number(rest)? {
             return tell_line(out, b"yes");
         }
-        tell_number(out, "", faults)
+        tell_number(out, "", self.faults)
     }
 
     /// Serves a walk of drawn lines, and tells whether its replies are those of the plain definition. The rest of the
     /// line is the mix, the seed and how many lines are drawn.
     fn walk(&mut self, rest: &str, out: &mut Vec<u8>) -> Result<(), AllocError> {
         let (name, rest) = first_word(rest);
-        let [seed, count, _] = numbers(rest)?;
-        let Some(mix) = Mix::named(name) else {
-            return tell_line(out, b"no such mix");
-        };
-        let walk = walk_of(self.alloc, self.run.sizes, mix, seed, count)?;
-        self.serve(&walk, out)
+        match Mix::named(name) {
+            Some(mix) => self.walk_drawn(mix, rest, out),
+            None => tell_line(out, b"no such mix"),
+        }
     }
 
-    /// Serves a walk, and tells whether its replies are those that are wanted.
-    fn serve(&mut self, walk: &Walk, out: &mut Vec<u8>) -> Result<(), AllocError> {
-        let (alloc, sizes) = (self.alloc, self.run.sizes);
-        let input = walk.input.as_bytes();
-        let served = serve_lines_of(alloc, sizes, NO_BAD_BLOCK, input, self.pieces)?;
+    /// Draws a walk, serves it, and tells whether its replies are those of the plain definition.
+    fn walk_drawn(&mut self, mix: Mix, rest: &str, out: &mut Vec<u8>) -> Result<(), AllocError> {
+        let [seed, count, _] = numbers(rest)?;
+        self.drawn.begin(self.run.sizes);
+        self.drawn.draw(mix, seed, count)?;
+        self.beside.begin(self.run.sizes, true)?;
+        self.beside.answer_all(self.drawn.lines.as_str())?;
+        self.serve(out)
+    }
+
+    /// Serves the drawn walk, and tells whether its replies are those that are wanted.
+    fn serve(&mut self, out: &mut Vec<u8>) -> Result<(), AllocError> {
+        let input = self.drawn.lines.as_bytes();
+        let served = serve_lines_of(self.alloc, self.run.sizes, NO_BAD_BLOCK, input, self.pieces)?;
         self.writes = served.writes;
-        tell_served(&served, walk.wanted.as_slice(), out)
+        tell_served(&served, self.beside.wanted.as_slice(), out)
     }
 
     /// Makes the requests of the lines of a core, and tells the replies, where it stopped, and a word of memory.
     fn ask_core(&mut self, place: &str, out: &mut Vec<u8>) -> Result<(), AllocError> {
-        let at = number(place)?;
-        let asked = requests_of(self.alloc, self.run.sizes, self.run.lines.as_slice(), at)?;
-        tell(out, asked.text.as_slice())?;
-        tell_stop(asked.stopped_on, asked.trapped, out)?;
-        let word = asked.word;
-        tell_line(out, format!(in self.alloc; "word {word:x}")?.as_bytes())
+        let how = How::to_word(number(place)?);
+        let left = run_over(self.alloc, &self.run, how, &mut self.beside)?;
+        tell(out, self.beside.came.as_slice())?;
+        tell_stop(self.beside.end, self.beside.made, out)?;
+        tell_left(left, out)
     }
 
     /// Makes drawn requests over a disk of which each call fails whose number is a multiple of the second number, up to
     /// 300 calls. The first is the seed.
     fn meet_drawn_faults(&mut self, rest: &str, out: &mut Vec<u8>) -> Result<(), AllocError> {
         let [seed, each, _] = numbers(rest)?;
-        let run = drawn_run(self.alloc, self.run.sizes, seed)?;
-        let ended = faults_of(self.alloc, &run, each, 300)?;
-        self.take_faults(ended, out)
+        self.drawn.begin(self.run.sizes);
+        self.drawn.draw_on_files(seed)?;
+        let how = How::over_failing(each, 300);
+        run_over(self.alloc, &self.drawn, how, &mut self.beside)?;
+        self.count_faults();
+        tell_end(self.beside.end, self.beside.made, out)
     }
 
-    /// Takes how many requests met a fault, and tells whether all was as defined.
-    fn take_faults(
-        &mut self,
-        ended: Result<u32, WalkEnd>,
-        out: &mut Vec<u8>,
-    ) -> Result<(), AllocError> {
-        match ended {
-            Ok(met) => {
-                self.faults = self.faults.saturating_add(met);
-                tell_line(out, b"as defined")
-            }
-            Err(end) => tell_shown(out, &end),
-        }
+    /// Counts the faults of the last run, if it went to its end.
+    fn count_faults(&mut self) {
+        self.faults = self.faults.saturating_add(self.beside.met());
     }
 
     /// Makes the lines over a disk of which one call fails, each of the first in turn, until there is no such call.
     fn meet_each_fault(&mut self, rest: &str, out: &mut Vec<u8>) -> Result<(), AllocError> {
         for call in 1..number(rest)? {
-            match faults_of(self.alloc, &self.run, call, 1)? {
-                // The calls before were all there are.
-                Ok(0) => return tell_line(out, b"as defined"),
-                Ok(met) => self.faults = self.faults.saturating_add(met),
-                Err(end) => return tell_at_call(end, call, out),
+            if !self.meets_fault(call)? {
+                return tell_last(self.beside.end, self.beside.made, call, out);
             }
         }
         tell_line(out, b"as defined, and there are more calls")
     }
+
+    /// Makes the lines over a disk of which this call fails. Answers whether one met the fault, and all was as defined.
+    fn meets_fault(&mut self, call: u64) -> Result<bool, AllocError> {
+        let how = How::over_failing(call, 1);
+        run_over(self.alloc, &self.run, how, &mut self.beside)?;
+        self.count_faults();
+        Ok(self.beside.met() > 0)
+    }
 }
 
-/// Tells how a run ended of which this call failed.
-fn tell_at_call(end: WalkEnd, call: u64, out: &mut Vec<u8>) -> Result<(), AllocError> {
-    tell_shown(out, &end)?;
-    tell_number(out, "at call ", call)
+/// Tells how a run ended that made so many lines before.
+fn tell_end(end: Result<(), WalkEnd>, made: usize, out: &mut Vec<u8>) -> Result<(), AllocError> {
+    match end {
+        Ok(()) => tell_line(out, b"as defined"),
+        Err(WalkEnd::Stopped) => tell_line(out, b"Stopped"),
+        Err(WalkEnd::Differs) => tell_differs(made, out),
+        Err(WalkEnd::Faults) => tell_line(out, b"Faults"),
+        Err(WalkEnd::Memory) => tell_line(out, b"Memory"),
+    }
 }
 
-/// Tells on which line a core stopped, and where a wild store trapped, if so.
-fn tell_stop(
-    stopped_on: Option<usize>,
-    trapped: Option<WordAt>,
+/// Tells which line, counted from 0, is not answered as defined.
+fn tell_differs(line: usize, out: &mut Vec<u8>) -> Result<(), AllocError> {
+    let told = format!(in *out.allocator(); "Differs({line})")?;
+    tell_line(out, told.as_bytes())
+}
+
+/// Tells how the last of several runs ended, of which this call failed: there is no such call, or not all was as defined.
+fn tell_last(
+    end: Result<(), WalkEnd>,
+    made: usize,
+    call: u64,
     out: &mut Vec<u8>,
 ) -> Result<(), AllocError> {
-    if let Some(line) = stopped_on {
-        tell_number(out, "stopped on line ", line as u64)?;
+    tell_end(end, made, out)?;
+    match end {
+        Ok(()) => Ok(()),
+        Err(_) => tell_number(out, "at call ", call),
     }
-    match trapped {
-        Some(at) => tell_number(out, "trapped ", u64::from(at.0)),
-        None => Ok(()),
+}
+
+/// Tells on which line a core stopped, if so.
+fn tell_stop(end: Result<(), WalkEnd>, made: usize, out: &mut Vec<u8>) -> Result<(), AllocError> {
+    match end {
+        Ok(()) => Ok(()),
+        Err(WalkEnd::Stopped) => {
+            tell_number(out, "stopped on line ", made.saturating_add(1) as u64)
+        }
+        Err(_) => Err(AllocError),
     }
+}
+
+/// Tells where a wild store trapped, if so, and a word of memory.
+fn tell_left(left: Left, out: &mut Vec<u8>) -> Result<(), AllocError> {
+    if let Some(at) = left.trapped {
+        tell_number(out, "trapped ", u64::from(at.0))?;
+    }
+    tell_word(left.word, out)
+}
+
+/// Tells a word of memory.
+fn tell_word(word: u64, out: &mut Vec<u8>) -> Result<(), AllocError> {
+    let told = format!(in *out.allocator(); "word {word:x}")?;
+    tell_line(out, told.as_bytes())
 }
 
 /// Tells whether a run that was served gave the replies that are wanted.
 fn tell_served(served: &Served, wanted: &[u8], out: &mut Vec<u8>) -> Result<(), AllocError> {
-    match line_that_differs(served.text.as_slice(), wanted) {
-        Some(line) => tell_number(out, "differs in line ", line as u64),
-        None if served.end == ServeEnd::End => tell_line(out, b"as defined"),
-        None => tell_line(out, b"did not end"),
+    let came = served.text.as_slice();
+    if came != wanted {
+        return tell_number(
+            out,
+            "differs in line ",
+            line_that_differs(came, wanted) as u64,
+        );
+    }
+    match served.end {
+        ServeEnd::End => tell_line(out, b"as defined"),
+        _ => tell_line(out, b"did not end"),
     }
 }

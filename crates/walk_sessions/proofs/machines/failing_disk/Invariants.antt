@@ -1,6 +1,6 @@
 use Rattle.block_disk.specs.MemDisks.{state_of}
 use Rattle.test_servers.specs.FreshMachines.{IsFreshDisk}
-use Rattle.walk_sessions.proofs.faults.failing_disk.Given as goal
+use Rattle.walk_sessions.proofs.machines.failing_disk.Given as goal
 
 -- it has the fresh volume
 abbrev pub invariant-loop-n : goal.invariant-loop-n
