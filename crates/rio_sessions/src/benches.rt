@@ -1,18 +1,16 @@
 //! What a bench kept of its machine, beside the image before a run and after it.
 
+use crate::bytes::{tell_whether, word_at};
 use rio_base::Page;
-use rio_bench::{KeepBench, KeptEnd};
+use rio_bench::{KeepBench, KeptEnd, KeptStart};
 use std::alloc::AllocError;
 use test_scripts::tell_line;
-
-/// Bytes of a word.
-const WORD_BYTES: usize = 8;
 
 /// Words of a page.
 const PAGE_WORDS: u32 = 512;
 
-/// Bytes of a page.
-const PAGE_BYTES: usize = 4096;
+/// Bytes of a word.
+const WORD_BYTES: usize = 8;
 
 /// Tells whether the machine that a bench made began with the words of the image before the run, whether it was left with
 /// those of the image after it, and whether it was stopped.
@@ -22,46 +20,46 @@ pub fn tell_kept(
     after: &[u8],
     out: &mut Vec<u8>,
 ) -> Result<(), AllocError> {
-    tell_line(out, beginning(bench, before).as_bytes())?;
+    match bench.began() {
+        Some(began) => tell_began(began, before, out)?,
+        None => tell_line(out, b"no machine began")?,
+    }
     match bench.left() {
         Some(left) => tell_left(left, after, out),
         None => tell_line(out, b"no machine was left"),
     }
 }
 
-/// What a machine began with, beside the image before the run.
-fn beginning(bench: &KeepBench, before: &[u8]) -> &'static str {
-    match bench.began() {
-        Some(began) if are_words(before, began.words.as_slice()) => "began with the image",
-        Some(_) => "began with other words",
-        None => "no machine began",
-    }
+/// Tells how a machine began, beside the image before the run.
+fn tell_began(began: &KeptStart, before: &[u8], out: &mut Vec<u8>) -> Result<(), AllocError> {
+    let words = began.words.as_slice();
+    let is_image = before.len() == words.len().saturating_mul(WORD_BYTES)
+        && are_words(before, 0, words);
+    tell_whether(
+        is_image,
+        b"began with the image",
+        b"began with other words",
+        out,
+    )
 }
 
 /// Tells how a machine was left, beside the image after the run.
 fn tell_left(left: &KeptEnd, after: &[u8], out: &mut Vec<u8>) -> Result<(), AllocError> {
-    let image: &[u8] = if are_pages(after, left) {
-        b"left with the image"
-    } else {
-        b"left with other words"
-    };
-    tell_line(out, image)?;
-    let stopped: &[u8] = if left.stopped {
-        b"stopped"
-    } else {
-        b"not stopped"
-    };
-    tell_line(out, stopped)
+    tell_whether(
+        are_pages(after, left),
+        b"left with the image",
+        b"left with other words",
+        out,
+    )?;
+    tell_whether(left.stopped, b"stopped", b"not stopped", out)
 }
 
-/// Whether these are the bytes of these words.
-fn are_words(bytes: &[u8], words: &[u64]) -> bool {
-    if bytes.len() != words.len().saturating_mul(WORD_BYTES) {
-        return false;
-    }
-    for (eight, word) in bytes.chunks_exact(WORD_BYTES).zip(words.iter()) {
-        if *eight != *word.to_le_bytes().as_slice() {
-            return false;
+/// Whether these words are among bytes, from the place of a word on.
+fn are_words(bytes: &[u8], from: usize, words: &[u64]) -> bool {
+    for k in 0..words.len() {
+        match word_at(bytes, from.saturating_add(k)) {
+            Some(word) if word == words[k] => {}
+            _ => return false,
         }
     }
     true
@@ -70,13 +68,13 @@ fn are_words(bytes: &[u8], words: &[u64]) -> bool {
 /// Whether these are the bytes of the memory that a machine was left with.
 fn are_pages(bytes: &[u8], left: &KeptEnd) -> bool {
     let pages = left.len() / PAGE_WORDS;
-    if bytes.len() / PAGE_BYTES != pages as usize || bytes.len() % PAGE_BYTES != 0 {
+    let words = pages as usize * PAGE_WORDS as usize;
+    if bytes.len() != words * WORD_BYTES {
         return false;
     }
     for p in 0..pages {
-        let from = p as usize * PAGE_BYTES;
-        let page = bytes.get(from..from + PAGE_BYTES).unwrap_or(&[]);
-        if !are_words(page, left.frame(Page(p))) {
+        let from = p as usize * PAGE_WORDS as usize;
+        if !are_words(bytes, from, left.frame(Page(p))) {
             return false;
         }
     }

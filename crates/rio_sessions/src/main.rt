@@ -2,25 +2,40 @@
 #![tactic(auto)]
 
 mod benches;
-mod ends;
+mod bytes;
 mod files;
 mod session;
+mod shelf;
 mod stops;
 mod walks;
+mod words;
 
 use crate::session::Session;
+use crate::shelf::PairNames;
 use std::io::{self, Write};
 
 fn main(rt: HostRuntime) -> io::Result<()> {
-    let mut session = Session::new(rt.alloc());
-    answer_all(&rt, &mut session)
+    let names = PairNames::new(rt.alloc())?;
+    tell_session(rt, &names)
 }
 
-/// Answers the lines of the script.
-fn answer_all(rt: &HostRuntime, session: &mut Session) -> io::Result<()> {
+/// Tells what the script comes to.
+fn tell_session(rt: HostRuntime, names: &PairNames) -> io::Result<()> {
+    let mut session = Session::new(rt.alloc(), names)?;
+    tell_lines(rt, &mut session)?;
+    rt.stdout().write_all(session.told())
+}
+
+/// Does what the lines of the script say.
+fn tell_lines(rt: HostRuntime, session: &mut Session<'_>) -> io::Result<()> {
     for line in rt.lines(rt.alloc()) {
-        let told = session.step(line?.as_str())?;
-        rt.stdout().write_all(told.as_slice())?;
+        tell_line(session, line)?;
     }
     Ok(())
+}
+
+/// Does what a line says, where it could be read.
+fn tell_line(session: &mut Session<'_>, line: io::Result<String>) -> io::Result<()> {
+    let line = line?;
+    Ok(session.step(line.as_str())?)
 }

@@ -1,55 +1,21 @@
 //! A run that is stopped before each of its steps, each time over the same pair, and the run behind it that is stopped too.
 
-use crate::ends::Ended;
-use crate::files::{PairBytes, Shelf, words_of};
-use rio_fakes::{MemSink, MemSource};
+use crate::bytes::same;
+use crate::shelf::{PairBytes, PairNames, Shelf};
 use std::alloc::{AllocError, Global};
 use test_scripts::{tell, tell_line, tell_number};
 
 /// The most steps of a run.
 const MOST: u64 = 100_000;
 
-/// How many bytes a source gives at most in one call.
-const PIECE: usize = 4096;
-
-/// What came of a run.
-#[derive(Drop)]
-struct Ran {
-    ended: Ended,
-    pair: PairBytes,
-}
-
-/// The words that serve a pair, with this stop.
-fn serving(alloc: Global, stop: Option<u64>) -> Result<Vec<String>, AllocError> {
-    let Some(n) = stop else {
-        return words_of(alloc, "serve m d");
-    };
-    let command = format!(in alloc; "serve m d --stop {n}")?;
-    words_of(alloc, command.as_str())
-}
-
-/// Serves these lines over a pair, with this stop.
-fn served(
-    alloc: Global,
-    pair: &PairBytes,
-    input: &[u8],
-    stop: Option<u64>,
-) -> Result<Ran, AllocError> {
-    let words = serving(alloc, stop)?;
-    let mut shelf = Shelf::holding(alloc, pair)?;
-    let source = MemSource::new(alloc, input, PIECE)?;
-    let ended = shelf.run(&words, source, MemSink::new(alloc));
-    let pair = shelf.pair()?;
-    Ok(Ran { ended, pair })
-}
-
 /// A run that is stopped, and what is found behind its stops.
 #[derive(Drop)]
-pub struct StoppedRun {
+pub struct StoppedRun<'a> {
     alloc: Global,
+    shelf: Shelf<'a>,
     /// The lines of the run, and those that are read behind it.
-    input: Vec<u8>,
-    reading: Vec<u8>,
+    input: &'a [u8],
+    reading: &'a [u8],
     /// Of so many steps of the run behind it one has a stop before it.
     second: u64,
     /// What the last stop of the run left. Before the first one it has no byte.
@@ -60,18 +26,19 @@ pub struct StoppedRun {
     wrong: Option<u64>,
 }
 
-impl StoppedRun {
+impl<'a> StoppedRun<'a> {
     /// A run of these lines, behind which those are read.
     pub fn new(
         alloc: Global,
-        input: &[u8],
-        reading: &[u8],
+        names: &'a PairNames,
+        input: &'a [u8],
+        reading: &'a [u8],
         second: u64,
-    ) -> Result<StoppedRun, AllocError> {
-        let input = Vec::from_slice(alloc, input)?;
-        let reading = Vec::from_slice(alloc, reading)?;
+    ) -> Result<StoppedRun<'a>, AllocError> {
+        let shelf = Shelf::new(alloc, names)?;
         Ok(StoppedRun {
             alloc,
+            shelf,
             input,
             reading,
             second,
@@ -100,30 +67,24 @@ impl StoppedRun {
     /// Stops the run over a pair after so many steps, and answers whether it ended by itself. A stop that leaves the pair that the
     /// one before it left is not gone into again.
     fn stop_at(&mut self, pair: &PairBytes, steps: u64) -> Result<bool, AllocError> {
-        let ran = served(self.alloc, pair, &self.input, Some(steps))?;
-        self.go_on(&ran, steps)?;
-        self.last = ran.pair;
-        Ok(ran.ended.status == 0)
-    }
-
-    /// Looks at a run that was stopped after so many steps, and runs over the pair that it left.
-    fn go_on(&mut self, ran: &Ran, steps: u64) -> Result<(), AllocError> {
-        self.look_at_end(&ran.ended, steps)?;
-        if self.last.is(&ran.pair) {
-            return Ok(());
+        self.shelf.hold(pair)?;
+        let ended = self.serve_until(self.input, steps)?;
+        if !self.shelf.has_image(&self.last) || !self.shelf.has_disk(&self.last) {
+            self.stop_next(steps)?;
         }
-        self.stop_next(&ran.pair, steps)
+        Ok(ended)
     }
 
-    /// Runs without a line over a pair that a stop after so many steps left, stopped before the steps of its reboot too, and reads
+    /// Runs without a line over the pair that a stop after so many steps left, stopped before the steps of its reboot too, and reads
     /// behind each stop.
-    fn stop_next(&mut self, pair: &PairBytes, steps: u64) -> Result<(), AllocError> {
-        self.read(pair)?;
+    fn stop_next(&mut self, steps: u64) -> Result<(), AllocError> {
+        self.shelf.copy_pair(&mut self.last)?;
+        self.read()?;
         let one_of = self.second.max(1);
         let first = steps % one_of;
         for turn in 0..MOST {
             let n = turn.saturating_mul(one_of).saturating_add(first);
-            if self.stop_next_at(pair, n)? {
+            if self.stop_next_at(n)? {
                 break;
             }
         }
@@ -131,57 +92,72 @@ impl StoppedRun {
     }
 
     /// Stops the run without a line after so many steps, and reads behind that. Answers whether it ended by itself.
-    fn stop_next_at(&mut self, pair: &PairBytes, steps: u64) -> Result<bool, AllocError> {
-        let ran = served(self.alloc, pair, &[], Some(steps))?;
-        self.read_behind(&ran, steps)?;
-        Ok(ran.ended.status == 0)
+    fn stop_next_at(&mut self, steps: u64) -> Result<bool, AllocError> {
+        self.shelf.hold(&self.last)?;
+        let ended = self.serve_until(b"", steps)?;
+        self.read()?;
+        Ok(ended)
     }
 
-    /// Looks at a run that was stopped after so many steps, and reads over the pair that it left.
-    fn read_behind(&mut self, ran: &Ran, steps: u64) -> Result<(), AllocError> {
-        self.look_at_end(&ran.ended, steps)?;
-        self.read(&ran.pair)
+    /// Serves lines until a stop after so many steps. Answers whether that ended by itself.
+    fn serve_until(&mut self, input: &[u8], steps: u64) -> Result<bool, AllocError> {
+        let command = numbered(self.alloc, "serve m d --stop ", steps, "")?;
+        self.shelf.serve(command.as_str(), input)?;
+        self.look_at_end(steps)
     }
 
-    /// A run that was stopped after so many steps tells it, and has status 10.
-    fn look_at_end(&mut self, ended: &Ended, steps: u64) -> Result<(), AllocError> {
-        let line = format!(in self.alloc; "stopped {steps}\n")?;
-        let stopped = ended.text().ends_with(line.as_bytes());
+    /// A run that was stopped after so many steps tells it, and has status 10. Answers whether it ended by itself.
+    fn look_at_end(&mut self, steps: u64) -> Result<bool, AllocError> {
+        let line = numbered(self.alloc, "stopped ", steps, "\n")?;
+        let stopped = self.shelf.text().ends_with(line.as_bytes());
         let status: u8 = if stopped { 10 } else { 0 };
-        if ended.status != status {
+        if self.shelf.status != status {
             self.wrong = Some(steps);
         }
-        Ok(())
+        Ok(self.shelf.status == 0)
     }
 
-    /// Keeps what is read over a pair.
-    fn read(&mut self, pair: &PairBytes) -> Result<(), AllocError> {
-        let ran = served(self.alloc, pair, &self.reading, None)?;
-        self.keep(ran.ended.text())
-    }
-
-    /// Keeps a text that was read, unless it is kept already.
-    fn keep(&mut self, text: &[u8]) -> Result<(), AllocError> {
-        for other in self.found.iter() {
-            if other.as_slice() == text {
-                return Ok(());
-            }
+    /// Reads over the pair, and keeps what was read, unless it is kept already.
+    fn read(&mut self) -> Result<(), AllocError> {
+        self.shelf.serve("serve m d", self.reading)?;
+        if is_among(self.found.as_slice(), self.shelf.text()) {
+            return Ok(());
         }
-        let text = Vec::from_slice(self.alloc, text)?;
+        let text = Vec::from_slice(self.alloc, self.shelf.text())?;
         Ok(self.found.push(text)?)
     }
 
     /// Tells what was read, with `or` between.
     fn tell(&self, out: &mut Vec<u8>) -> Result<(), AllocError> {
-        if let Some(steps) = self.wrong {
-            return tell_number(out, "ended otherwise after so many steps: ", steps);
+        match self.wrong {
+            Some(steps) => tell_number(out, "ended otherwise after so many steps: ", steps),
+            None => tell_texts(self.found.as_slice(), out),
         }
-        for (k, text) in self.found.iter().enumerate() {
-            if k > 0 {
-                tell_line(out, b"or")?;
-            }
-            tell(out, text.as_slice())?;
-        }
-        Ok(())
     }
+}
+
+/// Whether a text is one of some.
+fn is_among(texts: &[Vec<u8>], text: &[u8]) -> bool {
+    for other in texts.iter() {
+        if same(other.as_slice(), text) {
+            return true;
+        }
+    }
+    false
+}
+
+/// Tells texts, with `or` between.
+fn tell_texts(texts: &[Vec<u8>], out: &mut Vec<u8>) -> Result<(), AllocError> {
+    for k in 0..texts.len() {
+        if k > 0 {
+            tell_line(out, b"or")?;
+        }
+        tell(out, texts[k].as_slice())?;
+    }
+    Ok(())
+}
+
+/// A number between two texts.
+fn numbered(alloc: Global, front: &str, n: u64, end: &str) -> Result<String, AllocError> {
+    format!(in alloc; "{front}{n}{end}")
 }

@@ -1,7 +1,8 @@
 //! Drawn requests, which are served in several runs and answered by the plain definition in one go.
 
+use crate::bytes::{push_line, same};
 use std::alloc::{AllocError, Global};
-use test_scripts::{Draws, drawn_flush, drawn_line, tell_line, tell_number};
+use test_scripts::{Draws, drawn_flush, drawn_line, tell, tell_line};
 use test_servers::{Plain, Sizes};
 
 /// One time in so many a flush stands before a drawn line.
@@ -15,11 +16,14 @@ pub struct Walk {
     /// Where lines are drawn, and the flushes between them.
     draws: Draws,
     flush_draws: Draws,
-    lines: Vec<String>,
+    /// How many lines are still to be drawn, but for flushes.
+    left: u64,
+    /// Whether a flush was drawn before the next one, if there is to be one.
+    is_flush_drawn: bool,
+    /// The lines of the part that was drawn last.
+    part: Vec<u8>,
     wanted: Vec<u8>,
     came: Vec<u8>,
-    /// How many lines were taken.
-    taken: usize,
     /// Where the lines are cut.
     cuts: Draws,
     /// A part has fewer lines than this.
@@ -27,8 +31,8 @@ pub struct Walk {
 }
 
 impl Walk {
-    /// Draws `count` lines, and flushes between them, to be taken in so many parts.
-    pub fn drawn(
+    /// A walk of `count` lines and flushes between them, which are to be drawn in so many parts.
+    pub fn new(
         alloc: Global,
         sizes: Sizes,
         seed: u64,
@@ -37,57 +41,67 @@ impl Walk {
     ) -> Result<Walk, AllocError> {
         let plain = Plain::new(alloc, sizes)?;
         let most = count.saturating_mul(2) / parts.max(1);
-        let mut walk = Walk {
+        Ok(Walk {
             alloc,
             plain,
             draws: Draws::new(seed),
             flush_draws: Draws::new(seed.wrapping_add(1)),
-            lines: Vec::new(alloc),
+            left: count,
+            is_flush_drawn: false,
+            part: Vec::new(alloc),
             wanted: Vec::new(alloc),
             came: Vec::new(alloc),
-            taken: 0,
             cuts: Draws::new(seed.wrapping_add(2)),
             most: u32::try_from(most).unwrap_or(u32::MAX),
-        };
-        for _ in 0..count {
-            walk.draw()?;
-        }
-        Ok(walk)
+        })
     }
 
-    /// Draws a line more, and sometimes a flush before it.
-    fn draw(&mut self) -> Result<(), AllocError> {
-        if self.flush_draws.below(FLUSHES) == 0 {
-            let flush = drawn_flush(self.alloc, &mut self.flush_draws)?;
-            self.push(flush)?;
+    /// Draws the next lines: as many as are drawn, or all that are left.
+    pub fn draw_part(&mut self, is_last: bool) -> Result<(), AllocError> {
+        self.part = Vec::new(self.alloc);
+        for _ in 0..self.next_count(is_last) {
+            self.draw()?;
         }
-        let line = drawn_line(self.alloc, &mut self.draws, 0)?;
-        self.push(line)
-    }
-
-    /// A line more.
-    fn push(&mut self, line: String) -> Result<(), AllocError> {
-        self.plain.answer_line(line.as_str(), &mut self.wanted)?;
-        Ok(self.lines.push(line)?)
-    }
-
-    /// The bytes of the next lines: of as many as are drawn, or of all that are left.
-    pub fn next_part(&mut self, is_last: bool) -> Result<Vec<u8>, AllocError> {
-        let count = self.next_count(is_last);
-        let mut part = Vec::new(self.alloc);
-        for line in self.lines.iter().skip(self.taken).take(count) {
-            push_line(&mut part, line.as_str())?;
-        }
-        self.taken = self.taken.saturating_add(count);
-        Ok(part)
+        Ok(())
     }
 
     /// How many lines the next part has at most.
-    fn next_count(&mut self, is_last: bool) -> usize {
+    fn next_count(&mut self, is_last: bool) -> u64 {
         if is_last {
-            return self.lines.len();
+            return self.left.saturating_mul(2);
         }
-        self.cuts.below(self.most.max(1)) as usize
+        u64::from(self.cuts.below(self.most.max(1)))
+    }
+
+    /// Draws a line more, or a flush before it, unless all were drawn.
+    fn draw(&mut self) -> Result<(), AllocError> {
+        if self.left == 0 {
+            return Ok(());
+        }
+        if self.is_flush_next() {
+            let flush = drawn_flush(self.alloc, &mut self.flush_draws)?;
+            return self.push(flush.as_str());
+        }
+        self.left = self.left.saturating_sub(1);
+        let line = drawn_line(self.alloc, &mut self.draws, 0)?;
+        self.push(line.as_str())
+    }
+
+    /// Whether a flush stands before the next line, and was not drawn yet.
+    fn is_flush_next(&mut self) -> bool {
+        self.is_flush_drawn = !self.is_flush_drawn && self.flush_draws.below(FLUSHES) == 0;
+        self.is_flush_drawn
+    }
+
+    /// A line more.
+    fn push(&mut self, line: &str) -> Result<(), AllocError> {
+        self.plain.answer_line(line, &mut self.wanted)?;
+        push_line(&mut self.part, line)
+    }
+
+    /// The lines of the part that was drawn last.
+    pub fn part(&self) -> &[u8] {
+        self.part.as_slice()
     }
 
     /// Takes what came of a part.
@@ -95,36 +109,13 @@ impl Walk {
         self.came.extend_from_slice(text)
     }
 
-    /// Tells whether the replies that came are those of the plain definition.
+    /// Tells whether the replies that came are those of the plain definition, and both where they are not.
     pub fn tell(&self, out: &mut Vec<u8>) -> Result<(), AllocError> {
-        match self.line_that_differs() {
-            Some(line) => tell_number(out, "differs in line ", line as u64),
-            None => tell_line(out, b"as defined"),
+        if same(self.came.as_slice(), self.wanted.as_slice()) {
+            return tell_line(out, b"as defined");
         }
+        tell(out, self.came.as_slice())?;
+        tell_line(out, b"came in place of")?;
+        tell(out, self.wanted.as_slice())
     }
-
-    /// The number of the first reply, from 1, that is not the one that is wanted, or `None` where all are.
-    fn line_that_differs(&self) -> Option<usize> {
-        let came = self.came.as_slice();
-        let wanted = self.wanted.as_slice();
-        if came == wanted {
-            return None;
-        }
-        let mut line = 1usize;
-        for (a, b) in came.iter().zip(wanted.iter()) {
-            if a != b {
-                return Some(line);
-            }
-            if *a == b'\n' {
-                line = line.saturating_add(1);
-            }
-        }
-        Some(line)
-    }
-}
-
-/// Puts a line behind others.
-fn push_line(lines: &mut Vec<u8>, line: &str) -> Result<(), AllocError> {
-    lines.extend_from_slice(line.as_bytes())?;
-    Ok(lines.push(b'\n')?)
 }
