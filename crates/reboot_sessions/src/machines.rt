@@ -35,8 +35,11 @@ const MOST_DISK_WORDS: usize = 16_777_216;
 /// How many bytes a source gives at most in one call.
 const PIECE: usize = 65_536;
 
+/// The byte that fills blocks on their way to the disk. No page of a script is full of it.
+const FILLED: u8 = 0xa5;
+
 /// What befalls a machine.
-#[derive(Clone, Copy, Debug)]
+#[derive(Clone, Copy)]
 pub enum Cut {
     Nothing,
     /// It stops before its next step once it has made so many.
@@ -50,48 +53,13 @@ pub enum Cut {
 /// How a reboot ended.
 pub type Ended = Result<BootReport, BootFail>;
 
-/// What came of a machine that was booted and served.
-#[derive(Drop)]
-pub struct Ran {
-    /// How its reboot ended.
-    pub end: Ended,
-    /// How many steps were made, those of the reboot among them.
-    pub steps: u64,
-    /// The memory and the disk that it left.
-    pub pair: Pair,
-    /// The disk as it read before it crashed.
-    read: Vec<u64>,
-    sink: MemSink,
-}
-
-impl Ran {
-    /// The replies, a line each.
-    pub fn replies(&self) -> &[u8] {
-        self.sink.bytes().as_slice()
-    }
-
-    /// The memory that it left, and the disk as it read before it crashed.
-    fn as_read(&self, alloc: Global) -> Result<Pair, AllocError> {
-        let memory = Vec::from_slice(alloc, &self.pair.memory)?;
-        let disk = Vec::from_slice(alloc, &self.read)?;
-        Ok(Pair { memory, disk })
-    }
-}
-
-/// How a reboot ended, and how many steps it took.
-#[derive(Clone, Copy, Debug)]
-pub struct Booted {
-    pub end: Ended,
-    pub steps: u64,
-}
-
 /// What a look at a machine found.
-#[derive(Drop)]
+#[derive(Clone, Copy)]
 pub struct Looked {
     /// What there is on its volume, or why that is not told.
     pub found: Result<Census, BootFail>,
-    /// The memory and the disk that it left.
-    pub pair: Pair,
+    /// Whether memory and disk are as they were.
+    pub is_kept: bool,
 }
 
 /// A machine whose memory is an image with one page of scratch, and no page is open.
@@ -105,50 +73,227 @@ pub struct Bootable {
 
 impl Bootable {
     /// The machine of a pair, which this befalls. The error means that there was no room for it, or that the pair has no image.
-    pub fn new(alloc: Global, pair: &Pair, cut: Cut) -> Result<Bootable, AllocError> {
-        let memory = Vec::from_slice(alloc, &pair.memory)?;
-        if !has_pages(&memory) {
+    fn new(alloc: Global, pair: &Pair, cut: Cut) -> Result<Bootable, AllocError> {
+        if !has_pages(&pair.memory) {
             return Err(AllocError);
         }
         let disk = disk_of(alloc, &pair.disk, cut)?;
+        let memory = Vec::from_slice(alloc, &pair.memory)?;
         let machine = board_of(memory, disk, stop_after(cut));
         if !is_image(&machine) {
             return Err(AllocError);
         }
         Ok(Bootable { machine })
     }
+}
 
-    /// Boots it, and serves nothing. The error is want of memory for what is beside the machine.
-    pub fn boot(self, alloc: Global) -> Result<Booted, AllocError> {
-        let mut source = MemSource::new(alloc, &[], PIECE)?;
-        let mut sink = MemSink::new(alloc);
-        let (end, machine) = self.serve(alloc, &mut source, &mut sink);
-        let steps = machine.steps();
-        Ok(Booted { end, steps })
-    }
+/// Room in which machines are booted and served one after another, and what came of the last one.
+#[derive(Drop)]
+pub struct Room {
+    alloc: Global,
+    /// The lines that are served.
+    source: MemSource,
+    sink: MemSink,
+    /// How the reboot ended.
+    pub end: Ended,
+    /// How many steps were made, those of the reboot among them.
+    pub steps: u64,
+    /// The disk as it read before it crashed.
+    read: Vec<u64>,
+    /// The words of a block.
+    block: Vec<u64>,
+}
 
-    /// Looks at it and stores nothing. The error is want of memory for what is beside the machine.
-    pub fn look(self, alloc: Global) -> Result<Looked, AllocError> {
-        let Bootable { machine } = self;
-        let (found, machine) = looked_at(alloc, machine);
-        let (memory, disk) = machine.into_parts();
-        let disk = words_of(alloc, disk, DiskChoice::AsRead)?.left;
-        let memory = memory.into_words();
-        Ok(Looked {
-            found,
-            pair: Pair { memory, disk },
+impl Room {
+    /// Room in which no machine was booted yet.
+    pub fn new(alloc: Global) -> Result<Room, AllocError> {
+        let block = vec![in alloc; 0; PAGE_WORDS]?;
+        let source = MemSource::new(alloc, &[], PIECE)?;
+        Ok(Room {
+            alloc,
+            source,
+            sink: MemSink::new(alloc),
+            end: Err(BootFail::Memory),
+            steps: 0,
+            read: Vec::new(alloc),
+            block,
         })
     }
 
-    /// Boots it, and serves the lines of a source.
-    fn serve(
-        self,
-        alloc: Global,
-        source: &mut MemSource,
-        sink: &mut MemSink,
-    ) -> (Ended, PairBoard) {
-        let Bootable { machine } = self;
-        boot_and_serve(alloc, machine, source, sink)
+    /// The replies, a line each.
+    pub fn replies(&self) -> &[u8] {
+        self.sink.bytes().as_slice()
+    }
+
+    /// The machine of a pair, which this befalls, and that is to serve these lines.
+    pub fn machine(&mut self, pair: &Pair, cut: Cut, input: &[u8]) -> Result<Bootable, AllocError> {
+        self.source = MemSource::new(self.alloc, input, PIECE)?;
+        self.sink = MemSink::new(self.alloc);
+        Bootable::new(self.alloc, pair, cut)
+    }
+
+    /// Boots a machine, and serves the lines.
+    pub fn serve(&mut self, machine: Bootable) -> PairBoard {
+        let Bootable { machine } = machine;
+        let (end, machine) = boot_and_serve(self.alloc, machine, &mut self.source, &mut self.sink);
+        self.end = end;
+        self.steps = machine.steps();
+        machine
+    }
+
+    /// Boots the machine of a pair, and serves lines. What it left is let go.
+    pub fn pass(&mut self, pair: &Pair, input: &[u8]) -> Result<(), AllocError> {
+        let machine = self.machine(pair, Cut::Nothing, input)?;
+        let _machine = self.serve(machine);
+        Ok(())
+    }
+
+    /// How many steps a machine of a pair takes to boot and to serve lines.
+    pub fn steps_of(&mut self, pair: &Pair, input: &[u8]) -> Result<u64, AllocError> {
+        self.pass(pair, input)?;
+        Ok(self.steps)
+    }
+
+    /// Boots the machine of a pair, which this befalls, serves lines, and takes it apart. What is pending then reads as is chosen.
+    pub fn run(
+        &mut self,
+        pair: &Pair,
+        cut: Cut,
+        input: &[u8],
+        choice: DiskChoice,
+    ) -> Result<Pair, AllocError> {
+        let machine = self.machine(pair, cut, input)?;
+        let machine = self.serve(machine);
+        self.taken_apart(machine, choice)
+    }
+
+    /// Looks at the machine of a pair, and stores nothing.
+    pub fn look(&mut self, pair: &Pair) -> Result<Looked, AllocError> {
+        let Bootable { machine } = Bootable::new(self.alloc, pair, Cut::Nothing)?;
+        let (found, machine) = looked_at(self.alloc, machine);
+        let left = self.taken_apart(machine, DiskChoice::AsRead)?;
+        Ok(Looked {
+            found,
+            is_kept: left.is(pair),
+        })
+    }
+
+    /// The memory and the disk that a machine left.
+    fn taken_apart(&mut self, machine: PairBoard, choice: DiskChoice) -> Result<Pair, AllocError> {
+        let (memory, disk) = machine.into_parts();
+        let disk = self.crashed(disk, choice)?;
+        let memory = memory.into_words();
+        Ok(Pair { memory, disk })
+    }
+
+    /// The words of a disk after it crashed so. What it read before is kept.
+    fn crashed(&mut self, disk: MemDisk, choice: DiskChoice) -> Result<Vec<u64>, AllocError> {
+        let mut disk = disk;
+        disk.drop_fails();
+        self.read = self.all_words(&mut disk)?;
+        disk.after_crash(choice);
+        self.all_words(&mut disk)
+    }
+
+    /// The words of a disk as it reads. No call of it is to fail.
+    fn all_words(&mut self, disk: &mut MemDisk) -> Result<Vec<u64>, AllocError> {
+        let mut words = Vec::new(self.alloc);
+        for b in 0..disk.count() {
+            read_block(disk, b, &mut self.block, &mut words)?;
+        }
+        Ok(words)
+    }
+
+    /// Boots the machine of a pair, which this befalls, serves lines, and takes what it may leave: a pair for each thing that the
+    /// disk may make of what is pending, without those that are the same as one before. Nothing is pending where the disk reads
+    /// the same after a crash that fills what is.
+    pub fn leave(
+        &mut self,
+        pair: &Pair,
+        cut: Cut,
+        input: &[u8],
+        left: &mut Vec<Pair>,
+    ) -> Result<(), AllocError> {
+        let filled = self.run(pair, cut, input, DiskChoice::Filled(FILLED))?;
+        if self.read.as_slice() != filled.disk.as_slice() {
+            left.push(Pair::of(self.alloc, &filled.memory, &self.read)?)?;
+            self.leave_synced(pair, cut, input, left)?;
+        }
+        Ok(left.push(filled)?)
+    }
+
+    /// Takes what the machine of a pair leaves if what is pending is lost, where that is not what was taken before.
+    fn leave_synced(
+        &mut self,
+        pair: &Pair,
+        cut: Cut,
+        input: &[u8],
+        left: &mut Vec<Pair>,
+    ) -> Result<(), AllocError> {
+        let synced = self.run(pair, cut, input, DiskChoice::AsSynced)?;
+        if has(left, &synced) {
+            return Ok(());
+        }
+        Ok(left.push(synced)?)
+    }
+
+    /// Takes what the machine of a pair may leave in place of what was taken last. Answers whether it is not the same.
+    pub fn leave_anew(
+        &mut self,
+        pair: &Pair,
+        cut: Cut,
+        input: &[u8],
+        last: &mut Vec<Pair>,
+    ) -> Result<bool, AllocError> {
+        let mut left = Vec::new(self.alloc);
+        self.leave(pair, cut, input, &mut left)?;
+        let is_anew = !are_same(&left, last);
+        *last = left;
+        Ok(is_anew)
+    }
+}
+
+/// Whether one of these pairs has the words of another.
+fn has(pairs: &[Pair], other: &Pair) -> bool {
+    for pair in pairs {
+        if pair.is(other) {
+            return true;
+        }
+    }
+    false
+}
+
+/// Whether both are the same pairs, in order.
+fn are_same(some: &[Pair], others: &[Pair]) -> bool {
+    let mut rest = others;
+    for one in some {
+        let Some((other, behind)) = rest.split_first() else {
+            return false;
+        };
+        if !one.is(other) {
+            return false;
+        }
+        rest = behind;
+    }
+    rest.is_empty()
+}
+
+/// Reads block `b`, and puts its words behind others.
+fn read_block(
+    disk: &mut MemDisk,
+    b: u32,
+    block: &mut Vec<u64>,
+    words: &mut Vec<u64>,
+) -> Result<(), AllocError> {
+    if block.len() != PAGE_WORDS {
+        return Err(AllocError);
+    }
+    if disk.count() <= b {
+        return Err(AllocError);
+    }
+    match disk.read(Block(b), block) {
+        Ok(()) => words.extend_from_slice(block),
+        Err(_) => Err(AllocError),
     }
 }
 
@@ -287,134 +432,4 @@ fn served<M: Machine>(alloc: Global, core: Core<M>, source: &mut MemSource, sink
     let mut core = core;
     let _end = serve_with(alloc, &mut core, source, sink, false);
     core.into_machine()
-}
-
-/// Boots the machine of a pair, serves lines, and takes it apart. What is pending then reads as is chosen.
-pub fn run(
-    alloc: Global,
-    pair: &Pair,
-    cut: Cut,
-    input: &[u8],
-    choice: DiskChoice,
-) -> Result<Ran, AllocError> {
-    let mut source = MemSource::new(alloc, input, PIECE)?;
-    let mut sink = MemSink::new(alloc);
-    let machine = Bootable::new(alloc, pair, cut)?;
-    let (end, machine) = machine.serve(alloc, &mut source, &mut sink);
-    taken_apart(alloc, machine, choice, end, sink)
-}
-
-/// What came of a machine that was booted and served, with this end and these replies.
-fn taken_apart(
-    alloc: Global,
-    machine: PairBoard,
-    choice: DiskChoice,
-    end: Ended,
-    sink: MemSink,
-) -> Result<Ran, AllocError> {
-    let steps = machine.steps();
-    let (memory, disk) = machine.into_parts();
-    let DiskWords { read, left } = words_of(alloc, disk, choice)?;
-    let memory = memory.into_words();
-    Ok(Ran {
-        end,
-        steps,
-        pair: Pair { memory, disk: left },
-        read,
-        sink,
-    })
-}
-
-/// How many steps a machine of a pair takes to boot and to serve lines.
-pub fn steps_of(alloc: Global, pair: &Pair, input: &[u8]) -> Result<u64, AllocError> {
-    let ran = run(alloc, pair, Cut::Nothing, input, DiskChoice::AsRead)?;
-    Ok(ran.steps)
-}
-
-/// How a reboot ended that something befell, and the pairs that its machine may have left.
-#[derive(Drop)]
-pub struct Left {
-    /// How the reboot ended.
-    pub end: Ended,
-    /// One for each thing that the disk may make of what is pending, without those that are the same as one before.
-    pub pairs: Vec<Pair>,
-}
-
-/// Whether one of these pairs has the words of another.
-fn has(pairs: &[Pair], other: &Pair) -> bool {
-    for pair in pairs {
-        if pair.is(other) {
-            return true;
-        }
-    }
-    false
-}
-
-/// Boots the machine of a pair, which this befalls, serves lines, and answers what it may leave. Nothing is on its way to the
-/// disk where it reads the same after a crash that fills what is. No page of a script is full of that byte.
-pub fn leavings(alloc: Global, pair: &Pair, cut: Cut, input: &[u8]) -> Result<Left, AllocError> {
-    let filled = run(alloc, pair, cut, input, DiskChoice::Filled(0xa5))?;
-    let mut pairs = pending(alloc, pair, cut, input, &filled)?;
-    let end = filled.end;
-    pairs.push(filled.pair)?;
-    Ok(Left { end, pairs })
-}
-
-/// The pairs that a machine may leave beside the one whose disk was filled: none where nothing is on its way to the disk.
-fn pending(
-    alloc: Global,
-    pair: &Pair,
-    cut: Cut,
-    input: &[u8],
-    filled: &Ran,
-) -> Result<Vec<Pair>, AllocError> {
-    let mut pairs = Vec::new(alloc);
-    if filled.read.as_slice() == filled.pair.disk.as_slice() {
-        return Ok(pairs);
-    }
-    pairs.push(filled.as_read(alloc)?)?;
-    let synced = run(alloc, pair, cut, input, DiskChoice::AsSynced)?.pair;
-    if !has(&pairs, &synced) {
-        pairs.push(synced)?;
-    }
-    Ok(pairs)
-}
-
-/// The words of a disk as it read, and after it crashed.
-#[derive(Drop)]
-struct DiskWords {
-    read: Vec<u64>,
-    left: Vec<u64>,
-}
-
-/// The words of a disk, and those after it crashed so.
-fn words_of(alloc: Global, disk: MemDisk, choice: DiskChoice) -> Result<DiskWords, AllocError> {
-    let mut disk = disk;
-    let read = all_words(alloc, &mut disk)?;
-    disk.after_crash(choice);
-    let left = all_words(alloc, &mut disk)?;
-    Ok(DiskWords { read, left })
-}
-
-/// The words of a disk as it reads. No call of it is to fail any more.
-fn all_words(alloc: Global, disk: &mut MemDisk) -> Result<Vec<u64>, AllocError> {
-    disk.drop_fails();
-    let mut words = Vec::new(alloc);
-    for b in 0..disk.count() {
-        let block = block_words(alloc, disk, b)?;
-        words.extend_from_slice(&block)?;
-    }
-    Ok(words)
-}
-
-/// The words of block `b`.
-fn block_words(alloc: Global, disk: &mut MemDisk, b: u32) -> Result<Vec<u64>, AllocError> {
-    let mut block = vec![in alloc; 0; PAGE_WORDS]?;
-    if disk.count() <= b {
-        return Err(AllocError);
-    }
-    match disk.read(Block(b), &mut block) {
-        Ok(()) => Ok(block),
-        Err(_) => Err(AllocError),
-    }
 }

@@ -27,40 +27,36 @@
 #![tactic(auto)]
 
 mod due;
+mod finder;
 mod machines;
 mod pairs;
+mod readings;
 mod session;
 mod stops;
 mod tallies;
+mod telling;
+mod words;
 
 use crate::session::Session;
-use anyhow::Result;
-use std::io::Write;
-use std::time::Instant;
+use std::alloc::AllocError;
+use std::io::{self, Read, Write};
 
-fn main(rt: HostRuntime) -> Result<()> {
-    let mut session = Session::new(rt.alloc())?;
-    for line in rt.lines(rt.alloc()) {
-        answer(&rt, &mut session, line?.as_str())?;
-    }
-    Ok(())
+fn main(rt: HostRuntime) -> io::Result<()> {
+    let mut out = Vec::new(rt.alloc());
+    let outcome = tell_input(rt, &mut out);
+    rt.stdout().write_all(out.as_slice())?;
+    outcome
 }
 
-/// Answers a line of the script.
-fn answer(rt: &HostRuntime, session: &mut Session, line: &str) -> Result<()> {
-    let told = match line {
-        "timed boot" => boot_in_time(rt, session)?,
-        _ => session.step(line)?,
-    };
-    rt.stdout().write_all(told.as_slice())?;
-    Ok(())
+/// Tells what the script comes to that is the input.
+fn tell_input(rt: HostRuntime, out: &mut Vec<u8>) -> io::Result<()> {
+    let mut script = String::new(rt.alloc());
+    rt.stdin().read_to_string(&mut script)?;
+    Ok(tell_script(rt, script.as_str(), out)?)
 }
 
-/// Reboots the pair, and tells how long that took.
-fn boot_in_time(rt: &HostRuntime, session: &Session) -> Result<Vec<u8>> {
-    let machine = session.machine()?;
-    let start = Instant::now(rt)?;
-    let booted = machine.boot(rt.alloc())?;
-    let taken = start.elapsed(rt)?;
-    Ok(session.told_in_time(booted, taken)?)
+/// Tells what a script comes to.
+fn tell_script(rt: HostRuntime, script: &str, out: &mut Vec<u8>) -> Result<(), AllocError> {
+    let mut session = Session::new(rt)?;
+    session.tell(script, out)
 }

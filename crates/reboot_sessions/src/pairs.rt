@@ -50,10 +50,10 @@ impl Pair {
         Ok(Pair { memory, disk })
     }
 
-    /// A copy.
-    pub fn copy(&self, alloc: Global) -> Result<Pair, AllocError> {
-        let memory = Vec::from_slice(alloc, &self.memory)?;
-        let disk = Vec::from_slice(alloc, &self.disk)?;
+    /// The pair of these words.
+    pub fn of(alloc: Global, memory: &[u64], disk: &[u64]) -> Result<Pair, AllocError> {
+        let memory = Vec::from_slice(alloc, memory)?;
+        let disk = Vec::from_slice(alloc, disk)?;
         Ok(Pair { memory, disk })
     }
 

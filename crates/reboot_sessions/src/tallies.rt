@@ -9,7 +9,9 @@ use test_scripts::{tell_line, tell_number};
 pub struct Tally {
     /// How many stops there were.
     pub stops: u64,
-    /// How many machines were booted after a stop or a fault.
+    /// The number of steps before the last one.
+    steps: u64,
+    /// How many machines were booted after a stop or a fault, of this request and of those before.
     pub machines: u64,
     /// Whether the request was found as if it were not made, and as if it were.
     before: bool,
@@ -21,11 +23,12 @@ pub struct Tally {
 }
 
 impl Tally {
-    /// None yet.
-    pub fn new(alloc: Global) -> Tally {
+    /// None of this request yet, and so many machines of those before.
+    pub fn new(alloc: Global, machines: u64) -> Tally {
         Tally {
             stops: 0,
-            machines: 0,
+            steps: 0,
+            machines,
             before: false,
             after: false,
             parts: Vec::new(alloc),
@@ -33,25 +36,21 @@ impl Tally {
         }
     }
 
-    /// Counts a machine that was stopped after so many steps.
-    pub fn count(&mut self, found: Found, steps: u64) -> Result<(), AllocError> {
+    /// Counts a stop after so many steps.
+    pub fn stop(&mut self, steps: u64) {
+        self.stops = self.stops.saturating_add(1);
+        self.steps = steps;
+    }
+
+    /// Counts a machine that the last stop led to.
+    pub fn count(&mut self, found: Found) -> Result<(), AllocError> {
         self.machines = self.machines.saturating_add(1);
         match found {
             Found::Before => self.before = true,
-            Found::Part(bytes) => self.add_part(bytes)?,
+            Found::Part(bytes) => return add_part(&mut self.parts, bytes),
             Found::After => self.after = true,
-            Found::Otherwise => self.wrong = Some(steps),
+            Found::Otherwise => self.wrong = Some(self.steps),
         }
-        Ok(())
-    }
-
-    /// Keeps a number of bytes that were found.
-    fn add_part(&mut self, bytes: usize) -> Result<(), AllocError> {
-        if self.parts.contains(&bytes) {
-            return Ok(());
-        }
-        self.parts.push(bytes)?;
-        self.parts.sort_unstable();
         Ok(())
     }
 
@@ -62,22 +61,48 @@ impl Tally {
 
     /// Tells the ways in which the request was found, as one line.
     pub fn tell(&self, out: &mut Vec<u8>) -> Result<(), AllocError> {
-        if let Some(steps) = self.wrong {
-            return tell_number(out, "found otherwise after so many steps: ", steps);
+        match self.wrong {
+            Some(steps) => tell_number(out, "found otherwise after so many steps: ", steps),
+            None => self.tell_ways(out),
         }
+    }
+
+    /// Tells the ways that are allowed.
+    fn tell_ways(&self, out: &mut Vec<u8>) -> Result<(), AllocError> {
         let mut ways = Vec::new(*out.allocator());
-        if self.before {
-            push_way(&mut ways, "as before")?;
-        }
-        for bytes in self.parts.iter() {
-            let way = format!(in *out.allocator(); "{bytes} bytes")?;
-            push_way(&mut ways, way.as_str())?;
-        }
-        if self.after {
-            push_way(&mut ways, "as after")?;
-        }
+        self.push_ways(&mut ways)?;
         tell_line(out, &ways)
     }
+
+    /// Puts the ways one behind the other.
+    fn push_ways(&self, ways: &mut Vec<u8>) -> Result<(), AllocError> {
+        if self.before {
+            push_way(ways, "as before")?;
+        }
+        for bytes in self.parts.iter() {
+            push_part(ways, *bytes)?;
+        }
+        if self.after {
+            push_way(ways, "as after")?;
+        }
+        Ok(())
+    }
+}
+
+/// Keeps a number of bytes that were found.
+fn add_part(parts: &mut Vec<usize>, bytes: usize) -> Result<(), AllocError> {
+    if parts.contains(&bytes) {
+        return Ok(());
+    }
+    parts.push(bytes)?;
+    parts.sort_unstable();
+    Ok(())
+}
+
+/// Puts the way of a part of so many bytes behind others.
+fn push_part(ways: &mut Vec<u8>, bytes: usize) -> Result<(), AllocError> {
+    let way = format!(in *ways.allocator(); "{bytes} bytes")?;
+    push_way(ways, way.as_str())
 }
 
 /// Puts a way behind others, with a comma between.
