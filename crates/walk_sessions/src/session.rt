@@ -48,6 +48,11 @@ fn word_of(text: &str) -> Option<Word> {
     None
 }
 
+/// Whether a line is neither empty nor a comment.
+fn says_something(line: &str) -> bool {
+    !matches!(line.as_bytes(), [] | [b'#', ..])
+}
+
 /// What is at hand, and what the walks so far left.
 #[derive(Drop)]
 struct Session {
@@ -98,7 +103,7 @@ impl Session {
     /// Tells lines, and what they come to.
     fn tell_lines(&mut self, script: &str, out: &mut Vec<u8>) -> Result<(), AllocError> {
         for line in script.lines() {
-            if !line.is_empty() && !line.starts_with('#') {
+            if says_something(line) {
                 self.tell(line, out)?;
             }
         }
