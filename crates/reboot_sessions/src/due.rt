@@ -60,19 +60,26 @@ impl Due {
         })
     }
 
+    /// The root directory alone is at hand again, and nothing is read.
+    pub fn start(&mut self, sizes: Sizes) -> Result<(), AllocError> {
+        self.readings.clear();
+        self.plain = Plain::new(self.alloc, sizes)?;
+        Ok(())
+    }
+
     /// Makes lines, and then a stop. Answers whether these are the replies.
     pub fn follow(&mut self, lines: &str, replies: &[u8]) -> Result<bool, AllocError> {
         reply_to(&mut self.plain, lines, &mut self.replies)?;
         let is_due = self.replies.as_slice() == replies;
         let undoing = self.readings.undoing.as_str();
-        self.plain = replayed(&self.plain, undoing, &mut self.replies)?;
+        stop(&mut self.plain, undoing, &mut self.replies)?;
         Ok(is_due)
     }
 
     /// The request is stopped behind these lines.
     pub fn begin(&mut self, lines: &str) -> Result<(), AllocError> {
         self.found = 0;
-        self.old = replayed(&self.plain, lines, &mut self.replies)?;
+        replay(&self.plain, lines, &mut self.old, &mut self.replies)?;
         self.read_after()?;
         self.read_before()
     }
@@ -80,9 +87,9 @@ impl Due {
     /// Reads what is there where all of the request is.
     fn read_after(&mut self) -> Result<(), AllocError> {
         let request = self.request.as_str();
-        self.used = replayed(&self.old, request, &mut self.replies)?;
+        replay(&self.old, request, &mut self.used, &mut self.replies)?;
         let undoing = self.readings.undoing.as_str();
-        self.used = replayed(&self.used, undoing, &mut self.replies)?;
+        stop(&mut self.used, undoing, &mut self.replies)?;
         reply_to(
             &mut self.used,
             self.readings.lines.as_str(),
@@ -93,10 +100,9 @@ impl Due {
     /// Reads what is there where nothing of the request is.
     fn read_before(&mut self) -> Result<(), AllocError> {
         let undoing = self.readings.undoing.as_str();
-        self.old = replayed(&self.old, undoing, &mut self.replies)?;
+        stop(&mut self.old, undoing, &mut self.replies)?;
         let lines = self.readings.lines.as_str();
-        self.used = replayed(&self.old, lines, &mut self.before)?;
-        Ok(())
+        replay(&self.old, lines, &mut self.used, &mut self.before)
     }
 
     /// How the request is found, by what is read.
@@ -134,7 +140,8 @@ impl Due {
 
     /// The bytes of a part of the write, where this is read while it is there. It makes no file longer.
     fn read_with(&mut self, part: &Part, read: &[u8]) -> Result<Option<usize>, AllocError> {
-        self.used = replayed(&self.old, part.lines.as_str(), &mut self.replies)?;
+        let lines = part.lines.as_str();
+        replay(&self.old, lines, &mut self.used, &mut self.replies)?;
         if !ends_as_it_begins(&self.replies) {
             return Ok(None);
         }
@@ -159,11 +166,21 @@ fn reply_to(plain: &mut Plain, lines: &str, replies: &mut Vec<u8>) -> Result<(),
     Ok(())
 }
 
-/// A server that runs, of the state behind these lines.
-fn replayed(plain: &Plain, lines: &str, replies: &mut Vec<u8>) -> Result<Plain, AllocError> {
-    let mut next = plain.copy()?;
-    reply_to(&mut next, lines, replies)?;
-    Ok(next)
+/// A server that runs, of the state of another behind these lines.
+fn replay(
+    from: &Plain,
+    lines: &str,
+    into: &mut Plain,
+    replies: &mut Vec<u8>,
+) -> Result<(), AllocError> {
+    *into = from.copy()?;
+    reply_to(into, lines, replies)
+}
+
+/// A server is stopped, runs again, and undoes what a stop undoes by these lines.
+fn stop(plain: &mut Plain, undoing: &str, replies: &mut Vec<u8>) -> Result<(), AllocError> {
+    *plain = plain.copy()?;
+    reply_to(plain, undoing, replies)
 }
 
 /// Whether the first line of a text is its last one too.

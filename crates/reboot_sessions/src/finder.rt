@@ -21,6 +21,12 @@ pub struct Depth {
     pub third: u64,
 }
 
+/// Nothing is.
+const NOTHING: Depth = Depth {
+    second: 0,
+    third: 0,
+};
+
 /// What looks for a request.
 #[derive(Drop)]
 pub struct Finder {
@@ -43,12 +49,16 @@ impl Finder {
             room,
             due,
             tally: Tally::new(alloc, 0),
-            depth: Depth {
-                second: 0,
-                third: 0,
-            },
+            depth: NOTHING,
             has_faults: false,
         })
+    }
+
+    /// The root directory alone is at hand again, and nothing is looked for.
+    pub fn start(&mut self, sizes: Sizes) -> Result<(), AllocError> {
+        self.tally = Tally::new(self.alloc, 0);
+        self.depth = NOTHING;
+        self.due.start(sizes)
     }
 
     /// The request is looked for that is stopped behind these lines.

@@ -215,11 +215,25 @@ impl Room {
         left: &mut Vec<Pair>,
     ) -> Result<(), AllocError> {
         let filled = self.run(pair, cut, input, DiskChoice::Filled(FILLED))?;
-        if self.read.as_slice() != filled.disk.as_slice() {
-            left.push(Pair::of(self.alloc, &filled.memory, &self.read)?)?;
-            self.leave_synced(pair, cut, input, left)?;
-        }
+        self.leave_pending(pair, cut, input, &filled, left)?;
         Ok(left.push(filled)?)
+    }
+
+    /// Takes what the machine of a pair may leave beside what it left where the disk was filled: nothing where nothing is pending.
+    fn leave_pending(
+        &mut self,
+        pair: &Pair,
+        cut: Cut,
+        input: &[u8],
+        filled: &Pair,
+        left: &mut Vec<Pair>,
+    ) -> Result<(), AllocError> {
+        if self.read.as_slice() == filled.disk.as_slice() {
+            return Ok(());
+        }
+        let as_read = Pair::of(self.alloc, &filled.memory, &self.read)?;
+        left.push(as_read)?;
+        self.leave_synced(pair, cut, input, left)
     }
 
     /// Takes what the machine of a pair leaves if what is pending is lost, where that is not what was taken before.

@@ -58,6 +58,12 @@ impl Readings {
         }
     }
 
+    /// None any more.
+    pub fn clear(&mut self) {
+        self.undoing.clear();
+        self.lines.clear();
+    }
+
     /// The transaction of the region at a path is one that a stop undoes.
     pub fn undo(&mut self, path: &str) -> Result<(), AllocError> {
         self.undoing.push_str("abort ")?;
@@ -66,8 +72,7 @@ impl Readings {
 
     /// All that drawn lines name is read, and nothing else.
     pub fn take_drawn(&mut self, alloc: Global) -> Result<(), AllocError> {
-        self.undoing.clear();
-        self.lines.clear();
+        self.clear();
         push_line(&mut self.lines, "list /")?;
         for digit in DIGITS.iter() {
             push_with(alloc, &mut self.lines, READ, digit)?;

@@ -38,12 +38,7 @@ pub struct Session {
 impl Session {
     /// A fresh pair of 32 frames, 32 blocks and 32 inodes.
     pub fn new(rt: HostRuntime) -> Result<Session, AllocError> {
-        Session::on(rt, DEFAULT)
-    }
-
-    /// A fresh pair of these sizes.
-    fn on(rt: HostRuntime, sizes: Sizes) -> Result<Session, AllocError> {
-        let stops = Stops::new(rt.alloc(), sizes)?;
+        let stops = Stops::new(rt.alloc(), DEFAULT)?;
         Ok(Session {
             rt,
             cut: Cut::Nothing,
@@ -93,8 +88,8 @@ impl Session {
 
     /// Begins with a fresh pair of these sizes.
     fn begin(&mut self, sizes: Sizes) -> Result<(), AllocError> {
-        *self = Session::on(self.rt, sizes)?;
-        Ok(())
+        self.cut = Cut::Nothing;
+        self.stops.start(sizes)
     }
 
     /// Takes a line that is made next.

@@ -58,6 +58,7 @@ pub enum Way {
 /// A pair at hand, the lines that are made on it next, and what stops them.
 #[derive(Drop)]
 pub struct Stops {
+    alloc: Global,
     pub pair: Pair,
     /// The lines, with an end behind each.
     pub lines: String,
@@ -71,15 +72,23 @@ pub struct Stops {
 impl Stops {
     /// A fresh pair of these sizes is at hand, and no line.
     pub fn new(alloc: Global, sizes: Sizes) -> Result<Stops, AllocError> {
-        let finder = Finder::new(alloc, sizes)?;
         let pair = Pair::fresh(alloc, sizes)?;
+        let finder = Finder::new(alloc, sizes)?;
         Ok(Stops {
+            alloc,
             pair,
             lines: String::new(alloc),
             ends: Vec::new(alloc),
             last: Vec::new(alloc),
             finder,
         })
+    }
+
+    /// A fresh pair of these sizes is at hand again, and no line.
+    pub fn start(&mut self, sizes: Sizes) -> Result<(), AllocError> {
+        self.lines.clear();
+        self.pair = Pair::fresh(self.alloc, sizes)?;
+        self.finder.start(sizes)
     }
 
     /// Boots the machine of the pair, which this befalls, without the lines. The pair is then as it left it. Answers whether it is
