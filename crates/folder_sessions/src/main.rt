@@ -2,24 +2,70 @@
 //! came is printed under each line.
 #![tactic(auto)]
 
+mod runs;
 mod session;
+mod words;
 
 use crate::session::Session;
-use std::io::{self, BufRead, BufReader, BufWriter, Write};
+use std::alloc::AllocError;
+use std::io::{self, Read, Write};
+use std::os::fd::AsRawFd;
+use std::rt::Files;
+use test_scripts::tell_line;
 
 fn main(rt: HostRuntime) -> io::Result<()> {
-    let alloc = rt.alloc();
-    let mut session = Session::begin(&&rt)?;
-    let mut out = BufWriter::new(alloc, rt.stdout())?;
-    for line in BufReader::new(alloc, rt.stdin())?.lines(alloc) {
-        let line = line?;
-        if line.is_empty() || line.starts_with('#') {
-            continue;
-        }
-        if line.starts_with("== ") {
-            session = Session::begin(&&rt)?;
-        }
-        out.write_all(session.step(line.as_str())?.as_slice())?;
+    let mut out = Vec::new(rt.alloc());
+    tell_input(rt, &mut out)?;
+    rt.stdout().write_all(out.as_slice())
+}
+
+/// Tells what the script comes to that is the input.
+fn tell_input(rt: HostRuntime, out: &mut Vec<u8>) -> io::Result<()> {
+    let mut script = String::new(rt.alloc());
+    rt.stdin().read_to_string(&mut script)?;
+    Ok(tell_script(rt, script.as_str(), out)?)
+}
+
+/// Tells what the sessions of a script come to. They share a pipe, to which any of them may make a link.
+fn tell_script(rt: HostRuntime, script: &str, out: &mut Vec<u8>) -> Result<(), AllocError> {
+    match rt.pipe() {
+        Ok((reader, _writer)) => tell_beside(rt, reader.as_raw_fd(), script, out),
+        Err(_) => tell_line(out, b"no pipe can be made"),
     }
-    out.flush()
+}
+
+/// The same beside the pipe of this descriptor.
+fn tell_beside(
+    rt: HostRuntime,
+    pipe: i32,
+    script: &str,
+    out: &mut Vec<u8>,
+) -> Result<(), AllocError> {
+    let path = format!(in rt.alloc(); "/proc/self/fd/{pipe}")?;
+    tell_sessions(rt, path.as_str(), script, out)
+}
+
+/// The same, where the pipe has this path.
+fn tell_sessions(
+    rt: HostRuntime,
+    pipe: &str,
+    script: &str,
+    out: &mut Vec<u8>,
+) -> Result<(), AllocError> {
+    let mut session = Session::new(rt, pipe);
+    tell_lines(&mut session, script, out)
+}
+
+/// Tells what the lines of a script come to. An empty line and one that begins with `#` say nothing.
+fn tell_lines(
+    session: &mut Session<'_>,
+    script: &str,
+    out: &mut Vec<u8>,
+) -> Result<(), AllocError> {
+    for line in script.lines() {
+        if !line.is_empty() && !line.starts_with('#') {
+            session.step(line, out)?;
+        }
+    }
+    Ok(())
 }
