@@ -16,26 +16,35 @@ use std::io::{self, Write};
 
 fn main(rt: HostRuntime) -> io::Result<()> {
     let names = PairNames::new(rt.alloc())?;
-    tell_session(rt, &names)
+    tell_script(rt, &names)
 }
 
 /// Tells what the script comes to.
-fn tell_session(rt: HostRuntime, names: &PairNames) -> io::Result<()> {
+fn tell_script(rt: HostRuntime, names: &PairNames) -> io::Result<()> {
     let mut session = Session::new(rt.alloc(), names)?;
-    tell_lines(rt, &mut session)?;
-    rt.stdout().write_all(session.told())
+    tell_lines(rt, &mut session)
 }
 
-/// Does what the lines of the script say.
+/// Tells what each line comes to.
 fn tell_lines(rt: HostRuntime, session: &mut Session<'_>) -> io::Result<()> {
     for line in rt.lines(rt.alloc()) {
-        tell_line(session, line)?;
+        tell_line(rt, session, line)?;
     }
     Ok(())
 }
 
-/// Does what a line says, where it could be read.
-fn tell_line(session: &mut Session<'_>, line: io::Result<String>) -> io::Result<()> {
+/// Tells what a line comes to, where it could be read.
+fn tell_line(
+    rt: HostRuntime,
+    session: &mut Session<'_>,
+    line: io::Result<String>,
+) -> io::Result<()> {
     let line = line?;
-    Ok(session.step(line.as_str())?)
+    tell(rt, session, line.as_str())
+}
+
+/// Does what a line says, and tells what that came to.
+fn tell(rt: HostRuntime, session: &mut Session<'_>, line: &str) -> io::Result<()> {
+    session.step(line)?;
+    rt.stdout().write_all(session.told())
 }

@@ -5,7 +5,7 @@ use crate::bytes::{push_line, same, tell_whether};
 use crate::shelf::{PairBytes, PairNames, Shelf, Streams, WHOLE};
 use crate::stops::StoppedRun;
 use crate::walks::Walk;
-use crate::words::{Setting, Word};
+use crate::words::{Run, Setting, Word};
 use rio_bench::KeepBench;
 use std::alloc::{AllocError, Global};
 use test_scripts::{expanded, first_word, numbers, tell, tell_line, tell_number, tell_shown};
@@ -18,11 +18,10 @@ const SERVED: Sizes = Sizes {
     inodes: 64,
 };
 
-/// What is at hand, what the runs so far left, and what was told.
+/// What is at hand, what the runs so far left, and what was told of the last line.
 #[derive(Drop)]
 pub struct Session<'a> {
     alloc: Global,
-    names: &'a PairNames,
     out: Vec<u8>,
     sizes: Sizes,
     bad: BadBlock,
@@ -44,7 +43,6 @@ impl<'a> Session<'a> {
         let files = Shelf::new(alloc, names)?;
         Ok(Session {
             alloc,
-            names,
             out: Vec::new(alloc),
             sizes: SERVED,
             bad: NO_BAD_BLOCK,
@@ -57,7 +55,7 @@ impl<'a> Session<'a> {
         })
     }
 
-    /// What was told so far.
+    /// What was told of the last line.
     pub fn told(&self) -> &[u8] {
         self.out.as_slice()
     }
@@ -65,6 +63,7 @@ impl<'a> Session<'a> {
     /// Does what a line of the script says. Tells the line, and behind it what it came to. Of a comment and of an empty
     /// line nothing is told.
     pub fn step(&mut self, line: &str) -> Result<(), AllocError> {
+        self.out.clear();
         if line.is_empty() || line.starts_with('#') {
             return Ok(());
         }
@@ -76,29 +75,38 @@ impl<'a> Session<'a> {
     /// Does what a word says.
     fn act(&mut self, word: Word, rest: &str) -> Result<(), AllocError> {
         match word {
-            Word::Begin => self.begin(),
+            Word::Begin => {
+                self.begin();
+                Ok(())
+            }
             Word::Next => {
                 self.begin_next_run();
                 Ok(())
             }
-            Word::Line => self.take_line(rest, b"\n"),
-            Word::Piece => self.take_line(rest, b""),
+            Word::Line(end) => self.take_line(rest, end),
             Word::Reading => push_line(&mut self.reading, rest),
             Word::Fresh(command) => self.files.serve(command, b""),
-            Word::Run => self.run_and_tell(rest),
-            Word::RunForStatus => self.run_for_status(rest),
-            Word::RunTwice => self.run_twice(rest),
-            Word::RunStill => self.run_still(rest),
-            Word::RunKept => self.run_kept(rest),
-            Word::Walk => self.serve_walk(rest),
-            Word::Stops => self.stop_run(rest),
-            Word::Serve => self.serve_lines(),
+            Word::Run(run) => self.run_as(run, rest),
             Word::Writes => tell_whether(self.writes > 0, b"some", b"none", &mut self.out),
-            Word::NoMemory => self.end_for_memory(),
             Word::HostFaults => self.files.tell_faults(&mut self.out),
             Word::Set(setting) => self.set(setting, rest),
             Word::File(word) => self.files.act(word, rest, &mut self.out),
             Word::Unknown => tell_line(&mut self.out, b"no such word"),
+        }
+    }
+
+    /// Runs what a word says.
+    fn run_as(&mut self, run: Run, rest: &str) -> Result<(), AllocError> {
+        match run {
+            Run::Whole => self.run_and_tell(rest),
+            Run::ForStatus => self.run_for_status(rest),
+            Run::Twice => self.run_twice(rest),
+            Run::Still => self.run_still(rest),
+            Run::Kept => self.run_kept(rest),
+            Run::Walk => self.serve_walk(rest),
+            Run::Stops => self.stop_run(rest),
+            Run::Serve => self.serve_lines(),
+            Run::NoMemory => self.end_for_memory(),
         }
     }
 
@@ -117,14 +125,13 @@ impl<'a> Session<'a> {
     }
 
     /// Begins anew.
-    fn begin(&mut self) -> Result<(), AllocError> {
-        self.files = Shelf::new(self.alloc, self.names)?;
+    fn begin(&mut self) {
+        self.files.clear();
         self.reading = Vec::new(self.alloc);
         self.sizes = SERVED;
         self.bad = NO_BAD_BLOCK;
         self.writes = 0;
         self.begin_next_run();
-        Ok(())
     }
 
     /// Forgets the lines and what fails, for a run after others over the same files.
@@ -248,13 +255,19 @@ impl<'a> Session<'a> {
     }
 
     /// Stops a run of the lines before each of its steps, and tells what is read behind that. The run behind it is stopped before one
-    /// of so many of its steps as the rest of the line says. The pair stays as it is.
+    /// of so many of its steps as the rest of the line says. The pair stays as it is, and other files go.
     fn stop_run(&mut self, rest: &str) -> Result<(), AllocError> {
         let [second, _, _] = numbers(rest)?;
         self.files.copy_pair(&mut self.before)?;
+        self.stop_each(second)?;
+        self.files.hold(&self.before)
+    }
+
+    /// Stops a run of the lines over the pair that was before it.
+    fn stop_each(&mut self, second: u64) -> Result<(), AllocError> {
         let input = self.input.as_slice();
         let reading = self.reading.as_slice();
-        let mut stopped = StoppedRun::new(self.alloc, self.names, input, reading, second)?;
+        let mut stopped = StoppedRun::new(&mut self.files, input, reading, second);
         stopped.stop_and_tell(&self.before, &mut self.out)
     }
 

@@ -92,6 +92,12 @@ impl<'a> Shelf<'a> {
         })
     }
 
+    /// Has no file, and none that was kept.
+    pub fn clear(&mut self) {
+        self.host = MemHost::new(self.alloc);
+        self.kept = Vec::new(self.alloc);
+    }
+
     /// Has the files of a pair, and no others.
     pub fn hold(&mut self, pair: &PairBytes) -> Result<(), AllocError> {
         self.host = MemHost::new(self.alloc);

@@ -1,7 +1,7 @@
 //! A run that is stopped before each of its steps, each time over the same pair, and the run behind it that is stopped too.
 
 use crate::bytes::same;
-use crate::shelf::{PairBytes, PairNames, Shelf};
+use crate::shelf::{PairBytes, Shelf};
 use std::alloc::{AllocError, Global};
 use test_scripts::{tell, tell_line, tell_number};
 
@@ -10,9 +10,9 @@ const MOST: u64 = 100_000;
 
 /// A run that is stopped, and what is found behind its stops.
 #[derive(Drop)]
-pub struct StoppedRun<'a> {
+pub struct StoppedRun<'a, 'b> {
     alloc: Global,
-    shelf: Shelf<'a>,
+    shelf: &'a mut Shelf<'b>,
     /// The lines of the run, and those that are read behind it.
     input: &'a [u8],
     reading: &'a [u8],
@@ -26,17 +26,16 @@ pub struct StoppedRun<'a> {
     wrong: Option<u64>,
 }
 
-impl<'a> StoppedRun<'a> {
+impl<'a, 'b> StoppedRun<'a, 'b> {
     /// A run of these lines, behind which those are read.
     pub fn new(
-        alloc: Global,
-        names: &'a PairNames,
+        shelf: &'a mut Shelf<'b>,
         input: &'a [u8],
         reading: &'a [u8],
         second: u64,
-    ) -> Result<StoppedRun<'a>, AllocError> {
-        let shelf = Shelf::new(alloc, names)?;
-        Ok(StoppedRun {
+    ) -> StoppedRun<'a, 'b> {
+        let alloc = shelf.alloc;
+        StoppedRun {
             alloc,
             shelf,
             input,
@@ -45,7 +44,7 @@ impl<'a> StoppedRun<'a> {
             last: PairBytes::new(alloc),
             found: Vec::new(alloc),
             wrong: None,
-        })
+        }
     }
 
     /// Stops the run over a pair, and tells what was read.
@@ -123,6 +122,11 @@ impl<'a> StoppedRun<'a> {
         if is_among(self.found.as_slice(), self.shelf.text()) {
             return Ok(());
         }
+        self.keep()
+    }
+
+    /// Keeps what was read.
+    fn keep(&mut self) -> Result<(), AllocError> {
         let text = Vec::from_slice(self.alloc, self.shelf.text())?;
         Ok(self.found.push(text)?)
     }

@@ -13,34 +13,16 @@ pub enum Word {
     Begin,
     /// A run follows after others over the same files.
     Next,
-    /// A line of input.
-    Line,
-    /// Input that ends no line.
-    Piece,
+    /// A line of input, and what ends it.
+    Line(&'static [u8]),
     /// A line that is read behind a stop.
     Reading,
     /// A fresh pair, as this command makes it.
     Fresh(&'static str),
-    /// The program is run, and what it wrote and its status are told.
-    Run,
-    /// Its status alone is told.
-    RunForStatus,
-    /// It is run twice.
-    RunTwice,
-    /// The files of the pair are looked at besides.
-    RunStill,
-    /// What becomes of its machine is looked at besides.
-    RunKept,
-    /// Drawn lines are served in several runs.
-    Walk,
-    /// A run is stopped before each of its steps.
-    Stops,
-    /// The lines are served without files.
-    Serve,
-    /// Whether that wrote a block.
+    /// Something is run.
+    Run(Run),
+    /// Whether the last run without files wrote a block.
     Writes,
-    /// A run whose words find no memory.
-    NoMemory,
     /// How many calls of the host failed.
     HostFaults,
     /// Something is set for what follows.
@@ -49,6 +31,29 @@ pub enum Word {
     File(FileWord),
     /// There is no such word.
     Unknown,
+}
+
+/// What is run, and what is told of it.
+#[derive(Clone, Copy)]
+pub enum Run {
+    /// The program: what it wrote and its status.
+    Whole,
+    /// Its status alone.
+    ForStatus,
+    /// It is run twice.
+    Twice,
+    /// The files of the pair are looked at besides.
+    Still,
+    /// What becomes of its machine is looked at besides.
+    Kept,
+    /// Drawn lines are served in several runs.
+    Walk,
+    /// It is stopped before each of its steps.
+    Stops,
+    /// The lines are served without files.
+    Serve,
+    /// Its words find no memory.
+    NoMemory,
 }
 
 /// What is set.
@@ -79,24 +84,24 @@ pub enum FileWord {
 
 /// Each word, and what it says.
 static WORDS: [(&str, Word); 34] = [
-    (">", Word::Line),
-    ("run", Word::Run),
+    (">", Word::Line(b"\n")),
+    ("run", Word::Run(Run::Whole)),
     ("patch", Word::File(FileWord::Patch)),
     ("==", Word::Begin),
     ("next", Word::Next),
-    (">>", Word::Piece),
+    (">>", Word::Line(b"")),
     ("?", Word::Reading),
     ("fresh", Word::Fresh(FRESH)),
     ("small", Word::Fresh(SMALL)),
-    ("status-of", Word::RunForStatus),
-    ("twice", Word::RunTwice),
-    ("still", Word::RunStill),
-    ("run-kept", Word::RunKept),
-    ("walk", Word::Walk),
-    ("stops", Word::Stops),
-    ("serve", Word::Serve),
+    ("status-of", Word::Run(Run::ForStatus)),
+    ("twice", Word::Run(Run::Twice)),
+    ("still", Word::Run(Run::Still)),
+    ("run-kept", Word::Run(Run::Kept)),
+    ("walk", Word::Run(Run::Walk)),
+    ("stops", Word::Run(Run::Stops)),
+    ("serve", Word::Run(Run::Serve)),
     ("writes", Word::Writes),
-    ("no-memory", Word::NoMemory),
+    ("no-memory", Word::Run(Run::NoMemory)),
     ("host-faults", Word::HostFaults),
     ("on", Word::Set(Setting::Sizes)),
     ("bad-block", Word::Set(Setting::BadBlock)),
