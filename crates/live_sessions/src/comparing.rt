@@ -1,160 +1,130 @@
-//! What the plans of a script come to, as text.
+//! What the plans of a script come to.
 
 use crate::defined::{are_alike, first_difference};
-use crate::mishaps::{Mishap, failing, nothing, stop};
-use crate::plans::run;
-use block_disk::DiskChoice;
+use crate::mishaps::{FAILING, Mishaps, OTHER_CHOICES, Others, UNREACHED, mishaps_of};
+use crate::plans::{Drawn, run};
+use crate::words::Plan;
 use live_plans::{BootEnd, BootRun, Transcript};
-use rio_requests::Reply;
-use std::alloc::{AllocError, Global};
+use rio_requests::{Reply, Request};
+use std::alloc::AllocError;
+use test_scripts::tell_line;
 
-/// How many calls of a disk fail in a boot of which some do.
-const FAILING: u64 = 2;
-
-/// Whether one boot answers its requests as defined.
-pub(crate) fn told_same(alloc: Global, seed: u32, count: u64) -> Result<String, AllocError> {
-    let transcript = run(alloc, seed, count, &[nothing()])?;
-    told_one(alloc, seed, count, &transcript)
+/// Tells what a plan comes to.
+pub fn tell_plan(plan: Plan, drawn: &Drawn, out: &mut Vec<u8>) -> Result<(), AllocError> {
+    let transcript = run(drawn, mishaps_of(plan))?;
+    tell_transcript(plan, drawn, &transcript, out)
 }
 
-/// Whether the one boot of a transcript answered so many requests drawn from a seed as defined.
-fn told_one(
-    alloc: Global,
-    seed: u32,
-    count: u64,
+/// Tells what the boots of a plan come to, of which this is the transcript.
+fn tell_transcript(
+    plan: Plan,
+    drawn: &Drawn,
     transcript: &Transcript,
-) -> Result<String, AllocError> {
-    let [run] = transcript.boots.as_slice() else {
-        return String::from_str(alloc, "    not one boot\n");
-    };
-    let answered = run.answered.as_slice();
-    if answered.len() as u64 > count {
-        return String::from_str(alloc, "    more answers than requests\n");
+    out: &mut Vec<u8>,
+) -> Result<(), AllocError> {
+    match plan {
+        Plan::Same => tell_one(drawn, transcript, out),
+        Plan::Unreached => tell_unreached(drawn, transcript, out),
+        Plan::Boots => tell_two(drawn.count, transcript, out),
+        Plan::Choices => tell_choices(drawn, transcript, out),
+        Plan::Faults => tell_ends(transcript, out),
     }
-    match first_difference(alloc, seed, count, answered)? {
-        Some(number) => format!(in alloc; "    {number} differs\n"),
-        None => String::from_str(alloc, "    as defined\n"),
+}
+
+/// Tells whether the one boot of a transcript answered the drawn requests as defined.
+fn tell_one(drawn: &Drawn, transcript: &Transcript, out: &mut Vec<u8>) -> Result<(), AllocError> {
+    match transcript.boots.as_slice() {
+        [run] => tell_answers(drawn, run.answered.as_slice(), out),
+        _ => tell_line(out, b"not one boot"),
     }
+}
+
+/// Tells whether drawn requests were answered as defined.
+fn tell_answers(
+    drawn: &Drawn,
+    answered: &[(Request, Reply)],
+    out: &mut Vec<u8>,
+) -> Result<(), AllocError> {
+    if answered.len() as u64 > drawn.count {
+        return tell_line(out, b"more answers than requests");
+    }
+    match first_difference(drawn, answered)? {
+        Some(number) => tell_difference(number, out),
+        None => tell_line(out, b"as defined"),
+    }
+}
+
+/// Tells which request was not answered as defined.
+fn tell_difference(number: u64, out: &mut Vec<u8>) -> Result<(), AllocError> {
+    let told = format!(in *out.allocator(); "{number} differs")?;
+    tell_line(out, told.as_bytes())
 }
 
 /// Whether boots that these befall come to what a transcript has.
-fn come_to(
-    alloc: Global,
-    seed: u32,
-    count: u64,
-    mishaps: &[Mishap],
+fn come_to(drawn: &Drawn, mishaps: Mishaps, transcript: &Transcript) -> Result<bool, AllocError> {
+    let other = run(drawn, mishaps)?;
+    are_alike(drawn.alloc, transcript, &other)
+}
+
+/// What is told of the first of other mishaps with which boots do not come to what a transcript has.
+fn first_unlike(
+    drawn: &Drawn,
+    others: Others,
     transcript: &Transcript,
-) -> Result<bool, AllocError> {
-    let other = run(alloc, seed, count, mishaps)?;
-    are_alike(alloc, transcript, &other)
-}
-
-/// Whether a stop and a failing call that no boot reaches change nothing.
-pub(crate) fn told_unreached(alloc: Global, seed: u32, count: u64) -> Result<String, AllocError> {
-    let plain = run(alloc, seed, count, &[nothing(), nothing()])?;
-    told_beside(alloc, seed, count, &plain)
-}
-
-/// Whether boots with a stop and with a failing call that none reaches come to what two plain ones do.
-fn told_beside(
-    alloc: Global,
-    seed: u32,
-    count: u64,
-    plain: &Transcript,
-) -> Result<String, AllocError> {
-    let stopped = stop(u64::MAX, DiskChoice::Filled(0xa5));
-    if !come_to(alloc, seed, count, &[stopped, stopped], plain)? {
-        return String::from_str(alloc, "    the stop differs\n");
+) -> Result<Option<&'static str>, AllocError> {
+    for (told, mishaps) in others {
+        if !come_to(drawn, mishaps, transcript)? {
+            return Ok(Some(*told));
+        }
     }
-    let failed = failing(u64::MAX, 1);
-    if !come_to(alloc, seed, count, &[failed, failed], plain)? {
-        return String::from_str(alloc, "    the failing call differs\n");
+    Ok(None)
+}
+
+/// Tells whether a stop and a failing call that no boot reaches change nothing.
+fn tell_unreached(drawn: &Drawn, plain: &Transcript, out: &mut Vec<u8>) -> Result<(), AllocError> {
+    match first_unlike(drawn, &UNREACHED, plain)? {
+        Some(told) => tell_line(out, told.as_bytes()),
+        None => tell_line(out, b"the same"),
     }
-    String::from_str(alloc, "    the same\n")
 }
 
-/// How the first of two boots ends that is to stop after so many steps, and what the second one answers.
-pub(crate) fn told_boots(
-    alloc: Global,
-    seed: u32,
-    count: u64,
-    steps: u64,
-) -> Result<String, AllocError> {
-    let mishaps = [stop(steps, DiskChoice::AsRead), nothing()];
-    let transcript = run(alloc, seed, count, &mishaps)?;
-    told_two(alloc, count, &transcript)
-}
-
-/// How the first of two boots ended, and what the second one answered to so many requests.
-fn told_two(alloc: Global, count: u64, transcript: &Transcript) -> Result<String, AllocError> {
-    let [first, second] = transcript.boots.as_slice() else {
-        return String::from_str(alloc, "    not two boots\n");
-    };
-    let end = end_word(first.end);
-    let answers = answers_word(second, count);
-    format!(in alloc; "    {end}\n    {answers}\n")
-}
-
-/// How three boots end, of which the second is to stop after so many steps, and whether they come to the same whatever the
-/// pending blocks hold after the stop.
-pub(crate) fn told_choices(
-    alloc: Global,
-    seed: u32,
-    count: u64,
-    steps: u64,
-) -> Result<String, AllocError> {
-    let as_read = run(alloc, seed, count, &stopped(steps, DiskChoice::AsRead))?;
-    told_other_choices(alloc, seed, count, steps, &as_read)
-}
-
-/// How such boots ended, and whether they come to the same where the pending blocks hold what they did not.
-fn told_other_choices(
-    alloc: Global,
-    seed: u32,
-    count: u64,
-    steps: u64,
-    as_read: &Transcript,
-) -> Result<String, AllocError> {
-    let as_synced = stopped(steps, DiskChoice::AsSynced);
-    if !come_to(alloc, seed, count, &as_synced, as_read)? {
-        return String::from_str(alloc, "    as synced differs\n");
+/// Tells how boots ended, where they come to the same whatever the pending blocks hold after the stop.
+fn tell_choices(drawn: &Drawn, as_read: &Transcript, out: &mut Vec<u8>) -> Result<(), AllocError> {
+    match first_unlike(drawn, &OTHER_CHOICES, as_read)? {
+        Some(told) => tell_line(out, told.as_bytes()),
+        None => {
+            tell_ends(as_read, out)?;
+            tell_line(out, b"the same")
+        }
     }
-    let filled = stopped(steps, DiskChoice::Filled(0xa5));
-    if !come_to(alloc, seed, count, &filled, as_read)? {
-        return String::from_str(alloc, "    filled differs\n");
+}
+
+/// Tells how the first of two boots ended, and what the second one answered to so many requests.
+fn tell_two(count: u64, transcript: &Transcript, out: &mut Vec<u8>) -> Result<(), AllocError> {
+    match transcript.boots.as_slice() {
+        [first, second] => {
+            tell_line(out, end_word(first.end).as_bytes())?;
+            tell_line(out, answers_word(second, count).as_bytes())
+        }
+        _ => tell_line(out, b"not two boots"),
     }
-    let mut told = told_ends(alloc, as_read)?;
-    told.push_str("    the same\n")?;
-    Ok(told)
 }
 
-/// What befalls three boots, of which the second stops after so many steps, with this choice for the pending blocks.
-fn stopped(steps: u64, choice: DiskChoice) -> [Mishap; 3] {
-    [nothing(), stop(steps, choice), nothing()]
-}
-
-/// How three boots end, and which of them tell of device faults. Calls of the disk fail in the first, from this one on, and in the
-/// third, from its first one on.
-pub(crate) fn told_faults(
-    alloc: Global,
-    seed: u32,
-    count: u64,
-    first: u64,
-) -> Result<String, AllocError> {
-    let mishaps = [failing(first, FAILING), nothing(), failing(1, FAILING)];
-    let transcript = run(alloc, seed, count, &mishaps)?;
-    told_ends(alloc, &transcript)
-}
-
-/// A line for each boot.
-fn told_ends(alloc: Global, transcript: &Transcript) -> Result<String, AllocError> {
-    let mut told = String::new(alloc);
+/// Tells how each boot ended, and whether its replies tell of device faults.
+fn tell_ends(transcript: &Transcript, out: &mut Vec<u8>) -> Result<(), AllocError> {
     for run in transcript.boots.as_slice() {
-        let end = end_word(run.end);
-        let faults = faults_word(run);
-        told.push_str(format!(in alloc; "    {end}, {faults}\n")?.as_str())?;
+        tell_end(run, out)?;
     }
-    Ok(told)
+    Ok(())
+}
+
+/// Tells that of a boot.
+fn tell_end(run: &BootRun, out: &mut Vec<u8>) -> Result<(), AllocError> {
+    out.extend_from_slice(b"    ")?;
+    out.extend_from_slice(end_word(run.end).as_bytes())?;
+    out.extend_from_slice(b", ")?;
+    out.extend_from_slice(faults_word(faults_of(run)).as_bytes())?;
+    out.extend_from_slice(b"\n")
 }
 
 /// How a boot ended, in a word.
@@ -166,21 +136,26 @@ fn end_word(end: BootEnd) -> &'static str {
     }
 }
 
-/// Whether replies of a boot tell of device faults, and of more than it has failing calls.
-fn faults_word(run: &BootRun) -> &'static str {
-    let answered = run.answered.as_slice();
-    let faults = answered.iter().filter(|answer| is_fault(&answer.1)).count();
+/// How many replies of a boot tell of device faults.
+fn faults_of(run: &BootRun) -> u64 {
+    let mut faults = 0u64;
+    for (_, reply) in run.answered.as_slice() {
+        if let Reply::Fault(_) = reply {
+            faults = faults.saturating_add(1);
+        }
+    }
+    faults
+}
+
+/// Whether there are so many faults as none, or more than the failing calls of a boot.
+fn faults_word(faults: u64) -> &'static str {
     if faults == 0 {
         return "no reply 30";
     }
-    if faults as u64 <= FAILING {
+    if faults <= FAILING {
         return "replies 30";
     }
     "too many replies 30"
-}
-
-fn is_fault(reply: &Reply) -> bool {
-    matches!(reply, Reply::Fault(_))
 }
 
 /// Whether the second boot answered all of so many requests.

@@ -21,44 +21,61 @@ mod comparing;
 mod defined;
 mod mishaps;
 mod plans;
+mod words;
 
-use crate::comparing::{told_boots, told_choices, told_faults, told_same, told_unreached};
+use crate::comparing::tell_plan;
+use crate::plans::Drawn;
+use crate::words::Plan;
 use std::alloc::{AllocError, Global};
-use std::io;
+use std::io::{self, Read, Write};
 use test_scripts::{first_word, numbers};
 
 fn main(rt: HostRuntime) -> io::Result<()> {
-    let alloc = rt.alloc();
-    for line in rt.lines(alloc) {
-        print_told(&rt, alloc, line?.as_str())?;
+    let mut script = String::new(rt.alloc());
+    let mut out = Vec::new(rt.alloc());
+    answer(rt, &mut script, &mut out)
+}
+
+/// Reads the script, and prints what it comes to, or as far as memory lasts.
+fn answer(rt: HostRuntime, script: &mut String, out: &mut Vec<u8>) -> io::Result<()> {
+    rt.stdin().read_to_string(script)?;
+    let outcome = tell_script(rt.alloc(), script.as_str(), out);
+    rt.stdout().write_all(out.as_slice())?;
+    Ok(outcome?)
+}
+
+/// Tells each line of a script, and what it comes to.
+fn tell_script(alloc: Global, script: &str, out: &mut Vec<u8>) -> Result<(), AllocError> {
+    for line in script.lines() {
+        tell_told(alloc, line, out)?;
     }
     Ok(())
 }
 
-/// Prints a line of the script, and what it comes to.
-fn print_told(rt: &HostRuntime, alloc: Global, line: &str) -> io::Result<()> {
-    let told = told(alloc, line)?;
-    print!(rt; "{line}\n{told}")
-}
-
-/// What a line of the script comes to.
-fn told(alloc: Global, line: &str) -> Result<String, AllocError> {
+/// Tells a line of the script, and what it comes to.
+fn tell_told(alloc: Global, line: &str, out: &mut Vec<u8>) -> Result<(), AllocError> {
+    out.extend_from_slice(line.as_bytes())?;
+    out.extend_from_slice(b"\n")?;
     let (word, rest) = first_word(line);
-    match word {
-        "same" | "unreached" | "boots" | "choices" | "faults" => told_plan(alloc, word, rest),
-        _ => Ok(String::new(alloc)),
+    match Plan::named(word) {
+        Some(plan) => tell_numbers(alloc, plan, rest, out),
+        None => Ok(()),
     }
 }
 
-/// What a plan of these numbers comes to.
-fn told_plan(alloc: Global, word: &str, rest: &str) -> Result<String, AllocError> {
-    let [seed, count, third] = numbers(rest)?;
-    let seed = u32::try_from(seed).unwrap_or(0);
-    match word {
-        "same" => told_same(alloc, seed, count),
-        "unreached" => told_unreached(alloc, seed, count),
-        "boots" => told_boots(alloc, seed, count, third),
-        "choices" => told_choices(alloc, seed, count, third),
-        _ => told_faults(alloc, seed, count, third),
-    }
+/// Tells what a plan of these numbers comes to.
+fn tell_numbers(
+    alloc: Global,
+    plan: Plan,
+    rest: &str,
+    out: &mut Vec<u8>,
+) -> Result<(), AllocError> {
+    let [seed, count, number] = numbers(rest)?;
+    let drawn = Drawn {
+        alloc,
+        seed: u32::try_from(seed).unwrap_or(0),
+        count,
+        number,
+    };
+    tell_plan(plan, &drawn, out)
 }

@@ -1,46 +1,112 @@
-//! What befalls a boot.
+//! What befalls the boots of a plan.
 
+use crate::words::Plan;
 use block_disk::DiskChoice;
 
+/// How many calls of a disk fail in a boot of which some do.
+pub const FAILING: u64 = 2;
+
 /// What befalls a boot.
-#[derive(Clone, Copy, Debug)]
-pub(crate) struct Mishap {
+pub enum Mishap {
+    Nothing,
+    /// Its machine stops once it has made as many steps as the line says, and pending blocks then hold what is chosen.
+    Stop(DiskChoice),
+    /// Calls of its disk fail, from the one on that the line says.
+    Faults,
+    /// The first calls of its disk fail.
+    FirstFaults,
+    /// A stop that it does not reach.
+    FarStop,
+    /// A failing call of its disk that it does not reach.
+    FarFault,
+}
+
+impl Mishap {
     /// After how many steps its machine stops, if ever.
-    pub(crate) stop_after: Option<u64>,
-    /// The first of the calls of its disk that fail.
-    pub(crate) first_call: u64,
-    /// How many calls fail, from that one on.
-    pub(crate) calls: u64,
+    pub fn stop_after(&self, number: u64) -> Option<u64> {
+        match self {
+            Mishap::Stop(_) => Some(number),
+            Mishap::FarStop => Some(u64::MAX),
+            _ => None,
+        }
+    }
+
+    /// The first of the calls of its disk that fail, and how many do, from that one on.
+    pub fn failing(&self, number: u64) -> (u64, u64) {
+        match self {
+            Mishap::Faults => (number, FAILING),
+            Mishap::FirstFaults => (1, FAILING),
+            Mishap::FarFault => (u64::MAX, 1),
+            _ => (1, 0),
+        }
+    }
+
     /// What pending blocks hold after a stop.
-    pub(crate) choice: DiskChoice,
-}
-
-/// Nothing.
-pub(crate) fn nothing() -> Mishap {
-    Mishap {
-        stop_after: None,
-        first_call: 1,
-        calls: 0,
-        choice: DiskChoice::AsRead,
+    pub fn choice(&self) -> DiskChoice {
+        match self {
+            Mishap::Stop(choice) => *choice,
+            Mishap::FarStop => DiskChoice::Filled(0xa5),
+            _ => DiskChoice::AsRead,
+        }
     }
 }
 
-/// Its machine stops once it has made so many steps, and pending blocks then hold what is chosen.
-pub(crate) fn stop(steps: u64, choice: DiskChoice) -> Mishap {
-    Mishap {
-        stop_after: Some(steps),
-        first_call: 1,
-        calls: 0,
-        choice,
+/// What befalls each of some boots.
+pub type Mishaps = &'static [Mishap];
+
+static ONE: [Mishap; 1] = [Mishap::Nothing];
+
+static TWO: [Mishap; 2] = [Mishap::Nothing, Mishap::Nothing];
+
+static STOPPED_FIRST: [Mishap; 2] = [Mishap::Stop(DiskChoice::AsRead), Mishap::Nothing];
+
+static STOPPED_SECOND: [Mishap; 3] = [
+    Mishap::Nothing,
+    Mishap::Stop(DiskChoice::AsRead),
+    Mishap::Nothing,
+];
+
+static FAULTS: [Mishap; 3] = [Mishap::Faults, Mishap::Nothing, Mishap::FirstFaults];
+
+/// What befalls the boots of a plan that are told, or others are compared with.
+pub fn mishaps_of(plan: Plan) -> Mishaps {
+    match plan {
+        Plan::Same => &ONE,
+        Plan::Unreached => &TWO,
+        Plan::Boots => &STOPPED_FIRST,
+        Plan::Choices => &STOPPED_SECOND,
+        Plan::Faults => &FAULTS,
     }
 }
 
-/// So many calls of its disk fail, from this one on.
-pub(crate) fn failing(first: u64, calls: u64) -> Mishap {
-    Mishap {
-        stop_after: None,
-        first_call: first,
-        calls,
-        choice: DiskChoice::AsRead,
-    }
-}
+/// What else may befall the boots of a plan with no change to their transcript, each behind what is told where it has one.
+pub type Others = &'static [(&'static str, Mishaps)];
+
+/// A stop and a failing call that are never reached.
+pub static UNREACHED: [(&str, Mishaps); 2] = [
+    ("the stop differs", &[Mishap::FarStop, Mishap::FarStop]),
+    (
+        "the failing call differs",
+        &[Mishap::FarFault, Mishap::FarFault],
+    ),
+];
+
+/// Pending blocks that hold something else after the stop.
+pub static OTHER_CHOICES: [(&str, Mishaps); 2] = [
+    (
+        "as synced differs",
+        &[
+            Mishap::Nothing,
+            Mishap::Stop(DiskChoice::AsSynced),
+            Mishap::Nothing,
+        ],
+    ),
+    (
+        "filled differs",
+        &[
+            Mishap::Nothing,
+            Mishap::Stop(DiskChoice::Filled(0xa5)),
+            Mishap::Nothing,
+        ],
+    ),
+];
