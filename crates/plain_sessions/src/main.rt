@@ -22,20 +22,21 @@ mod rows;
 mod session;
 mod sinks;
 mod states;
+mod words;
 
-use crate::session::Session;
-use std::io;
+use crate::session::tell_script;
+use std::io::{self, Read, Write};
 
 fn main(rt: HostRuntime) -> io::Result<()> {
-    let mut session = Session::new(rt.alloc())?;
-    for line in rt.lines(rt.alloc()) {
-        print_told(&rt, &mut session, line?.as_str())?;
-    }
-    Ok(())
+    let mut script = String::new(rt.alloc());
+    let mut out = String::new(rt.alloc());
+    tell_input(rt, &mut script, &mut out)
 }
 
-/// Prints a line of the script, and what it comes to.
-fn print_told(rt: &HostRuntime, session: &mut Session, line: &str) -> io::Result<()> {
-    let told = session.told(line)?;
-    print!(rt; "{told}")
+/// Reads the script, and prints what it comes to, or as far as memory lasts.
+fn tell_input(rt: HostRuntime, script: &mut String, out: &mut String) -> io::Result<()> {
+    rt.stdin().read_to_string(script)?;
+    let outcome = tell_script(rt.alloc(), script.as_str(), out);
+    rt.stdout().write_all(out.as_bytes())?;
+    Ok(outcome?)
 }

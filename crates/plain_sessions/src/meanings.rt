@@ -3,93 +3,157 @@
 use request_codec::parse_line;
 use rio_requests::Request;
 use std::alloc::{AllocError, Global};
+use test_scripts::{expanded, first_word, number};
+
+/// Puts what a line means.
+pub(crate) fn put_parsed(alloc: Global, rest: &str, out: &mut String) -> Result<(), AllocError> {
+    let line = expanded(alloc, rest)?;
+    put_meaning(alloc, line.as_slice(), out)
+}
 
 /// Puts the parts of the request that a line is, or that it is none.
-pub(crate) fn put_meaning(alloc: Global, line: &[u8], out: &mut String) -> Result<(), AllocError> {
-    if put_request(alloc, line, "    ", out)? {
+fn put_meaning(alloc: Global, line: &[u8], out: &mut String) -> Result<(), AllocError> {
+    if put_request(alloc, line, None, out)? {
         return Ok(());
     }
     out.push_str("    no request\n")
 }
 
+/// Puts what a line means with each byte in turn at a place.
+pub(crate) fn put_each_of(alloc: Global, rest: &str, out: &mut String) -> Result<(), AllocError> {
+    let (place, line) = first_word(rest);
+    let place = number(place)? as usize;
+    let mut line = expanded(alloc, line)?;
+    put_each(alloc, line.as_mut_slice(), place, out)
+}
+
 /// Puts what a line means with each byte in turn at a place, where it means anything, and how many bytes there make no
 /// request of it.
-pub(crate) fn put_each(
+fn put_each(
     alloc: Global,
-    line: &mut Vec<u8>,
+    line: &mut [u8],
     place: usize,
     out: &mut String,
 ) -> Result<(), AllocError> {
-    let mut others = 0u32;
-    for byte in 0..=255 {
-        if let Some(there) = line.get_mut(place) {
-            *there = byte;
-        }
-        if !put_with(alloc, line.as_slice(), byte, out)? {
+    let mut others = 0usize;
+    for byte in 0..256usize {
+        if !put_with(alloc, line, place, byte as u8, out)? {
             others = others.saturating_add(1);
         }
     }
-    writeln!(out, "    {others} bytes: no request")
+    put_count(others, out)?;
+    out.push_str(" no request\n")
 }
 
-/// Puts a byte and what a line means that has it, and tells whether it means anything.
-fn put_with(alloc: Global, line: &[u8], byte: u8, out: &mut String) -> Result<bool, AllocError> {
-    let front = format!(in alloc; "    {byte:02x}: ")?;
-    put_request(alloc, line, front.as_str(), out)
+/// Puts a byte and what a line means that has it at a place, and tells whether it means anything.
+fn put_with(
+    alloc: Global,
+    line: &mut [u8],
+    place: usize,
+    byte: u8,
+    out: &mut String,
+) -> Result<bool, AllocError> {
+    if let Some(there) = line.get_mut(place) {
+        *there = byte;
+    }
+    put_request(alloc, line, Some(byte), out)
 }
 
-/// Puts the parts of the request that a line is, behind a text, and tells whether it is one.
+/// Puts the parts of the request that a line is, behind a byte of it, and tells whether it is one.
 fn put_request(
     alloc: Global,
     line: &[u8],
-    front: &str,
+    byte: Option<u8>,
     out: &mut String,
 ) -> Result<bool, AllocError> {
     match parse_line(alloc, line)? {
-        Some(request) => {
-            put_parts(front, &request, out)?;
-            Ok(true)
-        }
+        Some(request) => put_parts_of(byte, request, out),
         None => Ok(false),
     }
 }
 
-/// Puts the parts of a request: its word, its path, its data or its second path, and its numbers.
-fn put_parts(front: &str, request: &Request, out: &mut String) -> Result<(), AllocError> {
-    out.push_str(front)?;
-    let word = word_of(request);
-    let path = path_of(request).escape_ascii();
-    let data = data_of(request).escape_ascii();
-    let [first, second, third] = numbers_of(request);
-    writeln!(out, "{word} \"{path}\" \"{data}\" {first} {second} {third}")
+/// Lets a request go. Where it went behind a call, each of its forms would be one more end of that.
+pub(crate) fn let_go(_request: Request) {}
+
+/// Puts the parts of a request, which then goes.
+fn put_parts_of(byte: Option<u8>, request: Request, out: &mut String) -> Result<bool, AllocError> {
+    let ended = put_parts(byte, &request, out);
+    let_go(request);
+    ended
 }
 
+/// Puts the parts of a request: its word, its path, its data or its second path, and its numbers.
+fn put_parts(byte: Option<u8>, request: &Request, out: &mut String) -> Result<bool, AllocError> {
+    put_front(byte, out)?;
+    out.push_str(word_of(request))?;
+    put_quoted(path_of(request), out)?;
+    put_quoted(data_of(request), out)?;
+    put_numbers(numbers_of(request), out)?;
+    Ok(true)
+}
+
+/// Puts what stands before the parts of a request.
+fn put_front(byte: Option<u8>, out: &mut String) -> Result<(), AllocError> {
+    match byte {
+        Some(byte) => write!(out, "    {byte:02x}: "),
+        None => out.push_str("    "),
+    }
+}
+
+/// Puts a text between quotes, with each byte that is no character escaped.
+pub(crate) fn put_quoted(text: &[u8], out: &mut String) -> Result<(), AllocError> {
+    let text = text.escape_ascii();
+    write!(out, " \"{text}\"")
+}
+
+fn put_numbers(numbers: [u64; 3], out: &mut String) -> Result<(), AllocError> {
+    let [first, second, third] = numbers;
+    writeln!(out, " {first} {second} {third}")
+}
+
+/// Puts how many bytes there are.
+pub(crate) fn put_count(count: usize, out: &mut String) -> Result<(), AllocError> {
+    write!(out, "    {count} bytes:")
+}
+
+/// The words of requests.
+static WORDS: [&str; 24] = [
+    "mkdir", "create", "region", "write", "read", "truncate", "unlink", "rmdir", "rename", "stat",
+    "list", "sync", "begin", "range", "put", "get", "alloc", "free", "commit", "abort", "txns",
+    "flush", "wild", "arm",
+];
+
 fn word_of(request: &Request) -> &'static str {
+    WORDS.get(place_of(request)).copied().unwrap_or("")
+}
+
+/// Where the word of a request stands in [`WORDS`].
+fn place_of(request: &Request) -> usize {
     match request {
-        Request::Mkdir { .. } => "mkdir",
-        Request::Create { .. } => "create",
-        Request::Region { .. } => "region",
-        Request::Write { .. } => "write",
-        Request::Read { .. } => "read",
-        Request::Truncate { .. } => "truncate",
-        Request::Unlink { .. } => "unlink",
-        Request::Rmdir { .. } => "rmdir",
-        Request::Rename { .. } => "rename",
-        Request::Stat { .. } => "stat",
-        Request::List { .. } => "list",
-        Request::Sync => "sync",
-        Request::Begin { .. } => "begin",
-        Request::Range { .. } => "range",
-        Request::Put { .. } => "put",
-        Request::Get { .. } => "get",
-        Request::Alloc { .. } => "alloc",
-        Request::Free { .. } => "free",
-        Request::Commit { .. } => "commit",
-        Request::Abort { .. } => "abort",
-        Request::Txns => "txns",
-        Request::Flush { .. } => "flush",
-        Request::Wild { .. } => "wild",
-        Request::Arm { .. } => "arm",
+        Request::Mkdir { .. } => 0,
+        Request::Create { .. } => 1,
+        Request::Region { .. } => 2,
+        Request::Write { .. } => 3,
+        Request::Read { .. } => 4,
+        Request::Truncate { .. } => 5,
+        Request::Unlink { .. } => 6,
+        Request::Rmdir { .. } => 7,
+        Request::Rename { .. } => 8,
+        Request::Stat { .. } => 9,
+        Request::List { .. } => 10,
+        Request::Sync => 11,
+        Request::Begin { .. } => 12,
+        Request::Range { .. } => 13,
+        Request::Put { .. } => 14,
+        Request::Get { .. } => 15,
+        Request::Alloc { .. } => 16,
+        Request::Free { .. } => 17,
+        Request::Commit { .. } => 18,
+        Request::Abort { .. } => 19,
+        Request::Txns => 20,
+        Request::Flush { .. } => 21,
+        Request::Wild { .. } => 22,
+        Request::Arm { .. } => 23,
     }
 }
 

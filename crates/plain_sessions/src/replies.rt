@@ -1,8 +1,9 @@
 //! Replies that the script tells, and replies as they are written.
 
+use crate::words::{FORMS, Form, looked_up, octet, small};
 use name_list::NameList;
 use request_codec::{write_reply, write_text};
-use rio_base::{Ino, InoList, Octets};
+use rio_base::{Failed, Ino, InoList, Octets};
 use rio_fakes::MemSink;
 use rio_requests::Reply;
 use std::alloc::{AllocError, Global};
@@ -14,16 +15,23 @@ const NOT_SENT: &[u8] = b"not sent\n";
 /// The reply that a kind and its parts tell. A kind that there is none of is a refusal.
 pub(crate) fn reply_of(alloc: Global, told: &str) -> Result<Reply, AllocError> {
     let (kind, parts) = first_word(told);
+    match looked_up(FORMS.as_slice(), kind) {
+        Some(kind) => reply_with(alloc, kind, parts),
+        None => Ok(Reply::Err(255)),
+    }
+}
+
+/// The reply of a kind that parts tell.
+fn reply_with(alloc: Global, kind: Form, parts: &str) -> Result<Reply, AllocError> {
     match kind {
-        "ok" => Ok(Reply::Ok),
-        "number" => Ok(Reply::Number(number(parts)?)),
-        "bytes" => Ok(Reply::Bytes(Octets::from(expanded(alloc, parts)?))),
-        "stat" => stat_of(parts),
-        "names" => names_of(alloc, parts),
-        "inos" => inos_of(alloc, parts),
-        "err" => Ok(Reply::Err(parts.parse::<u8>().unwrap_or(255))),
-        "fault" => Ok(Reply::Fault(number(parts)?)),
-        _ => Ok(Reply::Err(255)),
+        Form::Done => Ok(Reply::Ok),
+        Form::Number => Ok(Reply::Number(number(parts)?)),
+        Form::Bytes => Ok(Reply::Bytes(Octets::from(expanded(alloc, parts)?))),
+        Form::Stat => stat_of(parts),
+        Form::Names => names_of(alloc, parts),
+        Form::Inos => inos_of(alloc, parts),
+        Form::Refusal => Ok(Reply::Err(octet(parts))),
+        Form::Fault => Ok(Reply::Fault(number(parts)?)),
     }
 }
 
@@ -31,55 +39,88 @@ pub(crate) fn reply_of(alloc: Global, told: &str) -> Result<Reply, AllocError> {
 fn stat_of(parts: &str) -> Result<Reply, AllocError> {
     let (ino, rest) = first_word(parts);
     let (kind, size) = first_word(rest);
+    let size = number(size)?;
     Ok(Reply::Stat {
-        ino: Ino(ino.parse::<u32>().unwrap_or(0)),
-        kind: kind.parse::<u8>().unwrap_or(0),
-        size: number(size)?,
+        ino: Ino(small(ino)),
+        kind: octet(kind),
+        size,
     })
 }
 
 fn names_of(alloc: Global, parts: &str) -> Result<Reply, AllocError> {
     let mut names = NameList::with_capacity(alloc, 0)?;
-    for part in parts.split_whitespace() {
-        let name = expanded(alloc, part)?;
-        names.push(name.as_slice())?;
-    }
+    push_names(alloc, parts, &mut names)?;
     Ok(Reply::Names(names))
+}
+
+/// Puts the names that parts tell behind others.
+fn push_names(alloc: Global, parts: &str, names: &mut NameList) -> Result<(), AllocError> {
+    for part in parts.split_whitespace() {
+        push_name(alloc, part, names)?;
+    }
+    Ok(())
+}
+
+fn push_name(alloc: Global, part: &str, names: &mut NameList) -> Result<(), AllocError> {
+    let name = expanded(alloc, part)?;
+    names.push(name.as_slice())
 }
 
 fn inos_of(alloc: Global, parts: &str) -> Result<Reply, AllocError> {
     let mut inos = Vec::new(alloc);
-    for part in parts.split_whitespace() {
-        inos.push(Ino(part.parse::<u32>().unwrap_or(0)))?;
-    }
+    push_inos(parts, &mut inos)?;
     Ok(Reply::Inos(InoList::from(inos)))
 }
 
-/// What is written of a reply. Where it is told that not all is, that is said in its place.
-pub(crate) fn text_of(alloc: Global, reply: &Reply) -> Result<Vec<u8>, AllocError> {
-    let mut sink = MemSink::new(alloc);
-    if write_reply(reply, &mut sink).is_err() {
-        return Vec::from_slice(alloc, NOT_SENT);
+/// Puts the inodes that parts tell behind others.
+fn push_inos(parts: &str, inos: &mut Vec<Ino>) -> Result<(), AllocError> {
+    for part in parts.split_whitespace() {
+        inos.push(Ino(small(part)))?;
     }
-    Vec::from_slice(alloc, sink.bytes().as_slice())
+    Ok(())
+}
+
+/// What a sink has of a text. Where it is told that not all was written, that is said in its place.
+pub(crate) fn text_sent(ended: Result<(), Failed>, sink: &MemSink) -> &[u8] {
+    match ended {
+        Ok(()) => sink.bytes().as_slice(),
+        Err(Failed) => NOT_SENT,
+    }
 }
 
 /// Puts a reply as it is written, its line end too.
 pub(crate) fn put_reply(alloc: Global, reply: &Reply, out: &mut String) -> Result<(), AllocError> {
-    let text = text_of(alloc, reply)?;
-    put_written(text.as_slice(), out)
+    let mut sink = MemSink::new(alloc);
+    let ended = write_reply(reply, &mut sink);
+    put_written(text_sent(ended, &sink), out)
 }
 
 /// Puts texts as they are written one behind the other.
 pub(crate) fn put_texts(alloc: Global, texts: &str, out: &mut String) -> Result<(), AllocError> {
     let mut sink = MemSink::new(alloc);
+    put_texts_over(alloc, texts, &mut sink, out)
+}
+
+/// The same over a sink that has nothing.
+fn put_texts_over(
+    alloc: Global,
+    texts: &str,
+    sink: &mut MemSink,
+    out: &mut String,
+) -> Result<(), AllocError> {
     for text in texts.split_whitespace() {
-        let text = expanded(alloc, text)?;
-        if write_text(text.as_slice(), &mut sink).is_err() {
-            return put_written(NOT_SENT, out);
-        }
+        write_told(alloc, text, sink)?;
     }
     put_written(sink.bytes().as_slice(), out)
+}
+
+/// Writes a text to a sink that fails where there is no memory.
+fn write_told(alloc: Global, text: &str, sink: &mut MemSink) -> Result<(), AllocError> {
+    let text = expanded(alloc, text)?;
+    match write_text(text.as_slice(), sink) {
+        Ok(()) => Ok(()),
+        Err(Failed) => Err(AllocError),
+    }
 }
 
 /// Puts what was written.

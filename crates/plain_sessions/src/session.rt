@@ -1,9 +1,11 @@
 //! A session: request lines that are answered one after the other, each in the state that the one before it left.
 
-use crate::replies::{put_reply, reply_of};
-use crate::rows::put_row;
+use crate::meanings::{let_go, put_each_of, put_parsed};
+use crate::replies::{put_reply, put_texts, reply_of};
+use crate::rows::put_lines_of;
 use crate::sinks::put_writing;
 use crate::states::{doomed, root_alone};
+use crate::words::{WORDS, Word, looked_up, small};
 use plain_requests::answer;
 use request_codec::parse_line;
 use rio_model::State;
@@ -14,16 +16,22 @@ use test_scripts::{expanded, first_word};
 /// The blocks of the volume of a session that does not tell them.
 const BLOCKS: u32 = 256;
 
+/// Puts each line of a script, and below it what the line comes to.
+pub(crate) fn tell_script(alloc: Global, script: &str, out: &mut String) -> Result<(), AllocError> {
+    let mut session = Session::new(alloc)?;
+    session.tell(script, out)
+}
+
 /// The state of the server, and the reply that the script told last.
 #[derive(Drop)]
-pub(crate) struct Session {
+struct Session {
     alloc: Global,
     state: State,
     reply: Reply,
 }
 
 impl Session {
-    pub(crate) fn new(alloc: Global) -> Result<Session, AllocError> {
+    fn new(alloc: Global) -> Result<Session, AllocError> {
         let state = root_alone(alloc, BLOCKS)?;
         Ok(Session {
             alloc,
@@ -32,44 +40,51 @@ impl Session {
         })
     }
 
-    /// A line of the script, and below it what the line comes to.
-    pub(crate) fn told(&mut self, line: &str) -> Result<String, AllocError> {
-        let mut out = String::new(self.alloc);
-        self.put_line(line, &mut out)?;
-        Ok(out)
+    /// Puts each line of a script, and below it what the line comes to.
+    fn tell(&mut self, script: &str, out: &mut String) -> Result<(), AllocError> {
+        for line in script.lines() {
+            self.put_line(line, out)?;
+        }
+        Ok(())
     }
 
     /// Puts a line and what it comes to.
     fn put_line(&mut self, line: &str, out: &mut String) -> Result<(), AllocError> {
         out.push_str(line)?;
-        out.push('\n')?;
+        out.push_str("\n")?;
         let (word, rest) = first_word(line);
-        self.put_command(word, rest, out)
+        match looked_up(WORDS.as_slice(), word) {
+            Some(word) => self.put_command(word, rest, out),
+            None => out.push_str("    no such command\n"),
+        }
     }
 
     /// Puts what a command comes to behind what was told.
-    fn put_command(&mut self, word: &str, rest: &str, out: &mut String) -> Result<(), AllocError> {
+    fn put_command(&mut self, word: Word, rest: &str, out: &mut String) -> Result<(), AllocError> {
         match word {
-            "" | "#" | "==" => Ok(()),
-            "volume" => self.begin(rest),
-            "doomed" => self.doom(rest),
-            ">" => self.put_answer(rest, false, out),
-            "max>" => self.put_answer(rest, true, out),
-            "reply" => self.put_reply(rest, out),
-            "sink" => put_writing(self.alloc, &self.reply, rest, out),
-            _ => put_row(self.alloc, word, rest, out),
+            Word::Nothing => Ok(()),
+            Word::Volume => self.begin(small(rest)),
+            Word::Doomed => self.doom(small(rest)),
+            Word::Request => self.put_answer(rest, false, out),
+            Word::GreatestRequest => self.put_answer(rest, true, out),
+            Word::Reply => self.put_reply(rest, out),
+            Word::Sink => put_writing(self.alloc, &self.reply, rest, out),
+            Word::Parse => put_parsed(self.alloc, rest, out),
+            Word::Each => put_each_of(self.alloc, rest, out),
+            Word::Lines => put_lines_of(self.alloc, rest, out),
+            Word::Texts => put_texts(self.alloc, rest, out),
         }
     }
 
     /// Begins anew, on a volume of so many blocks.
-    fn begin(&mut self, blocks: &str) -> Result<(), AllocError> {
-        self.state = root_alone(self.alloc, blocks.parse::<u32>().unwrap_or(0))?;
+    fn begin(&mut self, blocks: u32) -> Result<(), AllocError> {
+        self.state = root_alone(self.alloc, blocks)?;
         Ok(())
     }
 
     /// Opens a transaction that may only be aborted.
-    fn doom(&mut self, ino: &str) -> Result<(), AllocError> {
-        self.state.txns = doomed(self.alloc, ino.parse::<u32>().unwrap_or(0))?;
+    fn doom(&mut self, ino: u32) -> Result<(), AllocError> {
+        self.state.txns = doomed(self.alloc, ino)?;
         Ok(())
     }
 
@@ -80,8 +95,42 @@ impl Session {
         greatest: bool,
         out: &mut String,
     ) -> Result<(), AllocError> {
-        let request = request_of(self.alloc, line, greatest)?;
-        let Answered { next, reply } = answered(self.alloc, &self.state, request)?;
+        let line = expanded(self.alloc, line)?;
+        self.put_answer_to(line.as_slice(), greatest, out)
+    }
+
+    /// Puts the reply to a line. One that is no request is refused.
+    fn put_answer_to(
+        &mut self,
+        line: &[u8],
+        greatest: bool,
+        out: &mut String,
+    ) -> Result<(), AllocError> {
+        match parse_line(self.alloc, line)? {
+            Some(request) => self.serve(request, greatest, out),
+            None => put_refusal(self.alloc, out),
+        }
+    }
+
+    /// Makes a request, which then goes, with its last number as it is or 2^64 - 1.
+    fn serve(
+        &mut self,
+        request: Request,
+        greatest: bool,
+        out: &mut String,
+    ) -> Result<(), AllocError> {
+        let mut request = request;
+        if greatest {
+            set_greatest(&mut request);
+        }
+        let ended = self.make(&request, out);
+        let_go(request);
+        ended
+    }
+
+    /// Makes a request, and puts its reply.
+    fn make(&mut self, request: &Request, out: &mut String) -> Result<(), AllocError> {
+        let Answered { next, reply } = answer(self.alloc, &self.state, request)?;
         self.state = next;
         put_given(self.alloc, reply, out)
     }
@@ -93,32 +142,9 @@ impl Session {
     }
 }
 
-/// The request that a line is.
-fn request_of(alloc: Global, line: &str, greatest: bool) -> Result<Option<Request>, AllocError> {
-    let line = expanded(alloc, line)?;
-    let request = parse_line(alloc, line.as_slice())?;
-    if greatest {
-        Ok(request.map(with_greatest))
-    } else {
-        Ok(request)
-    }
-}
-
-/// What a request comes to. A line that is none is refused.
-fn answered(alloc: Global, s: &State, request: Option<Request>) -> Result<Answered, AllocError> {
-    match &request {
-        Some(request) => answer(alloc, s, request),
-        None => refused(s),
-    }
-}
-
-/// A refusal of what is no request.
-fn refused(s: &State) -> Result<Answered, AllocError> {
-    let next = s.clone()?;
-    Ok(Answered {
-        next,
-        reply: Some(Reply::Err(1)),
-    })
+/// Puts a refusal of what is no request.
+fn put_refusal(alloc: Global, out: &mut String) -> Result<(), AllocError> {
+    put_reply(alloc, &Reply::Err(1), out)
 }
 
 /// Puts a reply as it is written, or that there is none.
@@ -129,18 +155,11 @@ fn put_given(alloc: Global, reply: Option<Reply>, out: &mut String) -> Result<()
     }
 }
 
-/// A write or a change of a size, at or to 2^64 - 1. No line has such a number.
-fn with_greatest(request: Request) -> Request {
+/// A write or a change of a size is now at or to 2^64 - 1. No line has such a number.
+fn set_greatest(request: &mut Request) {
     match request {
-        Request::Write { path, bytes, .. } => Request::Write {
-            path,
-            off: u64::MAX,
-            bytes,
-        },
-        Request::Truncate { path, .. } => Request::Truncate {
-            path,
-            len: u64::MAX,
-        },
-        other => other,
+        Request::Write { off, .. } => *off = u64::MAX,
+        Request::Truncate { len, .. } => *len = u64::MAX,
+        _ => {}
     }
 }

@@ -1,8 +1,6 @@
 //! Replies written to sinks that take little, that take nothing, or one call of which fails.
 
-ghost use Rattle.std.specs.Prelude.{◌<◌};
-
-use crate::replies::text_of;
+use crate::replies::text_sent;
 use request_codec::{write_reply, write_text};
 use rio_base::{Failed, Sink};
 use rio_fakes::MemSink;
@@ -10,9 +8,10 @@ use rio_requests::Reply;
 use std::alloc::{AllocError, Global};
 use test_scripts::{first_word, number};
 
-/// A sink that takes at most three bytes a call.
+/// A sink that takes so many bytes a call at most, which may be none.
 #[derive(Drop)]
 struct Sipper {
+    most: usize,
     bytes: Vec<u8>,
     faults: u64,
 }
@@ -25,7 +24,11 @@ impl Sink for Sipper {
     ghost faults = { λ s. s.faults };
 
     fn write(&mut self, from: &[u8]) -> Result<usize, Failed> {
-        let taken = from.len().min(3);
+        let taken = from.len().min(self.most);
+        if taken == 0 {
+            self.faults = self.faults.saturating_add(1);
+            return Ok(0);
+        }
         if self.bytes.extend_from_slice(&from[..taken]).is_err() {
             self.faults = self.faults.saturating_add(1);
             return Err(Failed);
@@ -34,22 +37,14 @@ impl Sink for Sipper {
     }
 }
 
-/// A sink that takes nothing.
-#[derive(Drop)]
-struct Full {
-    faults: u64,
-}
-
-impl Sink for Full {
-    ghost use Rattle.std.specs.Prelude.{None};
-
-    ghost written = { λ s. None };
-
-    ghost faults = { λ s. s.faults };
-
-    fn write(&mut self, from: &[u8]) -> Result<usize, Failed> {
-        self.faults = self.faults.saturating_add(1);
-        Ok(0)
+impl Sipper {
+    /// It has nothing.
+    fn new(alloc: Global, most: usize) -> Sipper {
+        Sipper {
+            most,
+            bytes: Vec::new(alloc),
+            faults: 0,
+        }
     }
 }
 
@@ -60,49 +55,74 @@ pub(crate) fn put_writing(
     kind: &str,
     out: &mut String,
 ) -> Result<(), AllocError> {
-    let text = text_of(alloc, reply)?;
+    let mut whole = MemSink::new(alloc);
+    let ended = write_reply(reply, &mut whole);
+    put_at(alloc, reply, kind, text_sent(ended, &whole), out)
+}
+
+/// The same of a reply with this text.
+fn put_at(
+    alloc: Global,
+    reply: &Reply,
+    kind: &str,
+    text: &[u8],
+    out: &mut String,
+) -> Result<(), AllocError> {
     match kind {
-        "takes three" => put_sips(alloc, reply, text.as_slice(), out),
-        "takes nothing" => put_full(reply, out),
-        _ => {
-            let (_, call) = first_word(kind);
-            put_failing(alloc, reply, number(call)?.max(1), text.as_slice(), out)
-        }
+        "takes three" => put_sips(alloc, reply, text, out),
+        "takes nothing" => put_full(alloc, reply, out),
+        _ => put_failing(alloc, reply, kind, text, out),
     }
 }
 
 /// Puts what a sink that takes three bytes a call has of a reply.
 fn put_sips(alloc: Global, reply: &Reply, text: &[u8], out: &mut String) -> Result<(), AllocError> {
-    let mut sink = Sipper {
-        bytes: Vec::new(alloc),
-        faults: 0,
-    };
+    let mut sink = Sipper::new(alloc, 3);
     let ended = write_reply(reply, &mut sink);
     put_extent(ended, sink.bytes.as_slice(), text, out)
 }
 
 /// Puts how a reply and a text end at a sink that takes nothing.
-fn put_full(reply: &Reply, out: &mut String) -> Result<(), AllocError> {
-    let mut sink = Full { faults: 0 };
+fn put_full(alloc: Global, reply: &Reply, out: &mut String) -> Result<(), AllocError> {
+    let mut sink = Sipper::new(alloc, 0);
     let of_reply = ending(write_reply(reply, &mut sink));
     let of_text = ending(write_text(b"x", &mut sink));
-    let faults = sink.faults;
+    put_endings(of_reply, of_text, sink.faults, out)
+}
+
+/// Puts how a reply and a text ended, and how many faults a sink counted.
+fn put_endings(
+    of_reply: &str,
+    of_text: &str,
+    faults: u64,
+    out: &mut String,
+) -> Result<(), AllocError> {
     writeln!(out, "    reply {of_reply}, text {of_text}, {faults} faults")
 }
 
-/// Puts what a sink has of a reply whose `n`th call fails.
+/// Puts what a sink has of a reply of which a call fails.
 fn put_failing(
     alloc: Global,
     reply: &Reply,
-    n: u64,
+    kind: &str,
     text: &[u8],
     out: &mut String,
-) -> Result<(), AllocError>
-    requires { 0 < n }
-{
+) -> Result<(), AllocError> {
     let mut sink = MemSink::new(alloc);
-    sink.fail_call(n)?;
-    let ended = write_reply(reply, &mut sink);
+    put_failing_over(reply, kind, text, &mut sink, out)
+}
+
+/// The same over a sink that has nothing.
+fn put_failing_over(
+    reply: &Reply,
+    kind: &str,
+    text: &[u8],
+    sink: &mut MemSink,
+    out: &mut String,
+) -> Result<(), AllocError> {
+    let (_, call) = first_word(kind);
+    sink.fail_call(number(call)?.max(1))?;
+    let ended = write_reply(reply, sink);
     put_extent(ended, sink.bytes().as_slice(), text, out)
 }
 

@@ -13,9 +13,10 @@ pub(crate) fn root_alone(alloc: Global, blocks: u32) -> Result<State, AllocError
         ino: Ino(1),
         node: Node::Dir,
     };
+    let nodes = NodeRows::from(vec![in alloc; root]?);
     Ok(State {
         names: NameRows::from(Vec::new(alloc)),
-        nodes: NodeRows::from(vec![in alloc; root]?),
+        nodes,
         txns: TxnList::from(Vec::new(alloc)),
         shape: VolumeShape {
             version: 1,

@@ -1,5 +1,5 @@
 use Rattle.std.proofs.Common.{◌≡◌, ◌≤◌, ◌^◌, true, []}
-use Rattle.plain_sessions.proofs.rows.put_lines.Given as goal
+use Rattle.plain_sessions.proofs.rows.put_read.Given as goal
 
 -- the reader is within its limit, and has ended only where nothing is left
 abbrev pub invariant-loop : goal.invariant-loop
