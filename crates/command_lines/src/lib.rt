@@ -1,4 +1,4 @@
-//! The line that tells how a command ended, and the status of each end.
+//! The lines that tell how `serve`, `check` and `registry` ended, and the status of each such end.
 #![tactic(auto)]
 
 mod check_lines;

@@ -43,7 +43,7 @@ static DIGITS: [&str; 4] = ["0", "1", "2", "3"];
 /// What is read after a stop.
 #[derive(Drop)]
 pub struct Readings {
-    /// The lines of the requests that are made. They change nothing.
+    /// The lines of the requests that are made. They change no file: the last ones open a transaction and save words of it.
     pub lines: String,
     /// The lines that undo the transactions that a stop undoes. They are made of the plain definition alone.
     pub undoing: String,

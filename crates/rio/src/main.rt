@@ -11,25 +11,19 @@ use std::rt::Env;
 use std::{env, io};
 
 fn main(rt: HostRuntime) -> ExitCode {
-    let mut source = InputSource::new(rt.stdin());
     let mut sink = OutputSink::new(rt.stdout());
-    let host = OsHost::new(rt.alloc(), &rt);
-    let mut bench = BoardBench::new();
-    let (status, _) = match words_of(&rt, rt.alloc()) {
-        Ok(words) => run(rt.alloc(), &words, &mut source, &mut sink, host, &mut bench),
+    let words = match words_of(&rt, rt.alloc()) {
+        Ok(words) => words,
         Err(fail) if fail.kind() == io::ErrorKind::OutOfMemory => {
-            (end_without_memory(&mut sink), host)
+            return ExitCode::from(end_without_memory(&mut sink));
         }
         // A word that isn't UTF-8 stands in no command, and no words are none either.
-        Err(_) => run(
-            rt.alloc(),
-            &Vec::new(rt.alloc()),
-            &mut source,
-            &mut sink,
-            host,
-            &mut bench,
-        ),
+        Err(_) => Vec::new(rt.alloc()),
     };
+    let mut source = InputSource::new(rt.stdin());
+    let host = OsHost::new(rt.alloc(), &rt);
+    let mut bench = BoardBench::new();
+    let (status, _) = run(rt.alloc(), &words, &mut source, &mut sink, host, &mut bench);
     ExitCode::from(status)
 }
 
