@@ -1,3 +1,4 @@
+pub mod DiskSteps
 pub mod Places
 pub mod Ran
 pub mod Runs

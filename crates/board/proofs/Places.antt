@@ -1,13 +1,12 @@
 -- Words of protected pages and of scratch, and blocks that are written.
-use Rattle.std.proofs.Common.{◌≡◌, ℕ, ◌+◌, ◌-◌, ◌*◌, ◌<◌, ◌≤◌, ◌%◌, true, List, length, [], take, drop, slice_set, false, refl, le_refl, sym, ◌∙◌, ap, subst, arith, get_or-set_other, get_or-set_same, length-drop}
+use Rattle.std.proofs.Common.{◌≡◌, ℕ, ◌+◌, ◌-◌, ◌*◌, ◌<◌, ◌≤◌, ◌%◌, List, length, [], take, drop, slice_set, refl, le_refl, sym, ◌∙◌, ap, subst, arith, get_or-set_same, length-drop}
 use Rattle.std.proofs.lemmas.List.{drop-set-add, drop-set-lt, drop-take, length-set, length-take, take-set-le, take-take}
 use Rattle.std.proofs.Math.Seq.{take-set-lt}
-use Rattle.rio_base.specs.Disks.{DiskContents, FaultCount, block_at, with_torn, with_written}
-use Rattle.rio_base.specs.Machine.{Contents, Lasts, WritesBlock, after_wild}
+use Rattle.rio_base.specs.Disks.{DiskContents, FaultCount, block_at, with_written}
+use Rattle.rio_base.specs.Machine.{Contents, Lasts, after_wild}
 use Rattle.rio_base.proofs.MachineRules.{lasts_refl}
 use Rattle.rio_base.specs.declared.wild.Wild.TheVariants.{Changed}
 use Rattle.rio_base.specs.Memory.{page_at}
-use Rattle.rio_base.specs.declared.places.Block.{Block}
 use Rattle.board.specs.declared.guard.Guard.{Guard}
 use Rattle.board.specs.Boards.{contents_of, protected_count, protected_of, running_of, scratch_of}
 use Rattle.board.specs.BoardLaws.{count_all, count_protected}
@@ -65,30 +64,5 @@ page_in_memory words pages p whole h = omega (arith, whole, h, count_all words p
 
 -- ---- a block is written
 
-pub one_contents : (words now : List ℕ) (pages : ℕ) (disk : DiskContents) (old new : Guard) → protected_of now pages ≡ protected_of words pages → page_of new ≡ page_of old → contents_of now pages disk new ≡ contents_of words pages disk old
-one_contents words now pages disk old new h k = let c = contents_of now pages disk new in ap (λ ws. record c { words = ws }) h ∙ ap (λ o. record (contents_of words pages disk old) { open_page = o }) k
-
 pub written_block : (old new : DiskContents) (b : ℕ) (block : List ℕ) (faults : FaultCount) → b < length old.blocks → new ≡ with_written old b block faults → block_at new.blocks b ≡ block
 written_block old new b block faults h e = rw e (get_or-set_same old.blocks b block [] h)
-
--- a write that stops the board
-pub torn_writes : (words now : List ℕ) (pages : ℕ) (disk : DiskContents) (old new : Guard) (b : Block) → protected_of now pages ≡ protected_of words pages → page_of new ≡ page_of old → WritesBlock b.0 (contents_of words pages disk old) (contents_of now pages (with_torn disk b.0) new)
-torn_writes words now pages disk old new b h k = record {
-  words = h;
-  open_page = k;
-  around = refl;
-  count = refl;
-  others = λ c n. refl;
-  marks = λ c n. get_or-set_other disk.pending b.0 c true false n;
-}
-
--- a write that is made
-pub made_writes : (words now : List ℕ) (pages : ℕ) (disk : DiskContents) (old new : Guard) (b : Block) (block : List ℕ) (faults : FaultCount) → protected_of now pages ≡ protected_of words pages → page_of new ≡ page_of old → WritesBlock b.0 (contents_of words pages disk old) (contents_of now pages (with_written disk b.0 block faults) new)
-made_writes words now pages disk old new b block faults h k = record {
-  words = h;
-  open_page = k;
-  around = refl;
-  count = length-set disk.blocks b.0 block;
-  others = λ c n. get_or-set_other disk.blocks b.0 c block [] n;
-  marks = λ c n. get_or-set_other disk.pending b.0 c true false n;
-}

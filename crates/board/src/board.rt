@@ -310,7 +310,6 @@ impl<F: MemWords, D: DiskBlocks> Machine for Board<F, D> {
         }
     }
 
-    #[tactic(auto, using(crate::proofs::Places::page_length, crate::proofs::Places::page_protected, crate::proofs::Places::torn_writes, crate::proofs::Places::made_writes, crate::proofs::Places::one_contents, crate::proofs::Runs::step_advances, crate::proofs::Runs::halted_advances))]
     fn write_block(&mut self, b: Block, from: Page) -> Result<(), DiskFail>
         requires closed { (⟦<Board<F, D> as Machine>⟧.contents self.old).open_page ≡ None }
         requires block { b.0 < length (⟦<Board<F, D> as Machine>⟧.contents self.old).disk }
@@ -345,7 +344,6 @@ impl<F: MemWords, D: DiskBlocks> Machine for Board<F, D> {
         }
     }
 
-    #[tactic(auto, using(crate::proofs::Runs::step_advances, crate::proofs::Runs::halted_advances))]
     fn sync(&mut self) -> Result<(), DiskFail>
         requires closed { (⟦<Board<F, D> as Machine>⟧.contents self.old).open_page ≡ None }
         ensures synced { OnOk result (⟦<Board<F, D> as Machine>⟧.contents self.new ≡ record (⟦<Board<F, D> as Machine>⟧.contents self.old) { pending = replicate (length (⟦<Board<F, D> as Machine>⟧.contents self.old).disk) false; faults = (⟦<Board<F, D> as Machine>⟧.contents self.new).faults }) }
