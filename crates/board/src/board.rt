@@ -209,7 +209,6 @@ impl<F: MemWords, D: DiskBlocks> Machine for Board<F, D> {
         self.guard.open_page = None;
     }
 
-    #[tactic(auto, using(crate::proofs::Places::protected_changed, crate::proofs::Places::running_same, crate::proofs::Places::lasts_stored, crate::proofs::Runs::step_advances, crate::proofs::Runs::halted_advances))]
     fn store(&mut self, at: WordAt, v: u64) -> Result<(), Stopped>
         requires { (⟦<Board<F, D> as Machine>⟧.contents self.old).open_page ≡ Some (at.0 / 512) }
         ensures stored { OnOk result (⟦<Board<F, D> as Machine>⟧.contents self.new ≡ record (⟦<Board<F, D> as Machine>⟧.contents self.old) { words = slice_set (⟦<Board<F, D> as Machine>⟧.contents self.old).words at.0 v }) }
@@ -230,7 +229,6 @@ impl<F: MemWords, D: DiskBlocks> Machine for Board<F, D> {
         Ok(())
     }
 
-    #[tactic(auto, using(crate::proofs::StepRuns::makes_none, crate::proofs::StepRuns::sooner_none, rio_base::proofs::MachineRules::steps_refl, rio_base::proofs::MachineRules::steps_trans, rio_base::proofs::MachineRules::ends_after, rio_base::proofs::MachineRules::falls_refl, rio_base::proofs::MachineRules::falls_trans, crate::proofs::ScratchWords::scratch_none))]
     fn copy_page(&mut self, from: Page, to: Page) -> Result<(), Stopped>
         requires from { 512 * from.0 < length (⟦<Board<F, D> as Machine>⟧.contents self.old).words + length (⟦<Board<F, D> as Machine>⟧.run self.old).scratch }
         requires to { (⟦<Board<F, D> as Machine>⟧.contents self.old).open_page ≡ Some to.0 }
@@ -259,7 +257,6 @@ impl<F: MemWords, D: DiskBlocks> Machine for Board<F, D> {
         Ok(())
     }
 
-    #[tactic(auto, using(crate::proofs::StepRuns::makes_none, crate::proofs::StepRuns::sooner_none, rio_base::proofs::MachineRules::steps_refl, rio_base::proofs::MachineRules::steps_trans, rio_base::proofs::MachineRules::ends_after, rio_base::proofs::MachineRules::falls_refl, rio_base::proofs::MachineRules::falls_trans))]
     fn store_run(&mut self, at: WordAt, from: &[u64]) -> Result<(), Stopped>
         requires page { (⟦<Board<F, D> as Machine>⟧.contents self.old).open_page ≡ Some (at.0 / 512) }
         requires within { at.0 % 512 + length from.now ≤ 512 }

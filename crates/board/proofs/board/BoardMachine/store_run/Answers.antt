@@ -1,13 +1,15 @@
-use Rattle.std.proofs.Common.{ℕ, ◌≡◌, ◌<◌, ◌≤◌, ◌+◌, ◌-◌, ◌*◌, ◌/◌, List, length, refl, take, drop, ◌∙◌, sym, ap, subst, arith}
-use Rattle.rio_base.specs.Machine.{Advances, Contents}
-use Rattle.rio_base.proofs.MachineRules.{steps_trans}
+use Rattle.std.proofs.Common.{ℕ, ◌≡◌, ◌<◌, ◌≤◌, ◌+◌, ◌-◌, ◌*◌, ◌/◌, List, length, refl, take, drop, ◌∙◌, sym, ap, subst, arith, is_ok}
+use Rattle.std.proofs.lemmas.Result.{err_from_is_err_and}
+use Rattle.rio_base.specs.Machine.{Advances, Contents, Falls}
+use Rattle.rio_base.proofs.MachineRules.{falls_refl, falls_trans, steps_refl, steps_trans}
 use Rattle.rio_base.specs.Memory.{FrontStored}
 use Rattle.rio_base.specs.Rules.{true_false}
 use Rattle.board.specs.Boards.{protected_count, protected_of, running_of, scratch_of}
-use Rattle.board.specs.Guards.{HaltsWithin, MakesSteps, StopsAfter}
+use Rattle.board.specs.Guards.{HaltsWithin, MakesSteps, StopsAfter, page_of}
+use Rattle.board.proofs.DiskSteps.{disk_contents}
 use Rattle.board.proofs.Ran.{Ran, lasts_rest, ran_more, ran_stops, ran_stored, same_rest}
 use Rattle.board.proofs.Runs.{advances_halted, steps_advance}
-use Rattle.board.proofs.StepRuns.{never_at_once}
+use Rattle.board.proofs.StepRuns.{makes_none, never_at_once, sooner_none}
 use Rattle.board.proofs.WordRuns.{front_more, protected_front, run_part}
 use Rattle.board.proofs.board.BoardMachine.store_run.Goals as goal
 
@@ -163,4 +165,101 @@ returns-in_err-n-clause-ends g c =
       steps = steps_trans _ _ _ c.loop-done.invariant.steps b.ends.steps;
       told = λ s. b.ends.told refl;
       runs = λ n. absurd (n (grind (arith, c.from_residual.ensures)));
+    }
+
+pub returns-in_err-n-clause-begun : goal.returns-in_err-n-clause-begun
+returns-in_err-n-clause-begun g c =
+    let told = err_from_is_err_and c.from_residual.result c.from_residual.ensures.1 in
+    λ k. absurd (true_false (sym k ∙ ap is_ok told.1))
+
+pub returns-in_err-n-clause-counted : goal.returns-in_err-n-clause-counted
+returns-in_err-n-clause-counted g c =
+    let told = err_from_is_err_and c.from_residual.result c.from_residual.ensures.1 in
+    rw told.1 tt
+
+pub returns-in_err-n-clause-falls : goal.returns-in_err-n-clause-falls
+returns-in_err-n-clause-falls g c =
+    let i = c.loop-done.invariant in
+    let b = c.in_err-n.ensures in
+    let old = c.args.self.now in
+    let mid = c.loop-done.self in
+    let end = c.begin_run.new.self in
+    let words = g.F.MemWords.words in
+    falls_trans (page_of old.guard) _ _ _ i.steps b.ends.steps i.falls (subst (λ o. Falls o (running_of (words mid.mem) mid.scratch mid.guard) (running_of (words end.mem) end.scratch end.guard)) (ap (λ (m : Contents). m.open_page) i.rest) b.falls)
+
+pub returns-in_err-n-clause-frozen : goal.returns-in_err-n-clause-frozen
+returns-in_err-n-clause-frozen g c =
+    let i = c.loop-done.invariant in
+    let b = c.in_err-n.ensures in
+    let mid = c.loop-done.self in
+    let end = c.begin_run.new.self in
+    let words = g.F.MemWords.words in
+    let disk = g.D.DiskBlocks.contents in
+    λ s. disk_contents (words mid.mem) (words end.mem) mid.scratch end.scratch (disk mid.disk) (disk end.disk) mid.guard end.guard b.protected b.open_page (ap disk b.disk) ∙ (i.frozen s).1
+
+pub returns-in_err-n-clause-halted : goal.returns-in_err-n-clause-halted
+returns-in_err-n-clause-halted g c =
+    let told = err_from_is_err_and c.from_residual.result c.from_residual.ensures.1 in
+    λ s less. rw told.1 refl
+
+pub returns-in_err-n-clause-rest : goal.returns-in_err-n-clause-rest
+returns-in_err-n-clause-rest g c =
+    let i = c.loop-done.invariant in
+    let b = c.in_err-n.ensures in
+    let mid = c.loop-done.self in
+    let end = c.begin_run.new.self in
+    let words = g.F.MemWords.words in
+    let disk = g.D.DiskBlocks.contents in
+    same_rest (words mid.mem) (words end.mem) mid.scratch end.scratch (disk mid.disk) (disk end.disk) mid.guard end.guard (ap disk b.disk) b.open_page
+    ∙ ap (λ (m : Contents). record m { words = protected_of (words end.mem) end.scratch }) i.rest
+
+pub returns-in_err-n-clause-stored : goal.returns-in_err-n-clause-stored
+returns-in_err-n-clause-stored g c =
+    let told = err_from_is_err_and c.from_residual.result c.from_residual.ensures.1 in
+    rw told.1 tt
+
+pub returns-clause-ends : goal.returns-clause-ends
+returns-clause-ends g c =
+    let i = c.loop-done.invariant in
+    record { steps = i.steps; told = λ s. absurd (true_false (sym s)); runs = λ n. i.runs }
+
+pub returns-clause-falls : goal.returns-clause-falls
+returns-clause-falls g c = c.loop-done.invariant.falls
+
+pub returns-clause-frozen : goal.returns-clause-frozen
+returns-clause-frozen g c = λ s. (c.loop-done.invariant.frozen s).1
+
+pub returns-clause-halted : goal.returns-clause-halted
+returns-clause-halted g c =
+    let i = c.loop-done.invariant in
+    let all : c.loop-done.done ≡ length c.args.from.now = omega (arith, i.within, c.loop-done-test.false) in
+    λ s less. absurd (omega (arith, all, (i.frozen s).0, less))
+
+pub returns-clause-rest : goal.returns-clause-rest
+returns-clause-rest g c = c.loop-done.invariant.rest
+
+pub returns-clause-stored : goal.returns-clause-stored
+returns-clause-stored g c =
+    let i = c.loop-done.invariant in
+    let old = c.args.self.now in
+    let now = c.loop-done.self in
+    let words = g.F.MemWords.words in
+    let all : c.loop-done.done ≡ length c.args.from.now = omega (arith, i.within, c.loop-done-test.false) in
+    subst (λ n. FrontStored c.args.at.0 n c.args.from.now (protected_of (words old.mem) old.scratch) (protected_of (words now.mem) now.scratch)) all i.stored
+
+pub loop-done-init : goal.loop-done-init
+loop-done-init g c =
+    let old = c.args.self.now in
+    let words = g.F.MemWords.words in
+    record {
+      within = omega arith;
+      stored = record { count = refl; front = λ j less. absurd (omega (arith, less)); below = λ j less. refl; above = λ j more. refl };
+      count = refl;
+      rest = refl;
+      steps = steps_refl _;
+      falls = falls_refl _ _;
+      frozen = λ s. (refl, refl);
+      runs = refl;
+      sooner = sooner_none (protected_count (words old.mem) old.scratch) old.guard;
+      made = makes_none (protected_count (words old.mem) old.scratch) (scratch_of (words old.mem) old.scratch) old.guard;
     }
