@@ -1,6 +1,6 @@
 -- How the bytes that a reader passes over add up.
 use Rattle.std.proofs.Common.{◌≡◌, ◌≢◌, ℕ, ◌+◌, ◌≤◌, ◌^◌, Bool, true, false, List, [], ◌∷◌, ◌++◌, length, drop, refl, sym, ap, subst, ◌∙◌, inl, inr, arith, length-append, append_assoc, add-zero}
-use Rattle.std.specs.Prelude.{Option, Some, None}
+use Rattle.std.specs.Prelude.{Option, Some, None, Err, IsErrOf}
 use Rattle.std.proofs.lemmas.List.{append-nil}
 use Rattle.rio_base.specs.Pieces.{Lacks}
 use Rattle.rio_base.specs.Streams.{prepended, IsSpent}
@@ -160,3 +160,21 @@ more_unended old new left now more refills is =
 -- the input had ended: nothing is read
 pub stays_ended : (reading : Reading) (left : Option (List ℕ)) → reading.ended ≡ true → reading.held ≡ [] → IsSpent left → Gives reading left End reading left
 stays_ended reading left told empty spent = (passes_held reading reading left [] refl refl, record { told = told; empty = empty; spent = spent })
+
+-- the source failed, and nothing was read
+pub fails_unread : (old inside : Reading) (left now : Option (List ℕ)) (held : List ℕ) → inside ≡ old → old.held ≡ [] → old.taken ≤ 2 ^ 40 → held ≡ [] → now ≡ left → Fails old left Fault (record { held = held; taken = inside.taken; ended = inside.ended }) now
+fails_unread old inside left now held same empty within none unread =
+    let new : Reading = record { held = held; taken = inside.taken; ended = inside.ended } in
+    let was : inside.taken ≡ old.taken = ap (λ (r : Reading). r.taken) same in (
+      [],
+      record { whole = tt; passed = subst (λ (told : Option (List ℕ)). Passes old left [] new told) (sym unread) (passes_held old new left [] (empty ∙ sym none) was) },
+      none,
+      subst (λ n. n ≤ 2 ^ 40) (sym was) within,
+    )
+
+-- what failed otherwise is no fault of the source
+pub limit_no_fault : IsErrOf {T = Bool} (Err Limit) Fault → ⊥
+limit_no_fault e = cc
+
+pub memory_no_fault : IsErrOf {T = NextLine} (Err Memory) Fault → ⊥
+memory_no_fault e = cc

@@ -25,8 +25,7 @@ returns-clause-bytes g c =
 pub returns-clause-count : goal.returns-clause-count
 returns-clause-count g c =
     let most : c.in_ok-n.n ≤ length c.read_front.new.buffer = omega (arith, c.in_ok-n.ensures.bound, c.min-room.ensures, c.len.ensures, c.as_mut_slice.ensures.len, c.read_front.auto.buffer) in
-    let less : c.in_ok-n.n ≤ c.self.inside.bytes.len = omega (arith, c.in_ok-n.ensures.bound, c.min-room.ensures, c.len.ensures, c.as_mut_slice.ensures.len) in
-    (
+    let less : c.in_ok-n.n ≤ c.self.inside.bytes.len = omega (arith, c.in_ok-n.ensures.bound, c.min-room.ensures, c.len.ensures, c.as_mut_slice.ensures.len) in (
       ap (λ (held : List ℕ). length held) (front_held c.in_ok-n.n c.self.inside.bytes.len c.read_front.new.buffer _ most less) ∙ length-take-le c.in_ok-n.n c.read_front.new.buffer most,
       omega (arith, c.in_ok-n.ensures.bound, c.min-room.ensures),
     )
