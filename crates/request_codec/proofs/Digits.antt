@@ -168,15 +168,20 @@ pub record DecodedInto (digits out : List ℕ) (seen : Seen) (n : ℕ) (rest : L
 pub decoded_into_none : (digits out : List ℕ) (seen : Seen) → length digits ≡ 2 * length out → seen.largest ≡ 0 → seen.least ≡ 255 → DecodedInto digits out seen 0 digits
 decoded_into_none digits out seen fits largest least = record { fits = fits; within = omega arith; front = decoded_none digits seen largest least }
 
+-- two digits more are left for a byte that is there
+pub room_for_two : (digits out : List ℕ) (seen : Seen) (n : ℕ) (rest pair more : List ℕ) → DecodedInto digits out seen n rest → rest ≡ pair ++ more → length pair ≡ 2 → n < length out
+room_for_two digits out seen n rest pair more h split two =
+    let size : length rest ≡ 2 + length more = ap length split ∙ length-append pair more ∙ ap (λ k. k + length more) two in
+    let count : length (take n out) ≡ n = length-take-le n out h.within in
+    let ahead : length rest ≡ length digits - 2 * n = ap length h.front.left ∙ length-drop (2 * length (take n out)) digits ∙ ap (λ k. length digits - 2 * k) count in
+    omega (arith, size, ahead, h.fits)
+
 pub decoded_into_more : (digits out : List ℕ) (before : Seen) (high low : Digit) (after : Seen) (n i m : ℕ) (rest pair more : List ℕ) → DecodedInto digits out before n rest → rest ≡ pair ++ more → length pair ≡ 2 → Reads (slice_index pair 0) high → Reads (slice_index pair 1) low → Sees before high low after → i ≡ n → m ≡ n + 1
     → DecodedInto digits (slice_set out i (byte_of high low)) after m more
 decoded_into_more digits out before high low after n i m rest pair more old split two is_high is_low sees here next =
     let set : List ℕ = slice_set out i (byte_of high low) in
     let kept : length set ≡ length out = length-set out i (byte_of high low) in
-    let size : length rest ≡ 2 + length more = ap length split ∙ length-append pair more ∙ ap (λ k. k + length more) two in
-    let count : length (take n out) ≡ n = length-take-le n out old.within in
-    let ahead : length rest ≡ length digits - 2 * n = ap length old.front.left ∙ length-drop (2 * length (take n out)) digits ∙ ap (λ k. length digits - 2 * k) count in
-    let inside : n < length out = omega (arith, size, ahead, old.fits) in
+    let inside : n < length out = room_for_two digits out before n rest pair more old split two in
     let made : take m set ≡ take n out ++ byte_of high low ∷ [] = ap (λ j. take m (slice_set out j (byte_of high low))) here ∙ take-set_at out n m (byte_of high low) next inside in
     record {
       fits = old.fits ∙ ap (λ k. 2 * k) (sym kept);
