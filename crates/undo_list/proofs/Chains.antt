@@ -120,3 +120,7 @@ newest_at n f f1 head v h same is some read =
 
 pub older_at : (n : ℕ) (f f1 : RegionContent) (head : ℕ) (v : SavedAt) → IsRegion n f → f1 ≡ f → head ≡ f 3 → ((rs : List UndoRecord) → IsChain f1 head rs → IsNewest f1 rs v) → v.older ≡ undo_word f v.at
 older_at n f f1 head v h same is read = (read (undo_records f) (chain_at n f f1 head h same is)).older ∙ ap (λ (x : RegionContent). undo_word x v.at) same
+
+-- what was read of a record fits a number of 32 bits, as the region's words do
+pub newest_small : (n : ℕ) (f : RegionContent) (head : ℕ) (rs : List UndoRecord) (v : SavedAt) → IsRegion n f → n < 4294967296 → 0 < head → IsChain f head rs → IsNewest f rs v → v.first + v.count < 4294967296
+newest_small n f head rs v h small some c w = omega (arith, (newest_fits f head rs v some c w).within, h.size, small)

@@ -1,10 +1,14 @@
 -- What follows at one outcome of a call.
 use Rattle.std.specs.Prelude.{◌≡◌, ℕ, Result, Ok, Err, OnOk}
-use Rattle.std.proofs.Common.{sym, subst}
+use Rattle.std.proofs.Common.{sym, subst, ap, refl, ◌∙◌}
 use Rattle.rio_base.specs.declared.failures.RunFail.{RunFail}
 use Rattle.rio_base.specs.declared.failures.VolFail.{VolFail}
+use Rattle.rio_base.specs.declared.failures.VolFail.TheVariants.{Fault as WordFault, Stopped as WordStopped}
 use Rattle.rio_base.specs.declared.failures.RunFail.TheVariants.{Fault, Stopped}
-use Rattle.rio_base.specs.Blocks.{FaultAt, as_word}
+use Rattle.rio_base.specs.Blocks.{Ends, FaultAt, Health, as_word}
+use Rattle.rio_base.specs.Regions.{Stays}
+use Rattle.rio_base.specs.Rules.{goes_refl}
+use Rattle.rio_base.specs.Volume.{Below}
 
 pub on_ok : {T E : Type 0} (r : Result T E) (P Q : Type 0) → (P → Q) → OnOk r P → OnOk r Q
 on_ok (Ok x) P Q h p = h p
@@ -26,3 +30,15 @@ on_word r w P Q is h p = subst (λ (x : Result _ VolFail). OnOk x Q) (sym is) (o
 
 pub word_ok : {T : Type 0} (r : Result T RunFail) (x : T) (P : Type 0) → Ok x ≡ as_word r → OnOk r P → P
 word_ok r x P is p = on_word r (Ok x) P P is (λ h. h) p
+
+err_as : {T U : Type 0} (s t : Health) (e : VolFail) → Ends {T = T} s t (Err e) → Ends {T = U} s t (Err e)
+err_as s t WordFault h = record { later = h.later; stays = h.stays; cause = h.cause }
+err_as s t WordStopped h = record { later = h.later; stays = h.stays; cause = h.cause }
+
+-- a failure that is handed on ends a call as it ended the one that told it
+pub ends_err : {T U : Type 0} (s t : Health) (r : Result T VolFail) (q : Result U VolFail) (e d : VolFail) → r ≡ Err e → q ≡ Err d → d ≡ e → Ends s t r → Ends s t q
+ends_err s t r q e d told is same h = subst (λ x. Ends s t x) (sym (is ∙ ap Err same)) (err_as s t e (subst (λ x. Ends s t x) told h))
+
+-- no call was made
+pub stays_none : {S : Type 0} {keeps : S → S → Type 0} {stands : S → Type 0} {size : S → ℕ} {health : S → Health} {below : S → Below} (x : S) → keeps x x → stands x → Stays keeps stands size health below x x
+stays_none {health = health} {below = below} x rest ready = record { rest = rest; ready = ready; count = refl; goes = goes_refl (health x) (below x) }

@@ -175,8 +175,7 @@ fn covers<R: RegionWords>(r: &mut R, newest: u64, place: u32, count: u32) -> Res
         }
         let saved = record_at(r, head)?;
         if lies_between(&saved, left) {
-            let all = covers_from(r, saved, left)?;
-            return Ok(all);
+            return covers_from(r, saved, left);
         }
         left = Span {
             from: past(&saved, left.from),

@@ -35,8 +35,7 @@ pub fn word_at<R: RegionWords>(r: &mut R, place: u32) -> Result<u64, VolFail>
     ensures ends { Ends (R.health r.old) (R.health r.new) result }
 {
     let undo = r.word(UNDO)?;
-    let value = r.word(512 * (1 + undo as u32) + place)?;
-    Ok(value)
+    r.word(512 * (1 + undo as u32) + place)
 }
 
 /// Reads the words at a run of places from `place` on, as many as `into` has. After a failure `into` may hold anything.
@@ -73,8 +72,7 @@ pub fn read_places_with<R: RegionWords>(
     ensures stays { Stays R.keeps_rest R.ready R.count R.health R.below r.old r.new }
     ensures ends { Ends (R.health r.old) (R.health r.new) result }
 {
-    r.read_run(512 * (1 + undo) + place, into)?;
-    Ok(())
+    r.read_run(512 * (1 + undo) + place, into)
 }
 
 /// Stores the word at a place that a record covers. The words of before stay the same; `Fault` changes nothing.

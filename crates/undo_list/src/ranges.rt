@@ -73,8 +73,7 @@ fn stage_long<R: RegionWords>(
 {
     let front = [head, u64::from(place), u64::from(count)];
     uncounted(r.set_run(512 + at, &front))?;
-    copy_words(r, from, 515 + at, count)?;
-    Ok(())
+    copy_words(r, from, 515 + at, count)
 }
 
 /// Writes a record at undo word `at`, behind the others, and does not publish it: the head before it is `head`, and its

@@ -1,8 +1,11 @@
 use Rattle.std.proofs.Common.{◌-◌, ◌<◌, sym, subst, ◌∙◌, le_trans, arith}
+use Rattle.std.proofs.lemmas.Result.{err_from_is_err_and}
+use Rattle.rio_base.proofs.BlockRules.{ends_later}
 use Rattle.rio_base.proofs.RegionRules.{stays_trans}
 use Rattle.rio_model.specs.Undo.{CoversAll, IsRegion, undo_records}
 use Rattle.undo_list.proofs.Chains.{newest_fits, no_chain}
 use Rattle.undo_list.proofs.MarkedRecords.{Marking, marked_hole, marked_more, marking_next, passed_more}
+use Rattle.undo_list.proofs.Outcomes.{ends_err}
 use Rattle.undo_list.proofs.covering.covers_marking.Goals as goal
 
 pub returns-then-done-count-clause-value : goal.returns-then-done-count-clause-value
@@ -50,3 +53,49 @@ records-preserved g c =
       later = le_trans inv.later e.ends.later;
       running = c.in_ok-saved.ensures.ends.cause ∙ inv.running;
     }
+
+pub mark_record-requires-clause-fits : goal.mark_record-requires-clause-fits
+mark_record-requires-clause-fits g c = omega (arith, g.met.R.RegionWords.small c.records.r c.records.invariant.stays.ready, c.records.invariant.region.size, c.records.invariant.marking.within)
+
+pub record_at-requires-clause-ready : goal.record_at-requires-clause-ready
+record_at-requires-clause-ready g c = c.records.invariant.stays.ready
+
+pub record_at-requires-clause-region : goal.record_at-requires-clause-region
+record_at-requires-clause-region g c = c.records.invariant.region
+
+pub record_at-requires-clause-chain : goal.record_at-requires-clause-chain
+record_at-requires-clause-chain g c = (c.records.invariant.marking.rest, c.records.invariant.marking.chain)
+
+pub returns-in_err-saved-clause-words : goal.returns-in_err-saved-clause-words
+returns-in_err-saved-clause-words g c = c.record_at.ensures.words ∙ c.records.invariant.words
+
+pub returns-in_err-saved-clause-stays : goal.returns-in_err-saved-clause-stays
+returns-in_err-saved-clause-stays g c = stays_trans g.met.R.RegionWords.rest_trans c.records.invariant.stays c.record_at.ensures.stays
+
+pub returns-in_err-saved-clause-ends : goal.returns-in_err-saved-clause-ends
+returns-in_err-saved-clause-ends g c =
+    let p = err_from_is_err_and c.from_residual.result c.from_residual.ensures.1 in
+    ends_later _ _ _ _ c.records.invariant.later c.records.invariant.running (ends_err _ _ c.record_at.result c.from_residual.result _ _ c.in_err-saved.was p.1 p.2 c.record_at.ensures.ends)
+
+pub returns-in_err-saved-clause-value : goal.returns-in_err-saved-clause-value
+returns-in_err-saved-clause-value g c =
+    let p = err_from_is_err_and c.from_residual.result c.from_residual.ensures.1 in
+    rw (p.1) tt
+
+pub returns-then-done-count-clause-words : goal.returns-then-done-count-clause-words
+returns-then-done-count-clause-words g c = c.records.invariant.words
+
+pub returns-then-done-count-clause-stays : goal.returns-then-done-count-clause-stays
+returns-then-done-count-clause-stays g c = c.records.invariant.stays
+
+pub returns-then-done-count-clause-ends : goal.returns-then-done-count-clause-ends
+returns-then-done-count-clause-ends g c = record { later = c.records.invariant.later; stays = λ stopped. c.records.invariant.running ∙ stopped; cause = c.records.invariant.running }
+
+pub returns-then-saved-eq0-clause-words : goal.returns-then-saved-eq0-clause-words
+returns-then-saved-eq0-clause-words g c = c.records.invariant.words
+
+pub returns-then-saved-eq0-clause-stays : goal.returns-then-saved-eq0-clause-stays
+returns-then-saved-eq0-clause-stays g c = c.records.invariant.stays
+
+pub returns-then-saved-eq0-clause-ends : goal.returns-then-saved-eq0-clause-ends
+returns-then-saved-eq0-clause-ends g c = record { later = c.records.invariant.later; stays = λ stopped. c.records.invariant.running ∙ stopped; cause = c.records.invariant.running }
