@@ -1,12 +1,12 @@
 -- Laws of a record that is written, published, put back and dropped.
-use Rattle.std.proofs.Common.{◌≡◌, ℕ, ◌+◌, ◌-◌, ◌*◌, ◌<◌, ◌≤◌, List, [], ◌∷◌, ◌++◌, length, slice_index, take, refl, sym, ap, subst, ◌∙◌, arith, inl, inr, ◌⊎◌, true, false}
+use Rattle.std.proofs.Common.{◌≡◌, ℕ, ◌+◌, ◌-◌, ◌*◌, ◌<◌, ◌≤◌, List, [], ◌∷◌, ◌++◌, length, slice_index, take, length-take, refl, sym, ap, subst, ◌∙◌, arith, inl, inr, ◌⊎◌, true, false}
 use Rattle.std.proofs.lemmas.Bool.Decides.{nat_tests}
 use Rattle.std.proofs.lemmas.List.{get_or-append-add, get_or-take, get_or_append_left, length-append, length-take-le}
 use Rattle.std.proofs.lemmas.List.FromFn.{get_or-map-range_with_len, length-map-range_with_len}
 use Rattle.rio_base.specs.Rules.{true_false}
 use Rattle.rio_base.specs.Regions.{AreWords, RegionContent, put_word, put_words, OldOrPutWord, OldOrPutWords}
 use Rattle.rio_model.specs.Undo.{UndoRecord, taken, undo_word, undo_words, undo_records, is_covered, IsRecord, places, live, map_from, saving, IsRegion, SameSizes, Rests, Gains, Undoes, Dropped, Sets, Puts, CoversAll}
-use Rattle.rio_model.proofs.UndoRules.{Saves, rests_undoes, gains_undoes, undoes_trans, sizes_trans, head_sizes, head_live, gains_by, region_same, covered_keeps, covered_by, newest_dropped, dropped_by, sets_covered, puts_covered}
+use Rattle.rio_model.proofs.UndoRules.{Saves, keeps_refl, rests_refl, rests_undoes, gains_undoes, undoes_trans, sizes_trans, head_sizes, head_live, gains_by, region_same, covered_keeps, covered_by, newest_dropped, dropped_by, sets_covered, puts_covered}
 use Rattle.undo_list.specs.Copies.{CopiedFront, copied}
 use Rattle.undo_list.specs.Stages.{Off, Staged, PutsFront}
 use Rattle.undo_list.specs.declared.records.SavedAt.{SavedAt}
@@ -26,6 +26,29 @@ off_copied f src dst k x (inr h) = grind (arith, nat_tests)
 
 copied_at : (f : RegionContent) (src dst n k : ℕ) → k < n → copied f src dst n (dst + k) ≡ f (src + k)
 copied_at f src dst n k small = let place : src + (dst + k - dst) ≡ src + k = omega arith in grind (arith, nat_tests)
+
+put_out : (f : RegionContent) (at n x : ℕ) (words : List ℕ) → (x < at) ⊎ (at + n ≤ x) → put_words f at n words x ≡ f x
+put_out f at n x words (inl h) = grind (arith, nat_tests)
+put_out f at n x words (inr h) = grind (arith, nat_tests)
+
+-- a front of a run is stored within a span
+pub off_run : (f m g : RegionContent) (from to most : ℕ) (words : List ℕ) → m ≡ f → from + most ≤ to → OldOrPutWords m g from words most → Off from to f g
+off_run f m g from to most words same fits put = record { each = λ x out. ap (λ (w : RegionContent). w x) put.2 ∙ put_out m from put.0 x words (beside x out) ∙ ap (λ (w : RegionContent). w x) same }
+  where
+    beside : (x : ℕ) → (x < from) ⊎ (to ≤ x) → (x < from) ⊎ (from + put.0 ≤ x)
+    beside x (inl h) = inl h
+    beside x (inr h) = inr (omega (arith, put.1, fits))
+
+pub off_taken : (f m g : RegionContent) (from to k : ℕ) (words : List ℕ) → m ≡ f → from + k ≤ to → OldOrPutWords m g from (take k words) (length (take k words)) → Off from to f g
+off_taken f m g from to k words same fits put = off_run f m g from to (length (take k words)) (take k words) same (omega (arith, fits, length-take k words)) put
+
+-- a front of a copy is stored within a span
+pub off_front : (f g : RegionContent) (src from to dst n : ℕ) → from ≤ dst → dst + n ≤ to → CopiedFront f g src dst n → Off from to f g
+off_front f g src from to dst n low high c = record { each = λ x out. ap (λ (w : RegionContent). w x) c.2 ∙ off_copied f src dst c.0 x (beside x out) }
+  where
+    beside : (x : ℕ) → (x < from) ⊎ (to ≤ x) → (x < dst) ⊎ (dst + c.0 ≤ x)
+    beside x (inl h) = inl (omega (arith, low))
+    beside x (inr h) = inr (omega (arith, c.1, high))
 
 -- ---- a record is written
 
@@ -150,6 +173,24 @@ either_undoes n f g place k (inr h) = gains_undoes n f g place k h
 pub undoes_from : (n m : ℕ) (f1 f g : RegionContent) → f1 ≡ f → m ≡ n → Undoes m f1 g → Undoes n f g
 undoes_from n m f1 f g same size h = subst (λ k. Undoes k f g) size (subst (λ w. Undoes m w g) same h)
 
+-- ---- the same, told from an earlier state of the same words
+
+pub rests_same : (n : ℕ) (f g : RegionContent) → IsRegion n f → g ≡ f → Rests n f g
+rests_same n f g h same = subst (λ w. Rests n f w) (sym same) (rests_refl n f h)
+
+pub rests_from : (n m : ℕ) (f1 f g : RegionContent) → f1 ≡ f → m ≡ n → Rests m f1 g → Rests n f g
+rests_from n m f1 f g same size h = subst (λ k. Rests k f g) size (subst (λ w. Rests m w g) same h)
+
+pub gains_from : (n m : ℕ) (f1 f g : RegionContent) (place k : ℕ) → f1 ≡ f → m ≡ n → Gains m f1 g place k → Gains n f g place k
+gains_from n m f1 f g place k same size h = subst (λ j. Gains j f g place k) size (subst (λ w. Gains m w g place k) same h)
+
+pub either_from : (n m : ℕ) (f1 f g : RegionContent) (place k : ℕ) → f1 ≡ f → m ≡ n → Rests m f1 g ⊎ Gains m f1 g place k → Rests n f g ⊎ Gains n f g place k
+either_from n m f1 f g place k same size (inl h) = inl (rests_from n m f1 f g same size h)
+either_from n m f1 f g place k same size (inr h) = inr (gains_from n m f1 f g place k same size h)
+
+pub either_region : (n j : ℕ) (f g : RegionContent) (place k : ℕ) → j ≡ n → Rests n f g ⊎ Gains n f g place k → IsRegion j g
+either_region n j f g place k size h = subst (λ i. IsRegion i g) (sym size) (either_undoes n f g place k h).region
+
 -- ---- the newest record is put back
 
 -- a front of its words is back
@@ -215,6 +256,16 @@ puts_at n f f1 g at place k most words same h small covered is put = puts_covere
 
 pub puts_front : (n : ℕ) (f f1 g : RegionContent) (at place : ℕ) (words : List ℕ) → f1 ≡ f → IsRegion n f → CoversAll (undo_records f) place (length words) → at ≡ map_from f + place → OldOrPutWords f1 g at words (length words) → PutsFront n f g place words
 puts_front n f f1 g at place words same h covered is o = (o.0, o.1, puts_at n f f1 g at place o.0 (length words) words same h o.1 covered is o.2)
+
+-- none of them is stored
+pub puts_none : (n : ℕ) (f g : RegionContent) (place : ℕ) (words : List ℕ) → IsRegion n f → g ≡ f → Puts n f g place 0 words
+puts_none n f g place words h same = subst (λ w. Puts n f w place 0 words) (sym same) (record { keeps = keeps_refl n f h; present = λ i q. none q i })
+  where
+    none : (q : ℕ) → live f q ≡ put_words (live f) place 0 words q
+    none q = grind (arith, nat_tests)
+
+pub puts_from : (n m : ℕ) (f1 f g : RegionContent) (place k : ℕ) (words : List ℕ) → f1 ≡ f → m ≡ n → Puts m f1 g place k words → Puts n f g place k words
+puts_from n m f1 f g place k words same size h = subst (λ j. Puts j f g place k words) size (subst (λ w. Puts m w g place k words) same h)
 
 -- ---- the region at a later state
 

@@ -1,9 +1,12 @@
 use Rattle.std.proofs.Common.{arith, ap, sym, subst, ◌∙◌, ℕ, ◌+◌, ◌*◌, ◌≡◌, inl}
+use Rattle.std.proofs.lemmas.Result.{err_from_is_err_and}
 use Rattle.rio_base.specs.Regions.{OldOrPutWord, put_word}
+use Rattle.rio_base.proofs.BlockRules.{ends_later}
+use Rattle.rio_base.proofs.RegionRules.{stays_trans}
 use Rattle.rio_model.specs.Undo.{Gains}
-use Rattle.undo_list.specs.Stages.{Staged}
-use Rattle.undo_list.proofs.Outcomes.{on_ok}
 use Rattle.undo_list.proofs.Frames.{off_trans, off_same, rests_off, published, gains_put}
+use Rattle.undo_list.proofs.Outcomes.{on_ok, ends_err}
+use Rattle.undo_list.specs.Stages.{Staged}
 use Rattle.undo_list.proofs.ranges.publish.Goals as goal
 
 pub returns-in_err-stage-clause-fault : goal.returns-in_err-stage-clause-fault
@@ -54,3 +57,31 @@ returns-clause-either g c =
     let st = subst (λ h. Staged f (g.R.RegionWords.words c.stage.new.r) at h c.args.place (512 * (1 + c.args.header.undo) + c.args.place) k) c.requires.head c.in_ok-stage.ensures.ok in
     let ends = λ (v : ℕ) (e : v ≡ at + 1) (w : ℕ → ℕ) (o : OldOrPutWord (g.R.RegionWords.words c.stage.new.r) w 3 v). published n f (g.R.RegionWords.words c.stage.new.r) w at c.args.place (512 * (1 + c.args.header.undo) + c.args.place) k v c.requires.region c.requires.at off st (omega (arith, c.requires.undo)) c.requires.place c.requires.room e o in
     ends (c.from.result + 1) (ap (λ x. x + 1) c.from.ensures) (g.R.RegionWords.words c.set.new.self) c.set.ensures.either
+
+pub stage-requires-clause-ready : goal.stage-requires-clause-ready
+stage-requires-clause-ready g c = c.requires.ready
+
+pub set-requires-clause-ready : goal.set-requires-clause-ready
+set-requires-clause-ready g c = c.stage.ensures.stays.ready
+
+pub set-requires-clause-place : goal.set-requires-clause-place
+set-requires-clause-place g c = omega (arith, c.stage.ensures.stays.count, c.requires.region.size)
+
+pub returns-in_err-stage-clause-ok : goal.returns-in_err-stage-clause-ok
+returns-in_err-stage-clause-ok g c =
+    let p = err_from_is_err_and c.from_residual.result c.from_residual.ensures.1 in
+    rw (p.1) tt
+
+pub returns-in_err-stage-clause-stays : goal.returns-in_err-stage-clause-stays
+returns-in_err-stage-clause-stays g c = c.stage.ensures.stays
+
+pub returns-in_err-stage-clause-ends : goal.returns-in_err-stage-clause-ends
+returns-in_err-stage-clause-ends g c =
+    let p = err_from_is_err_and c.from_residual.result c.from_residual.ensures.1 in
+    ends_err _ _ c.stage.result c.from_residual.result _ _ c.in_err-stage.was p.1 p.2 c.stage.ensures.ends
+
+pub returns-clause-stays : goal.returns-clause-stays
+returns-clause-stays g c = stays_trans g.met.R.RegionWords.rest_trans c.stage.ensures.stays c.set.ensures.stays
+
+pub returns-clause-ends : goal.returns-clause-ends
+returns-clause-ends g c = ends_later _ _ _ _ c.stage.ensures.ends.later c.in_ok-stage.ensures.ends.cause c.set.ensures.ends

@@ -1,10 +1,12 @@
 use Rattle.std.proofs.Common.{arith, ap, sym, subst, ◌∙◌, ℕ, ◌+◌, ◌≡◌, inl, refl}
-use Rattle.rio_base.proofs.RegionRules.{stays_trans}
+use Rattle.std.proofs.lemmas.Result.{err_from_is_err_and}
 use Rattle.rio_base.specs.Regions.{OldOrPutWord, put_word}
+use Rattle.rio_base.proofs.BlockRules.{ends_later}
+use Rattle.rio_base.proofs.RegionRules.{stays_trans}
 use Rattle.rio_model.specs.Undo.{Gains, map_from}
-use Rattle.undo_list.specs.Stages.{Staged}
-use Rattle.undo_list.proofs.Outcomes.{on_ok}
 use Rattle.undo_list.proofs.Frames.{off_trans, off_same, rests_off, published, gains_put}
+use Rattle.undo_list.proofs.Outcomes.{on_ok, ends_err}
+use Rattle.undo_list.specs.Stages.{Staged}
 use Rattle.undo_list.proofs.ranges.publish_pair.Goals as goal
 
 pub returns-in_err-stage_pair-clause-fault : goal.returns-in_err-stage_pair-clause-fault
@@ -45,3 +47,28 @@ returns-clause-either g c =
 
 pub returns-clause-stays : goal.returns-clause-stays
 returns-clause-stays g c = stays_trans g.met.R.RegionWords.rest_trans c.stage_pair.ensures.stays c.set.ensures.stays
+
+pub stage_pair-requires-clause-ready : goal.stage_pair-requires-clause-ready
+stage_pair-requires-clause-ready g c = c.requires.ready
+
+pub set-requires-clause-ready : goal.set-requires-clause-ready
+set-requires-clause-ready g c = c.stage_pair.ensures.stays.ready
+
+pub set-requires-clause-place : goal.set-requires-clause-place
+set-requires-clause-place g c = omega (arith, c.stage_pair.ensures.stays.count, c.requires.region.size)
+
+pub returns-in_err-stage_pair-clause-ok : goal.returns-in_err-stage_pair-clause-ok
+returns-in_err-stage_pair-clause-ok g c =
+    let p = err_from_is_err_and c.from_residual.result c.from_residual.ensures.1 in
+    rw (p.1) tt
+
+pub returns-in_err-stage_pair-clause-stays : goal.returns-in_err-stage_pair-clause-stays
+returns-in_err-stage_pair-clause-stays g c = c.stage_pair.ensures.stays
+
+pub returns-in_err-stage_pair-clause-ends : goal.returns-in_err-stage_pair-clause-ends
+returns-in_err-stage_pair-clause-ends g c =
+    let p = err_from_is_err_and c.from_residual.result c.from_residual.ensures.1 in
+    ends_err _ _ c.stage_pair.result c.from_residual.result _ _ c.in_err-stage_pair.was p.1 p.2 c.stage_pair.ensures.ends
+
+pub returns-clause-ends : goal.returns-clause-ends
+returns-clause-ends g c = ends_later _ _ _ _ c.stage_pair.ensures.ends.later c.in_ok-stage_pair.ensures.ends.cause c.set.ensures.ends

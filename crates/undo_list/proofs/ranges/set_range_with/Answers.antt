@@ -1,4 +1,11 @@
-use Rattle.undo_list.proofs.Frames.{undoes_from, either_undoes}
+use Rattle.std.proofs.Common.{ap, arith, inl, le_trans, subst, sym, ℕ, ◌+◌, ◌∙◌, ◌≤◌}
+use Rattle.std.proofs.lemmas.Result.{err_from_is_err_and}
+use Rattle.rio_base.proofs.RegionRules.{stays_trans}
+use Rattle.rio_base.proofs.Rules.{ends_by_after}
+use Rattle.rio_model.proofs.UndoRules.{rests_undoes}
+use Rattle.rio_model.specs.Undo.{places, taken, undo_records, undo_words}
+use Rattle.undo_list.proofs.Frames.{undoes_from, either_undoes, either_from, either_region, gains_from, region_at, rests_from, rests_same}
+use Rattle.undo_list.proofs.Outcomes.{ends_did, ends_full, ends_handed, is_fault, never_full, no_err}
 use Rattle.undo_list.proofs.ranges.set_range_with.Goals as goal
 
 pub returns-in_err-publish-clause-before : goal.returns-in_err-publish-clause-before
@@ -8,3 +15,177 @@ returns-in_err-publish-clause-before g c =
 pub returns-clause-before : goal.returns-clause-before
 returns-clause-before g c =
     undoes_from (g.R.RegionWords.count c.args.r.now) (g.R.RegionWords.count c.taken.new.r) (g.R.RegionWords.words c.taken.new.r) (g.R.RegionWords.words c.args.r.now) (g.R.RegionWords.words c.publish.new.r) c.taken.ensures.words c.taken.ensures.stays.count (either_undoes (g.R.RegionWords.count c.taken.new.r) (g.R.RegionWords.words c.taken.new.r) (g.R.RegionWords.words c.publish.new.r) c.args.place c.args.count c.publish.ensures.either)
+
+pub taken-requires-clause-ready : goal.taken-requires-clause-ready
+taken-requires-clause-ready g c = c.requires.ready
+
+pub taken-requires-clause-region : goal.taken-requires-clause-region
+taken-requires-clause-region g c = c.requires.region
+
+pub taken-requires-clause-head : goal.taken-requires-clause-head
+taken-requires-clause-head g c = c.requires.header.head
+
+pub publish-requires-clause-ready : goal.publish-requires-clause-ready
+publish-requires-clause-ready g c = c.taken.ensures.stays.ready
+
+pub publish-requires-clause-region : goal.publish-requires-clause-region
+publish-requires-clause-region g c = region_at _ _ _ _ c.requires.region c.taken.ensures.stays.count c.taken.ensures.words
+
+pub publish-requires-clause-at : goal.publish-requires-clause-at
+publish-requires-clause-at g c = c.in_ok-at.ensures.value ∙ sym (ap (λ (w : ℕ → ℕ). taken (undo_records w)) c.taken.ensures.words)
+
+pub publish-requires-clause-undo : goal.publish-requires-clause-undo
+publish-requires-clause-undo g c = c.requires.header.undo ∙ sym (ap (λ (w : ℕ → ℕ). w 1) c.taken.ensures.words)
+
+pub publish-requires-clause-head : goal.publish-requires-clause-head
+publish-requires-clause-head g c = c.requires.header.head ∙ sym (ap (λ (w : ℕ → ℕ). w 3) c.taken.ensures.words)
+
+pub publish-requires-clause-place : goal.publish-requires-clause-place
+publish-requires-clause-place g c = subst (λ (w : ℕ → ℕ). c.args.place + c.args.count ≤ places w) (sym c.taken.ensures.words) c.requires.place
+
+pub publish-requires-clause-room : goal.publish-requires-clause-room
+publish-requires-clause-room g c = subst (λ (w : ℕ → ℕ). c.in_ok-at.at + 3 + c.args.count ≤ undo_words w) (sym c.taken.ensures.words) (omega (arith, c.requires.header.undo, c.if-header-at.false))
+
+pub overflow_sub-header : goal.overflow_sub-header
+overflow_sub-header g c = omega (arith, c.requires.header.undo, c.in_ok-at.ensures.value, c.requires.region.room)
+
+pub returns-in_err-at-clause-ok : goal.returns-in_err-at-clause-ok
+returns-in_err-at-clause-ok g c =
+    let p = err_from_is_err_and c.from_residual.result c.from_residual.ensures.1 in
+    rw (p.1) tt
+
+pub returns-in_err-at-clause-room : goal.returns-in_err-at-clause-room
+returns-in_err-at-clause-room g c =
+    let p = err_from_is_err_and c.from_residual.result c.from_residual.ensures.1 in
+    rw (p.1) tt
+
+pub returns-in_err-at-clause-full : goal.returns-in_err-at-clause-full
+returns-in_err-at-clause-full g c =
+    let p = err_from_is_err_and c.from_residual.result c.from_residual.ensures.1 in
+    λ full. absurd (never_full c.from_residual.result _ p.0 p.1 p.2 full)
+
+pub returns-in_err-at-clause-refused : goal.returns-in_err-at-clause-refused
+returns-in_err-at-clause-refused g c = λ full. c.taken.ensures.words
+
+pub returns-in_err-at-clause-fault : goal.returns-in_err-at-clause-fault
+returns-in_err-at-clause-fault g c = λ fault. rests_same (g.R.RegionWords.count c.args.r.now) (g.R.RegionWords.words c.args.r.now) (g.R.RegionWords.words c.taken.new.r) c.requires.region c.taken.ensures.words
+
+pub returns-in_err-at-clause-either : goal.returns-in_err-at-clause-either
+returns-in_err-at-clause-either g c = inl (rests_same (g.R.RegionWords.count c.args.r.now) (g.R.RegionWords.words c.args.r.now) (g.R.RegionWords.words c.taken.new.r) c.requires.region c.taken.ensures.words)
+
+pub returns-in_err-at-clause-before : goal.returns-in_err-at-clause-before
+returns-in_err-at-clause-before g c =
+    rests_undoes (g.R.RegionWords.count c.args.r.now) (g.R.RegionWords.words c.args.r.now) (g.R.RegionWords.words c.taken.new.r) (rests_same (g.R.RegionWords.count c.args.r.now) (g.R.RegionWords.words c.args.r.now) (g.R.RegionWords.words c.taken.new.r) c.requires.region c.taken.ensures.words)
+
+pub returns-in_err-at-clause-region : goal.returns-in_err-at-clause-region
+returns-in_err-at-clause-region g c = region_at _ _ _ _ c.requires.region c.taken.ensures.stays.count c.taken.ensures.words
+
+pub returns-in_err-at-clause-stays : goal.returns-in_err-at-clause-stays
+returns-in_err-at-clause-stays g c = c.taken.ensures.stays
+
+pub returns-in_err-at-clause-ends : goal.returns-in_err-at-clause-ends
+returns-in_err-at-clause-ends g c =
+    let p = err_from_is_err_and c.from_residual.result c.from_residual.ensures.1 in
+    ends_handed _ _ c.taken.result c.from_residual.result _ _ c.in_err-at.was p.1 p.2 c.taken.ensures.ends
+
+pub returns-then-header-at-clause-refused : goal.returns-then-header-at-clause-refused
+returns-then-header-at-clause-refused g c = λ full. c.taken.ensures.words
+
+pub returns-then-header-at-clause-fault : goal.returns-then-header-at-clause-fault
+returns-then-header-at-clause-fault g c = λ fault. rests_same (g.R.RegionWords.count c.args.r.now) (g.R.RegionWords.words c.args.r.now) (g.R.RegionWords.words c.taken.new.r) c.requires.region c.taken.ensures.words
+
+pub returns-then-header-at-clause-either : goal.returns-then-header-at-clause-either
+returns-then-header-at-clause-either g c = inl (rests_same (g.R.RegionWords.count c.args.r.now) (g.R.RegionWords.words c.args.r.now) (g.R.RegionWords.words c.taken.new.r) c.requires.region c.taken.ensures.words)
+
+pub returns-then-header-at-clause-before : goal.returns-then-header-at-clause-before
+returns-then-header-at-clause-before g c =
+    rests_undoes (g.R.RegionWords.count c.args.r.now) (g.R.RegionWords.words c.args.r.now) (g.R.RegionWords.words c.taken.new.r) (rests_same (g.R.RegionWords.count c.args.r.now) (g.R.RegionWords.words c.args.r.now) (g.R.RegionWords.words c.taken.new.r) c.requires.region c.taken.ensures.words)
+
+pub returns-then-header-at-clause-region : goal.returns-then-header-at-clause-region
+returns-then-header-at-clause-region g c = region_at _ _ _ _ c.requires.region c.taken.ensures.stays.count c.taken.ensures.words
+
+pub returns-then-header-at-clause-stays : goal.returns-then-header-at-clause-stays
+returns-then-header-at-clause-stays g c = c.taken.ensures.stays
+
+pub returns-then-header-at-clause-ok : goal.returns-then-header-at-clause-ok
+returns-then-header-at-clause-ok g c = tt
+
+pub returns-then-header-at-clause-room : goal.returns-then-header-at-clause-room
+returns-then-header-at-clause-room g c = tt
+
+pub returns-then-header-at-clause-full : goal.returns-then-header-at-clause-full
+returns-then-header-at-clause-full g c = λ full. omega (arith, c.requires.header.undo, c.in_ok-at.ensures.value, c.if-header-at.true)
+
+pub returns-then-header-at-clause-ends : goal.returns-then-header-at-clause-ends
+returns-then-header-at-clause-ends g c = ends_full _ _ c.taken.ensures.ends.later c.in_ok-at.ensures.ends.cause
+
+pub returns-in_err-publish-clause-ok : goal.returns-in_err-publish-clause-ok
+returns-in_err-publish-clause-ok g c =
+    let p = err_from_is_err_and c.from_residual-in_err-publish.result c.from_residual-in_err-publish.ensures.1 in
+    rw (p.1) tt
+
+pub returns-in_err-publish-clause-room : goal.returns-in_err-publish-clause-room
+returns-in_err-publish-clause-room g c =
+    let p = err_from_is_err_and c.from_residual-in_err-publish.result c.from_residual-in_err-publish.ensures.1 in
+    rw (p.1) tt
+
+pub returns-in_err-publish-clause-full : goal.returns-in_err-publish-clause-full
+returns-in_err-publish-clause-full g c =
+    let p = err_from_is_err_and c.from_residual-in_err-publish.result c.from_residual-in_err-publish.ensures.1 in
+    λ full. absurd (never_full c.from_residual-in_err-publish.result _ p.0 p.1 p.2 full)
+
+pub returns-in_err-publish-clause-refused : goal.returns-in_err-publish-clause-refused
+returns-in_err-publish-clause-refused g c =
+    let p = err_from_is_err_and c.from_residual-in_err-publish.result c.from_residual-in_err-publish.ensures.1 in
+    λ full. absurd (never_full c.from_residual-in_err-publish.result _ p.0 p.1 p.2 full)
+
+pub returns-in_err-publish-clause-fault : goal.returns-in_err-publish-clause-fault
+returns-in_err-publish-clause-fault g c =
+    let p = err_from_is_err_and c.from_residual-in_err-publish.result c.from_residual-in_err-publish.ensures.1 in
+    λ fault. rests_from (g.R.RegionWords.count c.args.r.now) (g.R.RegionWords.count c.taken.new.r) (g.R.RegionWords.words c.taken.new.r) (g.R.RegionWords.words c.args.r.now) (g.R.RegionWords.words c.publish.new.r) c.taken.ensures.words c.taken.ensures.stays.count (c.publish.ensures.fault (is_fault c.publish.result c.from_residual-in_err-publish.result _ p.0 c.in_err-publish.was p.1 p.2 fault))
+
+pub returns-in_err-publish-clause-either : goal.returns-in_err-publish-clause-either
+returns-in_err-publish-clause-either g c =
+    either_from (g.R.RegionWords.count c.args.r.now) (g.R.RegionWords.count c.taken.new.r) (g.R.RegionWords.words c.taken.new.r) (g.R.RegionWords.words c.args.r.now) (g.R.RegionWords.words c.publish.new.r) c.args.place c.args.count c.taken.ensures.words c.taken.ensures.stays.count c.publish.ensures.either
+
+pub returns-in_err-publish-clause-region : goal.returns-in_err-publish-clause-region
+returns-in_err-publish-clause-region g c =
+    either_region (g.R.RegionWords.count c.taken.new.r) (g.R.RegionWords.count c.publish.new.r) (g.R.RegionWords.words c.taken.new.r) (g.R.RegionWords.words c.publish.new.r) c.args.place c.args.count c.publish.ensures.stays.count c.publish.ensures.either
+
+pub returns-in_err-publish-clause-stays : goal.returns-in_err-publish-clause-stays
+returns-in_err-publish-clause-stays g c = stays_trans g.met.R.RegionWords.rest_trans c.taken.ensures.stays c.publish.ensures.stays
+
+pub returns-in_err-publish-clause-ends : goal.returns-in_err-publish-clause-ends
+returns-in_err-publish-clause-ends g c =
+    let p = err_from_is_err_and c.from_residual-in_err-publish.result c.from_residual-in_err-publish.ensures.1 in
+    ends_by_after _ _ _ _ _ c.taken.ensures.ends.later c.in_ok-at.ensures.ends.cause (ends_handed _ _ c.publish.result c.from_residual-in_err-publish.result _ _ c.in_err-publish.was p.1 p.2 c.publish.ensures.ends)
+
+pub returns-clause-either : goal.returns-clause-either
+returns-clause-either g c =
+    either_from (g.R.RegionWords.count c.args.r.now) (g.R.RegionWords.count c.taken.new.r) (g.R.RegionWords.words c.taken.new.r) (g.R.RegionWords.words c.args.r.now) (g.R.RegionWords.words c.publish.new.r) c.args.place c.args.count c.taken.ensures.words c.taken.ensures.stays.count c.publish.ensures.either
+
+pub returns-clause-region : goal.returns-clause-region
+returns-clause-region g c =
+    either_region (g.R.RegionWords.count c.taken.new.r) (g.R.RegionWords.count c.publish.new.r) (g.R.RegionWords.words c.taken.new.r) (g.R.RegionWords.words c.publish.new.r) c.args.place c.args.count c.publish.ensures.stays.count c.publish.ensures.either
+
+pub returns-clause-stays : goal.returns-clause-stays
+returns-clause-stays g c = stays_trans g.met.R.RegionWords.rest_trans c.taken.ensures.stays c.publish.ensures.stays
+
+pub returns-clause-ok : goal.returns-clause-ok
+returns-clause-ok g c =
+    gains_from (g.R.RegionWords.count c.args.r.now) (g.R.RegionWords.count c.taken.new.r) (g.R.RegionWords.words c.taken.new.r) (g.R.RegionWords.words c.args.r.now) (g.R.RegionWords.words c.publish.new.r) c.args.place c.args.count c.taken.ensures.words c.taken.ensures.stays.count c.in_ok-publish.ensures.ok
+
+pub returns-clause-room : goal.returns-clause-room
+returns-clause-room g c = omega (arith, c.requires.header.undo, c.in_ok-at.ensures.value, c.if-header-at.false)
+
+pub returns-clause-full : goal.returns-clause-full
+returns-clause-full g c = λ told. absurd (no_err tt _ told)
+
+pub returns-clause-refused : goal.returns-clause-refused
+returns-clause-refused g c = λ told. absurd (no_err tt _ told)
+
+pub returns-clause-fault : goal.returns-clause-fault
+returns-clause-fault g c = λ told. absurd (no_err tt _ told)
+
+pub returns-clause-ends : goal.returns-clause-ends
+returns-clause-ends g c = ends_did _ _ tt (le_trans c.taken.ensures.ends.later c.publish.ensures.ends.later) (c.in_ok-publish.ensures.ends.cause ∙ c.in_ok-at.ensures.ends.cause)

@@ -1,8 +1,12 @@
-use Rattle.std.proofs.Common.{ap, sym, refl, ℕ, ◌+◌, ◌*◌, ◌≡◌}
-use Rattle.rio_model.specs.Undo.{map_from}
+use Rattle.std.proofs.Common.{ap, sym, refl, ℕ, ◌+◌, ◌*◌, ◌≡◌, arith, le_trans, subst, ◌∙◌}
+use Rattle.std.proofs.lemmas.Result.{err_from_is_err_and}
+use Rattle.rio_base.proofs.BlockRules.{ends_later}
 use Rattle.rio_base.proofs.RegionRules.{stays_trans}
-use Rattle.undo_list.proofs.Chains.{newest_at, older_at}
+use Rattle.rio_model.proofs.UndoRules.{undoes_refl}
+use Rattle.rio_model.specs.Undo.{map_from, Undoes, undo_records}
+use Rattle.undo_list.proofs.Chains.{newest_at, older_at, chain_at}
 use Rattle.undo_list.proofs.Frames.{front_back, newest_ends}
+use Rattle.undo_list.proofs.Outcomes.{ends_err}
 use Rattle.undo_list.proofs.rewinding.rewind_newest.Goals as goal
 
 pub returns-in_err-copy_words-clause-before : goal.returns-in_err-copy_words-clause-before
@@ -61,3 +65,70 @@ pub returns-clause-stays : goal.returns-clause-stays
 returns-clause-stays g c =
     let trans = g.met.R.RegionWords.rest_trans in
     stays_trans trans c.record_at.ensures.stays (stays_trans trans c.copy_words.ensures.stays c.set.ensures.stays)
+
+pub record_at-requires-clause-ready : goal.record_at-requires-clause-ready
+record_at-requires-clause-ready g c = c.requires.ready
+
+pub record_at-requires-clause-region : goal.record_at-requires-clause-region
+record_at-requires-clause-region g c = c.requires.region
+
+pub record_at-requires-clause-chain : goal.record_at-requires-clause-chain
+record_at-requires-clause-chain g c =
+    (undo_records (g.R.RegionWords.words c.args.r.now), chain_at (g.R.RegionWords.count c.args.r.now) (g.R.RegionWords.words c.args.r.now) (g.R.RegionWords.words c.args.r.now) c.args.head c.requires.region refl c.requires.head)
+
+pub copy_words-requires-clause-ready : goal.copy_words-requires-clause-ready
+copy_words-requires-clause-ready g c = c.record_at.ensures.stays.ready
+
+pub set-requires-clause-ready : goal.set-requires-clause-ready
+set-requires-clause-ready g c = c.copy_words.ensures.stays.ready
+
+pub set-requires-clause-place : goal.set-requires-clause-place
+set-requires-clause-place g c = omega (arith, c.copy_words.ensures.stays.count, c.record_at.ensures.stays.count, c.requires.region.size)
+
+pub returns-in_err-newest-clause-head : goal.returns-in_err-newest-clause-head
+returns-in_err-newest-clause-head g c =
+    let p = err_from_is_err_and c.from_residual.result c.from_residual.ensures.1 in
+    rw (p.1) tt
+
+pub returns-in_err-newest-clause-before : goal.returns-in_err-newest-clause-before
+returns-in_err-newest-clause-before g c =
+    subst (λ w. Undoes (g.R.RegionWords.count c.args.r.now) (g.R.RegionWords.words c.args.r.now) w) (sym c.record_at.ensures.words) (undoes_refl (g.R.RegionWords.count c.args.r.now) (g.R.RegionWords.words c.args.r.now) c.requires.region)
+
+pub returns-in_err-newest-clause-stays : goal.returns-in_err-newest-clause-stays
+returns-in_err-newest-clause-stays g c = c.record_at.ensures.stays
+
+pub returns-in_err-newest-clause-ends : goal.returns-in_err-newest-clause-ends
+returns-in_err-newest-clause-ends g c =
+    let p = err_from_is_err_and c.from_residual.result c.from_residual.ensures.1 in
+    ends_err _ _ c.record_at.result c.from_residual.result _ _ c.in_err-newest.was p.1 p.2 c.record_at.ensures.ends
+
+pub returns-in_err-copy_words-clause-head : goal.returns-in_err-copy_words-clause-head
+returns-in_err-copy_words-clause-head g c =
+    let p = err_from_is_err_and c.from_residual-in_err-copy_words.result c.from_residual-in_err-copy_words.ensures.1 in
+    rw (p.1) tt
+
+pub returns-in_err-copy_words-clause-stays : goal.returns-in_err-copy_words-clause-stays
+returns-in_err-copy_words-clause-stays g c = stays_trans g.met.R.RegionWords.rest_trans c.record_at.ensures.stays c.copy_words.ensures.stays
+
+pub returns-in_err-copy_words-clause-ends : goal.returns-in_err-copy_words-clause-ends
+returns-in_err-copy_words-clause-ends g c =
+    let p = err_from_is_err_and c.from_residual-in_err-copy_words.result c.from_residual-in_err-copy_words.ensures.1 in
+    ends_later _ _ _ _ c.record_at.ensures.ends.later c.in_ok-newest.ensures.ends.cause (ends_err _ _ c.copy_words.result c.from_residual-in_err-copy_words.result _ _ c.in_err-copy_words.was p.1 p.2 c.copy_words.ensures.ends)
+
+pub returns-in_err-set-clause-head : goal.returns-in_err-set-clause-head
+returns-in_err-set-clause-head g c =
+    let p = err_from_is_err_and c.from_residual-in_err-set.result c.from_residual-in_err-set.ensures.1 in
+    rw (p.1) tt
+
+pub returns-in_err-set-clause-stays : goal.returns-in_err-set-clause-stays
+returns-in_err-set-clause-stays g c = stays_trans g.met.R.RegionWords.rest_trans c.record_at.ensures.stays (stays_trans g.met.R.RegionWords.rest_trans c.copy_words.ensures.stays c.set.ensures.stays)
+
+pub returns-in_err-set-clause-ends : goal.returns-in_err-set-clause-ends
+returns-in_err-set-clause-ends g c =
+    let p = err_from_is_err_and c.from_residual-in_err-set.result c.from_residual-in_err-set.ensures.1 in
+    ends_later _ _ _ _ (le_trans c.record_at.ensures.ends.later c.copy_words.ensures.ends.later) (c.in_ok-copy_words.ensures.ends.cause ∙ c.in_ok-newest.ensures.ends.cause) (ends_err _ _ c.set.result c.from_residual-in_err-set.result _ _ c.in_err-set.was p.1 p.2 c.set.ensures.ends)
+
+pub returns-clause-ends : goal.returns-clause-ends
+returns-clause-ends g c =
+    let running = c.in_ok-set.ensures.ends.cause ∙ (c.in_ok-copy_words.ensures.ends.cause ∙ c.in_ok-newest.ensures.ends.cause) in
+    record { later = le_trans (le_trans c.record_at.ensures.ends.later c.copy_words.ensures.ends.later) c.set.ensures.ends.later; stays = λ stopped. running ∙ stopped; cause = running }

@@ -1,7 +1,10 @@
 use Rattle.std.proofs.Common.{arith, ◌∙◌, le_trans, ◌+◌, ◌≡◌, length, take, length-take, ap}
+use Rattle.std.proofs.lemmas.Result.{err_from_is_err_and}
+use Rattle.rio_base.proofs.BlockRules.{ends_later}
 use Rattle.rio_base.proofs.RegionRules.{stays_trans}
-use Rattle.undo_list.specs.Copies.{copied}
 use Rattle.undo_list.proofs.Copies.{copied_on, front_on}
+use Rattle.undo_list.proofs.Outcomes.{ends_err}
+use Rattle.undo_list.specs.Copies.{copied}
 use Rattle.undo_list.proofs.runs.copy_by_runs.Goals as goal
 
 pub returns-in_err-copy_run-clause-front : goal.returns-in_err-copy_run-clause-front
@@ -19,3 +22,31 @@ loop-done-preserved g c =
       later = le_trans inv.later now.ends.later;
       running = c.in_ok-copy_run.ensures.ends.cause ∙ inv.running;
     }
+
+pub copy_run-requires-clause-ready : goal.copy_run-requires-clause-ready
+copy_run-requires-clause-ready g c = c.loop-done.invariant.stays.ready
+
+pub returns-in_err-copy_run-clause-ok : goal.returns-in_err-copy_run-clause-ok
+returns-in_err-copy_run-clause-ok g c =
+    let p = err_from_is_err_and c.from_residual.result c.from_residual.ensures.1 in
+    rw (p.1) tt
+
+pub returns-in_err-copy_run-clause-stays : goal.returns-in_err-copy_run-clause-stays
+returns-in_err-copy_run-clause-stays g c = stays_trans g.met.R.RegionWords.rest_trans c.loop-done.invariant.stays c.copy_run.ensures.stays
+
+pub returns-in_err-copy_run-clause-ends : goal.returns-in_err-copy_run-clause-ends
+returns-in_err-copy_run-clause-ends g c =
+    let p = err_from_is_err_and c.from_residual.result c.from_residual.ensures.1 in
+    ends_later _ _ _ _ c.loop-done.invariant.later c.loop-done.invariant.running (ends_err _ _ c.copy_run.result c.from_residual.result _ _ c.in_err-copy_run.was p.1 p.2 c.copy_run.ensures.ends)
+
+pub returns-clause-ok : goal.returns-clause-ok
+returns-clause-ok g c = c.loop-done.invariant.words ∙ ap (λ k. copied (g.R.RegionWords.words c.args.r.now) c.args.from c.args.to k) (omega (arith, c.loop-done.invariant.within))
+
+pub returns-clause-front : goal.returns-clause-front
+returns-clause-front g c = (c.loop-done.done, c.loop-done.invariant.within, c.loop-done.invariant.words)
+
+pub returns-clause-stays : goal.returns-clause-stays
+returns-clause-stays g c = c.loop-done.invariant.stays
+
+pub returns-clause-ends : goal.returns-clause-ends
+returns-clause-ends g c = record { later = c.loop-done.invariant.later; stays = λ stopped. c.loop-done.invariant.running ∙ stopped; cause = c.loop-done.invariant.running }
