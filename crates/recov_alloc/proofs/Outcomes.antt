@@ -1,10 +1,15 @@
--- What follows at one outcome of a run of stores.
-use Rattle.std.specs.Prelude.{◌≡◌, Result, Ok, Err, OnOk}
-use Rattle.std.proofs.Common.{sym, subst}
+-- What follows at one outcome of a call.
+use Rattle.std.specs.Prelude.{◌≡◌, ◌≤◌, Result, Ok, Err, IsErrOf, OnOk}
+use Rattle.std.proofs.Common.{sym, subst, ap, refl, ◌∙◌}
 use Rattle.rio_base.specs.declared.failures.RunFail.{RunFail}
 use Rattle.rio_base.specs.declared.failures.RunFail.TheVariants.{Fault, Stopped}
 use Rattle.rio_base.specs.declared.failures.VolFail.{VolFail}
-use Rattle.rio_base.specs.Blocks.{as_word}
+use Rattle.rio_base.specs.declared.failures.VolFail.TheVariants.{Fault as WordFault, Stopped as WordStopped}
+use Rattle.rio_base.specs.Blocks.{Ends, EndsBy, Health, as_word}
+use Rattle.rio_base.proofs.Rules.{ends_by, ends_by_as, ends_by_well}
+use Rattle.undo_list.specs.Failures.{handed}
+use Rattle.undo_list.specs.declared.failures.UndoFail.{UndoFail}
+use Rattle.undo_list.specs.declared.failures.UndoFail.TheVariants.{Fault as UndoFault, Full, Stopped as UndoStopped}
 
 on_as_word : {T : Type 0} (r : Result T RunFail) (P Q : Type 0) → (P → Q) → OnOk r P → OnOk (as_word r) Q
 on_as_word (Ok x) P Q h p = h p
@@ -14,3 +19,29 @@ on_as_word (Err Stopped) P Q h p = tt
 -- without its count of words
 pub on_word : {T : Type 0} (r : Result T RunFail) (w : Result T VolFail) (P Q : Type 0) → w ≡ as_word r → (P → Q) → OnOk r P → OnOk w Q
 on_word r w P Q is h p = subst (λ (x : Result _ VolFail). OnOk x Q) (sym is) (on_as_word r P Q h p)
+
+-- ---- a failure that is handed on, as one of the undo list
+
+handed_as : {T U : Type 0} (s t : Health) (e : VolFail) → Ends {T = T} s t (Err e) → EndsBy s t (IsErrOf {T = U} (Err (handed e)) UndoFault) (IsErrOf {T = U} (Err (handed e)) UndoStopped)
+handed_as s t WordFault h = ends_by_as s t _ _ _ _ (λ a. refl) (λ a. cc) (λ a. cc) (ends_by s t (Err WordFault) h)
+handed_as s t WordStopped h = ends_by_as s t _ _ _ _ (λ a. cc) (λ a. refl) (λ a. refl) (ends_by s t (Err WordStopped) h)
+
+pub ends_handed : {T U : Type 0} (s t : Health) (r : Result T VolFail) (q : Result U UndoFail) (e : VolFail) (d : UndoFail) → r ≡ Err e → q ≡ Err d → d ≡ handed e → Ends s t r → EndsBy s t (IsErrOf q UndoFault) (IsErrOf q UndoStopped)
+ends_handed s t r q e d told is same h = subst (λ x. EndsBy s t (IsErrOf x UndoFault) (IsErrOf x UndoStopped)) (sym (is ∙ ap Err same)) (handed_as s t e (subst (λ x. Ends s t x) told h))
+
+pub never_full : {U : Type 0} (q : Result U UndoFail) (e : VolFail) (d : UndoFail) → q ≡ Err d → d ≡ handed e → IsErrOf q Full → ⊥
+never_full q WordFault d is same full = cc
+never_full q WordStopped d is same full = cc
+
+-- an answer that is handed on as it is
+pub same_err : {T : Type 0} (r q : Result T UndoFail) (e d : UndoFail) → r ≡ Err e → q ≡ Err d → d ≡ e → r ≡ q
+same_err r q e d told is same = told ∙ ap Err (sym same) ∙ sym is
+
+pub ends_same : {T : Type 0} (s t : Health) (r q : Result T UndoFail) (e d : UndoFail) → r ≡ Err e → q ≡ Err d → d ≡ e → EndsBy s t (IsErrOf r UndoFault) (IsErrOf r UndoStopped) → EndsBy s t (IsErrOf q UndoFault) (IsErrOf q UndoStopped)
+ends_same s t r q e d told is same h = subst (λ x. EndsBy s t (IsErrOf x UndoFault) (IsErrOf x UndoStopped)) (same_err r q e d told is same) h
+
+pub no_err : {U : Type 0} (x : U) (d : UndoFail) → IsErrOf (Ok x) d → ⊥
+no_err x d told = cc
+
+pub ends_did : {U : Type 0} (s t : Health) (x : U) → s.faults ≤ t.faults → t.stopped ≡ s.stopped → EndsBy s t (IsErrOf (Ok x) UndoFault) (IsErrOf (Ok x) UndoStopped)
+ends_did s t x later same = ends_by_well s t _ _ later same (no_err x UndoFault) (no_err x UndoStopped)

@@ -1,10 +1,15 @@
-use Rattle.std.proofs.Common.{arith, ap, sym, subst, ◌∙◌, ◌+◌, ◌*◌, ◌/◌, ◌<◌, ◌≤◌, cond, ℕ}
+use Rattle.std.proofs.Common.{arith, ap, sym, subst, ◌∙◌, ◌+◌, ◌*◌, ◌/◌, ◌<◌, ◌≤◌, cond, ℕ, le_trans}
 use Rattle.std.proofs.lemmas.Result.{err_from_is_err_and}
 use Rattle.rio_base.specs.Regions.{AreWords}
-use Rattle.rio_model.specs.Undo.{Gains, live, taken, undo_records, undo_words}
+use Rattle.rio_base.proofs.RegionRules.{stays_trans}
+use Rattle.rio_base.proofs.Rules.{ends_by_after}
+use Rattle.rio_model.proofs.UndoRules.{gains_covers, undoes_refl, undoes_trans}
 use Rattle.rio_model.specs.Heap.{touched_pages}
-use Rattle.rio_model.proofs.UndoRules.{gains_covers}
+use Rattle.rio_model.specs.Undo.{Gains, live, taken, undo_records, undo_words, Undoes, places}
+use Rattle.undo_list.proofs.Frames.{undoes_from}
+use Rattle.undo_list.specs.Headers.{IsHeader}
 use Rattle.recov_alloc.proofs.Marks.{changed, one_page, page_marked}
+use Rattle.recov_alloc.proofs.Outcomes.{ends_did, ends_handed, ends_same, never_full, no_err, same_err}
 use Rattle.recov_alloc.proofs.changing.change_page.Goals as goal
 
 pub set_pair_with-requires-clause-first : goal.set_pair_with-requires-clause-first
@@ -44,3 +49,142 @@ returns-clause-ok g c =
     let gain = subst (λ k. Gains (g.R.RegionWords.count c.read_places_with.new.r) (f c.read_places_with.new.r) (f c.set_pair_with.new.r) (2 * (c.args.at / 64)) (2 * k)) (sym one) c.in_ok-set_pair_with.ensures.ok in
     let marks = page_marked (live (f c.set_pair_with.new.r)) (live (f c.mark_words.new.r)) c.args.at c.args.units (cond c.args.on 1 0) c.requires.units c.requires.page c.in_ok-mark_words.ensures.ok in
     changed (f c.args.r.now) (f c.read_places_with.new.r) (f c.set_pair_with.new.r) (f c.mark_words.new.r) (g.R.RegionWords.count c.read_places_with.new.r) c.args.at c.args.units (cond c.args.on 1 0) c.read_places_with.ensures.words gain marks c.mark_words.ensures.keeps.records
+
+pub read_places_with-requires-clause-ready : goal.read_places_with-requires-clause-ready
+read_places_with-requires-clause-ready g c = c.requires.ready
+
+pub read_places_with-requires-clause-region : goal.read_places_with-requires-clause-region
+read_places_with-requires-clause-region g c = c.requires.region
+
+pub read_places_with-requires-clause-undo : goal.read_places_with-requires-clause-undo
+read_places_with-requires-clause-undo g c = c.requires.header.undo
+
+pub set_pair_with-requires-clause-ready : goal.set_pair_with-requires-clause-ready
+set_pair_with-requires-clause-ready g c = c.read_places_with.ensures.stays.ready
+
+pub set_pair_with-requires-clause-region : goal.set_pair_with-requires-clause-region
+set_pair_with-requires-clause-region g c = c.read_places_with.ensures.region
+
+pub set_pair_with-requires-clause-header : goal.set_pair_with-requires-clause-header
+set_pair_with-requires-clause-header g c = subst (λ (w : ℕ → ℕ). IsHeader w c.args.header) (sym c.read_places_with.ensures.words) c.requires.header
+
+pub set_pair_with-requires-clause-place : goal.set_pair_with-requires-clause-place
+set_pair_with-requires-clause-place g c = subst (λ (w : ℕ → ℕ). 2 * (c.args.at / 64) + 2 ≤ places w) (sym c.read_places_with.ensures.words) (omega (arith, c.requires.within, c.requires.units))
+
+pub mark_words-requires-clause-ready : goal.mark_words-requires-clause-ready
+mark_words-requires-clause-ready g c = c.set_pair_with.ensures.stays.ready
+
+pub mark_words-requires-clause-region : goal.mark_words-requires-clause-region
+mark_words-requires-clause-region g c = c.set_pair_with.ensures.region
+
+pub mark_words-requires-clause-undo : goal.mark_words-requires-clause-undo
+mark_words-requires-clause-undo g c = c.requires.header.undo ∙ sym (ap (λ (w : ℕ → ℕ). w 1) c.read_places_with.ensures.words) ∙ sym c.set_pair_with.ensures.before.sizes.undo
+
+pub mark_words-requires-clause-within : goal.mark_words-requires-clause-within
+mark_words-requires-clause-within g c = subst (λ n. c.args.at + c.args.units ≤ 64 * n) (sym (c.set_pair_with.ensures.before.sizes.data_pages ∙ ap (λ (w : ℕ → ℕ). w 2) c.read_places_with.ensures.words)) c.requires.within
+
+pub returns-in_err-read_places_with-clause-ok : goal.returns-in_err-read_places_with-clause-ok
+returns-in_err-read_places_with-clause-ok g c =
+    let p = err_from_is_err_and c.from_residual.result c.from_residual.ensures.1 in
+    rw (p.1) tt
+
+pub returns-in_err-read_places_with-clause-room : goal.returns-in_err-read_places_with-clause-room
+returns-in_err-read_places_with-clause-room g c =
+    let p = err_from_is_err_and c.from_residual.result c.from_residual.ensures.1 in
+    rw (p.1) tt
+
+pub returns-in_err-read_places_with-clause-full : goal.returns-in_err-read_places_with-clause-full
+returns-in_err-read_places_with-clause-full g c =
+    let p = err_from_is_err_and c.from_residual.result c.from_residual.ensures.1 in
+    λ full. absurd (never_full c.from_residual.result _ p.0 p.1 p.2 full)
+
+pub returns-in_err-read_places_with-clause-refused : goal.returns-in_err-read_places_with-clause-refused
+returns-in_err-read_places_with-clause-refused g c = λ full. c.read_places_with.ensures.words
+
+pub returns-in_err-read_places_with-clause-before : goal.returns-in_err-read_places_with-clause-before
+returns-in_err-read_places_with-clause-before g c =
+    subst (λ w. Undoes (g.R.RegionWords.count c.args.r.now) (g.R.RegionWords.words c.args.r.now) w) (sym c.read_places_with.ensures.words) (undoes_refl (g.R.RegionWords.count c.args.r.now) (g.R.RegionWords.words c.args.r.now) c.requires.region)
+
+pub returns-in_err-read_places_with-clause-stays : goal.returns-in_err-read_places_with-clause-stays
+returns-in_err-read_places_with-clause-stays g c = c.read_places_with.ensures.stays
+
+pub returns-in_err-read_places_with-clause-ends : goal.returns-in_err-read_places_with-clause-ends
+returns-in_err-read_places_with-clause-ends g c =
+    let p = err_from_is_err_and c.from_residual.result c.from_residual.ensures.1 in
+    ends_handed _ _ c.read_places_with.result c.from_residual.result _ _ c.in_err-read_places_with.was p.1 p.2 c.read_places_with.ensures.ends
+
+pub returns-in_err-set_pair_with-clause-ok : goal.returns-in_err-set_pair_with-clause-ok
+returns-in_err-set_pair_with-clause-ok g c =
+    let p = err_from_is_err_and c.from_residual-in_err-set_pair_with.result c.from_residual-in_err-set_pair_with.ensures.1 in
+    rw (p.1) tt
+
+pub returns-in_err-set_pair_with-clause-room : goal.returns-in_err-set_pair_with-clause-room
+returns-in_err-set_pair_with-clause-room g c =
+    let p = err_from_is_err_and c.from_residual-in_err-set_pair_with.result c.from_residual-in_err-set_pair_with.ensures.1 in
+    rw (p.1) tt
+
+pub returns-in_err-set_pair_with-clause-refused : goal.returns-in_err-set_pair_with-clause-refused
+returns-in_err-set_pair_with-clause-refused g c =
+    let p = err_from_is_err_and c.from_residual-in_err-set_pair_with.result c.from_residual-in_err-set_pair_with.ensures.1 in
+    λ full. c.set_pair_with.ensures.refused (same_err c.set_pair_with.result c.from_residual-in_err-set_pair_with.result _ p.0 c.in_err-set_pair_with.was p.1 p.2 ∙ full) ∙ c.read_places_with.ensures.words
+
+pub returns-in_err-set_pair_with-clause-before : goal.returns-in_err-set_pair_with-clause-before
+returns-in_err-set_pair_with-clause-before g c =
+    undoes_from (g.R.RegionWords.count c.args.r.now) (g.R.RegionWords.count c.read_places_with.new.r) (g.R.RegionWords.words c.read_places_with.new.r) (g.R.RegionWords.words c.args.r.now) (g.R.RegionWords.words c.set_pair_with.new.r) c.read_places_with.ensures.words c.read_places_with.ensures.stays.count c.set_pair_with.ensures.before
+
+pub returns-in_err-set_pair_with-clause-stays : goal.returns-in_err-set_pair_with-clause-stays
+returns-in_err-set_pair_with-clause-stays g c = stays_trans g.met.R.RegionWords.rest_trans c.read_places_with.ensures.stays c.set_pair_with.ensures.stays
+
+pub returns-in_err-set_pair_with-clause-ends : goal.returns-in_err-set_pair_with-clause-ends
+returns-in_err-set_pair_with-clause-ends g c =
+    let p = err_from_is_err_and c.from_residual-in_err-set_pair_with.result c.from_residual-in_err-set_pair_with.ensures.1 in
+    ends_by_after _ _ _ _ _ c.read_places_with.ensures.ends.later c.in_ok-read_places_with.ensures.ends.cause (ends_same _ _ c.set_pair_with.result c.from_residual-in_err-set_pair_with.result _ p.0 c.in_err-set_pair_with.was p.1 p.2 c.set_pair_with.ensures.ends)
+
+pub returns-in_err-mark_words-clause-ok : goal.returns-in_err-mark_words-clause-ok
+returns-in_err-mark_words-clause-ok g c =
+    let p = err_from_is_err_and c.from_residual-in_err-mark_words.result c.from_residual-in_err-mark_words.ensures.1 in
+    rw (p.1) tt
+
+pub returns-in_err-mark_words-clause-room : goal.returns-in_err-mark_words-clause-room
+returns-in_err-mark_words-clause-room g c =
+    let p = err_from_is_err_and c.from_residual-in_err-mark_words.result c.from_residual-in_err-mark_words.ensures.1 in
+    rw (p.1) tt
+
+pub returns-in_err-mark_words-clause-full : goal.returns-in_err-mark_words-clause-full
+returns-in_err-mark_words-clause-full g c =
+    let p = err_from_is_err_and c.from_residual-in_err-mark_words.result c.from_residual-in_err-mark_words.ensures.1 in
+    λ full. absurd (never_full c.from_residual-in_err-mark_words.result _ p.0 p.1 p.2 full)
+
+pub returns-in_err-mark_words-clause-refused : goal.returns-in_err-mark_words-clause-refused
+returns-in_err-mark_words-clause-refused g c =
+    let p = err_from_is_err_and c.from_residual-in_err-mark_words.result c.from_residual-in_err-mark_words.ensures.1 in
+    λ full. absurd (never_full c.from_residual-in_err-mark_words.result _ p.0 p.1 p.2 full)
+
+pub returns-in_err-mark_words-clause-before : goal.returns-in_err-mark_words-clause-before
+returns-in_err-mark_words-clause-before g c =
+    undoes_trans (g.R.RegionWords.count c.args.r.now) (g.R.RegionWords.words c.args.r.now) (g.R.RegionWords.words c.set_pair_with.new.r) (g.R.RegionWords.words c.mark_words.new.r) (undoes_from (g.R.RegionWords.count c.args.r.now) (g.R.RegionWords.count c.read_places_with.new.r) (g.R.RegionWords.words c.read_places_with.new.r) (g.R.RegionWords.words c.args.r.now) (g.R.RegionWords.words c.set_pair_with.new.r) c.read_places_with.ensures.words c.read_places_with.ensures.stays.count c.set_pair_with.ensures.before) (subst (λ k. Undoes k (g.R.RegionWords.words c.set_pair_with.new.r) (g.R.RegionWords.words c.mark_words.new.r)) (c.set_pair_with.ensures.stays.count ∙ c.read_places_with.ensures.stays.count) c.mark_words.ensures.keeps.undoes)
+
+pub returns-in_err-mark_words-clause-stays : goal.returns-in_err-mark_words-clause-stays
+returns-in_err-mark_words-clause-stays g c = stays_trans g.met.R.RegionWords.rest_trans c.read_places_with.ensures.stays (stays_trans g.met.R.RegionWords.rest_trans c.set_pair_with.ensures.stays c.mark_words.ensures.stays)
+
+pub returns-in_err-mark_words-clause-ends : goal.returns-in_err-mark_words-clause-ends
+returns-in_err-mark_words-clause-ends g c =
+    let p = err_from_is_err_and c.from_residual-in_err-mark_words.result c.from_residual-in_err-mark_words.ensures.1 in
+    ends_by_after _ _ _ _ _ c.read_places_with.ensures.ends.later c.in_ok-read_places_with.ensures.ends.cause (ends_by_after _ _ _ _ _ c.set_pair_with.ensures.ends.later (c.in_ok-set_pair_with.ensures.ends.runs (no_err tt _)) (ends_handed _ _ c.mark_words.result c.from_residual-in_err-mark_words.result _ _ c.in_err-mark_words.was p.1 p.2 c.mark_words.ensures.ends))
+
+pub returns-clause-full : goal.returns-clause-full
+returns-clause-full g c = λ told. absurd (no_err tt _ told)
+
+pub returns-clause-refused : goal.returns-clause-refused
+returns-clause-refused g c = λ told. absurd (no_err tt _ told)
+
+pub returns-clause-before : goal.returns-clause-before
+returns-clause-before g c =
+    undoes_trans (g.R.RegionWords.count c.args.r.now) (g.R.RegionWords.words c.args.r.now) (g.R.RegionWords.words c.set_pair_with.new.r) (g.R.RegionWords.words c.mark_words.new.r) (undoes_from (g.R.RegionWords.count c.args.r.now) (g.R.RegionWords.count c.read_places_with.new.r) (g.R.RegionWords.words c.read_places_with.new.r) (g.R.RegionWords.words c.args.r.now) (g.R.RegionWords.words c.set_pair_with.new.r) c.read_places_with.ensures.words c.read_places_with.ensures.stays.count c.set_pair_with.ensures.before) (subst (λ k. Undoes k (g.R.RegionWords.words c.set_pair_with.new.r) (g.R.RegionWords.words c.mark_words.new.r)) (c.set_pair_with.ensures.stays.count ∙ c.read_places_with.ensures.stays.count) c.mark_words.ensures.keeps.undoes)
+
+pub returns-clause-stays : goal.returns-clause-stays
+returns-clause-stays g c = stays_trans g.met.R.RegionWords.rest_trans c.read_places_with.ensures.stays (stays_trans g.met.R.RegionWords.rest_trans c.set_pair_with.ensures.stays c.mark_words.ensures.stays)
+
+pub returns-clause-ends : goal.returns-clause-ends
+returns-clause-ends g c =
+    ends_did _ _ tt (le_trans c.read_places_with.ensures.ends.later (le_trans c.set_pair_with.ensures.ends.later c.mark_words.ensures.ends.later)) (c.in_ok-mark_words.ensures.ends.cause ∙ (c.in_ok-set_pair_with.ensures.ends.runs (no_err tt _)) ∙ c.in_ok-read_places_with.ensures.ends.cause)
