@@ -45,3 +45,12 @@ no_err x d told = cc
 
 pub ends_did : {U : Type 0} (s t : Health) (x : U) → s.faults ≤ t.faults → t.stopped ≡ s.stopped → EndsBy s t (IsErrOf (Ok x) UndoFault) (IsErrOf (Ok x) UndoStopped)
 ends_did s t x later same = ends_by_well s t _ _ later same (no_err x UndoFault) (no_err x UndoStopped)
+
+-- ---- a failure of the region's words, handed on as it is
+
+err_as : {T U : Type 0} (s t : Health) (e : VolFail) → Ends {T = T} s t (Err e) → Ends {T = U} s t (Err e)
+err_as s t WordFault h = record { later = h.later; stays = h.stays; cause = h.cause }
+err_as s t WordStopped h = record { later = h.later; stays = h.stays; cause = h.cause }
+
+pub ends_err : {T U : Type 0} (s t : Health) (r : Result T VolFail) (q : Result U VolFail) (e d : VolFail) → r ≡ Err e → q ≡ Err d → d ≡ e → Ends s t r → Ends s t q
+ends_err s t r q e d told is same h = subst (λ x. Ends s t x) (sym (is ∙ ap Err same)) (err_as s t e (subst (λ x. Ends s t x) told h))

@@ -1,9 +1,12 @@
-use Rattle.std.proofs.Common.{arith, rules, sym, subst, ◌≡◌, ◌*◌}
+use Rattle.std.proofs.Common.{arith, rules, sym, subst, ◌≡◌, ◌*◌, ap, le_trans, ℕ, ◌∙◌}
+use Rattle.std.proofs.lemmas.Result.{err_from_is_err_and}
+use Rattle.rio_base.proofs.BlockRules.{ends_later}
 use Rattle.rio_base.proofs.RegionRules.{stays_trans}
+use Rattle.rio_model.specs.Heap.{starts, IsBlock, OfBlocks, units_of}
 use Rattle.rio_model.specs.Undo.{live}
-use Rattle.rio_model.specs.Heap.{starts}
-use Rattle.recov_alloc.specs.Extents.{Within}
+use Rattle.recov_alloc.proofs.Outcomes.{ends_err}
 use Rattle.recov_alloc.proofs.Reaches.{block_by, block_starts, none_starts, stops_in_page, within_page}
+use Rattle.recov_alloc.specs.Extents.{Within}
 use Rattle.recov_alloc.proofs.extents.units_at.Goals as goal
 
 pub returns-then-not-is_start-clause-value : goal.returns-then-not-is_start-clause-value
@@ -30,3 +33,82 @@ returns-in_err-units-clause-stays g c = stays_trans g.met.R.RegionWords.rest_tra
 
 pub returns-clause-stays : goal.returns-clause-stays
 returns-clause-stays g c = stays_trans g.met.R.RegionWords.rest_trans c.read_places_with.ensures.stays c.units_from.ensures.stays
+
+pub read_places_with-requires-clause-ready : goal.read_places_with-requires-clause-ready
+read_places_with-requires-clause-ready g c = c.requires.ready
+
+pub read_places_with-requires-clause-region : goal.read_places_with-requires-clause-region
+read_places_with-requires-clause-region g c = c.requires.region
+
+pub read_places_with-requires-clause-undo : goal.read_places_with-requires-clause-undo
+read_places_with-requires-clause-undo g c = c.requires.undo
+
+pub returns-in_err-read_places_with-clause-words : goal.returns-in_err-read_places_with-clause-words
+returns-in_err-read_places_with-clause-words g c = c.read_places_with.ensures.words
+
+pub returns-in_err-read_places_with-clause-stays : goal.returns-in_err-read_places_with-clause-stays
+returns-in_err-read_places_with-clause-stays g c = c.read_places_with.ensures.stays
+
+pub returns-in_err-read_places_with-clause-ends : goal.returns-in_err-read_places_with-clause-ends
+returns-in_err-read_places_with-clause-ends g c =
+    let p = err_from_is_err_and c.from_residual.result c.from_residual.ensures.1 in
+    ends_err _ _ c.read_places_with.result c.from_residual.result _ _ c.in_err-read_places_with.was p.1 p.2 c.read_places_with.ensures.ends
+
+pub returns-in_err-read_places_with-clause-value : goal.returns-in_err-read_places_with-clause-value
+returns-in_err-read_places_with-clause-value g c =
+    let p = err_from_is_err_and c.from_residual.result c.from_residual.ensures.1 in
+    rw (p.1) tt
+
+pub returns-then-not-is_start-clause-words : goal.returns-then-not-is_start-clause-words
+returns-then-not-is_start-clause-words g c = c.read_places_with.ensures.words
+
+pub returns-then-not-is_start-clause-stays : goal.returns-then-not-is_start-clause-stays
+returns-then-not-is_start-clause-stays g c = c.read_places_with.ensures.stays
+
+pub returns-then-not-is_start-clause-ends : goal.returns-then-not-is_start-clause-ends
+returns-then-not-is_start-clause-ends g c = record { later = c.read_places_with.ensures.ends.later; stays = λ stopped. c.in_ok-read_places_with.ensures.ends.cause ∙ stopped; cause = c.in_ok-read_places_with.ensures.ends.cause }
+
+pub returns-then-end-ne0-clause-words : goal.returns-then-end-ne0-clause-words
+returns-then-end-ne0-clause-words g c = c.read_places_with.ensures.words
+
+pub returns-then-end-ne0-clause-stays : goal.returns-then-end-ne0-clause-stays
+returns-then-end-ne0-clause-stays g c = c.read_places_with.ensures.stays
+
+pub returns-then-end-ne0-clause-ends : goal.returns-then-end-ne0-clause-ends
+returns-then-end-ne0-clause-ends g c = record { later = c.read_places_with.ensures.ends.later; stays = λ stopped. c.in_ok-read_places_with.ensures.ends.cause ∙ stopped; cause = c.in_ok-read_places_with.ensures.ends.cause }
+
+pub units_from-requires-clause-ready : goal.units_from-requires-clause-ready
+units_from-requires-clause-ready g c = c.read_places_with.ensures.stays.ready
+
+pub units_from-requires-clause-region : goal.units_from-requires-clause-region
+units_from-requires-clause-region g c = c.read_places_with.ensures.region
+
+pub units_from-requires-clause-heap : goal.units_from-requires-clause-heap
+units_from-requires-clause-heap g c = subst (λ (w : ℕ → ℕ). OfBlocks (live w) (w 2)) (sym c.read_places_with.ensures.words) c.requires.heap
+
+pub units_from-requires-clause-pages : goal.units_from-requires-clause-pages
+units_from-requires-clause-pages g c = c.requires.pages ∙ sym (ap (λ (w : ℕ → ℕ). w 2) c.read_places_with.ensures.words)
+
+pub returns-in_err-units-clause-words : goal.returns-in_err-units-clause-words
+returns-in_err-units-clause-words g c = c.units_from.ensures.words ∙ c.read_places_with.ensures.words
+
+pub returns-in_err-units-clause-ends : goal.returns-in_err-units-clause-ends
+returns-in_err-units-clause-ends g c =
+    let p = err_from_is_err_and c.from_residual-in_err-units.result c.from_residual-in_err-units.ensures.1 in
+    ends_later _ _ _ _ c.read_places_with.ensures.ends.later c.in_ok-read_places_with.ensures.ends.cause (ends_err _ _ c.units_from.result c.from_residual-in_err-units.result _ _ c.in_err-units.was p.1 p.2 c.units_from.ensures.ends)
+
+pub returns-in_err-units-clause-value : goal.returns-in_err-units-clause-value
+returns-in_err-units-clause-value g c =
+    let p = err_from_is_err_and c.from_residual-in_err-units.result c.from_residual-in_err-units.ensures.1 in
+    rw (p.1) tt
+
+pub returns-clause-words : goal.returns-clause-words
+returns-clause-words g c = c.units_from.ensures.words ∙ c.read_places_with.ensures.words
+
+pub returns-clause-ends : goal.returns-clause-ends
+returns-clause-ends g c =
+    let running = c.in_ok-units.ensures.ends.cause ∙ c.in_ok-read_places_with.ensures.ends.cause in
+    record { later = le_trans c.read_places_with.ensures.ends.later c.units_from.ensures.ends.later; stays = λ stopped. running ∙ stopped; cause = running }
+
+pub returns-clause-value : goal.returns-clause-value
+returns-clause-value g c = subst (λ (w : ℕ → ℕ). IsBlock (live w) (units_of w) c.args.unit c.in_ok-units.units) c.read_places_with.ensures.words c.in_ok-units.ensures.value

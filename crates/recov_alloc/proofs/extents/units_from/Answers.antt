@@ -1,7 +1,10 @@
 use Rattle.std.proofs.Common.{arith, ◌∙◌, ◌≡◌, ◌*◌, ◌+◌, ◌/◌, sym, subst, le_trans, length}
+use Rattle.std.proofs.lemmas.Result.{err_from_is_err_and}
 use Rattle.rio_base.specs.Regions.{AreWords}
+use Rattle.rio_base.proofs.BlockRules.{ends_later}
 use Rattle.rio_base.proofs.RegionRules.{stays_trans}
 use Rattle.rio_model.specs.Undo.{IsRegion, live}
+use Rattle.recov_alloc.proofs.Outcomes.{ends_err}
 use Rattle.recov_alloc.proofs.Reaches.{block_by, stops_at, within_more}
 use Rattle.recov_alloc.proofs.extents.units_from.Goals as goal
 
@@ -48,3 +51,31 @@ returns-clause-value g c =
     let f = g.R.RegionWords.words c.args.r.now in
     let inv = c.loop-next.invariant in
     block_by (live f) (f 2) (64 * f 2) c.args.unit c.loop-next.next c.requires.heap (omega arith) c.requires.start inv.low (omega (arith, inv.most, c.requires.pages)) inv.inside (λ s. absurd (omega (arith, s, c.loop-next-test.false, c.requires.pages)))
+
+pub read_places-requires-clause-ready : goal.read_places-requires-clause-ready
+read_places-requires-clause-ready g c = c.loop-next.invariant.stays.ready
+
+pub read_places-requires-clause-region : goal.read_places-requires-clause-region
+read_places-requires-clause-region g c = c.loop-next.invariant.region
+
+pub returns-in_err-read_places-clause-words : goal.returns-in_err-read_places-clause-words
+returns-in_err-read_places-clause-words g c = c.read_places.ensures.words ∙ c.loop-next.invariant.words
+
+pub returns-in_err-read_places-clause-ends : goal.returns-in_err-read_places-clause-ends
+returns-in_err-read_places-clause-ends g c =
+    let p = err_from_is_err_and c.from_residual.result c.from_residual.ensures.1 in
+    ends_later _ _ _ _ c.loop-next.invariant.later c.loop-next.invariant.running (ends_err _ _ c.read_places.result c.from_residual.result _ _ c.in_err-read_places.was p.1 p.2 c.read_places.ensures.ends)
+
+pub returns-in_err-read_places-clause-value : goal.returns-in_err-read_places-clause-value
+returns-in_err-read_places-clause-value g c =
+    let p = err_from_is_err_and c.from_residual.result c.from_residual.ensures.1 in
+    rw (p.1) tt
+
+pub returns-clause-words : goal.returns-clause-words
+returns-clause-words g c = c.loop-next.invariant.words
+
+pub returns-clause-stays : goal.returns-clause-stays
+returns-clause-stays g c = c.loop-next.invariant.stays
+
+pub returns-clause-ends : goal.returns-clause-ends
+returns-clause-ends g c = record { later = c.loop-next.invariant.later; stays = λ stopped. c.loop-next.invariant.running ∙ stopped; cause = c.loop-next.invariant.running }

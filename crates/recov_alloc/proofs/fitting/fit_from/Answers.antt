@@ -1,6 +1,9 @@
 use Rattle.std.proofs.Common.{arith, ◌∙◌, ◌+◌, ◌*◌, ℕ, ap, sym, subst, le_trans}
+use Rattle.std.proofs.lemmas.Result.{err_from_is_err_and}
+use Rattle.rio_base.proofs.BlockRules.{ends_later}
 use Rattle.rio_base.proofs.RegionRules.{stays_trans}
 use Rattle.rio_model.specs.Undo.{IsRegion, live}
+use Rattle.recov_alloc.proofs.Outcomes.{ends_err}
 use Rattle.recov_alloc.specs.Scans.{Before, ScanEnds}
 use Rattle.recov_alloc.proofs.fitting.fit_from.Goals as goal
 
@@ -22,3 +25,54 @@ loop-page-preserved g c =
       later = le_trans inv.later e.ends.later;
       running = c.in_ok-at.ensures.ends.cause ∙ inv.running;
     }
+
+pub look_in_pages-requires-clause-ready : goal.look_in_pages-requires-clause-ready
+look_in_pages-requires-clause-ready g c = c.loop-page.invariant.stays.ready
+
+pub look_in_pages-requires-clause-region : goal.look_in_pages-requires-clause-region
+look_in_pages-requires-clause-region g c = c.loop-page.invariant.region
+
+pub look_in_pages-requires-clause-before : goal.look_in_pages-requires-clause-before
+look_in_pages-requires-clause-before g c = c.loop-page.invariant.seen.small
+
+pub look_in_pages-requires-clause-within : goal.look_in_pages-requires-clause-within
+look_in_pages-requires-clause-within g c = c.loop-page.invariant.seen.within
+
+pub look_in_pages-requires-clause-page : goal.look_in_pages-requires-clause-page
+look_in_pages-requires-clause-page g c = omega (arith, c.min-count.ensures, c.loop-page-test.true, c.loop-page.invariant.pages, ap (λ (w : ℕ → ℕ). w 2) c.loop-page.invariant.words)
+
+pub returns-in_err-at-clause-words : goal.returns-in_err-at-clause-words
+returns-in_err-at-clause-words g c = c.look_in_pages.ensures.words ∙ c.loop-page.invariant.words
+
+pub returns-in_err-at-clause-stays : goal.returns-in_err-at-clause-stays
+returns-in_err-at-clause-stays g c = stays_trans g.met.R.RegionWords.rest_trans c.loop-page.invariant.stays c.look_in_pages.ensures.stays
+
+pub returns-in_err-at-clause-ends : goal.returns-in_err-at-clause-ends
+returns-in_err-at-clause-ends g c =
+    let p = err_from_is_err_and c.from_residual.result c.from_residual.ensures.1 in
+    ends_later _ _ _ _ c.loop-page.invariant.later c.loop-page.invariant.running (ends_err _ _ c.look_in_pages.result c.from_residual.result _ _ c.in_err-at.was p.1 p.2 c.look_in_pages.ensures.ends)
+
+pub returns-in_err-at-clause-value : goal.returns-in_err-at-clause-value
+returns-in_err-at-clause-value g c =
+    let p = err_from_is_err_and c.from_residual.result c.from_residual.ensures.1 in
+    rw (p.1) tt
+
+pub returns-in-Found-clause-words : goal.returns-in-Found-clause-words
+returns-in-Found-clause-words g c = c.look_in_pages.ensures.words ∙ c.loop-page.invariant.words
+
+pub returns-in-Found-clause-stays : goal.returns-in-Found-clause-stays
+returns-in-Found-clause-stays g c = stays_trans g.met.R.RegionWords.rest_trans c.loop-page.invariant.stays c.look_in_pages.ensures.stays
+
+pub returns-in-Found-clause-ends : goal.returns-in-Found-clause-ends
+returns-in-Found-clause-ends g c =
+    let running = c.in_ok-at.ensures.ends.cause ∙ c.loop-page.invariant.running in
+    record { later = le_trans c.loop-page.invariant.later c.look_in_pages.ensures.ends.later; stays = λ stopped. running ∙ stopped; cause = running }
+
+pub returns-clause-words : goal.returns-clause-words
+returns-clause-words g c = c.loop-page.invariant.words
+
+pub returns-clause-stays : goal.returns-clause-stays
+returns-clause-stays g c = c.loop-page.invariant.stays
+
+pub returns-clause-ends : goal.returns-clause-ends
+returns-clause-ends g c = record { later = c.loop-page.invariant.later; stays = λ stopped. c.loop-page.invariant.running ∙ stopped; cause = c.loop-page.invariant.running }
