@@ -8,6 +8,9 @@ use Rattle.rio_base.specs.declared.failures.VolFail.TheVariants.{Fault as WordFa
 use Rattle.rio_base.specs.Blocks.{Ends, EndsBy, Health, as_word}
 use Rattle.rio_base.proofs.Rules.{ends_by, ends_by_as, ends_by_well}
 use Rattle.undo_list.specs.Failures.{handed}
+use Rattle.recov_alloc.specs.Failures.{handed as heap_handed}
+use Rattle.recov_alloc.specs.declared.failures.HeapFail.{HeapFail}
+use Rattle.recov_alloc.specs.declared.failures.HeapFail.TheVariants.{Fault as HeapFault, Stopped as HeapStopped}
 use Rattle.undo_list.specs.declared.failures.UndoFail.{UndoFail}
 use Rattle.undo_list.specs.declared.failures.UndoFail.TheVariants.{Fault as UndoFault, Full, Stopped as UndoStopped}
 
@@ -54,3 +57,12 @@ err_as s t WordStopped h = record { later = h.later; stays = h.stays; cause = h.
 
 pub ends_err : {T U : Type 0} (s t : Health) (r : Result T VolFail) (q : Result U VolFail) (e d : VolFail) → r ≡ Err e → q ≡ Err d → d ≡ e → Ends s t r → Ends s t q
 ends_err s t r q e d told is same h = subst (λ x. Ends s t x) (sym (is ∙ ap Err same)) (err_as s t e (subst (λ x. Ends s t x) told h))
+
+-- ---- and as one of the heap
+
+heap_as : {T U : Type 0} (s t : Health) (e : VolFail) → Ends {T = T} s t (Err e) → EndsBy s t (IsErrOf {T = U} (Err (heap_handed e)) HeapFault) (IsErrOf {T = U} (Err (heap_handed e)) HeapStopped)
+heap_as s t WordFault h = ends_by_as s t _ _ _ _ (λ a. refl) (λ a. cc) (λ a. cc) (ends_by s t (Err WordFault) h)
+heap_as s t WordStopped h = ends_by_as s t _ _ _ _ (λ a. cc) (λ a. refl) (λ a. refl) (ends_by s t (Err WordStopped) h)
+
+pub ends_heap : {T U : Type 0} (s t : Health) (r : Result T VolFail) (q : Result U HeapFail) (e : VolFail) (d : HeapFail) → r ≡ Err e → q ≡ Err d → d ≡ heap_handed e → Ends s t r → EndsBy s t (IsErrOf q HeapFault) (IsErrOf q HeapStopped)
+ends_heap s t r q e d told is same h = subst (λ x. EndsBy s t (IsErrOf x HeapFault) (IsErrOf x HeapStopped)) (sym (is ∙ ap Err same)) (heap_as s t e (subst (λ x. Ends s t x) told h))

@@ -1,10 +1,16 @@
 use Rattle.std.proofs.Common.{◌∙◌, ◌+◌, ◌*◌, ◌≤◌, ap, sym, subst, ℕ}
+use Rattle.std.proofs.lemmas.Result.{err_from_is_err_and}
 use Rattle.rio_base.proofs.RegionRules.{stays_trans}
-use Rattle.rio_model.specs.Undo.{live, taken, undo_records, undo_words}
-use Rattle.rio_model.specs.Heap.{IsBlock, OfBlocks, Releases, touched_pages}
+use Rattle.rio_base.proofs.Rules.{ends_by_after}
 use Rattle.rio_model.proofs.HeapRules.{alone_removed, blocks_removed}
-use Rattle.recov_alloc.specs.Extents.{BlockAt}
+use Rattle.rio_model.proofs.UndoRules.{undoes_refl}
+use Rattle.rio_model.specs.Heap.{IsBlock, OfBlocks, Releases, touched_pages}
+use Rattle.rio_model.specs.Undo.{live, taken, undo_records, undo_words, IsRegion, Undoes}
+use Rattle.undo_list.proofs.Frames.{region_at, undoes_from}
+use Rattle.undo_list.specs.Headers.{IsHeader}
 use Rattle.recov_alloc.proofs.Marks.{released}
+use Rattle.recov_alloc.proofs.Outcomes.{ends_heap}
+use Rattle.recov_alloc.specs.Extents.{BlockAt}
 use Rattle.recov_alloc.proofs.allocating.release.Goals as goal
 
 pub returns-in_err-units-clause-stays : goal.returns-in_err-units-clause-stays
@@ -57,3 +63,129 @@ returns-clause-listed g c =
     let block = subst (λ o. BlockAt (live here) (64 * here 2) c.args.unit o) c.in-Some.is c.in_ok-units.ensures.value in
     let all : Releases old (f c.change_map.new.r) n c.args.unit = released old here (f c.block_at.new.r) (f c.change_map.new.r) n c.args.unit c.read_header.ensures.words c.block_at.ensures.words block c.in_ok-change_map.ensures.ok in
     blocks_removed (live old) (live (f c.change_map.new.r)) (old 2) c.args.unit n c.requires.heap all.block all.removed
+
+pub read_header-requires-clause-ready : goal.read_header-requires-clause-ready
+read_header-requires-clause-ready g c = c.requires.ready
+
+pub read_header-requires-clause-region : goal.read_header-requires-clause-region
+read_header-requires-clause-region g c = c.requires.region
+
+pub block_at-requires-clause-ready : goal.block_at-requires-clause-ready
+block_at-requires-clause-ready g c = c.read_header.ensures.stays.ready
+
+pub block_at-requires-clause-region : goal.block_at-requires-clause-region
+block_at-requires-clause-region g c = c.read_header.ensures.region
+
+pub block_at-requires-clause-header : goal.block_at-requires-clause-header
+block_at-requires-clause-header g c = subst (λ (w : ℕ → ℕ). IsHeader w c.in_ok-header.header) (sym c.read_header.ensures.words) c.in_ok-header.ensures.header
+
+pub change_map-requires-clause-ready : goal.change_map-requires-clause-ready
+change_map-requires-clause-ready g c = c.block_at.ensures.stays.ready
+
+pub change_map-requires-clause-region : goal.change_map-requires-clause-region
+change_map-requires-clause-region g c = region_at _ _ _ _ c.read_header.ensures.region c.block_at.ensures.stays.count c.block_at.ensures.words
+
+pub change_map-requires-clause-header : goal.change_map-requires-clause-header
+change_map-requires-clause-header g c = subst (λ (w : ℕ → ℕ). IsHeader w c.in_ok-header.header) (sym (c.block_at.ensures.words ∙ c.read_header.ensures.words)) c.in_ok-header.ensures.header
+
+pub returns-in_err-header-clause-ok : goal.returns-in_err-header-clause-ok
+returns-in_err-header-clause-ok g c =
+    let p = err_from_is_err_and c.from_residual.result c.from_residual.ensures.1 in
+    rw (p.1) tt
+
+pub returns-in_err-header-clause-heap : goal.returns-in_err-header-clause-heap
+returns-in_err-header-clause-heap g c =
+    let p = err_from_is_err_and c.from_residual.result c.from_residual.ensures.1 in
+    rw (p.1) tt
+
+pub returns-in_err-header-clause-listed : goal.returns-in_err-header-clause-listed
+returns-in_err-header-clause-listed g c =
+    let p = err_from_is_err_and c.from_residual.result c.from_residual.ensures.1 in
+    rw (p.1) tt
+
+pub returns-in_err-header-clause-before : goal.returns-in_err-header-clause-before
+returns-in_err-header-clause-before g c =
+    subst (λ w. Undoes (g.R.RegionWords.count c.args.r.now) (g.R.RegionWords.words c.args.r.now) w) (sym c.read_header.ensures.words) (undoes_refl (g.R.RegionWords.count c.args.r.now) (g.R.RegionWords.words c.args.r.now) c.requires.region)
+
+pub returns-in_err-header-clause-region : goal.returns-in_err-header-clause-region
+returns-in_err-header-clause-region g c = c.read_header.ensures.region
+
+pub returns-in_err-header-clause-stays : goal.returns-in_err-header-clause-stays
+returns-in_err-header-clause-stays g c = c.read_header.ensures.stays
+
+pub returns-in_err-header-clause-refused : goal.returns-in_err-header-clause-refused
+returns-in_err-header-clause-refused g c = λ told. c.read_header.ensures.words
+
+pub returns-in_err-header-clause-ends : goal.returns-in_err-header-clause-ends
+returns-in_err-header-clause-ends g c =
+    let p = err_from_is_err_and c.from_residual.result c.from_residual.ensures.1 in
+    ends_heap _ _ c.read_header.result c.from_residual.result _ _ c.in_err-header.was p.1 p.2 c.read_header.ensures.ends
+
+pub returns-in_err-units-clause-ok : goal.returns-in_err-units-clause-ok
+returns-in_err-units-clause-ok g c =
+    let p = err_from_is_err_and c.from_residual-in_err-units.result c.from_residual-in_err-units.ensures.1 in
+    rw (p.1) tt
+
+pub returns-in_err-units-clause-heap : goal.returns-in_err-units-clause-heap
+returns-in_err-units-clause-heap g c =
+    let p = err_from_is_err_and c.from_residual-in_err-units.result c.from_residual-in_err-units.ensures.1 in
+    rw (p.1) tt
+
+pub returns-in_err-units-clause-listed : goal.returns-in_err-units-clause-listed
+returns-in_err-units-clause-listed g c =
+    let p = err_from_is_err_and c.from_residual-in_err-units.result c.from_residual-in_err-units.ensures.1 in
+    rw (p.1) tt
+
+pub returns-in_err-units-clause-ends : goal.returns-in_err-units-clause-ends
+returns-in_err-units-clause-ends g c =
+    let p = err_from_is_err_and c.from_residual-in_err-units.result c.from_residual-in_err-units.ensures.1 in
+    ends_by_after _ _ _ _ _ c.read_header.ensures.ends.later c.in_ok-header.ensures.ends.cause (ends_heap _ _ c.block_at.result c.from_residual-in_err-units.result _ _ c.in_err-units.was p.1 p.2 c.block_at.ensures.ends)
+
+pub returns-in_err-units-clause-before : goal.returns-in_err-units-clause-before
+returns-in_err-units-clause-before g c =
+    subst (λ w. Undoes (g.R.RegionWords.count c.args.r.now) (g.R.RegionWords.words c.args.r.now) w) (sym (c.block_at.ensures.words ∙ c.read_header.ensures.words)) (undoes_refl (g.R.RegionWords.count c.args.r.now) (g.R.RegionWords.words c.args.r.now) c.requires.region)
+
+pub returns-in_err-units-clause-region : goal.returns-in_err-units-clause-region
+returns-in_err-units-clause-region g c = region_at _ _ _ _ c.read_header.ensures.region c.block_at.ensures.stays.count c.block_at.ensures.words
+
+pub returns-in_err-units-clause-refused : goal.returns-in_err-units-clause-refused
+returns-in_err-units-clause-refused g c = λ told. c.block_at.ensures.words ∙ c.read_header.ensures.words
+
+pub returns-in_default-clause-before : goal.returns-in_default-clause-before
+returns-in_default-clause-before g c =
+    subst (λ w. Undoes (g.R.RegionWords.count c.args.r.now) (g.R.RegionWords.words c.args.r.now) w) (sym (c.block_at.ensures.words ∙ c.read_header.ensures.words)) (undoes_refl (g.R.RegionWords.count c.args.r.now) (g.R.RegionWords.words c.args.r.now) c.requires.region)
+
+pub returns-in_default-clause-region : goal.returns-in_default-clause-region
+returns-in_default-clause-region g c = region_at _ _ _ _ c.read_header.ensures.region c.block_at.ensures.stays.count c.block_at.ensures.words
+
+pub returns-in_default-clause-refused : goal.returns-in_default-clause-refused
+returns-in_default-clause-refused g c = λ told. c.block_at.ensures.words ∙ c.read_header.ensures.words
+
+pub returns-in_err-change_map-clause-ok : goal.returns-in_err-change_map-clause-ok
+returns-in_err-change_map-clause-ok g c =
+    let p = err_from_is_err_and c.from_residual-in_err-change_map.result c.from_residual-in_err-change_map.ensures.1 in
+    rw (p.1) tt
+
+pub returns-in_err-change_map-clause-heap : goal.returns-in_err-change_map-clause-heap
+returns-in_err-change_map-clause-heap g c =
+    let p = err_from_is_err_and c.from_residual-in_err-change_map.result c.from_residual-in_err-change_map.ensures.1 in
+    rw (p.1) tt
+
+pub returns-in_err-change_map-clause-listed : goal.returns-in_err-change_map-clause-listed
+returns-in_err-change_map-clause-listed g c =
+    let p = err_from_is_err_and c.from_residual-in_err-change_map.result c.from_residual-in_err-change_map.ensures.1 in
+    rw (p.1) tt
+
+pub returns-in_err-change_map-clause-before : goal.returns-in_err-change_map-clause-before
+returns-in_err-change_map-clause-before g c =
+    undoes_from (g.R.RegionWords.count c.args.r.now) (g.R.RegionWords.count c.block_at.new.r) (g.R.RegionWords.words c.block_at.new.r) (g.R.RegionWords.words c.args.r.now) (g.R.RegionWords.words c.change_map.new.r) (c.block_at.ensures.words ∙ c.read_header.ensures.words) (c.block_at.ensures.stays.count ∙ c.read_header.ensures.stays.count) c.change_map.ensures.before
+
+pub returns-in_err-change_map-clause-region : goal.returns-in_err-change_map-clause-region
+returns-in_err-change_map-clause-region g c = subst (λ k. IsRegion k (g.R.RegionWords.words c.change_map.new.r)) (sym c.change_map.ensures.stays.count) c.change_map.ensures.before.region
+
+pub returns-clause-before : goal.returns-clause-before
+returns-clause-before g c =
+    undoes_from (g.R.RegionWords.count c.args.r.now) (g.R.RegionWords.count c.block_at.new.r) (g.R.RegionWords.words c.block_at.new.r) (g.R.RegionWords.words c.args.r.now) (g.R.RegionWords.words c.change_map.new.r) (c.block_at.ensures.words ∙ c.read_header.ensures.words) (c.block_at.ensures.stays.count ∙ c.read_header.ensures.stays.count) c.change_map.ensures.before
+
+pub returns-clause-region : goal.returns-clause-region
+returns-clause-region g c = subst (λ k. IsRegion k (g.R.RegionWords.words c.change_map.new.r)) (sym c.change_map.ensures.stays.count) c.change_map.ensures.before.region
