@@ -4,4 +4,5 @@ pub mod ImageRules
 pub mod PagePlaces
 pub mod Places
 pub mod Retags
+mod RuleChain
 pub mod Views
