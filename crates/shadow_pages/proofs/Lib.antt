@@ -1,3 +1,5 @@
+mod ClosedPages
+mod Exits
 pub mod Gates
 pub mod Restores
 pub mod Shadows

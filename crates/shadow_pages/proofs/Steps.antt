@@ -86,7 +86,7 @@ clears_trans a b c h k = record {
     at j (inl e) (inl d) = inl (d ∙ e)
     at j (inr z) (inl d) = inr (d ∙ z)
 
-valid_before : (old new : List ℕ) (k : ℕ) → SameNames old new → IsValid new k → IsValid old k
+pub valid_before : (old new : List ℕ) (k : ℕ) → SameNames old new → IsValid new k → IsValid old k
 valid_before old new k h v = let less : k < frames_of old = subst (λ f. k < f) h.frames v.within in record { within = less; valid = ap is_valid (sym (h.tag k less)) ∙ v.valid }
 
 pub cleared_still : (old new : Contents) (k : ℕ) → Clears old new → IsCleared old.words k → IsCleared new.words k

@@ -1,7 +1,6 @@
-use Rattle.std.proofs.Common.{arith, refl, sym}
+use Rattle.std.proofs.Common.{◌∙◌, ap, refl, sym}
 use Rattle.rio_base.specs.Rules.{true_false}
 use Rattle.rio_base.proofs.MachineRules.{ends_err, ends_then}
-use Rattle.std.proofs.Common.{◌∙◌, ap}
 use Rattle.rio_base.specs.Blocks.{BlockWords}
 use Rattle.rio_base.specs.Machine.{Contents}
 use Rattle.rio_model.specs.Cover.{reads, stands}
@@ -56,7 +55,7 @@ pub returns-clause-firm : goal.returns-clause-firm
 returns-clause-firm g c = λ b e. restores_firm (g.M.Machine.contents c.args.m.now) (g.M.Machine.contents c.restore_frames.new.m) b c.in_ok-restore_frames.ensures.stores.rest c.in_ok-restore_frames.ensures.restores (c.in_ok-commit.ensures.firm b e)
 
 pub returns-in_err-commit-clause-ends : goal.returns-in_err-commit-clause-ends
-returns-in_err-commit-clause-ends g c = ends_err _ _ _ _ _ refl (grind (arith, c.from_residual-in_err-commit.ensures)) c.in_ok-restore_frames.ensures.ends.steps c.in_err-commit.ensures.ends
+returns-in_err-commit-clause-ends g c = ends_err _ _ _ _ _ refl c.from_residual-in_err-commit.ensures.0 c.in_ok-restore_frames.ensures.ends.steps c.in_err-commit.ensures.ends
 
 pub returns-clause-ends : goal.returns-clause-ends
 returns-clause-ends g c = ends_then _ _ _ _ _ (λ e. true_false (sym e)) c.in_ok-restore_frames.ensures.ends c.in_ok-commit.ensures.ends
