@@ -1,4 +1,5 @@
 pub mod DirtyEntries
+pub mod Exits
 pub mod Marks
 pub mod Settled
 pub mod Steps

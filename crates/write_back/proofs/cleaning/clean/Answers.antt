@@ -1,10 +1,13 @@
-use Rattle.std.proofs.Common.{◌∙◌, Err, ap, arith, refl, sym}
+use Rattle.std.proofs.Common.{◌∙◌, Err, ap, refl, sym}
 use Rattle.std.proofs.lemmas.Result.{err_from_is_err_and}
-use Rattle.rio_base.specs.declared.failures.VolFail.TheVariants.{Stopped}
+use Rattle.rio_base.specs.declared.failures.VolFail.TheVariants.{Stopped, Fault}
 use Rattle.rio_base.specs.Rules.{true_false}
-use Rattle.rio_base.proofs.MachineRules.{ends_as, ends_err, ends_then, ends_told, lasts_trans, never, steps_trans}
-use Rattle.write_back.proofs.Steps.{coherent_then}
-use Rattle.rio_model.proofs.HeldEntries.{narrows_after}
+use Rattle.rio_base.proofs.MachineRules.{ends_as, ends_err, ends_then, ends_told, lasts_trans, never, steps_trans, ends_none, lasts_refl}
+use Rattle.write_back.proofs.Steps.{coherent_then, keeps_then}
+use Rattle.rio_model.proofs.HeldEntries.{narrows_after, held_same}
+use Rattle.rio_model.specs.Registry.{is_dirty}
+use Rattle.rio_model.proofs.CoverSteps.{keeps_refl}
+use Rattle.write_back.proofs.Exits.{at_err, cleaned_from, fault_on, fault_told, few_on, held_from, narrows_same, not_fault, not_ok, one_from, one_more, one_same, writes_rest}
 use Rattle.write_back.proofs.cleaning.clean.Goals as goal
 
 pub mark_clean-requires-clause-coherent : goal.mark_clean-requires-clause-coherent
@@ -28,12 +31,185 @@ pub returns-clause-ends : goal.returns-clause-ends
 returns-clause-ends g c =
     ends_as _ _ _ _ _ _ (never _ Stopped) (ends_then _ _ _ _ _ (never _ Stopped) c.in_ok-write_entry.ensures.ends c.in_ok-sync_disk.ensures.ends) c.in_ok-mark_clean.ensures.ends (λ e. absurd (never _ Stopped e)) (λ e. absurd (true_false (sym e)))
 
-pub returns-in_err-sync_disk-clause-ends : goal.returns-in_err-sync_disk-clause-ends
-returns-in_err-sync_disk-clause-ends g c =
-    ends_then _ _ _ _ _ (never _ Stopped) c.in_ok-write_entry.ensures.ends (ends_told _ _ _ _ _ (grind (arith, c.from_residual-in_err-sync_disk.ensures)) c.in_err-sync_disk.ensures.ends)
-
 pub returns-in_err-mark_clean-clause-lasts : goal.returns-in_err-mark_clean-clause-lasts
 returns-in_err-mark_clean-clause-lasts g c = lasts_trans _ _ _ (lasts_trans _ _ _ c.write_entry.ensures.lasts c.sync_disk.ensures.lasts) c.mark_clean.ensures.lasts
 
 pub returns-clause-lasts : goal.returns-clause-lasts
 returns-clause-lasts g c = lasts_trans _ _ _ (lasts_trans _ _ _ c.write_entry.ensures.lasts c.sync_disk.ensures.lasts) c.mark_clean.ensures.lasts
+
+pub returns-then-not-is_dirty-clause-keeps : goal.returns-then-not-is_dirty-clause-keeps
+returns-then-not-is_dirty-clause-keeps g c = keeps_refl _
+
+pub returns-then-not-is_dirty-clause-cleaned : goal.returns-then-not-is_dirty-clause-cleaned
+returns-then-not-is_dirty-clause-cleaned g c = record { valid = c.requires.valid; clean = (ap is_dirty (sym c.load_tag.ensures) ∙ sym c.is_dirty.ensures ∙ c.if-not-is_dirty.true); block = refl; shadow = refl }
+
+pub returns-then-not-is_dirty-clause-same : goal.returns-then-not-is_dirty-clause-same
+returns-then-not-is_dirty-clause-same g c = tt
+
+pub returns-then-not-is_dirty-clause-held : goal.returns-then-not-is_dirty-clause-held
+returns-then-not-is_dirty-clause-held g c = held_same c.args.k _ _ refl
+
+pub returns-then-not-is_dirty-clause-one_entry : goal.returns-then-not-is_dirty-clause-one_entry
+returns-then-not-is_dirty-clause-one_entry g c = one_same c.args.k _ _ refl
+
+pub returns-then-not-is_dirty-clause-narrows : goal.returns-then-not-is_dirty-clause-narrows
+returns-then-not-is_dirty-clause-narrows g c = narrows_same _ _ c.requires.coherent.rules.blocks refl
+
+pub returns-then-not-is_dirty-clause-clean_entry : goal.returns-then-not-is_dirty-clause-clean_entry
+returns-then-not-is_dirty-clause-clean_entry g c = λ e. record { disk = refl; pending = refl; writes = refl }
+
+pub returns-then-not-is_dirty-clause-one_write : goal.returns-then-not-is_dirty-clause-one_write
+returns-then-not-is_dirty-clause-one_write g c = one_more _
+
+pub returns-then-not-is_dirty-clause-closed : goal.returns-then-not-is_dirty-clause-closed
+returns-then-not-is_dirty-clause-closed g c = c.requires.closed
+
+pub returns-then-not-is_dirty-clause-lasts : goal.returns-then-not-is_dirty-clause-lasts
+returns-then-not-is_dirty-clause-lasts g c = lasts_refl _
+
+pub returns-then-not-is_dirty-clause-fault : goal.returns-then-not-is_dirty-clause-fault
+returns-then-not-is_dirty-clause-fault g c = λ e. absurd (never _ Fault e)
+
+pub returns-then-not-is_dirty-clause-ends : goal.returns-then-not-is_dirty-clause-ends
+returns-then-not-is_dirty-clause-ends g c = ends_none _ _ (never _ Stopped)
+
+pub write_entry-requires-clause-coherent : goal.write_entry-requires-clause-coherent
+write_entry-requires-clause-coherent g c = c.requires.coherent
+
+pub write_entry-requires-clause-closed : goal.write_entry-requires-clause-closed
+write_entry-requires-clause-closed g c = c.requires.closed
+
+pub write_entry-requires-clause-valid : goal.write_entry-requires-clause-valid
+write_entry-requires-clause-valid g c = c.requires.valid
+
+pub write_entry-requires-clause-dirty : goal.write_entry-requires-clause-dirty
+write_entry-requires-clause-dirty g c = (ap is_dirty (sym c.load_tag.ensures) ∙ sym c.is_dirty.ensures ∙ c.if-not-is_dirty.false)
+
+pub write_entry-requires-clause-page : goal.write_entry-requires-clause-page
+write_entry-requires-clause-page g c = c.frame_page_of-page.ensures.page
+
+pub returns-in_err-write_entry-clause-keeps : goal.returns-in_err-write_entry-clause-keeps
+returns-in_err-write_entry-clause-keeps g c = c.write_entry.ensures.keeps
+
+pub returns-in_err-write_entry-clause-cleaned : goal.returns-in_err-write_entry-clause-cleaned
+returns-in_err-write_entry-clause-cleaned g c = not_ok _ c.from_residual.result c.from_residual.ensures.0
+
+pub returns-in_err-write_entry-clause-same : goal.returns-in_err-write_entry-clause-same
+returns-in_err-write_entry-clause-same g c = at_err c.from_residual.result c.from_residual.ensures.0 c.write_entry.ensures.words
+
+pub returns-in_err-write_entry-clause-held : goal.returns-in_err-write_entry-clause-held
+returns-in_err-write_entry-clause-held g c = held_same c.args.k _ _ c.write_entry.ensures.words
+
+pub returns-in_err-write_entry-clause-one_entry : goal.returns-in_err-write_entry-clause-one_entry
+returns-in_err-write_entry-clause-one_entry g c = one_same c.args.k _ _ c.write_entry.ensures.words
+
+pub returns-in_err-write_entry-clause-narrows : goal.returns-in_err-write_entry-clause-narrows
+returns-in_err-write_entry-clause-narrows g c = narrows_same _ _ c.requires.coherent.rules.blocks c.write_entry.ensures.words
+
+pub returns-in_err-write_entry-clause-clean_entry : goal.returns-in_err-write_entry-clause-clean_entry
+returns-in_err-write_entry-clause-clean_entry g c = λ clean. absurd (true_false (sym (ap is_dirty (sym c.load_tag.ensures) ∙ sym c.is_dirty.ensures ∙ c.if-not-is_dirty.false) ∙ clean))
+
+pub returns-in_err-write_entry-clause-one_write : goal.returns-in_err-write_entry-clause-one_write
+returns-in_err-write_entry-clause-one_write g c = c.write_entry.ensures.one_write
+
+pub returns-in_err-write_entry-clause-closed : goal.returns-in_err-write_entry-clause-closed
+returns-in_err-write_entry-clause-closed g c = c.write_entry.ensures.closed
+
+pub returns-in_err-write_entry-clause-lasts : goal.returns-in_err-write_entry-clause-lasts
+returns-in_err-write_entry-clause-lasts g c = c.write_entry.ensures.lasts
+
+pub returns-in_err-write_entry-clause-fault : goal.returns-in_err-write_entry-clause-fault
+returns-in_err-write_entry-clause-fault g c = let p = err_from_is_err_and c.from_residual.result c.from_residual.ensures.1 in fault_told _ _ _ (p.1 ∙ ap Err p.2) c.in_err-write_entry.ensures.fault
+
+pub returns-in_err-write_entry-clause-ends : goal.returns-in_err-write_entry-clause-ends
+returns-in_err-write_entry-clause-ends g c = let p = err_from_is_err_and c.from_residual.result c.from_residual.ensures.1 in ends_told _ _ _ _ _ (p.1 ∙ ap Err p.2) c.in_err-write_entry.ensures.ends
+
+pub returns-in_err-sync_disk-clause-keeps : goal.returns-in_err-sync_disk-clause-keeps
+returns-in_err-sync_disk-clause-keeps g c = keeps_then _ _ _ c.write_entry.ensures.keeps c.sync_disk.ensures.keeps
+
+pub returns-in_err-sync_disk-clause-cleaned : goal.returns-in_err-sync_disk-clause-cleaned
+returns-in_err-sync_disk-clause-cleaned g c = not_ok _ c.from_residual-in_err-sync_disk.result c.from_residual-in_err-sync_disk.ensures.0
+
+pub returns-in_err-sync_disk-clause-same : goal.returns-in_err-sync_disk-clause-same
+returns-in_err-sync_disk-clause-same g c = at_err c.from_residual-in_err-sync_disk.result c.from_residual-in_err-sync_disk.ensures.0 (c.sync_disk.ensures.words ∙ c.write_entry.ensures.words)
+
+pub returns-in_err-sync_disk-clause-held : goal.returns-in_err-sync_disk-clause-held
+returns-in_err-sync_disk-clause-held g c = held_same c.args.k _ _ (c.sync_disk.ensures.words ∙ c.write_entry.ensures.words)
+
+pub returns-in_err-sync_disk-clause-one_entry : goal.returns-in_err-sync_disk-clause-one_entry
+returns-in_err-sync_disk-clause-one_entry g c = one_same c.args.k _ _ (c.sync_disk.ensures.words ∙ c.write_entry.ensures.words)
+
+pub returns-in_err-sync_disk-clause-narrows : goal.returns-in_err-sync_disk-clause-narrows
+returns-in_err-sync_disk-clause-narrows g c = narrows_same _ _ c.requires.coherent.rules.blocks (c.sync_disk.ensures.words ∙ c.write_entry.ensures.words)
+
+pub returns-in_err-sync_disk-clause-clean_entry : goal.returns-in_err-sync_disk-clause-clean_entry
+returns-in_err-sync_disk-clause-clean_entry g c = λ clean. absurd (true_false (sym (ap is_dirty (sym c.load_tag.ensures) ∙ sym c.is_dirty.ensures ∙ c.if-not-is_dirty.false) ∙ clean))
+
+pub returns-in_err-sync_disk-clause-one_write : goal.returns-in_err-sync_disk-clause-one_write
+returns-in_err-sync_disk-clause-one_write g c = few_on _ _ _ c.sync_disk.ensures.writes c.write_entry.ensures.one_write
+
+pub returns-in_err-sync_disk-clause-closed : goal.returns-in_err-sync_disk-clause-closed
+returns-in_err-sync_disk-clause-closed g c = c.sync_disk.ensures.closed
+
+pub returns-in_err-sync_disk-clause-lasts : goal.returns-in_err-sync_disk-clause-lasts
+returns-in_err-sync_disk-clause-lasts g c = lasts_trans _ _ _ c.write_entry.ensures.lasts c.sync_disk.ensures.lasts
+
+pub returns-in_err-sync_disk-clause-fault : goal.returns-in_err-sync_disk-clause-fault
+returns-in_err-sync_disk-clause-fault g c = let p = err_from_is_err_and c.from_residual-in_err-sync_disk.result c.from_residual-in_err-sync_disk.ensures.1 in fault_on _ _ _ _ c.write_entry.ensures.lasts.faults.later (fault_told _ _ _ (p.1 ∙ ap Err p.2) c.in_err-sync_disk.ensures.fault)
+
+pub returns-in_err-sync_disk-clause-ends : goal.returns-in_err-sync_disk-clause-ends
+returns-in_err-sync_disk-clause-ends g c = let p = err_from_is_err_and c.from_residual-in_err-sync_disk.result c.from_residual-in_err-sync_disk.ensures.1 in ends_then _ _ _ _ _ (never _ Stopped) c.in_ok-write_entry.ensures.ends (ends_told _ _ _ _ _ (p.1 ∙ ap Err p.2) c.in_err-sync_disk.ensures.ends)
+
+pub returns-in_err-mark_clean-clause-keeps : goal.returns-in_err-mark_clean-clause-keeps
+returns-in_err-mark_clean-clause-keeps g c = keeps_then _ _ _ (keeps_then _ _ _ c.write_entry.ensures.keeps c.sync_disk.ensures.keeps) c.mark_clean.ensures.keeps
+
+pub returns-in_err-mark_clean-clause-cleaned : goal.returns-in_err-mark_clean-clause-cleaned
+returns-in_err-mark_clean-clause-cleaned g c = not_ok _ c.from_residual-in_err-mark_clean.result c.from_residual-in_err-mark_clean.ensures.0
+
+pub returns-in_err-mark_clean-clause-same : goal.returns-in_err-mark_clean-clause-same
+returns-in_err-mark_clean-clause-same g c = at_err c.from_residual-in_err-mark_clean.result c.from_residual-in_err-mark_clean.ensures.0 (c.in_err-mark_clean.ensures.same ∙ c.sync_disk.ensures.words ∙ c.write_entry.ensures.words)
+
+pub returns-in_err-mark_clean-clause-held : goal.returns-in_err-mark_clean-clause-held
+returns-in_err-mark_clean-clause-held g c = held_from c.args.k _ _ _ (c.sync_disk.ensures.words ∙ c.write_entry.ensures.words) c.mark_clean.ensures.held
+
+pub returns-in_err-mark_clean-clause-one_entry : goal.returns-in_err-mark_clean-clause-one_entry
+returns-in_err-mark_clean-clause-one_entry g c = one_from c.args.k _ _ _ (c.sync_disk.ensures.words ∙ c.write_entry.ensures.words) c.mark_clean.ensures.one_entry
+
+pub returns-in_err-mark_clean-clause-clean_entry : goal.returns-in_err-mark_clean-clause-clean_entry
+returns-in_err-mark_clean-clause-clean_entry g c = λ clean. absurd (true_false (sym (ap is_dirty (sym c.load_tag.ensures) ∙ sym c.is_dirty.ensures ∙ c.if-not-is_dirty.false) ∙ clean))
+
+pub returns-in_err-mark_clean-clause-one_write : goal.returns-in_err-mark_clean-clause-one_write
+returns-in_err-mark_clean-clause-one_write g c = few_on _ _ _ (writes_rest (g.M.Machine.contents c.sync_disk.new.m) _ c.mark_clean.ensures.rest ∙ c.sync_disk.ensures.writes) c.write_entry.ensures.one_write
+
+pub returns-in_err-mark_clean-clause-closed : goal.returns-in_err-mark_clean-clause-closed
+returns-in_err-mark_clean-clause-closed g c = c.mark_clean.ensures.closed
+
+pub returns-in_err-mark_clean-clause-fault : goal.returns-in_err-mark_clean-clause-fault
+returns-in_err-mark_clean-clause-fault g c = let p = err_from_is_err_and c.from_residual-in_err-mark_clean.result c.from_residual-in_err-mark_clean.ensures.1 in λ e. absurd (not_fault _ (p.1 ∙ ap Err p.2) e)
+
+pub returns-clause-keeps : goal.returns-clause-keeps
+returns-clause-keeps g c = keeps_then _ _ _ (keeps_then _ _ _ c.write_entry.ensures.keeps c.sync_disk.ensures.keeps) c.mark_clean.ensures.keeps
+
+pub returns-clause-cleaned : goal.returns-clause-cleaned
+returns-clause-cleaned g c = cleaned_from c.args.k _ _ _ (c.sync_disk.ensures.words ∙ c.write_entry.ensures.words) c.in_ok-mark_clean.ensures.cleaned
+
+pub returns-clause-same : goal.returns-clause-same
+returns-clause-same g c = tt
+
+pub returns-clause-held : goal.returns-clause-held
+returns-clause-held g c = held_from c.args.k _ _ _ (c.sync_disk.ensures.words ∙ c.write_entry.ensures.words) c.mark_clean.ensures.held
+
+pub returns-clause-one_entry : goal.returns-clause-one_entry
+returns-clause-one_entry g c = one_from c.args.k _ _ _ (c.sync_disk.ensures.words ∙ c.write_entry.ensures.words) c.mark_clean.ensures.one_entry
+
+pub returns-clause-clean_entry : goal.returns-clause-clean_entry
+returns-clause-clean_entry g c = λ clean. absurd (true_false (sym (ap is_dirty (sym c.load_tag.ensures) ∙ sym c.is_dirty.ensures ∙ c.if-not-is_dirty.false) ∙ clean))
+
+pub returns-clause-one_write : goal.returns-clause-one_write
+returns-clause-one_write g c = few_on _ _ _ (writes_rest (g.M.Machine.contents c.sync_disk.new.m) _ c.mark_clean.ensures.rest ∙ c.sync_disk.ensures.writes) c.write_entry.ensures.one_write
+
+pub returns-clause-closed : goal.returns-clause-closed
+returns-clause-closed g c = c.mark_clean.ensures.closed
+
+pub returns-clause-fault : goal.returns-clause-fault
+returns-clause-fault g c = λ e. absurd (never _ Fault e)

@@ -1,11 +1,12 @@
 use Rattle.std.proofs.Common.{◌∙◌, Err, ap, refl, sym}
 use Rattle.std.proofs.lemmas.Result.{err_from_is_err_and}
 use Rattle.rio_base.specs.Rules.{true_false}
-use Rattle.rio_base.specs.declared.failures.VolFail.TheVariants.{Stopped}
-use Rattle.rio_base.proofs.MachineRules.{ends_as, ends_err, never}
-use Rattle.write_back.proofs.Steps.{coherent_then}
+use Rattle.rio_base.specs.declared.failures.VolFail.TheVariants.{Stopped, Fault}
+use Rattle.rio_base.proofs.MachineRules.{ends_as, ends_err, never, ends_told, lasts_trans}
+use Rattle.write_back.proofs.Steps.{coherent_then, keeps_then}
 use Rattle.rio_model.proofs.HeldEntries.{held_then, narrows_gone, narrows_held, one_entry_then}
 use Rattle.rio_model.specs.Registry.{is_dirty, tag_at}
+use Rattle.write_back.proofs.Exits.{at_err, disk_on, fault_told, few_on, not_fault, not_ok, writes_rest}
 use Rattle.write_back.proofs.cleaning.evict.Goals as goal
 
 pub drop_entry-requires-clause-coherent : goal.drop_entry-requires-clause-coherent
@@ -36,3 +37,111 @@ returns-in_err-drop_entry-clause-marks g c = λ dirty. absurd (true_false (sym d
 
 pub returns-clause-marks : goal.returns-clause-marks
 returns-clause-marks g c = λ dirty. absurd (true_false (sym dirty ∙ ap is_dirty c.in_ok-drop_entry.ensures.gone))
+
+pub clean-requires-clause-coherent : goal.clean-requires-clause-coherent
+clean-requires-clause-coherent g c = c.requires.coherent
+
+pub clean-requires-clause-closed : goal.clean-requires-clause-closed
+clean-requires-clause-closed g c = c.requires.closed
+
+pub clean-requires-clause-valid : goal.clean-requires-clause-valid
+clean-requires-clause-valid g c = c.requires.valid
+
+pub clean-requires-clause-bare : goal.clean-requires-clause-bare
+clean-requires-clause-bare g c = c.requires.bare
+
+pub drop_entry-requires-clause-closed : goal.drop_entry-requires-clause-closed
+drop_entry-requires-clause-closed g c = c.clean.ensures.closed
+
+pub drop_entry-requires-clause-valid : goal.drop_entry-requires-clause-valid
+drop_entry-requires-clause-valid g c = c.in_ok-clean.ensures.cleaned.valid
+
+pub drop_entry-requires-clause-clean : goal.drop_entry-requires-clause-clean
+drop_entry-requires-clause-clean g c = c.in_ok-clean.ensures.cleaned.clean
+
+pub returns-in_err-clean-clause-keeps : goal.returns-in_err-clean-clause-keeps
+returns-in_err-clean-clause-keeps g c = c.clean.ensures.keeps
+
+pub returns-in_err-clean-clause-one_entry : goal.returns-in_err-clean-clause-one_entry
+returns-in_err-clean-clause-one_entry g c = c.clean.ensures.one_entry
+
+pub returns-in_err-clean-clause-narrows : goal.returns-in_err-clean-clause-narrows
+returns-in_err-clean-clause-narrows g c = c.clean.ensures.narrows
+
+pub returns-in_err-clean-clause-clean_entry : goal.returns-in_err-clean-clause-clean_entry
+returns-in_err-clean-clause-clean_entry g c = c.clean.ensures.clean_entry
+
+pub returns-in_err-clean-clause-one_write : goal.returns-in_err-clean-clause-one_write
+returns-in_err-clean-clause-one_write g c = c.clean.ensures.one_write
+
+pub returns-in_err-clean-clause-closed : goal.returns-in_err-clean-clause-closed
+returns-in_err-clean-clause-closed g c = c.clean.ensures.closed
+
+pub returns-in_err-clean-clause-lasts : goal.returns-in_err-clean-clause-lasts
+returns-in_err-clean-clause-lasts g c = c.clean.ensures.lasts
+
+pub returns-in_err-clean-clause-gone : goal.returns-in_err-clean-clause-gone
+returns-in_err-clean-clause-gone g c = not_ok _ c.from_residual.result c.from_residual.ensures.0
+
+pub returns-in_err-clean-clause-held : goal.returns-in_err-clean-clause-held
+returns-in_err-clean-clause-held g c = at_err c.from_residual.result c.from_residual.ensures.0 c.clean.ensures.held
+
+pub returns-in_err-clean-clause-fault : goal.returns-in_err-clean-clause-fault
+returns-in_err-clean-clause-fault g c = let p = err_from_is_err_and c.from_residual.result c.from_residual.ensures.1 in fault_told _ _ _ (p.1 ∙ ap Err p.2) c.in_err-clean.ensures.fault
+
+pub returns-in_err-clean-clause-ends : goal.returns-in_err-clean-clause-ends
+returns-in_err-clean-clause-ends g c = let p = err_from_is_err_and c.from_residual.result c.from_residual.ensures.1 in ends_told _ _ _ _ _ (p.1 ∙ ap Err p.2) c.in_err-clean.ensures.ends
+
+pub returns-in_err-drop_entry-clause-keeps : goal.returns-in_err-drop_entry-clause-keeps
+returns-in_err-drop_entry-clause-keeps g c = keeps_then _ _ _ c.clean.ensures.keeps c.drop_entry.ensures.keeps
+
+pub returns-in_err-drop_entry-clause-gone : goal.returns-in_err-drop_entry-clause-gone
+returns-in_err-drop_entry-clause-gone g c = not_ok _ c.from_residual-in_err-drop_entry.result c.from_residual-in_err-drop_entry.ensures.0
+
+pub returns-in_err-drop_entry-clause-held : goal.returns-in_err-drop_entry-clause-held
+returns-in_err-drop_entry-clause-held g c = at_err c.from_residual-in_err-drop_entry.result c.from_residual-in_err-drop_entry.ensures.0 (held_then c.args.k _ _ _ c.clean.ensures.held c.in_err-drop_entry.ensures.held)
+
+pub returns-in_err-drop_entry-clause-one_entry : goal.returns-in_err-drop_entry-clause-one_entry
+returns-in_err-drop_entry-clause-one_entry g c = one_entry_then c.args.k _ _ _ c.clean.ensures.one_entry c.drop_entry.ensures.one_entry
+
+pub returns-in_err-drop_entry-clause-clean_entry : goal.returns-in_err-drop_entry-clause-clean_entry
+returns-in_err-drop_entry-clause-clean_entry g c = λ clean. disk_on _ _ _ (c.clean.ensures.clean_entry clean) c.drop_entry.ensures.rest
+
+pub returns-in_err-drop_entry-clause-one_write : goal.returns-in_err-drop_entry-clause-one_write
+returns-in_err-drop_entry-clause-one_write g c = few_on _ _ _ (writes_rest (g.M.Machine.contents c.clean.new.m) _ c.drop_entry.ensures.rest) c.clean.ensures.one_write
+
+pub returns-in_err-drop_entry-clause-closed : goal.returns-in_err-drop_entry-clause-closed
+returns-in_err-drop_entry-clause-closed g c = c.drop_entry.ensures.closed
+
+pub returns-in_err-drop_entry-clause-lasts : goal.returns-in_err-drop_entry-clause-lasts
+returns-in_err-drop_entry-clause-lasts g c = lasts_trans _ _ _ c.clean.ensures.lasts c.drop_entry.ensures.lasts
+
+pub returns-in_err-drop_entry-clause-fault : goal.returns-in_err-drop_entry-clause-fault
+returns-in_err-drop_entry-clause-fault g c = let p = err_from_is_err_and c.from_residual-in_err-drop_entry.result c.from_residual-in_err-drop_entry.ensures.1 in λ e. absurd (not_fault _ (p.1 ∙ ap Err p.2) e)
+
+pub returns-clause-keeps : goal.returns-clause-keeps
+returns-clause-keeps g c = keeps_then _ _ _ c.clean.ensures.keeps c.drop_entry.ensures.keeps
+
+pub returns-clause-gone : goal.returns-clause-gone
+returns-clause-gone g c = c.in_ok-drop_entry.ensures.gone
+
+pub returns-clause-held : goal.returns-clause-held
+returns-clause-held g c = tt
+
+pub returns-clause-one_entry : goal.returns-clause-one_entry
+returns-clause-one_entry g c = one_entry_then c.args.k _ _ _ c.clean.ensures.one_entry c.drop_entry.ensures.one_entry
+
+pub returns-clause-clean_entry : goal.returns-clause-clean_entry
+returns-clause-clean_entry g c = λ clean. disk_on _ _ _ (c.clean.ensures.clean_entry clean) c.drop_entry.ensures.rest
+
+pub returns-clause-one_write : goal.returns-clause-one_write
+returns-clause-one_write g c = few_on _ _ _ (writes_rest (g.M.Machine.contents c.clean.new.m) _ c.drop_entry.ensures.rest) c.clean.ensures.one_write
+
+pub returns-clause-closed : goal.returns-clause-closed
+returns-clause-closed g c = c.drop_entry.ensures.closed
+
+pub returns-clause-lasts : goal.returns-clause-lasts
+returns-clause-lasts g c = lasts_trans _ _ _ c.clean.ensures.lasts c.drop_entry.ensures.lasts
+
+pub returns-clause-fault : goal.returns-clause-fault
+returns-clause-fault g c = λ e. absurd (never _ Fault e)
