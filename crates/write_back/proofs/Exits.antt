@@ -1,5 +1,5 @@
 -- What is so at the exits of a call: of answers that are errors, and where words are as they were.
-use Rattle.std.specs.Prelude.{◌≡◌, ℕ, ◌≤◌, List, length, slice_index, Result, Err, IfOk, IsErr, IsErrOf, OnErr, OnOk, refl}
+use Rattle.std.specs.Prelude.{◌≡◌, ℕ, ◌≤◌, ◌&&◌, Bool, true, false, List, length, slice_index, Result, Err, IfOk, IsErr, IsErrOf, OnErr}
 use Rattle.std.proofs.Common.{◌∙◌, ap, sym, subst, arith}
 use Rattle.std.proofs.lemmas.Result.{IfOk-from_err, MatchResult-from_err}
 use Rattle.rio_base.proofs.Rules.{rose_later}
@@ -10,8 +10,8 @@ use Rattle.rio_base.specs.declared.failures.VolFail.{VolFail}
 use Rattle.rio_base.specs.declared.failures.VolFail.TheVariants.{Fault, Stopped}
 use Rattle.rio_model.specs.Cover.{HeldEntry, IsCleaned, Narrows, OnDisk}
 use Rattle.rio_model.proofs.HeldEntries.{held_same, narrows_by}
-use Rattle.rio_model.specs.Registry.{BlockRule, OneEntry, frames_of}
-use Rattle.write_back.specs.Flushing.{CleanedFirst}
+use Rattle.rio_model.specs.Registry.{BlockRule, OneEntry, frames_of, is_dirty, is_valid, tag_at}
+use Rattle.write_back.specs.Flushing.{CleanedFirst, needs_write}
 use Rattle.write_back.specs.Writing.{SameDisk}
 
 -- ---- errors
@@ -81,3 +81,17 @@ one_more w = omega arith
 
 pub few_on : (w n most : ℕ) → n ≡ w → w ≤ most → n ≤ most
 few_on w n most e h = subst (λ (x : ℕ). x ≤ most) (sym e) h
+
+pub rest_then : (a b c : Contents) → b ≡ record a { words = b.words } → c ≡ record b { words = c.words } → c ≡ record a { words = c.words }
+rest_then a b c h k = k ∙ ap (λ (x : Contents). record x { words = c.words }) h
+
+-- ---- whether an entry is dirty
+
+pub not_valid : (words : List ℕ) (k : ℕ) → is_valid (tag_at words k) ≡ false → needs_write words k ≡ false
+not_valid words k e = ap (λ (v : Bool). v && is_dirty (tag_at words k)) e
+
+pub not_dirty : (words : List ℕ) (k : ℕ) → is_valid (tag_at words k) ≡ true → is_dirty (tag_at words k) ≡ false → needs_write words k ≡ false
+not_dirty words k e d = ap (λ (v : Bool). v && is_dirty (tag_at words k)) e ∙ d
+
+pub needs_both : (words : List ℕ) (k : ℕ) → is_valid (tag_at words k) ≡ true → is_dirty (tag_at words k) ≡ true → needs_write words k ≡ true
+needs_both words k e d = ap (λ (v : Bool). v && is_dirty (tag_at words k)) e ∙ d

@@ -1,7 +1,8 @@
 use Rattle.std.proofs.Common.{◌<◌, ◌∙◌, subst, sym, ap, arith, length}
 use Rattle.rio_model.specs.Registry.{tag_block}
 use Rattle.rio_model.proofs.CoverSteps.{keeps_write}
-use Rattle.write_back.proofs.Steps.{frame_begins, on_disk, stays_pending}
+use Rattle.write_back.proofs.Steps.{frame_begins, on_disk, stays_pending, stays_on_disk}
+use Rattle.write_back.proofs.Exits.{not_ok}
 use Rattle.write_back.proofs.cleaning.write_entry.Goals as goal
 
 pub write_block-requires-clause-block : goal.write_block-requires-clause-block
@@ -27,3 +28,45 @@ returns-in_err-write_block-clause-pends g c = stays_pending (g.M.Machine.run c.a
 
 pub returns-clause-pends : goal.returns-clause-pends
 returns-clause-pends g c = stays_pending (g.M.Machine.run c.args.m.now).stopped _ (g.M.Machine.contents c.args.m.now) (g.M.Machine.contents c.write_block.new.self) c.write_block.ensures.pending c.write_block.ensures.frozen
+
+pub returns-in_err-write_block-clause-words : goal.returns-in_err-write_block-clause-words
+returns-in_err-write_block-clause-words g c = c.write_block.ensures.writes_block.words
+
+pub returns-in_err-write_block-clause-others : goal.returns-in_err-write_block-clause-others
+returns-in_err-write_block-clause-others g c = λ j v ne d. stays_on_disk _ _ _ c.args.k j _ c.requires.coherent c.write_block.ensures.writes_block c.requires.valid (c.block-block.ensures ∙ ap tag_block c.load_tag.ensures) v ne d
+
+pub returns-in_err-write_block-clause-blocks : goal.returns-in_err-write_block-clause-blocks
+returns-in_err-write_block-clause-blocks g c = λ b ne. c.write_block.ensures.writes_block.others b (λ e. ne (e ∙ (c.block-block.ensures ∙ ap tag_block c.load_tag.ensures)))
+
+pub returns-in_err-write_block-clause-marks : goal.returns-in_err-write_block-clause-marks
+returns-in_err-write_block-clause-marks g c = λ b ne. c.write_block.ensures.writes_block.marks b (λ e. ne (e ∙ (c.block-block.ensures ∙ ap tag_block c.load_tag.ensures)))
+
+pub returns-in_err-write_block-clause-closed : goal.returns-in_err-write_block-clause-closed
+returns-in_err-write_block-clause-closed g c = c.write_block.ensures.writes_block.open_page ∙ c.requires.closed
+
+pub returns-in_err-write_block-clause-lasts : goal.returns-in_err-write_block-clause-lasts
+returns-in_err-write_block-clause-lasts g c = c.write_block.ensures.lasts
+
+pub returns-in_err-write_block-clause-written : goal.returns-in_err-write_block-clause-written
+returns-in_err-write_block-clause-written g c = not_ok _ c.from_residual.result c.from_residual.ensures.0
+
+pub returns-in_err-write_block-clause-counted : goal.returns-in_err-write_block-clause-counted
+returns-in_err-write_block-clause-counted g c = not_ok _ c.from_residual.result c.from_residual.ensures.0
+
+pub returns-clause-words : goal.returns-clause-words
+returns-clause-words g c = c.write_block.ensures.writes_block.words
+
+pub returns-clause-others : goal.returns-clause-others
+returns-clause-others g c = λ j v ne d. stays_on_disk _ _ _ c.args.k j _ c.requires.coherent c.write_block.ensures.writes_block c.requires.valid (c.block-block.ensures ∙ ap tag_block c.load_tag.ensures) v ne d
+
+pub returns-clause-blocks : goal.returns-clause-blocks
+returns-clause-blocks g c = λ b ne. c.write_block.ensures.writes_block.others b (λ e. ne (e ∙ (c.block-block.ensures ∙ ap tag_block c.load_tag.ensures)))
+
+pub returns-clause-marks : goal.returns-clause-marks
+returns-clause-marks g c = λ b ne. c.write_block.ensures.writes_block.marks b (λ e. ne (e ∙ (c.block-block.ensures ∙ ap tag_block c.load_tag.ensures)))
+
+pub returns-clause-closed : goal.returns-clause-closed
+returns-clause-closed g c = c.write_block.ensures.writes_block.open_page ∙ c.requires.closed
+
+pub returns-clause-lasts : goal.returns-clause-lasts
+returns-clause-lasts g c = c.write_block.ensures.lasts

@@ -1,10 +1,11 @@
 use Rattle.std.proofs.Common.{◌∙◌, Err, ◌<◌, ap, subst}
 use Rattle.std.proofs.lemmas.Result.{err_from_is_err_and}
-use Rattle.rio_base.proofs.MachineRules.{ends_after, ends_told}
+use Rattle.rio_base.proofs.MachineRules.{ends_after, ends_told, lasts_trans}
 use Rattle.rio_model.proofs.CoverSteps.{keeps_trans}
 use Rattle.write_back.proofs.Steps.{coherent_then}
 use Rattle.rio_model.proofs.HeldEntries.{held_each, held_then}
 use Rattle.write_back.proofs.Marks.{Marks, marked_next, marked_none, marked_on_disk}
+use Rattle.write_back.proofs.Exits.{not_ok, rest_then, told_back}
 use Rattle.write_back.proofs.flushing.mark_first.Goals as goal
 
 pub loop-k-init : goal.loop-k-init
@@ -44,3 +45,18 @@ loop-k-preserved g c =
       runs = h.ends.runs (λ e. cc);
     } in
     marked_next c.args.count c.loop-k.k c.loop-k.marked c.from-marked.result c.in_ok-dirty.dirty _ _ _ _ _ _ (subst (λ f. c.loop-k.k < f) c.frame_count-frames.ensures c.loop-k-test.true) c.if-marked-count.false c.from-marked.ensures c.loop-k.invariant turn
+
+pub returns-in_err-dirty-clause-cleaned : goal.returns-in_err-dirty-clause-cleaned
+returns-in_err-dirty-clause-cleaned g c = not_ok _ c.from_residual.result c.from_residual.ensures.0
+
+pub returns-in_err-dirty-clause-rest : goal.returns-in_err-dirty-clause-rest
+returns-in_err-dirty-clause-rest g c = rest_then (g.M.Machine.contents c.args.m.now) (g.M.Machine.contents c.loop-k.m) _ c.loop-k.invariant.rest c.mark_if_dirty.ensures.rest
+
+pub returns-in_err-dirty-clause-closed : goal.returns-in_err-dirty-clause-closed
+returns-in_err-dirty-clause-closed g c = c.mark_if_dirty.ensures.closed
+
+pub returns-in_err-dirty-clause-lasts : goal.returns-in_err-dirty-clause-lasts
+returns-in_err-dirty-clause-lasts g c = lasts_trans _ _ _ c.loop-k.invariant.lasts c.mark_if_dirty.ensures.lasts
+
+pub returns-in_err-dirty-clause-fault : goal.returns-in_err-dirty-clause-fault
+returns-in_err-dirty-clause-fault g c = let p = err_from_is_err_and c.from_residual.result c.from_residual.ensures.1 in λ e. c.in_err-dirty.ensures.fault (told_back _ _ _ (p.1 ∙ ap Err p.2) e)

@@ -1,8 +1,10 @@
-use Rattle.std.proofs.Common.{◌∙◌, ◌<◌, ◌≤◌, arith, inl, subst, sym}
-use Rattle.rio_base.proofs.MachineRules.{ends_after, ends_told}
+use Rattle.std.proofs.Common.{◌∙◌, ◌<◌, ◌≤◌, arith, inl, subst, sym, Err, ap}
+use Rattle.rio_base.proofs.MachineRules.{ends_after, ends_told, lasts_trans}
 use Rattle.rio_model.proofs.CoverSteps.{keeps_trans}
 use Rattle.write_back.proofs.Steps.{coherent_then, frame_next}
 use Rattle.write_back.proofs.Walks.{Writes, counts_small, once_small, wrote_by, wrote_first, wrote_next, wrote_none}
+use Rattle.std.proofs.lemmas.Result.{err_from_is_err_and}
+use Rattle.write_back.proofs.Exits.{fault_on, fault_told, not_ok}
 use Rattle.write_back.proofs.flushing.write_first.Goals as goal
 
 pub loop-k-init : goal.loop-k-init
@@ -42,6 +44,20 @@ loop-k-preserved g c =
     wrote_by c.args.n c.loop-k.k c.loop-k.written c.from-written.result c.in_ok-dirty.dirty _ _ _ _ c.from-written.ensures
     (wrote_next c.args.n c.loop-k.k c.loop-k.written c.in_ok-dirty.dirty _ _ _ _ _ _ (subst (λ f. c.loop-k.k < f) c.frame_count-frames.ensures c.loop-k-test.true) (λ e. c.if-from-n.false (c.from.ensures ∙ e)) c.loop-k.invariant turn)
 
+pub returns-in_err-dirty-clause-words : goal.returns-in_err-dirty-clause-words
+returns-in_err-dirty-clause-words g c = c.write_if_dirty.ensures.words ∙ c.loop-k.invariant.words
+
+pub returns-in_err-dirty-clause-written : goal.returns-in_err-dirty-clause-written
+returns-in_err-dirty-clause-written g c = not_ok _ c.from_residual.result c.from_residual.ensures.0
+
+pub returns-in_err-dirty-clause-closed : goal.returns-in_err-dirty-clause-closed
+returns-in_err-dirty-clause-closed g c = c.write_if_dirty.ensures.closed
+
+pub returns-in_err-dirty-clause-lasts : goal.returns-in_err-dirty-clause-lasts
+returns-in_err-dirty-clause-lasts g c = lasts_trans _ _ _ c.loop-k.invariant.lasts c.write_if_dirty.ensures.lasts
+
+pub returns-in_err-dirty-clause-fault : goal.returns-in_err-dirty-clause-fault
+returns-in_err-dirty-clause-fault g c = let p = err_from_is_err_and c.from_residual.result c.from_residual.ensures.1 in fault_on _ _ _ _ c.loop-k.invariant.lasts.faults.later (fault_told _ _ _ (p.1 ∙ ap Err p.2) c.in_err-dirty.ensures.fault)
+
 pub returns-in_err-dirty-clause-ends : goal.returns-in_err-dirty-clause-ends
-returns-in_err-dirty-clause-ends g c =
-    ends_after _ _ _ _ c.loop-k.invariant.steps c.loop-k.invariant.runs (ends_told _ _ _ _ _ (grind (arith, c.from_residual.ensures)) c.in_err-dirty.ensures.ends)
+returns-in_err-dirty-clause-ends g c = let p = err_from_is_err_and c.from_residual.result c.from_residual.ensures.1 in ends_after _ _ _ _ c.loop-k.invariant.steps c.loop-k.invariant.runs (ends_told _ _ _ _ _ (p.1 ∙ ap Err p.2) c.in_err-dirty.ensures.ends)
