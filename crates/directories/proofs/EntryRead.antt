@@ -1,5 +1,6 @@
 -- An entry of a directory that was read by itself.
-use Rattle.directories.proofs.Common.{◌≡◌, ◌≢◌, ℕ, ◌+◌, ◌*◌, ◌/◌, ◌%◌, ◌^◌, ◌<◌, ◌≤◌, List, length, slice_index, refl, sym, ap, subst, ◌∙◌, arith, BlockWords, VolumeShape, Seen, Held, entry_ino, entry_name, held, held_of, AtPage, Placed, placed_at}
+use Rattle.directories.proofs.Common.{◌≡◌, ◌≢◌, ℕ, ◌+◌, ◌*◌, ◌/◌, ◌%◌, ◌^◌, ◌<◌, ◌≤◌, List, length, slice_index, refl, sym, ap, subst, ◌∙◌, arith, BlockWords, VolumeShape, Seen, Held, entry_ino, entry_name, held, held_of, AtPage, Placed, placed_at, EntryRule}
+use Rattle.rio_base.specs.Blocks.{IsRun}
 use Rattle.directories.specs.Entries.{name_in}
 use Rattle.directories.specs.Reading.{CanReadDir}
 use Rattle.directories.specs.Rows.{IsEntry}
@@ -47,6 +48,10 @@ slot_read shape x d j size words h is low each = subst (λ (k : Held). IsSlot k 
     few : slice_index words 0 / 2 ^ 32 % 2 ^ 8 ≤ 56
     few = subst (λ (m : ℕ). m ≤ 56) (sym (ap length named) ∙ name_length (slice_index words) 0) (names_short shape x d h j within)
 
+-- its words, as its block was read for them
+pub words_read : (f g : BlockWords) (b own first at : ℕ) (words : List ℕ) → g ≡ f → b ≡ own → first ≡ at → IsRun g b first 8 words → (t : ℕ) → t < 8 → slice_index words t ≡ f own (at + t)
+words_read f g b own first at words same is start run t small = run.each t small ∙ ap (λ (h : BlockWords). h b (first + t)) same ∙ ap (λ c. f c (first + t)) is ∙ ap (λ w. f own (w + t)) start
+
 -- an entry of this name is the name's row
 pub slot_named : (h : Held) (j : ℕ) (words name : List ℕ) (i : ℕ) → IsSlot h j words → name_in (slice_index words) 0 ≡ name → i ≡ slice_index words 0 % 2 ^ 32 → IsEntry h j name i
 slot_named h j words name i slot is ino = record { within = slot.within; named = sym slot.named ∙ is; ino = sym slot.ino ∙ sym ino }
@@ -54,3 +59,9 @@ slot_named h j words name i slot is ino = record { within = slot.within; named =
 -- and one of another name is not
 pub slot_other : (h : Held) (j : ℕ) (words name : List ℕ) → IsSlot h j words → name_in (slice_index words) 0 ≢ name → (i : ℕ) → IsEntry h j name i → ⊥
 slot_other h j words name slot other i row = other (slot.named ∙ row.named)
+
+-- the name of an entry has 1 to 56 bytes where the rule on entries holds
+pub entry_sized : (held : ℕ → Held) (d j i : ℕ) (name : List ℕ) → EntryRule held → (held d).kind ≡ 1 → IsEntry (held d) j name i → (1 ≤ length name) × (length name ≤ 56)
+entry_sized held d j i name rule dir row =
+    let is = rule.named d j (record { dir = dir; within = row.within }) in
+    (subst (λ (n : List ℕ). 1 ≤ length n) row.named is.some, subst (λ (n : List ℕ). length n ≤ 56) row.named is.few)

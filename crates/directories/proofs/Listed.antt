@@ -42,6 +42,10 @@ names_read f g b count words old new same few short run so = so ∙ ap (λ xs. o
         let first : slice_index words (8 * (0 + k)) ≡ g b (8 * k) = (let at : 8 * (0 + k) ≡ 8 * (0 + k) + 0 = omega arith in ap (slice_index words) at) ∙ word k 0 low (omega arith) ∙ (let at : 8 * (0 + k) + 0 ≡ 8 * k = omega arith in ap (g b) at) in
         subst (λ (n : ℕ). n ≤ 56) (sym (name_length (slice_index words) (0 + k) ∙ ap (λ w. w / 2 ^ 32 % 2 ^ 8) first)) (short k low)
 
+-- whose names are as short as those of the block
+pub short_read : (f g : BlockWords) (b count : ℕ) (words : List ℕ) → f ≡ g → count ≤ 64 → ((k : ℕ) → k < count → g b (8 * k) / 2 ^ 32 % 2 ^ 8 ≤ 56) → IsRun f b 0 512 words → (k : ℕ) → k < count → slice_index words (8 * k) / 2 ^ 32 % 2 ^ 8 ≤ 56
+short_read f g b count words same few short run k low = subst (λ (w : ℕ). w / 2 ^ 32 % 2 ^ 8 ≤ 56) (sym (run.each (8 * k) (omega (arith, low, few)) ∙ (let at : 0 + 8 * k ≡ 8 * k = omega arith in ap (f b) at) ∙ ap (λ (h : BlockWords). h b (8 * k)) same)) (short k low)
+
 -- ---- the name of one entry, made of its words
 
 pub name_made : (words bytes : List ℕ) (k n len : ℕ) → bytes ≡ bytes_of (take n (drop (8 * k + 1) words)) → n ≡ 7 → 8 * k + 8 ≤ length words → len ≡ slice_index words (8 * k) / 2 ^ 32 % 2 ^ 8 → len ≤ 56 → take len bytes ≡ name_in (slice_index words) k
@@ -97,6 +101,10 @@ names_join F k (suc j) first =
     let at : first + suc j ≡ (first + 1) + j = omega arith in
     let count : suc j + k ≡ suc (j + k) = omega arith in
     ap (λ a. map F (range_with_len first (suc j)) ++ map F (range_with_len a k)) at ∙ ap (λ xs. F first ∷ xs) (names_join F k j (first + 1)) ∙ sym (ap (λ n. map F (range_with_len first n)) count)
+
+-- before the first page
+pub no_pages : (F : ℕ → List ℕ) (size : ℕ) (xs : List (List ℕ)) → xs ≡ [] → xs ≡ map F (range_with_len 0 (min (64 * 0) (size / 64)))
+no_pages F size xs none = let at : 0 ≡ min (64 * 0) (size / 64) = omega arith in none ∙ ap (λ n. map F (range_with_len 0 n)) at
 
 -- one page more
 pub pages_next : (F : ℕ → List ℕ) (p count size : ℕ) (xs ys : List (List ℕ)) → size % 64 ≡ 0 → 4096 * p < size → count ≡ min (size / 64 - 64 * p) 64 → xs ≡ map F (range_with_len 0 (min (64 * p) (size / 64))) → ys ≡ xs ++ map F (range_with_len (64 * p) count) → ys ≡ map F (range_with_len 0 (min (64 * (p + 1)) (size / 64)))

@@ -55,3 +55,21 @@ returns-clause-passes g c = g.met.V.Blocks.passes_trans _ _ _ c.in_ok-inode.ensu
 
 pub returns-clause-ends : goal.returns-clause-ends
 returns-clause-ends g c = ends_later _ _ _ c.find_with.result c.in_ok-inode.ensures.ends.later c.in_ok-inode.ensures.ends.cause c.find_with.ensures.ends
+
+pub dir_inode-requires-clause-sound : goal.dir_inode-requires-clause-sound
+dir_inode-requires-clause-sound g c = c.requires.sound
+
+pub find_with-requires-clause-sound : goal.find_with-requires-clause-sound
+find_with-requires-clause-sound g c = c.dir_inode.ensures.sound
+
+pub returns-in_err-inode-clause-passes : goal.returns-in_err-inode-clause-passes
+returns-in_err-inode-clause-passes g c = c.dir_inode.ensures.passes
+
+pub returns-in_err-inode-clause-sound : goal.returns-in_err-inode-clause-sound
+returns-in_err-inode-clause-sound g c = c.dir_inode.ensures.sound
+
+pub returns-clause-shape : goal.returns-clause-shape
+returns-clause-shape g c = c.find_with.ensures.shape
+
+pub returns-clause-sound : goal.returns-clause-sound
+returns-clause-sound g c = c.find_with.ensures.sound

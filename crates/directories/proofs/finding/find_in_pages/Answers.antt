@@ -72,3 +72,54 @@ overflow_add-result g c =
     let at = subst (λ found. FindsInPage (held_of shape x.words c.args.dir.0) c.loop-p.p c.args.name.now found) c.in-Some.is (subst (λ (f : BlockWords). FindsInPage (held_of shape f c.args.dir.0) c.loop-p.p c.args.name.now c.in_ok-i.field-0) inv.looks.looks.words c.in_ok-i.ensures.value) in
     let size : (held_of shape x.words c.args.dir.0).size ≡ n.size = ap (λ (h : Held). h.size) (dir_held shape x c.args.dir.0 c.requires.can) ∙ sized x.words n used in
     omega (arith, at.within, size, fits.most)
+
+pub find_in_page-requires-clause-sound : goal.find_in_page-requires-clause-sound
+find_in_page-requires-clause-sound g c = c.loop-p.invariant.sound
+
+pub find_in_page-requires-clause-can : goal.find_in_page-requires-clause-can
+find_in_page-requires-clause-can g c = c.loop-p.invariant.can
+
+pub find_in_page-requires-clause-inode : goal.find_in_page-requires-clause-inode
+find_in_page-requires-clause-inode g c = c.loop-p.invariant.inode
+
+pub find_in_page-requires-clause-key : goal.find_in_page-requires-clause-key
+find_in_page-requires-clause-key g c = c.requires.key
+
+pub returns-in_err-i-clause-sound : goal.returns-in_err-i-clause-sound
+returns-in_err-i-clause-sound g c = c.find_in_page.ensures.sound
+
+pub returns-in-Some-clause-sound : goal.returns-in-Some-clause-sound
+returns-in-Some-clause-sound g c = c.find_in_page.ensures.sound
+
+pub returns-clause-looks : goal.returns-clause-looks
+returns-clause-looks g c = c.loop-p.invariant.looks
+
+pub returns-clause-passes : goal.returns-clause-passes
+returns-clause-passes g c = c.loop-p.invariant.passes
+
+pub returns-clause-sound : goal.returns-clause-sound
+returns-clause-sound g c = c.loop-p.invariant.sound
+
+pub returns-clause-ends : goal.returns-clause-ends
+returns-clause-ends g c = record { later = c.loop-p.invariant.later; stays = λ on. c.loop-p.invariant.running ∙ on; cause = c.loop-p.invariant.running }
+
+pub find_in_page-requires-clause-page : goal.find_in_page-requires-clause-page
+find_in_page-requires-clause-page g c = omega (arith, c.loop-p-test.true, c.div_ceil-pages.ensures)
+
+pub returns-in-Some-clause-value : goal.returns-in-Some-clause-value
+returns-in-Some-clause-value g c =
+    let shape = c.args.shape.now in
+    let x = g.V.Blocks.seen c.args.v.now in
+    subst (λ found. FindsInPage (held_of shape x.words c.args.dir.0) c.loop-p.p c.args.name.now found) c.in-Some.is (subst (λ (f : BlockWords). FindsInPage (held_of shape f c.args.dir.0) c.loop-p.p c.args.name.now c.in_ok-i.field-0) c.loop-p.invariant.looks.looks.words c.in_ok-i.ensures.value)
+
+pub returns-clause-value : goal.returns-clause-value
+returns-clause-value g c = λ i row.
+    let shape = c.args.shape.now in
+    let x = g.V.Blocks.seen c.args.v.now in
+    let n = placed_at x.words c.args.dir.0 in
+    let dir = c.requires.can.dir in
+    let used : 0 < n.kind = omega (arith, dir) in
+    let size : (held_of shape x.words c.args.dir.0).size ≡ n.size = ap (λ (h : Held). h.size) (dir_held shape x c.args.dir.0 c.requires.can) ∙ sized x.words n used in
+    let is = c.requires.inode.size in
+    let within = row.1.within in
+    c.loop-p.invariant.none row.0 within (omega (arith, within, size, is, c.loop-p-test.false, c.div_ceil-pages.ensures)) row.1.named

@@ -1,13 +1,15 @@
-use Rattle.directories.proofs.Common.{◌≡◌, ◌+◌, ◌/◌, ◌<◌, ◌≤◌, [], length, sym, ap, subst, ◌∙◌, arith, err_from_is_err_and, BlockWords, ◌then◌, ends_by_after, numbers, PlansSize, free_beside, wanted_blocks, leaves_looked, leaves_trans, ready_left, IsInode, held_of, AtPage, placed_at}
+use Rattle.std.proofs.Common.{le_refl}
+use Rattle.directories.proofs.PlannedSizes.{dir_fits, plans_dir_inode}
+use Rattle.directories.proofs.Common.{◌≡◌, ◌+◌, ◌/◌, ◌<◌, ◌≤◌, [], length, sym, ap, subst, ◌∙◌, arith, err_from_is_err_and, BlockWords, ◌then◌, ends_by_after, numbers, PlansSize, free_beside, wanted_blocks, leaves_looked, leaves_trans, ready_left, IsInode, held_of, AtPage, placed_at, refl}
 use Rattle.std.specs.Prelude.{slice_index}
 use Rattle.rio_base.specs.declared.places.Block.{Block}
 use Rattle.file_pages.specs.declared.failures.SizeFail.TheVariants.{NoSpace}
 use Rattle.file_pages.proofs.Listed.{as_many}
-use Rattle.file_pages.proofs.Ends.{err_handed, size_err}
+use Rattle.file_pages.proofs.Ends.{err_handed, size_err, ends_vol_size, ends_well_memory, ends_well_ok, size_then, unrefused_memory, unrefused_vol}
 use Rattle.directories.specs.Rows.{HasRow}
 use Rattle.directories.specs.declared.storing.EntryWords.{EntryWords}
 use Rattle.directories.proofs.AddedRow.{IsNext, looked_twice, planned_before, room_left, row_planned, space_said, takes_page}
-use Rattle.directories.proofs.CanRead.{can_read}
+use Rattle.directories.proofs.CanRead.{can_read, dir_size}
 use Rattle.directories.proofs.planning.plan_add.Goals as goal
 
 pub returns-in_err-inode-clause-leaves : goal.returns-in_err-inode-clause-leaves
@@ -278,3 +280,110 @@ returns-clause-goes g c =
     let k2 = g.V.Volume.kept c.last_block.new.v in
     let p2 = g.met.V.Volume.passes_keeps _ _ c.last_block.ensures.passes in
     (p1.goes then p2.goes) then c.plan_size.ensures.goes
+
+pub dir_inode-requires-clause-sound : goal.dir_inode-requires-clause-sound
+dir_inode-requires-clause-sound g c = c.requires.sound
+
+pub last_block-requires-clause-sound : goal.last_block-requires-clause-sound
+last_block-requires-clause-sound g c = c.dir_inode.ensures.sound
+
+pub plan_size-requires-clause-sound : goal.plan_size-requires-clause-sound
+plan_size-requires-clause-sound g c = c.last_block.ensures.sound
+
+pub last_block-requires-clause-can : goal.last_block-requires-clause-can
+last_block-requires-clause-can g c = c.in_ok-inode.ensures.can
+
+pub dir_inode-requires-clause-can : goal.dir_inode-requires-clause-can
+dir_inode-requires-clause-can g c = can_read _ _ _ c.requires.ready.order.has_shape c.requires.ready.order.mapped c.requires.ready.order.named c.requires.entries c.requires.dir
+
+pub last_block-requires-clause-inode : goal.last_block-requires-clause-inode
+last_block-requires-clause-inode g c = subst (λ (f : BlockWords). IsInode f c.args.dir.0 c.in_ok-inode.inode) (sym c.in_ok-inode.ensures.looks.looks.words) c.in_ok-inode.ensures.value
+
+pub returns-in_err-inode-clause-sound : goal.returns-in_err-inode-clause-sound
+returns-in_err-inode-clause-sound g c = c.dir_inode.ensures.sound
+
+pub returns-in_err-last-clause-sound : goal.returns-in_err-last-clause-sound
+returns-in_err-last-clause-sound g c = c.last_block.ensures.sound
+
+pub returns-in_err-change-clause-sound : goal.returns-in_err-change-clause-sound
+returns-in_err-change-clause-sound g c = c.plan_size.ensures.sound
+
+pub returns-in_err-with_entries-clause-sound : goal.returns-in_err-with_entries-clause-sound
+returns-in_err-with_entries-clause-sound g c = c.plan_size.ensures.sound
+
+pub returns-clause-sound : goal.returns-clause-sound
+returns-clause-sound g c = c.plan_size.ensures.sound
+
+pub returns-in_err-inode-clause-ends : goal.returns-in_err-inode-clause-ends
+returns-in_err-inode-clause-ends g c =
+    let p = err_from_is_err_and c.from_residual.result c.from_residual.ensures.1 in
+    ends_vol_size _ _ c.dir_inode.result c.from_residual.result _ _ c.in_err-inode.was p.1 p.2 c.dir_inode.ensures.ends
+
+pub returns-in_err-last-clause-ends : goal.returns-in_err-last-clause-ends
+returns-in_err-last-clause-ends g c =
+    let p = err_from_is_err_and c.from_residual-in_err-last.result c.from_residual-in_err-last.ensures.1 in
+    ends_by_after _ _ _ _ _ c.dir_inode.ensures.ends.later c.in_ok-inode.ensures.ends.cause (ends_vol_size _ _ c.last_block.result c.from_residual-in_err-last.result _ _ c.in_err-last.was p.1 p.2 c.last_block.ensures.ends)
+
+pub returns-in_err-with_entries-clause-ends : goal.returns-in_err-with_entries-clause-ends
+returns-in_err-with_entries-clause-ends g c =
+    let p = err_from_is_err_and c.from_residual-in_err-with_entries.result c.from_residual-in_err-with_entries.ensures.1 in
+    ends_by_after _ _ _ _ _ c.dir_inode.ensures.ends.later c.in_ok-inode.ensures.ends.cause (ends_by_after _ _ _ _ _ c.last_block.ensures.ends.later c.in_ok-last.ensures.ends.cause (size_then _ _ _ c.plan_size.result _ _ c.in_ok-change.was c.plan_size.ensures.ends (ends_well_memory _ _ c.from_residual-in_err-with_entries.result _ p.1 p.2 (le_refl _) refl)))
+
+pub returns-clause-ends : goal.returns-clause-ends
+returns-clause-ends g c = ends_by_after _ _ _ _ _ c.dir_inode.ensures.ends.later c.in_ok-inode.ensures.ends.cause (ends_by_after _ _ _ _ _ c.last_block.ensures.ends.later c.in_ok-last.ensures.ends.cause (size_then _ _ _ c.plan_size.result _ _ c.in_ok-change.was c.plan_size.ensures.ends (ends_well_ok _ _ _ (le_refl _) refl)))
+
+pub returns-in_err-inode-clause-fits : goal.returns-in_err-inode-clause-fits
+returns-in_err-inode-clause-fits g c =
+    let p = err_from_is_err_and c.from_residual.result c.from_residual.ensures.1 in
+    (unrefused_vol c.from_residual.result _ p.0 p.1 p.2).1
+
+pub returns-in_err-inode-clause-no_space : goal.returns-in_err-inode-clause-no_space
+returns-in_err-inode-clause-no_space g c =
+    let p = err_from_is_err_and c.from_residual.result c.from_residual.ensures.1 in
+    λ is. absurd ((unrefused_vol c.from_residual.result _ p.0 p.1 p.2).0 is)
+
+pub returns-in_err-last-clause-fits : goal.returns-in_err-last-clause-fits
+returns-in_err-last-clause-fits g c =
+    let p = err_from_is_err_and c.from_residual-in_err-last.result c.from_residual-in_err-last.ensures.1 in
+    (unrefused_vol c.from_residual-in_err-last.result _ p.0 p.1 p.2).1
+
+pub returns-in_err-last-clause-no_space : goal.returns-in_err-last-clause-no_space
+returns-in_err-last-clause-no_space g c =
+    let p = err_from_is_err_and c.from_residual-in_err-last.result c.from_residual-in_err-last.ensures.1 in
+    λ is. absurd ((unrefused_vol c.from_residual-in_err-last.result _ p.0 p.1 p.2).0 is)
+
+pub returns-in_err-with_entries-clause-fits : goal.returns-in_err-with_entries-clause-fits
+returns-in_err-with_entries-clause-fits g c =
+    let p = err_from_is_err_and c.from_residual-in_err-with_entries.result c.from_residual-in_err-with_entries.ensures.1 in
+    (unrefused_memory c.from_residual-in_err-with_entries.result _ p.1 p.2).1
+
+pub returns-in_err-with_entries-clause-no_space : goal.returns-in_err-with_entries-clause-no_space
+returns-in_err-with_entries-clause-no_space g c =
+    let p = err_from_is_err_and c.from_residual-in_err-with_entries.result c.from_residual-in_err-with_entries.ensures.1 in
+    λ is. absurd ((unrefused_memory c.from_residual-in_err-with_entries.result _ p.1 p.2).0 is)
+
+pub returns-clause-fits : goal.returns-clause-fits
+returns-clause-fits g c = λ is. absurd cc
+
+pub returns-clause-no_space : goal.returns-clause-no_space
+returns-clause-no_space g c = λ is. absurd cc
+
+pub plan_size-requires-clause-fits : goal.plan_size-requires-clause-fits
+plan_size-requires-clause-fits g c =
+    let shape = c.args.shape.now in
+    let d = c.args.dir.0 in
+    let y = g.V.Blocks.seen c.last_block.new.v in
+    let can = c.in_ok-last.ensures.can in
+    let is = subst (λ (f : BlockWords). IsInode f d c.in_ok-inode.inode) (sym (c.in_ok-last.ensures.looks.looks.words ∙ c.in_ok-inode.ensures.looks.looks.words)) c.in_ok-inode.ensures.value in
+    let size = is.size in
+    let whole = dir_size shape y d can in
+    λ most. dir_fits shape y d (c.in_ok-inode.inode.size + 64) c.in_ok-inode.inode can is (omega (arith, whole, size)) most
+
+pub plan_size-requires-clause-inode : goal.plan_size-requires-clause-inode
+plan_size-requires-clause-inode g c =
+    let d = c.args.dir.0 in
+    let is = subst (λ (f : BlockWords). IsInode f d c.in_ok-inode.inode) (sym (c.in_ok-last.ensures.looks.looks.words ∙ c.in_ok-inode.ensures.looks.looks.words)) c.in_ok-inode.ensures.value in
+    plans_dir_inode c.args.shape.now (g.V.Blocks.seen c.last_block.new.v) d c.in_ok-inode.inode c.in_ok-last.ensures.can is
+
+pub plan_size-requires-clause-ino : goal.plan_size-requires-clause-ino
+plan_size-requires-clause-ino g c = c.in_ok-inode.ensures.can.ino

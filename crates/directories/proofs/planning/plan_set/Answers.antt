@@ -1,4 +1,5 @@
-use Rattle.directories.proofs.Common.{◌≡◌, err_from_is_err_and, ◌then◌, ends_by_after, if_ok_map, leaves_looked}
+use Rattle.std.proofs.Common.{le_refl}
+use Rattle.directories.proofs.Common.{◌≡◌, err_from_is_err_and, ◌then◌, ends_by_after, if_ok_map, leaves_looked, BlockWords, IsInode, subst, sym}
 use Rattle.std.specs.Prelude.{slice_index}
 use Rattle.directories.specs.Contents.{sized_to, with_entry}
 use Rattle.directories.specs.Plans.{PlansDir}
@@ -49,3 +50,27 @@ pub returns-in_err-inode-clause-ends : goal.returns-in_err-inode-clause-ends
 returns-in_err-inode-clause-ends g c =
     let p = err_from_is_err_and c.from_residual.result c.from_residual.ensures.1 in
     ends_vol_read _ _ c.dir_inode.result c.from_residual.result _ _ c.in_err-inode.was p.1 p.2 c.dir_inode.ensures.ends
+
+pub dir_inode-requires-clause-sound : goal.dir_inode-requires-clause-sound
+dir_inode-requires-clause-sound g c = c.requires.sound
+
+pub dir_inode-requires-clause-can : goal.dir_inode-requires-clause-can
+dir_inode-requires-clause-can g c = can_read _ _ _ c.requires.ready.order.has_shape c.requires.ready.order.mapped c.requires.ready.order.named c.requires.entries c.requires.slot.dir
+
+pub returns-in_err-inode-clause-sound : goal.returns-in_err-inode-clause-sound
+returns-in_err-inode-clause-sound g c = c.dir_inode.ensures.sound
+
+pub plan_entry-requires-clause-sound : goal.plan_entry-requires-clause-sound
+plan_entry-requires-clause-sound g c = c.dir_inode.ensures.sound
+
+pub plan_entry-requires-clause-can : goal.plan_entry-requires-clause-can
+plan_entry-requires-clause-can g c = c.dir_inode.ensures.can
+
+pub plan_entry-requires-clause-inode : goal.plan_entry-requires-clause-inode
+plan_entry-requires-clause-inode g c = subst (λ (f : BlockWords). IsInode f c.args.dir.0 c.in_ok-inode.inode) (sym c.in_ok-inode.ensures.looks.looks.words) c.in_ok-inode.ensures.value
+
+pub plan_entry-requires-clause-less : goal.plan_entry-requires-clause-less
+plan_entry-requires-clause-less g c = le_refl _
+
+pub returns-clause-sound : goal.returns-clause-sound
+returns-clause-sound g c = c.plan_entry.ensures.sound
