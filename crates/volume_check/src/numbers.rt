@@ -44,16 +44,22 @@ fn push_direct(inodes: &Inodes, i: Ino, end: u32, blocks: &mut Vec<Block>) -> Re
     Ok(())
 }
 
-/// Adds the blocks of pages `DIRECT_PAGES` to `count` by the words of an indirect block.
-fn push_later(words: &[u64], count: u32, blocks: &mut Vec<Block>) -> Result<(), AllocError>
+/// Adds the blocks of pages `DIRECT_PAGES` to `count` by the words of an indirect block, and then that block.
+fn push_later(
+    words: &[u64],
+    count: u32,
+    table: Block,
+    blocks: &mut Vec<Block>,
+) -> Result<(), AllocError>
     requires past { 24 ≤ count }
     requires words { count - 24 ≤ 2 * length words.now }
-    ensures { (n : Placed) → ((p : ℕ) → 24 ≤ p → p < count → half (slice_index words.now ((p - 24) / 2)) p ≡ n.block (AtPage p)) → OnOk result (numbers blocks.new.items ≡ numbers blocks.old.items ++ page_numbers n 24 (count - 24)) }
+    ensures { (n : Placed) → ((p : ℕ) → 24 ≤ p → p < count → half (slice_index words.now ((p - 24) / 2)) p ≡ n.block (AtPage p)) → table.0 ≡ n.block (AtTable 0) → OnOk result (numbers blocks.new.items ≡ (numbers blocks.old.items ++ page_numbers n 24 (count - 24)) ++ (n.block (AtTable 0) ∷ [])) }
 {
     for page in DIRECT_PAGES..count {
         let word = words[((page - DIRECT_PAGES) / 2) as usize];
         blocks.push(Block(number_in(word, page)))?;
     }
+    blocks.push(table)?;
     Ok(())
 }
 
@@ -79,8 +85,7 @@ fn push_table<V: Blocks>(
     let table = inodes.indirect(i);
     let mut words = [0; BLOCK_WORDS];
     read_words(v, table, 0, &mut words)?;
-    push_later(&words, count, blocks)?;
-    blocks.push(table)?;
+    push_later(&words, count, table, blocks)?;
     Ok(())
 }
 
@@ -106,11 +111,10 @@ pub fn read_numbers<V: Blocks>(
         return Ok(0);
     }
     let count = page_count(inodes.size(i));
+    push_direct(inodes, i, count.min(DIRECT_PAGES), blocks)?;
     if count <= DIRECT_PAGES {
-        push_direct(inodes, i, count, blocks)?;
         return Ok(count);
     }
-    push_direct(inodes, i, DIRECT_PAGES, blocks)?;
     push_table(v, inodes, i, count, blocks)?;
     Ok(count)
 }

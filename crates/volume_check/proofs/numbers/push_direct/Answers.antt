@@ -1,7 +1,7 @@
-use Rattle.volume_check.proofs.Common.{◌∙◌, arith, sym}
+use Rattle.volume_check.proofs.Common.{ℕ, ◌≡◌, ◌++◌, ◌∙◌, ap, arith, sym}
 use Rattle.std.proofs.lemmas.List.{append-nil}
 use Rattle.volume_check.specs.Inodes.{layout_of}
-use Rattle.volume_check.specs.Numbers.{numbers}
+use Rattle.volume_check.specs.Numbers.{numbers, page_numbers}
 use Rattle.volume_check.proofs.NodeNumbers.{block_more, direct_said}
 use Rattle.volume_check.proofs.numbers.push_direct.Goals as goal
 
@@ -23,3 +23,9 @@ direct-requires-clause-ino c = c.requires.ino
 
 pub direct-requires-clause-page : goal.direct-requires-clause-page
 direct-requires-clause-page c = omega (arith, c.loop-page-test.true, c.requires.end)
+
+pub returns : goal.returns
+returns c = λ s h.
+    let inv = c.loop-page.invariant in
+    let all : c.loop-page.page ≡ c.args.end = omega (arith, c.loop-page-test.false, inv.to) in
+    inv.found s h ∙ ap (λ (k : ℕ). numbers c.args.blocks.now.items ++ page_numbers ((layout_of s c.args.inodes.now).node c.args.i.0) 0 k) all

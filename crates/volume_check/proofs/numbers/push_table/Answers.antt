@@ -1,10 +1,9 @@
 use Rattle.volume_check.proofs.Common.{ℕ, ◌<◌, ◌∙◌, ap, arith, subst, err_from_is_err_and, pages}
 use Rattle.std.proofs.lemmas.List.{length-replicate}
 use Rattle.volume_check.specs.Inodes.{layout_of}
-use Rattle.volume_check.specs.Numbers.{numbers}
 use Rattle.volume_check.proofs.Counts.{kind_said, size_said}
 use Rattle.volume_check.proofs.Looking.{looked_err, looked_quiet, quiet_memory, refused_err, refused_memory}
-use Rattle.volume_check.proofs.NodeNumbers.{has_table, later_said, table_pushed, table_said}
+use Rattle.volume_check.proofs.NodeNumbers.{has_table, later_said, table_said}
 use Rattle.volume_check.proofs.numbers.push_table.Goals as goal
 
 pub read_words-requires-clause-span : goal.read_words-requires-clause-span
@@ -41,16 +40,6 @@ returns-in_err-push_later-clause-looked g c =
     let p = err_from_is_err_and c.from_residual-in_err-push_later.result c.from_residual-in_err-push_later.ensures.1 in
     looked_quiet g.V.Blocks.seen g.V.Blocks.health g.V.Blocks.sound g.V.Blocks.passes _ _ _ _ tt (quiet_memory c.from_residual-in_err-push_later.result p.0 p.1 p.2) c.in_ok-read_words.ensures.looked
 
-pub returns-in_err-push-clause-unrefused : goal.returns-in_err-push-clause-unrefused
-returns-in_err-push-clause-unrefused g c =
-    let p = err_from_is_err_and c.from_residual-in_err-push.result c.from_residual-in_err-push.ensures.1 in
-    refused_memory (λ _ _. ⊥) c.from_residual-in_err-push.result p.0 p.1 p.2
-
-pub returns-in_err-push-clause-looked : goal.returns-in_err-push-clause-looked
-returns-in_err-push-clause-looked g c =
-    let p = err_from_is_err_and c.from_residual-in_err-push.result c.from_residual-in_err-push.ensures.1 in
-    looked_quiet g.V.Blocks.seen g.V.Blocks.health g.V.Blocks.sound g.V.Blocks.passes _ _ _ _ tt (quiet_memory c.from_residual-in_err-push.result p.0 p.1 p.2) c.in_ok-read_words.ensures.looked
-
 pub returns-clause-numbers : goal.returns-clause-numbers
 returns-clause-numbers g c =
     let s = g.V.Blocks.seen c.args.v.now in
@@ -61,12 +50,16 @@ returns-clause-numbers g c =
     let count = c.requires.count in
     let all = ap pages (size_said s n i c.requires.inodes c.requires.ino) in
     let bound = c.requires.numbers.size (subst (λ x. 0 < x) (kind_said s n i c.requires.inodes c.requires.ino) c.requires.used) in
-    table_pushed (numbers c.args.blocks.now.items) node c.args.count c.push_later.new.blocks.items _ c.indirect-table.result
-    (c.in_ok-push_later.ensures node (λ p past few. later_said s n i p c.indirect-table.result.0 c.read_words.new.into c.requires.inodes c.requires.ino at c.in_ok-read_words.ensures.words past (omega (arith, few, count, all, bound))))
-    c.in_ok-push.ensures.items at
+    c.in_ok-push_later.ensures node (λ p past few. later_said s n i p c.indirect-table.result.0 c.read_words.new.into c.requires.inodes c.requires.ino at c.in_ok-read_words.ensures.words past (omega (arith, few, count, all, bound))) at
 
 pub returns-clause-looked : goal.returns-clause-looked
 returns-clause-looked g c = looked_quiet g.V.Blocks.seen g.V.Blocks.health g.V.Blocks.sound g.V.Blocks.passes _ _ _ _ tt tt c.in_ok-read_words.ensures.looked
 
 pub read_words-requires-clause-can : goal.read_words-requires-clause-can
 read_words-requires-clause-can g c = c.requires.can
+
+pub push_later-requires-clause-past : goal.push_later-requires-clause-past
+push_later-requires-clause-past g c = let past = c.requires.past in omega (arith, past)
+
+pub returns-clause-unrefused : goal.returns-clause-unrefused
+returns-clause-unrefused g c = tt
