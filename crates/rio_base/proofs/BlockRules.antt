@@ -120,6 +120,9 @@ can_name_stored s t b name h k = record { in_range = h.in_range; agrees = λ e. 
     from (inr (inl e)) = subst (λ o. SamePage o name) (sym e) (same_page name)
     from (inr (inr e)) = subst (λ o. SamePage o name) (sym e.1) (same_widened _ _ (h.agrees e.0))
 
+pub stored_refl : (s : Seen) (b : ℕ) (name : Option PageName) → CachesStored s s b name
+stored_refl s b name = record { others = λ c away cached. (cached, refl); named = λ cached. inl (cached, refl) }
+
 abbrev Named : Seen → Seen → ℕ → Option PageName → Type 0
 Named s t b name = ((s.cached b ≡ true) × (t.names b ≡ s.names b)) ⊎ (t.names b ≡ name) ⊎ ((s.cached b ≡ true) × (t.names b ≡ widened (s.names b) name))
 

@@ -4,6 +4,7 @@ pub mod BlockRuns
 pub mod BlockSets
 pub mod Bytes
 pub mod DecimalDigits
+pub mod Exits
 pub mod HostPieces
 pub mod MachineRules
 pub mod RegionRules

@@ -1,5 +1,5 @@
 -- The rules of a machine's calls compose: what holds of each call holds of any number of them.
-use Rattle.std.specs.Prelude.{◌≡◌, ◌≢◌, ℕ, ◌+◌, ◌-◌, ◌/◌, ◌<◌, ◌≤◌, Bool, true, false, ◌⊎◌, length, slice_index, Option, Some, None, Result, Ok, Err, IsErrOf, refl}
+use Rattle.std.specs.Prelude.{◌≡◌, ◌≢◌, ℕ, ◌+◌, ◌-◌, ◌/◌, ◌<◌, ◌≤◌, Bool, true, false, ◌⊎◌, List, length, slice_index, Option, Some, None, Result, Ok, Err, IsErrOf, refl}
 use Rattle.rio_base.specs.Disks.{FaultCount, FaultsLast, raised}
 use Rattle.rio_base.specs.declared.wild.Wild.{Wild}
 use Rattle.rio_base.specs.declared.wild.Wild.TheVariants.{Changed, Trapped, Spared}
@@ -44,6 +44,14 @@ lasts_trans a b c h k = record {
   faults = faults_trans a.faults b.faults c.faults h.faults k.faults;
   writes = le_trans h.writes k.writes;
 }
+
+-- calls that changed words alone
+pub lasts_words : (a b : Contents) → b ≡ record a { words = b.words } → length b.words ≡ length a.words → Lasts a b
+lasts_words a b e size = subst (λ (c : Contents). Lasts a c) (sym e) (record { size = size; blocks = refl; around = refl; faults = faults_refl a.faults; writes = le_refl a.writes })
+
+-- and then others
+pub rest_words : (a b : Contents) (words : List ℕ) → b ≡ record a { words = b.words } → record b { words = words } ≡ record a { words = words }
+rest_words a b words e = ap (λ (c : Contents). record c { words = words }) e
 
 -- ---- the two outcomes of a stop flag
 
@@ -257,6 +265,10 @@ falls_trans o a b c s t h k = record {
     closed : (at : ℕ) → a.stopped ≡ false → a.trapped ≢ Some at → c.trapped ≡ Some at → (b.stopped ≡ false) ⊎ (b.stopped ≡ true) → o ≢ Some (at / 512)
     closed at e n d (inl runs) = k.closed at runs (λ b_at. n (sym (s.running runs) ∙ b_at)) d
     closed at e n d (inr stopped) = h.closed at e n (ap (λ (r : Running). r.trapped) (sym (t.frozen stopped)) ∙ d)
+
+-- the same, where the first calls changed words alone
+pub falls_on : (m n : Contents) (a b c : Running) → n ≡ record m { words = n.words } → Steps a b → Steps b c → Falls m.open_page a b → Falls n.open_page b c → Falls m.open_page a c
+falls_on m n a b c rest s t h k = falls_trans m.open_page a b c s t h (subst (λ o. Falls o b c) (ap (λ (d : Contents). d.open_page) rest) k)
 
 -- ---- calls of which some are `wild` or `arm`
 

@@ -1,9 +1,12 @@
 -- One more word of a run is stored.
-use Rattle.std.specs.Prelude.{◌≡◌, ◌≢◌, ℕ, ◌+◌, ◌*◌, ◌/◌, ◌%◌, ◌<◌, ◌≤◌, ◌⊎◌, List, length, slice_index, slice_set}
+use Rattle.std.specs.Prelude.{◌≡◌, ◌≢◌, ℕ, ◌+◌, ◌*◌, ◌/◌, ◌%◌, ◌<◌, ◌≤◌, ◌⊎◌, List, length, slice_index, slice_set, refl}
 use Rattle.std.proofs.Common.{◌∙◌, sym, subst, inl, inr, arith, get_or-set_other, get_or-set_same}
 use Rattle.std.proofs.lemmas.Bool.{cases_eq}
 use Rattle.std.proofs.lemmas.List.{length-set}
 use Rattle.rio_base.specs.Memory.{FrontStored}
+
+pub front_none : (at : ℕ) (from words : List ℕ) → FrontStored at 0 from words words
+front_none at from words = record { count = refl; front = λ i less. absurd (omega (arith, less)); below = λ i less. refl; above = λ i more. refl }
 
 pub front_next : (at i v : ℕ) (from old mid : List ℕ) → at + i < length old → v ≡ slice_index from i → FrontStored at i from old mid → FrontStored at (i + 1) from old (slice_set mid (at + i) v)
 front_next at i v from old mid room value h = record {
