@@ -1,7 +1,8 @@
 -- Bytes of a host's file that come one piece after the other.
-use Rattle.std.proofs.Common.{◌≡◌, ℕ, zero, suc, ◌+◌, ◌<◌, ◌≤◌, List, ◌++◌, length, take, drop, Option, Some, None, sym, ap, subst, ◌∙◌, arith, length-drop}
+use Rattle.std.proofs.Common.{◌≡◌, ℕ, zero, suc, ◌+◌, ◌<◌, ◌≤◌, List, [], ◌∷◌, ◌++◌, length, take, drop, Option, Some, None, refl, sym, ap, subst, ◌∙◌, arith, length-drop}
 use Rattle.std.proofs.Math.Seq.{take-add}
 use Rattle.std.proofs.lemmas.List.{drop-drop, length-take}
+use Rattle.rio_base.specs.Counts.{Rose}
 use Rattle.rio_base.specs.Hosts.{Files, HasBytes}
 
 -- the bytes that came, where some came, are the file's from off on
@@ -39,3 +40,28 @@ come_more (Some files) name off (suc d) n room new before (whole', at', piece) s
     let next : take n (drop done new) ≡ take n (drop (off + done) whole) =
     piece ∙ ap (λ k. take k (drop (off + done) whole')) (taken n (drop done new) (omega (arith, length-drop done new, fits))) ∙ ap (λ (w : List ℕ). take n (drop (off + done) w)) one in
     (whole, have.1, joined off done n whole new fits front next)
+
+-- ---- one piece, lent behind what came before
+
+-- what stands before the piece
+pub piece_before : (done : ℕ) (old tail : List ℕ) → done ≤ length old → take done (take done old ++ tail) ≡ take done old
+piece_before zero old tail within = refl
+piece_before (suc n) [] tail within = absurd (omega (arith, within))
+piece_before (suc n) (x ∷ xs) tail within = ap (λ ys. x ∷ ys) (piece_before n xs tail (omega (arith, within)))
+
+piece_on : (done : ℕ) (old tail : List ℕ) → done ≤ length old → drop done (take done old ++ tail) ≡ tail
+piece_on zero old tail within = refl
+piece_on (suc n) [] tail within = absurd (omega (arith, within))
+piece_on (suc n) (x ∷ xs) tail within = piece_on n xs tail (omega (arith, within))
+
+front_alone : (n : ℕ) (xs ys : List ℕ) → n ≤ length xs → take n (xs ++ ys) ≡ take n xs
+front_alone zero xs ys within = refl
+front_alone (suc n) [] ys within = absurd (omega (arith, within))
+front_alone (suc n) (x ∷ xs) ys within = ap (λ zs. x ∷ zs) (front_alone n xs ys (omega (arith, within)))
+
+pub piece_bytes : (files : Option Files) (name : List ℕ) (off done n : ℕ) (old new tail : List ℕ) → done ≤ length old → n ≤ length new → HasBytes files name off (take n new) → HasBytes files name off (take n (drop done (take done old ++ (new ++ tail))))
+piece_bytes files name off done n old new tail within fits bytes = subst (HasBytes files name off) (sym (ap (take n) (piece_on done old (new ++ tail) within) ∙ front_alone n new tail fits)) bytes
+
+-- two readings of a count that rose
+pub rose_read : (before after x y : ℕ) → x ≡ before → y ≡ after → Rose x y → Rose before after
+rose_read before after x y p q h = subst (λ n. Rose n after) p (subst (λ n. Rose x n) q h)
