@@ -1,5 +1,5 @@
 -- One call of `word` after another, of one block under one name.
-use Rattle.std.specs.Prelude.{◌≡◌, ◌≢◌, ℕ, ◌+◌, ◌<◌, ◌≤◌, ◌⊎◌, List, length, slice_index, slice_set, Result, Err, IsErrOf, refl}
+use Rattle.std.specs.Prelude.{◌≡◌, ◌≢◌, ℕ, ◌+◌, ◌<◌, ◌≤◌, ◌⊎◌, List, length, slice_index, slice_set, Result, Err, refl}
 use Rattle.std.proofs.Common.{◌∙◌, sym, subst, inl, inr, ap, arith, le_refl, le_trans, get_or-set_other, get_or-set_same}
 use Rattle.std.proofs.lemmas.Bool.{cases_eq}
 use Rattle.rio_base.specs.declared.failures.VolFail.{VolFail}

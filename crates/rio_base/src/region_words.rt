@@ -52,8 +52,6 @@ pub trait RegionWords {
         ensures stays { Stays keeps_rest ready count health below self.old self.new }
         ensures ends { Ends (health self.old) (health self.new) result }
     {
-        let size = self.len();
-        prove!(at as usize + into.len() <= size as usize);
         for i in 0..into.len() {
             into[i] = self.word(at + i as u32)?;
         }
@@ -82,8 +80,6 @@ pub trait RegionWords {
         ensures stays { Stays keeps_rest ready count health below self.old self.new }
         ensures ends { Ends (health self.old) (health self.new) (as_word result) }
     {
-        let size = self.len();
-        prove!(at as usize + from.len() <= size as usize);
         for i in 0..from.len() {
             match self.set(at + i as u32, from[i]) {
                 Ok(()) => {}

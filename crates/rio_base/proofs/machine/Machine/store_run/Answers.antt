@@ -1,4 +1,4 @@
-use Rattle.std.proofs.Common.{◌≡◌, length, IsErr, refl, ◌∙◌, sym, subst}
+use Rattle.std.proofs.Common.{◌≡◌, length, true, IsErr, refl, ◌∙◌, sym, subst}
 use Rattle.std.proofs.lemmas.Result.{err_from_is_err_and}
 use Rattle.rio_base.specs.Machine.{Contents, Lasts}
 use Rattle.rio_base.specs.Memory.{FrontStored}
@@ -63,7 +63,7 @@ returns-in_err-store-clause-falls g c =
 pub returns-in_err-store-clause-ends : goal.returns-in_err-store-clause-ends
 returns-in_err-store-clause-ends g c =
     let p = err_from_is_err_and c.from_residual.result c.from_residual.ensures.1 in
-    ends_err _ _ _ _ _ refl (subst (λ r. IsErr r) (sym p.1) refl) c.loop-i.invariant.steps c.in_err-store.ensures.ends
+    ends_err _ _ _ _ _ (refl {a = true}) (subst (λ r. IsErr r) (sym p.1) (refl {a = true})) c.loop-i.invariant.steps c.in_err-store.ensures.ends
 
 pub loop-i-preserved : goal.loop-i-preserved
 loop-i-preserved g c =

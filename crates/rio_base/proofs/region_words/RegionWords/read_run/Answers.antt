@@ -15,8 +15,13 @@ loop-i-init g c = record {
   words = refl;
   stays = record { rest = g.met.Self.RegionWords.rest_refl _; ready = c.requires.ready; count = refl; goes = goes_refl _ _ };
   ran = ran_none _;
-  size = c.len-size.ensures;
 }
+
+pub overflow_cast-i : goal.overflow_cast-i
+overflow_cast-i g c = omega (arith, c.requires.place, c.loop-i-test.true, g.met.Self.RegionWords.small _ c.requires.ready)
+
+pub overflow_add-at : goal.overflow_add-at
+overflow_add-at g c = omega (arith, c.requires.place, c.loop-i-test.true, g.met.Self.RegionWords.small _ c.requires.ready)
 
 pub word-requires-clause-ready : goal.word-requires-clause-ready
 word-requires-clause-ready g c = c.loop-i.invariant.stays.ready
@@ -51,7 +56,6 @@ loop-i-preserved g c =
       words = s.words ∙ i.words;
       stays = stays_trans g.met.Self.RegionWords.rest_trans i.stays s.stays;
       ran = ran_more _ _ _ i.ran s.ends.later now.ends.cause;
-      size = i.size;
     }
 
 pub returns-clause-value : goal.returns-clause-value

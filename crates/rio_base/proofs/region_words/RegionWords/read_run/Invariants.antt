@@ -13,5 +13,4 @@ invariant-loop-i g l =
       words : me.words l.self ≡ me.words l.initial.self;
       stays : Stays me.keeps_rest me.ready me.count me.health me.below l.initial.self l.self;
       ran : Ran (me.health l.initial.self) (me.health l.self);
-      size : l.size ≡ me.count l.initial.self;
     }

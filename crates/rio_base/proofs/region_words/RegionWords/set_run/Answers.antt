@@ -11,8 +11,16 @@ loop-i-init g c = record {
   words = put_none _ _ _;
   stays = record { rest = g.met.Self.RegionWords.rest_refl _; ready = c.requires.ready; count = refl; goes = goes_refl _ _ };
   ran = ran_none _;
-  size = c.len-size.ensures;
 }
+
+pub overflow_cast-i : goal.overflow_cast-i
+overflow_cast-i g c = omega (arith, c.requires.place, c.loop-i-test.true, g.met.Self.RegionWords.small _ c.requires.ready)
+
+pub overflow_add-at : goal.overflow_add-at
+overflow_add-at g c = omega (arith, c.requires.place, c.loop-i-test.true, g.met.Self.RegionWords.small _ c.requires.ready)
+
+pub overflow_cast-result : goal.overflow_cast-result
+overflow_cast-result g c = omega (arith, c.requires.place, c.loop-i-test.true, g.met.Self.RegionWords.small _ c.requires.ready)
 
 pub set-requires-clause-ready : goal.set-requires-clause-ready
 set-requires-clause-ready g c = c.loop-i.invariant.stays.ready
@@ -49,7 +57,6 @@ loop-i-preserved g c =
       words = s.ok ∙ ap (λ (k : RegionContent). put_word k (c.args.at + c.loop-i.i) (slice_index c.args.from.now c.loop-i.i)) i.words ∙ set_next _ _ _ _ c.args.from.now refl;
       stays = stays_trans g.met.Self.RegionWords.rest_trans i.stays s.stays;
       ran = ran_more _ _ _ i.ran s.ends.later s.ends.cause;
-      size = i.size;
     }
 
 pub returns-clause-stays : goal.returns-clause-stays

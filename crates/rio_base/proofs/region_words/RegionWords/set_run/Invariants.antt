@@ -11,5 +11,4 @@ invariant-loop-i g l =
       words : me.words l.self ≡ put_words (me.words l.initial.self) l.at l.i l.from;
       stays : Stays me.keeps_rest me.ready me.count me.health me.below l.initial.self l.self;
       ran : Ran (me.health l.initial.self) (me.health l.self);
-      size : l.size ≡ me.count l.initial.self;
     }
