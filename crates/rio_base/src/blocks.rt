@@ -44,7 +44,6 @@ pub trait Blocks {
 
     /// Reads a run of words of block `b`, from word `w` on, as many as `into` has: as [`Blocks::word`] of each of them.
     /// After a failure `into` may hold anything.
-    #[tactic(auto, using(crate::proofs::BlockRules::caches_refl, crate::proofs::BlockRules::caches_trans, crate::proofs::BlockRuns::ends_on))]
     fn read_run(
         &mut self,
         b: Block,

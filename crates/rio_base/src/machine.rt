@@ -97,7 +97,6 @@ pub trait Machine {
 
     /// Stores a run of words of the open page, from place `at` on in rising order: one step each. `Stopped` leaves a
     /// front of them stored.
-    #[tactic(auto, using(crate::proofs::MachineRules::advances_none, crate::proofs::MachineRules::advances_stop, crate::proofs::MachineRules::steps_refl, crate::proofs::MachineRules::steps_trans, crate::proofs::MachineRules::ends_after, crate::proofs::MachineRules::falls_refl, crate::proofs::MachineRules::falls_trans))]
     fn store_run(&mut self, at: WordAt, from: &[u64]) -> Result<(), Stopped>
         requires page { (contents self.old).open_page ≡ Some (at.0 / 512) }
         requires within { at.0 % 512 + length from.now ≤ 512 }

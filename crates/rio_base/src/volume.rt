@@ -64,7 +64,6 @@ pub trait Volume: Blocks {
     /// Stores a run of words of a block, from word `w` on in rising order, outside an update: as [`Volume::store`] of
     /// each of them, but that the page may have the given name afterwards where its own was wider. `Fault` says how many
     /// were stored; `Stopped` leaves a front of them.
-    #[tactic(auto, using(crate::specs::Rules::goes_trans, crate::proofs::BlockRules::same_refl))]
     fn store_run(
         &mut self,
         b: Block,
