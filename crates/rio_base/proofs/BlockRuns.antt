@@ -4,7 +4,7 @@ use Rattle.std.proofs.Common.{◌∙◌, sym, subst, inl, inr, ap, arith, le_ref
 use Rattle.std.proofs.lemmas.Bool.{cases_eq}
 use Rattle.rio_base.specs.declared.failures.VolFail.{VolFail}
 use Rattle.rio_base.specs.declared.failures.VolFail.TheVariants.{Fault, Stopped}
-use Rattle.rio_base.specs.Blocks.{BlockWords, Ends, Health, IsRun}
+use Rattle.rio_base.specs.Blocks.{BlockWords, Ends, Halts, Health, IsRun}
 use Rattle.rio_base.proofs.BlockRules.{ends_later}
 
 -- calls that left the object running or stopped as it was
@@ -30,6 +30,10 @@ failed s t Stopped h = record { later = h.later; stays = h.stays; cause = h.caus
 -- calls that ended well, and then one whose failure is handed on
 pub ends_failed : {T U : Type 0} (s t u : Health) (e d : VolFail) (answer : Result U VolFail) → answer ≡ Err d → d ≡ e → Ran s t → Ends {T = T} t u (Err e) → Ends s u answer
 ends_failed {T = T} {U = U} s t u e d answer is same h k = subst (λ (v : Result U VolFail). Ends s u v) (sym (is ∙ ap Err same)) (ends_on s t u (Err e) h (failed t u e k))
+
+-- the same of a call whose one failure is the stop
+pub halts_failed : {T U E F : Type 0} (s t u : Health) (e : E) (d : F) (answer : Result U F) → answer ≡ Err d → Ran s t → Halts {T = T} t u (Err e) → Halts s u answer
+halts_failed {U = U} {F = F} s t u e d answer is h k = subst (λ (v : Result U F). Halts s u v) (sym is) (record { later = le_trans h.later k.later; stays = λ x. k.stays (h.same ∙ x); cause = k.cause })
 
 -- ---- the words that were read
 
