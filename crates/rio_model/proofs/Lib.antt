@@ -1,4 +1,5 @@
 pub mod Common
+pub mod Copies
 pub mod CountRules
 pub mod Cover
 pub mod CoverChanges
