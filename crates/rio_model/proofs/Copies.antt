@@ -4,6 +4,7 @@ use Rattle.std.specs.List.{AllZip}
 use Rattle.rio_model.specs.Names.{Names}
 use Rattle.rio_model.specs.Nodes.{Nodes}
 use Rattle.rio_model.specs.declared.node.RegionNode.{RegionNode}
+use Rattle.rio_model.specs.declared.rows.NameRow.{NameRow}
 use Rattle.rio_model.specs.declared.state.State.{State}
 use Rattle.rio_model.specs.declared.txn.Txn.{Txn}
 
@@ -13,6 +14,9 @@ pairs_same [] [] e = refl
 pairs_same [] (y ∷ ys) e = absurd e
 pairs_same (x ∷ xs) [] e = absurd e
 pairs_same (x ∷ xs) (y ∷ ys) e = λ i. (e.0.0 i, e.0.1 i) ∷ pairs_same xs ys e.1 i
+
+pub name_row_same : (r : NameRow) (name : List ℕ) → name ≡ r.name → record r { name = name } ≡ r
+name_row_same r name p = λ i. record r { name = p i }
 
 pub region_same : (r : RegionNode) (words : List ℕ) (blocks : List (ℕ × ℕ)) → words ≡ r.words → blocks ≡ r.blocks → record r { words = words; blocks = blocks } ≡ r
 region_same r words blocks p q = λ i. record r { words = p i; blocks = q i }
