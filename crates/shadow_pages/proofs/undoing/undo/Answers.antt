@@ -1,11 +1,14 @@
 use Rattle.std.proofs.Common.{◌∙◌, ap, refl, sym}
 use Rattle.rio_base.specs.Rules.{true_false}
-use Rattle.rio_base.proofs.MachineRules.{ends_err, ends_then}
+use Rattle.rio_base.proofs.MachineRules.{ends_err, ends_then, lasts_trans}
 use Rattle.rio_base.specs.Blocks.{BlockWords}
 use Rattle.rio_base.specs.Machine.{Contents}
 use Rattle.rio_model.specs.Cover.{reads, stands}
+use Rattle.rio_model.specs.Registry.{gate_of}
+use Rattle.rio_model.proofs.CoverStands.{same_names_trans}
+use Rattle.shadow_pages.proofs.Exits.{at_err, ends_told, not_ok}
 use Rattle.shadow_pages.proofs.Gates.{entries_shadow}
-use Rattle.shadow_pages.proofs.Restores.{restores_coherent, restores_firm, restores_shadows, restores_stands, restores_untouched}
+use Rattle.shadow_pages.proofs.Restores.{restores_coherent, restores_firm, restores_gate, restores_names, restores_shadows, restores_stands, restores_untouched}
 use Rattle.shadow_pages.proofs.Steps.{coherent_restored, undone_after}
 use Rattle.shadow_pages.proofs.undoing.undo.Goals as goal
 
@@ -59,3 +62,81 @@ returns-in_err-commit-clause-ends g c = ends_err _ _ _ _ _ refl c.from_residual-
 
 pub returns-clause-ends : goal.returns-clause-ends
 returns-clause-ends g c = ends_then _ _ _ _ _ (λ e. true_false (sym e)) c.in_ok-restore_frames.ensures.ends c.in_ok-commit.ensures.ends
+
+pub restore_frames-requires-clause-coherent : goal.restore_frames-requires-clause-coherent
+restore_frames-requires-clause-coherent g c = c.requires.coherent
+
+pub restore_frames-requires-clause-closed : goal.restore_frames-requires-clause-closed
+restore_frames-requires-clause-closed g c = c.requires.closed
+
+pub restore_frames-requires-clause-updating : goal.restore_frames-requires-clause-updating
+restore_frames-requires-clause-updating g c = c.requires.updating
+
+pub restore_frames-requires-clause-within : goal.restore_frames-requires-clause-within
+restore_frames-requires-clause-within g c = c.requires.within
+
+pub commit-requires-clause-closed : goal.commit-requires-clause-closed
+commit-requires-clause-closed g c = c.restore_frames.ensures.stores.closed
+
+pub commit-requires-clause-updating : goal.commit-requires-clause-updating
+commit-requires-clause-updating g c = restores_gate _ _ c.restore_frames.ensures.restores ∙ c.requires.updating
+
+pub returns-in_err-restore_frames-clause-undone : goal.returns-in_err-restore_frames-clause-undone
+returns-in_err-restore_frames-clause-undone g c = not_ok _ c.from_residual.result c.from_residual.ensures.0
+
+pub returns-in_err-restore_frames-clause-cut : goal.returns-in_err-restore_frames-clause-cut
+returns-in_err-restore_frames-clause-cut g c = at_err c.from_residual.result c.from_residual.ensures.0 (restores_gate _ _ c.restore_frames.ensures.restores ∙ c.requires.updating)
+
+pub returns-in_err-restore_frames-clause-shadows : goal.returns-in_err-restore_frames-clause-shadows
+returns-in_err-restore_frames-clause-shadows g c = λ k less. restores_shadows _ _ k c.restore_frames.ensures.restores less
+
+pub returns-in_err-restore_frames-clause-names : goal.returns-in_err-restore_frames-clause-names
+returns-in_err-restore_frames-clause-names g c = restores_names _ _ c.restore_frames.ensures.restores
+
+pub returns-in_err-restore_frames-clause-rest : goal.returns-in_err-restore_frames-clause-rest
+returns-in_err-restore_frames-clause-rest g c = c.restore_frames.ensures.stores.rest
+
+pub returns-in_err-restore_frames-clause-closed : goal.returns-in_err-restore_frames-clause-closed
+returns-in_err-restore_frames-clause-closed g c = c.restore_frames.ensures.stores.closed
+
+pub returns-in_err-restore_frames-clause-lasts : goal.returns-in_err-restore_frames-clause-lasts
+returns-in_err-restore_frames-clause-lasts g c = c.restore_frames.ensures.stores.lasts
+
+pub returns-in_err-restore_frames-clause-ends : goal.returns-in_err-restore_frames-clause-ends
+returns-in_err-restore_frames-clause-ends g c = ends_told _ _ _ _ refl c.from_residual.ensures.0 c.in_err-restore_frames.ensures.ends
+
+pub returns-in_err-commit-clause-undone : goal.returns-in_err-commit-clause-undone
+returns-in_err-commit-clause-undone g c = not_ok _ c.from_residual-in_err-commit.result c.from_residual-in_err-commit.ensures.0
+
+pub returns-in_err-commit-clause-cut : goal.returns-in_err-commit-clause-cut
+returns-in_err-commit-clause-cut g c = at_err c.from_residual-in_err-commit.result c.from_residual-in_err-commit.ensures.0 (ap (λ (m : Contents). gate_of m.words) c.in_err-commit.ensures.same ∙ restores_gate _ _ c.restore_frames.ensures.restores ∙ c.requires.updating)
+
+pub returns-in_err-commit-clause-shadows : goal.returns-in_err-commit-clause-shadows
+returns-in_err-commit-clause-shadows g c = λ k less. entries_shadow _ _ k c.commit.ensures.entries ∙ restores_shadows _ _ k c.restore_frames.ensures.restores less
+
+pub returns-in_err-commit-clause-names : goal.returns-in_err-commit-clause-names
+returns-in_err-commit-clause-names g c = same_names_trans _ _ _ (restores_names _ _ c.restore_frames.ensures.restores) c.commit.ensures.names
+
+pub returns-in_err-commit-clause-rest : goal.returns-in_err-commit-clause-rest
+returns-in_err-commit-clause-rest g c = c.commit.ensures.rest ∙ ap (λ (m : Contents). record m { words = (g.M.Machine.contents c.commit.new.m).words }) c.restore_frames.ensures.stores.rest
+
+pub returns-in_err-commit-clause-closed : goal.returns-in_err-commit-clause-closed
+returns-in_err-commit-clause-closed g c = c.commit.ensures.closed
+
+pub returns-in_err-commit-clause-lasts : goal.returns-in_err-commit-clause-lasts
+returns-in_err-commit-clause-lasts g c = lasts_trans _ _ _ c.restore_frames.ensures.stores.lasts c.commit.ensures.lasts
+
+pub returns-clause-cut : goal.returns-clause-cut
+returns-clause-cut g c = tt
+
+pub returns-clause-names : goal.returns-clause-names
+returns-clause-names g c = same_names_trans _ _ _ (restores_names _ _ c.restore_frames.ensures.restores) c.commit.ensures.names
+
+pub returns-clause-rest : goal.returns-clause-rest
+returns-clause-rest g c = c.commit.ensures.rest ∙ ap (λ (m : Contents). record m { words = (g.M.Machine.contents c.commit.new.m).words }) c.restore_frames.ensures.stores.rest
+
+pub returns-clause-closed : goal.returns-clause-closed
+returns-clause-closed g c = c.commit.ensures.closed
+
+pub returns-clause-lasts : goal.returns-clause-lasts
+returns-clause-lasts g c = lasts_trans _ _ _ c.restore_frames.ensures.stores.lasts c.commit.ensures.lasts
