@@ -1,7 +1,8 @@
 -- How a call ends, told by another type of failure.
-use Rattle.file_pages.proofs.Common.{◌≡◌, ◌≤◌, refl, sym, ap, subst, ◌∙◌, Result, Ok, Err, IsErrOf, VolFail, EndsBy, Health, ends_by_after, ends_by_as}
+use Rattle.file_pages.proofs.Common.{◌≡◌, ◌≤◌, arith, refl, sym, ap, subst, ◌∙◌, Result, Ok, Err, IsErrOf, VolFail, EndsBy, Health, ends_by_after, ends_by_as}
 use Rattle.rio_base.specs.declared.failures.VolFail.TheVariants.{Fault as VolFault, Stopped as VolStopped}
 use Rattle.rio_base.specs.Blocks.{Ends, Halts}
+use Rattle.rio_base.specs.Failures.{read_fail}
 use Rattle.rio_base.proofs.Rules.{ends_by, ends_by_well}
 use Rattle.file_pages.specs.Failures.{Unrefused, size_handed, size_of_read}
 use Rattle.rio_base.specs.declared.failures.ReadFail.{ReadFail}
@@ -32,6 +33,37 @@ ends_read s t r q e d re qd de h = subst (λ x. EndsRead s t x) (sym (qd ∙ ap 
 pub ends_size : {T U : Type 0} (s t : Health) (r : Result T ReadFail) (q : Result U SizeFail) (e : ReadFail) (d : SizeFail) → r ≡ Err e → q ≡ Err d → d ≡ size_of_read e → EndsRead s t r → EndsSize s t q
 ends_size s t r q e d re qd de h = subst (λ x. EndsSize s t x) (sym (qd ∙ ap Err de)) (size_as s t e (subst (λ x. EndsRead s t x) re h))
 
+-- a call of the volume, told by a read
+read_of_vol : {T U : Type 0} (s t : Health) (e : VolFail) → Ends {T = T} s t (Err e) → EndsRead {T = U} s t (Err (read_fail e))
+read_of_vol s t VolFault h = ends_by_as s t _ _ _ _ (λ a. refl) (λ a. cc) (λ a. cc) (ends_by s t (Err VolFault) h)
+read_of_vol s t VolStopped h = ends_by_as s t _ _ _ _ (λ a. cc) (λ a. refl) (λ a. refl) (ends_by s t (Err VolStopped) h)
+
+pub ends_vol_read : {T U : Type 0} (s t : Health) (r : Result T VolFail) (q : Result U ReadFail) (e : VolFail) (d : ReadFail) → r ≡ Err e → q ≡ Err d → d ≡ read_fail e → Ends s t r → EndsRead s t q
+ends_vol_read s t r q e d re qd de h = subst (λ x. EndsRead s t x) (sym (qd ∙ ap Err de)) (read_of_vol s t e (subst (λ x. Ends s t x) re h))
+
+-- reads that ended well, and then memory that was refused, or an answer
+pub ends_read_ok : {T : Type 0} (s t : Health) (v : T) → s.faults ≤ t.faults → t.stopped ≡ s.stopped → EndsRead s t (Ok v)
+ends_read_ok s t v later same = ends_by_well s t _ _ later same (λ a. cc) (λ a. cc)
+
+pub ends_read_memory : {T : Type 0} (s t : Health) (q : Result T ReadFail) (d : ReadFail) → q ≡ Err d → d ≡ ReadMemory → s.faults ≤ t.faults → t.stopped ≡ s.stopped → EndsRead s t q
+ends_read_memory {T = T} s t q d qd de later same = subst (λ x. EndsRead s t x) (sym (qd ∙ ap Err de)) well
+  where
+    well : EndsRead {T = T} s t (Err ReadMemory)
+    well = ends_by_well s t _ _ later same (λ a. cc) (λ a. cc)
+
+pub read_runs : {T : Type 0} (s t : Health) (v : T) → EndsRead s t (Ok v) → t.stopped ≡ s.stopped
+read_runs s t v h = h.runs (λ a. cc)
+
+pub ends_read_on : {T U : Type 0} (s t : Health) (v : T) (u : U) → EndsRead s t (Ok v) → EndsRead s t (Ok u)
+ends_read_on s t v u h = ends_read_ok s t u h.later (read_runs s t v h)
+
+-- nothing was called before
+pub read_still : {T : Type 0} (s : Health) (v : T) → EndsRead s s (Ok v)
+read_still s v = ends_read_ok s s v (omega arith) refl
+
+pub read_still_memory : {T : Type 0} (s : Health) (q : Result T ReadFail) (d : ReadFail) → q ≡ Err d → d ≡ ReadMemory → EndsRead s s q
+read_still_memory s q d qd de = ends_read_memory s s q d qd de (omega arith) refl
+
 -- a call that ended well, and then memory that was refused, or an answer
 size_memory : {T U : Type 0} (s t : Health) (v : T) → EndsRead {T = T} s t (Ok v) → EndsSize {T = U} s t (Err SizeMemory)
 size_memory s t v h = ends_by_as s t _ _ _ _ (λ a. cc) (λ a. cc) (λ a. cc) h
@@ -55,6 +87,9 @@ pub ends_vol_size : {T U : Type 0} (s t : Health) (r : Result T VolFail) (q : Re
 ends_vol_size s t r q e d re qd de h = subst (λ x. EndsSize s t x) (sym (qd ∙ ap Err de)) (size_of_vol s t e (subst (λ x. Ends s t x) re h))
 
 -- ---- calls that ended well
+
+pub size_runs : {T : Type 0} (s t : Health) (v : T) → EndsSize s t (Ok v) → t.stopped ≡ s.stopped
+size_runs s t v h = h.runs (λ a. cc)
 
 pub ends_well_memory : {T : Type 0} (s t : Health) (q : Result T SizeFail) (d : SizeFail) → q ≡ Err d → d ≡ SizeMemory → s.faults ≤ t.faults → t.stopped ≡ s.stopped → EndsSize s t q
 ends_well_memory {T = T} s t q d qd de later same = subst (λ x. EndsSize s t x) (sym (qd ∙ ap Err de)) well

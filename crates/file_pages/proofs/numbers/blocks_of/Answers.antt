@@ -1,6 +1,7 @@
-use Rattle.rio_base.proofs.Rules.{ends_by_well}
-use Rattle.file_pages.proofs.Ends.{ends_read}
-use Rattle.file_pages.proofs.Common.{◌≡◌, ◌-◌, ◌∙◌, ap, arith, numbers, BlockWords, placed_at, lies_self, table_of, pages, tables, err_from_is_err_and, ends_by_after, le_trans}
+use Rattle.file_pages.specs.Changes.{PlansFor}
+use Rattle.file_pages.proofs.EndsOn.{if_err}
+use Rattle.file_pages.proofs.Ends.{ends_read, ends_read_ok, ends_read_memory, ends_vol_read, read_runs}
+use Rattle.file_pages.proofs.Common.{◌≡◌, ◌-◌, ◌∙◌, ap, arith, numbers, BlockWords, placed_at, lies_self, table_of, pages, tables, err_from_is_err_and, ends_by_after, le_trans, subst, sym, inl}
 use Rattle.std.specs.Prelude.{nat_eq}
 use Rattle.file_pages.specs.LookingUp.{page_blocks}
 use Rattle.file_pages.proofs.LookingUpRules.{look_trans}
@@ -78,4 +79,31 @@ pub returns-in_err-blocks-clause-ends : goal.returns-in_err-blocks-clause-ends
 returns-in_err-blocks-clause-ends g c = let p = err_from_is_err_and c.from_residual-in_err-blocks.result c.from_residual-in_err-blocks.ensures.1 in ends_by_after _ _ _ _ _ c.look_inode.ensures.ends.later c.in_ok-inode.ensures.ends.cause (ends_read _ _ _ c.from_residual-in_err-blocks.result _ p.0 c.in_err-blocks.was p.1 p.2 c.page_blocks.ensures.ends)
 
 pub returns-clause-ends : goal.returns-clause-ends
-returns-clause-ends g c = ends_by_well _ _ _ _ (le_trans c.look_inode.ensures.ends.later c.page_blocks.ensures.ends.later) (c.in_ok-blocks.ensures.ends.runs (λ a. cc) ∙ c.in_ok-inode.ensures.ends.cause) (λ a. cc) (λ a. cc)
+returns-clause-ends g c = ends_read_ok _ _ _ (le_trans c.look_inode.ensures.ends.later c.page_blocks.ensures.ends.later) (read_runs _ _ _ c.in_ok-blocks.ensures.ends ∙ c.in_ok-inode.ensures.ends.cause)
+
+pub page_blocks-requires-clause-can : goal.page_blocks-requires-clause-can
+page_blocks-requires-clause-can g c = c.look_inode.ensures.looks.still
+
+pub page_blocks-requires-clause-inode : goal.page_blocks-requires-clause-inode
+page_blocks-requires-clause-inode g c = let own = c.in_ok-inode.ensures.value in let used = c.requires.used in subst (λ (f : BlockWords). PlansFor f c.args.i.0 c.in_ok-inode.inode) (sym c.look_inode.ensures.looks.looks.words) (inl (own, omega (arith, own.kind, used)))
+
+pub page_blocks-requires-clause-order : goal.page_blocks-requires-clause-order
+page_blocks-requires-clause-order g c = omega arith
+
+pub page_blocks-requires-clause-within : goal.page_blocks-requires-clause-within
+page_blocks-requires-clause-within g c = omega (arith, c.page_count-count.ensures.pages)
+
+pub returns-in_err-blocks-clause-value : goal.returns-in_err-blocks-clause-value
+returns-in_err-blocks-clause-value g c = if_err c.from_residual-in_err-blocks.result _ c.from_residual-in_err-blocks.ensures.0
+
+pub returns-in_err-inode-clause-ends : goal.returns-in_err-inode-clause-ends
+returns-in_err-inode-clause-ends g c = let p = err_from_is_err_and c.from_residual.result c.from_residual.ensures.1 in ends_vol_read _ _ c.look_inode.result c.from_residual.result _ p.0 c.in_err-inode.was p.1 p.2 c.look_inode.ensures.ends
+
+pub returns-in_err-inode-clause-value : goal.returns-in_err-inode-clause-value
+returns-in_err-inode-clause-value g c = if_err c.from_residual.result _ c.from_residual.ensures.0
+
+pub returns-in_err-push_table-clause-value : goal.returns-in_err-push_table-clause-value
+returns-in_err-push_table-clause-value g c = if_err c.from_residual-in_err-push_table.result _ c.from_residual-in_err-push_table.ensures.0
+
+pub returns-in_err-push_table-clause-ends : goal.returns-in_err-push_table-clause-ends
+returns-in_err-push_table-clause-ends g c = let p = err_from_is_err_and c.from_residual-in_err-push_table.result c.from_residual-in_err-push_table.ensures.1 in ends_read_memory _ _ c.from_residual-in_err-push_table.result p.0 p.1 p.2 (le_trans c.look_inode.ensures.ends.later c.page_blocks.ensures.ends.later) (read_runs _ _ _ c.in_ok-blocks.ensures.ends ∙ c.in_ok-inode.ensures.ends.cause)

@@ -1,8 +1,9 @@
-use Rattle.rio_base.proofs.Rules.{ends_by_well}
+use Rattle.file_pages.proofs.LookingUpRules.{look_refl}
+use Rattle.file_pages.proofs.EndsOn.{if_err}
 use Rattle.file_pages.proofs.Common.{◌-◌, ◌<◌, ◌≤◌, ◌++◌, ◌∙◌, ap, arith, AtPage, AtTable, placed_at, first_table, pages, numbers, err_from_is_err_and}
 use Rattle.file_pages.specs.Changes.{given_node}
 use Rattle.file_pages.specs.LookingUp.{page_blocks}
-use Rattle.file_pages.proofs.Ends.{ends_read}
+use Rattle.file_pages.proofs.Ends.{ends_read, ends_read_on, read_still, read_still_memory}
 use Rattle.file_pages.proofs.Given.{given_most, given_of}
 use Rattle.file_pages.proofs.Listed.{blocks_joined}
 use Rattle.file_pages.proofs.numbers.page_blocks.Goals as goal
@@ -90,10 +91,46 @@ pub returns-then-middle-end-clause-sound : goal.returns-then-middle-end-clause-s
 returns-then-middle-end-clause-sound g c = c.requires.sound
 
 pub returns-clause-ends : goal.returns-clause-ends
-returns-clause-ends g c = ends_by_well _ _ _ _ c.push_later.ensures.ends.later (c.in_ok-blocks.ensures.ends.runs (λ a. cc)) (λ a. cc) (λ a. cc)
+returns-clause-ends g c = ends_read_on _ _ _ _ c.in_ok-blocks.ensures.ends
 
 pub push_later-requires-clause-sound : goal.push_later-requires-clause-sound
 push_later-requires-clause-sound g c = c.requires.sound
 
 pub push_later-requires-clause-can : goal.push_later-requires-clause-can
 push_later-requires-clause-can g c = c.requires.can
+
+pub push_later-requires-clause-order : goal.push_later-requires-clause-order
+push_later-requires-clause-order g c = omega (arith, c.if-middle-end.false, c.min-middle.ensures)
+
+pub push_later-requires-clause-past : goal.push_later-requires-clause-past
+push_later-requires-clause-past g c = omega (arith, c.if-middle-end.false, c.min-middle.ensures, c.max.ensures)
+
+pub push_direct-requires-clause-few : goal.push_direct-requires-clause-few
+push_direct-requires-clause-few g c = omega (arith, c.min-middle.ensures, c.max.ensures)
+
+pub push_direct-requires-clause-order : goal.push_direct-requires-clause-order
+push_direct-requires-clause-order g c = omega (arith, c.min-middle.ensures, c.max.ensures, c.requires.order)
+
+pub returns-in_err-blocks-clause-value : goal.returns-in_err-blocks-clause-value
+returns-in_err-blocks-clause-value g c = if_err c.from_residual-in_err-blocks.result _ c.from_residual-in_err-blocks.ensures.0
+
+pub returns-in_err-push_direct-clause-ends : goal.returns-in_err-push_direct-clause-ends
+returns-in_err-push_direct-clause-ends g c = let p = err_from_is_err_and c.from_residual.result c.from_residual.ensures.1 in read_still_memory _ c.from_residual.result p.0 p.1 p.2
+
+pub returns-in_err-push_direct-clause-looks : goal.returns-in_err-push_direct-clause-looks
+returns-in_err-push_direct-clause-looks g c = look_refl c.args.shape.now _ c.requires.can
+
+pub returns-in_err-push_direct-clause-passes : goal.returns-in_err-push_direct-clause-passes
+returns-in_err-push_direct-clause-passes g c = g.met.V.Blocks.passes_refl _
+
+pub returns-in_err-push_direct-clause-value : goal.returns-in_err-push_direct-clause-value
+returns-in_err-push_direct-clause-value g c = if_err c.from_residual.result _ c.from_residual.ensures.0
+
+pub returns-then-middle-end-clause-ends : goal.returns-then-middle-end-clause-ends
+returns-then-middle-end-clause-ends g c = read_still _ _
+
+pub returns-then-middle-end-clause-looks : goal.returns-then-middle-end-clause-looks
+returns-then-middle-end-clause-looks g c = look_refl c.args.shape.now _ c.requires.can
+
+pub returns-then-middle-end-clause-passes : goal.returns-then-middle-end-clause-passes
+returns-then-middle-end-clause-passes g c = g.met.V.Blocks.passes_refl _

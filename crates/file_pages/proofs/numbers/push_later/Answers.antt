@@ -1,5 +1,5 @@
-use Rattle.rio_base.proofs.Rules.{ends_by_well}
-use Rattle.file_pages.proofs.Ends.{ends_read}
+use Rattle.file_pages.proofs.EndsOn.{if_err}
+use Rattle.file_pages.proofs.Ends.{ends_read, ends_read_memory, ends_read_on, read_runs}
 use Rattle.file_pages.proofs.Common.{ℕ, List, ◌-◌, ◌/◌, ◌∙◌, ap, arith, slice_index, AtPage, HasSlot, placed_at, err_from_is_err_and}
 use Rattle.rio_base.specs.Layout.{half}
 use Rattle.file_pages.proofs.Looked.{run_number}
@@ -59,4 +59,16 @@ pub returns-in_err-words-clause-ends : goal.returns-in_err-words-clause-ends
 returns-in_err-words-clause-ends g c = let p = err_from_is_err_and c.from_residual.result c.from_residual.ensures.1 in ends_read _ _ _ c.from_residual.result _ p.0 c.in_err-words.was p.1 p.2 c.table_words.ensures.ends
 
 pub returns-clause-ends : goal.returns-clause-ends
-returns-clause-ends g c = ends_by_well _ _ _ _ c.table_words.ensures.ends.later (c.in_ok-words.ensures.ends.runs (λ a. cc)) (λ a. cc) (λ a. cc)
+returns-clause-ends g c = ends_read_on _ _ _ _ c.in_ok-words.ensures.ends
+
+pub returns-in_err-push_numbers-clause-ends : goal.returns-in_err-push_numbers-clause-ends
+returns-in_err-push_numbers-clause-ends g c = let p = err_from_is_err_and c.from_residual-in_err-push_numbers.result c.from_residual-in_err-push_numbers.ensures.1 in ends_read_memory _ _ c.from_residual-in_err-push_numbers.result p.0 p.1 p.2 c.table_words.ensures.ends.later (read_runs _ _ _ c.in_ok-words.ensures.ends)
+
+pub returns-in_err-push_numbers-clause-value : goal.returns-in_err-push_numbers-clause-value
+returns-in_err-push_numbers-clause-value g c = if_err c.from_residual-in_err-push_numbers.result _ c.from_residual-in_err-push_numbers.ensures.0
+
+pub returns-in_err-words-clause-value : goal.returns-in_err-words-clause-value
+returns-in_err-words-clause-value g c = if_err c.from_residual.result _ c.from_residual.ensures.0
+
+pub push_numbers-requires-clause-past : goal.push_numbers-requires-clause-past
+push_numbers-requires-clause-past g c = c.requires.past

@@ -1,4 +1,7 @@
-use Rattle.rio_base.proofs.Rules.{ends_by_well}
+use Rattle.file_pages.proofs.Looked.{filled_len, filled_run}
+use Rattle.file_pages.proofs.Common.{err_from_is_err_and, arith, ◌∙◌}
+use Rattle.file_pages.proofs.EndsOn.{if_err}
+use Rattle.file_pages.proofs.Ends.{ends_read_ok, ends_vol_read, read_still_memory}
 use Rattle.file_pages.proofs.LookingUpRules.{look_refl}
 use Rattle.file_pages.proofs.numbers.table_words.Goals as goal
 
@@ -42,4 +45,31 @@ pub read_table-requires-clause-table : goal.read_table-requires-clause-table
 read_table-requires-clause-table g c = c.requires.table
 
 pub returns-clause-ends : goal.returns-clause-ends
-returns-clause-ends g c = ends_by_well _ _ _ _ c.read_table.ensures.ends.later c.in_ok-read_table.ensures.ends.cause (λ a. cc) (λ a. cc)
+returns-clause-ends g c = ends_read_ok _ _ _ c.read_table.ensures.ends.later c.in_ok-read_table.ensures.ends.cause
+
+pub returns-in_err-read_table-clause-ends : goal.returns-in_err-read_table-clause-ends
+returns-in_err-read_table-clause-ends g c = let p = err_from_is_err_and c.from_residual-in_err-read_table.result c.from_residual-in_err-read_table.ensures.1 in ends_vol_read _ _ c.read_table.result c.from_residual-in_err-read_table.result _ p.0 c.in_err-read_table.was p.1 p.2 c.read_table.ensures.ends
+
+pub returns-in_err-read_table-clause-len : goal.returns-in_err-read_table-clause-len
+returns-in_err-read_table-clause-len g c = if_err c.from_residual-in_err-read_table.result _ c.from_residual-in_err-read_table.ensures.0
+
+pub returns-in_err-read_table-clause-words : goal.returns-in_err-read_table-clause-words
+returns-in_err-read_table-clause-words g c = if_err c.from_residual-in_err-read_table.result _ c.from_residual-in_err-read_table.ensures.0
+
+pub returns-in_err-words-clause-ends : goal.returns-in_err-words-clause-ends
+returns-in_err-words-clause-ends g c = let p = err_from_is_err_and c.from_residual.result c.from_residual.ensures.1 in read_still_memory _ c.from_residual.result p.0 p.1 p.2
+
+pub returns-in_err-words-clause-len : goal.returns-in_err-words-clause-len
+returns-in_err-words-clause-len g c = if_err c.from_residual.result _ c.from_residual.ensures.0
+
+pub returns-in_err-words-clause-words : goal.returns-in_err-words-clause-words
+returns-in_err-words-clause-words g c = if_err c.from_residual.result _ c.from_residual.ensures.0
+
+pub read_table-requires-clause-within : goal.read_table-requires-clause-within
+read_table-requires-clause-within g c = omega (arith, c.requires.within, c.deref_mut.ensures.len, c.in_ok-words.ensures.len)
+
+pub returns-clause-len : goal.returns-clause-len
+returns-clause-len g c = filled_len c.read_table.new.into c.in_ok-words.words.items _ _ (c.read_table.ensures.len ∙ c.deref_mut.ensures.len) c.in_ok-words.ensures.len
+
+pub returns-clause-words : goal.returns-clause-words
+returns-clause-words g c = filled_run _ _ c.args.from _ _ c.args.count c.read_table.new.into c.in_ok-words.words.items c.in_ok-read_table.ensures.words (c.deref_mut.ensures.len ∙ c.in_ok-words.ensures.len) (c.read_table.ensures.len ∙ c.deref_mut.ensures.len)
