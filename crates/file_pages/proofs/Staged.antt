@@ -1,6 +1,7 @@
 -- Calls that leave all but some blocks as they were, one after the other.
-use Rattle.file_pages.proofs.Common.{◌≡◌, ◌≢◌, ℕ, ◌+◌, ◌<◌, ◌==◌, Bool, true, false, cond, List, length, refl, sym, ap, subst, ◌∙◌, arith, inl, inr, slice_index, Option, cases_eq, nat_tests, PageName, BlockWords, Seen, Caches, Drops, caches_by_one, Kept, SameBut}
+use Rattle.file_pages.proofs.Common.{◌≡◌, ◌≢◌, ℕ, ◌+◌, ◌<◌, ◌==◌, Bool, true, false, cond, List, length, refl, sym, ap, subst, ◌∙◌, arith, inl, inr, slice_index, Option, cases_eq, nat_tests, PageName, BlockWords, Seen, CanName, Caches, Drops, caches_by_one, Kept, SameBut}
 use Rattle.rio_base.proofs.BlockSets.{caches_by_drops, caches_by_refl, caches_by_trans, caches_by_wider, firm_outside_one, firm_outside_refl, firm_outside_trans, firm_outside_wider, same_outside_one, same_outside_refl, same_outside_trans, same_outside_wider}
+use Rattle.rio_base.specs.Blocks.{InRange}
 use Rattle.rio_base.specs.Volume.{FirmBut, cleared}
 use Rattle.file_pages.specs.Changes.{Apart}
 use Rattle.file_pages.specs.Staging.{Beside, Zeroed}
@@ -76,3 +77,13 @@ staged_more taken name n x k y j apart within h one zero firm named = record {
   where
     other : (t : ℕ) → t < n + 1 → t ≢ n → slice_index taken t ≡ slice_index taken n → ⊥
     other t few away e = away (apart t n (omega (arith, few, within, away)) within e)
+
+-- a block that is not cached may get any name, and then has it
+not_both : (t : Bool) → t ≡ true → t ≡ false → ⊥
+not_both t on out = cc
+
+pub fresh_name : (x : Seen) (b : ℕ) (name : Option PageName) → InRange name → x.cached b ≡ false → CanName x b name
+fresh_name x b name fits out = record { in_range = fits; agrees = λ on. absurd (not_both (x.cached b) on out) }
+
+pub fresh_named : (x y : Seen) (b : ℕ) (name : Option PageName) → x.cached b ≡ false → Caches x y b name → y.cached b ≡ true → y.names b ≡ name
+fresh_named x y b name out h on = elim (h.named on) [ inl kept ↦ absurd (not_both (x.cached b) kept.0 out) | inr is ↦ is ]

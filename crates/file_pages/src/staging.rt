@@ -57,6 +57,36 @@ fn name_of(file: Ino, kind: u8, first: u32, count: u32, len: u64, t: u32) -> Opt
     Some(PageName { file, index, size })
 }
 
+/// Makes the `t`-th block that a node takes zero under its name.
+fn stage_taken<V: Volume>(
+    v: &mut V,
+    b: Block,
+    file: Ino,
+    kind: u8,
+    first: u32,
+    count: u32,
+    len: u64,
+    t: u32,
+) -> Result<(), VolFail>
+    requires sound { V.sound v.old }
+    requires place { b.0 < (V.seen v.old).count }
+    requires file { 1 ≤ file.0 }
+    requires file_to { file.0 ≤ 32768 }
+    requires few { first + count ≤ 1048 }
+    requires idle { (V.kept v.old).updating ≡ false }
+    ensures zeros { OnOk result ((w : ℕ) → (V.seen v.new).words b.0 w ≡ 0) }
+    ensures firm { OnOk result ((V.kept v.new).loose b.0 ≡ false) }
+    ensures named { OnOk result ((V.seen v.new).cached b.0 ≡ true → (V.seen v.new).names b.0 ≡ taken_name file.0 kind first count len t) }
+    ensures beside { Beside (λ c. c ≡ b.0) (V.seen v.old) (V.kept v.old) (V.seen v.new) (V.kept v.new) }
+    ensures idle { (V.kept v.new).updating ≡ false }
+    ensures goes { Goes (V.health v.old) (V.below v.old) (V.health v.new) (V.below v.new) }
+    ensures ends { Ends (V.health v.old) (V.health v.new) result }
+    ensures sound { V.sound v.new }
+{
+    let name = name_of(file, kind, first, count, len, t);
+    stage_block(v, b, name)
+}
+
 /// Makes blocks zero that are not in use: pages of a node from `first` on, and perhaps a table behind them.
 pub fn stage_blocks<V: Volume>(
     v: &mut V,
@@ -83,8 +113,7 @@ pub fn stage_blocks<V: Volume>(
     ensures sound { V.sound v.new }
 {
     for t in 0..taken.len() {
-        let name = name_of(file, kind, first, count, len, t as u32);
-        stage_block(v, taken[t], name)?;
+        stage_taken(v, taken[t], file, kind, first, count, len, t as u32)?;
     }
     Ok(())
 }

@@ -1,6 +1,6 @@
-use Rattle.file_pages.proofs.Staged.{beside_drops, cleared_here}
-use Rattle.file_pages.proofs.Common.{err_from_is_err_and, ◌then◌}
-use Rattle.file_pages.proofs.EndsOn.{ends_halted}
+use Rattle.file_pages.proofs.Staged.{beside_drops, cleared_here, beside_caches, beside_trans, fresh_name, fresh_named}
+use Rattle.file_pages.proofs.Common.{err_from_is_err_and, ◌then◌, subst, sym, ◌<◌}
+use Rattle.file_pages.proofs.EndsOn.{ends_halted, ends_vol, if_err}
 use Rattle.rio_base.proofs.BlockRules.{ends_later}
 use Rattle.file_pages.proofs.staging.stage_block.Goals as goal
 
@@ -63,3 +63,39 @@ returns-clause-zeros g c = λ w. cleared_here _ _ _ w c.in_ok-fresh.ensures.ok.0
 
 pub returns-clause-firm : goal.returns-clause-firm
 returns-clause-firm g c = c.in_ok-fresh.ensures.ok.1
+
+pub returns-clause-beside : goal.returns-clause-beside
+returns-clause-beside g c = beside_trans _ _ _ _ _ _ _ (beside_drops _ _ _ _ _ c.forget.ensures.count c.forget.ensures.others c.forget.ensures.standing c.forget.ensures.firm c.forget.ensures.drops) (beside_caches _ _ _ _ _ _ c.fresh.ensures.count c.fresh.ensures.others c.fresh.ensures.standing c.fresh.ensures.firm c.fresh.ensures.caches)
+
+pub returns-in_err-fresh-clause-beside : goal.returns-in_err-fresh-clause-beside
+returns-in_err-fresh-clause-beside g c = beside_trans _ _ _ _ _ _ _ (beside_drops _ _ _ _ _ c.forget.ensures.count c.forget.ensures.others c.forget.ensures.standing c.forget.ensures.firm c.forget.ensures.drops) (beside_caches _ _ _ _ _ _ c.fresh.ensures.count c.fresh.ensures.others c.fresh.ensures.standing c.fresh.ensures.firm c.fresh.ensures.caches)
+
+pub returns-in_err-forget-clause-firm : goal.returns-in_err-forget-clause-firm
+returns-in_err-forget-clause-firm g c = if_err c.from_residual.result _ c.from_residual.ensures.0
+
+pub returns-in_err-forget-clause-named : goal.returns-in_err-forget-clause-named
+returns-in_err-forget-clause-named g c = if_err c.from_residual.result _ c.from_residual.ensures.0
+
+pub returns-in_err-forget-clause-zeros : goal.returns-in_err-forget-clause-zeros
+returns-in_err-forget-clause-zeros g c = if_err c.from_residual.result _ c.from_residual.ensures.0
+
+pub returns-in_err-fresh-clause-firm : goal.returns-in_err-fresh-clause-firm
+returns-in_err-fresh-clause-firm g c = if_err c.from_residual-in_err-fresh.result _ c.from_residual-in_err-fresh.ensures.0
+
+pub returns-in_err-fresh-clause-named : goal.returns-in_err-fresh-clause-named
+returns-in_err-fresh-clause-named g c = if_err c.from_residual-in_err-fresh.result _ c.from_residual-in_err-fresh.ensures.0
+
+pub returns-in_err-fresh-clause-zeros : goal.returns-in_err-fresh-clause-zeros
+returns-in_err-fresh-clause-zeros g c = if_err c.from_residual-in_err-fresh.result _ c.from_residual-in_err-fresh.ensures.0
+
+pub returns-in_err-fresh-clause-ends : goal.returns-in_err-fresh-clause-ends
+returns-in_err-fresh-clause-ends g c = let p = err_from_is_err_and c.from_residual-in_err-fresh.result c.from_residual-in_err-fresh.ensures.1 in ends_later _ _ _ _ c.forget.ensures.ends.later c.in_ok-forget.ensures.ends.cause (ends_vol _ _ c.fresh.result c.from_residual-in_err-fresh.result _ p.0 c.in_err-fresh.was p.1 p.2 c.fresh.ensures.ends)
+
+pub fresh-requires-clause-name : goal.fresh-requires-clause-name
+fresh-requires-clause-name g c = fresh_name _ _ _ c.requires.name c.in_ok-forget.ensures.ok.1
+
+pub fresh-requires-clause-place : goal.fresh-requires-clause-place
+fresh-requires-clause-place g c = subst (λ n. c.args.b.0 < n) (sym c.forget.ensures.count) c.requires.place
+
+pub returns-clause-named : goal.returns-clause-named
+returns-clause-named g c = fresh_named _ _ _ _ c.in_ok-forget.ensures.ok.1 c.fresh.ensures.caches
