@@ -1,7 +1,9 @@
-use Rattle.file_pages.proofs.Common.{◌<◌, ◌∙◌, ◌then◌, ℕ, firm_trans, sym, subst, numbers}
+use Rattle.rio_base.proofs.BlockRules.{shape_dropped}
+use Rattle.file_pages.proofs.EndsOn.{halts_later, halts_ok, halts_on, if_err}
+use Rattle.file_pages.proofs.Common.{◌<◌, ◌∙◌, ◌then◌, ℕ, firm_trans, sym, subst, numbers, Bool, ap, err_from_is_err_and, inode_block, le_trans}
 use Rattle.file_pages.specs.Updating.{SetsBits}
 use Rattle.file_pages.proofs.Listed.{as_many}
-use Rattle.file_pages.proofs.Updated.{applied}
+use Rattle.file_pages.proofs.Updated.{applied, update_trans}
 use Rattle.file_pages.proofs.updating.make_update.Goals as goal
 
 pub make_edits-requires-clause-blocks : goal.make_edits-requires-clause-blocks
@@ -133,3 +135,75 @@ mark_all-requires-2-clause-in_update g c = c.mark_all.ensures.in_update
 
 pub mark_all-requires-2-clause-shape : goal.mark_all-requires-2-clause-shape
 mark_all-requires-2-clause-shape g c = c.mark_all.ensures.shape
+
+pub returns-in_err-make_edits-clause-ok : goal.returns-in_err-make_edits-clause-ok
+returns-in_err-make_edits-clause-ok g c = if_err c.from_residual.result _ c.from_residual.ensures.0
+
+pub returns-in_err-make_edits-clause-update : goal.returns-in_err-make_edits-clause-update
+returns-in_err-make_edits-clause-update g c = if_err c.from_residual.result _ c.from_residual.ensures.0
+
+pub returns-in_err-edit_inode-clause-ok : goal.returns-in_err-edit_inode-clause-ok
+returns-in_err-edit_inode-clause-ok g c = if_err c.from_residual-in_err-edit_inode.result _ c.from_residual-in_err-edit_inode.ensures.0
+
+pub returns-in_err-edit_inode-clause-update : goal.returns-in_err-edit_inode-clause-update
+returns-in_err-edit_inode-clause-update g c = if_err c.from_residual-in_err-edit_inode.result _ c.from_residual-in_err-edit_inode.ensures.0
+
+pub returns-in_err-mark_all-clause-ok : goal.returns-in_err-mark_all-clause-ok
+returns-in_err-mark_all-clause-ok g c = if_err c.from_residual-in_err-mark_all.result _ c.from_residual-in_err-mark_all.ensures.0
+
+pub returns-in_err-mark_all-clause-update : goal.returns-in_err-mark_all-clause-update
+returns-in_err-mark_all-clause-update g c = if_err c.from_residual-in_err-mark_all.result _ c.from_residual-in_err-mark_all.ensures.0
+
+pub returns-in_err-mark_all-2-clause-ok : goal.returns-in_err-mark_all-2-clause-ok
+returns-in_err-mark_all-2-clause-ok g c = if_err c.from_residual-in_err-mark_all-2.result _ c.from_residual-in_err-mark_all-2.ensures.0
+
+pub returns-in_err-mark_all-2-clause-update : goal.returns-in_err-mark_all-2-clause-update
+returns-in_err-mark_all-2-clause-update g c = if_err c.from_residual-in_err-mark_all-2.result _ c.from_residual-in_err-mark_all-2.ensures.0
+
+pub returns-in_err-make_edits-clause-ends : goal.returns-in_err-make_edits-clause-ends
+returns-in_err-make_edits-clause-ends g c = let p = err_from_is_err_and c.from_residual.result c.from_residual.ensures.1 in halts_on _ _ c.make_edits.result c.from_residual.result _ p.0 c.in_err-make_edits.was p.1 c.make_edits.ensures.ends
+
+pub returns-in_err-edit_inode-clause-ends : goal.returns-in_err-edit_inode-clause-ends
+returns-in_err-edit_inode-clause-ends g c = let p = err_from_is_err_and c.from_residual-in_err-edit_inode.result c.from_residual-in_err-edit_inode.ensures.1 in halts_later _ _ _ _ c.make_edits.ensures.ends.later c.in_ok-make_edits.ensures.ends.cause (halts_on _ _ c.edit_inode.result c.from_residual-in_err-edit_inode.result _ p.0 c.in_err-edit_inode.was p.1 c.edit_inode.ensures.ends)
+
+pub returns-in_err-mark_all-clause-ends : goal.returns-in_err-mark_all-clause-ends
+returns-in_err-mark_all-clause-ends g c = let p = err_from_is_err_and c.from_residual-in_err-mark_all.result c.from_residual-in_err-mark_all.ensures.1 in halts_later _ _ _ _ c.make_edits.ensures.ends.later c.in_ok-make_edits.ensures.ends.cause (halts_later _ _ _ _ c.edit_inode.ensures.ends.later c.in_ok-edit_inode.ensures.ends.cause (halts_on _ _ c.mark_all.result c.from_residual-in_err-mark_all.result _ p.0 c.in_err-mark_all.was p.1 c.mark_all.ensures.ends))
+
+pub returns-in_err-mark_all-2-clause-ends : goal.returns-in_err-mark_all-2-clause-ends
+returns-in_err-mark_all-2-clause-ends g c = let p = err_from_is_err_and c.from_residual-in_err-mark_all-2.result c.from_residual-in_err-mark_all-2.ensures.1 in halts_later _ _ _ _ c.make_edits.ensures.ends.later c.in_ok-make_edits.ensures.ends.cause (halts_later _ _ _ _ c.edit_inode.ensures.ends.later c.in_ok-edit_inode.ensures.ends.cause (halts_later _ _ _ _ c.mark_all.ensures.ends.later c.in_ok-mark_all.ensures.ends.cause (halts_on _ _ c.mark_all-2.result c.from_residual-in_err-mark_all-2.result _ p.0 c.in_err-mark_all-2.was p.1 c.mark_all-2.ensures.ends)))
+
+pub returns-clause-ends : goal.returns-clause-ends
+returns-clause-ends g c = halts_ok _ _ _ (le_trans c.make_edits.ensures.ends.later (le_trans c.edit_inode.ensures.ends.later (le_trans c.mark_all.ensures.ends.later c.mark_all-2.ensures.ends.later))) (c.in_ok-mark_all-2.ensures.ends.cause ∙ c.in_ok-mark_all.ensures.ends.cause ∙ c.in_ok-edit_inode.ensures.ends.cause ∙ c.in_ok-make_edits.ensures.ends.cause)
+
+pub returns-clause-update : goal.returns-clause-update
+returns-clause-update g c = update_trans _ _ _ (update_trans _ _ _ (update_trans _ _ _ c.in_ok-make_edits.ensures.update c.in_ok-edit_inode.ensures.update) c.in_ok-mark_all.ensures.update) c.in_ok-mark_all-2.ensures.update
+
+pub returns-in_err-make_edits-clause-shape : goal.returns-in_err-make_edits-clause-shape
+returns-in_err-make_edits-clause-shape g c = shape_dropped _ _ _ c.requires.shape c.make_edits.ensures.count c.make_edits.ensures.drops
+
+pub edit_inode-requires-clause-shape : goal.edit_inode-requires-clause-shape
+edit_inode-requires-clause-shape g c = shape_dropped _ _ _ c.requires.shape c.make_edits.ensures.count c.make_edits.ensures.drops
+
+pub edit_inode-requires-clause-ino : goal.edit_inode-requires-clause-ino
+edit_inode-requires-clause-ino g c = c.requires.ino
+
+pub edit_inode-requires-clause-touched : goal.edit_inode-requires-clause-touched
+edit_inode-requires-clause-touched g c = ap (λ (f : ℕ → Bool). f (inode_block c.args.i.0)) c.in_ok-make_edits.ensures.update.touched ∙ c.requires.touched.inode
+
+pub make_edits-requires-clause-touched : goal.make_edits-requires-clause-touched
+make_edits-requires-clause-touched g c = c.requires.touched.edited
+
+pub make_edits-requires-clause-words : goal.make_edits-requires-clause-words
+make_edits-requires-clause-words g c = c.requires.can.words
+
+pub mark_all-requires-clause-blocks : goal.mark_all-requires-clause-blocks
+mark_all-requires-clause-blocks g c = c.requires.can.taken
+
+pub mark_all-requires-2-clause-blocks : goal.mark_all-requires-2-clause-blocks
+mark_all-requires-2-clause-blocks g c = c.requires.can.freed
+
+pub mark_all-requires-clause-touched : goal.mark_all-requires-clause-touched
+mark_all-requires-clause-touched g c = ap (λ (f : ℕ → Bool). f 1) (c.in_ok-edit_inode.ensures.update.touched ∙ c.in_ok-make_edits.ensures.update.touched) ∙ c.requires.touched.bitmap
+
+pub mark_all-requires-2-clause-touched : goal.mark_all-requires-2-clause-touched
+mark_all-requires-2-clause-touched g c = ap (λ (f : ℕ → Bool). f 1) (c.in_ok-mark_all.ensures.update.touched ∙ c.in_ok-edit_inode.ensures.update.touched ∙ c.in_ok-make_edits.ensures.update.touched) ∙ c.requires.touched.bitmap

@@ -1,8 +1,10 @@
-use Rattle.file_pages.proofs.Common.{sym, subst, Contains, arith, caches_by_one, firm_trans, inl, inr, refl, ◌then◌, ◌∙◌}
+use Rattle.file_pages.proofs.Updated.{unnamed_on}
+use Rattle.file_pages.proofs.EndsOn.{ends_vol, if_err}
+use Rattle.file_pages.proofs.Common.{sym, subst, Contains, arith, caches_by_one, firm_trans, inl, inr, refl, ◌then◌, ◌∙◌, CanName, None, err_from_is_err_and, inode_low}
 use Rattle.file_pages.proofs.Touched.{change_touched, touches_most}
 use Rattle.file_pages.specs.Updating.{InOneBlock, IsEdited}
 use Rattle.rio_base.proofs.BlockSets.{caches_by_trans, caches_by_wider}
-use Rattle.rio_base.proofs.BlockRules.{ends_later, still_unnamed}
+use Rattle.rio_base.proofs.BlockRules.{ends_later, still_unnamed, metadata}
 use Rattle.rio_base.proofs.Rules.{looks_trans}
 use Rattle.file_pages.proofs.updating.touch_change.Goals as goal
 
@@ -131,3 +133,30 @@ touch_table-requires-clause-room g c = omega (arith, touches_most _ _ _ c.in_ok-
 
 pub returns-clause-ok : goal.returns-clause-ok
 returns-clause-ok g c = change_touched _ _ _ c.args.i.0 _ c.args.change.now _ c.inode_block.ensures c.as_slice.ensures c.in_ok-touch_bitmap.ensures.ok c.in_ok-touch.ensures.ok c.in_ok-touch_table.ensures.more c.in_ok-touch_table.ensures.ok
+
+pub returns-in_err-touch_bitmap-clause-ends : goal.returns-in_err-touch_bitmap-clause-ends
+returns-in_err-touch_bitmap-clause-ends g c = let p = err_from_is_err_and c.from_residual.result c.from_residual.ensures.1 in ends_vol _ _ c.touch_bitmap.result c.from_residual.result _ p.0 c.in_err-touch_bitmap.was p.1 p.2 c.touch_bitmap.ensures.ends
+
+pub returns-in_err-touch_bitmap-clause-ok : goal.returns-in_err-touch_bitmap-clause-ok
+returns-in_err-touch_bitmap-clause-ok g c = if_err c.from_residual.result _ c.from_residual.ensures.0
+
+pub returns-in_err-touch-clause-ends : goal.returns-in_err-touch-clause-ends
+returns-in_err-touch-clause-ends g c = let p = err_from_is_err_and c.from_residual-in_err-touch.result c.from_residual-in_err-touch.ensures.1 in ends_later _ _ _ _ c.touch_bitmap.ensures.ends.later c.in_ok-touch_bitmap.ensures.ends.cause (ends_vol _ _ c.touch.result c.from_residual-in_err-touch.result _ p.0 c.in_err-touch.was p.1 p.2 c.touch.ensures.ends)
+
+pub returns-in_err-touch-clause-ok : goal.returns-in_err-touch-clause-ok
+returns-in_err-touch-clause-ok g c = if_err c.from_residual-in_err-touch.result _ c.from_residual-in_err-touch.ensures.0
+
+pub returns-in_err-touch_table-clause-ends : goal.returns-in_err-touch_table-clause-ends
+returns-in_err-touch_table-clause-ends g c = let p = err_from_is_err_and c.from_residual-in_err-touch_table.result c.from_residual-in_err-touch_table.ensures.1 in ends_later _ _ _ _ c.touch_bitmap.ensures.ends.later c.in_ok-touch_bitmap.ensures.ends.cause (ends_later _ _ _ _ c.touch.ensures.ends.later c.in_ok-touch.ensures.ends.cause (ends_vol _ _ c.touch_table.result c.from_residual-in_err-touch_table.result _ p.0 c.in_err-touch_table.was p.1 p.2 c.touch_table.ensures.ends))
+
+pub returns-in_err-touch_table-clause-ok : goal.returns-in_err-touch_table-clause-ok
+returns-in_err-touch_table-clause-ok g c = if_err c.from_residual-in_err-touch_table.result _ c.from_residual-in_err-touch_table.ensures.0
+
+pub touch_bitmap-requires-clause-shape : goal.touch_bitmap-requires-clause-shape
+touch_bitmap-requires-clause-shape g c = c.requires.shape
+
+pub touch-requires-clause-metadata : goal.touch-requires-clause-metadata
+touch-requires-clause-metadata g c = subst (λ b. CanName (g.V.Blocks.seen c.touch_bitmap.new.v) b None) (sym c.inode_block.ensures) (metadata c.args.shape.now _ _ (still_unnamed _ _ _ _ c.requires.shape c.touch_bitmap.ensures.looks.count c.touch_bitmap.ensures.caches) (inode_low c.args.shape.now c.args.i.0 c.requires.shape.sizes c.requires.ino))
+
+pub touch_table-requires-clause-unnamed : goal.touch_table-requires-clause-unnamed
+touch_table-requires-clause-unnamed g c = λ e on cached. unnamed_on _ _ _ _ c.touch.ensures.caches (unnamed_on _ _ _ _ c.touch_bitmap.ensures.caches (c.requires.can.unnamed e (subst (λ es. Contains es e) c.as_slice.ensures on))) cached

@@ -1,4 +1,7 @@
-use Rattle.file_pages.proofs.Common.{sym, ◌∙◌}
+use Rattle.rio_base.proofs.Rules.{looks_refl}
+use Rattle.rio_base.proofs.BlockSets.{caches_by_refl}
+use Rattle.file_pages.proofs.EndsOn.{ends_vol, if_err, vol_still}
+use Rattle.file_pages.proofs.Common.{sym, ◌∙◌, refl, err_from_is_err_and}
 use Rattle.file_pages.proofs.Updated.{first_place, first_touched, some_length}
 use Rattle.file_pages.proofs.updating.touch_table.Goals as goal
 
@@ -58,3 +61,24 @@ touch-requires-clause-sound g c = c.requires.sound
 
 pub touch-requires-clause-in_update : goal.touch-requires-clause-in_update
 touch-requires-clause-in_update g c = c.requires.in_update
+
+pub returns-then-is_empty-clause-caches : goal.returns-then-is_empty-clause-caches
+returns-then-is_empty-clause-caches g c = caches_by_refl _ _
+
+pub returns-then-is_empty-clause-looks : goal.returns-then-is_empty-clause-looks
+returns-then-is_empty-clause-looks g c = looks_refl _
+
+pub returns-then-is_empty-clause-ends : goal.returns-then-is_empty-clause-ends
+returns-then-is_empty-clause-ends g c = vol_still _ _
+
+pub returns-then-is_empty-clause-standing : goal.returns-then-is_empty-clause-standing
+returns-then-is_empty-clause-standing g c = refl
+
+pub returns-in_err-touch-clause-ends : goal.returns-in_err-touch-clause-ends
+returns-in_err-touch-clause-ends g c = let p = err_from_is_err_and c.from_residual.result c.from_residual.ensures.1 in ends_vol _ _ c.touch.result c.from_residual.result _ p.0 c.in_err-touch.was p.1 p.2 c.touch.ensures.ends
+
+pub returns-in_err-touch-clause-ok : goal.returns-in_err-touch-clause-ok
+returns-in_err-touch-clause-ok g c = if_err c.from_residual.result _ c.from_residual.ensures.0
+
+pub returns-in_err-touch-clause-more : goal.returns-in_err-touch-clause-more
+returns-in_err-touch-clause-more g c = if_err c.from_residual.result _ c.from_residual.ensures.0
