@@ -1,5 +1,5 @@
 -- The exits of a growth.
-use Rattle.file_pages.proofs.Common.{◌≡◌, ℕ, ◌≤◌, length, refl, sym, ap, subst, ◌∙◌, inl, Result, Err, VolFail, VolumeShape, free_blocks, BlockWords, Seen, IsIno, Kept, Settled, Inode, IsInode, ResizePart, held, held_bytes, SetsFile, Agrees, AgreesBeside, placed_at, volume_layout, stands_agree, LeavesInUse, Ready, IsMapped, beside_agrees, beside_trans, largest_size}
+use Rattle.file_pages.proofs.Common.{◌≡◌, ℕ, ◌≤◌, arith, length, refl, sym, ap, subst, ◌∙◌, inl, Result, Err, VolFail, VolumeShape, free_blocks, BlockWords, Seen, IsIno, Kept, Settled, Inode, IsInode, ResizePart, held, held_bytes, SetsFile, Agrees, AgreesBeside, placed_at, volume_layout, stands_agree, LeavesInUse, Ready, IsMapped, beside_agrees, beside_trans, largest_size}
 use Rattle.std.specs.Prelude.{List}
 use Rattle.rio_base.specs.declared.failures.VolFail.TheVariants.{Fault as VolFault, Stopped as VolStopped}
 use Rattle.rio_model.proofs.WordRules.{file_beside}
@@ -30,6 +30,13 @@ stored_stops shape f z l i bytes part ready settled both is = record { bytes = b
 cleared_as : (T : Type 0) (shape : VolumeShape) (x : Seen) (k : Kept) (z : Seen) (l : Kept) (i len : ℕ) (e : VolFail) → Ready shape z l → Settled z l → SetsBoth shape x.words z l i (file_bytes shape x.words i) → SizeLeaves {T = T} shape x k z l i len (Err (size_handed e))
 cleared_as T shape x k z l i len VolFault ready settled both = (both, ready)
 cleared_as T shape x k z l i len VolStopped ready settled both = stored_stops shape x.words z l i (file_bytes shape x.words i) (ResizePart (file_bytes shape x.words i) len) ready settled both (inl refl)
+
+-- what is prepared leaves a file its kind and its size
+pub file_left : (shape : VolumeShape) (x : Seen) (k : Kept) (y : Seen) (j : Kept) (i : ℕ) (given : Inode) → IsIno shape i → Ready shape x k → IsInode x.words i given → given.kind ≡ 2 → LeavesInUse (volume_layout shape x.words) x k y j → ((placed_at y.words i).kind ≡ 2) × ((placed_at y.words i).size ≡ given.size)
+file_left shape x k y j i given ino h own kind leaves =
+    let same = (layout_left shape x k y j h leaves).each i ino in
+    let is : (placed_at x.words i).kind ≡ 2 = sym own.kind ∙ kind in
+    (same.kind ∙ is, same.size (omega (arith, is)) ∙ sym own.size)
 
 -- the tail was cleared, or a part of it
 pub cleared_both : (shape : VolumeShape) (x : Seen) (k : Kept) (y : Seen) (j : Kept) (z : Seen) (l : Kept) (i : ℕ) (given : Inode) → IsIno shape i → Ready shape x k → Settled z l → IsInode x.words i given → given.kind ≡ 2 → LeavesInUse (volume_layout shape x.words) x k y j → StoresPages shape y j z l i → held_bytes (held z.words (placed_at y.words i)) ≡ held_bytes (held y.words (placed_at y.words i)) → SetsBoth shape x.words z l i (file_bytes shape x.words i)

@@ -1,5 +1,5 @@
 -- The last steps of a planned growth.
-use Rattle.file_pages.proofs.Common.{◌≡◌, ◌≢◌, ℕ, zero, suc, ◌+◌, ◌-◌, ◌*◌, ◌<◌, ◌≤◌, ◌==◌, ◌||◌, ◌⊎◌, min, true, false, cond, List, [], ◌∷◌, length, map, refl, sym, ap, subst, ◌∙◌, arith, inl, inr, nat_le, slice_index, Option, None, Some, AllByRecursion, Contains, cases_eq, nat_tests, PageName, VolumeShape, Block, Health, Seen, Below, Kept, Passes, numbers, IsNew, most_tables, one_table, same_old, sourced, Takes, grown, Slot, AtPage, AtTable, Placed, HasSlot, Layout, volume_layout, Owned, IsFree, largest_size, pages, tables, WordEdit, run_edits, Bears, LeavesInUse, Ready}
+use Rattle.file_pages.proofs.Common.{BlockWords, ◌≡◌, ◌≢◌, ℕ, zero, suc, ◌+◌, ◌-◌, ◌*◌, ◌<◌, ◌≤◌, ◌==◌, ◌||◌, ◌⊎◌, min, true, false, cond, List, [], ◌∷◌, length, map, refl, sym, ap, subst, ◌∙◌, arith, inl, inr, nat_le, slice_index, Option, None, Some, AllByRecursion, Contains, cases_eq, nat_tests, PageName, VolumeShape, Block, Health, Seen, Below, Kept, Passes, numbers, IsNew, most_tables, one_table, same_old, sourced, Takes, grown, Slot, AtPage, AtTable, Placed, HasSlot, Layout, volume_layout, Owned, IsFree, largest_size, pages, tables, WordEdit, run_edits, Bears, LeavesInUse, Ready}
 use Rattle.rio_model.proofs.GrowthRules.{no_table}
 use Rattle.rio_model.proofs.PlacedRules.{cases_lt}
 use Rattle.file_pages.specs.Changes.{EditsTable, Staged, wanted_blocks, word_edit}
@@ -128,3 +128,9 @@ staged_leaves shape s t o n bs cs x z y k l j ready looks passes same free besid
       where
         by_place : ((p : ℕ) × (p < length (numbers cs)) × (slice_index (numbers cs) p ≡ b)) → IsFree (volume_layout shape x.words) b
         by_place (p, few, e) = subst (IsFree (volume_layout shape x.words)) e (free p (subst (λ (m : ℕ). p < m) (as_many cs) few))
+
+-- blocks that are free lie in the volume
+pub free_place : (shape : VolumeShape) (f : BlockWords) (count : ℕ) (bs cs : List Block) (t : ℕ) → bs ≡ cs → ((t : ℕ) → t < length cs → IsFree (volume_layout shape f) (slice_index (numbers cs) t)) → count ≡ shape.blocks → t < length bs → slice_index (numbers bs) t < count
+free_place shape f count bs cs t same free is few =
+    let to = (free t (subst (λ xs. t < length xs) same few)).to in
+    subst (λ n. slice_index (numbers bs) t < n) (sym is) (subst (λ xs. slice_index (numbers xs) t < shape.blocks) (sym same) to)

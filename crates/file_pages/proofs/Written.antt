@@ -1,12 +1,15 @@
 -- What a write leaves, clause by clause.
-use Rattle.file_pages.proofs.Common.{◌≡◌, ◌==◌, ℕ, true, ◌⊎◌, List, [], ◌∷◌, length, refl, sym, ap, subst, ◌∙◌, arith, inl, inr, Result, Ok, Err, IsErrOf, nat_tests, VolFail, VolumeShape, EndsBy, Health, Seen, IsIno, ends_by_as, Kept, Settled, written, held_of, volume_layout, LeavesInUse, Ready}
+use Rattle.file_pages.proofs.Common.{◌≤◌, ◌≡◌, ◌==◌, ℕ, true, ◌⊎◌, List, [], ◌∷◌, length, refl, sym, ap, subst, ◌∙◌, arith, inl, inr, Result, Ok, Err, IsErrOf, nat_tests, VolFail, VolumeShape, EndsBy, Health, Seen, IsIno, ends_by_as, Kept, Settled, written, held_of, volume_layout, LeavesInUse, Ready}
 use Rattle.rio_base.specs.declared.failures.ReadFail.{ReadFail}
 use Rattle.rio_base.specs.declared.failures.ReadFail.TheVariants.{Fault as ReadFault, Stopped as ReadStopped, Memory as ReadMemory}
 use Rattle.rio_base.specs.declared.failures.VolFail.TheVariants.{Fault as VolFault, Stopped as VolStopped}
 use Rattle.rio_base.specs.Blocks.{Ends}
 use Rattle.rio_base.proofs.Rules.{ends_by, ends_by_well}
 use Rattle.rio_model.proofs.WordRules.{beside_refl}
-use Rattle.file_pages.specs.Failures.{write_handed, write_of_bytes, write_of_read}
+use Rattle.file_pages.specs.Failures.{write_handed, write_of_bytes, write_of_read, write_of_size}
+use Rattle.file_pages.specs.declared.failures.SizeFail.{SizeFail}
+use Rattle.file_pages.specs.declared.failures.SizeFail.TheVariants.{NoSpace as SizeNoSpace, TooLarge as SizeTooLarge, Fault as SizeFault, Stopped as SizeStopped, Memory as SizeMemory}
+use Rattle.file_pages.proofs.Ends.{EndsRead, EndsSize}
 use Rattle.file_pages.specs.Files.{FaultsAfter, SetsBoth, StopsAs, file_bytes}
 use Rattle.file_pages.proofs.OrderRules.{leaves_trans, ready_left}
 use Rattle.file_pages.specs.Writing.{WriteLeaves, WriteStops}
@@ -119,6 +122,43 @@ vol_as {T = T} {U = U} s t VolStopped h = ends_by_as s t _ _ _ _ (λ a. absurd (
 pub ends_write_vol : {T U : Type 0} (s t : Health) (r : Result T VolFail) (q : Result U WriteFail) (e : VolFail) (d : WriteFail) → r ≡ Err e → q ≡ Err d → d ≡ write_handed e → Ends s t r → EndsWrite s t q
 ends_write_vol {T = T} {U = U} s t r q e d re qd de h = subst (λ (v : Result U WriteFail). EndsWrite s t v) (sym (qd ∙ ap Err de)) (vol_as s t e (subst (λ (v : Result T VolFail). Ends s t v) re h))
 
+-- a failure of a change of size
+no_kind : {T : Type 0} (d : WriteFail) (k : ℕ) → (d ≡ Fault k → ⊥) → IsErrOf {T = T} (Err d) (Fault k) → ⊥
+no_kind d k out is = out cc
+
+size_as : {T U : Type 0} (s t : Health) (e : SizeFail) → EndsSize {T = T} s t (Err e) → EndsWrite {T = U} s t (Err (write_of_size e))
+size_as {T = T} {U = U} s t SizeNoSpace h = ends_by_as s t _ _ _ _ (λ a. absurd (no_kind {T = U} NoSpace a.0 (λ is. cc) a.1)) (λ a. cc) (λ a. cc) h
+size_as {T = T} {U = U} s t SizeTooLarge h = ends_by_as s t _ _ _ _ (λ a. absurd (no_kind {T = U} TooLarge a.0 (λ is. cc) a.1)) (λ a. cc) (λ a. cc) h
+size_as s t SizeFault h = ends_by_as s t _ _ _ _ (λ a. refl) (λ a. cc) (λ a. cc) h
+size_as {T = T} {U = U} s t SizeStopped h = ends_by_as s t _ _ _ _ (λ a. absurd (not_fault {T = U} a.0 a.1)) (λ a. refl) (λ a. refl) h
+size_as {T = T} {U = U} s t SizeMemory h = ends_by_as s t _ _ _ _ (λ a. absurd (no_kind {T = U} Memory a.0 (λ is. cc) a.1)) (λ a. cc) (λ a. cc) h
+
+pub ends_write_size : {T U : Type 0} (s t : Health) (r : Result T SizeFail) (q : Result U WriteFail) (e : SizeFail) (d : WriteFail) → r ≡ Err e → q ≡ Err d → d ≡ write_of_size e → EndsSize s t r → EndsWrite s t q
+ends_write_size {T = T} {U = U} s t r q e d re qd de h = subst (λ (v : Result U WriteFail). EndsWrite s t v) (sym (qd ∙ ap Err de)) (size_as s t e (subst (λ (v : Result T SizeFail). EndsSize s t v) re h))
+
+-- it was refused as that was
+size_space : {T U : Type 0} (e : SizeFail) → IsErrOf {T = U} (Err (write_of_size e)) NoSpace → IsErrOf {T = T} (Err e) SizeNoSpace
+size_space SizeNoSpace is = refl
+size_space SizeTooLarge is = cc
+size_space SizeFault is = cc
+size_space SizeStopped is = cc
+size_space SizeMemory is = cc
+
+size_large : {T U : Type 0} (e : SizeFail) → IsErrOf {T = U} (Err (write_of_size e)) TooLarge → IsErrOf {T = T} (Err e) SizeTooLarge
+size_large SizeNoSpace is = cc
+size_large SizeTooLarge is = refl
+size_large SizeFault is = cc
+size_large SizeStopped is = cc
+size_large SizeMemory is = cc
+
+pub refused_size : {T U : Type 0} (r : Result T SizeFail) (q : Result U WriteFail) (e : SizeFail) (d : WriteFail) → r ≡ Err e → q ≡ Err d → d ≡ write_of_size e → (IsErrOf q NoSpace → IsErrOf r SizeNoSpace) × (IsErrOf q TooLarge → IsErrOf r SizeTooLarge)
+refused_size {T = T} {U = U} r q e d re qd de = ((λ is. re ∙ size_space {T = T} {U = U} e (sym (qd ∙ ap Err de) ∙ is)), (λ is. re ∙ size_large {T = T} {U = U} e (sym (qd ∙ ap Err de) ∙ is)))
+
+-- a failure while bytes were stored is no refusal
+pub bytes_unrefused : {T : Type 0} (q : Result T WriteFail) (e : BytesFail) (d : WriteFail) → q ≡ Err d → d ≡ write_of_bytes e → (IsErrOf q NoSpace → ⊥) × (IsErrOf q TooLarge → ⊥)
+bytes_unrefused q (BytesFault done) d qd de = ((λ is. cc), (λ is. cc))
+bytes_unrefused q BytesStopped d qd de = ((λ is. cc), (λ is. cc))
+
 -- a failure of the volume below is no refusal
 pub vol_unrefused : {T : Type 0} (q : Result T WriteFail) (e : VolFail) (d : WriteFail) → q ≡ Err d → d ≡ write_handed e → (IsErrOf q NoSpace → ⊥) × (IsErrOf q TooLarge → ⊥)
 vol_unrefused q VolFault d qd de = ((λ is. cc), (λ is. cc))
@@ -145,6 +185,46 @@ no_fault u k is = cc
 
 pub ends_write_ok : {T U : Type 0} (s t : Health) (r : Result T WriteFail) (v : T) (u : U) → r ≡ Ok v → EndsWrite s t r → EndsWrite s t (Ok u)
 ends_write_ok {T = T} s t r v u rv h = let g = subst (λ (w : Result T WriteFail). EndsWrite s t w) rv h in ends_by_well s t _ _ g.later (g.runs (λ a. cc)) (λ a. no_fault u a.0 a.1) (λ a. cc)
+
+-- bytes that were stored, and a failure after them
+pub bytes_ok : {T : Type 0} (s t : Health) (v : T) → s.faults ≤ t.faults → t.stopped ≡ s.stopped → EndsBytes s t (Ok v)
+bytes_ok {T = T} s t v later same = ends_by_well s t _ _ later same (λ a. out a.0 a.1) (λ a. cc)
+  where
+    out : (k : ℕ) → IsErrOf {T = T} (Ok v) (BytesFault k) → ⊥
+    out k is = cc
+
+pub bytes_runs : {T : Type 0} (s t : Health) (v : T) → EndsBytes s t (Ok v) → t.stopped ≡ s.stopped
+bytes_runs s t v h = h.runs (λ a. cc)
+
+pub bytes_fault : {T U : Type 0} (s t : Health) (e : BytesFail) (k n : ℕ) → e ≡ BytesFault k → EndsBytes {T = T} s t (Err e) → EndsBytes {T = U} s t (Err (BytesFault n))
+bytes_fault s t e k n is h = ends_by_as s t _ _ _ _ (λ a. (k, ap Err is)) (λ a. cc) (λ a. cc) h
+
+pub bytes_stop : {T U : Type 0} (s t : Health) (e : BytesFail) → e ≡ BytesStopped → EndsBytes {T = T} s t (Err e) → EndsBytes {T = U} s t (Err BytesStopped)
+bytes_stop {T = T} {U = U} s t e is h = ends_by_as s t _ _ _ _ (λ a. absurd (out a.0 a.1)) (λ a. ap Err is) (λ a. refl) h
+  where
+    out : (k : ℕ) → IsErrOf {T = U} (Err BytesStopped) (BytesFault k) → ⊥
+    out k on = cc
+
+-- blocks that were looked up
+read_as : {T U : Type 0} (s t : Health) (e : ReadFail) → EndsRead {T = T} s t (Err e) → EndsWrite {T = U} s t (Err (write_of_read e))
+read_as s t ReadFault h = ends_by_as s t _ _ _ _ (λ a. refl) (λ a. cc) (λ a. cc) h
+read_as {T = T} {U = U} s t ReadStopped h = ends_by_as s t _ _ _ _ (λ a. absurd (not_fault {T = U} a.0 a.1)) (λ a. refl) (λ a. refl) h
+read_as {T = T} {U = U} s t ReadMemory h = ends_by_as s t _ _ _ _ (λ a. absurd (no_kind {T = U} Memory a.0 (λ is. cc) a.1)) (λ a. cc) (λ a. cc) h
+
+pub ends_write_read : {T U : Type 0} (s t : Health) (r : Result T ReadFail) (q : Result U WriteFail) (e : ReadFail) (d : WriteFail) → r ≡ Err e → q ≡ Err d → d ≡ write_of_read e → EndsRead s t r → EndsWrite s t q
+ends_write_read {T = T} {U = U} s t r q e d re qd de h = subst (λ (v : Result U WriteFail). EndsWrite s t v) (sym (qd ∙ ap Err de)) (read_as s t e (subst (λ (v : Result T ReadFail). EndsRead s t v) re h))
+
+pub read_unrefused : {T : Type 0} (q : Result T WriteFail) (e : ReadFail) (d : WriteFail) → q ≡ Err d → d ≡ write_of_read e → (IsErrOf q NoSpace → ⊥) × (IsErrOf q TooLarge → ⊥)
+read_unrefused q ReadFault d qd de = ((λ is. cc), (λ is. cc))
+read_unrefused q ReadStopped d qd de = ((λ is. cc), (λ is. cc))
+read_unrefused q ReadMemory d qd de = ((λ is. cc), (λ is. cc))
+
+-- bytes that were stored
+pub write_unrefused : {T : Type 0} (v : T) → (IsErrOf {E = WriteFail} (Ok v) NoSpace → ⊥) × (IsErrOf {E = WriteFail} (Ok v) TooLarge → ⊥)
+write_unrefused v = ((λ is. cc), (λ is. cc))
+
+pub ends_write_done : {T U : Type 0} (s t : Health) (v : T) (u : U) → EndsBytes s t (Ok v) → EndsWrite s t (Ok u)
+ends_write_done s t v u h = ends_by_well s t _ _ h.later (h.runs (λ a. cc)) (λ a. no_fault u a.0 a.1) (λ a. cc)
 
 -- ---- of no bytes, and of a failure handed on
 

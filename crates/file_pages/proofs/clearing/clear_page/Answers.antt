@@ -1,4 +1,6 @@
-use Rattle.file_pages.proofs.Common.{◌/◌, ◌∙◌, refl, sym, ap, subst, arith, ◌then◌}
+use Rattle.rio_base.proofs.BlockRules.{ends_later}
+use Rattle.file_pages.proofs.EndsOn.{ends_vol, if_err, run_told}
+use Rattle.file_pages.proofs.Common.{◌/◌, ◌∙◌, refl, sym, ap, subst, arith, ◌then◌, err_from_is_err_and}
 use Rattle.file_pages.proofs.Stored.{names_grown, stores_page, stores_run, stored_read}
 use Rattle.file_pages.specs.Storing.{KeepsFront}
 use Rattle.file_pages.proofs.Tails.{clears_run, run_front, run_whole, run_zeros}
@@ -98,3 +100,21 @@ returns-in_err-word-clause-front g c = record { others = λ b w away. ap (λ f. 
 
 pub store_run-requires-clause-idle : goal.store_run-requires-clause-idle
 store_run-requires-clause-idle g c = (g.met.V.Volume.passes_keeps _ _ c.word.ensures.passes).updating ∙ c.requires.ready.idle
+
+pub returns-in_err-word-clause-cleared : goal.returns-in_err-word-clause-cleared
+returns-in_err-word-clause-cleared g c = if_err c.from_residual.result _ c.from_residual.ensures.0
+
+pub returns-in_err-word-clause-named : goal.returns-in_err-word-clause-named
+returns-in_err-word-clause-named g c = if_err c.from_residual.result _ c.from_residual.ensures.0
+
+pub returns-in_err-word-clause-ends : goal.returns-in_err-word-clause-ends
+returns-in_err-word-clause-ends g c = let p = err_from_is_err_and c.from_residual.result c.from_residual.ensures.1 in ends_vol _ _ c.word.result c.from_residual.result _ p.0 c.in_err-word.was p.1 p.2 c.word.ensures.ends
+
+pub returns-in-Ok-clause-ends : goal.returns-in-Ok-clause-ends
+returns-in-Ok-clause-ends g c = ends_later _ _ _ _ c.word.ensures.ends.later c.in_ok-word.ensures.ends.cause c.in-Ok.ensures.ends
+
+pub returns-in-Err-Fault-clause-ends : goal.returns-in-Err-Fault-clause-ends
+returns-in-Err-Fault-clause-ends g c = ends_later _ _ _ _ c.word.ensures.ends.later c.in_ok-word.ensures.ends.cause (run_told _ _ _ _ c.in-Err-Fault.field-0-is c.in-Err-Fault.ensures.ends)
+
+pub returns-in-Err-Stopped-clause-ends : goal.returns-in-Err-Stopped-clause-ends
+returns-in-Err-Stopped-clause-ends g c = ends_later _ _ _ _ c.word.ensures.ends.later c.in_ok-word.ensures.ends.cause (run_told _ _ _ _ c.in-Err-Stopped.field-0-is c.in-Err-Stopped.ensures.ends)

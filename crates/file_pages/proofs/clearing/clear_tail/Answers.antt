@@ -1,4 +1,7 @@
-use Rattle.file_pages.proofs.Common.{◌≡◌, ◌/◌, ◌%◌, true, subst, arith, ◌then◌, placed_at, volume_layout, NamedNode}
+use Rattle.rio_base.proofs.BlockRules.{ends_later}
+use Rattle.file_pages.proofs.LookingUpRules.{can_look_up}
+use Rattle.file_pages.proofs.EndsOn.{ends_vol, if_err}
+use Rattle.file_pages.proofs.Common.{◌≡◌, ◌/◌, ◌%◌, true, subst, arith, ◌then◌, placed_at, volume_layout, NamedNode, BlockWords, ap, err_from_is_err_and, held, held_bytes, refl}
 use Rattle.file_pages.specs.Storing.{KeepsFront, NamedAs, TailCleared, ZerosFrom}
 use Rattle.file_pages.proofs.OrderRules.{leaves_looked, ready_left}
 use Rattle.file_pages.proofs.Stored.{bytes_front, last_page, on_both, stores_after, stores_looked}
@@ -51,3 +54,27 @@ block_of-requires-clause-ino g c = c.requires.ino
 
 pub clear_page-requires-clause-sound : goal.clear_page-requires-clause-sound
 clear_page-requires-clause-sound g c = c.block_of.ensures.sound
+
+pub block_of-requires-clause-can : goal.block_of-requires-clause-can
+block_of-requires-clause-can g c = can_look_up c.args.shape.now _ c.requires.ready.order.has_shape c.requires.ready.order.mapped c.requires.ready.order.named
+
+pub returns-clause-ends : goal.returns-clause-ends
+returns-clause-ends g c = ends_later _ _ _ _ c.block_of.ensures.ends.later c.in_ok-b.ensures.ends.cause c.clear_page.ensures.ends
+
+pub returns-in_err-b-clause-ends : goal.returns-in_err-b-clause-ends
+returns-in_err-b-clause-ends g c = let p = err_from_is_err_and c.from_residual.result c.from_residual.ensures.1 in ends_vol _ _ c.block_of.result c.from_residual.result _ p.0 c.in_err-b.was p.1 p.2 c.block_of.ensures.ends
+
+pub returns-in_err-b-clause-cleared : goal.returns-in_err-b-clause-cleared
+returns-in_err-b-clause-cleared g c = if_err c.from_residual.result _ c.from_residual.ensures.0
+
+pub returns-in_err-b-clause-bytes : goal.returns-in_err-b-clause-bytes
+returns-in_err-b-clause-bytes g c = ap (λ (f : BlockWords). held_bytes (held f (placed_at (g.V.Blocks.seen c.args.v.now).words c.args.i.0))) c.block_of.ensures.looks.looks.words
+
+pub returns-then-at-eq0-clause-bytes : goal.returns-then-at-eq0-clause-bytes
+returns-then-at-eq0-clause-bytes g c = refl
+
+pub returns-then-at-eq0-clause-sound : goal.returns-then-at-eq0-clause-sound
+returns-then-at-eq0-clause-sound g c = c.requires.sound
+
+pub clear_page-requires-clause-place : goal.clear_page-requires-clause-place
+clear_page-requires-clause-place g c = omega arith

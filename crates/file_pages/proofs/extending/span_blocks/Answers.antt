@@ -1,5 +1,5 @@
-use Rattle.rio_base.proofs.Rules.{ends_by_well}
-use Rattle.file_pages.proofs.Ends.{ends_read}
+use Rattle.file_pages.proofs.EndsOn.{if_err}
+use Rattle.file_pages.proofs.Ends.{ends_read, ends_read_memory, ends_read_on, read_runs}
 use Rattle.file_pages.proofs.Common.{◌-◌, ◌++◌, ◌∙◌, sym, ap, arith, slice_index, numbers, page_new, page_old, grown, placed_at, err_from_is_err_and}
 use Rattle.file_pages.specs.Changes.{given_node}
 use Rattle.file_pages.specs.LookingUp.{page_blocks}
@@ -60,4 +60,28 @@ pub returns-in_err-blocks-clause-ends : goal.returns-in_err-blocks-clause-ends
 returns-in_err-blocks-clause-ends g c = let p = err_from_is_err_and c.from_residual.result c.from_residual.ensures.1 in ends_read _ _ _ c.from_residual.result _ p.0 c.in_err-blocks.was p.1 p.2 c.page_blocks.ensures.ends
 
 pub returns-clause-ends : goal.returns-clause-ends
-returns-clause-ends g c = ends_by_well _ _ _ _ c.page_blocks.ensures.ends.later (c.in_ok-blocks.ensures.ends.runs (λ a. cc)) (λ a. cc) (λ a. cc)
+returns-clause-ends g c = ends_read_on _ _ _ _ c.in_ok-blocks.ensures.ends
+
+pub page_blocks-requires-clause-order : goal.page_blocks-requires-clause-order
+page_blocks-requires-clause-order g c = omega (arith, c.min.ensures)
+
+pub page_blocks-requires-clause-within : goal.page_blocks-requires-clause-within
+page_blocks-requires-clause-within g c = omega (arith, c.page_count-have.ensures.pages)
+
+pub push_taken-requires-clause-past : goal.push_taken-requires-clause-past
+push_taken-requires-clause-past g c = omega (arith, c.max.ensures)
+
+pub push_taken-requires-clause-order : goal.push_taken-requires-clause-order
+push_taken-requires-clause-order g c = omega (arith, c.max.ensures, c.page_count-have.ensures.pages, c.requires.order, c.requires.past)
+
+pub push_taken-requires-clause-within : goal.push_taken-requires-clause-within
+push_taken-requires-clause-within g c = omega (arith, c.page_count-have.ensures.pages, c.requires.within)
+
+pub returns-in_err-blocks-clause-value : goal.returns-in_err-blocks-clause-value
+returns-in_err-blocks-clause-value g c = if_err c.from_residual.result _ c.from_residual.ensures.0
+
+pub returns-in_err-push_taken-clause-value : goal.returns-in_err-push_taken-clause-value
+returns-in_err-push_taken-clause-value g c = if_err c.from_residual-in_err-push_taken.result _ c.from_residual-in_err-push_taken.ensures.0
+
+pub returns-in_err-push_taken-clause-ends : goal.returns-in_err-push_taken-clause-ends
+returns-in_err-push_taken-clause-ends g c = let p = err_from_is_err_and c.from_residual-in_err-push_taken.result c.from_residual-in_err-push_taken.ensures.1 in ends_read_memory _ _ c.from_residual-in_err-push_taken.result p.0 p.1 p.2 c.page_blocks.ensures.ends.later (read_runs _ _ _ c.in_ok-blocks.ensures.ends)

@@ -1,3 +1,6 @@
+use Rattle.file_pages.proofs.Ends.{size_runs}
+use Rattle.file_pages.proofs.Resized.{on_any}
+use Rattle.file_pages.proofs.EndsOn.{if_err}
 use Rattle.file_pages.proofs.Common.{◌+◌, ◌/◌, length, sym, subst, arith, err_from_is_err_and, ◌then◌, ends_by_after, numbers}
 use Rattle.file_pages.specs.Changes.{planned_node}
 use Rattle.file_pages.specs.Extending.{Extends}
@@ -6,10 +9,10 @@ use Rattle.file_pages.specs.Preparing.{Prepared}
 use Rattle.file_pages.proofs.Dropped.{file_kind}
 use Rattle.file_pages.proofs.ExtensionEnds.{parts_err, planned_err, tail_err}
 use Rattle.file_pages.proofs.ExtensionOpened.{Opened, holds_written, led, may_apart, may_name, may_place, opened, span_count, still_prepared}
-use Rattle.file_pages.proofs.GrowEnds.{cleared_both}
+use Rattle.file_pages.proofs.GrowEnds.{cleared_both, file_left}
 use Rattle.file_pages.proofs.Listed.{as_many}
 use Rattle.file_pages.proofs.Prepared.{prepared_can}
-use Rattle.file_pages.proofs.Written.{ends_write}
+use Rattle.file_pages.proofs.Written.{ends_write, bytes_unrefused, ends_write_size, ends_write_vol, refused_size, vol_unrefused, bytes_runs}
 use Rattle.file_pages.proofs.extending.write_past.Goals as goal
 
 pub returns-in_err-change-clause-leaves : goal.returns-in_err-change-clause-leaves
@@ -212,7 +215,7 @@ returns-in_err-store_parts-clause-goes g c =
 pub returns-in_err-store_parts-clause-ends : goal.returns-in_err-store_parts-clause-ends
 returns-in_err-store_parts-clause-ends g c =
     let p = err_from_is_err_and c.from_residual-in_err-store_parts.result c.from_residual-in_err-store_parts.ensures.1 in
-    ends_by_after _ _ _ _ _ c.plan_extension.ensures.ends.later (c.in_ok-change.ensures.ends.runs (λ a. cc))
+    ends_by_after _ _ _ _ _ c.plan_extension.ensures.ends.later (size_runs _ _ _ c.in_ok-change.ensures.ends)
     (ends_by_after _ _ _ _ _ c.clear_tail.ensures.ends.later c.in_ok-clear_tail.ensures.ends.cause
     (ends_write _ _ c.store_parts.result c.from_residual-in_err-store_parts.result _ p.0 c.in_err-store_parts.was p.1 p.2 c.store_parts.ensures.ends))
 
@@ -306,9 +309,9 @@ returns-clause-goes g c =
 
 pub returns-clause-ends : goal.returns-clause-ends
 returns-clause-ends g c =
-    ends_by_after _ _ _ _ _ c.plan_extension.ensures.ends.later (c.in_ok-change.ensures.ends.runs (λ a. cc))
+    ends_by_after _ _ _ _ _ c.plan_extension.ensures.ends.later (size_runs _ _ _ c.in_ok-change.ensures.ends)
     (ends_by_after _ _ _ _ _ c.clear_tail.ensures.ends.later c.in_ok-clear_tail.ensures.ends.cause
-    (ends_by_after _ _ _ _ _ c.store_parts.ensures.ends.later (c.in_ok-store_parts.ensures.ends.runs (λ a. cc)) c.commit_written.ensures.ends))
+    (ends_by_after _ _ _ _ _ c.store_parts.ensures.ends.later (bytes_runs _ _ _ c.in_ok-store_parts.ensures.ends) c.commit_written.ensures.ends))
 
 pub returns-in_err-change-clause-sound : goal.returns-in_err-change-clause-sound
 returns-in_err-change-clause-sound g c = c.plan_extension.ensures.sound
@@ -363,3 +366,75 @@ commit_written-requires-clause-ino g c = c.requires.ino
 
 pub returns-clause-small : goal.returns-clause-small
 returns-clause-small g c = c.commit_written.ensures.small
+
+pub plan_extension-requires-clause-first : goal.plan_extension-requires-clause-first
+plan_extension-requires-clause-first g c = omega arith
+
+pub plan_extension-requires-clause-grows : goal.plan_extension-requires-clause-grows
+plan_extension-requires-clause-grows g c = omega (arith, c.requires.past)
+
+pub clear_tail-requires-clause-file : goal.clear_tail-requires-clause-file
+clear_tail-requires-clause-file g c = (file_left c.args.shape.now _ _ _ _ c.args.i.0 c.args.inode.now c.requires.ino c.requires.ready c.requires.inode c.requires.file c.plan_extension.ensures.leaves).0
+
+pub clear_tail-requires-clause-size : goal.clear_tail-requires-clause-size
+clear_tail-requires-clause-size g c = (file_left c.args.shape.now _ _ _ _ c.args.i.0 c.args.inode.now c.requires.ino c.requires.ready c.requires.inode c.requires.file c.plan_extension.ensures.leaves).1
+
+pub clear_tail-requires-clause-grows : goal.clear_tail-requires-clause-grows
+clear_tail-requires-clause-grows g c = omega (arith, c.requires.past)
+
+pub store_parts-requires-clause-file : goal.store_parts-requires-clause-file
+store_parts-requires-clause-file g c = c.requires.ino.from
+
+pub store_parts-requires-clause-file_to : goal.store_parts-requires-clause-file_to
+store_parts-requires-clause-file_to g c = let to = c.requires.ino.to in let most = c.requires.ready.order.has_shape.sizes.inodes_to in omega (arith, to, most)
+
+pub store_parts-requires-clause-from : goal.store_parts-requires-clause-from
+store_parts-requires-clause-from g c = omega arith
+
+pub store_parts-requires-clause-idle : goal.store_parts-requires-clause-idle
+store_parts-requires-clause-idle g c = c.clear_tail.ensures.stores.ready.idle
+
+pub store_parts-requires-clause-most : goal.store_parts-requires-clause-most
+store_parts-requires-clause-most g c = c.requires.most
+
+pub store_parts-requires-clause-small : goal.store_parts-requires-clause-small
+store_parts-requires-clause-small g c = omega (arith, c.requires.past)
+
+pub returns-clause-no_space : goal.returns-clause-no_space
+returns-clause-no_space g c = λ is. absurd (c.commit_written.ensures.spacious is)
+
+pub returns-clause-room : goal.returns-clause-room
+returns-clause-room g c = on_any _ c.commit_written.result c.in_ok-change.ensures.room
+
+pub returns-in_err-change-clause-ends : goal.returns-in_err-change-clause-ends
+returns-in_err-change-clause-ends g c = let p = err_from_is_err_and c.from_residual.result c.from_residual.ensures.1 in ends_write_size _ _ c.plan_extension.result c.from_residual.result _ p.0 c.in_err-change.was p.1 p.2 c.plan_extension.ensures.ends
+
+pub returns-in_err-change-clause-no_space : goal.returns-in_err-change-clause-no_space
+returns-in_err-change-clause-no_space g c = let p = err_from_is_err_and c.from_residual.result c.from_residual.ensures.1 in λ is. c.plan_extension.ensures.no_space ((refused_size c.plan_extension.result c.from_residual.result _ p.0 c.in_err-change.was p.1 p.2).0 is)
+
+pub returns-in_err-change-clause-small : goal.returns-in_err-change-clause-small
+returns-in_err-change-clause-small g c = let p = err_from_is_err_and c.from_residual.result c.from_residual.ensures.1 in λ is. c.plan_extension.ensures.small ((refused_size c.plan_extension.result c.from_residual.result _ p.0 c.in_err-change.was p.1 p.2).1 is)
+
+pub returns-in_err-change-clause-room : goal.returns-in_err-change-clause-room
+returns-in_err-change-clause-room g c = if_err c.from_residual.result _ c.from_residual.ensures.0
+
+pub returns-in_err-clear_tail-clause-ends : goal.returns-in_err-clear_tail-clause-ends
+returns-in_err-clear_tail-clause-ends g c = let p = err_from_is_err_and c.from_residual-in_err-clear_tail.result c.from_residual-in_err-clear_tail.ensures.1 in ends_by_after _ _ _ _ _ c.plan_extension.ensures.ends.later (size_runs _ _ _ c.in_ok-change.ensures.ends) (ends_write_vol _ _ c.clear_tail.result c.from_residual-in_err-clear_tail.result _ p.0 c.in_err-clear_tail.was p.1 p.2 c.clear_tail.ensures.ends)
+
+pub returns-in_err-clear_tail-clause-no_space : goal.returns-in_err-clear_tail-clause-no_space
+returns-in_err-clear_tail-clause-no_space g c = let p = err_from_is_err_and c.from_residual-in_err-clear_tail.result c.from_residual-in_err-clear_tail.ensures.1 in λ is. absurd ((vol_unrefused c.from_residual-in_err-clear_tail.result _ _ p.1 p.2).0 is)
+
+pub returns-in_err-clear_tail-clause-small : goal.returns-in_err-clear_tail-clause-small
+returns-in_err-clear_tail-clause-small g c = let p = err_from_is_err_and c.from_residual-in_err-clear_tail.result c.from_residual-in_err-clear_tail.ensures.1 in λ is. absurd ((vol_unrefused c.from_residual-in_err-clear_tail.result _ _ p.1 p.2).1 is)
+
+pub returns-in_err-clear_tail-clause-room : goal.returns-in_err-clear_tail-clause-room
+returns-in_err-clear_tail-clause-room g c = if_err c.from_residual-in_err-clear_tail.result _ c.from_residual-in_err-clear_tail.ensures.0
+
+pub returns-in_err-store_parts-clause-no_space : goal.returns-in_err-store_parts-clause-no_space
+returns-in_err-store_parts-clause-no_space g c = let p = err_from_is_err_and c.from_residual-in_err-store_parts.result c.from_residual-in_err-store_parts.ensures.1 in λ is. absurd ((bytes_unrefused c.from_residual-in_err-store_parts.result _ _ p.1 p.2).0 is)
+
+pub returns-in_err-store_parts-clause-small : goal.returns-in_err-store_parts-clause-small
+returns-in_err-store_parts-clause-small g c = let p = err_from_is_err_and c.from_residual-in_err-store_parts.result c.from_residual-in_err-store_parts.ensures.1 in λ is. absurd ((bytes_unrefused c.from_residual-in_err-store_parts.result _ _ p.1 p.2).1 is)
+
+pub returns-in_err-store_parts-clause-room : goal.returns-in_err-store_parts-clause-room
+returns-in_err-store_parts-clause-room g c = if_err c.from_residual-in_err-store_parts.result _ c.from_residual-in_err-store_parts.ensures.0

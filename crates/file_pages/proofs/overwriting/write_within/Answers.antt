@@ -1,11 +1,13 @@
-use Rattle.file_pages.proofs.Common.{◌≡◌, ◌/◌, ◌≤◌, ◌∙◌, length, sym, ap, subst, arith, inl, err_from_is_err_and, ◌then◌, ends_by_after, numbers, Layout, placed_at, volume_layout, numbered_of, largest_size, LeavesInUse}
+use Rattle.file_pages.proofs.LookingUpRules.{can_look_up}
+use Rattle.file_pages.proofs.Ends.{read_runs}
+use Rattle.file_pages.proofs.Common.{refl, ◌≡◌, ◌/◌, ◌≤◌, ◌∙◌, length, sym, ap, subst, arith, inl, err_from_is_err_and, ◌then◌, ends_by_after, numbers, Layout, placed_at, volume_layout, numbered_of, largest_size, LeavesInUse}
 use Rattle.file_pages.proofs.OrderRules.{leaves_looked}
 use Rattle.file_pages.specs.Spans.{SpanNamed}
 use Rattle.file_pages.proofs.Given.{direct_page, given_most}
 use Rattle.file_pages.proofs.Listed.{as_many}
 use Rattle.file_pages.proofs.Resized.{held_file}
 use Rattle.file_pages.proofs.Within.{Overwrites, over_done, over_err, overwrites_of, pages_apart, pages_named, pages_over, pages_places}
-use Rattle.file_pages.proofs.Written.{ends_write, none_read}
+use Rattle.file_pages.proofs.Written.{ends_write, none_read, bytes_unrefused, ends_write_done, ends_write_read, read_unrefused, write_unrefused}
 use Rattle.file_pages.proofs.overwriting.write_within.Goals as goal
 
 pub returns-in_err-blocks-clause-leaves : goal.returns-in_err-blocks-clause-leaves
@@ -137,7 +139,7 @@ returns-clause-goes g c = (g.met.V.Volume.passes_keeps _ _ c.page_blocks.ensures
 pub returns-in_err-store_span-clause-ends : goal.returns-in_err-store_span-clause-ends
 returns-in_err-store_span-clause-ends g c =
     let p = err_from_is_err_and c.from_residual-in_err-store_span.result c.from_residual-in_err-store_span.ensures.1 in
-    ends_by_after _ _ _ _ _ c.page_blocks.ensures.ends.later (c.in_ok-blocks.ensures.ends.runs (λ a. cc)) (ends_write _ _ c.store_span.result c.from_residual-in_err-store_span.result _ p.0 c.in_err-store_span.was p.1 p.2 c.store_span.ensures.ends)
+    ends_by_after _ _ _ _ _ c.page_blocks.ensures.ends.later (read_runs _ _ _ c.in_ok-blocks.ensures.ends) (ends_write _ _ c.store_span.result c.from_residual-in_err-store_span.result _ p.0 c.in_err-store_span.was p.1 p.2 c.store_span.ensures.ends)
 
 pub returns-in_err-blocks-clause-sound : goal.returns-in_err-blocks-clause-sound
 returns-in_err-blocks-clause-sound g c = c.page_blocks.ensures.sound
@@ -165,3 +167,87 @@ write_in_page-requires-clause-block g c =
     let x = g.V.Blocks.seen c.args.v.now in
     let one = c.in-Some.ensures in
     direct_page x.words c.args.i.0 c.args.inode.now (inl (c.requires.inode, omega (arith, c.requires.file))) (c.args.off / 4096) c.in-Some.b.0 one.0 (omega (arith, c.requires.some, c.requires.within)) one.2
+
+pub page_blocks-requires-clause-can : goal.page_blocks-requires-clause-can
+page_blocks-requires-clause-can g c = can_look_up c.args.shape.now _ c.requires.ready.order.has_shape c.requires.ready.order.mapped c.requires.ready.order.named
+
+pub page_blocks-requires-clause-inode : goal.page_blocks-requires-clause-inode
+page_blocks-requires-clause-inode g c = inl (c.requires.inode, omega (arith, c.requires.file))
+
+pub store_span-requires-clause-file : goal.store_span-requires-clause-file
+store_span-requires-clause-file g c = c.requires.ino.from
+
+pub store_span-requires-clause-file_to : goal.store_span-requires-clause-file_to
+store_span-requires-clause-file_to g c = let to = c.requires.ino.to in let most = c.requires.ready.order.has_shape.sizes.inodes_to in omega (arith, to, most)
+
+pub store_span-requires-clause-from : goal.store_span-requires-clause-from
+store_span-requires-clause-from g c = omega arith
+
+pub store_span-requires-clause-idle : goal.store_span-requires-clause-idle
+store_span-requires-clause-idle g c = (g.met.V.Volume.passes_keeps _ _ c.page_blocks.ensures.passes).updating ∙ c.requires.ready.idle
+
+pub write_in_page-requires-clause-file : goal.write_in_page-requires-clause-file
+write_in_page-requires-clause-file g c = sym c.requires.inode.kind ∙ c.requires.file
+
+pub write_in_page-requires-clause-ino : goal.write_in_page-requires-clause-ino
+write_in_page-requires-clause-ino g c = c.requires.ino
+
+pub write_in_page-requires-clause-page : goal.write_in_page-requires-clause-page
+write_in_page-requires-clause-page g c = refl
+
+pub write_in_page-requires-clause-ready : goal.write_in_page-requires-clause-ready
+write_in_page-requires-clause-ready g c = c.requires.ready
+
+pub write_in_page-requires-clause-size : goal.write_in_page-requires-clause-size
+write_in_page-requires-clause-size g c = c.requires.inode.size
+
+pub write_in_page-requires-clause-some : goal.write_in_page-requires-clause-some
+write_in_page-requires-clause-some g c = c.requires.some
+
+pub write_in_page-requires-clause-sound : goal.write_in_page-requires-clause-sound
+write_in_page-requires-clause-sound g c = c.requires.sound
+
+pub write_in_page-requires-clause-within : goal.write_in_page-requires-clause-within
+write_in_page-requires-clause-within g c = c.requires.within
+
+pub returns-in-Some-clause-ends : goal.returns-in-Some-clause-ends
+returns-in-Some-clause-ends g c = c.write_in_page.ensures.ends
+
+pub returns-in-Some-clause-goes : goal.returns-in-Some-clause-goes
+returns-in-Some-clause-goes g c = c.write_in_page.ensures.goes
+
+pub returns-in-Some-clause-leaves : goal.returns-in-Some-clause-leaves
+returns-in-Some-clause-leaves g c = c.write_in_page.ensures.leaves
+
+pub returns-in-Some-clause-small : goal.returns-in-Some-clause-small
+returns-in-Some-clause-small g c = c.write_in_page.ensures.small
+
+pub returns-in-Some-clause-sound : goal.returns-in-Some-clause-sound
+returns-in-Some-clause-sound g c = c.write_in_page.ensures.sound
+
+pub returns-in-Some-clause-spacious : goal.returns-in-Some-clause-spacious
+returns-in-Some-clause-spacious g c = c.write_in_page.ensures.spacious
+
+pub returns-in_err-blocks-clause-ends : goal.returns-in_err-blocks-clause-ends
+returns-in_err-blocks-clause-ends g c = let p = err_from_is_err_and c.from_residual.result c.from_residual.ensures.1 in ends_write_read _ _ c.page_blocks.result c.from_residual.result _ p.0 c.in_err-blocks.was p.1 p.2 c.page_blocks.ensures.ends
+
+pub returns-in_err-blocks-clause-small : goal.returns-in_err-blocks-clause-small
+returns-in_err-blocks-clause-small g c = let p = err_from_is_err_and c.from_residual.result c.from_residual.ensures.1 in (read_unrefused c.from_residual.result _ _ p.1 p.2).1
+
+pub returns-in_err-blocks-clause-spacious : goal.returns-in_err-blocks-clause-spacious
+returns-in_err-blocks-clause-spacious g c = let p = err_from_is_err_and c.from_residual.result c.from_residual.ensures.1 in (read_unrefused c.from_residual.result _ _ p.1 p.2).0
+
+pub returns-in_err-store_span-clause-small : goal.returns-in_err-store_span-clause-small
+returns-in_err-store_span-clause-small g c = let p = err_from_is_err_and c.from_residual-in_err-store_span.result c.from_residual-in_err-store_span.ensures.1 in (bytes_unrefused c.from_residual-in_err-store_span.result _ _ p.1 p.2).1
+
+pub returns-in_err-store_span-clause-spacious : goal.returns-in_err-store_span-clause-spacious
+returns-in_err-store_span-clause-spacious g c = let p = err_from_is_err_and c.from_residual-in_err-store_span.result c.from_residual-in_err-store_span.ensures.1 in (bytes_unrefused c.from_residual-in_err-store_span.result _ _ p.1 p.2).0
+
+pub returns-clause-ends : goal.returns-clause-ends
+returns-clause-ends g c = ends_by_after _ _ _ _ _ c.page_blocks.ensures.ends.later (read_runs _ _ _ c.in_ok-blocks.ensures.ends) (ends_write_done _ _ _ _ c.in_ok-store_span.ensures.ends)
+
+pub returns-clause-small : goal.returns-clause-small
+returns-clause-small g c = (write_unrefused _).1
+
+pub returns-clause-spacious : goal.returns-clause-spacious
+returns-clause-spacious g c = (write_unrefused _).0

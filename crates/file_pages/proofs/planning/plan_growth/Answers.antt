@@ -1,5 +1,6 @@
+use Rattle.file_pages.proofs.EndsOn.{if_err}
 use Rattle.file_pages.proofs.Common.{◌≡◌, ◌<◌, ◌-◌, ◌+◌, ℕ, length, refl, ap, sym, subst, ◌∙◌, arith, le_trans, slice_index, err_from_is_err_and, ◌then◌, ends_by_after, numbers, most_tables, one_table, Takes, grown, Placed, volume_layout, pages, tables}
-use Rattle.file_pages.specs.Changes.{given_node}
+use Rattle.file_pages.specs.Changes.{given_node, Apart}
 use Rattle.file_pages.proofs.GrowingLaws.{end_word, first_word}
 use Rattle.file_pages.specs.Growing.{new_word}
 use Rattle.file_pages.proofs.LookingUpRules.{can_look_up}
@@ -9,7 +10,7 @@ use Rattle.file_pages.proofs.Ends.{ends_vol_size, ends_well_memory, ends_well_ok
 use Rattle.file_pages.proofs.Given.{given_of}
 use Rattle.file_pages.proofs.Grown.{Made, made_grows, made_table}
 use Rattle.file_pages.proofs.Listed.{as_many}
-use Rattle.file_pages.proofs.Planned.{direct_as, edits_as, edits_table, staged_leaves, staged_of, taken_most, taken_reach, wanted_count, zeroed_as}
+use Rattle.file_pages.proofs.Planned.{free_place, direct_as, edits_as, edits_table, staged_leaves, staged_of, taken_most, taken_reach, wanted_count, zeroed_as}
 use Rattle.file_pages.proofs.PlannedSize.{keeps_looked, keeps_staged}
 use Rattle.file_pages.proofs.planning.plan_growth.Goals as goal
 
@@ -180,3 +181,33 @@ last_number-requires-clause-inode g c = c.requires.inode
 
 pub stage_blocks-requires-clause-sound : goal.stage_blocks-requires-clause-sound
 stage_blocks-requires-clause-sound g c = c.last_number.ensures.sound
+
+pub returns-in_err-last-clause-ok : goal.returns-in_err-last-clause-ok
+returns-in_err-last-clause-ok g c = if_err c.from_residual.result _ c.from_residual.ensures.0
+
+pub returns-in_err-stage_blocks-clause-ok : goal.returns-in_err-stage_blocks-clause-ok
+returns-in_err-stage_blocks-clause-ok g c = if_err c.from_residual-in_err-stage_blocks.result _ c.from_residual-in_err-stage_blocks.ensures.0
+
+pub returns-in_err-edits-clause-ok : goal.returns-in_err-edits-clause-ok
+returns-in_err-edits-clause-ok g c = if_err c.from_residual-in_err-edits.result _ c.from_residual-in_err-edits.ensures.0
+
+pub stage_blocks-requires-clause-apart : goal.stage_blocks-requires-clause-apart
+stage_blocks-requires-clause-apart g c = subst (λ bs. Apart (numbers bs)) (sym c.as_slice-blocks.ensures) c.requires.apart
+
+pub stage_blocks-requires-clause-few : goal.stage_blocks-requires-clause-few
+stage_blocks-requires-clause-few g c = let have_is = c.page_count-have.ensures.pages in let want_is = c.page_count-want.ensures.pages in let grows = c.requires.grows in let most = c.requires.fits.most in omega (arith, have_is, want_is, grows, most)
+
+pub stage_blocks-requires-clause-file : goal.stage_blocks-requires-clause-file
+stage_blocks-requires-clause-file g c = c.requires.ino.from
+
+pub stage_blocks-requires-clause-file_to : goal.stage_blocks-requires-clause-file_to
+stage_blocks-requires-clause-file_to g c = let to = c.requires.ino.to in let most = c.requires.ready.order.has_shape.sizes.inodes_to in omega (arith, to, most)
+
+pub stage_blocks-requires-clause-idle : goal.stage_blocks-requires-clause-idle
+stage_blocks-requires-clause-idle g c = (g.met.V.Volume.passes_keeps _ _ c.last_number.ensures.passes).updating ∙ c.requires.ready.idle
+
+pub stage_blocks-requires-clause-places : goal.stage_blocks-requires-clause-places
+stage_blocks-requires-clause-places g c = λ t few. free_place c.args.shape.now _ _ _ c.args.taken t c.as_slice-blocks.ensures c.requires.free (c.last_number.ensures.looks.looks.count ∙ c.requires.ready.order.has_shape.count) few
+
+pub grown_inode-inode-requires-clause-grows : goal.grown_inode-inode-requires-clause-grows
+grown_inode-inode-requires-clause-grows g c = let have_is = c.page_count-have.ensures.pages in let want_is = c.page_count-want.ensures.pages in let grows = c.requires.grows in omega (arith, have_is, want_is, grows)

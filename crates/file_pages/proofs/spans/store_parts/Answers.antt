@@ -1,4 +1,5 @@
-use Rattle.file_pages.proofs.Common.{◌≡◌, ◌-◌, min, arith, ap, subst, sym, ◌∙◌, Err, ◌then◌, firm_trans, ends_by_after, ends_by_as, numbers, refl}
+use Rattle.file_pages.proofs.Written.{bytes_fault, bytes_runs, bytes_stop}
+use Rattle.file_pages.proofs.Common.{◌≡◌, ◌-◌, min, arith, ap, subst, sym, ◌∙◌, Err, ◌then◌, firm_trans, ends_by_after, numbers}
 use Rattle.file_pages.specs.Spans.{PutsLead}
 use Rattle.file_pages.proofs.Spanned.{fault_told, parts_first, parts_then, parts_whole}
 use Rattle.file_pages.proofs.Staged.{beside_trans}
@@ -56,7 +57,7 @@ pub returns-in-Err-Fault-store_span-clause-ends : goal.returns-in-Err-Fault-stor
 returns-in-Err-Fault-store_span-clause-ends g c =
     let two = c.in-Err-Fault-store_span in
     let is = two.field-0-is in
-    ends_by_after _ _ _ _ _ c.store_span.ensures.ends.later (c.in-Ok.ensures.ends.runs (λ p. cc)) (ends_by_as _ _ _ _ _ _ (λ f. (two.k, ap Err is)) (λ p. cc) (λ p. cc) two.ensures.ends)
+    ends_by_after _ _ _ _ _ c.store_span.ensures.ends.later (bytes_runs _ _ _ c.in-Ok.ensures.ends) (bytes_fault _ _ _ two.k _ is two.ensures.ends)
 
 pub returns-in-Err-Stopped-store_span-clause-front : goal.returns-in-Err-Stopped-store_span-clause-front
 returns-in-Err-Stopped-store_span-clause-front g c =
@@ -209,13 +210,13 @@ pub returns-in-Err-Stopped-store_span-clause-named : goal.returns-in-Err-Stopped
 returns-in-Err-Stopped-store_span-clause-named g c = c.store_span-2.ensures.named
 
 pub returns-in-Err-Fault-clause-ends : goal.returns-in-Err-Fault-clause-ends
-returns-in-Err-Fault-clause-ends g c = ends_by_as _ _ _ _ _ _ (λ f. (c.in-Err-Fault.field-0-0, ap Err c.in-Err-Fault.field-0-is)) (λ p. cc) (λ p. cc) c.in-Err-Fault.ensures.ends
+returns-in-Err-Fault-clause-ends g c = bytes_fault _ _ _ c.in-Err-Fault.field-0-0 _ c.in-Err-Fault.field-0-is c.in-Err-Fault.ensures.ends
 
 pub returns-in-Err-Stopped-clause-ends : goal.returns-in-Err-Stopped-clause-ends
-returns-in-Err-Stopped-clause-ends g c = ends_by_as _ _ _ _ _ _ (λ f. absurd cc) (λ p. ap Err c.in-Err-Stopped.field-0-is) (λ p. refl) c.in-Err-Stopped.ensures.ends
+returns-in-Err-Stopped-clause-ends g c = bytes_stop _ _ _ c.in-Err-Stopped.field-0-is c.in-Err-Stopped.ensures.ends
 
 pub returns-in-Ok-store_span-clause-ends : goal.returns-in-Ok-store_span-clause-ends
-returns-in-Ok-store_span-clause-ends g c = ends_by_after _ _ _ _ _ c.store_span.ensures.ends.later (c.in-Ok.ensures.ends.runs (λ p. cc)) c.in-Ok-store_span.ensures.ends
+returns-in-Ok-store_span-clause-ends g c = ends_by_after _ _ _ _ _ c.store_span.ensures.ends.later (bytes_runs _ _ _ c.in-Ok.ensures.ends) c.in-Ok-store_span.ensures.ends
 
 pub returns-in-Err-Stopped-store_span-clause-ends : goal.returns-in-Err-Stopped-store_span-clause-ends
-returns-in-Err-Stopped-store_span-clause-ends g c = ends_by_after _ _ _ _ _ c.store_span.ensures.ends.later (c.in-Ok.ensures.ends.runs (λ p. cc)) (ends_by_as _ _ _ _ _ _ (λ f. absurd cc) (λ p. ap Err c.in-Err-Stopped-store_span.field-0-is) (λ p. refl) c.in-Err-Stopped-store_span.ensures.ends)
+returns-in-Err-Stopped-store_span-clause-ends g c = ends_by_after _ _ _ _ _ c.store_span.ensures.ends.later (bytes_runs _ _ _ c.in-Ok.ensures.ends) (bytes_stop _ _ _ c.in-Err-Stopped-store_span.field-0-is c.in-Err-Stopped-store_span.ensures.ends)

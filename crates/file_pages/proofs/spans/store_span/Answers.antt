@@ -1,9 +1,9 @@
-use Rattle.file_pages.proofs.Common.{◌≡◌, ◌+◌, arith, le_trans, subst, sym, ap, ◌∙◌, Err, firm_trans, goes_trans, numbers, ends_by_after, ends_by_as, refl, ◌then◌}
+use Rattle.file_pages.proofs.Written.{bytes_fault, bytes_ok, bytes_runs, bytes_stop}
+use Rattle.file_pages.proofs.Common.{◌≡◌, ◌+◌, arith, le_trans, subst, sym, ap, ◌∙◌, Err, firm_trans, goes_trans, numbers, ends_by_after, ◌then◌}
 use Rattle.std.proofs.Common.{Fits, w64}
 use Rattle.file_pages.specs.Spans.{PutsSpan}
 use Rattle.file_pages.proofs.Spanned.{fault_told, span_more}
 use Rattle.file_pages.proofs.Staged.{beside_trans}
-use Rattle.rio_base.proofs.Rules.{ends_by_well}
 use Rattle.file_pages.proofs.spans.store_span.Goals as goal
 
 pub loop-done-preserved : goal.loop-done-preserved
@@ -21,7 +21,7 @@ loop-done-preserved g c =
       idle = now.idle;
       goes = goes_trans _ _ _ _ _ _ inv.goes now.goes;
       later = le_trans inv.later now.ends.later;
-      running = c.in-Ok.ensures.ends.runs (λ p. cc) ∙ inv.running;
+      running = bytes_runs _ _ _ c.in-Ok.ensures.ends ∙ inv.running;
       sound = now.sound;
     }
 
@@ -116,10 +116,10 @@ pub returns-in-Err-Stopped-clause-goes : goal.returns-in-Err-Stopped-clause-goes
 returns-in-Err-Stopped-clause-goes g c = c.loop-done.invariant.goes then c.store_page.ensures.goes
 
 pub returns-in-Err-Fault-clause-ends : goal.returns-in-Err-Fault-clause-ends
-returns-in-Err-Fault-clause-ends g c = ends_by_after _ _ _ _ _ c.loop-done.invariant.later c.loop-done.invariant.running (ends_by_as _ _ _ _ _ _ (λ f. (c.in-Err-Fault.k, ap Err c.in-Err-Fault.field-0-is)) (λ p. cc) (λ p. cc) c.in-Err-Fault.ensures.ends)
+returns-in-Err-Fault-clause-ends g c = ends_by_after _ _ _ _ _ c.loop-done.invariant.later c.loop-done.invariant.running (bytes_fault _ _ _ c.in-Err-Fault.k _ c.in-Err-Fault.field-0-is c.in-Err-Fault.ensures.ends)
 
 pub returns-in-Err-Stopped-clause-ends : goal.returns-in-Err-Stopped-clause-ends
-returns-in-Err-Stopped-clause-ends g c = ends_by_after _ _ _ _ _ c.loop-done.invariant.later c.loop-done.invariant.running (ends_by_as _ _ _ _ _ _ (λ f. absurd cc) (λ p. ap Err c.in-Err-Stopped.field-0-is) (λ p. refl) c.in-Err-Stopped.ensures.ends)
+returns-in-Err-Stopped-clause-ends g c = ends_by_after _ _ _ _ _ c.loop-done.invariant.later c.loop-done.invariant.running (bytes_stop _ _ _ c.in-Err-Stopped.field-0-is c.in-Err-Stopped.ensures.ends)
 
 pub returns-in-Err-Stopped-clause-fault : goal.returns-in-Err-Stopped-clause-fault
 returns-in-Err-Stopped-clause-fault g c = λ k is. absurd cc
@@ -155,7 +155,7 @@ pub returns-clause-front : goal.returns-clause-front
 returns-clause-front g c = (c.loop-done.done, c.loop-done.invariant.within, c.loop-done.invariant.puts)
 
 pub returns-clause-ends : goal.returns-clause-ends
-returns-clause-ends g c = ends_by_well _ _ _ _ c.loop-done.invariant.later c.loop-done.invariant.running (λ f. absurd cc) (λ p. absurd cc)
+returns-clause-ends g c = bytes_ok _ _ _ c.loop-done.invariant.later c.loop-done.invariant.running
 
 pub returns-clause-ok : goal.returns-clause-ok
 returns-clause-ok g c = subst (PutsSpan _ _ (numbers c.args.blocks.now) c.args.first c.args.off c.args.bytes.now) (let to = c.loop-done.invariant.within in omega (arith, to, c.loop-done-test.false)) c.loop-done.invariant.puts
