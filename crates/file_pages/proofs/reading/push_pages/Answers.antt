@@ -1,3 +1,4 @@
+use Rattle.file_pages.proofs.Ends.{read_runs}
 use Rattle.file_pages.proofs.Common.{◌≡◌, ◌+◌, ◌-◌, ◌*◌, ◌/◌, ◌∙◌, ◌++◌, map, sym, subst, arith, le_trans, range_with_len, BlockWords, byte_in, word_in, placed_at, volume_layout, AllNamed}
 use Rattle.file_pages.proofs.LookingUpRules.{look_trans, named_on}
 use Rattle.file_pages.proofs.PageRead.{bytes_next, page_at}
@@ -42,6 +43,6 @@ loop-at-preserved g c =
       looks = look_trans shape x y _ inv.looks c.push_page.ensures.looks;
       passes = g.met.V.Blocks.passes_trans _ _ _ inv.passes c.push_page.ensures.passes;
       later = le_trans inv.later c.push_page.ensures.ends.later;
-      running = c.in_ok-push_page.ensures.ends.runs (λ a. cc) ∙ inv.running;
+      running = read_runs _ _ _ c.in_ok-push_page.ensures.ends ∙ inv.running;
       sound = c.push_page.ensures.sound;
     }

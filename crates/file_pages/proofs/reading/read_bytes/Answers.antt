@@ -1,8 +1,8 @@
-use Rattle.rio_base.proofs.Rules.{ends_by_well}
-use Rattle.file_pages.proofs.Ends.{ends_read}
+use Rattle.file_pages.proofs.EndsOn.{if_err}
+use Rattle.file_pages.proofs.Ends.{ends_read, ends_read_ok, read_runs, read_still, read_still_memory}
 use Rattle.file_pages.proofs.Common.{◌≡◌, ◌/◌, ◌∙◌, length, sym, ap, subst, arith, inl, placed_at, volume_layout, AllNamed, numbers, err_from_is_err_and, ends_by_after, le_trans}
 use Rattle.file_pages.specs.LookingUp.{page_blocks}
-use Rattle.file_pages.proofs.LookingUpRules.{look_trans, named_on, can_look_up}
+use Rattle.file_pages.proofs.LookingUpRules.{look_trans, named_on, can_look_up, look_refl}
 use Rattle.file_pages.proofs.Given.{direct_page}
 use Rattle.file_pages.proofs.PageRead.{many_blocks}
 use Rattle.file_pages.proofs.reading.read_bytes.Goals as goal
@@ -88,10 +88,10 @@ pub returns-clause-sound : goal.returns-clause-sound
 returns-clause-sound g c = c.push_pages.ensures.sound
 
 pub returns-in_err-push_pages-clause-ends : goal.returns-in_err-push_pages-clause-ends
-returns-in_err-push_pages-clause-ends g c = let p = err_from_is_err_and c.from_residual-in_err-push_pages.result c.from_residual-in_err-push_pages.ensures.1 in ends_by_after _ _ _ _ _ c.page_blocks.ensures.ends.later (c.in_ok-blocks.ensures.ends.runs (λ a. cc)) (ends_read _ _ _ c.from_residual-in_err-push_pages.result _ p.0 c.in_err-push_pages.was p.1 p.2 c.push_pages.ensures.ends)
+returns-in_err-push_pages-clause-ends g c = let p = err_from_is_err_and c.from_residual-in_err-push_pages.result c.from_residual-in_err-push_pages.ensures.1 in ends_by_after _ _ _ _ _ c.page_blocks.ensures.ends.later (read_runs _ _ _ c.in_ok-blocks.ensures.ends) (ends_read _ _ _ c.from_residual-in_err-push_pages.result _ p.0 c.in_err-push_pages.was p.1 p.2 c.push_pages.ensures.ends)
 
 pub returns-clause-ends : goal.returns-clause-ends
-returns-clause-ends g c = ends_by_well _ _ _ _ (le_trans c.page_blocks.ensures.ends.later c.push_pages.ensures.ends.later) (c.in_ok-push_pages.ensures.ends.runs (λ a. cc) ∙ c.in_ok-blocks.ensures.ends.runs (λ a. cc)) (λ a. cc) (λ a. cc)
+returns-clause-ends g c = ends_read_ok _ _ _ (le_trans c.page_blocks.ensures.ends.later c.push_pages.ensures.ends.later) (read_runs _ _ _ c.in_ok-push_pages.ensures.ends ∙ read_runs _ _ _ c.in_ok-blocks.ensures.ends)
 
 pub read_in_page-requires-clause-block : goal.read_in_page-requires-clause-block
 read_in_page-requires-clause-block g c =
@@ -99,3 +99,63 @@ read_in_page-requires-clause-block g c =
     let file : c.args.inode.now.kind ≡ 2 = c.requires.inode.kind ∙ c.requires.file in
     let one = c.in-Some.ensures in
     direct_page x.words c.args.i.0 c.args.inode.now (inl (c.requires.inode, omega (arith, file))) (c.args.off / 4096) c.in-Some.b.0 one.0 (omega (arith, c.requires.within, c.if-off-end.false)) one.2
+
+pub returns-in_err-out-clause-ends : goal.returns-in_err-out-clause-ends
+returns-in_err-out-clause-ends g c = let p = err_from_is_err_and c.from_residual.result c.from_residual.ensures.1 in read_still_memory _ c.from_residual.result p.0 p.1 p.2
+
+pub returns-in_err-out-clause-looks : goal.returns-in_err-out-clause-looks
+returns-in_err-out-clause-looks g c = look_refl c.args.shape.now _ (can_look_up c.args.shape.now _ c.requires.shape c.requires.mapped c.requires.named)
+
+pub returns-in_err-out-clause-passes : goal.returns-in_err-out-clause-passes
+returns-in_err-out-clause-passes g c = g.met.V.Blocks.passes_refl _
+
+pub returns-in_err-out-clause-value : goal.returns-in_err-out-clause-value
+returns-in_err-out-clause-value g c = if_err c.from_residual.result _ c.from_residual.ensures.0
+
+pub returns-then-off-end-clause-ends : goal.returns-then-off-end-clause-ends
+returns-then-off-end-clause-ends g c = read_still _ _
+
+pub returns-then-off-end-clause-looks : goal.returns-then-off-end-clause-looks
+returns-then-off-end-clause-looks g c = look_refl c.args.shape.now _ (can_look_up c.args.shape.now _ c.requires.shape c.requires.mapped c.requires.named)
+
+pub returns-then-off-end-clause-passes : goal.returns-then-off-end-clause-passes
+returns-then-off-end-clause-passes g c = g.met.V.Blocks.passes_refl _
+
+pub returns-in-Some-clause-ends : goal.returns-in-Some-clause-ends
+returns-in-Some-clause-ends g c = c.read_in_page.ensures.ends
+
+pub returns-in-Some-clause-looks : goal.returns-in-Some-clause-looks
+returns-in-Some-clause-looks g c = c.read_in_page.ensures.looks
+
+pub returns-in-Some-clause-passes : goal.returns-in-Some-clause-passes
+returns-in-Some-clause-passes g c = c.read_in_page.ensures.passes
+
+pub returns-in-Some-clause-sound : goal.returns-in-Some-clause-sound
+returns-in-Some-clause-sound g c = c.read_in_page.ensures.sound
+
+pub returns-in_err-blocks-clause-value : goal.returns-in_err-blocks-clause-value
+returns-in_err-blocks-clause-value g c = if_err c.from_residual-in_err-blocks.result _ c.from_residual-in_err-blocks.ensures.0
+
+pub returns-in_err-push_pages-clause-value : goal.returns-in_err-push_pages-clause-value
+returns-in_err-push_pages-clause-value g c = if_err c.from_residual-in_err-push_pages.result _ c.from_residual-in_err-push_pages.ensures.0
+
+pub read_in_page-requires-clause-sound : goal.read_in_page-requires-clause-sound
+read_in_page-requires-clause-sound g c = c.requires.sound
+
+pub read_in_page-requires-clause-shape : goal.read_in_page-requires-clause-shape
+read_in_page-requires-clause-shape g c = c.requires.shape
+
+pub read_in_page-requires-clause-mapped : goal.read_in_page-requires-clause-mapped
+read_in_page-requires-clause-mapped g c = c.requires.mapped
+
+pub read_in_page-requires-clause-named : goal.read_in_page-requires-clause-named
+read_in_page-requires-clause-named g c = c.requires.named
+
+pub read_in_page-requires-clause-file : goal.read_in_page-requires-clause-file
+read_in_page-requires-clause-file g c = c.requires.file
+
+pub read_in_page-requires-clause-within : goal.read_in_page-requires-clause-within
+read_in_page-requires-clause-within g c = c.requires.within
+
+pub push_pages-requires-clause-shape : goal.push_pages-requires-clause-shape
+push_pages-requires-clause-shape g c = c.page_blocks.ensures.looks.still.has_shape
