@@ -9,8 +9,8 @@ use Rattle.rio_model.specs.Cover.{entry_of_block}
 use Rattle.rio_model.specs.CoverLookups.{found_is}
 use Rattle.rio_model.specs.Registry.{HasLayout, IsValid, KeepsRegistry, frames_of, gate_of, is_valid, tag_at}
 use Rattle.rio_model.proofs.RegistryRules.{layout_of}
-use Rattle.page_cache.specs.Caches.{IsFresh, cache_seen}
-use Rattle.page_cache.specs.declared.tables.CacheTables.{CacheTables}
+use Rattle.cached_pages.specs.Caches.{IsFresh, cache_seen}
+use Rattle.cached_pages.specs.declared.tables.CacheTables.{CacheTables}
 use Rattle.machine_tests.specs.Blanks.{IsBlank}
 use Rattle.machine_tests.specs.Walks.{Walks}
 use Rattle.machine_tests.proofs.TestImages.{within_registry}

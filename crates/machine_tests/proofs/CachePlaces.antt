@@ -3,8 +3,8 @@ use Rattle.std.specs.Prelude.{◌≡◌, ℕ, ◌+◌, ◌<◌, ◌≤◌, lengt
 use Rattle.std.proofs.Common.{arith}
 use Rattle.rio_base.specs.Image.{registry_pages}
 use Rattle.rio_base.specs.Machine.{Contents, Running}
-use Rattle.page_cache.specs.Caches.{CacheSound}
-use Rattle.page_cache.specs.declared.tables.CacheTables.{CacheTables}
+use Rattle.cached_pages.specs.Caches.{CacheSound}
+use Rattle.cached_pages.specs.declared.tables.CacheTables.{CacheTables}
 
 some_pages : (frames : ℕ) → 32 ≤ frames → 1 ≤ registry_pages frames
 unfolding registry_pages

@@ -1,9 +1,9 @@
 -- A cache after a flush: entries say of their pages what they said.
-use Rattle.page_cache.proofs.Common.{◌≡◌, ◌≢◌, ℕ, ◌<◌, ◌==◌, false, None, refl, ◌∙◌, sym, subst, arith, coherent_on, Contents, Lasts, HeldEntry, Keeps, entry_block, IsValid, frames_of, gate_of}
-use Rattle.page_cache.specs.declared.tables.CacheTables.{CacheTables}
-use Rattle.page_cache.specs.declared.slots.EarlyWrites.{EarlyWrites}
-use Rattle.page_cache.specs.Caches.{CacheSound}
-use Rattle.page_cache.specs.EarlyBlocks.{KnowsNone}
+use Rattle.cached_pages.proofs.Common.{◌≡◌, ◌≢◌, ℕ, ◌<◌, ◌==◌, false, None, refl, ◌∙◌, sym, subst, arith, coherent_on, Contents, Lasts, HeldEntry, Keeps, entry_block, IsValid, frames_of, gate_of}
+use Rattle.cached_pages.specs.declared.tables.CacheTables.{CacheTables}
+use Rattle.cached_pages.specs.declared.slots.EarlyWrites.{EarlyWrites}
+use Rattle.cached_pages.specs.Caches.{CacheSound}
+use Rattle.cached_pages.specs.EarlyBlocks.{KnowsNone}
 
 pub shut_by : (g : ℕ) → (g == 1) ≡ false → g ≢ 1
 shut_by g e one = grind (arith, e, one)

@@ -1,11 +1,11 @@
 -- Wild stores on a cache's machine, between its calls.
-use Rattle.page_cache.proofs.Common.{◌≡◌, ℕ, ◌+◌, ◌-◌, ◌/◌, ◌<◌, length, Some, None, refl, ◌∙◌, ap, sym, subst, arith, length-set, Contents, Running, none_some}
+use Rattle.cached_pages.proofs.Common.{◌≡◌, ℕ, ◌+◌, ◌-◌, ◌/◌, ◌<◌, length, Some, None, refl, ◌∙◌, ap, sym, subst, arith, length-set, Contents, Running, none_some}
 use Rattle.rio_base.specs.Machine.{Meets, after_wild}
 use Rattle.rio_base.specs.declared.wild.Wild.{Wild}
 use Rattle.rio_base.specs.declared.wild.Wild.TheVariants.{Changed, Trapped, Spared}
 use Rattle.rio_base.specs.Volume.{Below}
-use Rattle.page_cache.specs.declared.tables.CacheTables.{CacheTables}
-use Rattle.page_cache.specs.Caches.{CacheSound, cache_below, cache_health, cache_kept, is_roomy}
+use Rattle.cached_pages.specs.declared.tables.CacheTables.{CacheTables}
+use Rattle.cached_pages.specs.Caches.{CacheSound, cache_below, cache_health, cache_kept, is_roomy}
 use Rattle.rio_model.specs.Cover.{causes_of, home_of}
 use Rattle.page_cache.specs.Wilds.{Arms, Strikes}
 

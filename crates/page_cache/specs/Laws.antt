@@ -8,7 +8,7 @@ use Rattle.rio_base.specs.Volume.{Below, Kept, Passes}
 use Rattle.rio_model.specs.Registry.{IsValid, KeepsRegistry, is_data, tag_at}
 use Rattle.rio_model.specs.Cover.{Coherent, entry_of_block, name_in}
 use Rattle.rio_model.specs.CoverLookups.{found_is}
-use Rattle.page_cache.specs.Caches.{cache_seen}
+use Rattle.cached_pages.specs.Caches.{cache_seen}
 
 named : (words : List ℕ) (k : ℕ) → KeepsRegistry words → IsValid words k → InRange (name_in words (Some k))
 named words k r v = from (is_data (tag_at words k)) refl

@@ -1,10 +1,3 @@
-pub mod Caches
-pub mod EarlyBlocks
-pub mod EarlySlots
 pub mod Laws
-pub mod Nearing
 pub mod Settled
-pub mod Stores
-pub mod Updating
-pub mod Uses
 pub mod Wilds

@@ -10,8 +10,8 @@ use Rattle.rio_model.specs.Cover.{entry_of_block, frame_page, reads, stands}
 use Rattle.rio_model.specs.CoverChanges.{place_bare}
 use Rattle.rio_model.specs.CoverLookups.{cover_same}
 use Rattle.rio_model.specs.CoverStands.{stands_idle}
-use Rattle.page_cache.specs.Caches.{CacheSound, cache_kept, cache_seen, has_shadow, is_touched}
-use Rattle.page_cache.specs.declared.tables.CacheTables.{CacheTables}
+use Rattle.cached_pages.specs.Caches.{CacheSound, cache_kept, cache_seen, has_shadow, is_touched}
+use Rattle.cached_pages.specs.declared.tables.CacheTables.{CacheTables}
 
 -- the gate of an open update, and of none
 pub gate_open : (words : List ℕ) → (gate_of words == 1) ≡ true → gate_of words ≡ 1

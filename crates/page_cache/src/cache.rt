@@ -5,9 +5,9 @@ ghost use Rattle.rio_base.specs.Machine.{Meets, after_wild};
 ghost use Rattle.rio_model.specs.Registry.{frames_of, gate_of, tag_at};
 ghost use Rattle.rio_model.specs.Cover.{Coherent};
 ghost use Rattle.page_cache.specs.Wilds.{Arms, Strikes};
-ghost use Rattle.page_cache.specs.Caches.{CacheSound, IsFresh, Started, Tells, cache_below, cache_health, cache_kept, cache_seen};
+ghost use Rattle.cached_pages.specs.Caches.{CacheSound, IsFresh, Started, Tells, cache_below, cache_health, cache_kept, cache_seen};
 
-use crate::tables::CacheTables;
+use cached_pages::CacheTables;
 use rio_base::{Machine, Wild, WordAt};
 
 /// The cache of a machine. Its blocks lie in the frames of protected memory, with an entry of the registry for each that

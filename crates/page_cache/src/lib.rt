@@ -1,18 +1,10 @@
 //! The page cache of a machine: a volume whose blocks lie in protected memory.
 #![tactic(auto)]
 
+mod ahead;
 mod cache;
-mod early;
-mod fetching;
-mod filling;
-mod freeing;
-mod leaving;
 mod reading;
-mod slots;
-mod storing;
-mod tables;
-mod updating;
 mod volume;
 
 pub use cache::PageCache;
-pub use tables::CacheTables;
+pub use cached_pages::CacheTables;

@@ -1,29 +1,16 @@
 //! Blocks are read: a word is loaded from its block's frame, and a whole page is lent.
 
-ghost use Rattle.page_cache.specs.Uses.{DirtiesOnly, FailedUse, LeavesOldest, UsedLast};
-ghost use Rattle.std.specs.Prelude.{◌≡◌, ◌<◌, ◌≤◌, ◌+◌, ◌*◌, true, None, IfOk, OnOk, IsErr, IsErrOf, length, take, drop};
+ghost use Rattle.cached_pages.specs.Uses.{DirtiesOnly, FailedUse, LeavesOldest, UsedLast};
+ghost use Rattle.std.specs.Prelude.{◌≡◌, ◌≤◌, ◌+◌, ◌*◌, true, None, IfOk, OnOk, IsErr, IsErrOf, length, take, drop};
 ghost use Rattle.rio_base.specs.Blocks.{CanName, Caches, Ends, IsPlace, IsRun, IsSpan, Looks};
 ghost use Rattle.rio_base.specs.Rules.{passes_on, passes_same};
 ghost use Rattle.rio_base.specs.Volume.{Passes};
-ghost use Rattle.rio_model.specs.Cover.{frame_page};
-ghost use Rattle.rio_model.specs.Registry.{frames_of};
-ghost use Rattle.page_cache.specs.Caches.{CacheSound, FewWrites, cache_below, cache_health, cache_kept, cache_seen, is_touched};
+ghost use Rattle.cached_pages.specs.Caches.{CacheSound, FewWrites, cache_below, cache_health, cache_kept, cache_seen, is_touched};
 ghost use Rattle.page_cache.specs.Laws.{cache_fits, touched_on};
 
 use crate::cache::PageCache;
-use rio_base::{Block, Blocks, Machine, Page, PageName, VolFail, WordAt};
-
-impl<M: Machine> PageCache<M> {
-    /// The page of frame `k`.
-    pub(crate) fn page_of(&self, k: u32) -> Page
-        requires sound { CacheSound (M.contents self.now.machine) (length (M.run self.now.machine).scratch) self.now.tables }
-        requires entry { k < frames_of (M.contents self.now.machine).words }
-        ensures page { result.0 ≡ frame_page (M.contents self.now.machine).words k }
-        ensures within { 512 * result.0 + 512 ≤ length (M.contents self.now.machine).words }
-    {
-        Page(self.tables.first_frame + k)
-    }
-}
+use cached_pages::{fetch, page_of};
+use rio_base::{Block, Blocks, Machine, PageName, VolFail, WordAt};
 
 impl<M: Machine> Blocks for PageCache<M> {
     ghost seen = { λ x. cache_seen (M.contents x.machine) };
@@ -50,7 +37,7 @@ impl<M: Machine> Blocks for PageCache<M> {
 
     /// As [`Blocks::word`]. It asks for one block write at most, and for none where the block is cached or a frame is
     /// free.
-    #[tactic(auto, using(crate::proofs::Rooms::caches_adds, crate::proofs::Rooms::looks_keeps, crate::proofs::Goes::ends_of, crate::proofs::Rooms::passes_of))]
+    #[tactic(auto, using(cached_pages::proofs::Rooms::caches_adds, cached_pages::proofs::Rooms::looks_keeps, cached_pages::proofs::Goes::ends_of, cached_pages::proofs::Rooms::passes_of))]
     fn word(&mut self, b: Block, name: Option<PageName>, w: u16) -> Result<u64, VolFail>
         requires sound { CacheSound (M.contents self.old.machine) (length (M.run self.old.machine).scratch) self.old.tables }
         requires place { IsPlace (cache_seen (M.contents self.old.machine)) b.0 w }
@@ -69,14 +56,14 @@ impl<M: Machine> Blocks for PageCache<M> {
         ensures sure { IsErrOf result VolFail.Fault → is_touched (M.contents self.old.machine).words b.0 ≡ true → ⊥ }
         ensures sound { CacheSound (M.contents self.new.machine) (length (M.run self.new.machine).scratch) self.new.tables }
     {
-        let k = self.fetch(b, name)?;
-        let page = self.page_of(k);
+        let k = fetch(&mut self.machine, &mut self.tables, b, name)?;
+        let page = page_of(&self.machine, &self.tables, k);
         Ok(self.machine.load(WordAt(512 * page.0 + u32::from(w))))
     }
 
     /// As [`Blocks::read_run`]: the block is fetched once, and its words are copied at once. Of block writes it asks for
     /// as many as [`Blocks::word`].
-    #[tactic(auto, using(crate::proofs::Rooms::caches_adds, crate::proofs::Rooms::looks_keeps, crate::proofs::Goes::ends_of, crate::proofs::Rooms::passes_of))]
+    #[tactic(auto, using(cached_pages::proofs::Rooms::caches_adds, cached_pages::proofs::Rooms::looks_keeps, cached_pages::proofs::Goes::ends_of, cached_pages::proofs::Rooms::passes_of))]
     fn read_run(
         &mut self,
         b: Block,
@@ -102,8 +89,8 @@ impl<M: Machine> Blocks for PageCache<M> {
         ensures sure { IsErrOf result VolFail.Fault → is_touched (M.contents self.old.machine).words b.0 ≡ true → ⊥ }
         ensures sound { CacheSound (M.contents self.new.machine) (length (M.run self.new.machine).scratch) self.new.tables }
     {
-        let k = self.fetch(b, name)?;
-        let page = self.page_of(k);
+        let k = fetch(&mut self.machine, &mut self.tables, b, name)?;
+        let page = page_of(&self.machine, &self.tables, k);
         copy_words(self.machine.frame(page), w as usize, into);
         Ok(())
     }
@@ -111,7 +98,7 @@ impl<M: Machine> Blocks for PageCache<M> {
     /// Lends the frame of block `b`, where it is cached.
     fn page(&self, b: Block) -> Option<&[u64]> {
         let k = self.tables.pool.find(b)?;
-        let page = self.page_of(k);
+        let page = page_of(&self.machine, &self.tables, k);
         Some(self.machine.frame(page))
     }
 }

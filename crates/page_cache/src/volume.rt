@@ -1,9 +1,9 @@
 //! The cache as a volume: stores, updates, blocks made anew and forgotten, and flushes.
 
 ghost use Rattle.frame_pool.specs.Pools.{order_of};
-ghost use Rattle.page_cache.specs.Uses.{AllStay, DirtiesOnly, FailedUse, LeavesOldest, OthersStay, UsedLast, freed_order};
+ghost use Rattle.cached_pages.specs.Uses.{AllStay, DirtiesOnly, FailedUse, LeavesOldest, OthersStay, UsedLast, freed_order};
 ghost use Rattle.write_back.specs.Writing.{SameDisk};
-ghost use Rattle.page_cache.specs.Caches.{CacheSound, FewWrites, cache_below, cache_health, cache_kept, cache_seen};
+ghost use Rattle.cached_pages.specs.Caches.{CacheSound, FewWrites, cache_below, cache_health, cache_kept, cache_seen};
 ghost use Rattle.page_cache.specs.Settled.{cache_settled};
 ghost use Rattle.rio_base.specs.Blocks.{Caches, CanName, Drops, Ends, FaultAt, Halts, IsPlace, IsSpan, Looks, as_word};
 ghost use Rattle.rio_model.specs.Cover.{SameNames, entry_of_block};
@@ -12,9 +12,13 @@ ghost use Rattle.std.specs.Prelude.{IfOk, IsErr, IsErrOf, None, OnOk, Some, fals
 ghost use Rattle.write_back.specs.Flushing.{Flushed};
 
 use crate::cache::PageCache;
-use crate::updating::{clear_list, listed, put_edit, unpin_all};
+use cached_pages::{
+    bring_zeros, clear_list, drop_frame, fetch, listed, make_room, put_edit, put_frame_run, ready,
+    shadow_frame, unpin_all,
+};
 use rio_base::{Block, Machine, Page, PageName, RunFail, Stopped, VolFail, Volume};
 use shadow_pages::{begin, commit, undo};
+use word_store::store_word;
 
 impl<M: Machine> Volume for PageCache<M> {
     ghost below = { λ x. cache_below (M.contents x.machine) (M.run x.machine) };
@@ -31,7 +35,7 @@ impl<M: Machine> Volume for PageCache<M> {
 
     /// Makes block `b`, which isn't cached, read as zeros, under a name as for [`rio_base::Blocks::word`]. It is not
     /// loose any more, if it was forgotten. After a refusal it may read as anything and be loose.
-    #[tactic(auto, using(crate::proofs::Goes::ends_of))]
+    #[tactic(auto, using(cached_pages::proofs::Goes::ends_of))]
     fn fresh(&mut self, b: Block, name: Option<PageName>) -> Result<(), VolFail>
         requires sound { CacheSound (M.contents self.old.machine) (length (M.run self.old.machine).scratch) self.old.tables }
         requires place { b.0 < (cache_seen (M.contents self.old.machine)).count }
@@ -54,15 +58,14 @@ impl<M: Machine> Volume for PageCache<M> {
         ensures leaves { LeavesOldest self.old.tables (M.contents self.old.machine).words (M.contents self.new.machine).words }
         ensures marks { DirtiesOnly (Some b.0) (M.contents self.old.machine).words (M.contents self.new.machine).words }
     {
-        let k = self.make_room(b)?;
-        self.bring_zeros(k, b, name)?;
+        let k = make_room(&mut self.machine, &mut self.tables, b)?;
+        bring_zeros(&mut self.machine, &mut self.tables, k, b, name)?;
         self.tables.mark(b, false);
         Ok(())
     }
 
     /// Stores a word of a block outside an update. `Fault` changes no word and no name; `Stopped` leaves the old or the
     /// new word.
-    #[tactic(auto, using(crate::proofs::Goes::ends_of))]
     fn store(&mut self, b: Block, name: Option<PageName>, w: u16, v: u64) -> Result<(), VolFail>
         requires sound { CacheSound (M.contents self.old.machine) (length (M.run self.old.machine).scratch) self.old.tables }
         requires place { IsPlace (cache_seen (M.contents self.old.machine)) b.0 w }
@@ -87,9 +90,7 @@ impl<M: Machine> Volume for PageCache<M> {
         ensures stay { (cache_seen (M.contents self.old.machine)).cached b.0 ≡ true → AllStay (M.contents self.old.machine).words (M.contents self.new.machine).words }
         ensures marks { DirtiesOnly (Some b.0) (M.contents self.old.machine).words (M.contents self.new.machine).words }
     {
-        let k = self.ready(b, name)?;
-        self.put_frame(k, b, w, v)?;
-        Ok(())
+        store_word(&mut self.machine, &mut self.tables, b, name, w, v)
     }
 
     /// Stores a run of words of a block, from word `w` on in rising order, outside an update: one window for all of them,
@@ -128,12 +129,12 @@ impl<M: Machine> Volume for PageCache<M> {
         if from.is_empty() {
             return Ok(());
         }
-        let k = match self.ready(b, name) {
+        let k = match ready(&mut self.machine, &mut self.tables, b, name) {
             Ok(k) => k,
             Err(VolFail::Fault) => return Err(RunFail::Fault(0)),
             Err(VolFail::Stopped) => return Err(RunFail::Stopped),
         };
-        match self.put_frame_run(k, b, w, from) {
+        match put_frame_run(&mut self.machine, &mut self.tables, k, b, w, from) {
             Ok(()) => Ok(()),
             Err(Stopped) => Err(RunFail::Stopped),
         }
@@ -161,7 +162,7 @@ impl<M: Machine> Volume for PageCache<M> {
     }
 
     /// Makes a block of metadata part of the open update, as [`rio_base::Volume::touch`].
-    #[tactic(auto, using(crate::proofs::Rooms::keeps_then, crate::proofs::Rooms::lasts_then, rio_base::proofs::MachineRules::ends_then, crate::proofs::Goes::ends_of, crate::proofs::Stills::few_then))]
+    #[tactic(auto, using(cached_pages::proofs::Rooms::keeps_then, cached_pages::proofs::Rooms::lasts_then, rio_base::proofs::MachineRules::ends_then, cached_pages::proofs::Goes::ends_of, cached_pages::proofs::Stills::few_then))]
     fn touch(&mut self, b: Block) -> Result<(), VolFail>
         requires sound { CacheSound (M.contents self.old.machine) (length (M.run self.old.machine).scratch) self.old.tables }
         requires place { b.0 < (cache_seen (M.contents self.old.machine)).count }
@@ -185,8 +186,8 @@ impl<M: Machine> Volume for PageCache<M> {
         ensures stay { (cache_seen (M.contents self.old.machine)).cached b.0 ≡ true → AllStay (M.contents self.old.machine).words (M.contents self.new.machine).words }
         ensures marks { DirtiesOnly (Some b.0) (M.contents self.old.machine).words (M.contents self.new.machine).words }
     {
-        let k = self.fetch(b, None)?;
-        self.shadow_frame(k)?;
+        let k = fetch(&mut self.machine, &mut self.tables, b, None)?;
+        shadow_frame(&mut self.machine, &mut self.tables, k)?;
         Ok(())
     }
 
@@ -242,7 +243,7 @@ impl<M: Machine> Volume for PageCache<M> {
         let Some(k) = self.tables.pool.find(b) else {
             unreachable!()
         };
-        self.put_frame_run(k, b, w, from)?;
+        put_frame_run(&mut self.machine, &mut self.tables, k, b, w, from)?;
         Ok(())
     }
 
@@ -291,7 +292,7 @@ impl<M: Machine> Volume for PageCache<M> {
 
     /// Drops a block from the cache without writing it: its content no longer counts. It is marked as forgotten first,
     /// so that it is loose however the call ends.
-    #[tactic(auto, using(crate::proofs::Freed::halts_of))]
+    #[tactic(auto, using(cached_pages::proofs::Freed::halts_of))]
     fn forget(&mut self, b: Block) -> Result<(), Stopped>
         requires sound { CacheSound (M.contents self.old.machine) (length (M.run self.old.machine).scratch) self.old.tables }
         requires place { b.0 < (cache_seen (M.contents self.old.machine)).count }
@@ -318,11 +319,11 @@ impl<M: Machine> Volume for PageCache<M> {
         let Some(k) = self.tables.pool.find(b) else {
             return Ok(());
         };
-        self.drop_frame(k, b)?;
+        drop_frame(&mut self.machine, &mut self.tables, k, b)?;
         Ok(())
     }
 
-    #[tactic(auto, using(crate::proofs::Flushes::flushed_sound, crate::proofs::Flushes::shut_by, crate::proofs::Rooms::looks_keeps, crate::proofs::Rooms::firm_keeps, crate::proofs::Kept::tables_refl, crate::proofs::StoreCalls::drops_narrows, crate::proofs::Goes::runs_of, crate::proofs::Goes::ends_of))]
+    #[tactic(auto, using(crate::proofs::Flushes::flushed_sound, crate::proofs::Flushes::shut_by, cached_pages::proofs::Rooms::looks_keeps, cached_pages::proofs::Rooms::firm_keeps, cached_pages::proofs::Kept::tables_refl, cached_pages::proofs::StoreCalls::drops_narrows, cached_pages::proofs::Goes::runs_of, cached_pages::proofs::Goes::ends_of))]
     fn flush(&mut self, k: u64) -> Result<u32, VolFail>
         requires sound { CacheSound (M.contents self.old.machine) (length (M.run self.old.machine).scratch) self.old.tables }
         requires idle { (cache_kept (M.contents self.old.machine) self.old.tables).updating ≡ false }

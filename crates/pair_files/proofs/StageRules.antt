@@ -23,8 +23,8 @@ use Rattle.rio_model.specs.Standing.{StandsFor}
 use Rattle.rio_model.specs.VolumeReads.{ReadsAs}
 use Rattle.rio_model.specs.VolumeReady.{Ready}
 use Rattle.rio_model.proofs.StandingStates.{AreWhole}
-use Rattle.page_cache.specs.Caches.{cache_below, cache_health, cache_kept, cache_seen}
-use Rattle.page_cache.specs.declared.tables.CacheTables.{CacheTables}
+use Rattle.cached_pages.specs.Caches.{cache_below, cache_health, cache_kept, cache_seen}
+use Rattle.cached_pages.specs.declared.tables.CacheTables.{CacheTables}
 use Rattle.region_recovery.specs.RegionLists.{AreRecovered}
 use Rattle.warm_reboot.specs.Boots.{StandsNow}
 use Rattle.warm_reboot.specs.Reboots.{Booted}

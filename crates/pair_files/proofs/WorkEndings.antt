@@ -15,8 +15,8 @@ use Rattle.rio_model.specs.Registry.{frames_of}
 use Rattle.rio_model.specs.Standing.{Restored, StandsFor}
 use Rattle.rio_model.proofs.PlacedRules.{cases_lt}
 use Rattle.rio_model.proofs.StandingStates.{AreWhole}
-use Rattle.page_cache.specs.Caches.{cache_below, cache_health, is_roomy}
-use Rattle.page_cache.specs.declared.tables.CacheTables.{CacheTables}
+use Rattle.cached_pages.specs.Caches.{cache_below, cache_health, is_roomy}
+use Rattle.cached_pages.specs.declared.tables.CacheTables.{CacheTables}
 use Rattle.pair_files.specs.declared.ends.PairEnd.TheVariants.{Unsaved, Worked}
 use Rattle.pair_files.specs.Ends.{Begins, Ended, Goes, IsDone, IsDoneUnsaved, Outcome, Outset, Works}
 use Rattle.pair_files.specs.Images.{IsImageOf}

@@ -8,8 +8,8 @@ use Rattle.rio_base.specs.Volume.{Below}
 use Rattle.rio_model.specs.declared.state.State.{State}
 use Rattle.rio_model.specs.VolumeReads.{ReadsAs}
 use Rattle.rio_model.specs.VolumeReady.{Ready}
-use Rattle.page_cache.specs.Caches.{cache_below, cache_health, cache_kept, cache_seen}
-use Rattle.page_cache.specs.declared.tables.CacheTables.{CacheTables}
+use Rattle.cached_pages.specs.Caches.{cache_below, cache_health, cache_kept, cache_seen}
+use Rattle.cached_pages.specs.declared.tables.CacheTables.{CacheTables}
 use Rattle.region_recovery.specs.RegionLists.{AreRecovered}
 
 -- what the source has left and what the sink has taken, where that is told, and how many of their calls failed

@@ -14,8 +14,8 @@ use Rattle.rio_model.specs.Cover.{stands}
 use Rattle.rio_model.specs.Placed.{volume_layout}
 use Rattle.rio_model.specs.Registry.{HasLayout, KeepsRegistry}
 use Rattle.rio_model.specs.Standing.{Restored, StandsFor}
-use Rattle.page_cache.specs.Caches.{cache_below, cache_health, is_roomy}
-use Rattle.page_cache.specs.declared.tables.CacheTables.{CacheTables}
+use Rattle.cached_pages.specs.Caches.{cache_below, cache_health, is_roomy}
+use Rattle.cached_pages.specs.declared.tables.CacheTables.{CacheTables}
 use Rattle.warm_reboot.specs.Examining.{TellsNoRule}
 use Rattle.warm_reboot.specs.Reboots.{FailsLooked, Unbooted}
 use Rattle.warm_reboot.specs.declared.report.BootFail.{BootFail}

@@ -7,7 +7,7 @@ ghost use Rattle.rio_base.specs.Disks.{is_pending};
 ghost use Rattle.rio_base.specs.Image.{HasHeader};
 ghost use Rattle.rio_model.specs.declared.state.State.{State};
 ghost use Rattle.rio_model.specs.Registry.{HasLayout, KeepsRegistry};
-ghost use Rattle.page_cache.specs.Caches.{CacheSound, cache_below};
+ghost use Rattle.cached_pages.specs.Caches.{CacheSound, cache_below};
 ghost use Rattle.rio_bench.specs.Benches.{made_contents, made_run};
 ghost use Rattle.pair_files.specs.Ends.{Ended, EndedEarly, HasBegun, Outset, outcome_of, outset_of};
 ghost use Rattle.pair_files.specs.Loads.{IsImageRead};

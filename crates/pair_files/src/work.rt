@@ -4,7 +4,7 @@ ghost use Rattle.std.specs.Prelude.{◌≤◌, length};
 ghost use Rattle.rio_base.specs.Blocks.{Causes};
 ghost use Rattle.rio_model.specs.declared.state.State.{State};
 ghost use Rattle.rio_model.specs.Standing.{StandsFor};
-ghost use Rattle.page_cache.specs.Caches.{CacheSound, cache_below, cache_health};
+ghost use Rattle.cached_pages.specs.Caches.{CacheSound, cache_below, cache_health};
 ghost use Rattle.pair_files.specs.Scenes.{IsBooted, LastsBelow, Scene, scene_of, streams_of};
 
 use page_cache::PageCache;

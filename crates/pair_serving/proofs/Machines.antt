@@ -13,8 +13,8 @@ use Rattle.rio_model.proofs.StandingStates.{HasSizes, TellsEntries, stands_for_r
 use Rattle.rio_requests.specs.Crash.{crashed}
 use Rattle.file_tree.specs.Ends.{Stands}
 use Rattle.vista_region.specs.Marks.{Marks}
-use Rattle.page_cache.specs.Caches.{Tells, cache_below, cache_health, cache_kept, cache_seen}
-use Rattle.page_cache.specs.declared.tables.CacheTables.{CacheTables}
+use Rattle.cached_pages.specs.Caches.{Tells, cache_below, cache_health, cache_kept, cache_seen}
+use Rattle.cached_pages.specs.declared.tables.CacheTables.{CacheTables}
 use Rattle.rio_core.specs.Serving.{Holds}
 use Rattle.rio_core.proofs.Recoveries.{recovered_held}
 use Rattle.rio_core.proofs.RegionEnds.{held_serves}

@@ -14,9 +14,9 @@ use Rattle.rio_requests.proofs.WentRules.{went_none}
 use Rattle.rio_requests.specs.Crash.{crashed, undo_all}
 use Rattle.file_tree.specs.Ends.{Stands}
 use Rattle.vista_region.specs.Marks.{Marks}
-use Rattle.page_cache.specs.Caches.{CacheSound, Tells, cache_below, cache_health, cache_kept, cache_seen}
+use Rattle.cached_pages.specs.Caches.{CacheSound, Tells, cache_below, cache_health, cache_kept, cache_seen}
 use Rattle.page_cache.specs.Settled.{cache_settled}
-use Rattle.page_cache.specs.declared.tables.CacheTables.{CacheTables}
+use Rattle.cached_pages.specs.declared.tables.CacheTables.{CacheTables}
 use Rattle.rio_serving.specs.declared.ends.ServeEnd.{ServeEnd}
 use Rattle.rio_serving.specs.declared.ends.ServeEnd.TheVariants.{End, SourceFault, SinkFault, InputLimit, Memory, Stopped}
 use Rattle.rio_serving.specs.ServeRun.{RunEnds}

@@ -7,7 +7,7 @@ ghost use Rattle.rio_model.specs.declared.state.State.{State};
 ghost use Rattle.rio_model.specs.Standing.{StandsFor};
 ghost use Rattle.rio_core.specs.Lines.{IsCalm, core_protocol};
 ghost use Rattle.rio_serving.specs.ServeRun.{RunEnds};
-ghost use Rattle.page_cache.specs.Caches.{cache_below, cache_health};
+ghost use Rattle.cached_pages.specs.Caches.{cache_below, cache_health};
 ghost use Rattle.pair_files.specs.Scenes.{LastsBelow, scene_of, streams_of};
 ghost use Rattle.pair_serving.specs.ServedScenes.{Served};
 

@@ -12,8 +12,8 @@ use Rattle.rio_model.specs.VolumeReads.{ReadsAs}
 use Rattle.rio_model.specs.VolumeReady.{Ready}
 use Rattle.rio_model.specs.VolumeRules.{TreeRule}
 use Rattle.rio_model.proofs.StateSteps.{walk_kept}
-use Rattle.page_cache.specs.declared.tables.CacheTables.{CacheTables}
-use Rattle.page_cache.specs.Caches.{CacheSound, cache_below, cache_health, cache_kept, cache_seen}
+use Rattle.cached_pages.specs.declared.tables.CacheTables.{CacheTables}
+use Rattle.cached_pages.specs.Caches.{CacheSound, cache_below, cache_health, cache_kept, cache_seen}
 use Rattle.region_recovery.specs.RegionLists.{AreRecovered}
 use Rattle.rio_core.specs.Serving.{Holds, Serves}
 use Rattle.rio_core.proofs.Recoveries.{recovered_held}

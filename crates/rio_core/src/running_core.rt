@@ -15,7 +15,7 @@ ghost use Rattle.rio_requests.specs.Crash.{crashed};
 ghost use Rattle.rio_requests.specs.CrashFiles.{OnFiles};
 ghost use Rattle.file_tree.specs.Ends.{Stands};
 ghost use Rattle.file_tree.specs.Memos.{InStep};
-ghost use Rattle.page_cache.specs.Caches.{Tells, cache_seen};
+ghost use Rattle.cached_pages.specs.Caches.{Tells, cache_seen};
 ghost use Rattle.write_back.specs.Flushing.{Flushed};
 ghost use Rattle.rio_core.specs.CallEnds.{IsAt};
 ghost use Rattle.rio_core.specs.Serving.{Answering, Holds, TellsFault};

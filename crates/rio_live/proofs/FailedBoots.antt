@@ -8,7 +8,7 @@ use Rattle.rio_model.specs.Cover.{causes_of}
 use Rattle.rio_model.specs.Registry.{HasLayout}
 use Rattle.rio_model.specs.Standing.{StandsFor}
 use Rattle.rio_requests.specs.declared.request.Request.{Request}
-use Rattle.page_cache.specs.Caches.{cache_below, cache_health}
+use Rattle.cached_pages.specs.Caches.{cache_below, cache_health}
 use Rattle.warm_reboot.specs.Reboots.{Unbooted}
 use Rattle.warm_reboot.specs.declared.report.BootFail.{BootFail}
 use Rattle.warm_reboot.specs.declared.report.BootFail.TheVariants.{BadImage, BadVolume, Fault, Memory, Stopped}

@@ -21,7 +21,7 @@ use Rattle.block_disk.specs.BlockLists.{AreWhole}
 use Rattle.block_disk.specs.MemDisks.{Crashed, FailsNever, MemDiskState, contents_of, crashed_block, most_faults, upcoming}
 use Rattle.block_disk.specs.declared.disk_choice.DiskChoice.{DiskChoice}
 use Rattle.rio_bench.specs.Benches.{made_contents, made_run}
-use Rattle.page_cache.specs.Caches.{cache_below, cache_health}
+use Rattle.cached_pages.specs.Caches.{cache_below, cache_health}
 use Rattle.live_plans.specs.declared.plan.BootPlan.{BootPlan}
 use Rattle.live_plans.specs.declared.transcript.BootEnd.{BootEnd}
 use Rattle.live_plans.specs.declared.transcript.BootEnd.TheVariants.{Served, Stopped, BootFault}

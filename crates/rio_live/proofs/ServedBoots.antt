@@ -17,7 +17,7 @@ use Rattle.rio_requests.specs.declared.reply.Reply.{Reply}
 use Rattle.rio_requests.specs.declared.request.Request.{Request}
 use Rattle.file_tree.specs.Ends.{Stands}
 use Rattle.vista_region.specs.Marks.{Marks}
-use Rattle.page_cache.specs.Caches.{Tells, cache_below, cache_health}
+use Rattle.cached_pages.specs.Caches.{Tells, cache_below, cache_health}
 use Rattle.rio_core.specs.Serving.{Holds}
 use Rattle.pair_serving.proofs.Machines.{stands_held, stands_stopped}
 use Rattle.pair_serving.proofs.Sizes.{FitsMemory, fits_then, keeps_then, part_keeps}

@@ -4,8 +4,8 @@ use Rattle.rio_base.specs.declared.places.VolumeShape.{VolumeShape}
 use Rattle.rio_model.specs.declared.state.State.{State}
 use Rattle.rio_requests.specs.Crash.{crashed}
 use Rattle.file_tree.specs.Ends.{Stands}
-use Rattle.page_cache.specs.Caches.{cache_below, cache_health, cache_kept, cache_seen}
-use Rattle.page_cache.specs.declared.tables.CacheTables.{CacheTables}
+use Rattle.cached_pages.specs.Caches.{cache_below, cache_health, cache_kept, cache_seen}
+use Rattle.cached_pages.specs.declared.tables.CacheTables.{CacheTables}
 use Rattle.rio_core.specs.Serving.{Holds}
 use Rattle.vista_region.specs.Marks.{Marks}
 

@@ -5,7 +5,7 @@ ghost use Rattle.rio_base.specs.Shapes.{IsServed};
 ghost use Rattle.rio_model.specs.declared.state.State.{State};
 ghost use Rattle.rio_model.specs.Standing.{StandsFor};
 ghost use Rattle.rio_requests.specs.Requests.{IsRequest};
-ghost use Rattle.page_cache.specs.Caches.{CacheSound, cache_below, cache_health};
+ghost use Rattle.cached_pages.specs.Caches.{CacheSound, cache_below, cache_health};
 ghost use Rattle.warm_reboot.specs.Examining.{TellsNoRule};
 ghost use Rattle.pair_files.specs.Scenes.{IsBooted};
 ghost use Rattle.rio_live.specs.Cores.{CoreHolds, CoreStands};

@@ -20,8 +20,8 @@ use Rattle.rio_model.specs.VolumeReads.{ReadsAs}
 use Rattle.rio_model.specs.VolumeReady.{Ready}
 use Rattle.rio_model.proofs.FreshReads.{fresh_reads}
 use Rattle.rio_base.specs.Shapes.{IsServed}
-use Rattle.page_cache.specs.declared.tables.CacheTables.{CacheTables}
-use Rattle.page_cache.specs.Caches.{IsFresh, Started, cache_below, cache_health}
+use Rattle.cached_pages.specs.declared.tables.CacheTables.{CacheTables}
+use Rattle.cached_pages.specs.Caches.{IsFresh, Started, cache_below, cache_health}
 use Rattle.test_servers.specs.FreshMachines.{IsFreshDisk, IsFreshMemory}
 use Rattle.test_servers.specs.FreshMachines.{IsFreshBelow}
 use Rattle.test_servers.proofs.FreshMachineDisks.{reads_fresh}

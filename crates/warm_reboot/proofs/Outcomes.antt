@@ -22,8 +22,8 @@ use Rattle.rio_model.specs.VolumeReady.{Ready}
 use Rattle.rio_model.proofs.StandingStates.{AreWhole, one_shape}
 use Rattle.registry.specs.Views.{Viewed}
 use Rattle.registry.specs.ViewLaws.{viewed_trans}
-use Rattle.page_cache.specs.Caches.{cache_below, cache_health}
-use Rattle.page_cache.proofs.Goes.{runs_of}
+use Rattle.cached_pages.specs.Caches.{cache_below, cache_health}
+use Rattle.cached_pages.proofs.Goes.{runs_of}
 use Rattle.page_restore.specs.Reports.{AreSoMany, CountsPages, IsUnsaved}
 use Rattle.page_restore.specs.Stale.{MarksStale}
 use Rattle.page_restore.specs.declared.kinds.PageCounts.{PageCounts}

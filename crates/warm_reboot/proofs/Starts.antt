@@ -14,9 +14,9 @@ use Rattle.rio_model.specs.VolumeReads.{ReadsAs}
 use Rattle.rio_model.proofs.RestoredBlocks.{restored_by}
 use Rattle.rio_model.proofs.StandingStates.{AreWhole, stale_out_of_use, stands_for_kept, stands_with_reads}
 use Rattle.rio_model.proofs.VolumeReadRules.{held_of_agree, reads_agree}
-use Rattle.page_cache.specs.Caches.{IsFresh, Started, cache_below, cache_health}
-use Rattle.page_cache.specs.declared.tables.CacheTables.{CacheTables}
-use Rattle.page_cache.proofs.Goes.{runs_of}
+use Rattle.cached_pages.specs.Caches.{IsFresh, Started, cache_below, cache_health}
+use Rattle.cached_pages.specs.declared.tables.CacheTables.{CacheTables}
+use Rattle.cached_pages.proofs.Goes.{runs_of}
 use Rattle.page_restore.proofs.Restores.{stale_of, wanted_of}
 use Rattle.page_restore.specs.Phases.{PhaseEnds}
 use Rattle.page_restore.specs.Stale.{MarksStale}

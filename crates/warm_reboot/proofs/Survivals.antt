@@ -18,9 +18,9 @@ use Rattle.rio_model.specs.VolumeReady.{Ready}
 use Rattle.rio_model.proofs.RebootSteps.{endures_read}
 use Rattle.rio_model.proofs.StandingStates.{AreWhole, SameLengths, one_shape, stands_for_could, stands_for_ready, stands_with_reads}
 use Rattle.registry.specs.Views.{Viewed}
-use Rattle.page_cache.specs.Caches.{CacheSound, Tells, cache_below, cache_health, cache_kept, cache_seen}
+use Rattle.cached_pages.specs.Caches.{CacheSound, Tells, cache_below, cache_health, cache_kept, cache_seen}
 use Rattle.page_cache.specs.Settled.{cache_settled, gate_shut}
-use Rattle.page_cache.specs.declared.tables.CacheTables.{CacheTables}
+use Rattle.cached_pages.specs.declared.tables.CacheTables.{CacheTables}
 use Rattle.region_recovery.proofs.ReadySound.{sound_ready}
 use Rattle.region_recovery.proofs.SameDisk.{same_disk}
 use Rattle.warm_reboot.specs.Boots.{IsCutOff, Survives}

@@ -11,7 +11,7 @@ ghost use Rattle.rio_model.specs.Registry.{HasLayout, frames_of, gate_of};
 ghost use Rattle.rio_model.specs.Standing.{Restorable, Restored, StandsFor};
 ghost use Rattle.rio_model.specs.VolumeReads.{ReadsAs};
 ghost use Rattle.rio_model.specs.VolumeReady.{Ready};
-ghost use Rattle.page_cache.specs.Caches.{CacheSound, IsFresh, cache_below, cache_health, cache_kept, cache_seen, is_roomy};
+ghost use Rattle.cached_pages.specs.Caches.{CacheSound, IsFresh, cache_below, cache_health, cache_kept, cache_seen, is_roomy};
 ghost use Rattle.page_restore.specs.Stale.{MarksStale};
 ghost use Rattle.region_recovery.specs.RegionLists.{ino_numbers, region_inos};
 ghost use Rattle.warm_reboot.specs.Boots.{IsCutOff, StandsNow};

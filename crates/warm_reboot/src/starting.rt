@@ -8,7 +8,7 @@ ghost use Rattle.rio_model.specs.Cover.{stands};
 ghost use Rattle.rio_model.specs.Placed.{Layout, volume_layout};
 ghost use Rattle.rio_model.specs.Registry.{frames_of, gate_of, is_data, tag_at};
 ghost use Rattle.rio_model.specs.Standing.{EntriesFit, Restorable, Restored};
-ghost use Rattle.page_cache.specs.Caches.{CacheSound, IsFresh, cache_below, cache_health, cache_kept, cache_seen};
+ghost use Rattle.cached_pages.specs.Caches.{CacheSound, IsFresh, cache_below, cache_health, cache_kept, cache_seen};
 ghost use Rattle.page_restore.specs.Phases.{PhaseEnds};
 ghost use Rattle.page_restore.specs.Reports.{CountsPages};
 ghost use Rattle.page_restore.specs.Stale.{MarksStale};

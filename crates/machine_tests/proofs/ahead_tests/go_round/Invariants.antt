@@ -1,6 +1,6 @@
 use Rattle.std.specs.Prelude.{false, length}
 use Rattle.std.proofs.Common.{◌≡◌}
-use Rattle.page_cache.specs.Caches.{CacheSound, cache_kept, cache_seen}
+use Rattle.cached_pages.specs.Caches.{CacheSound, cache_kept, cache_seen}
 use Rattle.machine_tests.specs.Walks.{Walks}
 use Rattle.machine_tests.proofs.ahead_tests.go_round.Given as goal
 

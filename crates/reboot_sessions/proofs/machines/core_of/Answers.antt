@@ -1,5 +1,5 @@
 use Rattle.rio_model.specs.declared.state.State.{State}
-use Rattle.page_cache.specs.Caches.{cache_below, cache_health, cache_kept, cache_seen}
+use Rattle.cached_pages.specs.Caches.{cache_below, cache_health, cache_kept, cache_seen}
 use Rattle.rio_core.specs.Serving.{Holds}
 use Rattle.reboot_sessions.proofs.Cores.{booted_holds, carried}
 use Rattle.reboot_sessions.proofs.machines.core_of.Goals as goal

@@ -3,7 +3,7 @@ use Rattle.std.proofs.Common.{le_refl}
 use Rattle.rio_base.specs.Rules.{true_false}
 use Rattle.rio_base.proofs.Rules.{ends_by_well}
 use Rattle.rio_requests.specs.declared.reply.Reply.TheVariants.{Ok as Done}
-use Rattle.page_cache.specs.Caches.{cache_below, cache_health, cache_kept, cache_seen}
+use Rattle.cached_pages.specs.Caches.{cache_below, cache_health, cache_kept, cache_seen}
 use Rattle.rio_core.specs.Serving.{Answering, Holds, TellsFault}
 use Rattle.rio_core.proofs.Served.{synced, txns_told}
 use Rattle.rio_core.proofs.WentBy.{file_forms, file_kept, region_forms, stopped_on, txns_no_fault, went_on, went_sync, went_txns}

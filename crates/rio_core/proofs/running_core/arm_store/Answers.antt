@@ -1,5 +1,5 @@
 use Rattle.rio_core.proofs.Common.{subst}
-use Rattle.page_cache.specs.Caches.{cache_below, cache_health, cache_kept, cache_seen}
+use Rattle.cached_pages.specs.Caches.{cache_below, cache_health, cache_kept, cache_seen}
 use Rattle.page_cache.specs.Wilds.{Arms}
 use Rattle.rio_core.proofs.WildStores.{arm_done, arm_refused, went_armed, went_unarmed}
 use Rattle.rio_core.proofs.running_core.arm_store.Goals as goal

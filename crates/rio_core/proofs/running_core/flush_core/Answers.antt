@@ -1,4 +1,4 @@
-use Rattle.page_cache.specs.Caches.{cache_below, cache_health, cache_kept, cache_seen}
+use Rattle.cached_pages.specs.Caches.{cache_below, cache_health, cache_kept, cache_seen}
 use Rattle.page_cache.specs.Settled.{cache_settled}
 use Rattle.rio_core.proofs.Served.{fault_runs, flush_done, flush_faults, flush_leaves, flush_stops}
 use Rattle.rio_core.proofs.running_core.flush_core.Goals as goal

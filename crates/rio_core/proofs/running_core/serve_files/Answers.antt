@@ -1,7 +1,7 @@
 use Rattle.rio_core.proofs.Common.{refl, crashed, Stands}
 use Rattle.rio_base.specs.Rules.{goes_trans}
 use Rattle.rio_base.proofs.Rules.{ends_by_after}
-use Rattle.page_cache.specs.Caches.{cache_below, cache_health, cache_kept, cache_seen}
+use Rattle.cached_pages.specs.Caches.{cache_below, cache_health, cache_kept, cache_seen}
 use Rattle.rio_core.proofs.Served.{ahead_answers, answering}
 use Rattle.rio_core.proofs.running_core.serve_files.Goals as goal
 

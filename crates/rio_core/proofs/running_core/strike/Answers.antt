@@ -1,5 +1,5 @@
 use Rattle.rio_core.proofs.Common.{subst}
-use Rattle.page_cache.specs.Caches.{cache_below, cache_health, cache_kept, cache_seen}
+use Rattle.cached_pages.specs.Caches.{cache_below, cache_health, cache_kept, cache_seen}
 use Rattle.page_cache.specs.Settled.{cache_settled}
 use Rattle.page_cache.specs.Wilds.{Strikes}
 use Rattle.rio_core.proofs.WildStores.{fell, never_spared, protects, trap_ends, trap_stops, trapped_at, went_past, went_wild, wild_done, wild_refused, wild_trapped}

@@ -1,5 +1,5 @@
 use Rattle.rio_core.proofs.Common.{arith, refl}
-use Rattle.page_cache.specs.Caches.{cache_below}
+use Rattle.cached_pages.specs.Caches.{cache_below}
 use Rattle.rio_core.proofs.WildStores.{memory_words}
 use Rattle.rio_core.proofs.running_core.words_in.Goals as goal
 

@@ -1,5 +1,5 @@
 use Rattle.file_tree.proofs.MemoSteps.{same_step}
-use Rattle.page_cache.specs.Caches.{cache_below, cache_health, cache_kept, cache_seen}
+use Rattle.cached_pages.specs.Caches.{cache_below, cache_health, cache_kept, cache_seen}
 use Rattle.page_cache.specs.Settled.{cache_settled}
 use Rattle.rio_core.proofs.Served.{ahead_holds, ahead_leaves, ahead_stands}
 use Rattle.rio_core.proofs.running_core.write_ahead.Goals as goal

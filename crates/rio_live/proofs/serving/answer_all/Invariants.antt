@@ -1,6 +1,6 @@
 use Rattle.std.proofs.Common.{length}
 use Rattle.rio_model.specs.declared.state.State.{State}
-use Rattle.page_cache.specs.Caches.{CacheSound, cache_below, cache_health}
+use Rattle.cached_pages.specs.Caches.{CacheSound, cache_below, cache_health}
 use Rattle.rio_live.specs.Cores.{CoreHolds}
 use Rattle.rio_live.proofs.Answered.{Leads}
 use Rattle.rio_live.proofs.serving.answer_all.Given as goal

@@ -1,7 +1,7 @@
 use Rattle.std.specs.Prelude.{length}
 use Rattle.std.proofs.Common.{◌∙◌, ap, inl, inr}
 use Rattle.rio_base.specs.Machine.{Contents}
-use Rattle.page_cache.specs.Caches.{is_roomy}
+use Rattle.cached_pages.specs.Caches.{is_roomy}
 use Rattle.warm_reboot.proofs.Examines.{tells_none}
 use Rattle.warm_reboot.proofs.Outcomes.{booted_viewed, either_as, err_always, err_as, examined_viewed, now_found, ok_always, ok_as, runs_viewed, unbooted_look, unbooted_viewed}
 use Rattle.rio_base.specs.Rules.{runs_trans}

@@ -4,7 +4,7 @@ use Rattle.rio_base.specs.declared.places.Ino.{Ino}
 use Rattle.rio_model.specs.Cover.{stands}
 use Rattle.rio_model.specs.Placed.{volume_layout}
 use Rattle.rio_model.specs.Standing.{Restored}
-use Rattle.page_cache.specs.Caches.{cache_kept, cache_seen}
+use Rattle.cached_pages.specs.Caches.{cache_kept, cache_seen}
 use Rattle.page_restore.specs.Stale.{MarksStale}
 use Rattle.region_recovery.specs.RegionLists.{ino_numbers}
 use Rattle.warm_reboot.proofs.Outcomes.{booted_by, entries_found, marked_found, reads_found, ready_found, regions_found}

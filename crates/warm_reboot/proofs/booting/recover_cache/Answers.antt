@@ -8,7 +8,7 @@ use Rattle.rio_model.specs.Cover.{reads}
 use Rattle.rio_model.specs.Registry.{gate_of}
 use Rattle.rio_model.specs.VolumeReads.{ReadsAs}
 use Rattle.rio_model.specs.VolumeReady.{Ready}
-use Rattle.page_cache.specs.Caches.{CacheSound, Tells, cache_below, cache_health, cache_kept, cache_seen}
+use Rattle.cached_pages.specs.Caches.{CacheSound, Tells, cache_below, cache_health, cache_kept, cache_seen}
 use Rattle.region_recovery.specs.RegionLists.{ino_numbers, region_inos}
 use Rattle.warm_reboot.specs.Boots.{IsCutOff}
 use Rattle.warm_reboot.specs.Reboots.{Recovers}

@@ -5,7 +5,7 @@ use Rattle.rio_base.specs.Volume.{Runs}
 use Rattle.rio_model.specs.Cover.{reads}
 use Rattle.rio_model.specs.Standing.{Restored, stale_block}
 use Rattle.rio_model.proofs.RebootClears.{coherent_empty}
-use Rattle.page_cache.specs.Caches.{cache_below, cache_health, cache_kept, cache_seen}
+use Rattle.cached_pages.specs.Caches.{cache_below, cache_health, cache_kept, cache_seen}
 use Rattle.page_restore.proofs.Steps.{image_next}
 use Rattle.warm_reboot.proofs.Starts.{agrees_kept, fresh_kept, frames_kept, restored_on, runs_on, starts_on, survives_kept}
 use Rattle.warm_reboot.specs.Boots.{Survives}

@@ -1,8 +1,8 @@
 use Rattle.page_cache.proofs.Wilds.{arm_sound, arms_of, kept_on, place_of}
 use Rattle.page_cache.proofs.cache.PageCache.arm.Goals as goal
-use Rattle.page_cache.proofs.Common.{ap}
+use Rattle.cached_pages.proofs.Common.{ap}
 use Rattle.std.proofs.Common.{refl}
-use Rattle.page_cache.specs.Caches.{cache_seen}
+use Rattle.cached_pages.specs.Caches.{cache_seen}
 
 pub arm-requires : goal.arm-requires
 arm-requires g c = place_of c.args.at.0 (g.M.Machine.contents c.args.self.now.machine) (g.M.Machine.run c.args.self.now.machine) (g.met.M.Machine.protected_words c.args.self.now.machine) c.requires.place

@@ -1,4 +1,4 @@
-use Rattle.page_cache.proofs.Starts.{tells_of}
+use Rattle.cached_pages.proofs.Starts.{tells_of}
 use Rattle.page_cache.proofs.cache.PageCache.machine.Goals as goal
 
 pub returns-clause-tells : goal.returns-clause-tells

@@ -1,4 +1,4 @@
-use Rattle.page_cache.proofs.Starts.{start_sound, started_of}
+use Rattle.cached_pages.proofs.Starts.{start_sound, started_of}
 use Rattle.page_cache.proofs.cache.PageCache.start.Goals as goal
 
 pub returns-clause-sound : goal.returns-clause-sound

@@ -1,12 +1,12 @@
-use Rattle.page_cache.proofs.Common.{◌≡◌, ◌<◌, ◌∙◌, true, ap, sym, subst, arith, true_false, order_of}
-use Rattle.page_cache.proofs.Nearness.{not_roomy, passes_near, passes_none}
+use Rattle.cached_pages.proofs.Common.{◌≡◌, ◌<◌, ◌∙◌, true, ap, sym, subst, arith, true_false, order_of}
+use Rattle.cached_pages.proofs.Nearness.{not_roomy, passes_near, passes_none}
 use Rattle.page_cache.proofs.cache.PageCache.write_ahead.Goals as goal
 
 pub send_next-requires-clause-entry : goal.send_next-requires-clause-entry
 send_next-requires-clause-entry g c = subst (λ f. c.victim-k.result < f) c.requires.sound.frames c.victim-k.ensures.within
 
 pub returns-clause-passes : goal.returns-clause-passes
-returns-clause-passes g c = passes_near (g.M.Machine.contents c.args.self.now.machine) (g.M.Machine.contents c.send_next.new.self.machine) _ _ _ _ c.send_next.ensures.nears c.send_next.ensures.ends.steps (λ r. absurd (not_roomy _ _ (sym c.has_all_frames.ensures ∙ c.if-has_all_frames.false) r))
+returns-clause-passes g c = passes_near (g.M.Machine.contents c.args.self.now.machine) (g.M.Machine.contents c.send_next.new.m) _ _ _ _ c.send_next.ensures.nears c.send_next.ensures.ends.steps (λ r. absurd (not_roomy _ _ (sym c.has_all_frames.ensures ∙ c.if-has_all_frames.false) r))
 
 pub returns-clause-free : goal.returns-clause-free
 returns-clause-free g c = λ j less gone.

@@ -1,7 +1,7 @@
-use Rattle.page_cache.proofs.Common.{◌∙◌, ap, arith}
+use Rattle.cached_pages.proofs.Common.{◌∙◌, ap, arith}
 use Rattle.std.proofs.Common.{length, ℕ, List}
-use Rattle.page_cache.proofs.Frames.{page_count, page_run}
-use Rattle.page_cache.proofs.Rooms.{some_bound}
+use Rattle.cached_pages.proofs.Frames.{page_count, page_run}
+use Rattle.cached_pages.proofs.Rooms.{some_bound}
 use Rattle.page_cache.proofs.reading.PageCacheBlocks.page.Goals as goal
 
 pub returns-clause-words : goal.returns-clause-words

@@ -1,27 +1,27 @@
-use Rattle.page_cache.proofs.Common.{ap, arith, found_is}
+use Rattle.cached_pages.proofs.Common.{ap, arith, found_is}
 use Rattle.std.proofs.Common.{length, ℕ, List}
-use Rattle.page_cache.proofs.Frames.{copied_run, page_count}
-use Rattle.page_cache.proofs.Rooms.{passes_of}
+use Rattle.cached_pages.proofs.Frames.{copied_run, page_count}
+use Rattle.cached_pages.proofs.Rooms.{passes_of}
 use Rattle.page_cache.proofs.reading.PageCacheBlocks.read_run.Goals as goal
-use Rattle.page_cache.proofs.Rooms.{looks_keeps, caches_adds}
-use Rattle.page_cache.proofs.Common.{refl}
+use Rattle.cached_pages.proofs.Rooms.{looks_keeps, caches_adds}
+use Rattle.cached_pages.proofs.Common.{refl}
 
 pub page_of-page-requires-clause-entry : goal.page_of-page-requires-clause-entry
 page_of-page-requires-clause-entry g c = (found_is _ _ _ c.in_ok-k.ensures.found).0.within
 
 pub copy_words-requires : goal.copy_words-requires
 copy_words-requires g c =
-    let words = (g.M.Machine.contents c.fetch.new.self.machine).words in
+    let words = (g.M.Machine.contents c.fetch.new.m).words in
     record { within = omega (arith, c.requires.place.within, ap (λ (xs : List ℕ). length xs) (c.frame.ensures.protected (omega (arith, c.page_of-page.ensures.within))), page_count words c.page_of-page.result.0 c.page_of-page.ensures.within) }
 
 pub returns-clause-words : goal.returns-clause-words
-returns-clause-words g c = copied_run c.in_ok-k.k c.args.b.0 c.args.w (length c.args.into.now) c.page_of-page.result.0 (g.M.Machine.contents c.args.self.now.machine) (g.M.Machine.contents c.fetch.new.self.machine) c.frame.result.now c.copy_words.new.into c.fetch.ensures.keeps c.in_ok-k.ensures.found c.page_of-page.ensures.page c.requires.place.within (c.frame.ensures.protected (omega (arith, c.page_of-page.ensures.within))) c.copy_words.ensures.copied
+returns-clause-words g c = copied_run c.in_ok-k.k c.args.b.0 c.args.w (length c.args.into.now) c.page_of-page.result.0 (g.M.Machine.contents c.args.self.now.machine) (g.M.Machine.contents c.fetch.new.m) c.frame.result.now c.copy_words.new.into c.fetch.ensures.keeps c.in_ok-k.ensures.found c.page_of-page.ensures.page c.requires.place.within (c.frame.ensures.protected (omega (arith, c.page_of-page.ensures.within))) c.copy_words.ensures.copied
 
 pub returns-in_err-k-clause-passes : goal.returns-in_err-k-clause-passes
-returns-in_err-k-clause-passes g c = passes_of c.args.b.0 (g.M.Machine.contents c.args.self.now.machine) (g.M.Machine.contents c.fetch.new.self.machine) (g.M.Machine.run c.args.self.now.machine) (g.M.Machine.run c.fetch.new.self.machine) c.args.self.now.tables c.fetch.new.self.tables c.fetch.ensures.keeps c.fetch.ensures.lasts c.fetch.ensures.ends.steps c.fetch.ensures.writes c.fetch.ensures.touches c.fetch.ensures.tables
+returns-in_err-k-clause-passes g c = passes_of c.args.b.0 (g.M.Machine.contents c.args.self.now.machine) (g.M.Machine.contents c.fetch.new.m) (g.M.Machine.run c.args.self.now.machine) (g.M.Machine.run c.fetch.new.m) c.args.self.now.tables c.fetch.new.t c.fetch.ensures.keeps c.fetch.ensures.lasts c.fetch.ensures.ends.steps c.fetch.ensures.writes c.fetch.ensures.touches c.fetch.ensures.tables
 
 pub returns-clause-passes : goal.returns-clause-passes
-returns-clause-passes g c = passes_of c.args.b.0 (g.M.Machine.contents c.args.self.now.machine) (g.M.Machine.contents c.fetch.new.self.machine) (g.M.Machine.run c.args.self.now.machine) (g.M.Machine.run c.fetch.new.self.machine) c.args.self.now.tables c.fetch.new.self.tables c.fetch.ensures.keeps c.fetch.ensures.lasts c.fetch.ensures.ends.steps c.fetch.ensures.writes c.fetch.ensures.touches c.fetch.ensures.tables
+returns-clause-passes g c = passes_of c.args.b.0 (g.M.Machine.contents c.args.self.now.machine) (g.M.Machine.contents c.fetch.new.m) (g.M.Machine.run c.args.self.now.machine) (g.M.Machine.run c.fetch.new.m) c.args.self.now.tables c.fetch.new.t c.fetch.ensures.keeps c.fetch.ensures.lasts c.fetch.ensures.ends.steps c.fetch.ensures.writes c.fetch.ensures.touches c.fetch.ensures.tables
 
 pub fetch-requires-clause-sound : goal.fetch-requires-clause-sound
 fetch-requires-clause-sound g c = c.requires.sound
@@ -39,7 +39,7 @@ pub returns-in_err-k-clause-looks : goal.returns-in_err-k-clause-looks
 returns-in_err-k-clause-looks g c = looks_keeps _ _ c.fetch.ensures.keeps c.fetch.ensures.lasts
 
 pub returns-in_err-k-clause-caches : goal.returns-in_err-k-clause-caches
-returns-in_err-k-clause-caches g c = caches_adds c.args.b.0 _ (g.M.Machine.contents c.args.self.now.machine) (g.M.Machine.contents c.fetch.new.self.machine) c.fetch.ensures.adds
+returns-in_err-k-clause-caches g c = caches_adds c.args.b.0 _ (g.M.Machine.contents c.args.self.now.machine) (g.M.Machine.contents c.fetch.new.m) c.fetch.ensures.adds
 
 pub returns-clause-sound : goal.returns-clause-sound
 returns-clause-sound g c = c.fetch.ensures.sound
@@ -54,7 +54,7 @@ pub returns-clause-looks : goal.returns-clause-looks
 returns-clause-looks g c = looks_keeps _ _ c.fetch.ensures.keeps c.fetch.ensures.lasts
 
 pub returns-clause-caches : goal.returns-clause-caches
-returns-clause-caches g c = caches_adds c.args.b.0 _ (g.M.Machine.contents c.args.self.now.machine) (g.M.Machine.contents c.fetch.new.self.machine) c.fetch.ensures.adds
+returns-clause-caches g c = caches_adds c.args.b.0 _ (g.M.Machine.contents c.args.self.now.machine) (g.M.Machine.contents c.fetch.new.m) c.fetch.ensures.adds
 
 pub returns-clause-used : goal.returns-clause-used
 returns-clause-used g c = c.in_ok-k.ensures.used

@@ -1,9 +1,9 @@
-use Rattle.page_cache.proofs.Common.{◌∙◌, arith, subst, reads, found_is}
+use Rattle.cached_pages.proofs.Common.{◌∙◌, arith, subst, reads, found_is}
 use Rattle.std.proofs.Common.{◌≡◌}
-use Rattle.page_cache.proofs.Rooms.{passes_of, word_read}
+use Rattle.cached_pages.proofs.Rooms.{passes_of, word_read}
 use Rattle.page_cache.proofs.reading.PageCacheBlocks.word.Goals as goal
-use Rattle.page_cache.proofs.Rooms.{looks_keeps, caches_adds}
-use Rattle.page_cache.proofs.Common.{refl}
+use Rattle.cached_pages.proofs.Rooms.{looks_keeps, caches_adds}
+use Rattle.cached_pages.proofs.Common.{refl}
 
 pub page_of-page-requires-clause-entry : goal.page_of-page-requires-clause-entry
 page_of-page-requires-clause-entry g c = (found_is _ _ _ c.in_ok-k.ensures.found).0.within
@@ -14,13 +14,13 @@ returns-clause-value g c =
     let same : c.from.result ≡ c.args.w = omega (arith, c.from.ensures) in
     let old = g.M.Machine.contents c.args.self.now.machine in
     subst (λ x. c.load.result ≡ reads old c.args.b.0 x) same
-    (c.load.ensures.protected (omega (arith, c.page_of-page.ensures.within, small, same)) ∙ word_read c.in_ok-k.k c.args.b.0 c.from.result c.page_of-page.result.0 old (g.M.Machine.contents c.fetch.new.self.machine) c.fetch.ensures.keeps c.in_ok-k.ensures.found (omega (arith, small, same)) c.page_of-page.ensures.page)
+    (c.load.ensures.protected (omega (arith, c.page_of-page.ensures.within, small, same)) ∙ word_read c.in_ok-k.k c.args.b.0 c.from.result c.page_of-page.result.0 old (g.M.Machine.contents c.fetch.new.m) c.fetch.ensures.keeps c.in_ok-k.ensures.found (omega (arith, small, same)) c.page_of-page.ensures.page)
 
 pub returns-in_err-k-clause-passes : goal.returns-in_err-k-clause-passes
-returns-in_err-k-clause-passes g c = passes_of c.args.b.0 (g.M.Machine.contents c.args.self.now.machine) (g.M.Machine.contents c.fetch.new.self.machine) (g.M.Machine.run c.args.self.now.machine) (g.M.Machine.run c.fetch.new.self.machine) c.args.self.now.tables c.fetch.new.self.tables c.fetch.ensures.keeps c.fetch.ensures.lasts c.fetch.ensures.ends.steps c.fetch.ensures.writes c.fetch.ensures.touches c.fetch.ensures.tables
+returns-in_err-k-clause-passes g c = passes_of c.args.b.0 (g.M.Machine.contents c.args.self.now.machine) (g.M.Machine.contents c.fetch.new.m) (g.M.Machine.run c.args.self.now.machine) (g.M.Machine.run c.fetch.new.m) c.args.self.now.tables c.fetch.new.t c.fetch.ensures.keeps c.fetch.ensures.lasts c.fetch.ensures.ends.steps c.fetch.ensures.writes c.fetch.ensures.touches c.fetch.ensures.tables
 
 pub returns-clause-passes : goal.returns-clause-passes
-returns-clause-passes g c = passes_of c.args.b.0 (g.M.Machine.contents c.args.self.now.machine) (g.M.Machine.contents c.fetch.new.self.machine) (g.M.Machine.run c.args.self.now.machine) (g.M.Machine.run c.fetch.new.self.machine) c.args.self.now.tables c.fetch.new.self.tables c.fetch.ensures.keeps c.fetch.ensures.lasts c.fetch.ensures.ends.steps c.fetch.ensures.writes c.fetch.ensures.touches c.fetch.ensures.tables
+returns-clause-passes g c = passes_of c.args.b.0 (g.M.Machine.contents c.args.self.now.machine) (g.M.Machine.contents c.fetch.new.m) (g.M.Machine.run c.args.self.now.machine) (g.M.Machine.run c.fetch.new.m) c.args.self.now.tables c.fetch.new.t c.fetch.ensures.keeps c.fetch.ensures.lasts c.fetch.ensures.ends.steps c.fetch.ensures.writes c.fetch.ensures.touches c.fetch.ensures.tables
 
 pub fetch-requires-clause-sound : goal.fetch-requires-clause-sound
 fetch-requires-clause-sound g c = c.requires.sound
@@ -38,7 +38,7 @@ pub returns-in_err-k-clause-looks : goal.returns-in_err-k-clause-looks
 returns-in_err-k-clause-looks g c = looks_keeps _ _ c.fetch.ensures.keeps c.fetch.ensures.lasts
 
 pub returns-in_err-k-clause-caches : goal.returns-in_err-k-clause-caches
-returns-in_err-k-clause-caches g c = caches_adds c.args.b.0 _ (g.M.Machine.contents c.args.self.now.machine) (g.M.Machine.contents c.fetch.new.self.machine) c.fetch.ensures.adds
+returns-in_err-k-clause-caches g c = caches_adds c.args.b.0 _ (g.M.Machine.contents c.args.self.now.machine) (g.M.Machine.contents c.fetch.new.m) c.fetch.ensures.adds
 
 pub returns-clause-sound : goal.returns-clause-sound
 returns-clause-sound g c = c.fetch.ensures.sound
@@ -53,7 +53,7 @@ pub returns-clause-looks : goal.returns-clause-looks
 returns-clause-looks g c = looks_keeps _ _ c.fetch.ensures.keeps c.fetch.ensures.lasts
 
 pub returns-clause-caches : goal.returns-clause-caches
-returns-clause-caches g c = caches_adds c.args.b.0 _ (g.M.Machine.contents c.args.self.now.machine) (g.M.Machine.contents c.fetch.new.self.machine) c.fetch.ensures.adds
+returns-clause-caches g c = caches_adds c.args.b.0 _ (g.M.Machine.contents c.args.self.now.machine) (g.M.Machine.contents c.fetch.new.m) c.fetch.ensures.adds
 
 pub returns-clause-used : goal.returns-clause-used
 returns-clause-used g c = c.in_ok-k.ensures.used

@@ -1,8 +1,8 @@
-use Rattle.page_cache.proofs.Common.{◌∙◌, ap, arith, sym, stands_idle, FramePool, is_pinned, order_of}
+use Rattle.cached_pages.proofs.Common.{◌∙◌, ap, arith, sym, stands_idle, FramePool, is_pinned, order_of}
 use Rattle.std.proofs.Common.{refl}
 use Rattle.page_cache.specs.Settled.{gate_shut}
-use Rattle.page_cache.proofs.Pins.{pins_refl, shut_unpinned}
-use Rattle.page_cache.proofs.Updates.{begun_of, drops_named, sound_begun, sound_shut}
+use Rattle.cached_pages.proofs.Pins.{pins_refl, shut_unpinned}
+use Rattle.cached_pages.proofs.Updates.{begun_of, drops_named, sound_begun, sound_shut}
 use Rattle.page_cache.proofs.volume.PageCacheVolume.begin.Goals as goal
 
 pub returns-in_err-begin-clause-drops : goal.returns-in_err-begin-clause-drops

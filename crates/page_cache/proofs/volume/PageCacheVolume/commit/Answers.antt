@@ -1,5 +1,5 @@
 use Rattle.std.proofs.Common.{refl}
-use Rattle.page_cache.proofs.Updates.{drops_named, same_loses, shadows_past, shut_zero, sound_shut}
+use Rattle.cached_pages.proofs.Updates.{drops_named, same_loses, shadows_past, shut_zero, sound_shut}
 use Rattle.page_cache.proofs.volume.PageCacheVolume.commit.Goals as goal
 
 pub returns-clause-drops : goal.returns-clause-drops

@@ -1,9 +1,9 @@
 use Rattle.std.proofs.Common.{arith, refl}
-use Rattle.page_cache.proofs.Common.{header_same}
-use Rattle.page_cache.proofs.Goes.{goes_few}
-use Rattle.page_cache.proofs.Stills.{few_still, still_rest}
-use Rattle.page_cache.proofs.Edits.{edited_dirty, edited_stands, gate_entries, names_entries, page_of_frame, same_update, shadows_entries, touched_found}
-use Rattle.page_cache.proofs.Updates.{drops_named, sound_same}
+use Rattle.cached_pages.proofs.Common.{header_same}
+use Rattle.cached_pages.proofs.Goes.{goes_few}
+use Rattle.cached_pages.proofs.Stills.{few_still, still_rest}
+use Rattle.cached_pages.proofs.Edits.{edited_dirty, edited_stands, gate_entries, names_entries, page_of_frame, same_update, shadows_entries, touched_found}
+use Rattle.cached_pages.proofs.Updates.{drops_named, sound_same}
 use Rattle.page_cache.proofs.volume.PageCacheVolume.edit.Goals as goal
 
 pub unreachable-requires : goal.unreachable-requires

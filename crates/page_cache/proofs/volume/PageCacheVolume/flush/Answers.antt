@@ -1,8 +1,8 @@
 use Rattle.std.proofs.Common.{refl}
 use Rattle.page_cache.proofs.Flushes.{flushed_sound, shut_by}
 use Rattle.page_cache.proofs.volume.PageCacheVolume.flush.Goals as goal
-use Rattle.page_cache.proofs.Uses.{stay_held}
-use Rattle.page_cache.proofs.Common.{arith, IsErrOf}
+use Rattle.cached_pages.proofs.Uses.{stay_held}
+use Rattle.cached_pages.proofs.Common.{arith, IsErrOf}
 use Rattle.rio_base.specs.declared.failures.VolFail.TheVariants.{Fault}
 
 pub flush-requires-clause-coherent : goal.flush-requires-clause-coherent

@@ -1,16 +1,16 @@
-use Rattle.page_cache.proofs.Common.{ap, subst, sym, ◌∙◌}
+use Rattle.cached_pages.proofs.Common.{ap, subst, sym, ◌∙◌}
 use Rattle.std.proofs.Common.{◌<◌, is_some, refl}
 use Rattle.rio_base.proofs.MachineRules.{lasts_refl, steps_refl}
-use Rattle.page_cache.proofs.Kept.{tables_refl}
-use Rattle.page_cache.proofs.Rooms.{none_bound, some_bound}
-use Rattle.page_cache.proofs.StoreCalls.{drops_narrows}
-use Rattle.page_cache.proofs.Freed.{frees_same, halts_of, loose_marked, marked_still, marks_then, narrows_same, never_firm, settled, sound_marked}
-use Rattle.page_cache.proofs.Stills.{few_still, still_same}
-use Rattle.page_cache.proofs.Uses.{freed_none, freed_some, marked_order}
+use Rattle.cached_pages.proofs.Kept.{tables_refl}
+use Rattle.cached_pages.proofs.Rooms.{none_bound, some_bound}
+use Rattle.cached_pages.proofs.StoreCalls.{drops_narrows}
+use Rattle.cached_pages.proofs.Freed.{frees_same, halts_of, loose_marked, marked_still, marks_then, narrows_same, never_firm, settled, sound_marked}
+use Rattle.cached_pages.proofs.Stills.{few_still, still_same}
+use Rattle.cached_pages.proofs.Uses.{freed_none, freed_some, marked_order}
 use Rattle.page_cache.proofs.volume.PageCacheVolume.forget.Goals as goal
-use Rattle.page_cache.proofs.DirtyMarks.{marks_refl}
-use Rattle.page_cache.proofs.Uses.{others_stay, stay_hit}
-use Rattle.page_cache.proofs.Common.{None}
+use Rattle.cached_pages.proofs.DirtyMarks.{marks_refl}
+use Rattle.cached_pages.proofs.Uses.{others_stay, stay_hit}
+use Rattle.cached_pages.proofs.Common.{None}
 
 pub mark-requires : goal.mark-requires
 mark-requires g c = record { place = subst (λ n. c.args.b.0 < n) (sym c.requires.sound.marks) c.requires.place }
@@ -52,19 +52,19 @@ pub returns-in_default-clause-drops : goal.returns-in_default-clause-drops
 returns-in_default-clause-drops g c = drops_narrows (g.M.Machine.contents c.args.self.now.machine) (g.M.Machine.contents c.args.self.now.machine) (narrows_same (g.M.Machine.contents c.args.self.now.machine) (g.M.Machine.contents c.args.self.now.machine) refl)
 
 pub returns-in_err-drop_frame-clause-firm_block : goal.returns-in_err-drop_frame-clause-firm_block
-returns-in_err-drop_frame-clause-firm_block g c = λ l. never_firm _ _ (marked_still c.args.b.0 _ c.args.self.now.tables c.mark.new.self c.drop_frame.new.self.tables c.mark.ensures.marks c.drop_frame.ensures.tables) l
+returns-in_err-drop_frame-clause-firm_block g c = λ l. never_firm _ _ (marked_still c.args.b.0 _ c.args.self.now.tables c.mark.new.self c.drop_frame.new.t c.mark.ensures.marks c.drop_frame.ensures.tables) l
 
 pub returns-in_err-drop_frame-clause-standing : goal.returns-in_err-drop_frame-clause-standing
-returns-in_err-drop_frame-clause-standing g c = (settled c.args.b.0 (g.M.Machine.contents c.args.self.now.machine) (g.M.Machine.contents c.drop_frame.new.self.machine) (g.M.Machine.run c.args.self.now.machine) (g.M.Machine.run c.drop_frame.new.self.machine) c.args.self.now.tables c.drop_frame.new.self.tables c.requires.idle c.drop_frame.ensures.frees (marks_then c.args.b.0 _ c.args.self.now.tables c.mark.new.self c.drop_frame.new.self.tables c.mark.ensures.marks c.drop_frame.ensures.tables) c.drop_frame.ensures.lasts c.drop_frame.ensures.ends.steps (few_still c.args.b.0 _ (g.M.Machine.contents c.args.self.now.machine) (g.M.Machine.contents c.drop_frame.new.self.machine) c.drop_frame.ensures.still)).standing
+returns-in_err-drop_frame-clause-standing g c = (settled c.args.b.0 (g.M.Machine.contents c.args.self.now.machine) (g.M.Machine.contents c.drop_frame.new.m) (g.M.Machine.run c.args.self.now.machine) (g.M.Machine.run c.drop_frame.new.m) c.args.self.now.tables c.drop_frame.new.t c.requires.idle c.drop_frame.ensures.frees (marks_then c.args.b.0 _ c.args.self.now.tables c.mark.new.self c.drop_frame.new.t c.mark.ensures.marks c.drop_frame.ensures.tables) c.drop_frame.ensures.lasts c.drop_frame.ensures.ends.steps (few_still c.args.b.0 _ (g.M.Machine.contents c.args.self.now.machine) (g.M.Machine.contents c.drop_frame.new.m) c.drop_frame.ensures.still)).standing
 
 pub returns-in_err-drop_frame-clause-firm : goal.returns-in_err-drop_frame-clause-firm
-returns-in_err-drop_frame-clause-firm g c = (settled c.args.b.0 (g.M.Machine.contents c.args.self.now.machine) (g.M.Machine.contents c.drop_frame.new.self.machine) (g.M.Machine.run c.args.self.now.machine) (g.M.Machine.run c.drop_frame.new.self.machine) c.args.self.now.tables c.drop_frame.new.self.tables c.requires.idle c.drop_frame.ensures.frees (marks_then c.args.b.0 _ c.args.self.now.tables c.mark.new.self c.drop_frame.new.self.tables c.mark.ensures.marks c.drop_frame.ensures.tables) c.drop_frame.ensures.lasts c.drop_frame.ensures.ends.steps (few_still c.args.b.0 _ (g.M.Machine.contents c.args.self.now.machine) (g.M.Machine.contents c.drop_frame.new.self.machine) c.drop_frame.ensures.still)).firm
+returns-in_err-drop_frame-clause-firm g c = (settled c.args.b.0 (g.M.Machine.contents c.args.self.now.machine) (g.M.Machine.contents c.drop_frame.new.m) (g.M.Machine.run c.args.self.now.machine) (g.M.Machine.run c.drop_frame.new.m) c.args.self.now.tables c.drop_frame.new.t c.requires.idle c.drop_frame.ensures.frees (marks_then c.args.b.0 _ c.args.self.now.tables c.mark.new.self c.drop_frame.new.t c.mark.ensures.marks c.drop_frame.ensures.tables) c.drop_frame.ensures.lasts c.drop_frame.ensures.ends.steps (few_still c.args.b.0 _ (g.M.Machine.contents c.args.self.now.machine) (g.M.Machine.contents c.drop_frame.new.m) c.drop_frame.ensures.still)).firm
 
 pub returns-in_err-drop_frame-clause-goes : goal.returns-in_err-drop_frame-clause-goes
-returns-in_err-drop_frame-clause-goes g c = (settled c.args.b.0 (g.M.Machine.contents c.args.self.now.machine) (g.M.Machine.contents c.drop_frame.new.self.machine) (g.M.Machine.run c.args.self.now.machine) (g.M.Machine.run c.drop_frame.new.self.machine) c.args.self.now.tables c.drop_frame.new.self.tables c.requires.idle c.drop_frame.ensures.frees (marks_then c.args.b.0 _ c.args.self.now.tables c.mark.new.self c.drop_frame.new.self.tables c.mark.ensures.marks c.drop_frame.ensures.tables) c.drop_frame.ensures.lasts c.drop_frame.ensures.ends.steps (few_still c.args.b.0 _ (g.M.Machine.contents c.args.self.now.machine) (g.M.Machine.contents c.drop_frame.new.self.machine) c.drop_frame.ensures.still)).goes
+returns-in_err-drop_frame-clause-goes g c = (settled c.args.b.0 (g.M.Machine.contents c.args.self.now.machine) (g.M.Machine.contents c.drop_frame.new.m) (g.M.Machine.run c.args.self.now.machine) (g.M.Machine.run c.drop_frame.new.m) c.args.self.now.tables c.drop_frame.new.t c.requires.idle c.drop_frame.ensures.frees (marks_then c.args.b.0 _ c.args.self.now.tables c.mark.new.self c.drop_frame.new.t c.mark.ensures.marks c.drop_frame.ensures.tables) c.drop_frame.ensures.lasts c.drop_frame.ensures.ends.steps (few_still c.args.b.0 _ (g.M.Machine.contents c.args.self.now.machine) (g.M.Machine.contents c.drop_frame.new.m) c.drop_frame.ensures.still)).goes
 
 pub returns-in_err-drop_frame-clause-idle : goal.returns-in_err-drop_frame-clause-idle
-returns-in_err-drop_frame-clause-idle g c = (settled c.args.b.0 (g.M.Machine.contents c.args.self.now.machine) (g.M.Machine.contents c.drop_frame.new.self.machine) (g.M.Machine.run c.args.self.now.machine) (g.M.Machine.run c.drop_frame.new.self.machine) c.args.self.now.tables c.drop_frame.new.self.tables c.requires.idle c.drop_frame.ensures.frees (marks_then c.args.b.0 _ c.args.self.now.tables c.mark.new.self c.drop_frame.new.self.tables c.mark.ensures.marks c.drop_frame.ensures.tables) c.drop_frame.ensures.lasts c.drop_frame.ensures.ends.steps (few_still c.args.b.0 _ (g.M.Machine.contents c.args.self.now.machine) (g.M.Machine.contents c.drop_frame.new.self.machine) c.drop_frame.ensures.still)).idle
+returns-in_err-drop_frame-clause-idle g c = (settled c.args.b.0 (g.M.Machine.contents c.args.self.now.machine) (g.M.Machine.contents c.drop_frame.new.m) (g.M.Machine.run c.args.self.now.machine) (g.M.Machine.run c.drop_frame.new.m) c.args.self.now.tables c.drop_frame.new.t c.requires.idle c.drop_frame.ensures.frees (marks_then c.args.b.0 _ c.args.self.now.tables c.mark.new.self c.drop_frame.new.t c.mark.ensures.marks c.drop_frame.ensures.tables) c.drop_frame.ensures.lasts c.drop_frame.ensures.ends.steps (few_still c.args.b.0 _ (g.M.Machine.contents c.args.self.now.machine) (g.M.Machine.contents c.drop_frame.new.m) c.drop_frame.ensures.still)).idle
 
 pub returns-in_err-drop_frame-clause-others : goal.returns-in_err-drop_frame-clause-others
 returns-in_err-drop_frame-clause-others g c = c.drop_frame.ensures.frees.others
@@ -73,28 +73,28 @@ pub returns-in_err-drop_frame-clause-count : goal.returns-in_err-drop_frame-clau
 returns-in_err-drop_frame-clause-count g c = c.drop_frame.ensures.lasts.blocks
 
 pub returns-in_err-drop_frame-clause-drops : goal.returns-in_err-drop_frame-clause-drops
-returns-in_err-drop_frame-clause-drops g c = drops_narrows (g.M.Machine.contents c.args.self.now.machine) (g.M.Machine.contents c.drop_frame.new.self.machine) c.drop_frame.ensures.narrows
+returns-in_err-drop_frame-clause-drops g c = drops_narrows (g.M.Machine.contents c.args.self.now.machine) (g.M.Machine.contents c.drop_frame.new.m) c.drop_frame.ensures.narrows
 
 pub returns-clause-ok : goal.returns-clause-ok
-returns-clause-ok g c = (loose_marked _ _ (marked_still c.args.b.0 _ c.args.self.now.tables c.mark.new.self c.drop_frame.new.self.tables c.mark.ensures.marks c.drop_frame.ensures.tables), ap is_some c.in_ok-drop_frame.ensures.gone)
+returns-clause-ok g c = (loose_marked _ _ (marked_still c.args.b.0 _ c.args.self.now.tables c.mark.new.self c.drop_frame.new.t c.mark.ensures.marks c.drop_frame.ensures.tables), ap is_some c.in_ok-drop_frame.ensures.gone)
 
 pub returns-clause-ends : goal.returns-clause-ends
 returns-clause-ends g c = halts_of _ _ _ _ _ c.drop_frame.ensures.lasts c.in_ok-drop_frame.ensures.ends
 
 pub returns-clause-firm_block : goal.returns-clause-firm_block
-returns-clause-firm_block g c = λ l. never_firm _ _ (marked_still c.args.b.0 _ c.args.self.now.tables c.mark.new.self c.drop_frame.new.self.tables c.mark.ensures.marks c.drop_frame.ensures.tables) l
+returns-clause-firm_block g c = λ l. never_firm _ _ (marked_still c.args.b.0 _ c.args.self.now.tables c.mark.new.self c.drop_frame.new.t c.mark.ensures.marks c.drop_frame.ensures.tables) l
 
 pub returns-clause-standing : goal.returns-clause-standing
-returns-clause-standing g c = (settled c.args.b.0 (g.M.Machine.contents c.args.self.now.machine) (g.M.Machine.contents c.drop_frame.new.self.machine) (g.M.Machine.run c.args.self.now.machine) (g.M.Machine.run c.drop_frame.new.self.machine) c.args.self.now.tables c.drop_frame.new.self.tables c.requires.idle c.drop_frame.ensures.frees (marks_then c.args.b.0 _ c.args.self.now.tables c.mark.new.self c.drop_frame.new.self.tables c.mark.ensures.marks c.drop_frame.ensures.tables) c.drop_frame.ensures.lasts c.drop_frame.ensures.ends.steps (few_still c.args.b.0 _ (g.M.Machine.contents c.args.self.now.machine) (g.M.Machine.contents c.drop_frame.new.self.machine) c.drop_frame.ensures.still)).standing
+returns-clause-standing g c = (settled c.args.b.0 (g.M.Machine.contents c.args.self.now.machine) (g.M.Machine.contents c.drop_frame.new.m) (g.M.Machine.run c.args.self.now.machine) (g.M.Machine.run c.drop_frame.new.m) c.args.self.now.tables c.drop_frame.new.t c.requires.idle c.drop_frame.ensures.frees (marks_then c.args.b.0 _ c.args.self.now.tables c.mark.new.self c.drop_frame.new.t c.mark.ensures.marks c.drop_frame.ensures.tables) c.drop_frame.ensures.lasts c.drop_frame.ensures.ends.steps (few_still c.args.b.0 _ (g.M.Machine.contents c.args.self.now.machine) (g.M.Machine.contents c.drop_frame.new.m) c.drop_frame.ensures.still)).standing
 
 pub returns-clause-firm : goal.returns-clause-firm
-returns-clause-firm g c = (settled c.args.b.0 (g.M.Machine.contents c.args.self.now.machine) (g.M.Machine.contents c.drop_frame.new.self.machine) (g.M.Machine.run c.args.self.now.machine) (g.M.Machine.run c.drop_frame.new.self.machine) c.args.self.now.tables c.drop_frame.new.self.tables c.requires.idle c.drop_frame.ensures.frees (marks_then c.args.b.0 _ c.args.self.now.tables c.mark.new.self c.drop_frame.new.self.tables c.mark.ensures.marks c.drop_frame.ensures.tables) c.drop_frame.ensures.lasts c.drop_frame.ensures.ends.steps (few_still c.args.b.0 _ (g.M.Machine.contents c.args.self.now.machine) (g.M.Machine.contents c.drop_frame.new.self.machine) c.drop_frame.ensures.still)).firm
+returns-clause-firm g c = (settled c.args.b.0 (g.M.Machine.contents c.args.self.now.machine) (g.M.Machine.contents c.drop_frame.new.m) (g.M.Machine.run c.args.self.now.machine) (g.M.Machine.run c.drop_frame.new.m) c.args.self.now.tables c.drop_frame.new.t c.requires.idle c.drop_frame.ensures.frees (marks_then c.args.b.0 _ c.args.self.now.tables c.mark.new.self c.drop_frame.new.t c.mark.ensures.marks c.drop_frame.ensures.tables) c.drop_frame.ensures.lasts c.drop_frame.ensures.ends.steps (few_still c.args.b.0 _ (g.M.Machine.contents c.args.self.now.machine) (g.M.Machine.contents c.drop_frame.new.m) c.drop_frame.ensures.still)).firm
 
 pub returns-clause-goes : goal.returns-clause-goes
-returns-clause-goes g c = (settled c.args.b.0 (g.M.Machine.contents c.args.self.now.machine) (g.M.Machine.contents c.drop_frame.new.self.machine) (g.M.Machine.run c.args.self.now.machine) (g.M.Machine.run c.drop_frame.new.self.machine) c.args.self.now.tables c.drop_frame.new.self.tables c.requires.idle c.drop_frame.ensures.frees (marks_then c.args.b.0 _ c.args.self.now.tables c.mark.new.self c.drop_frame.new.self.tables c.mark.ensures.marks c.drop_frame.ensures.tables) c.drop_frame.ensures.lasts c.drop_frame.ensures.ends.steps (few_still c.args.b.0 _ (g.M.Machine.contents c.args.self.now.machine) (g.M.Machine.contents c.drop_frame.new.self.machine) c.drop_frame.ensures.still)).goes
+returns-clause-goes g c = (settled c.args.b.0 (g.M.Machine.contents c.args.self.now.machine) (g.M.Machine.contents c.drop_frame.new.m) (g.M.Machine.run c.args.self.now.machine) (g.M.Machine.run c.drop_frame.new.m) c.args.self.now.tables c.drop_frame.new.t c.requires.idle c.drop_frame.ensures.frees (marks_then c.args.b.0 _ c.args.self.now.tables c.mark.new.self c.drop_frame.new.t c.mark.ensures.marks c.drop_frame.ensures.tables) c.drop_frame.ensures.lasts c.drop_frame.ensures.ends.steps (few_still c.args.b.0 _ (g.M.Machine.contents c.args.self.now.machine) (g.M.Machine.contents c.drop_frame.new.m) c.drop_frame.ensures.still)).goes
 
 pub returns-clause-idle : goal.returns-clause-idle
-returns-clause-idle g c = (settled c.args.b.0 (g.M.Machine.contents c.args.self.now.machine) (g.M.Machine.contents c.drop_frame.new.self.machine) (g.M.Machine.run c.args.self.now.machine) (g.M.Machine.run c.drop_frame.new.self.machine) c.args.self.now.tables c.drop_frame.new.self.tables c.requires.idle c.drop_frame.ensures.frees (marks_then c.args.b.0 _ c.args.self.now.tables c.mark.new.self c.drop_frame.new.self.tables c.mark.ensures.marks c.drop_frame.ensures.tables) c.drop_frame.ensures.lasts c.drop_frame.ensures.ends.steps (few_still c.args.b.0 _ (g.M.Machine.contents c.args.self.now.machine) (g.M.Machine.contents c.drop_frame.new.self.machine) c.drop_frame.ensures.still)).idle
+returns-clause-idle g c = (settled c.args.b.0 (g.M.Machine.contents c.args.self.now.machine) (g.M.Machine.contents c.drop_frame.new.m) (g.M.Machine.run c.args.self.now.machine) (g.M.Machine.run c.drop_frame.new.m) c.args.self.now.tables c.drop_frame.new.t c.requires.idle c.drop_frame.ensures.frees (marks_then c.args.b.0 _ c.args.self.now.tables c.mark.new.self c.drop_frame.new.t c.mark.ensures.marks c.drop_frame.ensures.tables) c.drop_frame.ensures.lasts c.drop_frame.ensures.ends.steps (few_still c.args.b.0 _ (g.M.Machine.contents c.args.self.now.machine) (g.M.Machine.contents c.drop_frame.new.m) c.drop_frame.ensures.still)).idle
 
 pub returns-clause-others : goal.returns-clause-others
 returns-clause-others g c = c.drop_frame.ensures.frees.others
@@ -103,7 +103,7 @@ pub returns-clause-count : goal.returns-clause-count
 returns-clause-count g c = c.drop_frame.ensures.lasts.blocks
 
 pub returns-clause-drops : goal.returns-clause-drops
-returns-clause-drops g c = drops_narrows (g.M.Machine.contents c.args.self.now.machine) (g.M.Machine.contents c.drop_frame.new.self.machine) c.drop_frame.ensures.narrows
+returns-clause-drops g c = drops_narrows (g.M.Machine.contents c.args.self.now.machine) (g.M.Machine.contents c.drop_frame.new.m) c.drop_frame.ensures.narrows
 
 pub returns-in_default-clause-freed : goal.returns-in_default-clause-freed
 returns-in_default-clause-freed g c = freed_none c.args.b.0 (g.M.Machine.contents c.args.self.now.machine).words c.args.self.now.tables c.mark.new.self (none_bound c.args.b.0 _ (g.M.Machine.contents c.args.self.now.machine) c.mark.new.self (sound_marked c.args.b.0 _ _ (g.M.Machine.contents c.args.self.now.machine) c.args.self.now.tables c.mark.new.self c.requires.sound c.mark.ensures.marks) (c.in_default.ensures.none refl)) (marked_order c.args.self.now.tables c.mark.new.self c.mark.ensures.marks.rest)
@@ -112,7 +112,7 @@ pub returns-in_err-drop_frame-clause-order : goal.returns-in_err-drop_frame-clau
 returns-in_err-drop_frame-clause-order g c = λ _. c.in_err-drop_frame.ensures.order ∙ marked_order c.args.self.now.tables c.mark.new.self c.mark.ensures.marks.rest
 
 pub returns-clause-freed : goal.returns-clause-freed
-returns-clause-freed g c = freed_some c.args.b.0 c.in-Some.k (g.M.Machine.contents c.args.self.now.machine).words c.args.self.now.tables c.mark.new.self c.drop_frame.new.self.tables (some_bound c.args.b.0 c.in-Some.k _ (g.M.Machine.contents c.args.self.now.machine) c.mark.new.self (sound_marked c.args.b.0 _ _ (g.M.Machine.contents c.args.self.now.machine) c.args.self.now.tables c.mark.new.self c.requires.sound c.mark.ensures.marks) c.in-Some.ensures.some.0 c.in-Some.ensures.some.1) (marked_order c.args.self.now.tables c.mark.new.self c.mark.ensures.marks.rest) c.in_ok-drop_frame.ensures.freed
+returns-clause-freed g c = freed_some c.args.b.0 c.in-Some.k (g.M.Machine.contents c.args.self.now.machine).words c.args.self.now.tables c.mark.new.self c.drop_frame.new.t (some_bound c.args.b.0 c.in-Some.k _ (g.M.Machine.contents c.args.self.now.machine) c.mark.new.self (sound_marked c.args.b.0 _ _ (g.M.Machine.contents c.args.self.now.machine) c.args.self.now.tables c.mark.new.self c.requires.sound c.mark.ensures.marks) c.in-Some.ensures.some.0 c.in-Some.ensures.some.1) (marked_order c.args.self.now.tables c.mark.new.self c.mark.ensures.marks.rest) c.in_ok-drop_frame.ensures.freed
 
 pub returns-in_default-clause-order : goal.returns-in_default-clause-order
 returns-in_default-clause-order g c q = absurd cc
@@ -133,7 +133,7 @@ pub returns-in_default-clause-kept : goal.returns-in_default-clause-kept
 returns-in_default-clause-kept g c q = absurd cc
 
 pub returns-in_err-drop_frame-clause-kept : goal.returns-in_err-drop_frame-clause-kept
-returns-in_err-drop_frame-clause-kept g c q = stay_hit (g.M.Machine.contents c.args.self.now.machine) (g.M.Machine.contents c.drop_frame.new.self.machine) (c.in_err-drop_frame.ensures.same refl)
+returns-in_err-drop_frame-clause-kept g c q = stay_hit (g.M.Machine.contents c.args.self.now.machine) (g.M.Machine.contents c.drop_frame.new.m) (c.in_err-drop_frame.ensures.same refl)
 
 pub returns-clause-kept : goal.returns-clause-kept
 returns-clause-kept g c q = absurd cc

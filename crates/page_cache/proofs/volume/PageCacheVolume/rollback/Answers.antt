@@ -1,7 +1,7 @@
 use Rattle.std.proofs.Common.{refl}
-use Rattle.page_cache.proofs.Common.{◌∙◌, sym}
+use Rattle.cached_pages.proofs.Common.{◌∙◌, sym}
 use Rattle.page_cache.specs.Settled.{gate_open, untouched_bare, untouched_stands}
-use Rattle.page_cache.proofs.Updates.{drops_named, same_loses, shut_zero, sound_same, sound_shut}
+use Rattle.cached_pages.proofs.Updates.{drops_named, same_loses, shut_zero, sound_same, sound_shut}
 use Rattle.page_cache.proofs.volume.PageCacheVolume.rollback.Goals as goal
 
 pub returns-in_err-undo-clause-untouched : goal.returns-in_err-undo-clause-untouched

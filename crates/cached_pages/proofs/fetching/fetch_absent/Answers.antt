@@ -1,0 +1,166 @@
+use Rattle.cached_pages.proofs.Common.{IsErrOf, arith, sym, StepEnds, ends_after, Stopped}
+use Rattle.std.proofs.Common.{refl}
+use Rattle.rio_model.proofs.CoverStands.{narrows_trans}
+use Rattle.rio_base.specs.declared.failures.VolFail.TheVariants.{Fault}
+use Rattle.cached_pages.proofs.Rooms.{none_still}
+use Rattle.cached_pages.proofs.Stills.{few_then}
+use Rattle.cached_pages.proofs.fetching.fetch_absent.Goals as goal
+use Rattle.cached_pages.proofs.Goes.{ends_ok, rose_after}
+use Rattle.cached_pages.proofs.Uses.{leaves_then, used_bound}
+use Rattle.cached_pages.proofs.Common.{subst, ◌<◌}
+use Rattle.cached_pages.proofs.Rooms.{adds_narrows, adds_after, keeps_then, lasts_then}
+use Rattle.cached_pages.proofs.Touched.{touches_trans}
+use Rattle.cached_pages.proofs.Kept.{tables_trans}
+use Rattle.cached_pages.proofs.DirtyMarks.{marks_trans}
+use Rattle.cached_pages.proofs.FailedUses.{failed_missed, next_then}
+use Rattle.cached_pages.proofs.Common.{None}
+
+pub returns-clause-marks : goal.returns-clause-marks
+returns-clause-marks g c = marks_trans None _ _ _ c.make_room.ensures.marks c.bring.ensures.marks
+
+pub make_room-requires-clause-uncached : goal.make_room-requires-clause-uncached
+make_room-requires-clause-uncached g c = c.requires.uncached
+
+pub bring-requires-clause-uncached : goal.bring-requires-clause-uncached
+bring-requires-clause-uncached g c = none_still _ _ _ c.make_room.ensures.narrows c.requires.uncached
+
+pub returns-in_err-bring-clause-writes : goal.returns-in_err-bring-clause-writes
+returns-in_err-bring-clause-writes g c = few_then _ _ _ _ _ c.make_room.ensures.writes c.bring.ensures.still
+
+pub returns-clause-writes : goal.returns-clause-writes
+returns-clause-writes g c = few_then _ _ _ _ _ c.make_room.ensures.writes c.bring.ensures.still
+
+pub returns-in_err-bring-clause-ends : goal.returns-in_err-bring-clause-ends
+returns-in_err-bring-clause-ends g c =
+    let all : StepEnds (g.M.Machine.run c.args.m.now) (g.M.Machine.run c.bring.new.m) (IsErrOf c.bring.result Stopped) = ends_after _ _ _ _ c.make_room.ensures.ends.steps (c.in_ok-k.ensures.ends.runs (λ q. cc)) c.bring.ensures.ends in
+    grind (arith, all)
+
+pub returns-clause-ends : goal.returns-clause-ends
+returns-clause-ends g c = ends_ok _ _ _ _ _ _ (λ q. cc) (λ q. cc) (λ q. cc) c.in_ok-k.ensures.ends c.in_ok-bring.ensures.ends
+
+pub returns-in_err-bring-clause-unfetched : goal.returns-in_err-bring-clause-unfetched
+returns-in_err-bring-clause-unfetched g c fault =
+    let was : IsErrOf c.bring.result Fault = grind (arith, c.from_residual-in_err-bring.ensures, fault) in
+    narrows_trans _ _ _ c.make_room.ensures.narrows (c.bring.ensures.unfetched was)
+
+pub returns-clause-used : goal.returns-clause-used
+returns-clause-used g c = used_bound c.args.b.0 c.in_ok-k.k _ c.args.t.now c.make_room.new.t c.bring.new.t c.in_ok-k.ensures.order c.in_ok-bring.ensures.order c.in_ok-bring.ensures.found
+
+pub returns-in_err-bring-clause-leaves : goal.returns-in_err-bring-clause-leaves
+returns-in_err-bring-clause-leaves g c = leaves_then _ _ _ _ c.make_room.ensures.leaves c.bring.ensures.stay
+
+pub returns-clause-leaves : goal.returns-clause-leaves
+returns-clause-leaves g c = leaves_then _ _ _ _ c.make_room.ensures.leaves c.bring.ensures.stay
+
+pub returns-clause-unfetched : goal.returns-clause-unfetched
+returns-clause-unfetched g c q = absurd cc
+
+pub returns-clause-fault : goal.returns-clause-fault
+returns-clause-fault g c q = absurd cc
+
+pub make_room-requires-clause-sound : goal.make_room-requires-clause-sound
+make_room-requires-clause-sound g c = c.requires.sound
+
+pub make_room-requires-clause-block : goal.make_room-requires-clause-block
+make_room-requires-clause-block g c = c.requires.block
+
+pub returns-in_err-k-clause-sound : goal.returns-in_err-k-clause-sound
+returns-in_err-k-clause-sound g c = c.make_room.ensures.sound
+
+pub returns-in_err-k-clause-keeps : goal.returns-in_err-k-clause-keeps
+returns-in_err-k-clause-keeps g c = c.make_room.ensures.keeps
+
+pub returns-in_err-k-clause-touches : goal.returns-in_err-k-clause-touches
+returns-in_err-k-clause-touches g c = c.make_room.ensures.touches
+
+pub returns-in_err-k-clause-tables : goal.returns-in_err-k-clause-tables
+returns-in_err-k-clause-tables g c = c.make_room.ensures.tables
+
+pub returns-in_err-k-clause-leaves : goal.returns-in_err-k-clause-leaves
+returns-in_err-k-clause-leaves g c = c.make_room.ensures.leaves
+
+pub returns-in_err-k-clause-writes : goal.returns-in_err-k-clause-writes
+returns-in_err-k-clause-writes g c = c.make_room.ensures.writes
+
+pub returns-in_err-k-clause-lasts : goal.returns-in_err-k-clause-lasts
+returns-in_err-k-clause-lasts g c = c.make_room.ensures.lasts
+
+pub returns-in_err-k-clause-adds : goal.returns-in_err-k-clause-adds
+returns-in_err-k-clause-adds g c = adds_narrows _ _ _ _ c.make_room.ensures.narrows
+
+pub returns-in_err-k-clause-unfetched : goal.returns-in_err-k-clause-unfetched
+returns-in_err-k-clause-unfetched g c fault = c.make_room.ensures.narrows
+
+pub bring-requires-clause-sound : goal.bring-requires-clause-sound
+bring-requires-clause-sound g c = c.make_room.ensures.sound
+
+pub bring-requires-clause-entry : goal.bring-requires-clause-entry
+bring-requires-clause-entry g c = c.in_ok-k.ensures.room.0
+
+pub bring-requires-clause-invalid : goal.bring-requires-clause-invalid
+bring-requires-clause-invalid g c = c.in_ok-k.ensures.room.1
+
+pub bring-requires-clause-block : goal.bring-requires-clause-block
+bring-requires-clause-block g c = subst (λ n. c.args.b.0 < n) (sym c.make_room.ensures.lasts.blocks) c.requires.block
+
+pub bring-requires-clause-name : goal.bring-requires-clause-name
+bring-requires-clause-name g c = c.requires.name
+
+pub returns-in_err-bring-clause-sound : goal.returns-in_err-bring-clause-sound
+returns-in_err-bring-clause-sound g c = c.bring.ensures.sound
+
+pub returns-in_err-bring-clause-keeps : goal.returns-in_err-bring-clause-keeps
+returns-in_err-bring-clause-keeps g c = keeps_then _ _ _ c.make_room.ensures.keeps c.bring.ensures.keeps
+
+pub returns-in_err-bring-clause-adds : goal.returns-in_err-bring-clause-adds
+returns-in_err-bring-clause-adds g c = adds_after _ _ _ _ _ c.make_room.ensures.narrows c.bring.ensures.adds
+
+pub returns-in_err-bring-clause-touches : goal.returns-in_err-bring-clause-touches
+returns-in_err-bring-clause-touches g c = touches_trans _ _ _ c.make_room.ensures.touches c.bring.ensures.touches
+
+pub returns-in_err-bring-clause-tables : goal.returns-in_err-bring-clause-tables
+returns-in_err-bring-clause-tables g c = tables_trans _ _ _ c.make_room.ensures.tables c.bring.ensures.tables
+
+pub returns-in_err-bring-clause-lasts : goal.returns-in_err-bring-clause-lasts
+returns-in_err-bring-clause-lasts g c = lasts_then _ _ _ c.make_room.ensures.lasts c.bring.ensures.lasts
+
+pub returns-clause-sound : goal.returns-clause-sound
+returns-clause-sound g c = c.bring.ensures.sound
+
+pub returns-clause-keeps : goal.returns-clause-keeps
+returns-clause-keeps g c = keeps_then _ _ _ c.make_room.ensures.keeps c.bring.ensures.keeps
+
+pub returns-clause-adds : goal.returns-clause-adds
+returns-clause-adds g c = adds_after _ _ _ _ _ c.make_room.ensures.narrows c.bring.ensures.adds
+
+pub returns-clause-touches : goal.returns-clause-touches
+returns-clause-touches g c = touches_trans _ _ _ c.make_room.ensures.touches c.bring.ensures.touches
+
+pub returns-clause-tables : goal.returns-clause-tables
+returns-clause-tables g c = tables_trans _ _ _ c.make_room.ensures.tables c.bring.ensures.tables
+
+pub returns-clause-lasts : goal.returns-clause-lasts
+returns-clause-lasts g c = lasts_then _ _ _ c.make_room.ensures.lasts c.bring.ensures.lasts
+
+pub returns-clause-found : goal.returns-clause-found
+returns-clause-found g c = c.in_ok-bring.ensures.found
+
+pub returns-in_err-k-clause-marks : goal.returns-in_err-k-clause-marks
+returns-in_err-k-clause-marks g c = c.make_room.ensures.marks
+
+pub returns-in_err-bring-clause-marks : goal.returns-in_err-bring-clause-marks
+returns-in_err-bring-clause-marks g c = marks_trans None _ _ _ c.make_room.ensures.marks c.bring.ensures.marks
+
+pub returns-in_err-k-clause-failed : goal.returns-in_err-k-clause-failed
+returns-in_err-k-clause-failed g c q = failed_missed c.args.b.0 _ c.args.t.now c.make_room.new.t (none_still _ _ _ c.make_room.ensures.narrows c.requires.uncached) c.make_room.ensures.freed
+
+pub returns-in_err-bring-clause-failed : goal.returns-in_err-bring-clause-failed
+returns-in_err-bring-clause-failed g c q = failed_missed c.args.b.0 _ c.args.t.now c.bring.new.t (c.in_err-bring.ensures.unmade refl) (next_then c.args.t.now c.make_room.new.t c.bring.new.t c.make_room.ensures.freed (c.in_err-bring.ensures.still_order refl))
+
+pub returns-clause-failed : goal.returns-clause-failed
+returns-clause-failed g c q = absurd cc
+
+pub returns-in_err-bring-clause-fault : goal.returns-in_err-bring-clause-fault
+returns-in_err-bring-clause-fault g c q =
+    let was : IsErrOf c.bring.result Fault = grind (arith, c.from_residual-in_err-bring.ensures, q) in
+    rose_after _ _ _ c.make_room.ensures.lasts.faults.later (c.bring.ensures.fault was)

@@ -1,0 +1,101 @@
+use Rattle.cached_pages.proofs.Common.{IsErr, arith, StepEnds, ends_after}
+use Rattle.cached_pages.proofs.StoreCalls.{named_after, widens_after, widens_cached}
+use Rattle.cached_pages.proofs.Goes.{ends_ok}
+use Rattle.cached_pages.proofs.storing.make_ready.Goals as goal
+use Rattle.cached_pages.proofs.Common.{◌∙◌, lasts_trans}
+use Rattle.rio_model.proofs.CoverSteps.{keeps_trans}
+use Rattle.cached_pages.proofs.Stills.{still_trans}
+use Rattle.cached_pages.proofs.StoreCalls.{valid_cached, dirty_after}
+use Rattle.cached_pages.proofs.DirtyMarks.{marks_any, marks_held, marks_trans}
+
+pub returns-in_err-mark_dirty-clause-widens : goal.returns-in_err-mark_dirty-clause-widens
+returns-in_err-mark_dirty-clause-widens g c = widens_cached _ c.args.k c.args.name (g.M.Machine.contents c.args.m.now) (g.M.Machine.contents c.mark_dirty.new.m) c.requires.sound.coherent c.requires.valid c.mark_dirty.ensures.cached
+
+pub returns-in_err-widen-clause-widens : goal.returns-in_err-widen-clause-widens
+returns-in_err-widen-clause-widens g c = widens_after _ c.args.k c.args.name (g.M.Machine.contents c.args.m.now) (g.M.Machine.contents c.mark_dirty.new.m) (g.M.Machine.contents c.widen.new.m) c.requires.sound.coherent c.requires.valid c.mark_dirty.ensures.cached c.widen.ensures.widens
+
+pub returns-in_err-widen-clause-ends : goal.returns-in_err-widen-clause-ends
+returns-in_err-widen-clause-ends g c =
+    let all : StepEnds (g.M.Machine.run c.args.m.now) (g.M.Machine.run c.widen.new.m) (IsErr c.widen.result) = ends_after _ _ _ _ c.mark_dirty.ensures.ends.steps (c.in_ok-mark_dirty.ensures.ends.runs (λ q. cc)) c.widen.ensures.ends in
+    grind (arith, all)
+
+pub returns-clause-widens : goal.returns-clause-widens
+returns-clause-widens g c = widens_after _ c.args.k c.args.name (g.M.Machine.contents c.args.m.now) (g.M.Machine.contents c.mark_dirty.new.m) (g.M.Machine.contents c.widen.new.m) c.requires.sound.coherent c.requires.valid c.mark_dirty.ensures.cached c.widen.ensures.widens
+
+pub returns-clause-named : goal.returns-clause-named
+returns-clause-named g c = named_after _ c.args.k c.args.name (g.M.Machine.contents c.args.m.now) (g.M.Machine.contents c.mark_dirty.new.m) (g.M.Machine.contents c.widen.new.m) c.requires.sound.coherent c.requires.valid c.mark_dirty.ensures.cached c.in_ok-widen.ensures.named
+
+pub returns-clause-ends : goal.returns-clause-ends
+returns-clause-ends g c = ends_ok _ _ _ _ _ _ (λ q. cc) (λ q. cc) (λ q. cc) c.in_ok-mark_dirty.ensures.ends c.in_ok-widen.ensures.ends
+
+pub mark_dirty-requires-clause-sound : goal.mark_dirty-requires-clause-sound
+mark_dirty-requires-clause-sound g c = c.requires.sound
+
+pub mark_dirty-requires-clause-valid : goal.mark_dirty-requires-clause-valid
+mark_dirty-requires-clause-valid g c = c.requires.valid
+
+pub widen-requires-clause-name : goal.widen-requires-clause-name
+widen-requires-clause-name g c = c.requires.name
+
+pub returns-in_err-mark_dirty-clause-sound : goal.returns-in_err-mark_dirty-clause-sound
+returns-in_err-mark_dirty-clause-sound g c = c.mark_dirty.ensures.sound
+
+pub returns-in_err-mark_dirty-clause-keeps : goal.returns-in_err-mark_dirty-clause-keeps
+returns-in_err-mark_dirty-clause-keeps g c = c.mark_dirty.ensures.keeps
+
+pub returns-in_err-mark_dirty-clause-tables : goal.returns-in_err-mark_dirty-clause-tables
+returns-in_err-mark_dirty-clause-tables g c = c.mark_dirty.ensures.tables
+
+pub returns-in_err-mark_dirty-clause-still : goal.returns-in_err-mark_dirty-clause-still
+returns-in_err-mark_dirty-clause-still g c = c.mark_dirty.ensures.still
+
+pub returns-in_err-mark_dirty-clause-lasts : goal.returns-in_err-mark_dirty-clause-lasts
+returns-in_err-mark_dirty-clause-lasts g c = c.mark_dirty.ensures.lasts
+
+pub widen-requires-clause-sound : goal.widen-requires-clause-sound
+widen-requires-clause-sound g c = c.mark_dirty.ensures.sound
+
+pub widen-requires-clause-valid : goal.widen-requires-clause-valid
+widen-requires-clause-valid g c = valid_cached _ _ (g.M.Machine.contents c.args.m.now) (g.M.Machine.contents c.mark_dirty.new.m) c.requires.sound.coherent c.requires.valid c.mark_dirty.ensures.cached
+
+pub returns-in_err-widen-clause-sound : goal.returns-in_err-widen-clause-sound
+returns-in_err-widen-clause-sound g c = c.widen.ensures.sound
+
+pub returns-in_err-widen-clause-keeps : goal.returns-in_err-widen-clause-keeps
+returns-in_err-widen-clause-keeps g c = keeps_trans _ _ _ c.mark_dirty.ensures.keeps c.widen.ensures.keeps
+
+pub returns-in_err-widen-clause-tables : goal.returns-in_err-widen-clause-tables
+returns-in_err-widen-clause-tables g c = c.widen.ensures.tables ∙ c.mark_dirty.ensures.tables
+
+pub returns-in_err-widen-clause-still : goal.returns-in_err-widen-clause-still
+returns-in_err-widen-clause-still g c = still_trans _ _ _ c.mark_dirty.ensures.still c.widen.ensures.still
+
+pub returns-in_err-widen-clause-lasts : goal.returns-in_err-widen-clause-lasts
+returns-in_err-widen-clause-lasts g c = lasts_trans _ _ _ c.mark_dirty.ensures.lasts c.widen.ensures.lasts
+
+pub returns-clause-sound : goal.returns-clause-sound
+returns-clause-sound g c = c.widen.ensures.sound
+
+pub returns-clause-keeps : goal.returns-clause-keeps
+returns-clause-keeps g c = keeps_trans _ _ _ c.mark_dirty.ensures.keeps c.widen.ensures.keeps
+
+pub returns-clause-tables : goal.returns-clause-tables
+returns-clause-tables g c = c.widen.ensures.tables ∙ c.mark_dirty.ensures.tables
+
+pub returns-clause-still : goal.returns-clause-still
+returns-clause-still g c = still_trans _ _ _ c.mark_dirty.ensures.still c.widen.ensures.still
+
+pub returns-clause-lasts : goal.returns-clause-lasts
+returns-clause-lasts g c = lasts_trans _ _ _ c.mark_dirty.ensures.lasts c.widen.ensures.lasts
+
+pub returns-clause-dirty : goal.returns-clause-dirty
+returns-clause-dirty g c = dirty_after c.args.k (g.M.Machine.contents c.mark_dirty.new.m).words _ c.widen.ensures.tag c.in_ok-mark_dirty.ensures.dirty
+
+pub returns-in_err-mark_dirty-clause-marks : goal.returns-in_err-mark_dirty-clause-marks
+returns-in_err-mark_dirty-clause-marks g c = marks_held c.args.k _ _ c.mark_dirty.ensures.cached c.mark_dirty.ensures.one_entry c.mark_dirty.ensures.held
+
+pub returns-in_err-widen-clause-marks : goal.returns-in_err-widen-clause-marks
+returns-in_err-widen-clause-marks g c = marks_trans _ _ _ _ (marks_held c.args.k _ _ c.mark_dirty.ensures.cached c.mark_dirty.ensures.one_entry c.mark_dirty.ensures.held) (marks_any _ _ _ c.widen.ensures.marks)
+
+pub returns-clause-marks : goal.returns-clause-marks
+returns-clause-marks g c = marks_trans _ _ _ _ (marks_held c.args.k _ _ c.mark_dirty.ensures.cached c.mark_dirty.ensures.one_entry c.mark_dirty.ensures.held) (marks_any _ _ _ c.widen.ensures.marks)

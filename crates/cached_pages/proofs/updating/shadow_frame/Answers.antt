@@ -1,0 +1,109 @@
+use Rattle.cached_pages.proofs.Common.{◌∙◌, IsErr, ap, arith, sym, StepEnds, ends_after}
+use Rattle.std.proofs.Common.{◌+◌}
+use Rattle.cached_pages.specs.declared.tables.CacheTables.{CacheTables}
+use Rattle.cached_pages.proofs.Touches.{gives_next, pages_held, pages_named, pages_trans}
+use Rattle.cached_pages.proofs.updating.shadow_frame.Goals as goal
+use Rattle.cached_pages.proofs.Goes.{ends_ok}
+use Rattle.cached_pages.proofs.Uses.{order_same}
+use Rattle.cached_pages.proofs.Rooms.{keeps_then, lasts_then}
+use Rattle.cached_pages.proofs.Stills.{still_trans}
+use Rattle.cached_pages.proofs.DirtyMarks.{marks_held, marks_named, marks_trans}
+use Rattle.cached_pages.proofs.DirtyMarks.{marks_refl}
+
+pub returns-in_err-mark_dirty-clause-pages : goal.returns-in_err-mark_dirty-clause-pages
+returns-in_err-mark_dirty-clause-pages g c = pages_held c.args.k _ _ c.mark_dirty.ensures.one_entry c.mark_dirty.ensures.held
+
+pub returns-in_err-give_shadow-clause-pages : goal.returns-in_err-give_shadow-clause-pages
+returns-in_err-give_shadow-clause-pages g c = pages_trans _ _ _ (pages_held c.args.k _ _ c.mark_dirty.ensures.one_entry c.mark_dirty.ensures.held) (pages_named _ _ c.give_shadow.ensures.names)
+
+pub returns-clause-pages : goal.returns-clause-pages
+returns-clause-pages g c = pages_trans _ _ _ (pages_held c.args.k _ _ c.mark_dirty.ensures.one_entry c.mark_dirty.ensures.held) (pages_named _ _ c.give_shadow.ensures.names)
+
+pub returns-clause-gives : goal.returns-clause-gives
+returns-clause-gives g c = gives_next c.args.k _ _ _ c.args.t.now _ c.mark_dirty.ensures.one_entry c.mark_dirty.ensures.held (sym c.shadow_of_entry.ensures ∙ c.if-shadow_of_entry-ne0.false) c.in_ok-give_shadow.ensures.given c.give_shadow.ensures.others (c.in_ok-give_shadow.ensures.count ∙ ap (λ (t : CacheTables). t.shadows + 1) c.mark_dirty.ensures.tables)
+
+pub returns-in_err-give_shadow-clause-ends : goal.returns-in_err-give_shadow-clause-ends
+returns-in_err-give_shadow-clause-ends g c =
+    let all : StepEnds (g.M.Machine.run c.args.m.now) (g.M.Machine.run c.give_shadow.new.m) (IsErr c.give_shadow.result) = ends_after _ _ _ _ c.mark_dirty.ensures.ends.steps (c.in_ok-mark_dirty.ensures.ends.runs (λ q. cc)) c.give_shadow.ensures.ends in
+    grind (arith, all)
+
+pub returns-clause-ends : goal.returns-clause-ends
+returns-clause-ends g c = ends_ok _ _ _ _ _ _ (λ q. cc) (λ q. cc) (λ q. cc) c.in_ok-mark_dirty.ensures.ends c.in_ok-give_shadow.ensures.ends
+
+pub returns-in_err-give_shadow-clause-order : goal.returns-in_err-give_shadow-clause-order
+returns-in_err-give_shadow-clause-order g c = c.give_shadow.ensures.order ∙ order_same _ _ c.mark_dirty.ensures.tables
+
+pub returns-clause-order : goal.returns-clause-order
+returns-clause-order g c = c.give_shadow.ensures.order ∙ order_same _ _ c.mark_dirty.ensures.tables
+
+pub mark_dirty-requires-clause-sound : goal.mark_dirty-requires-clause-sound
+mark_dirty-requires-clause-sound g c = c.requires.sound
+
+pub mark_dirty-requires-clause-valid : goal.mark_dirty-requires-clause-valid
+mark_dirty-requires-clause-valid g c = c.requires.valid
+
+pub returns-in_err-mark_dirty-clause-sound : goal.returns-in_err-mark_dirty-clause-sound
+returns-in_err-mark_dirty-clause-sound g c = c.mark_dirty.ensures.sound
+
+pub returns-in_err-mark_dirty-clause-keeps : goal.returns-in_err-mark_dirty-clause-keeps
+returns-in_err-mark_dirty-clause-keeps g c = c.mark_dirty.ensures.keeps
+
+pub returns-in_err-mark_dirty-clause-still : goal.returns-in_err-mark_dirty-clause-still
+returns-in_err-mark_dirty-clause-still g c = c.mark_dirty.ensures.still
+
+pub returns-in_err-mark_dirty-clause-lasts : goal.returns-in_err-mark_dirty-clause-lasts
+returns-in_err-mark_dirty-clause-lasts g c = c.mark_dirty.ensures.lasts
+
+pub returns-in_err-mark_dirty-clause-forgotten : goal.returns-in_err-mark_dirty-clause-forgotten
+returns-in_err-mark_dirty-clause-forgotten g c = ap (λ (t : CacheTables). t.forgotten) c.mark_dirty.ensures.tables
+
+pub returns-in_err-mark_dirty-clause-order : goal.returns-in_err-mark_dirty-clause-order
+returns-in_err-mark_dirty-clause-order g c = order_same _ _ c.mark_dirty.ensures.tables
+
+pub give_shadow-requires-clause-sound : goal.give_shadow-requires-clause-sound
+give_shadow-requires-clause-sound g c = c.mark_dirty.ensures.sound
+
+pub give_shadow-requires-clause-dirty : goal.give_shadow-requires-clause-dirty
+give_shadow-requires-clause-dirty g c = c.in_ok-mark_dirty.ensures.dirty
+
+pub returns-in_err-give_shadow-clause-sound : goal.returns-in_err-give_shadow-clause-sound
+returns-in_err-give_shadow-clause-sound g c = c.give_shadow.ensures.sound
+
+pub returns-in_err-give_shadow-clause-keeps : goal.returns-in_err-give_shadow-clause-keeps
+returns-in_err-give_shadow-clause-keeps g c = keeps_then _ _ _ c.mark_dirty.ensures.keeps c.give_shadow.ensures.keeps
+
+pub returns-in_err-give_shadow-clause-forgotten : goal.returns-in_err-give_shadow-clause-forgotten
+returns-in_err-give_shadow-clause-forgotten g c = c.give_shadow.ensures.forgotten ∙ ap (λ (t : CacheTables). t.forgotten) c.mark_dirty.ensures.tables
+
+pub returns-in_err-give_shadow-clause-still : goal.returns-in_err-give_shadow-clause-still
+returns-in_err-give_shadow-clause-still g c = still_trans _ _ _ c.mark_dirty.ensures.still c.give_shadow.ensures.still
+
+pub returns-in_err-give_shadow-clause-lasts : goal.returns-in_err-give_shadow-clause-lasts
+returns-in_err-give_shadow-clause-lasts g c = lasts_then _ _ _ c.mark_dirty.ensures.lasts c.give_shadow.ensures.lasts
+
+pub returns-clause-sound : goal.returns-clause-sound
+returns-clause-sound g c = c.give_shadow.ensures.sound
+
+pub returns-clause-keeps : goal.returns-clause-keeps
+returns-clause-keeps g c = keeps_then _ _ _ c.mark_dirty.ensures.keeps c.give_shadow.ensures.keeps
+
+pub returns-clause-forgotten : goal.returns-clause-forgotten
+returns-clause-forgotten g c = c.give_shadow.ensures.forgotten ∙ ap (λ (t : CacheTables). t.forgotten) c.mark_dirty.ensures.tables
+
+pub returns-clause-still : goal.returns-clause-still
+returns-clause-still g c = still_trans _ _ _ c.mark_dirty.ensures.still c.give_shadow.ensures.still
+
+pub returns-clause-lasts : goal.returns-clause-lasts
+returns-clause-lasts g c = lasts_then _ _ _ c.mark_dirty.ensures.lasts c.give_shadow.ensures.lasts
+
+pub returns-in_err-mark_dirty-clause-marks : goal.returns-in_err-mark_dirty-clause-marks
+returns-in_err-mark_dirty-clause-marks g c = marks_held c.args.k _ _ c.mark_dirty.ensures.cached c.mark_dirty.ensures.one_entry c.mark_dirty.ensures.held
+
+pub returns-in_err-give_shadow-clause-marks : goal.returns-in_err-give_shadow-clause-marks
+returns-in_err-give_shadow-clause-marks g c = marks_trans _ _ _ _ (marks_held c.args.k _ _ c.mark_dirty.ensures.cached c.mark_dirty.ensures.one_entry c.mark_dirty.ensures.held) (marks_named _ _ _ c.give_shadow.ensures.names)
+
+pub returns-clause-marks : goal.returns-clause-marks
+returns-clause-marks g c = marks_trans _ _ _ _ (marks_held c.args.k _ _ c.mark_dirty.ensures.cached c.mark_dirty.ensures.one_entry c.mark_dirty.ensures.held) (marks_named _ _ _ c.give_shadow.ensures.names)
+
+pub returns-then-shadow_of_entry-ne0-clause-marks : goal.returns-then-shadow_of_entry-ne0-clause-marks
+returns-then-shadow_of_entry-ne0-clause-marks g c = marks_refl _ _

@@ -1,8 +1,0 @@
-use Rattle.page_cache.proofs.Frames.{page_is, page_within}
-use Rattle.page_cache.proofs.cache.PageCache.page_of.Goals as goal
-
-pub returns-clause-page : goal.returns-clause-page
-returns-clause-page g c = page_is c.args.k _ _ _ c.requires.sound
-
-pub returns-clause-within : goal.returns-clause-within
-returns-clause-within g c = page_within c.args.k _ _ _ c.requires.sound c.requires.entry

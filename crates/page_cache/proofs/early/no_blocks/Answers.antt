@@ -1,5 +1,0 @@
-use Rattle.page_cache.proofs.EarlyStates.{all_free}
-use Rattle.page_cache.proofs.early.no_blocks.Goals as goal
-
-pub returns : goal.returns
-returns c = λ s. all_free 64 s
