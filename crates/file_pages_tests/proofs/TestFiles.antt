@@ -13,7 +13,8 @@ use Rattle.file_pages.proofs.OrderRules.{leaves_refl, stands_ready_left, firm_on
 use Rattle.block_alloc.specs.Bitmap.{numbers}
 use Rattle.rio_base.specs.declared.places.Block.{Block}
 use Rattle.rio_base.specs.Bitmap.{free_blocks}
-use Rattle.std.specs.Prelude.{length, take, IfOk, IsErrOf, OnOk}
+use Rattle.std.specs.Prelude.{◌↔◌, length, take, IfOk, IsErr, IsErrOf, OnOk}
+use Rattle.rio_base.specs.Rules.{true_false}
 use Rattle.file_pages.specs.Changes.{Apart}
 use Rattle.file_pages.proofs.FreeLists.{first_apart, first_free, lists_apart}
 use Rattle.file_pages.proofs.Listed.{as_many}
@@ -123,6 +124,13 @@ sized_ready shape x k y j i old new (Err SizeTooLarge) h at settled ok refused f
 sized_ready shape x k y j i old new (Err SizeMemory) h at settled ok refused fault (inr ready) = inr (files_left shape x k y j h settled (refused (inr (inr refl))) ready)
 sized_ready shape x k y j i old new (Err SizeFault) h at settled ok refused fault (inr ready) = inr (files_set shape x k y j i old h at (fault refl) ready)
 sized_ready shape x k y j i old new (Err SizeStopped) h at settled ok refused fault (inr ready) = inl refl
+
+-- ---- what a call answers
+
+pub on_answered : {P T E A F : Type 0} (came : Result T E) (e : E) (q : Result A F) → (IsErr q ↔ IsErrOf came e) → IsErrOf came e ⊎ P → OnOk q P
+on_answered came e (Ok a) tells (inl stop) = absurd (true_false (sym (tells.1 stop)))
+on_answered came e (Ok a) tells (inr on) = on
+on_answered came e (Err f) tells on = tt
 
 -- ---- what is planned
 

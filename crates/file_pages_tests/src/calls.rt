@@ -1,17 +1,15 @@
 //! The calls of tests, after which the files of a test are there, read and standing.
 
-ghost use Rattle.std.specs.Prelude.{◌⊎◌, IsErrOf, OnOk};
+ghost use Rattle.std.specs.Prelude.{◌≡◌, ◌↔◌, ◌⊎◌, IsErr, IsErrOf, OnOk};
 ghost use Rattle.file_pages_tests.specs.TestFiles.{FilesReady, FilesStand, IsTestFile};
 
-use crate::compare::{At, same_items};
 use file_pages::{SizeFail, WriteFail, blocks_of, read, resize, write};
 use inode_table::LARGEST_SIZE;
-use rio_base::{BlockList, Ino, Octets, ReadFail, Volume, VolumeShape};
+use rio_base::{BlockList, Ino, Octets, ReadFail, Stopped, Volume, VolumeShape};
 use std::alloc::Global;
-use std::process::Abort;
 
 /// What a call on a file answers where it is not stopped.
-#[derive(Clone, Copy, Debug, PartialEq, Eq)]
+#[derive(Clone, Copy, PartialEq, Eq)]
 pub(crate) enum Answer {
     /// It is done. A write says how many bytes it wrote.
     Done(u64),
@@ -19,6 +17,8 @@ pub(crate) enum Answer {
     TooLarge,
     /// The disk failed after so many bytes.
     Fault(u64),
+    /// No memory was left, which no row asks for.
+    Memory,
 }
 
 /// A call on a file.
@@ -66,6 +66,50 @@ fn resize_file<V: Volume>(
     resize(alloc, v, shape, i, len)
 }
 
+/// What a write answers; or the stop that came in its place.
+fn written(came: Result<u64, WriteFail>) -> Result<Answer, Stopped>
+    ensures { IsErr result ↔ IsErrOf came WriteFail.Stopped }
+{
+    match came {
+        Ok(n) => Ok(Answer::Done(n)),
+        Err(fail) => not_written(fail),
+    }
+}
+
+fn not_written(fail: WriteFail) -> Result<Answer, Stopped>
+    ensures { IsErr result ↔ (fail ≡ WriteFail.Stopped) }
+{
+    match fail {
+        WriteFail::NoSpace => Ok(Answer::NoSpace),
+        WriteFail::TooLarge => Ok(Answer::TooLarge),
+        WriteFail::Fault { done } => Ok(Answer::Fault(done)),
+        WriteFail::Stopped => Err(Stopped),
+        WriteFail::Memory => Ok(Answer::Memory),
+    }
+}
+
+/// What a change of size answers; or the stop that came in its place.
+fn resized(came: Result<(), SizeFail>) -> Result<Answer, Stopped>
+    ensures { IsErr result ↔ IsErrOf came SizeFail.Stopped }
+{
+    match came {
+        Ok(()) => Ok(Answer::Done(0)),
+        Err(fail) => not_resized(fail),
+    }
+}
+
+fn not_resized(fail: SizeFail) -> Result<Answer, Stopped>
+    ensures { IsErr result ↔ (fail ≡ SizeFail.Stopped) }
+{
+    match fail {
+        SizeFail::NoSpace => Ok(Answer::NoSpace),
+        SizeFail::TooLarge => Ok(Answer::TooLarge),
+        SizeFail::Fault => Ok(Answer::Fault(0)),
+        SizeFail::Stopped => Err(Stopped),
+        SizeFail::Memory => Ok(Answer::Memory),
+    }
+}
+
 /// Writes bytes to a file.
 pub(crate) fn put<V: Volume>(
     alloc: Global,
@@ -74,7 +118,7 @@ pub(crate) fn put<V: Volume>(
     i: Ino,
     off: u64,
     bytes: &[u8],
-) -> Result<Answer, WriteFail>
+) -> Result<Answer, Stopped>
     requires sound { V.sound v.old }
     requires files { FilesReady shape.now (V.seen v.old) (V.kept v.old) }
     requires file { IsTestFile i.0 }
@@ -82,13 +126,8 @@ pub(crate) fn put<V: Volume>(
     ensures stand { FilesStand shape.now (V.seen v.new) (V.kept v.new) }
     ensures sound { V.sound v.new }
 {
-    match write_file(alloc, v, shape, i, off, bytes) {
-        Ok(n) => Ok(Answer::Done(n)),
-        Err(WriteFail::NoSpace) => Ok(Answer::NoSpace),
-        Err(WriteFail::TooLarge) => Ok(Answer::TooLarge),
-        Err(WriteFail::Fault { done }) => Ok(Answer::Fault(done)),
-        Err(fail) => Err(fail),
-    }
+    let came = write_file(alloc, v, shape, i, off, bytes);
+    written(came)
 }
 
 /// Gives a file another size.
@@ -98,7 +137,7 @@ pub(crate) fn set_size<V: Volume>(
     shape: &VolumeShape,
     i: Ino,
     len: u64,
-) -> Result<Answer, WriteFail>
+) -> Result<Answer, Stopped>
     requires sound { V.sound v.old }
     requires files { FilesReady shape.now (V.seen v.old) (V.kept v.old) }
     requires file { IsTestFile i.0 }
@@ -106,30 +145,26 @@ pub(crate) fn set_size<V: Volume>(
     ensures stand { FilesStand shape.now (V.seen v.new) (V.kept v.new) }
     ensures sound { V.sound v.new }
 {
-    match resize_file(alloc, v, shape, i, len) {
-        Ok(()) => Ok(Answer::Done(0)),
-        Err(SizeFail::NoSpace) => Ok(Answer::NoSpace),
-        Err(SizeFail::TooLarge) => Ok(Answer::TooLarge),
-        Err(SizeFail::Fault) => Ok(Answer::Fault(0)),
-        Err(SizeFail::Stopped) => Err(WriteFail::Stopped),
-        Err(SizeFail::Memory) => Err(WriteFail::Memory),
-    }
+    let came = resize_file(alloc, v, shape, i, len);
+    resized(came)
 }
 
-/// So many bytes of one value.
-pub(crate) fn filled(rt: &impl Abort, alloc: Global, count: usize, byte: u8) -> Vec<u8> {
-    vec![in alloc; byte; count].expect(rt, "memory")
+/// So many bytes of one value. None where there is no memory for them: no row is answered so as it must.
+pub(crate) fn filled(alloc: Global, count: usize, byte: u8) -> Vec<u8> {
+    match vec![in alloc; byte; count] {
+        Ok(bytes) => bytes,
+        Err(_none) => Vec::new(alloc),
+    }
 }
 
 /// Makes a call on a file.
 pub(crate) fn make<V: Volume>(
-    rt: &impl Abort,
     alloc: Global,
     v: &mut V,
     shape: &VolumeShape,
     i: Ino,
     call: Call,
-) -> Result<Answer, WriteFail>
+) -> Result<Answer, Stopped>
     requires sound { V.sound v.old }
     requires files { FilesReady shape.now (V.seen v.old) (V.kept v.old) }
     requires file { IsTestFile i.0 }
@@ -139,7 +174,7 @@ pub(crate) fn make<V: Volume>(
 {
     match call {
         Call::Write(off, count, byte) => {
-            let bytes = filled(rt, alloc, count, byte);
+            let bytes = filled(alloc, count, byte);
             put(alloc, v, shape, i, off, &bytes)
         }
         Call::Resize(len) => set_size(alloc, v, shape, i, len),
@@ -164,58 +199,46 @@ pub(crate) fn some_of<V: Volume>(
     read(alloc, v, shape, i, off, len)
 }
 
-/// All bytes of a file.
-pub(crate) fn all_of<V: Volume>(
+/// Whether just these bytes come where `len` are read from `off` on.
+pub(crate) fn reads<V: Volume>(
     alloc: Global,
     v: &mut V,
     shape: &VolumeShape,
     i: Ino,
-) -> Result<Octets, ReadFail>
-    requires sound { V.sound v.old }
-    requires files { FilesReady shape.now (V.seen v.old) (V.kept v.old) }
-    requires file { IsTestFile i.0 }
-    ensures files { FilesReady shape.now (V.seen v.new) (V.kept v.new) }
-    ensures sound { V.sound v.new }
-{
-    some_of(alloc, v, shape, i, 0, LARGEST_SIZE)
-}
-
-/// Compares all bytes of a file.
-pub(crate) fn has_bytes<V: Volume>(
-    rt: &impl Abort,
-    alloc: Global,
-    v: &mut V,
-    shape: &VolumeShape,
-    i: Ino,
-    at: At,
+    off: u64,
+    len: u64,
     due: &[u8],
-)
+) -> bool
     requires sound { V.sound v.old }
     requires files { FilesReady shape.now (V.seen v.old) (V.kept v.old) }
     requires file { IsTestFile i.0 }
     ensures files { FilesReady shape.now (V.seen v.new) (V.kept v.new) }
     ensures sound { V.sound v.new }
 {
-    let bytes = all_of(alloc, v, shape, i).expect(rt, "all bytes are read");
-    same_items(rt, at, bytes.as_slice(), due);
+    match some_of(alloc, v, shape, i, off, len) {
+        Ok(bytes) => bytes.as_slice() == due,
+        Err(_fail) => false,
+    }
 }
 
-/// How many bytes a file has.
-pub(crate) fn len_of<V: Volume>(
-    rt: &impl Abort,
+/// Whether a file has so many bytes.
+pub(crate) fn has_len<V: Volume>(
     alloc: Global,
     v: &mut V,
     shape: &VolumeShape,
     i: Ino,
-) -> usize
+    due: usize,
+) -> bool
     requires sound { V.sound v.old }
     requires files { FilesReady shape.now (V.seen v.old) (V.kept v.old) }
     requires file { IsTestFile i.0 }
     ensures files { FilesReady shape.now (V.seen v.new) (V.kept v.new) }
     ensures sound { V.sound v.new }
 {
-    let bytes = all_of(alloc, v, shape, i).expect(rt, "all bytes are read");
-    bytes.as_slice().len()
+    match some_of(alloc, v, shape, i, 0, LARGEST_SIZE) {
+        Ok(bytes) => bytes.as_slice().len() == due,
+        Err(_fail) => false,
+    }
 }
 
 /// All blocks of a file.
@@ -234,20 +257,22 @@ fn blocks_in<V: Volume>(
     blocks_of(alloc, v, shape, i)
 }
 
-/// How many blocks a file has.
-pub(crate) fn block_count<V: Volume>(
-    rt: &impl Abort,
+/// Whether a file has so many blocks.
+pub(crate) fn has_blocks<V: Volume>(
     alloc: Global,
     v: &mut V,
     shape: &VolumeShape,
     i: Ino,
-) -> usize
+    due: usize,
+) -> bool
     requires sound { V.sound v.old }
     requires files { FilesReady shape.now (V.seen v.old) (V.kept v.old) }
     requires file { IsTestFile i.0 }
     ensures files { FilesReady shape.now (V.seen v.new) (V.kept v.new) }
     ensures sound { V.sound v.new }
 {
-    let blocks = blocks_in(alloc, v, shape, i).expect(rt, "its blocks are found");
-    blocks.as_slice().len()
+    match blocks_in(alloc, v, shape, i) {
+        Ok(blocks) => blocks.as_slice().len() == due,
+        Err(_fail) => false,
+    }
 }

@@ -1,6 +1,5 @@
 //! The assertions of these tests. Each says where it failed.
 
-use std::fmt::Debug;
 use std::process::Abort;
 
 /// A place in a test: its table, or what it ends, and the row, step or call.
@@ -10,19 +9,15 @@ pub(crate) struct At {
     pub(crate) row: u64,
 }
 
-/// What came is what is due.
-pub(crate) fn same<T: PartialEq + Debug>(rt: &impl Abort, at: At, came: &T, due: &T) {
-    let At { table, row } = at;
-    assert_eq!(rt; came, due, "{table}, at {row}");
-}
-
-/// The same of bytes, or of other things one behind the other.
-pub(crate) fn same_items<T: PartialEq + Debug>(rt: &impl Abort, at: At, came: &[T], due: &[T]) {
-    same(rt, at, &came, &due);
-}
-
 /// This is so.
 pub(crate) fn holds(rt: &impl Abort, what: &str, at: At, so: bool) {
     let At { table, row } = at;
     assert!(rt; so, "{table}, at {row}: {what}");
+}
+
+/// Each row of a table was answered as it must, and none otherwise.
+pub(crate) fn all_answered(rt: &impl Abort, table: &str, other: Option<usize>) {
+    if let Some(row) = other {
+        panic!(rt; "{table}: row {row} is answered otherwise");
+    }
 }

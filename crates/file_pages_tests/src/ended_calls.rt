@@ -4,12 +4,12 @@ ghost use Rattle.rio_fakes.specs.ListVolumes.{ListSound, list_kept, list_seen};
 ghost use Rattle.test_volumes.specs.TestVolumes.{IsTestShape};
 ghost use Rattle.file_pages_tests.specs.TestFiles.{FilesReady, FilesStand};
 
-use crate::calls::{Answer, Call, all_of, block_count, has_bytes, make};
-use crate::compare::{At, holds, same, same_items};
+use crate::calls::{Answer, Call, has_blocks, make, reads, some_of};
+use crate::compare::{At, holds};
 use crate::plain_file::{is_led, plain_call, same_up_to};
 use crate::volumes::{FILE, start_again, used_count, with_files};
-use file_pages::WriteFail;
-use rio_base::{Octets, Volume, VolumeShape};
+use inode_table::LARGEST_SIZE;
+use rio_base::{Stopped, Volume, VolumeShape};
 use rio_fakes::{FaultyVolume, ListVolume};
 use std::alloc::Global;
 use std::process::Abort;
@@ -24,6 +24,7 @@ pub(crate) struct Case {
     pub(crate) shape: VolumeShape,
     pub(crate) first: Call,
     pub(crate) call: Call,
+    pub(crate) look: Look,
 }
 
 impl Case {
@@ -31,6 +32,94 @@ impl Case {
     pub(crate) fn at(&self, row: u64) -> At {
         let table = self.name;
         At { table, row }
+    }
+}
+
+/// How a call ended.
+#[derive(Clone, Copy)]
+pub(crate) enum End {
+    Done,
+    Stopped,
+    /// The disk failed after so many bytes.
+    Fault(u64),
+    /// In no way that is due.
+    Other,
+}
+
+/// What is left of a file by a call that did not end, or by one that is done.
+#[derive(Clone, Copy)]
+pub(crate) struct Left {
+    pub(crate) end: End,
+    /// The bytes of the file are the new ones.
+    pub(crate) whole: bool,
+    /// They may stand where the call is stopped: the new ones, or the old ones led by new ones.
+    pub(crate) may_stand: bool,
+    /// They are the old ones led by as many new ones as the call says, or by none where it says none.
+    pub(crate) as_said: bool,
+    /// What the tests of one call look for in them.
+    pub(crate) shown: Option<u64>,
+    /// The call is done when it is made again, and all blocks that are used are the file's or reserved.
+    pub(crate) again: bool,
+}
+
+/// What a test of one call looks for in the bytes of a file.
+#[derive(Clone, Copy)]
+pub(crate) enum Look {
+    Nothing,
+    /// How many bytes of a write of 16 at 4 to a file of 8.
+    OverTheEnd,
+    /// How many bytes of a write at 4088 in the first of two pages, where those in the second are old.
+    FirstPage,
+}
+
+/// The file of 8 bytes.
+pub(crate) const EIGHT: &[u8] = b"\xaa\xaa\xaa\xaa\xaa\xaa\xaa\xaa";
+
+/// The file with the first 4 of 16 bytes written at 4.
+const FOUR_MORE: &[u8] = b"\xaa\xaa\xaa\xaa\xbb\xbb\xbb\xbb";
+
+/// The file with all 16 bytes written.
+pub(crate) const WHOLE: &[u8] =
+    b"\xaa\xaa\xaa\xaa\xbb\xbb\xbb\xbb\xbb\xbb\xbb\xbb\xbb\xbb\xbb\xbb\xbb\xbb\xbb\xbb";
+
+/// Bytes 4080 to 4112 where the part of the write in the first page stands alone.
+const FIRST_PAGE: &[u8] =
+    b"\xaa\xaa\xaa\xaa\xaa\xaa\xaa\xaa\xbb\xbb\xbb\xbb\xbb\xbb\xbb\xbb\xaa\xaa\xaa\xaa\xaa\xaa\xaa\xaa\xaa\xaa\xaa\xaa\xaa\xaa\xaa\xaa";
+
+/// How many of the 16 bytes the file shows: none, those before its end, or all. No answer where it shows anything else.
+fn shown_over_the_end(bytes: &[u8]) -> Option<u64> {
+    if bytes == EIGHT {
+        return Some(0);
+    }
+    if bytes == FOUR_MORE {
+        return Some(4);
+    }
+    if bytes == WHOLE {
+        return Some(16);
+    }
+    None
+}
+
+/// Bytes 4080 to 4112 of a file of two pages.
+fn middle(bytes: &[u8]) -> &[u8] {
+    if bytes.len() < 4112 {
+        return &[];
+    }
+    &bytes[4080..4112]
+}
+
+/// What a test looks for.
+fn shown(bytes: &[u8], look: Look) -> Option<u64> {
+    match look {
+        Look::Nothing => None,
+        Look::OverTheEnd => shown_over_the_end(bytes),
+        Look::FirstPage => {
+            if middle(bytes) == FIRST_PAGE {
+                Some(8)
+            } else {
+                Some(0)
+            }
+        }
     }
 }
 
@@ -42,89 +131,194 @@ pub(crate) fn after(rt: &impl Abort, alloc: Global, shape: &VolumeShape, first: 
     ensures stand { FilesStand shape.now (list_seen result) (list_kept result) }
 {
     let mut v = with_files(rt, alloc, shape);
-    make(rt, alloc, &mut v, shape, FILE, first).expect(rt, "the first call");
+    let Ok(_answer) = make(alloc, &mut v, shape, FILE, first) else {
+        panic!(rt; "the first call");
+    };
     v
 }
 
-/// Makes a call again that did not end there. It is done now, and all blocks that are used are the file's
-/// or reserved.
-fn make_again<V: Volume>(rt: &impl Abort, alloc: Global, v: &mut V, case: &Case, at: At, new: &[u8])
+/// How a call ended that answers so.
+fn end_of(came: Result<Answer, Stopped>) -> End {
+    match came {
+        Ok(Answer::Done(_)) => End::Done,
+        Ok(Answer::Fault(done)) => End::Fault(done),
+        Ok(_) => End::Other,
+        Err(Stopped) => End::Stopped,
+    }
+}
+
+/// Whether the bytes are the old ones with those of a call over them, as many as it says.
+fn is_as_said(bytes: &[u8], call: Call, end: End, old: &[u8], new: &[u8]) -> bool {
+    let End::Fault(done) = end else {
+        return false;
+    };
+    let end = match call {
+        Call::Write(off, _, _) => off.saturating_add(done) as usize,
+        Call::Resize(_) => 0,
+    };
+    if done > 0 && end > old.len() {
+        return false;
+    }
+    is_led(bytes, old, new, end)
+}
+
+/// What these bytes are beside those before a call and those that it makes.
+fn left_of(bytes: &[u8], case: &Case, end: End, old: &[u8], new: &[u8]) -> Left {
+    let whole = bytes == new;
+    let may_stand = whole || is_led(bytes, old, new, same_up_to(bytes, new));
+    Left {
+        end,
+        whole,
+        may_stand,
+        as_said: is_as_said(bytes, case.call, end, old, new),
+        shown: shown(bytes, case.look),
+        again: false,
+    }
+}
+
+/// Whether a call that did not end there is done when it is made again, and all blocks that are used are the file's or
+/// reserved.
+fn is_made_again<V: Volume>(alloc: Global, v: &mut V, case: &Case, new: &[u8]) -> bool
     requires sound { V.sound v.old }
     requires files { FilesReady case.now.shape (V.seen v.old) (V.kept v.old) }
 {
-    let answer = make(rt, alloc, v, &case.shape, FILE, case.call).expect(rt, "the call again");
-    holds(rt, "done again", at, matches!(answer, Answer::Done(_)));
-    has_bytes(rt, alloc, v, &case.shape, FILE, at, new);
-    let used = used_count(rt, v, &case.shape);
-    let blocks = block_count(rt, alloc, v, &case.shape, FILE);
-    same(rt, at, &(used as usize), &blocks.saturating_add(4));
+    let Ok(answer) = make(alloc, v, &case.shape, FILE, case.call) else {
+        return false;
+    };
+    if !matches!(answer, Answer::Done(_)) {
+        return false;
+    }
+    if !reads(alloc, v, &case.shape, FILE, 0, LARGEST_SIZE, new) {
+        return false;
+    }
+    let used = used_count(v, &case.shape) as usize;
+    used >= 4 && has_blocks(alloc, v, &case.shape, FILE, used - 4)
 }
 
-/// Makes a call that stops after so many steps, and goes on with what stands. Says whether the call was done before.
-fn make_stopped(rt: &impl Abort, alloc: Global, v: &mut ListVolume, case: &Case, steps: u64) -> bool
+/// What is left of the file by a call that ended so. The call is made again after it.
+fn look_at<V: Volume>(
+    alloc: Global,
+    v: &mut V,
+    case: &Case,
+    end: End,
+    old: &[u8],
+    new: &[u8],
+) -> Option<Left>
+    requires sound { V.sound v.old }
+    requires files { FilesReady case.now.shape (V.seen v.old) (V.kept v.old) }
+{
+    let mut left = match some_of(alloc, v, &case.shape, FILE, 0, LARGEST_SIZE) {
+        Ok(bytes) => left_of(bytes.as_slice(), case, end, old, new),
+        Err(_fail) => return None,
+    };
+    left.again = is_made_again(alloc, v, case, new);
+    Some(left)
+}
+
+/// Makes a call that stops after so many steps, and goes on with what stands.
+fn make_stopped(alloc: Global, v: &mut ListVolume, case: &Case, steps: u64) -> End
     requires sound { ListSound v.old }
     requires stand { FilesStand case.now.shape (list_seen v.old) (list_kept v.old) }
     ensures files { FilesReady case.now.shape (list_seen v.new) (list_kept v.new) }
     ensures sound { ListSound v.new }
 {
     start_again(v, &case.shape, Some(steps));
-    let ended = make(rt, alloc, v, &case.shape, FILE, case.call);
+    let came = make(alloc, v, &case.shape, FILE, case.call);
     start_again(v, &case.shape, None);
-    match ended {
-        Ok(answer) => {
-            let done = matches!(answer, Answer::Done(_));
-            holds(rt, "done", case.at(steps), done);
-            true
-        }
-        Err(fail) => {
-            same(rt, case.at(steps), &fail, &WriteFail::Stopped);
-            false
-        }
-    }
+    end_of(came)
 }
 
-/// What stands of the file where a call stops after so many steps, and whether it is done before.
+/// What stands of the file where a call stops after so many steps. None where it cannot be read.
 pub(crate) fn stop_at(
     rt: &impl Abort,
     alloc: Global,
     case: &Case,
     steps: u64,
+    old: &[u8],
     new: &[u8],
-) -> (bool, Octets)
+) -> Option<Left>
     requires { IsTestShape case.now.shape }
 {
     let mut v = after(rt, alloc, &case.shape, case.first);
-    let done = make_stopped(rt, alloc, &mut v, case, steps);
-    let bytes = all_of(alloc, &mut v, &case.shape, FILE).expect(rt, "what stands is read");
-    make_again(rt, alloc, &mut v, case, case.at(steps), new);
-    (done, bytes)
+    let end = make_stopped(alloc, &mut v, case, steps);
+    look_at(alloc, &mut v, case, end, old, new)
 }
 
-/// How many bytes of a call are done, and the bytes of the file then, where its `n`th call below that may need the disk
-/// fails. None where it is done before.
+/// A call that is done, of which nothing more is asked.
+const DONE: Left = Left {
+    end: End::Done,
+    whole: true,
+    may_stand: true,
+    as_said: true,
+    shown: None,
+    again: true,
+};
+
+/// What is left of the file by a call in which a call below may fail. None where it cannot be read.
+fn left_by_fault<V: Volume>(
+    alloc: Global,
+    v: &mut V,
+    case: &Case,
+    old: &[u8],
+    new: &[u8],
+) -> Option<Left>
+    requires sound { V.sound v.old }
+    requires files { FilesReady case.now.shape (V.seen v.old) (V.kept v.old) }
+{
+    let Ok(answer) = make(alloc, v, &case.shape, FILE, case.call) else {
+        return None;
+    };
+    let end = end_of(Ok(answer));
+    if let End::Done = end {
+        return Some(DONE);
+    }
+    look_at(alloc, v, case, end, old, new)
+}
+
+/// What is left of the file where the `n`th call below that may need the disk fails. None where it cannot be read.
 pub(crate) fn fail_at(
     rt: &impl Abort,
     alloc: Global,
     case: &Case,
     n: u64,
+    old: &[u8],
     new: &[u8],
-) -> Option<(u64, Octets)>
+) -> Option<Left>
     requires { IsTestShape case.now.shape }
 {
     let mut v = FaultyVolume::new(after(rt, alloc, &case.shape, case.first), n);
-    let answer = make(rt, alloc, &mut v, &case.shape, FILE, case.call).expect(rt, "no stop");
-    let Answer::Fault(done) = answer else {
-        holds(rt, "done", case.at(n), matches!(answer, Answer::Done(_)));
-        return None;
-    };
-    let bytes = all_of(alloc, &mut v, &case.shape, FILE).expect(rt, "what is left is read");
-    make_again(rt, alloc, &mut v, case, case.at(n), new);
-    Some((done, bytes))
+    left_by_fault(alloc, &mut v, case, old, new)
 }
 
-/// Whether a file may stand so where a call stops that makes the new bytes of the old: as either, or led.
-fn may_stand(bytes: &[u8], old: &[u8], new: &[u8]) -> bool {
-    bytes == new || is_led(bytes, old, new, same_up_to(bytes, new))
+/// Whether a call is done.
+pub(crate) fn is_done(left: Option<Left>) -> bool {
+    match left {
+        Some(left) => matches!(left.end, End::Done),
+        None => false,
+    }
+}
+
+/// Whether a call may leave this where it is stopped, or done.
+fn may_stand(left: Option<Left>) -> bool {
+    let Some(left) = left else {
+        return false;
+    };
+    if !left.again {
+        return false;
+    }
+    match left.end {
+        End::Done => left.whole,
+        End::Stopped => left.may_stand,
+        End::Fault(_) | End::Other => false,
+    }
+}
+
+/// Whether a call may leave this where a call below fails.
+fn may_be_left(left: Option<Left>) -> bool {
+    match left {
+        Some(left) => left.again && left.as_said,
+        None => false,
+    }
 }
 
 /// Stops a call that makes the new bytes of the old at each of its steps.
@@ -132,23 +326,13 @@ fn stop_each(rt: &impl Abort, alloc: Global, case: &Case, old: &[u8], new: &[u8]
     requires { IsTestShape case.now.shape }
 {
     for steps in 0..MANY {
-        let (done, bytes) = stop_at(rt, alloc, case, steps, new);
-        if done {
-            same_items(rt, case.at(steps), bytes.as_slice(), new);
+        let left = stop_at(rt, alloc, case, steps, old, new);
+        holds(rt, "what stands may stand", case.at(steps), may_stand(left));
+        if is_done(left) {
             return;
         }
-        let may = may_stand(bytes.as_slice(), old, new);
-        holds(rt, "what stands may stand", case.at(steps), may);
     }
     never_done(rt, case);
-}
-
-/// The end of the first `done` bytes of a call.
-fn end_of(call: Call, done: u64) -> usize {
-    match call {
-        Call::Write(off, _, _) => off.saturating_add(done) as usize,
-        Call::Resize(_) => 0,
-    }
 }
 
 /// Lets each call below that may need the disk fail in turn, in a call that makes the new bytes of the old, and says how
@@ -157,14 +341,11 @@ fn fail_each_of(rt: &impl Abort, alloc: Global, case: &Case, old: &[u8], new: &[
     requires { IsTestShape case.now.shape }
 {
     for n in 1..MANY {
-        let Some((done, bytes)) = fail_at(rt, alloc, case, n, new) else {
+        let left = fail_at(rt, alloc, case, n, old, new);
+        if is_done(left) {
             return n - 1;
-        };
-        let end = end_of(case.call, done);
-        let old_alone = done == 0 || end <= old.len();
-        holds(rt, "done over old bytes", case.at(n), old_alone);
-        let led = is_led(bytes.as_slice(), old, new, end);
-        holds(rt, "as many bytes are new", case.at(n), led);
+        }
+        holds(rt, "as many bytes are new", case.at(n), may_be_left(left));
     }
     never_done(rt, case);
     MANY
@@ -180,13 +361,20 @@ pub(crate) fn fail_each(rt: &impl Abort, alloc: Global, case: &Case) -> u64
 }
 
 /// Stops a call at each of its steps, and lets each call below fail.
+fn end_each_of(rt: &impl Abort, alloc: Global, case: &Case, old: &[u8], new: &[u8])
+    requires { IsTestShape case.now.shape }
+{
+    stop_each(rt, alloc, case, old, new);
+    fail_each_of(rt, alloc, case, old, new);
+}
+
+/// The same of a call whose bytes are made here.
 pub(crate) fn end_each(rt: &impl Abort, alloc: Global, case: &Case)
     requires { IsTestShape case.now.shape }
 {
     let old = plain_call(rt, alloc, &[], case.first);
     let new = plain_call(rt, alloc, &old, case.call);
-    stop_each(rt, alloc, case, &old, &new);
-    fail_each_of(rt, alloc, case, &old, &new);
+    end_each_of(rt, alloc, case, &old, &new);
 }
 
 /// A call ends after fewer steps, and fewer calls below, than were tried.

@@ -1,13 +1,18 @@
 //! Calls that are stopped at each step, and in which each call below fails.
 
 ghost use Rattle.std.specs.Prelude.{◌≡◌};
+ghost use Rattle.file_pages_tests.specs.TestFiles.{FilesReady};
 
-use crate::calls::{Call, all_of, has_bytes};
-use crate::compare::{At, holds, same};
-use crate::ended_calls::{Case, MANY, after, end_each, fail_at, fail_each, never_done, stop_at};
+use crate::calls::{Call, reads, some_of};
+use crate::compare::{At, holds};
+use crate::ended_calls::{
+    Case, EIGHT, End, Left, Look, MANY, WHOLE, after, end_each, fail_at, fail_each, is_done,
+    never_done, stop_at,
+};
 use crate::plain_file::plain_call;
 use crate::volumes::{FILE, SMALL};
-use rio_base::ReadFail;
+use inode_table::LARGEST_SIZE;
+use rio_base::{ReadFail, Volume};
 use rio_fakes::FaultyVolume;
 use std::alloc::Global;
 use std::process::Abort;
@@ -19,57 +24,79 @@ const OVER_THE_END: Case = Case {
     shape: SHAPE,
     first: Call::Write(0, 8, 0xaa),
     call: Call::Write(4, 16, 0xbb),
+    look: Look::OverTheEnd,
 };
 
-/// The file with all 16 bytes written.
-const WHOLE: &[u8] =
-    b"\xaa\xaa\xaa\xaa\xbb\xbb\xbb\xbb\xbb\xbb\xbb\xbb\xbb\xbb\xbb\xbb\xbb\xbb\xbb\xbb";
-
-/// How many of the 16 bytes the file shows: none, those before its end, or all. No answer where it shows anything else.
-fn shown(bytes: &[u8]) -> Option<u64> {
-    if bytes == b"\xaa\xaa\xaa\xaa\xaa\xaa\xaa\xaa".as_slice() {
-        return Some(0);
+/// How many bytes the file shows after a stop, which are `last` or more, and all where the call is done alone. No answer where
+/// it shows anything else.
+fn shown_by_stop(left: Option<Left>, last: u64) -> Option<u64> {
+    let Some(left) = left else {
+        return None;
+    };
+    let Some(now) = left.shown else {
+        return None;
+    };
+    if !left.again || now < last {
+        return None;
     }
-    if bytes == b"\xaa\xaa\xaa\xaa\xbb\xbb\xbb\xbb".as_slice() {
-        return Some(4);
+    match left.end {
+        End::Done if now == 16 => Some(now),
+        End::Stopped if now != 16 => Some(now),
+        _ => None,
     }
-    if bytes == WHOLE {
-        return Some(16);
-    }
-    None
 }
 
 #[test]
 fn a_stopped_write_over_the_end_is_absent_led_or_whole(rt: HostRuntime) {
-    let mut last = Some(0);
+    let mut last = 0;
     let mut led = false;
     for steps in 0..MANY {
-        let (done, bytes) = stop_at(&rt, rt.alloc(), &OVER_THE_END, steps, WHOLE);
-        let now = shown(bytes.as_slice());
-        let at = OVER_THE_END.at(steps);
-        holds(&rt, "no less than before", at, last <= now);
-        same(&rt, at, &(now == Some(16)), &done);
-        if done {
-            holds(&rt, "led once", at, led);
+        let left = stop_at(&rt, rt.alloc(), &OVER_THE_END, steps, EIGHT, WHOLE);
+        let Some(now) = shown_by_stop(left, last) else {
+            holds(&rt, "as many bytes", OVER_THE_END.at(steps), false);
+            return;
+        };
+        if now == 16 {
+            holds(&rt, "led once", OVER_THE_END.at(steps), led);
             return;
         }
-        led = led || now == Some(4);
+        led = led || now == 4;
         last = now;
     }
     never_done(&rt, &OVER_THE_END);
+}
+
+/// How many bytes are done, which are `last` or more, 4 at most, and those that the file shows. No answer where it shows
+/// anything else.
+fn shown_by_fault(left: Option<Left>, last: u64) -> Option<u64> {
+    let Some(left) = left else {
+        return None;
+    };
+    let End::Fault(done) = left.end else {
+        return None;
+    };
+    let Some(now) = left.shown else {
+        return None;
+    };
+    if !left.again || now != done || done < last || 4 < done {
+        return None;
+    }
+    Some(done)
 }
 
 #[test]
 fn a_fault_of_a_write_over_the_end_says_how_much_is_done(rt: HostRuntime) {
     let mut last = 0;
     for n in 1..MANY {
-        let at = OVER_THE_END.at(n);
-        let Some((done, bytes)) = fail_at(&rt, rt.alloc(), &OVER_THE_END, n, WHOLE) else {
-            same(&rt, at, &last, &4);
+        let left = fail_at(&rt, rt.alloc(), &OVER_THE_END, n, EIGHT, WHOLE);
+        if is_done(left) {
+            holds(&rt, "4 in the end", OVER_THE_END.at(n), last == 4);
+            return;
+        }
+        let Some(done) = shown_by_fault(left, last) else {
+            holds(&rt, "from the last up to 4", OVER_THE_END.at(n), false);
             return;
         };
-        same(&rt, at, &shown(bytes.as_slice()), &Some(done));
-        holds(&rt, "from the last up to 4", at, last <= done && done <= 4);
         last = done;
     }
     never_done(&rt, &OVER_THE_END);
@@ -133,6 +160,7 @@ fn a_call_is_absent_led_or_whole(rt: HostRuntime) {
             shape: SMALL,
             first: *first,
             call: *call,
+            look: Look::Nothing,
         };
         end_each(&rt, rt.alloc(), &case);
     }
@@ -147,20 +175,41 @@ fn over_two_pages(count: usize) -> Case
         shape: SMALL,
         first: Call::Write(0, 8192, 0xaa),
         call: Call::Write(4088, count, 0xbb),
+        look: Look::FirstPage,
     }
 }
 
-/// Bytes 4080 to 4112 of a file of two pages.
-fn middle(bytes: &[u8]) -> &[u8] {
-    if bytes.len() < 4112 {
-        return &[];
-    }
-    &bytes[4080..4112]
+/// Whether so many bytes are done, and so many stand in the first page alone.
+fn shows_first(left: Option<Left>, due: u64) -> bool {
+    let Some(left) = left else {
+        return false;
+    };
+    let End::Fault(done) = left.end else {
+        return false;
+    };
+    let Some(now) = left.shown else {
+        return false;
+    };
+    left.again && done == due && now == due
 }
 
-/// These bytes where the part of the write in the first page stands alone.
-const LED: &[u8] =
-    b"\xaa\xaa\xaa\xaa\xaa\xaa\xaa\xaa\xbb\xbb\xbb\xbb\xbb\xbb\xbb\xbb\xaa\xaa\xaa\xaa\xaa\xaa\xaa\xaa\xaa\xaa\xaa\xaa\xaa\xaa\xaa\xaa";
+/// Lets each call below fail of a write over two pages, up to the one that is done. Those after `alone` of them, which are
+/// `rest`, are about the second page alone.
+fn fail_by_page(rt: &impl Abort, alloc: Global, case: &Case, new: &[u8], alone: u64, rest: u64)
+    requires { case.now.shape ≡ SMALL }
+{
+    for n in 1..MANY {
+        let left = fail_at(rt, alloc, case, n, &[], new);
+        if is_done(left) {
+            let all = alone.saturating_add(rest);
+            holds(rt, "so many calls below", case.at(n), n - 1 == all);
+            return;
+        }
+        let due = if n > alone { 8 } else { 0 };
+        holds(rt, "the first page", case.at(n), shows_first(left, due));
+    }
+    never_done(rt, case);
+}
 
 /// Lets each call below fail of a write of `count` bytes over two pages. As many fail before any byte counts as the part in
 /// the first page has alone: so no call is about the second page before all of the first one is stored. Behind them are
@@ -170,17 +219,7 @@ fn fail_by_pages(rt: &impl Abort, alloc: Global, count: usize, rest: u64) {
     let case = over_two_pages(count);
     let old = plain_call(rt, alloc, &[], case.first);
     let new = plain_call(rt, alloc, &old, case.call);
-    for n in 1..MANY {
-        let at = case.at(n);
-        let Some((done, bytes)) = fail_at(rt, alloc, &case, n, &new) else {
-            same(rt, at, &(n - 1), &alone.saturating_add(rest));
-            return;
-        };
-        let first = n > alone;
-        same(rt, at, &done, if first { &8 } else { &0 });
-        same(rt, at, &(middle(bytes.as_slice()) == LED), &first);
-    }
-    never_done(rt, &case);
+    fail_by_page(rt, alloc, &case, &new, alone, rest);
 }
 
 #[test]
@@ -189,24 +228,38 @@ fn no_page_is_looked_at_before_those_before_it_are_stored(rt: HostRuntime) {
     fail_by_pages(&rt, rt.alloc(), 12, 3); // half of it: read as its first and as its last word, and stored
 }
 
-/// The file of eight bytes.
-const EIGHT: &[u8] = b"\xaa\xaa\xaa\xaa\xaa\xaa\xaa\xaa";
+/// Whether a read fails for the disk and then reads the file of eight bytes. None where it does not fail.
+fn read_again<V: Volume>(alloc: Global, v: &mut V) -> Option<bool>
+    requires sound { V.sound v.old }
+    requires files { FilesReady SMALL (V.seen v.old) (V.kept v.old) }
+{
+    let Err(fail) = some_of(alloc, v, &SMALL, FILE, 0, LARGEST_SIZE) else {
+        return None;
+    };
+    if !matches!(fail, ReadFail::Fault) {
+        return Some(false);
+    }
+    Some(reads(alloc, v, &SMALL, FILE, 0, LARGEST_SIZE, EIGHT))
+}
+
+/// The same where the `n`th call below fails.
+fn read_again_at(rt: &impl Abort, alloc: Global, n: u64) -> Option<bool> {
+    let first = after(rt, alloc, &SMALL, Call::Write(0, 8, 0xaa));
+    let mut v = FaultyVolume::new(first, n);
+    read_again(alloc, &mut v)
+}
 
 #[test]
 fn a_read_that_failed_can_be_made_again(rt: HostRuntime) {
-    let alloc = rt.alloc();
     for n in 1..MANY {
+        let Some(so) = read_again_at(&rt, rt.alloc(), n) else {
+            return;
+        };
         let at = At {
             table: "a read that failed",
             row: n,
         };
-        let first = after(&rt, alloc, &SMALL, Call::Write(0, 8, 0xaa));
-        let mut v = FaultyVolume::new(first, n);
-        let Some(fail) = all_of(alloc, &mut v, &SMALL, FILE).err() else {
-            return;
-        };
-        same(&rt, at, &fail, &ReadFail::Fault);
-        has_bytes(&rt, alloc, &mut v, &SMALL, FILE, at, EIGHT);
+        holds(&rt, "read again", at, so);
     }
     never_done(&rt, &OVER_THE_END);
 }

@@ -29,28 +29,34 @@ fn plain_bytes(
     new
 }
 
-/// The bytes with others put over them from `off` on.
-pub(crate) fn plain_write(
-    rt: &impl Abort,
-    alloc: Global,
-    old: &[u8],
-    off: usize,
-    bytes: &[u8],
-) -> Vec<u8> {
-    let len = if bytes.is_empty() {
-        old.len()
-    } else {
-        old.len().max(off.saturating_add(bytes.len()))
-    };
-    plain_bytes(rt, alloc, old, off, bytes, len)
+/// How many bytes a file of `len` bytes has after `count` bytes are written from `off` on.
+fn plain_len(len: usize, off: usize, count: usize) -> usize {
+    if count == 0 {
+        return len;
+    }
+    len.max(off.saturating_add(count))
+}
+
+/// Whether these are the old bytes with others written over them from `off` on.
+pub(crate) fn is_written(came: &[u8], old: &[u8], off: usize, bytes: &[u8]) -> bool {
+    if came.len() != plain_len(old.len(), off, bytes.len()) {
+        return false;
+    }
+    for k in 0..came.len() {
+        if came[k] != plain_byte(old, off, bytes, k) {
+            return false;
+        }
+    }
+    true
 }
 
 /// What a call makes of a file's bytes.
 pub(crate) fn plain_call(rt: &impl Abort, alloc: Global, old: &[u8], call: Call) -> Vec<u8> {
     match call {
         Call::Write(off, count, byte) => {
-            let bytes = filled(rt, alloc, count, byte);
-            plain_write(rt, alloc, old, off as usize, &bytes)
+            let bytes = filled(alloc, count, byte);
+            let len = plain_len(old.len(), off as usize, count);
+            plain_bytes(rt, alloc, old, off as usize, &bytes, len)
         }
         Call::Resize(len) => plain_bytes(rt, alloc, old, 0, &[], len as usize),
     }

@@ -5,12 +5,12 @@ ghost use Rattle.test_volumes.specs.TestVolumes.{IsTestShape};
 ghost use Rattle.file_pages_tests.specs.TestFiles.{FilesReady};
 
 use crate::calls::{Call, make, put};
-use crate::compare::{At, holds, same, same_items};
+use crate::compare::{At, all_answered, holds};
 use crate::plans::{NEW_SIZE, lowest, page_block, plan_file, plan_node};
 use crate::volumes::{FILE, SMALL, with_files};
 use file_pages::{Edit, SizeChange, SizeFail};
 use inode_table::Inode;
-use rio_base::{Block, Volume, VolumeShape};
+use rio_base::{Block, VolFail, Volume, VolumeShape};
 use std::alloc::Global;
 use std::process::Abort;
 use test_volumes::SHAPE;
@@ -126,11 +126,14 @@ fn kind_of(node: Node) -> u8
     }
 }
 
-/// A number of an inode.
-fn number_in(inode: &Inode, number: Number) -> Option<u32> {
+/// Whether a number of an inode is this block.
+fn has_number(inode: &Inode, number: Number, block: u32) -> bool {
     match number {
-        Number::Page(p) => inode.direct.get(p).copied(),
-        Number::Table => Some(inode.indirect),
+        Number::Page(p) => match inode.direct.get(p) {
+            Some(found) => *found == block,
+            None => false,
+        },
+        Number::Table => inode.indirect == block,
     }
 }
 
@@ -146,60 +149,91 @@ fn lie_from(blocks: &[Block], first: u32) -> bool {
 
 /// Prepares the change of a row.
 fn prepared<V: Volume>(
-    rt: &impl Abort,
     alloc: Global,
     v: &mut V,
     shape: &VolumeShape,
-    row: Row,
+    row: &Row,
 ) -> Result<SizeChange, SizeFail>
     requires sound { V.sound v.old }
     requires files { FilesReady shape.now (V.seen v.old) (V.kept v.old) }
 {
-    make(rt, alloc, v, shape, FILE, row.first).expect(rt, "the first call");
-    let skip = lowest(alloc, v, shape, row.skip).expect(rt, "the lowest free blocks");
+    let Ok(_answer) = make(alloc, v, shape, FILE, row.first) else {
+        return Err(SizeFail::Stopped);
+    };
+    let Ok(skip) = lowest(alloc, v, shape, row.skip) else {
+        return Err(SizeFail::Fault);
+    };
     match row.node {
         Node::File => plan_file(alloc, v, shape, FILE, row.len, &skip),
         node => plan_node(alloc, v, shape, kind_of(node), &skip),
     }
 }
 
-/// Compares what is prepared for a row.
-fn check_plan(rt: &impl Abort, at: At, row: Row, change: &SizeChange, plan: Plan) {
+/// Whether the inode of a change is as a plan has it.
+fn is_inode(inode: &Inode, row: &Row, plan: &Plan) -> bool {
+    if inode.kind != kind_of(row.node) || inode.size != row.len {
+        return false;
+    }
+    for (number, block) in plan.numbers {
+        if !has_number(inode, *number, *block) {
+            return false;
+        }
+    }
+    true
+}
+
+/// Whether a change takes, frees and edits what a plan does.
+fn is_plan(row: &Row, change: &SizeChange, plan: &Plan) -> bool {
     let (first, count) = plan.taken;
     let taken = change.taken.as_slice();
-    same(rt, at, &taken.len(), &count);
-    holds(rt, "the taken blocks", at, lie_from(taken, first));
-    same_items(rt, at, change.freed.as_slice(), plan.freed);
-    same_items(rt, at, change.edits.as_slice(), plan.edits);
-    same(rt, at, &change.inode.kind, &kind_of(row.node));
-    same(rt, at, &change.inode.size, &row.len);
-    for (number, block) in plan.numbers {
-        same(rt, at, &number_in(&change.inode, *number), &Some(*block));
+    if taken.len() != count || !lie_from(taken, first) {
+        return false;
+    }
+    if change.freed.as_slice() != plan.freed {
+        return false;
+    }
+    if change.edits.as_slice() != plan.edits {
+        return false;
+    }
+    is_inode(&change.inode, row, plan)
+}
+
+/// Whether a change that is prepared is the one of a row.
+fn is_prepared(row: &Row, change: &SizeChange) -> bool {
+    match row.due {
+        Due::Plan(plan) => is_plan(row, change, &plan),
+        Due::Fits => true,
+        Due::NoSpace | Due::TooLarge => false,
     }
 }
 
-/// Compares what came of a row.
-fn check_row(rt: &impl Abort, at: At, row: Row, came: Result<SizeChange, SizeFail>) {
-    match (came, row.due) {
-        (Ok(change), Due::Plan(plan)) => check_plan(rt, at, row, &change, plan),
-        (Ok(_), due) => holds(rt, "it was prepared", at, matches!(due, Due::Fits)),
-        (Err(SizeFail::NoSpace), due) => {
-            holds(rt, "no space", at, matches!(due, Due::NoSpace));
-        }
-        (Err(fail), due) => {
-            same(rt, at, &fail, &SizeFail::TooLarge);
-            holds(rt, "too large", at, matches!(due, Due::TooLarge));
-        }
+/// Whether a change is refused as it must.
+fn is_refused(fail: SizeFail, due: Due) -> bool {
+    match fail {
+        SizeFail::NoSpace => matches!(due, Due::NoSpace),
+        SizeFail::TooLarge => matches!(due, Due::TooLarge),
+        SizeFail::Fault | SizeFail::Stopped | SizeFail::Memory => false,
     }
 }
 
-/// Prepares the change of a row on a volume of its own, and compares what came.
-fn try_row(rt: &impl Abort, alloc: Global, shape: &VolumeShape, at: At, row: Row)
+/// Whether that comes of preparing the change of a row which must.
+fn is_due<V: Volume>(alloc: Global, v: &mut V, shape: &VolumeShape, row: &Row) -> bool
+    requires sound { V.sound v.old }
+    requires files { FilesReady shape.now (V.seen v.old) (V.kept v.old) }
+{
+    match prepared(alloc, v, shape, row) {
+        Ok(change) => is_prepared(row, &change),
+        Err(fail) => is_refused(fail, row.due),
+    }
+}
+
+/// Prepares the change of a row on a volume of its own.
+fn try_row(rt: &impl Abort, alloc: Global, shape: &VolumeShape, at: At, row: &Row)
     requires { IsTestShape shape.now }
 {
     let mut v = with_files(rt, alloc, shape);
-    let came = prepared(rt, alloc, &mut v, shape, row);
-    check_row(rt, at, row, came);
+    let so = is_due(alloc, &mut v, shape, row);
+    holds(rt, "what is prepared", at, so);
 }
 
 /// Changes of size on a small volume.
@@ -271,7 +305,7 @@ static CHANGES: [Row; 9] = [
 ];
 
 /// A change past the largest size.
-const TOO_LARGE: Row = Row {
+static TOO_LARGE: Row = Row {
     first: NOTHING,
     node: Node::File,
     skip: 0,
@@ -284,13 +318,13 @@ fn changes_of_size_are_prepared_in_the_lowest_blocks(rt: HostRuntime) {
     let table = "the lowest blocks";
     for (k, change) in CHANGES.iter().enumerate() {
         let row = k as u64;
-        try_row(&rt, rt.alloc(), &SMALL, At { table, row }, *change);
+        try_row(&rt, rt.alloc(), &SMALL, At { table, row }, change);
     }
     let at = At {
         table: "a larger size",
         row: 0,
     };
-    try_row(&rt, rt.alloc(), &SHAPE, at, TOO_LARGE);
+    try_row(&rt, rt.alloc(), &SHAPE, at, &TOO_LARGE);
 }
 
 /// Pages of a file of 25 pages, and their blocks.
@@ -302,25 +336,34 @@ static PAGES: [(u32, Option<Block>); 5] = [
     (25, None),
 ];
 
-/// Compares the blocks of pages of a file.
-fn check_pages<V: Volume>(rt: &impl Abort, alloc: Global, v: &mut V)
+/// Whether a page lies in the block in which it must.
+fn is_block(came: Result<Option<Block>, VolFail>, due: Option<Block>) -> bool {
+    match (came, due) {
+        (Ok(Some(block)), Some(wanted)) => block.0 == wanted.0,
+        (Ok(None), None) => true,
+        _ => false,
+    }
+}
+
+/// Looks for the blocks of pages of a file, up to the first that lies elsewhere, and tells which that is, if any.
+fn check_pages<V: Volume>(alloc: Global, v: &mut V) -> Option<usize>
     requires sound { V.sound v.old }
     requires files { FilesReady SMALL (V.seen v.old) (V.kept v.old) }
 {
-    put(alloc, v, &SMALL, FILE, 98_304, b"a").expect(rt, "a byte of page 24");
+    let Ok(_answer) = put(alloc, v, &SMALL, FILE, 98_304, b"a") else {
+        return Some(0);
+    };
     for k in 0..PAGES.len() {
         let (page, due) = PAGES[k];
-        let came = page_block(v, &SMALL, FILE, page).expect(rt, "the block of a page");
-        let at = At {
-            table: "pages",
-            row: page as u64,
-        };
-        same(rt, at, &came, &due);
+        if !is_block(page_block(v, &SMALL, FILE, page), due) {
+            return Some(k);
+        }
     }
+    None
 }
 
 #[test]
 fn pages_lie_in_the_blocks_that_they_took(rt: HostRuntime) {
     let mut v = with_files(&rt, rt.alloc(), &SMALL);
-    check_pages(&rt, rt.alloc(), &mut v);
+    all_answered(&rt, "pages", check_pages(rt.alloc(), &mut v));
 }

@@ -1,11 +1,12 @@
 //! Tables of calls on the files of a test, each with the answer that must come.
 
+ghost use Rattle.std.specs.Prelude.{OnOk};
 ghost use Rattle.file_pages_tests.specs.TestFiles.{FilesReady, IsTestFile};
 
-use crate::calls::{Answer, Call, block_count, len_of, make, put, some_of};
-use crate::compare::{At, same, same_items};
+use crate::calls::{Answer, Call, has_blocks, has_len, make, put, reads};
+use crate::compare::all_answered;
 use crate::volumes::{FILE, OTHER, Size, shape_of, used_count, with_files};
-use rio_base::{Ino, Volume, VolumeShape};
+use rio_base::{Ino, Stopped, Volume, VolumeShape};
 use std::alloc::Global;
 use std::process::Abort;
 
@@ -43,64 +44,57 @@ fn ino_of(file: File) -> Ino
     }
 }
 
-/// Makes the call of a row.
-fn check_row<V: Volume>(
-    rt: &impl Abort,
+/// Makes the call of a row, and says whether it answers as it must.
+pub(crate) fn answers<V: Volume>(
     alloc: Global,
     v: &mut V,
     shape: &VolumeShape,
-    at: At,
     row: Row,
-)
+) -> Result<bool, Stopped>
     requires sound { V.sound v.old }
     requires files { FilesReady shape.now (V.seen v.old) (V.kept v.old) }
-    ensures files { FilesReady shape.now (V.seen v.new) (V.kept v.new) }
+    ensures files { OnOk result (FilesReady shape.now (V.seen v.new) (V.kept v.new)) }
     ensures sound { V.sound v.new }
 {
     match row {
         Row::Write(file, off, bytes, due) => {
-            let came = put(alloc, v, shape, ino_of(file), off, bytes).expect(rt, "no failure");
-            same(rt, at, &came, &due);
+            let Ok(came) = put(alloc, v, shape, ino_of(file), off, bytes) else {
+                return Err(Stopped);
+            };
+            Ok(came == due)
         }
         Row::Make(file, call, due) => {
-            let came = make(rt, alloc, v, shape, ino_of(file), call).expect(rt, "no failure");
-            same(rt, at, &came, &due);
+            let Ok(came) = make(alloc, v, shape, ino_of(file), call) else {
+                return Err(Stopped);
+            };
+            Ok(came == due)
         }
         Row::Read(file, off, len, due) => {
-            let came = some_of(alloc, v, shape, ino_of(file), off, len).expect(rt, "no failure");
-            same_items(rt, at, came.as_slice(), due);
+            Ok(reads(alloc, v, shape, ino_of(file), off, len, due))
         }
-        Row::Len(file, due) => same(rt, at, &len_of(rt, alloc, v, shape, ino_of(file)), &due),
-        Row::Blocks(file, due) => {
-            same(
-                rt,
-                at,
-                &block_count(rt, alloc, v, shape, ino_of(file)),
-                &due,
-            );
-        }
-        Row::Used(due) => same(rt, at, &used_count(rt, v, shape), &due),
+        Row::Len(file, due) => Ok(has_len(alloc, v, shape, ino_of(file), due)),
+        Row::Blocks(file, due) => Ok(has_blocks(alloc, v, shape, ino_of(file), due)),
+        Row::Used(due) => Ok(used_count(v, shape) == due),
     }
 }
 
-/// Makes the calls of a table one after the other.
-pub(crate) fn check_rows<V: Volume>(
-    rt: &impl Abort,
+/// Makes calls one after the other, up to the first that answers otherwise than it must, or is stopped, and tells which that
+/// is, if any.
+pub(crate) fn first_other<V: Volume>(
     alloc: Global,
     v: &mut V,
     shape: &VolumeShape,
-    table: &'static str,
     rows: &[Row],
-)
+) -> Option<usize>
     requires sound { V.sound v.old }
     requires files { FilesReady shape.now (V.seen v.old) (V.kept v.old) }
-    ensures files { FilesReady shape.now (V.seen v.new) (V.kept v.new) }
-    ensures sound { V.sound v.new }
 {
     for k in 0..rows.len() {
-        let row = k as u64;
-        check_row(rt, alloc, v, shape, At { table, row }, rows[k]);
+        let Ok(true) = answers(alloc, v, shape, rows[k]) else {
+            return Some(k);
+        };
     }
+    None
 }
 
 /// Makes the calls of a table on a volume with two files without bytes.
@@ -113,5 +107,5 @@ pub(crate) fn check_fresh(
 ) {
     let shape = shape_of(size);
     let mut v = with_files(rt, alloc, &shape);
-    check_rows(rt, alloc, &mut v, &shape, table, rows);
+    all_answered(rt, table, first_other(alloc, &mut v, &shape, rows));
 }

@@ -70,13 +70,13 @@ pub(crate) fn start_again(v: &mut ListVolume, shape: &VolumeShape, stop_after: O
     test_volumes::start_again(v, shape, stop_after);
 }
 
-/// How many blocks are not free.
-pub(crate) fn used_count<V: Volume>(rt: &impl Abort, v: &mut V, shape: &VolumeShape) -> u32
+/// How many blocks are not free. 0 where that cannot be told, which is never due.
+pub(crate) fn used_count<V: Volume>(v: &mut V, shape: &VolumeShape) -> u32
     requires sound { V.sound v.old }
     requires files { FilesReady shape.now (V.seen v.old) (V.kept v.old) }
     ensures sound { V.sound v.new }
     ensures files { FilesReady shape.now (V.seen v.new) (V.kept v.new) }
 {
-    let free = free_count(v, shape).expect(rt, "the free blocks are counted");
+    let free = free_count(v, shape).unwrap_or(u32::MAX);
     shape.blocks.saturating_sub(free)
 }

@@ -1,6 +1,6 @@
 //! Bytes that begin or end within a word, and how many bytes there are in stored words.
 
-use crate::compare::{At, same};
+use crate::compare::{At, holds};
 use file_pages::{fill_words, stored_bytes};
 
 /// The words of the page in which bytes begin and end.
@@ -33,34 +33,34 @@ static MADE: [(usize, usize, [u64; 3], usize); 9] = [
     ),
 ];
 
-/// The words that bytes make, and how many they are: at most three.
-fn made(at: usize, bytes: &[u8]) -> Option<([u64; 3], usize)> {
+/// Whether bytes make these words, which are so many: at most three, with zeros behind them.
+fn makes(at: usize, bytes: &[u8], due: &[u64; 3], words: usize) -> bool {
     if bytes.is_empty() || at > 4095 || bytes.len() > 4096 - at {
-        return None;
+        return false;
     }
     let count = (at + bytes.len()).div_ceil(8) - at / 8;
-    if count > 3 {
-        return None;
+    if count > 3 || count != words {
+        return false;
     }
     // One word alone is the first and the last.
     let last = if count == 1 { FIRST } else { LAST };
-    let mut words = [0; 3];
-    fill_words(FIRST, last, at, bytes, &mut words[..count]);
-    Some((words, count))
+    let mut made = [0; 3];
+    fill_words(FIRST, last, at, bytes, &mut made[..count]);
+    made == *due
 }
 
 #[test]
 fn words_are_made_of_bytes_and_those_of_the_page(rt: HostRuntime) {
     for (row, (first, len, words, count)) in MADE.iter().enumerate() {
-        let came = match BYTES.as_slice().get(..*len) {
-            Some(bytes) => made(*first, bytes),
-            None => None,
+        let so = match BYTES.as_slice().get(..*len) {
+            Some(bytes) => makes(*first, bytes, words, *count),
+            None => false,
         };
         let at = At {
             table: "words of bytes",
             row: row as u64,
         };
-        same(&rt, at, &came, &Some((*words, *count)));
+        holds(&rt, "these words", at, so);
     }
 }
 
@@ -74,21 +74,21 @@ static STORED: [(usize, usize, usize, u64); 6] = [
     (4090, 6, 1, 6),
 ];
 
-/// How many of some bytes are in stored words. None where there are no such bytes.
-fn stored(at: usize, len: usize, words: usize) -> Option<u64> {
+/// Whether so many of some bytes are in stored words.
+fn are_stored(at: usize, len: usize, words: usize, due: u64) -> bool {
     if at > 4096 || len > 4096 - at || words > 512 {
-        return None;
+        return false;
     }
-    Some(stored_bytes(at, len, words))
+    stored_bytes(at, len, words) == due
 }
 
 #[test]
 fn bytes_in_stored_words_are_counted(rt: HostRuntime) {
-    for (at, len, words, due) in STORED.iter() {
+    for (row, (at, len, words, due)) in STORED.iter().enumerate() {
         let place = At {
             table: "stored bytes",
-            row: *at as u64,
+            row: row as u64,
         };
-        same(&rt, place, &stored(*at, *len, *words), &Some(*due));
+        holds(&rt, "so many", place, are_stored(*at, *len, *words, *due));
     }
 }

@@ -1,5 +1,5 @@
 use Rattle.file_pages_tests.specs.TestFiles.{FilesReady}
-use Rattle.file_pages_tests.proofs.rows.check_rows.Given as goal
+use Rattle.file_pages_tests.proofs.rows.first_other.Given as goal
 
 abbrev pub invariant-loop-k : goal.invariant-loop-k
 invariant-loop-k g l = record {
