@@ -46,6 +46,7 @@ pub mod Steps
 pub mod Stood
 pub mod TreeRules
 pub mod Unchanged
+pub mod UpdateEnds
 pub mod WalkRules
 pub mod WalkedOn
 pub mod WalksHeld
