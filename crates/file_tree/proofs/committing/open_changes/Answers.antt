@@ -1,6 +1,6 @@
 use Rattle.file_tree.proofs.UpdateEnds.{ends_halted}
 use Rattle.rio_base.proofs.BlockSets.{caches_by_drops}
-use Rattle.file_tree.proofs.Common.{Err, caches_by_trans, err_from_is_err_and, firm_trans, ◌then◌, ◌∙◌}
+use Rattle.file_tree.proofs.Common.{caches_by_trans, err_from_is_err_and, firm_trans, ◌then◌, ◌∙◌}
 use Rattle.rio_base.proofs.BlockRules.{shape_dropped}
 use Rattle.file_tree.proofs.Several.{can_on_drops}
 use Rattle.file_tree.proofs.committing.open_changes.Goals as goal
