@@ -1,3 +1,4 @@
+pub mod Exits
 pub mod InodeRules
 pub mod Numbers
 pub mod PassedBlocks

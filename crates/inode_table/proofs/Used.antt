@@ -58,3 +58,27 @@ passed f first from before more =
     let at : 1 + (first - 1) ≡ first = omega (arith, from) in
     let all : (first - 1) + 32 ≡ first + 32 - 1 = omega (arith, from) in
     subst (AreUsed f 1) all (used_on f 1 (first - 1) 32 before (subst (λ x. AreUsed f x 32) (sym at) more))
+
+-- ---- asked for word by word
+
+pub used_none : (f : BlockWords) (first : ℕ) → AreUsed f first 0
+used_none f first = record { each = λ i from to. absurd (omega (arith, from, to)) }
+
+pub used_less : (f : BlockWords) (first b c : ℕ) → c ≤ b → AreUsed f first b → AreUsed f first c
+used_less f first b c less h = record { each = λ i from to. h.each i from (omega (arith, to, less)) }
+
+-- word 16 * k of the block of inode `first`, as it was seen later
+kind_seen : (f h : BlockWords) (b first k v : ℕ) → first % 32 ≡ 1 → k < 32 → b ≡ inode_block first → h ≡ f → v ≡ h b (16 * k) → inode_kind f (first + k) ≡ v
+kind_seen f h b first k v start few at same is = kind_at f first k (omega (arith, start)) start few ∙ sym (is ∙ (λ t. same t (at t) (16 * k)))
+
+pub used_word : (f h : BlockWords) (b first k v : ℕ) → first % 32 ≡ 1 → k < 32 → b ≡ inode_block first → h ≡ f → v ≡ h b (16 * k) → v ≢ 0 → AreUsed f first k → AreUsed f first (k + 1)
+used_word f h b first k v start few at same is some before =
+    let kind = kind_seen f h b first k v start few at same is in
+    used_on f first k 1 before (record { each = λ i from to. let last : first + k ≡ i = omega (arith, from, to) in subst (λ x. 0 < inode_kind f x) last (omega (arith, kind, some)) })
+
+pub free_word : (f h : BlockWords) (b first k v : ℕ) → first % 32 ≡ 1 → k < 32 → b ≡ inode_block first → h ≡ f → v ≡ h b (16 * k) → v ≡ 0 → AreUsed f first k → FindsBelow f first 32 (Some k)
+free_word f h b first k v start few at same is none before = (few, kind_seen f h b first k v start few at same is ∙ none, before)
+
+-- the words of a page, as it was seen later
+pub run_seen : (f h : BlockWords) (b first : ℕ) (words : List ℕ) → b ≡ inode_block first → h ≡ f → IsRun h b 0 512 words → IsRun f (inode_block first) 0 512 words
+run_seen f h b first words at same run = record { each = λ i few. run.each i few ∙ (λ t. same t (at t) (0 + i)) }
