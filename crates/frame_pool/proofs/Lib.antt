@@ -2,6 +2,7 @@ pub mod Chains
 pub mod Counts
 pub mod Fresh
 pub mod Holding
+pub mod Lent
 pub mod Moves
 pub mod Nexts
 pub mod Ranges

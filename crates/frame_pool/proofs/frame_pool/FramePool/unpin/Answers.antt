@@ -1,4 +1,4 @@
-use Rattle.std.proofs.Common.{◌≡◌, ◌≢◌, ℕ, false, ◌∙◌, ap, sym, subst}
+use Rattle.std.proofs.Common.{◌≡◌, ◌≢◌, ℕ, false, ◌∙◌, ap, sym, subst, refl}
 use Rattle.std.proofs.lemmas.List.{with_items_is}
 use Rattle.std.specs.Vec.{with_items}
 use Rattle.frame_pool.specs.Frames.{block_at, order_at, pinned_at}
@@ -6,6 +6,7 @@ use Rattle.frame_pool.specs.Rings.{KeepsLinks}
 use Rattle.frame_pool.specs.Pools.{is_pinned}
 use Rattle.frame_pool.proofs.Counts.{count_again, count_set}
 use Rattle.frame_pool.proofs.Holding.{Holds, holds, holds_pin, order_same}
+use Rattle.frame_pool.proofs.Lent.{back_pin, same_block, same_pin}
 use Rattle.frame_pool.proofs.frame_pool.FramePool.unpin.Goals as goal
 
 pub invariant_of-self : goal.invariant_of-self
@@ -49,3 +50,18 @@ returns-clause-one_less c = λ was.
     let now : pinned_at (with_items p.frames new).items c.args.k ≡ false = ap (λ fs. pinned_at fs c.args.k) is ∙ c.set_pin.ensures.pin in
     let others : (j : ℕ) → j ≢ c.args.k → pinned_at (with_items p.frames new).items j ≡ pinned_at p.frames.items j = λ j ne. ap (λ fs. pinned_at fs j) is ∙ c.set_pin.ensures.others j ne ∙ ap (λ fs. pinned_at fs j) read in
     sym (count_set _ (is_pinned p) c.args.k p.count c.requires.within now was (λ j ne. sym (others j ne)))
+
+pub returns-clause-unpinned : goal.returns-clause-unpinned
+returns-clause-unpinned c = back_pin c.args.self.now.frames _ c.set_pin.new.frames c.deref_mut.ensures.value c.set_pin.ensures.links.size c.args.k _ c.set_pin.ensures.pin
+
+pub returns-clause-others : goal.returns-clause-others
+returns-clause-others c = λ j ne. same_pin c.args.self.now.frames _ c.set_pin.new.frames c.deref_mut.ensures.value c.set_pin.ensures.links.size j (c.set_pin.ensures.others j ne)
+
+pub returns-clause-held : goal.returns-clause-held
+returns-clause-held c = λ j. same_block c.args.self.now.frames _ c.set_pin.new.frames c.deref_mut.ensures.value c.set_pin.ensures.links.size j (c.set_pin.ensures.blocks j)
+
+pub returns-clause-frames : goal.returns-clause-frames
+returns-clause-frames c = refl
+
+pub returns-clause-blocks : goal.returns-clause-blocks
+returns-clause-blocks c = refl
