@@ -1,5 +1,5 @@
 -- From entries that are to be stored in a directory to the rows that it then has.
-use Rattle.directories.proofs.Common.{◌≡◌, ◌≢◌, ℕ, ◌+◌, ◌-◌, ◌*◌, ◌/◌, ◌%◌, ◌<◌, ◌≤◌, ◌==◌, Bool, true, false, cond, List, [], ◌∷◌, length, refl, sym, ap, subst, ◌∙◌, arith, inl, nat_lt, nat_tests, Ino, VolumeShape, BlockWords, Seen, Kept, numbers, Inode, IsInode, PlansSize, given_node, planned_node, SizeChange, LooksUp, page_old, HasEntry, Held, entry_name, held_of, IsName, AtPage, Placed, placed_at, volume_layout, LeavesInUse, Ready}
+use Rattle.directories.proofs.Common.{◌≡◌, ◌≢◌, ℕ, ◌+◌, ◌-◌, ◌*◌, ◌/◌, ◌%◌, ◌<◌, ◌≤◌, ◌==◌, Bool, true, false, cond, List, [], ◌∷◌, length, refl, sym, ap, subst, ◌∙◌, arith, inl, nat_lt, nat_tests, Ino, VolumeShape, BlockWords, Seen, Kept, numbers, Inode, IsInode, PlansSize, given_node, planned_node, SizeChange, LooksUp, page_old, HasEntry, Held, entry_name, held_of, IsName, AtPage, Placed, placed_at, volume_layout, EntryRule, LeavesInUse, Ready}
 use Rattle.std.specs.Prelude.{slice_index}
 use Rattle.rio_model.proofs.HeldRules.{counts_of, same_held}
 use Rattle.rio_model.specs.NodeChanges.{shrunk}
@@ -12,7 +12,7 @@ use Rattle.directories.specs.RowChanges.{RemovesRow, ReplacesRow, SetsRow}
 use Rattle.directories.specs.Rows.{InNoOther}
 use Rattle.directories.specs.declared.changes.DirChange.{DirChange}
 use Rattle.directories.specs.declared.storing.EntryWords.{EntryWords}
-use Rattle.directories.proofs.CanRead.{dir_held, dir_size}
+use Rattle.directories.proofs.CanRead.{can_read, dir_held, dir_size}
 use Rattle.directories.proofs.NameWords.{name_moved}
 use Rattle.directories.proofs.PlannedDir.{AddsEntries, dir_planned}
 use Rattle.directories.proofs.RowLaws.{Itself, Other, Short, row_removed, row_replaced, row_set, word_beside, word_stored}
@@ -114,6 +114,39 @@ slot_word shape x d a t can within few =
 -- an entry of it lies within its size
 pub slot_in : (shape : VolumeShape) (x : Seen) (d slot len : ℕ) → CanReadDir shape x d → len ≡ (placed_at x.words d).size → HasEntry (held_of shape x.words) d slot → 64 * slot < len
 slot_in shape x d slot len can is has = let sized = (dir_holds shape x d can).sized in let within = has.within in omega (arith, is, sized, within)
+
+-- the size of a directory that has an entry, and the slot of that
+pub record HasRoom (size slot : ℕ) : Type 0 where
+  pub some : 64 ≤ size
+  pub few : size ≤ 4292608
+  pub less : size - 64 ≤ size
+  pub whole : (size - 64) % 64 ≡ 0
+  pub within : 64 * slot < size
+
+pub has_room : (shape : VolumeShape) (x : Seen) (k : Kept) (d slot : ℕ) (inode : Inode) → Ready shape x k → EntryRule (held_of shape x.words) → HasEntry (held_of shape x.words) d slot → IsInode x.words d inode → HasRoom inode.size slot
+has_room shape x k d slot inode ready entries has is =
+    let can : CanReadDir shape x d = can_read shape x d ready.order.has_shape ready.order.mapped ready.order.named entries has.dir in
+    let size = is.size in
+    let whole = dir_size shape x d can in
+    let most = (can.mapped.laid.sizes.each d can.ino (let one = can.dir in omega (arith, one))).most in
+    let within = slot_in shape x d slot inode.size can size has in
+    record { some = omega (arith, size, whole, within); few = omega (arith, size, most); less = omega arith; whole = omega (arith, size, whole); within = within }
+
+-- a slot before the last one lies in what is left without that
+pub room_before : (size slot last : ℕ) → HasRoom size slot → last + 1 ≡ size / 64 → slot ≢ last → 64 * slot < size - 64
+room_before size slot last room end apart =
+    let within = room.within in
+    let whole = room.whole in
+    let some = room.some in
+    omega (arith, within, whole, some, end, apart)
+
+-- and so does one of two slots where the other is the last
+pub room_beside : (size slot gone last : ℕ) → HasRoom size gone → last + 1 ≡ size / 64 → slot ≢ gone → slot ≡ last → 64 * gone < size - 64
+room_beside size slot gone last room end two is = room_before size gone last room end (λ at. two (is ∙ sym at))
+
+-- the last slot lies within
+pub last_in : (size slot last : ℕ) → HasRoom size slot → last + 1 ≡ size / 64 → 64 * last < size
+last_in size slot last room end = let some = room.some in omega (arith, some, end)
 
 -- words that are those of a slot have its name
 pub slot_named : (shape : VolumeShape) (x : Seen) (d a i : ℕ) (own e : List ℕ) → CanReadDir shape x d → 64 * a < (placed_at x.words d).size → ((t : ℕ) → t < 8 → slice_index own t ≡ x.words ((placed_at x.words d).block (AtPage (a / 64))) (8 * (a % 64) + t)) → IsEntryOf (name_in (slice_index own) 0) i e → IsEntryOf (entry_name (held_of shape x.words d) a) i e

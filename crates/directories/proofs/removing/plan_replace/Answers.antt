@@ -6,7 +6,7 @@ use Rattle.directories.specs.RowChanges.{ReplacesRow}
 use Rattle.directories.proofs.EndsAs.{ends_vol_read}
 use Rattle.directories.proofs.CanRead.{can_read}
 use Rattle.directories.proofs.PlannedOn.{leaves_on, moved_back, ready_on}
-use Rattle.directories.proofs.PlannedRows.{Replacing, dir_back, gone_dropped, last_moved, own_moved, slot_in, slot_named}
+use Rattle.directories.proofs.PlannedRows.{Replacing, dir_back, gone_dropped, last_moved, own_moved, slot_in, slot_named, has_room, room_before, room_beside}
 use Rattle.directories.proofs.removing.plan_replace.Goals as goal
 
 pub returns-in_err-inode-clause-leaves : goal.returns-in_err-inode-clause-leaves
@@ -202,3 +202,39 @@ plan_filled-requires-clause-can g c = c.read_entry.ensures.can
 
 pub plan_filled-requires-clause-inode : goal.plan_filled-requires-clause-inode
 plan_filled-requires-clause-inode g c = subst (λ (f : BlockWords). IsInode f c.args.dir.0 c.in_ok-inode.inode) (sym (c.read_entry.ensures.looks.looks.words ∙ c.in_ok-inode.ensures.looks.looks.words)) c.in_ok-inode.ensures.value
+
+pub last_slot-last-requires-clause-some : goal.last_slot-last-requires-clause-some
+last_slot-last-requires-clause-some g c = (has_room _ _ _ _ _ _ c.requires.ready c.requires.entries c.requires.slot c.in_ok-inode.ensures.value).some
+
+pub last_slot-last-requires-clause-few : goal.last_slot-last-requires-clause-few
+last_slot-last-requires-clause-few g c = (has_room _ _ _ _ _ _ c.requires.ready c.requires.entries c.requires.slot c.in_ok-inode.ensures.value).few
+
+pub overflow_sub-len : goal.overflow_sub-len
+overflow_sub-len g c = (has_room _ _ _ _ _ _ c.requires.ready c.requires.entries c.requires.slot c.in_ok-inode.ensures.value).some
+
+pub read_entry-requires-clause-slot : goal.read_entry-requires-clause-slot
+read_entry-requires-clause-slot g c = (has_room _ _ _ _ _ _ c.requires.ready c.requires.entries c.requires.slot c.in_ok-inode.ensures.value).within
+
+pub plan_entry-requires-clause-less : goal.plan_entry-requires-clause-less
+plan_entry-requires-clause-less g c = (has_room _ _ _ _ _ _ c.requires.ready c.requires.entries c.requires.slot c.in_ok-inode.ensures.value).less
+
+pub plan_entry-requires-clause-whole : goal.plan_entry-requires-clause-whole
+plan_entry-requires-clause-whole g c = (has_room _ _ _ _ _ _ c.requires.ready c.requires.entries c.requires.slot c.in_ok-inode.ensures.value).whole
+
+pub plan_entry-requires-clause-slot : goal.plan_entry-requires-clause-slot
+plan_entry-requires-clause-slot g c = room_beside _ c.args.slot _ _ (has_room _ _ _ _ _ _ c.requires.ready c.requires.entries c.requires.gone c.in_ok-inode.ensures.value) c.last_slot-last.ensures c.requires.two c.if-slot-last.true
+
+pub plan_entry-requires-then-gone-last-clause-less : goal.plan_entry-requires-then-gone-last-clause-less
+plan_entry-requires-then-gone-last-clause-less g c = (has_room _ _ _ _ _ _ c.requires.ready c.requires.entries c.requires.slot c.in_ok-inode.ensures.value).less
+
+pub plan_entry-requires-then-gone-last-clause-whole : goal.plan_entry-requires-then-gone-last-clause-whole
+plan_entry-requires-then-gone-last-clause-whole g c = (has_room _ _ _ _ _ _ c.requires.ready c.requires.entries c.requires.slot c.in_ok-inode.ensures.value).whole
+
+pub plan_entry-requires-then-gone-last-clause-slot : goal.plan_entry-requires-then-gone-last-clause-slot
+plan_entry-requires-then-gone-last-clause-slot g c = room_before _ _ _ (has_room _ _ _ _ _ _ c.requires.ready c.requires.entries c.requires.slot c.in_ok-inode.ensures.value) c.last_slot-last.ensures c.if-slot-last.false
+
+pub plan_filled-requires-clause-slot : goal.plan_filled-requires-clause-slot
+plan_filled-requires-clause-slot g c = room_before _ _ _ (has_room _ _ _ _ _ _ c.requires.ready c.requires.entries c.requires.slot c.in_ok-inode.ensures.value) c.last_slot-last.ensures c.if-slot-last.false
+
+pub plan_filled-requires-clause-gap : goal.plan_filled-requires-clause-gap
+plan_filled-requires-clause-gap g c = room_before _ _ _ (has_room _ _ _ _ _ _ c.requires.ready c.requires.entries c.requires.gone c.in_ok-inode.ensures.value) c.last_slot-last.ensures c.if-gone-last.false
