@@ -1,5 +1,5 @@
 -- Words made of bytes, and of a page's own bytes around them.
-use Rattle.file_pages.proofs.Common.{◌≡◌, ℕ, zero, suc, ◌+◌, ◌-◌, ◌*◌, ◌/◌, ◌%◌, ◌<◌, ◌≤◌, ◌⊎◌, List, ◌++◌, length, take, drop, set, sym, ap, subst, ◌∙◌, arith, inl, inr, cases_lt, get_or-drop, get_or-take, length-set, length-take-le}
+use Rattle.file_pages.proofs.Common.{◌≡◌, true, nat_lt, nat_tests, ℕ, zero, suc, ◌+◌, ◌-◌, ◌*◌, ◌/◌, ◌%◌, ◌<◌, ◌≤◌, ◌⊎◌, List, ◌++◌, length, take, drop, set, sym, ap, subst, ◌∙◌, arith, inl, inr, cases_lt, get_or-drop, get_or-take, length-set, length-take-le}
 use Rattle.std.proofs.Common.{get_or, slice_index}
 use Rattle.std.specs.Prelude.{min}
 use Rattle.std.specs.Int.{w64, from_le_bytes, to_le_bytes}
@@ -188,3 +188,7 @@ words_begun first last skip bytes old words none room filled was own y low = fil
         ∙ own.last_word (y % 8) (omega arith) (omega (arith, none, room, past, low))
         ∙ ap was (let e : 8 * (length old - 1) + y % 8 ≡ y = omega (arith, room, past, low) in e)
         ∙ sym (over_out was 0 bytes (length bytes) y (inr (omega (arith, past))))
+
+-- a word is read where the bytes end within it
+pub some_left : (n : ℕ) → 0 < n → nat_lt 0 n ≡ true
+some_left n some = grind (arith, nat_tests, some)

@@ -205,6 +205,16 @@ bytes_stop {T = T} {U = U} s t e is h = ends_by_as s t _ _ _ _ (λ a. absurd (ou
     out : (k : ℕ) → IsErrOf {T = U} (Err BytesStopped) (BytesFault k) → ⊥
     out k on = cc
 
+bytes_as : {T U : Type 0} (s t : Health) (e : BytesFail) → EndsBytes {T = T} s t (Err e) → EndsBytes {T = U} s t (Err e)
+bytes_as s t (BytesFault done) h = bytes_fault s t (BytesFault done) done done refl h
+bytes_as s t BytesStopped h = bytes_stop s t BytesStopped refl h
+
+pub ends_bytes : {T U : Type 0} (s t : Health) (r : Result T BytesFail) (q : Result U BytesFail) (e d : BytesFail) → r ≡ Err e → q ≡ Err d → d ≡ e → EndsBytes s t r → EndsBytes s t q
+ends_bytes {T = T} {U = U} s t r q e d re qd de h = subst (λ (v : Result U BytesFail). EndsBytes s t v) (sym (qd ∙ ap Err de)) (bytes_as s t e (subst (λ (v : Result T BytesFail). EndsBytes s t v) re h))
+
+pub bytes_well : {T : Type 0} (v : T) (k : ℕ) → IsErrOf (Ok v) (BytesFault k) → ⊥
+bytes_well v k is = cc
+
 -- blocks that were looked up
 read_as : {T U : Type 0} (s t : Health) (e : ReadFail) → EndsRead {T = T} s t (Err e) → EndsWrite {T = U} s t (Err (write_of_read e))
 read_as s t ReadFault h = ends_by_as s t _ _ _ _ (λ a. refl) (λ a. cc) (λ a. cc) h
@@ -252,3 +262,31 @@ leaves_same {T = T} {U = U} shape x k y j i off bytes r q e d re qd de s = subst
 
 pub was_err : {T U : Type 0} (r : Result T WriteFail) (q : Result U WriteFail) (e d f : WriteFail) → r ≡ Err e → q ≡ Err d → d ≡ e → IsErrOf q f → IsErrOf r f
 was_err r q e d f re qd de is = cc
+
+-- no bytes, or more than a file may have: nothing was called
+pub write_still : {T : Type 0} (s : Health) (v : T) → EndsWrite s s (Ok v)
+write_still s v = ends_by_well s s _ _ (omega arith) refl (λ a. no_fault v a.0 a.1) (λ a. cc)
+
+pub large_still : {T : Type 0} (s : Health) → EndsWrite {T = T} s s (Err TooLarge)
+large_still {T = T} s = ends_by_well s s _ _ (omega arith) refl (λ a. no_kind {T = T} TooLarge a.0 (λ is. cc) a.1) (λ a. cc)
+
+-- an answer is no failure, and a file that would be too large none but that one
+pub well_fault : {T : Type 0} (v : T) (k : ℕ) → IsErrOf (Ok v) (Fault k) → ⊥
+well_fault v k is = cc
+
+pub well_stopped : {T : Type 0} (v : T) → IsErrOf {E = WriteFail} (Ok v) Stopped → ⊥
+well_stopped v is = cc
+
+pub well_refused : {T : Type 0} (v : T) → IsErrOf {E = WriteFail} (Ok v) NoSpace ⊎ IsErrOf {E = WriteFail} (Ok v) TooLarge ⊎ IsErrOf {E = WriteFail} (Ok v) Memory → ⊥
+well_refused v (inl is) = cc
+well_refused v (inr (inl is)) = cc
+well_refused v (inr (inr is)) = cc
+
+pub large_space : {T : Type 0} → IsErrOf {T = T} (Err TooLarge) NoSpace → ⊥
+large_space is = cc
+
+pub large_fault : {T : Type 0} (k : ℕ) → IsErrOf {T = T} (Err TooLarge) (Fault k) → ⊥
+large_fault k is = cc
+
+pub large_stopped : {T : Type 0} → IsErrOf {T = T} (Err TooLarge) Stopped → ⊥
+large_stopped is = cc

@@ -1,10 +1,11 @@
-use Rattle.file_pages.proofs.Common.{◌-◌, ◌∙◌, ap, subst, err_from_is_err_and, ◌then◌, numbers, grown, volume_layout, LeavesInUse, Ready}
-use Rattle.file_pages.specs.Changes.{Grows, given_node}
+use Rattle.file_pages.proofs.Common.{◌-◌, ◌∙◌, ap, subst, err_from_is_err_and, ◌then◌, numbers, grown, volume_layout, LeavesInUse, Ready, IsFree, arith, free_blocks, inl, length, slice_index, sym, ℕ, ◌<◌, ◌≤◌}
+use Rattle.file_pages.specs.Changes.{Grows, given_node, PlansFor}
 use Rattle.file_pages.specs.LookingUp.{page_blocks}
 use Rattle.file_pages.proofs.LookingUpRules.{can_look_up}
 use Rattle.file_pages.proofs.OrderRules.{leaves_looked, leaves_trans, ready_left}
-use Rattle.file_pages.proofs.Ends.{ends_size, ends_size_ok, err_handed, size_err, size_then, unrefused_read}
+use Rattle.file_pages.proofs.Ends.{ends_size, ends_size_ok, err_handed, size_err, size_then, unrefused_read, unrefused_ok}
 use Rattle.file_pages.proofs.Extension.{extends_looked}
+use Rattle.file_pages.proofs.EndsOn.{if_err}
 use Rattle.file_pages.proofs.extending.plan_extension.Goals as goal
 
 pub returns-in_err-taken-clause-leaves : goal.returns-in_err-taken-clause-leaves
@@ -177,3 +178,51 @@ returns-clause-sound g c = c.span_blocks.ensures.sound
 
 pub returns-clause-ends : goal.returns-clause-ends
 returns-clause-ends g c = size_then _ _ _ c.take_lowest.result _ _ c.in_ok-taken.was c.take_lowest.ensures.ends (size_then _ _ _ c.plan_growth.result _ _ c.in_ok-change.was c.plan_growth.ensures.ends (ends_size_ok _ _ c.span_blocks.result _ _ c.in_ok-blocks.was c.span_blocks.ensures.ends))
+
+pub returns-clause-no_space : goal.returns-clause-no_space
+returns-clause-no_space g c = λ is. absurd ((unrefused_ok _).0 is)
+
+pub returns-clause-small : goal.returns-clause-small
+returns-clause-small g c = λ is. (unrefused_ok _).1 is
+
+pub wanted_count-wanted-requires-clause-grows : goal.wanted_count-wanted-requires-clause-grows
+wanted_count-wanted-requires-clause-grows g c = c.requires.grows
+
+pub wanted_count-wanted-requires-clause-most : goal.wanted_count-wanted-requires-clause-most
+wanted_count-wanted-requires-clause-most g c = c.requires.most
+
+pub plan_growth-requires-clause-count : goal.plan_growth-requires-clause-count
+plan_growth-requires-clause-count g c = c.in_ok-taken.ensures.count ∙ c.wanted_count-wanted.ensures.wanted
+
+pub plan_growth-requires-clause-free : goal.plan_growth-requires-clause-free
+plan_growth-requires-clause-free g c = subst (λ f. (t : ℕ) → t < length c.in_ok-taken.taken → IsFree (volume_layout c.args.shape.now f) (slice_index (numbers c.in_ok-taken.taken) t)) (sym c.take_lowest.ensures.looks.looks.words) c.in_ok-taken.ensures.free
+
+pub plan_growth-requires-clause-inode : goal.plan_growth-requires-clause-inode
+plan_growth-requires-clause-inode g c = subst (λ f. PlansFor f c.args.i.0 c.args.inode.now) (sym c.take_lowest.ensures.looks.looks.words) (inl (c.requires.inode, omega (arith, c.requires.file)))
+
+pub returns-clause-room : goal.returns-clause-room
+returns-clause-room g c = record { most = c.requires.most; room = subst (λ n. n ≤ length (free_blocks c.args.shape.now (g.V.Blocks.seen c.args.v.now).words)) c.wanted_count-wanted.ensures.wanted c.in_ok-taken.ensures.room }
+
+pub returns-in_err-taken-clause-no_space : goal.returns-in_err-taken-clause-no_space
+returns-in_err-taken-clause-no_space g c = let p = err_from_is_err_and c.from_residual.result c.from_residual.ensures.1 in λ is. subst (λ n. length (free_blocks c.args.shape.now (g.V.Blocks.seen c.args.v.now).words) < n) c.wanted_count-wanted.ensures.wanted (c.take_lowest.ensures.no_space (err_handed _ _ _ _ _ c.in_err-taken.was p.1 p.2 is))
+
+pub span_blocks-requires-clause-order : goal.span_blocks-requires-clause-order
+span_blocks-requires-clause-order g c = omega (arith, c.requires.first, c.page_count.ensures.pages)
+
+pub returns-in_err-taken-clause-ok : goal.returns-in_err-taken-clause-ok
+returns-in_err-taken-clause-ok g c = if_err c.from_residual.result _ c.from_residual.ensures.0
+
+pub returns-in_err-taken-clause-room : goal.returns-in_err-taken-clause-room
+returns-in_err-taken-clause-room g c = if_err c.from_residual.result _ c.from_residual.ensures.0
+
+pub returns-in_err-change-clause-ok : goal.returns-in_err-change-clause-ok
+returns-in_err-change-clause-ok g c = if_err c.from_residual-in_err-change.result _ c.from_residual-in_err-change.ensures.0
+
+pub returns-in_err-change-clause-room : goal.returns-in_err-change-clause-room
+returns-in_err-change-clause-room g c = if_err c.from_residual-in_err-change.result _ c.from_residual-in_err-change.ensures.0
+
+pub returns-in_err-blocks-clause-ok : goal.returns-in_err-blocks-clause-ok
+returns-in_err-blocks-clause-ok g c = if_err c.from_residual-in_err-blocks.result _ c.from_residual-in_err-blocks.ensures.0
+
+pub returns-in_err-blocks-clause-room : goal.returns-in_err-blocks-clause-room
+returns-in_err-blocks-clause-room g c = if_err c.from_residual-in_err-blocks.result _ c.from_residual-in_err-blocks.ensures.0

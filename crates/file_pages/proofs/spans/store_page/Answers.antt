@@ -1,6 +1,8 @@
 use Rattle.file_pages.proofs.Common.{◌/◌, ◌-◌, refl, arith, err_from_is_err_and, numbers}
 use Rattle.file_pages.proofs.Listed.{as_many, block_place}
 use Rattle.file_pages.proofs.Spanned.{beside_stored, page_at, page_in, page_named, page_piece, page_whole, span_can}
+use Rattle.file_pages.proofs.EndsOn.{if_err}
+use Rattle.file_pages.proofs.Written.{bytes_ok, bytes_runs, bytes_well, ends_bytes}
 use Rattle.file_pages.proofs.spans.store_page.Goals as goal
 
 pub store_piece-requires-clause-block : goal.store_piece-requires-clause-block
@@ -60,3 +62,45 @@ returns-in_err-store_piece-clause-beside g c =
 
 pub returns-in_err-store_piece-clause-named : goal.returns-in_err-store_piece-clause-named
 returns-in_err-store_piece-clause-named g c = page_named _ _ c.args.blocks.now c.args.first c.args.i.0 c.args.len c.args.off _ _ _ c.requires.named c.requires.apart c.requires.from c.requires.some c.requires.to refl refl c.bytes_in_page.ensures.size c.store_piece.ensures.caches
+
+pub returns-clause-firm : goal.returns-clause-firm
+returns-clause-firm g c = c.store_piece.ensures.firm
+
+pub returns-clause-goes : goal.returns-clause-goes
+returns-clause-goes g c = c.store_piece.ensures.goes
+
+pub returns-clause-idle : goal.returns-clause-idle
+returns-clause-idle g c = c.store_piece.ensures.idle
+
+pub returns-clause-sound : goal.returns-clause-sound
+returns-clause-sound g c = c.store_piece.ensures.sound
+
+pub returns-in_err-store_piece-clause-firm : goal.returns-in_err-store_piece-clause-firm
+returns-in_err-store_piece-clause-firm g c = c.store_piece.ensures.firm
+
+pub returns-in_err-store_piece-clause-goes : goal.returns-in_err-store_piece-clause-goes
+returns-in_err-store_piece-clause-goes g c = c.store_piece.ensures.goes
+
+pub returns-in_err-store_piece-clause-idle : goal.returns-in_err-store_piece-clause-idle
+returns-in_err-store_piece-clause-idle g c = c.store_piece.ensures.idle
+
+pub returns-in_err-store_piece-clause-sound : goal.returns-in_err-store_piece-clause-sound
+returns-in_err-store_piece-clause-sound g c = c.store_piece.ensures.sound
+
+pub store_piece-requires-clause-idle : goal.store_piece-requires-clause-idle
+store_piece-requires-clause-idle g c = c.requires.idle
+
+pub store_piece-requires-clause-sound : goal.store_piece-requires-clause-sound
+store_piece-requires-clause-sound g c = c.requires.sound
+
+pub returns-clause-ends : goal.returns-clause-ends
+returns-clause-ends g c = bytes_ok _ _ _ c.store_piece.ensures.ends.later (bytes_runs _ _ _ c.in_ok-store_piece.ensures.ends)
+
+pub returns-clause-fault : goal.returns-clause-fault
+returns-clause-fault g c = λ k is. absurd (bytes_well _ k is)
+
+pub returns-in_err-store_piece-clause-ends : goal.returns-in_err-store_piece-clause-ends
+returns-in_err-store_piece-clause-ends g c = let p = err_from_is_err_and c.from_residual.result c.from_residual.ensures.1 in ends_bytes _ _ c.store_piece.result c.from_residual.result _ p.0 c.in_err-store_piece.was p.1 p.2 c.store_piece.ensures.ends
+
+pub returns-in_err-store_piece-clause-ok : goal.returns-in_err-store_piece-clause-ok
+returns-in_err-store_piece-clause-ok g c = if_err c.from_residual.result _ c.from_residual.ensures.0

@@ -1,10 +1,13 @@
-use Rattle.file_pages.proofs.Common.{◌≡◌, ◌+◌, ◌<◌, ◌∙◌, length, sym, subst, arith, err_from_is_err_and, free_blocks, IsIno, placed_at}
+use Rattle.file_pages.proofs.Common.{◌≡◌, ◌+◌, ◌<◌, ◌∙◌, length, sym, subst, arith, err_from_is_err_and, free_blocks, IsIno, placed_at, inr, refl}
 use Rattle.file_pages.specs.Changes.{wanted_blocks}
 use Rattle.file_pages.specs.Files.{HasSpace, file_bytes}
 use Rattle.file_pages.specs.declared.failures.WriteFail.TheVariants.{NoSpace, TooLarge}
 use Rattle.file_pages.proofs.Resized.{file_ino, file_placed, file_size}
 use Rattle.file_pages.proofs.Updated.{some_length}
-use Rattle.file_pages.proofs.Written.{ends_same, ends_write_ok, leaves_same, no_length, none_both, was_err, write_fault, write_ready, write_refused, write_stopped}
+use Rattle.file_pages.proofs.Written.{ends_same, ends_write_ok, leaves_same, no_length, none_both, was_err, write_fault, write_ready, write_refused, write_stopped, large_fault, large_space, large_still, large_stopped, well_fault, well_refused, well_stopped, write_still, write_unrefused}
+use Rattle.file_pages.proofs.EndsOn.{if_err}
+use Rattle.file_pages.proofs.OrderRules.{leaves_refl}
+use Rattle.rio_base.specs.Rules.{goes_refl}
 use Rattle.file_pages.proofs.writing.write.Goals as goal
 
 pub returns-then-is_empty-clause-ok : goal.returns-then-is_empty-clause-ok
@@ -92,16 +95,106 @@ pub returns-then-is_empty-clause-sound : goal.returns-then-is_empty-clause-sound
 returns-then-is_empty-clause-sound g c = c.requires.sound
 
 pub returns-clause-too_large : goal.returns-clause-too_large
-returns-clause-too_large g c = λ is. absurd cc
+returns-clause-too_large g c = λ is. absurd ((write_unrefused _).1 is)
 
 pub returns-clause-no_space : goal.returns-clause-no_space
-returns-clause-no_space g c = λ is. absurd cc
+returns-clause-no_space g c = λ is. absurd ((write_unrefused _).0 is)
 
 pub returns-clause-stopped : goal.returns-clause-stopped
-returns-clause-stopped g c = λ is. absurd cc
+returns-clause-stopped g c = λ is. absurd (well_stopped _ is)
 
 pub returns-clause-fault : goal.returns-clause-fault
-returns-clause-fault g c = λ k is. absurd cc
+returns-clause-fault g c = λ k is. absurd (well_fault _ k is)
 
 pub returns-in_err-write_some-clause-too_large : goal.returns-in_err-write_some-clause-too_large
 returns-in_err-write_some-clause-too_large g c = let p = err_from_is_err_and c.from_residual.result c.from_residual.ensures.1 in λ is. absurd (c.write_some.ensures.small (was_err c.write_some.result c.from_residual.result _ _ TooLarge c.in_err-write_some.was p.1 p.2 is))
+
+pub returns-then-is_empty-clause-ends : goal.returns-then-is_empty-clause-ends
+returns-then-is_empty-clause-ends g c = write_still _ _
+
+pub returns-then-is_empty-clause-goes : goal.returns-then-is_empty-clause-goes
+returns-then-is_empty-clause-goes g c = goes_refl _ _
+
+pub returns-then-is_empty-clause-fault : goal.returns-then-is_empty-clause-fault
+returns-then-is_empty-clause-fault g c = λ k is. absurd (well_fault _ k is)
+
+pub returns-then-is_empty-clause-no_space : goal.returns-then-is_empty-clause-no_space
+returns-then-is_empty-clause-no_space g c = λ is. absurd ((write_unrefused _).0 is)
+
+pub returns-then-is_empty-clause-too_large : goal.returns-then-is_empty-clause-too_large
+returns-then-is_empty-clause-too_large g c = λ is. absurd ((write_unrefused _).1 is)
+
+pub returns-then-is_empty-clause-ready : goal.returns-then-is_empty-clause-ready
+returns-then-is_empty-clause-ready g c = inr c.requires.ready
+
+pub returns-then-is_empty-clause-refused : goal.returns-then-is_empty-clause-refused
+returns-then-is_empty-clause-refused g c = λ is. absurd (well_refused _ is)
+
+pub returns-then-is_empty-clause-stopped : goal.returns-then-is_empty-clause-stopped
+returns-then-is_empty-clause-stopped g c = λ is. absurd (well_stopped _ is)
+
+pub returns-then-is_empty-clause-value : goal.returns-then-is_empty-clause-value
+returns-then-is_empty-clause-value g c = sym (no_length _ (sym c.is_empty.ensures ∙ c.if-is_empty.true))
+
+pub returns-then-is_empty-clause-space : goal.returns-then-is_empty-clause-space
+returns-then-is_empty-clause-space g c = let none = no_length _ (sym c.is_empty.ensures ∙ c.if-is_empty.true) in λ some. absurd (omega (arith, some, none))
+
+pub returns-then-off-gt-LARGEST_SIZE-clause-ends : goal.returns-then-off-gt-LARGEST_SIZE-clause-ends
+returns-then-off-gt-LARGEST_SIZE-clause-ends g c = large_still _
+
+pub returns-then-off-gt-LARGEST_SIZE-clause-goes : goal.returns-then-off-gt-LARGEST_SIZE-clause-goes
+returns-then-off-gt-LARGEST_SIZE-clause-goes g c = goes_refl _ _
+
+pub returns-then-off-gt-LARGEST_SIZE-clause-sound : goal.returns-then-off-gt-LARGEST_SIZE-clause-sound
+returns-then-off-gt-LARGEST_SIZE-clause-sound g c = c.requires.sound
+
+pub returns-then-off-gt-LARGEST_SIZE-clause-ready : goal.returns-then-off-gt-LARGEST_SIZE-clause-ready
+returns-then-off-gt-LARGEST_SIZE-clause-ready g c = inr c.requires.ready
+
+pub returns-then-off-gt-LARGEST_SIZE-clause-fault : goal.returns-then-off-gt-LARGEST_SIZE-clause-fault
+returns-then-off-gt-LARGEST_SIZE-clause-fault g c = λ k is. absurd (large_fault k is)
+
+pub returns-then-off-gt-LARGEST_SIZE-clause-no_space : goal.returns-then-off-gt-LARGEST_SIZE-clause-no_space
+returns-then-off-gt-LARGEST_SIZE-clause-no_space g c = λ is. absurd (large_space is)
+
+pub returns-then-off-gt-LARGEST_SIZE-clause-stopped : goal.returns-then-off-gt-LARGEST_SIZE-clause-stopped
+returns-then-off-gt-LARGEST_SIZE-clause-stopped g c = λ is. absurd (large_stopped is)
+
+pub returns-then-off-gt-LARGEST_SIZE-clause-ok : goal.returns-then-off-gt-LARGEST_SIZE-clause-ok
+returns-then-off-gt-LARGEST_SIZE-clause-ok g c = tt
+
+pub returns-then-off-gt-LARGEST_SIZE-clause-space : goal.returns-then-off-gt-LARGEST_SIZE-clause-space
+returns-then-off-gt-LARGEST_SIZE-clause-space g c = tt
+
+pub returns-then-off-gt-LARGEST_SIZE-clause-value : goal.returns-then-off-gt-LARGEST_SIZE-clause-value
+returns-then-off-gt-LARGEST_SIZE-clause-value g c = tt
+
+pub returns-then-off-gt-LARGEST_SIZE-clause-refused : goal.returns-then-off-gt-LARGEST_SIZE-clause-refused
+returns-then-off-gt-LARGEST_SIZE-clause-refused g c = λ is. leaves_refl c.args.shape.now _ _ c.requires.ready
+
+pub returns-clause-ok : goal.returns-clause-ok
+returns-clause-ok g c = c.in_ok-write_some.ensures.leaves.0
+
+pub returns-clause-ready : goal.returns-clause-ready
+returns-clause-ready g c = inr c.in_ok-write_some.ensures.leaves.1
+
+pub returns-clause-refused : goal.returns-clause-refused
+returns-clause-refused g c = λ is. absurd (well_refused _ is)
+
+pub returns-clause-value : goal.returns-clause-value
+returns-clause-value g c = refl
+
+pub returns-in_err-write_some-clause-ok : goal.returns-in_err-write_some-clause-ok
+returns-in_err-write_some-clause-ok g c = if_err c.from_residual.result _ c.from_residual.ensures.0
+
+pub returns-in_err-write_some-clause-space : goal.returns-in_err-write_some-clause-space
+returns-in_err-write_some-clause-space g c = if_err c.from_residual.result _ c.from_residual.ensures.0
+
+pub returns-in_err-write_some-clause-value : goal.returns-in_err-write_some-clause-value
+returns-in_err-write_some-clause-value g c = if_err c.from_residual.result _ c.from_residual.ensures.0
+
+pub write_some-requires-clause-some : goal.write_some-requires-clause-some
+write_some-requires-clause-some g c = some_length _ (sym c.is_empty.ensures ∙ c.if-is_empty.false)
+
+pub write_some-requires-clause-most : goal.write_some-requires-clause-most
+write_some-requires-clause-most g c = omega (arith, c.if-off-gt-LARGEST_SIZE.false, c.if-count-off.false)

@@ -51,3 +51,54 @@ returns-else-off-bytes-clause-goes g c = c.write_past.ensures.goes
 
 pub returns-else-off-bytes-clause-ends : goal.returns-else-off-bytes-clause-ends
 returns-else-off-bytes-clause-ends g c = c.write_past.ensures.ends
+
+pub returns-then-off-bytes-clause-small : goal.returns-then-off-bytes-clause-small
+returns-then-off-bytes-clause-small g c = c.write_within.ensures.small
+
+pub returns-then-off-bytes-clause-sound : goal.returns-then-off-bytes-clause-sound
+returns-then-off-bytes-clause-sound g c = c.write_within.ensures.sound
+
+pub returns-else-off-bytes-clause-small : goal.returns-else-off-bytes-clause-small
+returns-else-off-bytes-clause-small g c = c.write_past.ensures.small
+
+pub returns-else-off-bytes-clause-sound : goal.returns-else-off-bytes-clause-sound
+returns-else-off-bytes-clause-sound g c = c.write_past.ensures.sound
+
+pub write_past-requires-clause-ino : goal.write_past-requires-clause-ino
+write_past-requires-clause-ino g c = c.requires.ino
+
+pub write_past-requires-clause-inode : goal.write_past-requires-clause-inode
+write_past-requires-clause-inode g c = c.requires.inode
+
+pub write_past-requires-clause-most : goal.write_past-requires-clause-most
+write_past-requires-clause-most g c = c.requires.most
+
+pub write_past-requires-clause-ready : goal.write_past-requires-clause-ready
+write_past-requires-clause-ready g c = c.requires.ready
+
+pub write_past-requires-clause-some : goal.write_past-requires-clause-some
+write_past-requires-clause-some g c = c.requires.some
+
+pub write_past-requires-clause-sound : goal.write_past-requires-clause-sound
+write_past-requires-clause-sound g c = c.requires.sound
+
+pub write_within-requires-clause-ino : goal.write_within-requires-clause-ino
+write_within-requires-clause-ino g c = c.requires.ino
+
+pub write_within-requires-clause-inode : goal.write_within-requires-clause-inode
+write_within-requires-clause-inode g c = c.requires.inode
+
+pub write_within-requires-clause-ready : goal.write_within-requires-clause-ready
+write_within-requires-clause-ready g c = c.requires.ready
+
+pub write_within-requires-clause-some : goal.write_within-requires-clause-some
+write_within-requires-clause-some g c = c.requires.some
+
+pub write_within-requires-clause-sound : goal.write_within-requires-clause-sound
+write_within-requires-clause-sound g c = c.requires.sound
+
+pub write_within-requires-clause-within : goal.write_within-requires-clause-within
+write_within-requires-clause-within g c = c.if-off-bytes.true
+
+pub write_past-requires-clause-past : goal.write_past-requires-clause-past
+write_past-requires-clause-past g c = omega (arith, c.if-off-bytes.false)
