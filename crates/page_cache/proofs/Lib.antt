@@ -1,2 +1,3 @@
 pub mod Flushes
+pub mod Outcomes
 pub mod Wilds
