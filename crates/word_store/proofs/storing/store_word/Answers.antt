@@ -1,4 +1,4 @@
-use Rattle.cached_pages.proofs.Common.{IsErrOf, Stopped, rules, ◌∙◌, ap, arith, inl, inr, lasts_trans, steps_trans}
+use Rattle.cached_pages.proofs.Common.{IsErrOf, Stopped, rules, ◌∙◌, ap, arith, inl, inr, lasts_trans, steps_trans, true_false, sym}
 use Rattle.std.proofs.Common.{refl}
 use Rattle.cached_pages.specs.declared.tables.CacheTables.{CacheTables}
 use Rattle.cached_pages.proofs.StoreCalls.{named_put, stored_put}
@@ -11,6 +11,7 @@ use Rattle.cached_pages.proofs.DirtyMarks.{marks_any, marks_trans}
 use Rattle.cached_pages.proofs.FailedUses.{failed_used}
 use Rattle.cached_pages.proofs.Uses.{stay_trans}
 use Rattle.cached_pages.proofs.Common.{Some}
+use Rattle.rio_base.proofs.MachineRules.{never}
 
 pub returns-clause-writes : goal.returns-clause-writes
 returns-clause-writes g c = few_then c.args.b.0 _ (g.M.Machine.contents c.args.m.now) (g.M.Machine.contents c.ready.new.m) _ c.ready.ensures.writes (search rules)
@@ -85,7 +86,7 @@ pub returns-clause-named : goal.returns-clause-named
 returns-clause-named g c = λ q. named_put c.args.b.0 c.args.name _ _ (g.M.Machine.contents c.ready.new.m) (g.M.Machine.contents c.put_frame.new.m) c.put_frame.ensures.cached c.in_ok-k.ensures.named
 
 pub returns-clause-ends : goal.returns-clause-ends
-returns-clause-ends g c = ends_of _ _ _ _ _ (lasts_trans (g.M.Machine.contents c.args.m.now) (g.M.Machine.contents c.ready.new.m) (g.M.Machine.contents c.put_frame.new.m) c.ready.ensures.lasts c.put_frame.ensures.lasts) (λ q. cc) (ends_ok _ _ _ _ _ _ (λ q. cc) (λ q. cc) (λ q. cc) c.in_ok-k.ensures.ends c.in_ok-put_frame.ensures.ends)
+returns-clause-ends g c = ends_of (g.M.Machine.contents c.args.m.now) (g.M.Machine.contents c.put_frame.new.m) (g.M.Machine.run c.args.m.now) (g.M.Machine.run c.put_frame.new.m) _ (lasts_trans (g.M.Machine.contents c.args.m.now) (g.M.Machine.contents c.ready.new.m) (g.M.Machine.contents c.put_frame.new.m) c.ready.ensures.lasts c.put_frame.ensures.lasts) (λ q. absurd (never _ _ q)) (ends_ok (g.M.Machine.run c.args.m.now) (g.M.Machine.run c.ready.new.m) (g.M.Machine.run c.put_frame.new.m) _ _ _ (never _ Stopped) (λ q. true_false (sym q)) (never _ Stopped) c.in_ok-k.ensures.ends c.in_ok-put_frame.ensures.ends)
 
 pub returns-clause-used : goal.returns-clause-used
 returns-clause-used g c = used_then c.args.b.0 (g.M.Machine.contents c.ready.new.m).words (g.M.Machine.contents c.put_frame.new.m).words c.args.t.now c.ready.new.t c.put_frame.new.t c.in_ok-k.ensures.used (stay_found _ _ c.put_frame.ensures.cached.found) (order_same _ _ c.put_frame.ensures.tables)
@@ -99,7 +100,7 @@ returns-clause-leaves g c = leaves_then _ _ _ _ c.ready.ensures.leaves (stay_fou
 pub returns-in_err-put_frame-clause-ends : goal.returns-in_err-put_frame-clause-ends
 returns-in_err-put_frame-clause-ends g c =
     let stop : IsErrOf c.from_residual-in_err-put_frame.result Stopped = grind (arith, c.from_residual-in_err-put_frame.ensures) in
-    ends_stopped _ _ _ _ _ _ _ _ stop (λ q. cc) refl (lasts_trans (g.M.Machine.contents c.args.m.now) (g.M.Machine.contents c.ready.new.m) (g.M.Machine.contents c.put_frame.new.m) c.ready.ensures.lasts c.put_frame.ensures.lasts) c.in_ok-k.ensures.ends c.in_err-put_frame.ensures.ends
+    ends_stopped (g.M.Machine.contents c.args.m.now) (g.M.Machine.contents c.put_frame.new.m) (g.M.Machine.run c.args.m.now) (g.M.Machine.run c.ready.new.m) (g.M.Machine.run c.put_frame.new.m) _ _ c.from_residual-in_err-put_frame.result stop (never _ Stopped) refl (lasts_trans (g.M.Machine.contents c.args.m.now) (g.M.Machine.contents c.ready.new.m) (g.M.Machine.contents c.put_frame.new.m) c.ready.ensures.lasts c.put_frame.ensures.lasts) c.in_ok-k.ensures.ends c.in_err-put_frame.ensures.ends
 
 pub returns-in_err-k-clause-marks : goal.returns-in_err-k-clause-marks
 returns-in_err-k-clause-marks g c = c.ready.ensures.marks
@@ -126,4 +127,22 @@ pub returns-in_err-put_frame-clause-failed : goal.returns-in_err-put_frame-claus
 returns-in_err-put_frame-clause-failed g c q = failed_used c.args.b.0 _ c.args.t.now c.put_frame.new.t (used_then c.args.b.0 (g.M.Machine.contents c.ready.new.m).words (g.M.Machine.contents c.put_frame.new.m).words c.args.t.now c.ready.new.t c.put_frame.new.t c.in_ok-k.ensures.used (stay_found _ _ c.put_frame.ensures.cached.found) (order_same _ _ c.put_frame.ensures.tables))
 
 pub returns-clause-failed : goal.returns-clause-failed
-returns-clause-failed g c q = absurd cc
+returns-clause-failed g c q = absurd (true_false (sym q))
+
+pub returns-in_err-k-clause-caches : goal.returns-in_err-k-clause-caches
+returns-in_err-k-clause-caches g c = c.ready.ensures.caches
+
+pub returns-in_err-k-clause-leaves : goal.returns-in_err-k-clause-leaves
+returns-in_err-k-clause-leaves g c = c.ready.ensures.leaves
+
+pub returns-in_err-k-clause-sound : goal.returns-in_err-k-clause-sound
+returns-in_err-k-clause-sound g c = c.ready.ensures.sound
+
+pub returns-in_err-k-clause-writes : goal.returns-in_err-k-clause-writes
+returns-in_err-k-clause-writes g c = c.ready.ensures.writes
+
+pub returns-in_err-put_frame-clause-sound : goal.returns-in_err-put_frame-clause-sound
+returns-in_err-put_frame-clause-sound g c = c.put_frame.ensures.sound
+
+pub returns-clause-sound : goal.returns-clause-sound
+returns-clause-sound g c = c.put_frame.ensures.sound
