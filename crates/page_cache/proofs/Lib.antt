@@ -1,3 +1,4 @@
+pub mod Failures
 pub mod Flushes
 pub mod Outcomes
 pub mod Wilds

@@ -1,9 +1,11 @@
-use Rattle.cached_pages.proofs.Common.{◌∙◌, arith, subst, reads, found_is}
+use Rattle.cached_pages.proofs.Common.{◌∙◌, arith, subst, reads, found_is, true_false, sym}
 use Rattle.std.proofs.Common.{◌≡◌}
 use Rattle.cached_pages.proofs.Rooms.{passes_of, word_read}
 use Rattle.page_cache.proofs.reading.PageCacheBlocks.word.Goals as goal
 use Rattle.cached_pages.proofs.Rooms.{looks_keeps, caches_adds}
 use Rattle.cached_pages.proofs.Common.{refl}
+use Rattle.rio_base.proofs.MachineRules.{never}
+use Rattle.page_cache.proofs.Failures.{ends_came, ends_handed}
 
 pub page_of-page-requires-clause-entry : goal.page_of-page-requires-clause-entry
 page_of-page-requires-clause-entry g c = (found_is _ _ _ c.in_ok-k.ensures.found).0.within
@@ -59,7 +61,7 @@ pub returns-clause-used : goal.returns-clause-used
 returns-clause-used g c = c.in_ok-k.ensures.used
 
 pub returns-clause-sure : goal.returns-clause-sure
-returns-clause-sure g c fault touched = absurd cc
+returns-clause-sure g c fault touched = absurd (never _ _ fault)
 
 pub returns-in_err-k-clause-hit : goal.returns-in_err-k-clause-hit
 returns-in_err-k-clause-hit g c = c.fetch.ensures.hit
@@ -77,4 +79,16 @@ pub returns-in_err-k-clause-failed : goal.returns-in_err-k-clause-failed
 returns-in_err-k-clause-failed g c q = c.in_err-k.ensures.failed refl
 
 pub returns-clause-failed : goal.returns-clause-failed
-returns-clause-failed g c q = absurd cc
+returns-clause-failed g c q = absurd (true_false (sym q))
+
+pub fetch-requires-clause-block : goal.fetch-requires-clause-block
+fetch-requires-clause-block g c = c.requires.place.block
+
+pub page_of-page-requires-clause-sound : goal.page_of-page-requires-clause-sound
+page_of-page-requires-clause-sound g c = c.fetch.ensures.sound
+
+pub returns-clause-ends : goal.returns-clause-ends
+returns-clause-ends g c = ends_came c.in_ok-k.k _ (g.M.Machine.contents c.args.self.now.machine) (g.M.Machine.contents c.fetch.new.m) (g.M.Machine.run c.args.self.now.machine) (g.M.Machine.run c.fetch.new.m) c.fetch.ensures.lasts c.in_ok-k.ensures.ends
+
+pub returns-in_err-k-clause-ends : goal.returns-in_err-k-clause-ends
+returns-in_err-k-clause-ends g c = ends_handed (g.M.Machine.contents c.args.self.now.machine) (g.M.Machine.contents c.fetch.new.m) (g.M.Machine.run c.args.self.now.machine) (g.M.Machine.run c.fetch.new.m) _ _ (grind (arith, c.from_residual.ensures)) c.fetch.ensures.lasts c.in_err-k.ensures.fault c.in_err-k.ensures.ends

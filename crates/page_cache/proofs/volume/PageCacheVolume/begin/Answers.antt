@@ -4,6 +4,10 @@ use Rattle.page_cache.specs.Settled.{gate_shut}
 use Rattle.cached_pages.proofs.Pins.{pins_refl, shut_unpinned}
 use Rattle.cached_pages.proofs.Updates.{begun_of, drops_named, sound_begun, sound_shut}
 use Rattle.page_cache.proofs.volume.PageCacheVolume.begin.Goals as goal
+use Rattle.cached_pages.proofs.Freed.{halts_of}
+use Rattle.cached_pages.proofs.Rooms.{looks_keeps}
+use Rattle.cached_pages.proofs.Stills.{still_rest}
+use Rattle.page_cache.proofs.Outcomes.{firm_loose, firm_marks, goes_rest, halts_err}
 
 pub returns-in_err-begin-clause-drops : goal.returns-in_err-begin-clause-drops
 returns-in_err-begin-clause-drops g c = drops_named (g.M.Machine.contents c.args.self.now.machine) (g.M.Machine.contents c.begin.new.m) c.begin.ensures.names
@@ -34,3 +38,51 @@ returns-in_err-begin-clause-entries g c = c.begin.ensures.names
 
 pub returns-clause-entries : goal.returns-clause-entries
 returns-clause-entries g c = c.begin.ensures.names
+
+pub begin-requires-clause-coherent : goal.begin-requires-clause-coherent
+begin-requires-clause-coherent g c = c.requires.sound.coherent
+
+pub begin-requires-clause-closed : goal.begin-requires-clause-closed
+begin-requires-clause-closed g c = c.requires.sound.closed
+
+pub returns-clause-goes : goal.returns-clause-goes
+returns-clause-goes g c = goes_rest (g.M.Machine.contents c.args.self.now.machine) (g.M.Machine.contents c.begin.new.m) c.args.self.now.tables (g.M.Machine.run c.args.self.now.machine) (g.M.Machine.run c.begin.new.m) c.begin.ensures.lasts c.begin.ensures.ends.steps c.begin.ensures.names.frames c.begin.ensures.rest
+
+pub returns-clause-still : goal.returns-clause-still
+returns-clause-still g c = still_rest (g.M.Machine.contents c.args.self.now.machine) (g.M.Machine.contents c.begin.new.m) c.begin.ensures.rest
+
+pub returns-in_err-begin-clause-goes : goal.returns-in_err-begin-clause-goes
+returns-in_err-begin-clause-goes g c = goes_rest (g.M.Machine.contents c.args.self.now.machine) (g.M.Machine.contents c.begin.new.m) c.args.self.now.tables (g.M.Machine.run c.args.self.now.machine) (g.M.Machine.run c.begin.new.m) c.begin.ensures.lasts c.begin.ensures.ends.steps c.begin.ensures.names.frames c.begin.ensures.rest
+
+pub returns-in_err-begin-clause-still : goal.returns-in_err-begin-clause-still
+returns-in_err-begin-clause-still g c = still_rest (g.M.Machine.contents c.args.self.now.machine) (g.M.Machine.contents c.begin.new.m) c.begin.ensures.rest
+
+pub returns-clause-ends : goal.returns-clause-ends
+returns-clause-ends g c = halts_of (g.M.Machine.contents c.args.self.now.machine) (g.M.Machine.contents c.begin.new.m) (g.M.Machine.run c.args.self.now.machine) (g.M.Machine.run c.begin.new.m) _ c.begin.ensures.lasts c.in_ok-begin.ensures.ends
+
+pub returns-in_err-begin-clause-ends : goal.returns-in_err-begin-clause-ends
+returns-in_err-begin-clause-ends g c = halts_err (g.M.Machine.contents c.args.self.now.machine) (g.M.Machine.contents c.begin.new.m) (g.M.Machine.run c.args.self.now.machine) (g.M.Machine.run c.begin.new.m) _ _ (grind (arith, c.from_residual.ensures)) refl c.begin.ensures.lasts c.in_err-begin.ensures.ends
+
+pub returns-in_err-begin-clause-firm : goal.returns-in_err-begin-clause-firm
+returns-in_err-begin-clause-firm g c = firm_loose (g.M.Machine.contents c.args.self.now.machine) (g.M.Machine.contents c.begin.new.m) c.args.self.now.tables c.begin.ensures.firm
+
+pub returns-clause-firm : goal.returns-clause-firm
+returns-clause-firm g c = firm_marks (g.M.Machine.contents c.args.self.now.machine) (g.M.Machine.contents c.begin.new.m) c.args.self.now.tables c.clear_list.new.t c.begin.ensures.firm c.clear_list.ensures.rest.forgotten
+
+pub returns-clause-looks : goal.returns-clause-looks
+returns-clause-looks g c = record { count = c.begin.ensures.lasts.blocks; words = c.in_ok-begin.ensures.opened.reads; base = refl }
+
+pub returns-in_err-begin-clause-looks : goal.returns-in_err-begin-clause-looks
+returns-in_err-begin-clause-looks g c = looks_keeps (g.M.Machine.contents c.args.self.now.machine) (g.M.Machine.contents c.begin.new.m) c.in_err-begin.ensures.cut c.begin.ensures.lasts
+
+pub returns-in_err-begin-clause-standing : goal.returns-in_err-begin-clause-standing
+returns-in_err-begin-clause-standing g c = c.in_err-begin.ensures.cut.stands
+
+pub listed-requires-clause-most : goal.listed-requires-clause-most
+listed-requires-clause-most g c = c.requires.sound.most
+
+pub listed-requires-clause-room : goal.listed-requires-clause-room
+listed-requires-clause-room g c = c.requires.sound.room
+
+pub begin-requires-clause-shut : goal.begin-requires-clause-shut
+begin-requires-clause-shut g c = gate_shut (g.M.Machine.contents c.args.self.now.machine).words c.requires.idle

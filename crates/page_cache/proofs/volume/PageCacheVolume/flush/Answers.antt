@@ -2,8 +2,14 @@ use Rattle.std.proofs.Common.{refl}
 use Rattle.page_cache.proofs.Flushes.{flushed_sound, shut_by}
 use Rattle.page_cache.proofs.volume.PageCacheVolume.flush.Goals as goal
 use Rattle.cached_pages.proofs.Uses.{stay_held}
-use Rattle.cached_pages.proofs.Common.{arith, IsErrOf}
+use Rattle.cached_pages.proofs.Common.{◌==◌, ◌∙◌, ap, arith, IsErrOf}
 use Rattle.rio_base.specs.declared.failures.VolFail.TheVariants.{Fault}
+use Rattle.rio_base.proofs.MachineRules.{never}
+use Rattle.cached_pages.proofs.Goes.{ends_of, runs_of}
+use Rattle.cached_pages.proofs.Kept.{tables_refl}
+use Rattle.cached_pages.proofs.Rooms.{firm_keeps, looks_keeps}
+use Rattle.cached_pages.proofs.StoreCalls.{drops_narrows}
+use Rattle.page_cache.proofs.Failures.{ends_handed}
 
 pub flush-requires-clause-coherent : goal.flush-requires-clause-coherent
 flush-requires-clause-coherent g c = c.requires.sound.coherent
@@ -38,4 +44,49 @@ returns-in_err-j-clause-unmarked g c fault =
     c.flush.ensures.unmarked was
 
 pub returns-clause-unmarked : goal.returns-clause-unmarked
-returns-clause-unmarked g c fault = absurd cc
+returns-clause-unmarked g c fault = absurd (never _ _ fault)
+
+pub returns-clause-looks : goal.returns-clause-looks
+returns-clause-looks g c = looks_keeps (g.M.Machine.contents c.args.self.now.machine) (g.M.Machine.contents c.flush.new.m) c.flush.ensures.keeps c.flush.ensures.lasts
+
+pub returns-clause-standing : goal.returns-clause-standing
+returns-clause-standing g c = c.flush.ensures.keeps.stands
+
+pub returns-clause-firm : goal.returns-clause-firm
+returns-clause-firm g c = firm_keeps (g.M.Machine.contents c.args.self.now.machine) (g.M.Machine.contents c.flush.new.m) c.args.self.now.tables c.args.self.now.tables c.flush.ensures.keeps (tables_refl c.args.self.now.tables)
+
+pub returns-clause-drops : goal.returns-clause-drops
+returns-clause-drops g c = drops_narrows (g.M.Machine.contents c.args.self.now.machine) (g.M.Machine.contents c.flush.new.m) c.flush.ensures.narrows
+
+pub returns-clause-idle : goal.returns-clause-idle
+returns-clause-idle g c = ap (λ n. n == 1) (c.flush.ensures.keeps.header 4 (omega arith)) ∙ c.requires.idle
+
+pub returns-clause-runs : goal.returns-clause-runs
+returns-clause-runs g c = runs_of (g.M.Machine.contents c.args.self.now.machine) (g.M.Machine.contents c.flush.new.m) (g.M.Machine.run c.args.self.now.machine) (g.M.Machine.run c.flush.new.m) c.flush.ensures.lasts c.flush.ensures.ends.steps (c.flush.ensures.keeps.header 2 (omega arith))
+
+pub returns-in_err-j-clause-looks : goal.returns-in_err-j-clause-looks
+returns-in_err-j-clause-looks g c = looks_keeps (g.M.Machine.contents c.args.self.now.machine) (g.M.Machine.contents c.flush.new.m) c.flush.ensures.keeps c.flush.ensures.lasts
+
+pub returns-in_err-j-clause-standing : goal.returns-in_err-j-clause-standing
+returns-in_err-j-clause-standing g c = c.flush.ensures.keeps.stands
+
+pub returns-in_err-j-clause-firm : goal.returns-in_err-j-clause-firm
+returns-in_err-j-clause-firm g c = firm_keeps (g.M.Machine.contents c.args.self.now.machine) (g.M.Machine.contents c.flush.new.m) c.args.self.now.tables c.args.self.now.tables c.flush.ensures.keeps (tables_refl c.args.self.now.tables)
+
+pub returns-in_err-j-clause-drops : goal.returns-in_err-j-clause-drops
+returns-in_err-j-clause-drops g c = drops_narrows (g.M.Machine.contents c.args.self.now.machine) (g.M.Machine.contents c.flush.new.m) c.flush.ensures.narrows
+
+pub returns-in_err-j-clause-idle : goal.returns-in_err-j-clause-idle
+returns-in_err-j-clause-idle g c = ap (λ n. n == 1) (c.flush.ensures.keeps.header 4 (omega arith)) ∙ c.requires.idle
+
+pub returns-in_err-j-clause-runs : goal.returns-in_err-j-clause-runs
+returns-in_err-j-clause-runs g c = runs_of (g.M.Machine.contents c.args.self.now.machine) (g.M.Machine.contents c.flush.new.m) (g.M.Machine.run c.args.self.now.machine) (g.M.Machine.run c.flush.new.m) c.flush.ensures.lasts c.flush.ensures.ends.steps (c.flush.ensures.keeps.header 2 (omega arith))
+
+pub returns-clause-ends : goal.returns-clause-ends
+returns-clause-ends g c = ends_of (g.M.Machine.contents c.args.self.now.machine) (g.M.Machine.contents c.flush.new.m) (g.M.Machine.run c.args.self.now.machine) (g.M.Machine.run c.flush.new.m) _ c.flush.ensures.lasts (λ q. absurd (never _ _ q)) c.in_ok-j.ensures.ends
+
+pub returns-clause-flushed : goal.returns-clause-flushed
+returns-clause-flushed g c = c.in_ok-j.ensures.flushed
+
+pub returns-in_err-j-clause-ends : goal.returns-in_err-j-clause-ends
+returns-in_err-j-clause-ends g c = ends_handed (g.M.Machine.contents c.args.self.now.machine) (g.M.Machine.contents c.flush.new.m) (g.M.Machine.run c.args.self.now.machine) (g.M.Machine.run c.flush.new.m) _ _ (grind (arith, c.from_residual.ensures)) c.flush.ensures.lasts c.in_err-j.ensures.fault c.in_err-j.ensures.ends

@@ -1,4 +1,4 @@
-use Rattle.cached_pages.proofs.Common.{ap, subst, sym, ◌∙◌}
+use Rattle.cached_pages.proofs.Common.{ap, subst, sym, ◌∙◌, true_false}
 use Rattle.std.proofs.Common.{◌<◌, is_some, refl}
 use Rattle.rio_base.proofs.MachineRules.{lasts_refl, steps_refl}
 use Rattle.cached_pages.proofs.Kept.{tables_refl}
@@ -115,10 +115,10 @@ pub returns-clause-freed : goal.returns-clause-freed
 returns-clause-freed g c = freed_some c.args.b.0 c.in-Some.k (g.M.Machine.contents c.args.self.now.machine).words c.args.self.now.tables c.mark.new.self c.drop_frame.new.t (some_bound c.args.b.0 c.in-Some.k _ (g.M.Machine.contents c.args.self.now.machine) c.mark.new.self (sound_marked c.args.b.0 _ _ (g.M.Machine.contents c.args.self.now.machine) c.args.self.now.tables c.mark.new.self c.requires.sound c.mark.ensures.marks) c.in-Some.ensures.some.0 c.in-Some.ensures.some.1) (marked_order c.args.self.now.tables c.mark.new.self c.mark.ensures.marks.rest) c.in_ok-drop_frame.ensures.freed
 
 pub returns-in_default-clause-order : goal.returns-in_default-clause-order
-returns-in_default-clause-order g c q = absurd cc
+returns-in_default-clause-order g c q = absurd (true_false (sym q))
 
 pub returns-clause-order : goal.returns-clause-order
-returns-clause-order g c q = absurd cc
+returns-clause-order g c q = absurd (true_false (sym q))
 
 pub returns-in_default-clause-stay : goal.returns-in_default-clause-stay
 returns-in_default-clause-stay g c = others_stay c.args.b.0 _ _ (stay_hit (g.M.Machine.contents c.args.self.now.machine) (g.M.Machine.contents c.args.self.now.machine) refl)
@@ -130,13 +130,13 @@ pub returns-clause-stay : goal.returns-clause-stay
 returns-clause-stay g c = c.drop_frame.ensures.stay
 
 pub returns-in_default-clause-kept : goal.returns-in_default-clause-kept
-returns-in_default-clause-kept g c q = absurd cc
+returns-in_default-clause-kept g c q = absurd (true_false (sym q))
 
 pub returns-in_err-drop_frame-clause-kept : goal.returns-in_err-drop_frame-clause-kept
 returns-in_err-drop_frame-clause-kept g c q = stay_hit (g.M.Machine.contents c.args.self.now.machine) (g.M.Machine.contents c.drop_frame.new.m) (c.in_err-drop_frame.ensures.same refl)
 
 pub returns-clause-kept : goal.returns-clause-kept
-returns-clause-kept g c q = absurd cc
+returns-clause-kept g c q = absurd (true_false (sym q))
 
 pub returns-in_default-clause-marks : goal.returns-in_default-clause-marks
 returns-in_default-clause-marks g c = marks_refl None _

@@ -1,4 +1,4 @@
-use Rattle.cached_pages.proofs.Common.{IsErrOf, Stopped, ◌∙◌, subst, sym, ap, arith, lasts_trans, steps_trans, order_of}
+use Rattle.cached_pages.proofs.Common.{IsErrOf, Stopped, ◌∙◌, subst, sym, ap, arith, lasts_trans, steps_trans, order_of, true_false}
 use Rattle.std.proofs.Common.{◌<◌}
 use Rattle.cached_pages.proofs.Kept.{tables_trans}
 use Rattle.cached_pages.proofs.Rooms.{adds_after, adds_narrows, caches_adds, none_still}
@@ -13,6 +13,7 @@ use Rattle.cached_pages.specs.declared.tables.CacheTables.{CacheTables}
 use Rattle.cached_pages.proofs.DirtyMarks.{marks_any, marks_trans}
 use Rattle.cached_pages.proofs.FailedUses.{failed_missed, next_then}
 use Rattle.cached_pages.proofs.Common.{Some, refl}
+use Rattle.rio_base.proofs.MachineRules.{never}
 
 pub make_room-requires-clause-uncached : goal.make_room-requires-clause-uncached
 make_room-requires-clause-uncached g c = cached_none _ c.requires.uncached
@@ -113,10 +114,10 @@ returns-clause-sound g c = sound_marked c.args.b.0 _ _ (g.M.Machine.contents c.b
 pub returns-in_err-bring_zeros-clause-ends : goal.returns-in_err-bring_zeros-clause-ends
 returns-in_err-bring_zeros-clause-ends g c =
     let stop : IsErrOf c.from_residual-in_err-bring_zeros.result Stopped = grind (arith, c.from_residual-in_err-bring_zeros.ensures) in
-    ends_stopped _ _ _ _ _ _ _ _ stop (λ q. cc) refl (lasts_trans (g.M.Machine.contents c.args.self.now.machine) (g.M.Machine.contents c.make_room.new.m) (g.M.Machine.contents c.bring_zeros.new.m) c.make_room.ensures.lasts c.bring_zeros.ensures.lasts) c.in_ok-k.ensures.ends c.in_err-bring_zeros.ensures.ends
+    ends_stopped (g.M.Machine.contents c.args.self.now.machine) (g.M.Machine.contents c.bring_zeros.new.m) (g.M.Machine.run c.args.self.now.machine) (g.M.Machine.run c.make_room.new.m) (g.M.Machine.run c.bring_zeros.new.m) _ _ c.from_residual-in_err-bring_zeros.result stop (never _ Stopped) refl (lasts_trans (g.M.Machine.contents c.args.self.now.machine) (g.M.Machine.contents c.make_room.new.m) (g.M.Machine.contents c.bring_zeros.new.m) c.make_room.ensures.lasts c.bring_zeros.ensures.lasts) c.in_ok-k.ensures.ends c.in_err-bring_zeros.ensures.ends
 
 pub returns-clause-ends : goal.returns-clause-ends
-returns-clause-ends g c = ends_of _ _ _ _ _ (lasts_trans (g.M.Machine.contents c.args.self.now.machine) (g.M.Machine.contents c.make_room.new.m) (g.M.Machine.contents c.bring_zeros.new.m) c.make_room.ensures.lasts c.bring_zeros.ensures.lasts) (λ q. cc) (ends_ok _ _ _ _ _ _ (λ q. cc) (λ q. cc) (λ q. cc) c.in_ok-k.ensures.ends c.in_ok-bring_zeros.ensures.ends)
+returns-clause-ends g c = ends_of (g.M.Machine.contents c.args.self.now.machine) (g.M.Machine.contents c.bring_zeros.new.m) (g.M.Machine.run c.args.self.now.machine) (g.M.Machine.run c.bring_zeros.new.m) _ (lasts_trans (g.M.Machine.contents c.args.self.now.machine) (g.M.Machine.contents c.make_room.new.m) (g.M.Machine.contents c.bring_zeros.new.m) c.make_room.ensures.lasts c.bring_zeros.ensures.lasts) (λ q. absurd (never _ _ q)) (ends_ok (g.M.Machine.run c.args.self.now.machine) (g.M.Machine.run c.make_room.new.m) (g.M.Machine.run c.bring_zeros.new.m) _ _ _ (never _ Stopped) (λ q. true_false (sym q)) (never _ Stopped) c.in_ok-k.ensures.ends c.in_ok-bring_zeros.ensures.ends)
 
 pub returns-clause-used : goal.returns-clause-used
 returns-clause-used g c = used_bound c.args.b.0 c.in_ok-k.k _ c.args.self.now.tables c.make_room.new.t c.mark.new.self c.in_ok-k.ensures.order (ap (λ (t : CacheTables). order_of t.pool) c.mark.ensures.marks.rest ∙ c.in_ok-bring_zeros.ensures.order) c.in_ok-bring_zeros.ensures.found
@@ -143,4 +144,4 @@ pub returns-in_err-bring_zeros-clause-failed : goal.returns-in_err-bring_zeros-c
 returns-in_err-bring_zeros-clause-failed g c q = failed_missed c.args.b.0 _ c.args.self.now.tables c.bring_zeros.new.t (c.in_err-bring_zeros.ensures.unmade refl) (next_then c.args.self.now.tables c.make_room.new.t c.bring_zeros.new.t c.make_room.ensures.freed (c.in_err-bring_zeros.ensures.still_order refl))
 
 pub returns-clause-failed : goal.returns-clause-failed
-returns-clause-failed g c q = absurd cc
+returns-clause-failed g c q = absurd (true_false (sym q))

@@ -1,19 +1,20 @@
-use Rattle.cached_pages.proofs.Common.{Stopped, ◌∙◌, ap, arith, lasts_trans, steps_trans}
+use Rattle.cached_pages.proofs.Common.{Stopped, ◌∙◌, ap, arith, lasts_trans, steps_trans, true_false, ◌==◌}
 use Rattle.std.proofs.Common.{Err, inl, length, refl, sym}
 use Rattle.rio_base.proofs.VolumeRuns.{put_none}
 use Rattle.cached_pages.specs.declared.tables.CacheTables.{CacheTables}
-use Rattle.cached_pages.proofs.Goes.{ends_both, ends_fault, ends_stopped}
+use Rattle.cached_pages.proofs.Goes.{ends_both, ends_fault, ends_stopped, goes_few}
 use Rattle.cached_pages.proofs.StoreCalls.{named_put, stored_put}
 use Rattle.cached_pages.proofs.Settling.{run_front, run_then, same_run, settles, settles_kept, some_length}
 use Rattle.page_cache.proofs.volume.PageCacheVolume.store_run.Goals as goal
-use Rattle.cached_pages.proofs.Stills.{few_then}
-use Rattle.cached_pages.proofs.Uses.{leaves_then, order_same, stay_found, used_then}
+use Rattle.cached_pages.proofs.Stills.{few_then, few_still, still_refl}
+use Rattle.cached_pages.proofs.Uses.{leaves_then, order_same, stay_found, used_then, leaves_refl}
 use Rattle.cached_pages.proofs.DirtyMarks.{marks_any, marks_trans}
 use Rattle.cached_pages.proofs.FailedUses.{failed_used}
 use Rattle.cached_pages.proofs.Uses.{stay_trans}
 use Rattle.cached_pages.proofs.Common.{Some}
 use Rattle.cached_pages.proofs.DirtyMarks.{marks_refl}
 use Rattle.cached_pages.proofs.Uses.{stay_hit}
+use Rattle.rio_base.proofs.MachineRules.{never, lasts_refl, steps_refl}
 
 pub returns-in-Err-Fault-clause-front : goal.returns-in-Err-Fault-clause-front
 returns-in-Err-Fault-clause-front g c = run_front c.args.b.0 c.args.w (length c.args.from.now) c.args.from.now (g.M.Machine.contents c.args.self.now.machine) (g.M.Machine.contents c.ready.new.m) c.ready.ensures.keeps
@@ -101,13 +102,13 @@ pub returns-in-Ok-put_frame_run-clause-idle : goal.returns-in-Ok-put_frame_run-c
 returns-in-Ok-put_frame_run-clause-idle g c = (settles c.args.b.0 _ (g.M.Machine.contents c.args.self.now.machine) (g.M.Machine.contents c.put_frame_run.new.m) (g.M.Machine.run c.args.self.now.machine) (g.M.Machine.run c.put_frame_run.new.m) c.args.self.now.tables c.put_frame_run.new.t c.requires.idle (run_then c.args.b.0 c.args.w (length c.args.from.now) c.args.from.now (g.M.Machine.contents c.args.self.now.machine) (g.M.Machine.contents c.ready.new.m) (g.M.Machine.contents c.put_frame_run.new.m) c.ready.ensures.keeps c.in-Ok-put_frame_run.ensures.rewrites) (same_run c.args.b.0 c.args.w (length c.args.from.now) c.args.from.now _) (ap (λ (t : CacheTables). t.forgotten) c.put_frame_run.ensures.tables ∙ c.ready.ensures.tables.forgotten) (lasts_trans (g.M.Machine.contents c.args.self.now.machine) (g.M.Machine.contents c.ready.new.m) (g.M.Machine.contents c.put_frame_run.new.m) c.ready.ensures.lasts c.put_frame_run.ensures.lasts) (steps_trans _ _ _ c.ready.ensures.ends.steps c.put_frame_run.ensures.ends.steps) (few_then c.args.b.0 _ (g.M.Machine.contents c.args.self.now.machine) (g.M.Machine.contents c.ready.new.m) (g.M.Machine.contents c.put_frame_run.new.m) c.ready.ensures.writes c.put_frame_run.ensures.still)).idle
 
 pub returns-in-Ok-put_frame_run-clause-ends : goal.returns-in-Ok-put_frame_run-clause-ends
-returns-in-Ok-put_frame_run-clause-ends g c = ends_both tt _ _ _ _ _ _ _ (λ q. cc) (λ q. cc) (lasts_trans (g.M.Machine.contents c.args.self.now.machine) (g.M.Machine.contents c.ready.new.m) (g.M.Machine.contents c.put_frame_run.new.m) c.ready.ensures.lasts c.put_frame_run.ensures.lasts) c.in-Ok.ensures.ends c.in-Ok-put_frame_run.ensures.ends
+returns-in-Ok-put_frame_run-clause-ends g c = ends_both tt (g.M.Machine.contents c.args.self.now.machine) (g.M.Machine.contents c.put_frame_run.new.m) (g.M.Machine.run c.args.self.now.machine) (g.M.Machine.run c.ready.new.m) (g.M.Machine.run c.put_frame_run.new.m) _ _ (never _ _) (λ q. true_false (sym q)) (lasts_trans (g.M.Machine.contents c.args.self.now.machine) (g.M.Machine.contents c.ready.new.m) (g.M.Machine.contents c.put_frame_run.new.m) c.ready.ensures.lasts c.put_frame_run.ensures.lasts) c.in-Ok.ensures.ends c.in-Ok-put_frame_run.ensures.ends
 
 pub returns-in-Err-clause-idle : goal.returns-in-Err-clause-idle
 returns-in-Err-clause-idle g c = (settles c.args.b.0 _ (g.M.Machine.contents c.args.self.now.machine) (g.M.Machine.contents c.put_frame_run.new.m) (g.M.Machine.run c.args.self.now.machine) (g.M.Machine.run c.put_frame_run.new.m) c.args.self.now.tables c.put_frame_run.new.t c.requires.idle (run_then c.args.b.0 c.args.w c.in-Err.ensures.front.0 c.args.from.now (g.M.Machine.contents c.args.self.now.machine) (g.M.Machine.contents c.ready.new.m) (g.M.Machine.contents c.put_frame_run.new.m) c.ready.ensures.keeps c.in-Err.ensures.front.2) (same_run c.args.b.0 c.args.w c.in-Err.ensures.front.0 c.args.from.now _) (ap (λ (t : CacheTables). t.forgotten) c.put_frame_run.ensures.tables ∙ c.ready.ensures.tables.forgotten) (lasts_trans (g.M.Machine.contents c.args.self.now.machine) (g.M.Machine.contents c.ready.new.m) (g.M.Machine.contents c.put_frame_run.new.m) c.ready.ensures.lasts c.put_frame_run.ensures.lasts) (steps_trans _ _ _ c.ready.ensures.ends.steps c.put_frame_run.ensures.ends.steps) (few_then c.args.b.0 _ (g.M.Machine.contents c.args.self.now.machine) (g.M.Machine.contents c.ready.new.m) (g.M.Machine.contents c.put_frame_run.new.m) c.ready.ensures.writes c.put_frame_run.ensures.still)).idle
 
 pub returns-in-Err-clause-ends : goal.returns-in-Err-clause-ends
-returns-in-Err-clause-ends g c = ends_stopped _ _ _ _ _ _ _ (Err Stopped) refl (λ q. cc) refl (lasts_trans (g.M.Machine.contents c.args.self.now.machine) (g.M.Machine.contents c.ready.new.m) (g.M.Machine.contents c.put_frame_run.new.m) c.ready.ensures.lasts c.put_frame_run.ensures.lasts) c.in-Ok.ensures.ends c.in-Err.ensures.ends
+returns-in-Err-clause-ends g c = ends_stopped (g.M.Machine.contents c.args.self.now.machine) (g.M.Machine.contents c.put_frame_run.new.m) (g.M.Machine.run c.args.self.now.machine) (g.M.Machine.run c.ready.new.m) (g.M.Machine.run c.put_frame_run.new.m) _ _ (Err Stopped) refl (never _ _) refl (lasts_trans (g.M.Machine.contents c.args.self.now.machine) (g.M.Machine.contents c.ready.new.m) (g.M.Machine.contents c.put_frame_run.new.m) c.ready.ensures.lasts c.put_frame_run.ensures.lasts) c.in-Ok.ensures.ends c.in-Err.ensures.ends
 
 pub returns-in-Err-Fault-clause-marks : goal.returns-in-Err-Fault-clause-marks
 returns-in-Err-Fault-clause-marks g c = c.ready.ensures.marks
@@ -140,7 +141,7 @@ pub returns-in-Err-Stopped-clause-failed : goal.returns-in-Err-Stopped-clause-fa
 returns-in-Err-Stopped-clause-failed g c q = c.in-Err-Stopped.ensures.failed refl
 
 pub returns-in-Ok-put_frame_run-clause-failed : goal.returns-in-Ok-put_frame_run-clause-failed
-returns-in-Ok-put_frame_run-clause-failed g c q = absurd cc
+returns-in-Ok-put_frame_run-clause-failed g c q = absurd (true_false (sym q))
 
 pub returns-in-Err-clause-failed : goal.returns-in-Err-clause-failed
 returns-in-Err-clause-failed g c q = failed_used c.args.b.0 _ c.args.self.now.tables c.put_frame_run.new.t (used_then c.args.b.0 (g.M.Machine.contents c.ready.new.m).words (g.M.Machine.contents c.put_frame_run.new.m).words c.args.self.now.tables c.ready.new.t c.put_frame_run.new.t c.in-Ok.ensures.used (stay_found _ _ c.put_frame_run.ensures.cached.found) (order_same _ _ c.put_frame_run.ensures.tables))
@@ -152,4 +153,130 @@ pub returns-then-is_empty-clause-stay : goal.returns-then-is_empty-clause-stay
 returns-then-is_empty-clause-stay g c cached = stay_hit (g.M.Machine.contents c.args.self.now.machine) (g.M.Machine.contents c.args.self.now.machine) refl
 
 pub returns-then-is_empty-clause-failed : goal.returns-then-is_empty-clause-failed
-returns-then-is_empty-clause-failed g c q = absurd cc
+returns-then-is_empty-clause-failed g c q = absurd (true_false (sym q))
+
+pub ready-requires-clause-sound : goal.ready-requires-clause-sound
+ready-requires-clause-sound g c = c.requires.sound
+
+pub ready-requires-clause-block : goal.ready-requires-clause-block
+ready-requires-clause-block g c = c.requires.place.block
+
+pub put_frame_run-requires-clause-sound : goal.put_frame_run-requires-clause-sound
+put_frame_run-requires-clause-sound g c = c.ready.ensures.sound
+
+pub put_frame_run-requires-clause-found : goal.put_frame_run-requires-clause-found
+put_frame_run-requires-clause-found g c = c.in-Ok.ensures.found
+
+pub put_frame_run-requires-clause-dirty : goal.put_frame_run-requires-clause-dirty
+put_frame_run-requires-clause-dirty g c = c.in-Ok.ensures.dirty
+
+pub put_frame_run-requires-clause-within : goal.put_frame_run-requires-clause-within
+put_frame_run-requires-clause-within g c = c.requires.place.within
+
+pub returns-in-Err-Fault-clause-count : goal.returns-in-Err-Fault-clause-count
+returns-in-Err-Fault-clause-count g c = c.ready.ensures.lasts.blocks
+
+pub returns-in-Err-Fault-clause-idle : goal.returns-in-Err-Fault-clause-idle
+returns-in-Err-Fault-clause-idle g c = ap (λ n. n == 1) (c.ready.ensures.keeps.header 4 (omega arith)) ∙ c.requires.idle
+
+pub returns-in-Err-Fault-clause-caches : goal.returns-in-Err-Fault-clause-caches
+returns-in-Err-Fault-clause-caches g c = c.ready.ensures.caches
+
+pub returns-in-Err-Fault-clause-leaves : goal.returns-in-Err-Fault-clause-leaves
+returns-in-Err-Fault-clause-leaves g c = c.ready.ensures.leaves
+
+pub returns-in-Err-Fault-clause-sound : goal.returns-in-Err-Fault-clause-sound
+returns-in-Err-Fault-clause-sound g c = c.ready.ensures.sound
+
+pub returns-in-Err-Fault-clause-writes : goal.returns-in-Err-Fault-clause-writes
+returns-in-Err-Fault-clause-writes g c = c.ready.ensures.writes
+
+pub returns-in-Err-Fault-clause-ok : goal.returns-in-Err-Fault-clause-ok
+returns-in-Err-Fault-clause-ok g c = tt
+
+pub returns-in-Err-Fault-clause-named : goal.returns-in-Err-Fault-clause-named
+returns-in-Err-Fault-clause-named g c = tt
+
+pub returns-in-Err-Fault-clause-used : goal.returns-in-Err-Fault-clause-used
+returns-in-Err-Fault-clause-used g c = tt
+
+pub returns-in-Err-Stopped-clause-count : goal.returns-in-Err-Stopped-clause-count
+returns-in-Err-Stopped-clause-count g c = c.ready.ensures.lasts.blocks
+
+pub returns-in-Err-Stopped-clause-idle : goal.returns-in-Err-Stopped-clause-idle
+returns-in-Err-Stopped-clause-idle g c = ap (λ n. n == 1) (c.ready.ensures.keeps.header 4 (omega arith)) ∙ c.requires.idle
+
+pub returns-in-Err-Stopped-clause-caches : goal.returns-in-Err-Stopped-clause-caches
+returns-in-Err-Stopped-clause-caches g c = c.ready.ensures.caches
+
+pub returns-in-Err-Stopped-clause-leaves : goal.returns-in-Err-Stopped-clause-leaves
+returns-in-Err-Stopped-clause-leaves g c = c.ready.ensures.leaves
+
+pub returns-in-Err-Stopped-clause-sound : goal.returns-in-Err-Stopped-clause-sound
+returns-in-Err-Stopped-clause-sound g c = c.ready.ensures.sound
+
+pub returns-in-Err-Stopped-clause-writes : goal.returns-in-Err-Stopped-clause-writes
+returns-in-Err-Stopped-clause-writes g c = c.ready.ensures.writes
+
+pub returns-in-Err-Stopped-clause-ok : goal.returns-in-Err-Stopped-clause-ok
+returns-in-Err-Stopped-clause-ok g c = tt
+
+pub returns-in-Err-Stopped-clause-named : goal.returns-in-Err-Stopped-clause-named
+returns-in-Err-Stopped-clause-named g c = tt
+
+pub returns-in-Err-Stopped-clause-used : goal.returns-in-Err-Stopped-clause-used
+returns-in-Err-Stopped-clause-used g c = tt
+
+pub returns-in-Err-Stopped-clause-fault : goal.returns-in-Err-Stopped-clause-fault
+returns-in-Err-Stopped-clause-fault g c = tt
+
+pub returns-in-Err-clause-count : goal.returns-in-Err-clause-count
+returns-in-Err-clause-count g c = c.put_frame_run.ensures.lasts.blocks ∙ c.ready.ensures.lasts.blocks
+
+pub returns-in-Err-clause-sound : goal.returns-in-Err-clause-sound
+returns-in-Err-clause-sound g c = c.put_frame_run.ensures.sound
+
+pub returns-in-Err-clause-fault : goal.returns-in-Err-clause-fault
+returns-in-Err-clause-fault g c = tt
+
+pub returns-in-Ok-put_frame_run-clause-count : goal.returns-in-Ok-put_frame_run-clause-count
+returns-in-Ok-put_frame_run-clause-count g c = c.put_frame_run.ensures.lasts.blocks ∙ c.ready.ensures.lasts.blocks
+
+pub returns-in-Ok-put_frame_run-clause-sound : goal.returns-in-Ok-put_frame_run-clause-sound
+returns-in-Ok-put_frame_run-clause-sound g c = c.put_frame_run.ensures.sound
+
+pub returns-in-Ok-put_frame_run-clause-fault : goal.returns-in-Ok-put_frame_run-clause-fault
+returns-in-Ok-put_frame_run-clause-fault g c = tt
+
+pub returns-in-Err-clause-ok : goal.returns-in-Err-clause-ok
+returns-in-Err-clause-ok g c = tt
+
+pub returns-in-Err-clause-named : goal.returns-in-Err-clause-named
+returns-in-Err-clause-named g c = tt
+
+pub returns-in-Err-clause-used : goal.returns-in-Err-clause-used
+returns-in-Err-clause-used g c = tt
+
+pub returns-then-is_empty-clause-count : goal.returns-then-is_empty-clause-count
+returns-then-is_empty-clause-count g c = refl
+
+pub returns-then-is_empty-clause-fault : goal.returns-then-is_empty-clause-fault
+returns-then-is_empty-clause-fault g c = tt
+
+pub returns-then-is_empty-clause-firm : goal.returns-then-is_empty-clause-firm
+returns-then-is_empty-clause-firm g c = record { loose = λ b e. e }
+
+pub returns-then-is_empty-clause-idle : goal.returns-then-is_empty-clause-idle
+returns-then-is_empty-clause-idle g c = c.requires.idle
+
+pub returns-then-is_empty-clause-leaves : goal.returns-then-is_empty-clause-leaves
+returns-then-is_empty-clause-leaves g c = leaves_refl c.args.self.now.tables (g.M.Machine.contents c.args.self.now.machine).words
+
+pub returns-then-is_empty-clause-sound : goal.returns-then-is_empty-clause-sound
+returns-then-is_empty-clause-sound g c = c.requires.sound
+
+pub returns-then-is_empty-clause-writes : goal.returns-then-is_empty-clause-writes
+returns-then-is_empty-clause-writes g c = few_still c.args.b.0 c.args.self.now.tables (g.M.Machine.contents c.args.self.now.machine) (g.M.Machine.contents c.args.self.now.machine) (still_refl (g.M.Machine.contents c.args.self.now.machine))
+
+pub returns-then-is_empty-clause-goes : goal.returns-then-is_empty-clause-goes
+returns-then-is_empty-clause-goes g c = goes_few c.args.b.0 c.args.self.now.tables (g.M.Machine.contents c.args.self.now.machine) (g.M.Machine.contents c.args.self.now.machine) (g.M.Machine.run c.args.self.now.machine) (g.M.Machine.run c.args.self.now.machine) (lasts_refl (g.M.Machine.contents c.args.self.now.machine)) (steps_refl (g.M.Machine.run c.args.self.now.machine)) refl (few_still c.args.b.0 c.args.self.now.tables (g.M.Machine.contents c.args.self.now.machine) (g.M.Machine.contents c.args.self.now.machine) (still_refl (g.M.Machine.contents c.args.self.now.machine)))

@@ -1,9 +1,9 @@
-use Rattle.cached_pages.proofs.Common.{IsErrOf, Stopped, ◌∙◌, arith, lasts_trans, steps_trans, found_is}
+use Rattle.cached_pages.proofs.Common.{IsErrOf, Stopped, ◌∙◌, arith, lasts_trans, steps_trans, found_is, true_false, sym, ◌==◌}
 use Rattle.std.proofs.Common.{refl}
 use Rattle.cached_pages.proofs.Goes.{ends_both, ends_stopped}
 use Rattle.rio_model.proofs.CoverSteps.{keeps_trans}
 use Rattle.page_cache.specs.Settled.{gate_open}
-use Rattle.cached_pages.proofs.Rooms.{caches_adds}
+use Rattle.cached_pages.proofs.Rooms.{caches_adds, firm_keeps}
 use Rattle.cached_pages.proofs.Stills.{few_then}
 use Rattle.cached_pages.proofs.Touches.{adds_pages, firm_forgotten, metadata_of, room_of, touch_goes, touches_after}
 use Rattle.page_cache.proofs.volume.PageCacheVolume.touch.Goals as goal
@@ -13,6 +13,8 @@ use Rattle.cached_pages.proofs.DirtyMarks.{marks_any, marks_of, marks_trans}
 use Rattle.cached_pages.proofs.FailedUses.{failed_used}
 use Rattle.cached_pages.proofs.Uses.{stay_hit, stay_trans}
 use Rattle.cached_pages.proofs.Common.{Some, ap}
+use Rattle.rio_base.proofs.MachineRules.{never}
+use Rattle.page_cache.proofs.Failures.{ends_handed}
 
 pub returns-in_err-k-clause-caches : goal.returns-in_err-k-clause-caches
 returns-in_err-k-clause-caches g c = caches_adds c.args.b.0 _ (g.M.Machine.contents c.args.self.now.machine) (g.M.Machine.contents c.fetch.new.m) c.fetch.ensures.adds
@@ -96,7 +98,7 @@ pub returns-clause-standing : goal.returns-clause-standing
 returns-clause-standing g c = c.shadow_frame.ensures.keeps.stands ∙ c.fetch.ensures.keeps.stands
 
 pub returns-clause-fault : goal.returns-clause-fault
-returns-clause-fault g c q = absurd cc
+returns-clause-fault g c q = absurd (never _ _ q)
 
 pub shadow_frame-requires-clause-metadata : goal.shadow_frame-requires-clause-metadata
 shadow_frame-requires-clause-metadata g c = metadata_of c.args.b.0 c.in_ok-k.k (g.M.Machine.contents c.args.self.now.machine) (g.M.Machine.contents c.fetch.new.m) c.requires.metadata c.fetch.ensures.adds c.in_ok-k.ensures.found
@@ -107,10 +109,10 @@ returns-in_err-shadow_frame-clause-firm g c = firm_forgotten (g.M.Machine.conten
 pub returns-in_err-shadow_frame-clause-ends : goal.returns-in_err-shadow_frame-clause-ends
 returns-in_err-shadow_frame-clause-ends g c =
     let stop : IsErrOf c.from_residual-in_err-shadow_frame.result Stopped = grind (arith, c.from_residual-in_err-shadow_frame.ensures) in
-    ends_stopped _ _ _ _ _ _ _ _ stop (λ q. cc) refl (lasts_trans _ _ _ c.fetch.ensures.lasts c.shadow_frame.ensures.lasts) c.in_ok-k.ensures.ends c.in_err-shadow_frame.ensures.ends
+    ends_stopped (g.M.Machine.contents c.args.self.now.machine) (g.M.Machine.contents c.shadow_frame.new.m) (g.M.Machine.run c.args.self.now.machine) (g.M.Machine.run c.fetch.new.m) (g.M.Machine.run c.shadow_frame.new.m) _ _ c.from_residual-in_err-shadow_frame.result stop (never _ Stopped) refl (lasts_trans (g.M.Machine.contents c.args.self.now.machine) (g.M.Machine.contents c.fetch.new.m) (g.M.Machine.contents c.shadow_frame.new.m) c.fetch.ensures.lasts c.shadow_frame.ensures.lasts) c.in_ok-k.ensures.ends c.in_err-shadow_frame.ensures.ends
 
 pub returns-clause-ends : goal.returns-clause-ends
-returns-clause-ends g c = ends_both tt _ _ _ _ _ _ _ (λ q. cc) (λ q. cc) (lasts_trans _ _ _ c.fetch.ensures.lasts c.shadow_frame.ensures.lasts) c.in_ok-k.ensures.ends c.in_ok-shadow_frame.ensures.ends
+returns-clause-ends g c = ends_both tt (g.M.Machine.contents c.args.self.now.machine) (g.M.Machine.contents c.shadow_frame.new.m) (g.M.Machine.run c.args.self.now.machine) (g.M.Machine.run c.fetch.new.m) (g.M.Machine.run c.shadow_frame.new.m) _ _ (never _ Stopped) (λ q. true_false (sym q)) (lasts_trans (g.M.Machine.contents c.args.self.now.machine) (g.M.Machine.contents c.fetch.new.m) (g.M.Machine.contents c.shadow_frame.new.m) c.fetch.ensures.lasts c.shadow_frame.ensures.lasts) c.in_ok-k.ensures.ends c.in_ok-shadow_frame.ensures.ends
 
 pub returns-in_err-k-clause-marks : goal.returns-in_err-k-clause-marks
 returns-in_err-k-clause-marks g c = marks_any (Some c.args.b.0) _ _ c.fetch.ensures.marks
@@ -137,4 +139,28 @@ pub returns-in_err-shadow_frame-clause-failed : goal.returns-in_err-shadow_frame
 returns-in_err-shadow_frame-clause-failed g c q = failed_used c.args.b.0 _ c.args.self.now.tables c.shadow_frame.new.t (used_then c.args.b.0 (g.M.Machine.contents c.fetch.new.m).words (g.M.Machine.contents c.shadow_frame.new.m).words c.args.self.now.tables c.fetch.new.t c.shadow_frame.new.t c.in_ok-k.ensures.used (stay_found _ _ c.shadow_frame.ensures.pages.found) c.shadow_frame.ensures.order)
 
 pub returns-clause-failed : goal.returns-clause-failed
-returns-clause-failed g c q = absurd cc
+returns-clause-failed g c q = absurd (true_false (sym q))
+
+pub fetch-requires-clause-sound : goal.fetch-requires-clause-sound
+fetch-requires-clause-sound g c = c.requires.sound
+
+pub fetch-requires-clause-block : goal.fetch-requires-clause-block
+fetch-requires-clause-block g c = c.requires.place
+
+pub shadow_frame-requires-clause-updating : goal.shadow_frame-requires-clause-updating
+shadow_frame-requires-clause-updating g c = c.fetch.ensures.keeps.header 4 (omega arith) ∙ gate_open (g.M.Machine.contents c.args.self.now.machine).words c.requires.in_update
+
+pub returns-clause-in_update : goal.returns-clause-in_update
+returns-clause-in_update g c = ap (λ n. n == 1) (c.shadow_frame.ensures.keeps.header 4 (omega arith) ∙ c.fetch.ensures.keeps.header 4 (omega arith)) ∙ c.requires.in_update
+
+pub returns-in_err-shadow_frame-clause-in_update : goal.returns-in_err-shadow_frame-clause-in_update
+returns-in_err-shadow_frame-clause-in_update g c = ap (λ n. n == 1) (c.shadow_frame.ensures.keeps.header 4 (omega arith) ∙ c.fetch.ensures.keeps.header 4 (omega arith)) ∙ c.requires.in_update
+
+pub returns-in_err-k-clause-in_update : goal.returns-in_err-k-clause-in_update
+returns-in_err-k-clause-in_update g c = ap (λ n. n == 1) (c.fetch.ensures.keeps.header 4 (omega arith)) ∙ c.requires.in_update
+
+pub returns-in_err-k-clause-firm : goal.returns-in_err-k-clause-firm
+returns-in_err-k-clause-firm g c = firm_keeps (g.M.Machine.contents c.args.self.now.machine) (g.M.Machine.contents c.fetch.new.m) c.args.self.now.tables c.fetch.new.t c.fetch.ensures.keeps c.fetch.ensures.tables
+
+pub returns-in_err-k-clause-ends : goal.returns-in_err-k-clause-ends
+returns-in_err-k-clause-ends g c = ends_handed (g.M.Machine.contents c.args.self.now.machine) (g.M.Machine.contents c.fetch.new.m) (g.M.Machine.run c.args.self.now.machine) (g.M.Machine.run c.fetch.new.m) _ _ (grind (arith, c.from_residual.ensures)) c.fetch.ensures.lasts c.in_err-k.ensures.fault c.in_err-k.ensures.ends
