@@ -6,7 +6,7 @@ use Rattle.rio_base.specs.declared.failures.VolFail.{VolFail}
 use Rattle.rio_base.specs.declared.failures.VolFail.TheVariants.{Fault}
 use Rattle.rio_base.specs.Blocks.{Ends}
 use Rattle.rio_base.specs.Counts.{Rose}
-use Rattle.rio_base.proofs.MachineRules.{ends_as, ends_err}
+use Rattle.rio_base.proofs.MachineRules.{ends_as, ends_err, never}
 use Rattle.rio_base.specs.Machine.{FaultCause, StopReason}
 use Rattle.rio_base.specs.Volume.{Quiet, Runs, StopCause}
 use Rattle.rio_model.specs.Cover.{causes_of}
@@ -82,9 +82,25 @@ ends_stopped old new r m s none one answer stop n o l h k = ends_of old new r s 
 pub ends_both : {T : Type 0} (x : T) (old new : Contents) (r m s : Running) (one two : Type 0) → (one → ⊥) → (two → ⊥) → Lasts old new → StepEnds r m one → StepEnds m s two → Ends {T = T} (cache_health old r) (cache_health new s) (Ok x)
 ends_both x old new r m s one two n o l h k = ends_of old new r s (Ok x) l (λ q. cc) (ends_ok r m s one two _ n o (λ q. cc) h k)
 
-apart : {T : Type 0} (e : VolFail) → e ≡ Fault → IsErrOf {T = T} (Err e) Stopped → ⊥
+pub apart : {T : Type 0} (e : VolFail) → e ≡ Fault → IsErrOf {T = T} (Err e) Stopped → ⊥
 apart e is q = cc
 
 -- one call that failed by a fault, which is told with an answer of another type
 pub ends_fault : {T U : Type 0} (old new : Contents) (r s : Running) (e : VolFail) → e ≡ Fault → Lasts old new → FaultCause old new (IsErrOf {T = T} (Err e) Fault) → StepEnds r s (IsErrOf {T = T} (Err e) Stopped) → Ends {T = U} (cache_health old r) (cache_health new s) (Err Fault)
 ends_fault old new r s e is l f k = record { later = l.faults.later; stays = λ t. ap (λ (u : Running). u.stopped) (k.steps.frozen t) ∙ t; cause = (f (ap Err is), k.runs (apart e is)) }
+
+-- an answer with a value, and one with a value of another type
+pub ends_value : {T U E : Type 0} (x : T) (y : U) (e : E) (a b : Running) → StepEnds a b (IsErrOf (Ok x) e) → StepEnds a b (IsErrOf (Ok y) e)
+ends_value x y e a b h = record { steps = h.steps; told = λ q. absurd (never y e q); runs = λ q. h.runs (never x e) }
+
+-- a failure that is handed on with an answer of another type
+pub told_err : {T U E : Type 0} (e fault : E) (answer : Result U E) → answer ≡ Err e → IsErrOf answer fault → IsErrOf {T = T} (Err e) fault
+told_err e fault answer same q = cc
+
+-- a call that did not answer Stopped, nor does what stands for it
+pub ends_quiet : (a b : Running) (none stop : Type 0) → (none → ⊥) → (stop → ⊥) → StepEnds a b none → StepEnds a b stop
+ends_quiet a b none stop n o h = record { steps = h.steps; told = λ q. absurd (o q); runs = λ q. h.runs n }
+
+-- a call that was stopped, and so says what stands for it
+pub ends_stop : (a b : Running) (stop told : Type 0) → stop → told → StepEnds a b stop → StepEnds a b told
+ends_stop a b stop told is tells h = record { steps = h.steps; told = λ q. h.told is; runs = λ n. absurd (n tells) }

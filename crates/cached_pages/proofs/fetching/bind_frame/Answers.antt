@@ -4,7 +4,7 @@ use Rattle.cached_pages.proofs.Rooms.{adds_made, adds_narrows, begun_narrows, be
 use Rattle.cached_pages.proofs.fetching.bind_frame.Goals as goal
 use Rattle.cached_pages.proofs.Uses.{stay_begun, stay_made}
 use Rattle.cached_pages.proofs.DirtyMarks.{marks_begun, marks_clean}
-use Rattle.cached_pages.proofs.Common.{None}
+use Rattle.cached_pages.proofs.Common.{None, true_false, sym}
 use Rattle.cached_pages.proofs.Rooms.{none_still}
 
 pub install_clean-requires-clause-free : goal.install_clean-requires-clause-free
@@ -56,10 +56,10 @@ pub returns-in_err-install_clean-clause-unmade : goal.returns-in_err-install_cle
 returns-in_err-install_clean-clause-unmade g c q = none_still c.args.b.0 _ _ (begun_narrows c.args.k _ _ c.install_clean.ensures.one_entry c.in_err-install_clean.ensures.tag c.requires.invalid) c.requires.uncached
 
 pub returns-clause-unmade : goal.returns-clause-unmade
-returns-clause-unmade g c q = absurd cc
+returns-clause-unmade g c q = absurd (true_false (sym q))
 
 pub returns-in_err-install_clean-clause-still_order : goal.returns-in_err-install_clean-clause-still_order
 returns-in_err-install_clean-clause-still_order g c q = refl
 
 pub returns-clause-still_order : goal.returns-clause-still_order
-returns-clause-still_order g c q = absurd cc
+returns-clause-still_order g c q = absurd (true_false (sym q))

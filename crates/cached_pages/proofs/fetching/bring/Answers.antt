@@ -1,5 +1,5 @@
-use Rattle.rio_base.proofs.MachineRules.{ends_err}
-use Rattle.cached_pages.proofs.Common.{IsErrOf, arith, ◌∙◌, ap, Stopped, used_last, order_of, FramePool}
+use Rattle.rio_base.proofs.MachineRules.{ends_err, never}
+use Rattle.cached_pages.proofs.Common.{IsErrOf, arith, ◌∙◌, ap, Stopped, used_last, order_of, FramePool, true_false}
 use Rattle.std.proofs.Common.{refl}
 use Rattle.cached_pages.proofs.fetching.bring.Goals as goal
 use Rattle.cached_pages.proofs.Goes.{ends_ok}
@@ -18,7 +18,7 @@ returns-in_err-bind_frame-clause-ends g c =
     ends_err _ _ _ _ _ refl stop c.in_ok-fill_frame.ensures.ends.steps c.in_err-bind_frame.ensures.ends
 
 pub returns-clause-ends : goal.returns-clause-ends
-returns-clause-ends g c = ends_ok _ _ _ _ _ _ (λ q. cc) (λ q. cc) (λ q. cc) c.in_ok-fill_frame.ensures.ends c.in_ok-bind_frame.ensures.ends
+returns-clause-ends g c = ends_ok _ _ _ _ _ _ (never _ Stopped) (λ q. true_false (sym q)) (never _ Stopped) c.in_ok-fill_frame.ensures.ends c.in_ok-bind_frame.ensures.ends
 
 pub returns-clause-order : goal.returns-clause-order
 returns-clause-order g c = c.in_ok-bind_frame.ensures.order ∙ ap (λ (p : FramePool). used_last c.args.k (order_of p)) c.fill_frame.ensures.pool
@@ -123,10 +123,10 @@ pub returns-clause-found : goal.returns-clause-found
 returns-clause-found g c = c.in_ok-bind_frame.ensures.found
 
 pub returns-clause-unfetched : goal.returns-clause-unfetched
-returns-clause-unfetched g c q = absurd cc
+returns-clause-unfetched g c q = absurd (never _ _ q)
 
 pub returns-clause-fault : goal.returns-clause-fault
-returns-clause-fault g c q = absurd cc
+returns-clause-fault g c q = absurd (never _ _ q)
 
 pub returns-in_err-fill_frame-clause-marks : goal.returns-in_err-fill_frame-clause-marks
 returns-in_err-fill_frame-clause-marks g c = c.fill_frame.ensures.marks
@@ -144,7 +144,7 @@ pub returns-in_err-bind_frame-clause-unmade : goal.returns-in_err-bind_frame-cla
 returns-in_err-bind_frame-clause-unmade g c q = c.in_err-bind_frame.ensures.unmade refl
 
 pub returns-clause-unmade : goal.returns-clause-unmade
-returns-clause-unmade g c q = absurd cc
+returns-clause-unmade g c q = absurd (true_false (sym q))
 
 pub returns-in_err-fill_frame-clause-still_order : goal.returns-in_err-fill_frame-clause-still_order
 returns-in_err-fill_frame-clause-still_order g c q = ap (λ (p : FramePool). order_of p) c.fill_frame.ensures.pool
@@ -153,4 +153,4 @@ pub returns-in_err-bind_frame-clause-still_order : goal.returns-in_err-bind_fram
 returns-in_err-bind_frame-clause-still_order g c q = c.in_err-bind_frame.ensures.still_order refl ∙ ap (λ (p : FramePool). order_of p) c.fill_frame.ensures.pool
 
 pub returns-clause-still_order : goal.returns-clause-still_order
-returns-clause-still_order g c q = absurd cc
+returns-clause-still_order g c q = absurd (true_false (sym q))

@@ -1,8 +1,8 @@
 use Rattle.std.proofs.Common.{IsErrOf, refl}
-use Rattle.cached_pages.proofs.Common.{◌≡◌, ◌<◌, true, ◌∙◌, ap, sym, subst, arith, is_dirty, is_pending, is_pinned, order_of, tag_block, Contents, FramePool, None, Stopped}
+use Rattle.cached_pages.proofs.Common.{◌≡◌, ◌<◌, true, ◌∙◌, ap, sym, subst, arith, is_dirty, is_pending, is_pinned, order_of, tag_block, Contents, FramePool, None, Stopped, true_false}
 use Rattle.frame_pool.specs.Orders.{freed_first}
 use Rattle.cached_pages.proofs.DirtyMarks.{marks_same}
-use Rattle.rio_base.proofs.MachineRules.{ends_err}
+use Rattle.rio_base.proofs.MachineRules.{ends_err, never}
 use Rattle.cached_pages.proofs.Goes.{ends_ok}
 use Rattle.cached_pages.proofs.Kept.{bare_unpinned}
 use Rattle.cached_pages.proofs.Nearness.{leaves_near, narrows_near, one_before, released_leaves, released_marks, released_narrows, tag_near, valid_near}
@@ -150,7 +150,7 @@ pub returns-clause-marks : goal.returns-clause-marks
 returns-clause-marks g c = released_marks c.args.k _ _ _ c.prepare.ensures.nears.words c.release.ensures.narrows c.release.ensures.one_entry c.release.ensures.marks
 
 pub returns-clause-order : goal.returns-clause-order
-returns-clause-order g c q = absurd cc
+returns-clause-order g c q = absurd (true_false (sym q))
 
 pub returns-clause-freed : goal.returns-clause-freed
 returns-clause-freed g c = c.unbind.ensures.order ∙ ap (λ (p : FramePool). freed_first c.args.k (order_of p)) c.prepare.ensures.nears.pool
@@ -159,4 +159,4 @@ pub returns-clause-lasts : goal.returns-clause-lasts
 returns-clause-lasts g c = lasts_then _ _ _ c.prepare.ensures.nears.lasts c.release.ensures.lasts
 
 pub returns-clause-ends : goal.returns-clause-ends
-returns-clause-ends g c = ends_ok _ _ _ _ _ _ (λ q. cc) (λ q. cc) (λ q. cc) c.in_ok-prepare.ensures.ends c.in_ok-release.ensures.ends
+returns-clause-ends g c = ends_ok _ _ _ _ _ _ (never _ Stopped) (λ q. true_false (sym q)) (never _ Stopped) c.in_ok-prepare.ensures.ends c.in_ok-release.ensures.ends

@@ -5,7 +5,7 @@ use Rattle.cached_pages.proofs.fetching.fetch.Goals as goal
 use Rattle.cached_pages.proofs.Uses.{used_hit}
 use Rattle.rio_model.proofs.CoverStands.{narrows_refl}
 use Rattle.rio_model.proofs.CoverSteps.{keeps_refl}
-use Rattle.rio_base.proofs.MachineRules.{lasts_refl}
+use Rattle.rio_base.proofs.MachineRules.{lasts_refl, never}
 use Rattle.cached_pages.proofs.Rooms.{adds_narrows}
 use Rattle.cached_pages.proofs.Stills.{still_refl, few_still}
 use Rattle.cached_pages.proofs.Touched.{touches_refl}
@@ -38,13 +38,13 @@ pub returns-in-Some-clause-hit : goal.returns-in-Some-clause-hit
 returns-in-Some-clause-hit g c cached = refl
 
 pub returns-in-Some-clause-unfetched : goal.returns-in-Some-clause-unfetched
-returns-in-Some-clause-unfetched g c q = absurd cc
+returns-in-Some-clause-unfetched g c q = absurd (never _ _ q)
 
 pub returns-in-Some-clause-sure : goal.returns-in-Some-clause-sure
-returns-in-Some-clause-sure g c q = absurd cc
+returns-in-Some-clause-sure g c q = absurd (never _ _ q)
 
 pub returns-in-Some-clause-fault : goal.returns-in-Some-clause-fault
-returns-in-Some-clause-fault g c q = absurd cc
+returns-in-Some-clause-fault g c q = absurd (never _ _ q)
 
 pub returns-in-Some-clause-lasts : goal.returns-in-Some-clause-lasts
 returns-in-Some-clause-lasts g c = lasts_refl _
@@ -53,7 +53,7 @@ pub returns-in-Some-clause-marks : goal.returns-in-Some-clause-marks
 returns-in-Some-clause-marks g c = marks_refl None _
 
 pub returns-in-Some-clause-failed : goal.returns-in-Some-clause-failed
-returns-in-Some-clause-failed g c q = absurd cc
+returns-in-Some-clause-failed g c q = absurd (true_false (sym q))
 
 pub returns-clause-sound : goal.returns-clause-sound
 returns-clause-sound g c = c.fetch_absent.ensures.sound

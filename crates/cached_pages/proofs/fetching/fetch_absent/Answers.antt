@@ -1,11 +1,11 @@
-use Rattle.cached_pages.proofs.Common.{IsErrOf, arith, sym, StepEnds, ends_after, Stopped}
+use Rattle.cached_pages.proofs.Common.{arith, sym, Stopped, true_false}
 use Rattle.std.proofs.Common.{refl}
 use Rattle.rio_model.proofs.CoverStands.{narrows_trans}
 use Rattle.rio_base.specs.declared.failures.VolFail.TheVariants.{Fault}
 use Rattle.cached_pages.proofs.Rooms.{none_still}
 use Rattle.cached_pages.proofs.Stills.{few_then}
 use Rattle.cached_pages.proofs.fetching.fetch_absent.Goals as goal
-use Rattle.cached_pages.proofs.Goes.{ends_ok, rose_after}
+use Rattle.cached_pages.proofs.Goes.{ends_ok, rose_after, told_err}
 use Rattle.cached_pages.proofs.Uses.{leaves_then, used_bound}
 use Rattle.cached_pages.proofs.Common.{subst, ◌<◌}
 use Rattle.cached_pages.proofs.Rooms.{adds_narrows, adds_after, keeps_then, lasts_then}
@@ -14,6 +14,7 @@ use Rattle.cached_pages.proofs.Kept.{tables_trans}
 use Rattle.cached_pages.proofs.DirtyMarks.{marks_trans}
 use Rattle.cached_pages.proofs.FailedUses.{failed_missed, next_then}
 use Rattle.cached_pages.proofs.Common.{None}
+use Rattle.rio_base.proofs.MachineRules.{ends_then, ends_told, never}
 
 pub returns-clause-marks : goal.returns-clause-marks
 returns-clause-marks g c = marks_trans None _ _ _ c.make_room.ensures.marks c.bring.ensures.marks
@@ -32,16 +33,14 @@ returns-clause-writes g c = few_then _ _ _ _ _ c.make_room.ensures.writes c.brin
 
 pub returns-in_err-bring-clause-ends : goal.returns-in_err-bring-clause-ends
 returns-in_err-bring-clause-ends g c =
-    let all : StepEnds (g.M.Machine.run c.args.m.now) (g.M.Machine.run c.bring.new.m) (IsErrOf c.bring.result Stopped) = ends_after _ _ _ _ c.make_room.ensures.ends.steps (c.in_ok-k.ensures.ends.runs (λ q. cc)) c.bring.ensures.ends in
-    grind (arith, all)
+    ends_then (g.M.Machine.run c.args.m.now) (g.M.Machine.run c.make_room.new.m) (g.M.Machine.run c.bring.new.m) _ _ (never _ Stopped) c.in_ok-k.ensures.ends (ends_told (g.M.Machine.run c.make_room.new.m) (g.M.Machine.run c.bring.new.m) _ Stopped c.from_residual-in_err-bring.result (grind (arith, c.from_residual-in_err-bring.ensures)) c.in_err-bring.ensures.ends)
 
 pub returns-clause-ends : goal.returns-clause-ends
-returns-clause-ends g c = ends_ok _ _ _ _ _ _ (λ q. cc) (λ q. cc) (λ q. cc) c.in_ok-k.ensures.ends c.in_ok-bring.ensures.ends
+returns-clause-ends g c = ends_ok _ _ _ _ _ _ (never _ Stopped) (never _ Stopped) (never _ Stopped) c.in_ok-k.ensures.ends c.in_ok-bring.ensures.ends
 
 pub returns-in_err-bring-clause-unfetched : goal.returns-in_err-bring-clause-unfetched
 returns-in_err-bring-clause-unfetched g c fault =
-    let was : IsErrOf c.bring.result Fault = grind (arith, c.from_residual-in_err-bring.ensures, fault) in
-    narrows_trans _ _ _ c.make_room.ensures.narrows (c.bring.ensures.unfetched was)
+    narrows_trans _ _ _ c.make_room.ensures.narrows (c.in_err-bring.ensures.unfetched (told_err _ Fault c.from_residual-in_err-bring.result (grind (arith, c.from_residual-in_err-bring.ensures)) fault))
 
 pub returns-clause-used : goal.returns-clause-used
 returns-clause-used g c = used_bound c.args.b.0 c.in_ok-k.k _ c.args.t.now c.make_room.new.t c.bring.new.t c.in_ok-k.ensures.order c.in_ok-bring.ensures.order c.in_ok-bring.ensures.found
@@ -53,10 +52,10 @@ pub returns-clause-leaves : goal.returns-clause-leaves
 returns-clause-leaves g c = leaves_then _ _ _ _ c.make_room.ensures.leaves c.bring.ensures.stay
 
 pub returns-clause-unfetched : goal.returns-clause-unfetched
-returns-clause-unfetched g c q = absurd cc
+returns-clause-unfetched g c q = absurd (never _ _ q)
 
 pub returns-clause-fault : goal.returns-clause-fault
-returns-clause-fault g c q = absurd cc
+returns-clause-fault g c q = absurd (never _ _ q)
 
 pub make_room-requires-clause-sound : goal.make_room-requires-clause-sound
 make_room-requires-clause-sound g c = c.requires.sound
@@ -158,9 +157,8 @@ pub returns-in_err-bring-clause-failed : goal.returns-in_err-bring-clause-failed
 returns-in_err-bring-clause-failed g c q = failed_missed c.args.b.0 _ c.args.t.now c.bring.new.t (c.in_err-bring.ensures.unmade refl) (next_then c.args.t.now c.make_room.new.t c.bring.new.t c.make_room.ensures.freed (c.in_err-bring.ensures.still_order refl))
 
 pub returns-clause-failed : goal.returns-clause-failed
-returns-clause-failed g c q = absurd cc
+returns-clause-failed g c q = absurd (true_false (sym q))
 
 pub returns-in_err-bring-clause-fault : goal.returns-in_err-bring-clause-fault
 returns-in_err-bring-clause-fault g c q =
-    let was : IsErrOf c.bring.result Fault = grind (arith, c.from_residual-in_err-bring.ensures, q) in
-    rose_after _ _ _ c.make_room.ensures.lasts.faults.later (c.bring.ensures.fault was)
+    rose_after _ _ _ c.make_room.ensures.lasts.faults.later (c.in_err-bring.ensures.fault (told_err _ Fault c.from_residual-in_err-bring.result (grind (arith, c.from_residual-in_err-bring.ensures)) q))

@@ -1,6 +1,6 @@
 use Rattle.cached_pages.proofs.EarlyStates.{loses_refl}
-use Rattle.rio_base.proofs.MachineRules.{ends_err}
-use Rattle.cached_pages.proofs.Common.{◌∙◌, ap, sym, coherent_on, Contents}
+use Rattle.rio_base.proofs.MachineRules.{ends_err, never}
+use Rattle.cached_pages.proofs.Common.{◌∙◌, ap, sym, coherent_on, Contents, true_false}
 use Rattle.cached_pages.proofs.Fills.{layout_now}
 use Rattle.std.proofs.Common.{refl}
 use Rattle.cached_pages.proofs.Rooms.{filled_home, filled_narrows, filled_sound, filled_tag, read_sound, touches_filled}
@@ -136,10 +136,10 @@ pub returns-clause-lasts : goal.returns-clause-lasts
 returns-clause-lasts g c = lasts_then _ _ _ c.read_home.ensures.lasts c.fill.ensures.lasts
 
 pub returns-clause-fault : goal.returns-clause-fault
-returns-clause-fault g c q = absurd cc
+returns-clause-fault g c q = absurd (never _ _ q)
 
 pub returns-clause-ends : goal.returns-clause-ends
-returns-clause-ends g c = ends_ok _ _ _ _ _ _ (λ q. cc) (λ q. cc) (λ q. cc) c.in_ok-read_home.ensures.ends c.in_ok-fill.ensures.ends
+returns-clause-ends g c = ends_ok _ _ _ _ _ _ (never _ Stopped) (λ q. true_false (sym q)) (never _ Stopped) c.in_ok-read_home.ensures.ends c.in_ok-fill.ensures.ends
 
 pub returns-in_err-fill-clause-ends : goal.returns-in_err-fill-clause-ends
 returns-in_err-fill-clause-ends g c =

@@ -8,6 +8,16 @@ use Rattle.cached_pages.proofs.Common.{refl}
 use Rattle.cached_pages.proofs.DirtyMarks.{marks_refl}
 use Rattle.cached_pages.proofs.FailedUses.{next_refl}
 use Rattle.cached_pages.proofs.Common.{None}
+use Rattle.cached_pages.proofs.Common.{Stopped}
+use Rattle.rio_base.specs.declared.failures.VolFail.TheVariants.{Fault}
+use Rattle.rio_base.proofs.MachineRules.{ends_none, ends_told, lasts_refl, never}
+use Rattle.rio_model.proofs.CoverStands.{narrows_refl}
+use Rattle.rio_model.proofs.CoverSteps.{keeps_refl}
+use Rattle.cached_pages.proofs.Goes.{ends_value, told_err}
+use Rattle.cached_pages.proofs.Kept.{tables_refl}
+use Rattle.cached_pages.proofs.Stills.{few_still, still_refl}
+use Rattle.cached_pages.proofs.Touched.{touches_refl}
+use Rattle.cached_pages.proofs.Uses.{leaves_frame, leaves_refl, order_refl}
 
 pub returns-clause-chosen : goal.returns-clause-chosen
 returns-clause-chosen g c = c.victim-k.ensures.first
@@ -62,3 +72,96 @@ returns-then-not-is_valid-clause-room g c = (subst (λ f. c.victim-k.result < f)
 
 pub returns-clause-room : goal.returns-clause-room
 returns-clause-room g c = (subst (λ f. c.victim-k.result < f) (sym (c.evict_frame.ensures.keeps.header 2 (omega arith))) (subst (λ f. c.victim-k.result < f) c.requires.sound.frames c.victim-k.ensures.within), ap is_valid c.in_ok-evict_frame.ensures.gone)
+
+pub tag_of-requires-clause-coherent : goal.tag_of-requires-clause-coherent
+tag_of-requires-clause-coherent g c = c.requires.sound.coherent
+
+pub evict_frame-requires-clause-sound : goal.evict_frame-requires-clause-sound
+evict_frame-requires-clause-sound g c = c.requires.sound
+
+pub returns-in_err-evict_frame-clause-keeps : goal.returns-in_err-evict_frame-clause-keeps
+returns-in_err-evict_frame-clause-keeps g c = c.evict_frame.ensures.keeps
+
+pub returns-in_err-evict_frame-clause-lasts : goal.returns-in_err-evict_frame-clause-lasts
+returns-in_err-evict_frame-clause-lasts g c = c.evict_frame.ensures.lasts
+
+pub returns-in_err-evict_frame-clause-narrows : goal.returns-in_err-evict_frame-clause-narrows
+returns-in_err-evict_frame-clause-narrows g c = c.evict_frame.ensures.narrows
+
+pub returns-in_err-evict_frame-clause-sound : goal.returns-in_err-evict_frame-clause-sound
+returns-in_err-evict_frame-clause-sound g c = c.evict_frame.ensures.sound
+
+pub returns-in_err-evict_frame-clause-tables : goal.returns-in_err-evict_frame-clause-tables
+returns-in_err-evict_frame-clause-tables g c = c.evict_frame.ensures.tables
+
+pub returns-in_err-evict_frame-clause-touches : goal.returns-in_err-evict_frame-clause-touches
+returns-in_err-evict_frame-clause-touches g c = c.evict_frame.ensures.touches
+
+pub returns-in_err-evict_frame-clause-leaves : goal.returns-in_err-evict_frame-clause-leaves
+returns-in_err-evict_frame-clause-leaves g c = leaves_frame c.victim-k.result c.args.t.now (g.M.Machine.contents c.args.m.now).words (g.M.Machine.contents c.evict_frame.new.m).words c.victim-k.ensures.first c.evict_frame.ensures.leaves
+
+pub returns-clause-keeps : goal.returns-clause-keeps
+returns-clause-keeps g c = c.evict_frame.ensures.keeps
+
+pub returns-clause-lasts : goal.returns-clause-lasts
+returns-clause-lasts g c = c.evict_frame.ensures.lasts
+
+pub returns-clause-narrows : goal.returns-clause-narrows
+returns-clause-narrows g c = c.evict_frame.ensures.narrows
+
+pub returns-clause-sound : goal.returns-clause-sound
+returns-clause-sound g c = c.evict_frame.ensures.sound
+
+pub returns-clause-tables : goal.returns-clause-tables
+returns-clause-tables g c = c.evict_frame.ensures.tables
+
+pub returns-clause-touches : goal.returns-clause-touches
+returns-clause-touches g c = c.evict_frame.ensures.touches
+
+pub returns-clause-leaves : goal.returns-clause-leaves
+returns-clause-leaves g c = leaves_frame c.victim-k.result c.args.t.now (g.M.Machine.contents c.args.m.now).words (g.M.Machine.contents c.evict_frame.new.m).words c.victim-k.ensures.first c.evict_frame.ensures.leaves
+
+pub returns-clause-fault : goal.returns-clause-fault
+returns-clause-fault g c = λ q. absurd (never _ _ q)
+
+pub returns-clause-ends : goal.returns-clause-ends
+returns-clause-ends g c = ends_value tt c.victim-k.result Stopped (g.M.Machine.run c.args.m.now) (g.M.Machine.run c.evict_frame.new.m) c.in_ok-evict_frame.ensures.ends
+
+pub returns-in_err-evict_frame-clause-ends : goal.returns-in_err-evict_frame-clause-ends
+returns-in_err-evict_frame-clause-ends g c = ends_told (g.M.Machine.run c.args.m.now) (g.M.Machine.run c.evict_frame.new.m) _ Stopped c.from_residual.result (grind (arith, c.from_residual.ensures)) c.in_err-evict_frame.ensures.ends
+
+pub returns-in_err-evict_frame-clause-fault : goal.returns-in_err-evict_frame-clause-fault
+returns-in_err-evict_frame-clause-fault g c q = c.in_err-evict_frame.ensures.fault (told_err _ Fault c.from_residual.result (grind (arith, c.from_residual.ensures)) q)
+
+pub returns-then-not-is_valid-clause-ends : goal.returns-then-not-is_valid-clause-ends
+returns-then-not-is_valid-clause-ends g c = ends_none (g.M.Machine.run c.args.m.now) _ (never c.victim-k.result Stopped)
+
+pub returns-then-not-is_valid-clause-fault : goal.returns-then-not-is_valid-clause-fault
+returns-then-not-is_valid-clause-fault g c = λ q. absurd (never _ _ q)
+
+pub returns-then-not-is_valid-clause-keeps : goal.returns-then-not-is_valid-clause-keeps
+returns-then-not-is_valid-clause-keeps g c = keeps_refl (g.M.Machine.contents c.args.m.now)
+
+pub returns-then-not-is_valid-clause-lasts : goal.returns-then-not-is_valid-clause-lasts
+returns-then-not-is_valid-clause-lasts g c = lasts_refl (g.M.Machine.contents c.args.m.now)
+
+pub returns-then-not-is_valid-clause-leaves : goal.returns-then-not-is_valid-clause-leaves
+returns-then-not-is_valid-clause-leaves g c = leaves_refl c.args.t.now (g.M.Machine.contents c.args.m.now).words
+
+pub returns-then-not-is_valid-clause-narrows : goal.returns-then-not-is_valid-clause-narrows
+returns-then-not-is_valid-clause-narrows g c = narrows_refl (g.M.Machine.contents c.args.m.now).words
+
+pub returns-then-not-is_valid-clause-order : goal.returns-then-not-is_valid-clause-order
+returns-then-not-is_valid-clause-order g c = order_refl c.victim-k.result c.args.t.now
+
+pub returns-then-not-is_valid-clause-sound : goal.returns-then-not-is_valid-clause-sound
+returns-then-not-is_valid-clause-sound g c = c.requires.sound
+
+pub returns-then-not-is_valid-clause-tables : goal.returns-then-not-is_valid-clause-tables
+returns-then-not-is_valid-clause-tables g c = tables_refl c.args.t.now
+
+pub returns-then-not-is_valid-clause-touches : goal.returns-then-not-is_valid-clause-touches
+returns-then-not-is_valid-clause-touches g c = touches_refl (g.M.Machine.contents c.args.m.now).words
+
+pub returns-then-not-is_valid-clause-writes : goal.returns-then-not-is_valid-clause-writes
+returns-then-not-is_valid-clause-writes g c = few_still c.args.b.0 c.args.t.now (g.M.Machine.contents c.args.m.now) (g.M.Machine.contents c.args.m.now) (still_refl (g.M.Machine.contents c.args.m.now))

@@ -1,5 +1,5 @@
 use Rattle.cached_pages.proofs.EarlyStates.{loses_refl}
-use Rattle.cached_pages.proofs.Common.{ap, Contents}
+use Rattle.cached_pages.proofs.Common.{ap, Contents, true_false, sym}
 use Rattle.std.proofs.Common.{refl, true}
 use Rattle.cached_pages.proofs.Stills.{still_rest}
 use Rattle.cached_pages.proofs.Rooms.{adds_narrows, begun_narrows, begun_sound, frame_free, free_of, unbound}
@@ -66,10 +66,10 @@ pub returns-in_err-install-clause-unmade : goal.returns-in_err-install-clause-un
 returns-in_err-install-clause-unmade g c q = none_still c.args.b.0 _ _ (begun_narrows c.args.k _ _ c.install.ensures.changes.one_entry c.in_err-install.ensures.begun c.requires.invalid) c.requires.uncached
 
 pub returns-clause-unmade : goal.returns-clause-unmade
-returns-clause-unmade g c q = absurd cc
+returns-clause-unmade g c q = absurd (true_false (sym q))
 
 pub returns-in_err-install-clause-still_order : goal.returns-in_err-install-clause-still_order
 returns-in_err-install-clause-still_order g c q = refl
 
 pub returns-clause-still_order : goal.returns-clause-still_order
-returns-clause-still_order g c q = absurd cc
+returns-clause-still_order g c q = absurd (true_false (sym q))

@@ -1,4 +1,4 @@
-use Rattle.cached_pages.proofs.Common.{◌∙◌, IsErr, ap, arith, subst, sym, StepEnds, ends_after, is_valid, used_last, order_of}
+use Rattle.cached_pages.proofs.Common.{◌∙◌, ap, arith, subst, sym, is_valid, used_last, order_of, true_false}
 use Rattle.std.proofs.Common.{◌<◌}
 use Rattle.cached_pages.proofs.Rooms.{adds_after, adds_narrows}
 use Rattle.cached_pages.proofs.Zeros.{cleared_then, frees_after, frees_keeps}
@@ -13,6 +13,7 @@ use Rattle.cached_pages.proofs.Stills.{still_trans}
 use Rattle.cached_pages.proofs.Kept.{tables_refl}
 use Rattle.cached_pages.proofs.DirtyMarks.{marks_any, marks_trans}
 use Rattle.cached_pages.proofs.Common.{Some, refl}
+use Rattle.rio_base.proofs.MachineRules.{ends_err}
 
 pub bind_zeros-requires-clause-entry : goal.bind_zeros-requires-clause-entry
 bind_zeros-requires-clause-entry g c = subst (λ f. c.args.k < f) (sym (c.zero_frame.ensures.keeps.header 2 (omega arith))) c.requires.entry
@@ -48,12 +49,11 @@ pub returns-clause-reads : goal.returns-clause-reads
 returns-clause-reads g c = cleared_then c.args.b.0 _ _ _ c.in_ok-bind_zeros.ensures.reads c.zero_frame.ensures.keeps.reads
 
 pub returns-clause-ends : goal.returns-clause-ends
-returns-clause-ends g c = ends_ok _ _ _ _ _ _ (λ q. cc) (λ q. cc) (λ q. cc) c.in_ok-zero_frame.ensures.ends c.in_ok-bind_zeros.ensures.ends
+returns-clause-ends g c = ends_ok _ _ _ _ _ _ (λ q. true_false (sym q)) (λ q. true_false (sym q)) (λ q. true_false (sym q)) c.in_ok-zero_frame.ensures.ends c.in_ok-bind_zeros.ensures.ends
 
 pub returns-in_err-bind_zeros-clause-ends : goal.returns-in_err-bind_zeros-clause-ends
 returns-in_err-bind_zeros-clause-ends g c =
-    let all : StepEnds (g.M.Machine.run c.args.m.now) (g.M.Machine.run c.bind_zeros.new.m) (IsErr c.bind_zeros.result) = ends_after _ _ _ _ c.zero_frame.ensures.ends.steps (c.in_ok-zero_frame.ensures.ends.runs (λ q. cc)) c.bind_zeros.ensures.ends in
-    grind (arith, all)
+    ends_err (g.M.Machine.run c.args.m.now) (g.M.Machine.run c.zero_frame.new.m) (g.M.Machine.run c.bind_zeros.new.m) _ _ refl (grind (arith, c.from_residual-in_err-bind_zeros.ensures)) c.zero_frame.ensures.ends.steps c.in_err-bind_zeros.ensures.ends
 
 pub returns-in_err-zero_frame-clause-stay : goal.returns-in_err-zero_frame-clause-stay
 returns-in_err-zero_frame-clause-stay g c = stay_found _ _ c.zero_frame.ensures.cached.found
@@ -143,7 +143,7 @@ pub returns-in_err-bind_zeros-clause-unmade : goal.returns-in_err-bind_zeros-cla
 returns-in_err-bind_zeros-clause-unmade g c q = c.in_err-bind_zeros.ensures.unmade refl
 
 pub returns-clause-unmade : goal.returns-clause-unmade
-returns-clause-unmade g c q = absurd cc
+returns-clause-unmade g c q = absurd (true_false (sym q))
 
 pub returns-in_err-zero_frame-clause-still_order : goal.returns-in_err-zero_frame-clause-still_order
 returns-in_err-zero_frame-clause-still_order g c q = ap (λ (t : CacheTables). order_of t.pool) c.zero_frame.ensures.tables
@@ -152,4 +152,4 @@ pub returns-in_err-bind_zeros-clause-still_order : goal.returns-in_err-bind_zero
 returns-in_err-bind_zeros-clause-still_order g c q = c.in_err-bind_zeros.ensures.still_order refl ∙ ap (λ (t : CacheTables). order_of t.pool) c.zero_frame.ensures.tables
 
 pub returns-clause-still_order : goal.returns-clause-still_order
-returns-clause-still_order g c q = absurd cc
+returns-clause-still_order g c q = absurd (true_false (sym q))

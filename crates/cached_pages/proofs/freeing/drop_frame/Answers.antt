@@ -1,5 +1,5 @@
 use Rattle.cached_pages.proofs.EarlyStates.{loses_refl}
-use Rattle.cached_pages.proofs.Common.{ap, Contents, Entry, found_is}
+use Rattle.cached_pages.proofs.Common.{ap, Contents, Entry, found_is, true_false, sym}
 use Rattle.std.proofs.Common.{refl}
 use Rattle.cached_pages.proofs.Stores.{sound_same}
 use Rattle.cached_pages.proofs.Rooms.{frame_bound, narrows_gone}
@@ -48,7 +48,7 @@ pub returns-in_err-clear-clause-same : goal.returns-in_err-clear-clause-same
 returns-in_err-clear-clause-same g c q = c.in_err-clear.ensures.same
 
 pub returns-clause-same : goal.returns-clause-same
-returns-clause-same g c q = absurd cc
+returns-clause-same g c q = absurd (true_false (sym q))
 
 pub returns-in_err-clear-clause-stay : goal.returns-in_err-clear-clause-stay
 returns-in_err-clear-clause-stay g c = others_stay c.args.b.0 _ _ (stay_hit (g.M.Machine.contents c.args.m.now) (g.M.Machine.contents c.clear.new.m) c.in_err-clear.ensures.same)

@@ -23,7 +23,7 @@ pub returns-in_err-settle-clause-one_write : goal.returns-in_err-settle-clause-o
 returns-in_err-settle-clause-one_write g c = one_before _ _ _ c.bring_home.ensures.one_write c.settle.ensures.writes
 
 pub returns-clause-ends : goal.returns-clause-ends
-returns-clause-ends g c = ends_ok _ _ _ _ _ _ (λ q. cc) (λ q. cc) (λ q. cc) c.in_ok-bring_home.ensures.ends c.in_ok-settle.ensures.ends
+returns-clause-ends g c = ends_ok _ _ _ _ _ _ (never _ Stopped) (never _ Stopped) (never _ Stopped) c.in_ok-bring_home.ensures.ends c.in_ok-settle.ensures.ends
 
 pub returns-in_err-settle-clause-ends : goal.returns-in_err-settle-clause-ends
 returns-in_err-settle-clause-ends g c =

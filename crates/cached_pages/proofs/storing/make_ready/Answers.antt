@@ -1,4 +1,4 @@
-use Rattle.cached_pages.proofs.Common.{IsErr, arith, StepEnds, ends_after}
+use Rattle.cached_pages.proofs.Common.{arith, true_false, sym}
 use Rattle.cached_pages.proofs.StoreCalls.{named_after, widens_after, widens_cached}
 use Rattle.cached_pages.proofs.Goes.{ends_ok}
 use Rattle.cached_pages.proofs.storing.make_ready.Goals as goal
@@ -7,6 +7,8 @@ use Rattle.rio_model.proofs.CoverSteps.{keeps_trans}
 use Rattle.cached_pages.proofs.Stills.{still_trans}
 use Rattle.cached_pages.proofs.StoreCalls.{valid_cached, dirty_after}
 use Rattle.cached_pages.proofs.DirtyMarks.{marks_any, marks_held, marks_trans}
+use Rattle.rio_base.proofs.MachineRules.{ends_err}
+use Rattle.std.proofs.Common.{refl}
 
 pub returns-in_err-mark_dirty-clause-widens : goal.returns-in_err-mark_dirty-clause-widens
 returns-in_err-mark_dirty-clause-widens g c = widens_cached _ c.args.k c.args.name (g.M.Machine.contents c.args.m.now) (g.M.Machine.contents c.mark_dirty.new.m) c.requires.sound.coherent c.requires.valid c.mark_dirty.ensures.cached
@@ -16,8 +18,7 @@ returns-in_err-widen-clause-widens g c = widens_after _ c.args.k c.args.name (g.
 
 pub returns-in_err-widen-clause-ends : goal.returns-in_err-widen-clause-ends
 returns-in_err-widen-clause-ends g c =
-    let all : StepEnds (g.M.Machine.run c.args.m.now) (g.M.Machine.run c.widen.new.m) (IsErr c.widen.result) = ends_after _ _ _ _ c.mark_dirty.ensures.ends.steps (c.in_ok-mark_dirty.ensures.ends.runs (λ q. cc)) c.widen.ensures.ends in
-    grind (arith, all)
+    ends_err (g.M.Machine.run c.args.m.now) (g.M.Machine.run c.mark_dirty.new.m) (g.M.Machine.run c.widen.new.m) _ _ refl (grind (arith, c.from_residual-in_err-widen.ensures)) c.mark_dirty.ensures.ends.steps c.in_err-widen.ensures.ends
 
 pub returns-clause-widens : goal.returns-clause-widens
 returns-clause-widens g c = widens_after _ c.args.k c.args.name (g.M.Machine.contents c.args.m.now) (g.M.Machine.contents c.mark_dirty.new.m) (g.M.Machine.contents c.widen.new.m) c.requires.sound.coherent c.requires.valid c.mark_dirty.ensures.cached c.widen.ensures.widens
@@ -26,7 +27,7 @@ pub returns-clause-named : goal.returns-clause-named
 returns-clause-named g c = named_after _ c.args.k c.args.name (g.M.Machine.contents c.args.m.now) (g.M.Machine.contents c.mark_dirty.new.m) (g.M.Machine.contents c.widen.new.m) c.requires.sound.coherent c.requires.valid c.mark_dirty.ensures.cached c.in_ok-widen.ensures.named
 
 pub returns-clause-ends : goal.returns-clause-ends
-returns-clause-ends g c = ends_ok _ _ _ _ _ _ (λ q. cc) (λ q. cc) (λ q. cc) c.in_ok-mark_dirty.ensures.ends c.in_ok-widen.ensures.ends
+returns-clause-ends g c = ends_ok _ _ _ _ _ _ (λ q. true_false (sym q)) (λ q. true_false (sym q)) (λ q. true_false (sym q)) c.in_ok-mark_dirty.ensures.ends c.in_ok-widen.ensures.ends
 
 pub mark_dirty-requires-clause-sound : goal.mark_dirty-requires-clause-sound
 mark_dirty-requires-clause-sound g c = c.requires.sound

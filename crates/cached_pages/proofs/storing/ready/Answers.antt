@@ -1,5 +1,5 @@
-use Rattle.rio_base.proofs.MachineRules.{ends_err}
-use Rattle.cached_pages.proofs.Common.{IsErrOf, arith, Stopped, found_is}
+use Rattle.rio_base.proofs.MachineRules.{ends_err, never}
+use Rattle.cached_pages.proofs.Common.{IsErrOf, arith, Stopped, found_is, true_false}
 use Rattle.std.proofs.Common.{refl}
 use Rattle.cached_pages.proofs.StoreCalls.{found_ready, named_ready, stored_adds, stored_ready}
 use Rattle.cached_pages.proofs.storing.ready.Goals as goal
@@ -42,7 +42,7 @@ pub returns-clause-writes : goal.returns-clause-writes
 returns-clause-writes g c = few_then c.args.b.0 _ _ _ _ c.fetch.ensures.writes c.make_ready.ensures.still
 
 pub returns-clause-ends : goal.returns-clause-ends
-returns-clause-ends g c = ends_ok _ _ _ _ _ _ (λ q. cc) (λ q. cc) (λ q. cc) c.in_ok-k.ensures.ends c.in_ok-make_ready.ensures.ends
+returns-clause-ends g c = ends_ok _ _ _ _ _ _ (never _ Stopped) (λ q. true_false (sym q)) (never _ Stopped) c.in_ok-k.ensures.ends c.in_ok-make_ready.ensures.ends
 
 pub returns-in_err-make_ready-clause-ends : goal.returns-in_err-make_ready-clause-ends
 returns-in_err-make_ready-clause-ends g c =
@@ -110,10 +110,10 @@ pub returns-clause-dirty : goal.returns-clause-dirty
 returns-clause-dirty g c = c.in_ok-make_ready.ensures.dirty
 
 pub returns-clause-drops : goal.returns-clause-drops
-returns-clause-drops g c q = absurd cc
+returns-clause-drops g c q = absurd (never _ _ q)
 
 pub returns-clause-fault : goal.returns-clause-fault
-returns-clause-fault g c q = absurd cc
+returns-clause-fault g c q = absurd (never _ _ q)
 
 pub returns-in_err-k-clause-marks : goal.returns-in_err-k-clause-marks
 returns-in_err-k-clause-marks g c = marks_any (Some c.args.b.0) _ _ c.fetch.ensures.marks
@@ -137,4 +137,4 @@ pub returns-in_err-make_ready-clause-failed : goal.returns-in_err-make_ready-cla
 returns-in_err-make_ready-clause-failed g c q = failed_used c.args.b.0 _ c.args.t.now c.make_ready.new.t (used_then c.args.b.0 (g.M.Machine.contents c.fetch.new.m).words (g.M.Machine.contents c.make_ready.new.m).words c.args.t.now c.fetch.new.t c.make_ready.new.t c.in_ok-k.ensures.used (stay_found _ _ c.make_ready.ensures.widens.found) (order_same _ _ c.make_ready.ensures.tables))
 
 pub returns-clause-failed : goal.returns-clause-failed
-returns-clause-failed g c q = absurd cc
+returns-clause-failed g c q = absurd (true_false (sym q))

@@ -1,5 +1,5 @@
-use Rattle.cached_pages.proofs.Common.{◌∙◌, IsErr, ap, arith, sym, StepEnds, ends_after}
-use Rattle.std.proofs.Common.{◌+◌}
+use Rattle.cached_pages.proofs.Common.{◌∙◌, ap, arith, sym, true_false}
+use Rattle.std.proofs.Common.{◌+◌, refl}
 use Rattle.cached_pages.specs.declared.tables.CacheTables.{CacheTables}
 use Rattle.cached_pages.proofs.Touches.{gives_next, pages_held, pages_named, pages_trans}
 use Rattle.cached_pages.proofs.updating.shadow_frame.Goals as goal
@@ -9,6 +9,7 @@ use Rattle.cached_pages.proofs.Rooms.{keeps_then, lasts_then}
 use Rattle.cached_pages.proofs.Stills.{still_trans}
 use Rattle.cached_pages.proofs.DirtyMarks.{marks_held, marks_named, marks_trans}
 use Rattle.cached_pages.proofs.DirtyMarks.{marks_refl}
+use Rattle.rio_base.proofs.MachineRules.{ends_err}
 
 pub returns-in_err-mark_dirty-clause-pages : goal.returns-in_err-mark_dirty-clause-pages
 returns-in_err-mark_dirty-clause-pages g c = pages_held c.args.k _ _ c.mark_dirty.ensures.one_entry c.mark_dirty.ensures.held
@@ -24,11 +25,10 @@ returns-clause-gives g c = gives_next c.args.k _ _ _ c.args.t.now _ c.mark_dirty
 
 pub returns-in_err-give_shadow-clause-ends : goal.returns-in_err-give_shadow-clause-ends
 returns-in_err-give_shadow-clause-ends g c =
-    let all : StepEnds (g.M.Machine.run c.args.m.now) (g.M.Machine.run c.give_shadow.new.m) (IsErr c.give_shadow.result) = ends_after _ _ _ _ c.mark_dirty.ensures.ends.steps (c.in_ok-mark_dirty.ensures.ends.runs (λ q. cc)) c.give_shadow.ensures.ends in
-    grind (arith, all)
+    ends_err (g.M.Machine.run c.args.m.now) (g.M.Machine.run c.mark_dirty.new.m) (g.M.Machine.run c.give_shadow.new.m) _ _ refl (grind (arith, c.from_residual-in_err-give_shadow.ensures)) c.mark_dirty.ensures.ends.steps c.in_err-give_shadow.ensures.ends
 
 pub returns-clause-ends : goal.returns-clause-ends
-returns-clause-ends g c = ends_ok _ _ _ _ _ _ (λ q. cc) (λ q. cc) (λ q. cc) c.in_ok-mark_dirty.ensures.ends c.in_ok-give_shadow.ensures.ends
+returns-clause-ends g c = ends_ok _ _ _ _ _ _ (λ q. true_false (sym q)) (λ q. true_false (sym q)) (λ q. true_false (sym q)) c.in_ok-mark_dirty.ensures.ends c.in_ok-give_shadow.ensures.ends
 
 pub returns-in_err-give_shadow-clause-order : goal.returns-in_err-give_shadow-clause-order
 returns-in_err-give_shadow-clause-order g c = c.give_shadow.ensures.order ∙ order_same _ _ c.mark_dirty.ensures.tables
