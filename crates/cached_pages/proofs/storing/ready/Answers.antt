@@ -1,9 +1,9 @@
-use Rattle.rio_base.proofs.MachineRules.{ends_err, never}
+use Rattle.rio_base.proofs.MachineRules.{ends_err, never, ends_told}
 use Rattle.cached_pages.proofs.Common.{IsErrOf, arith, Stopped, found_is, true_false}
 use Rattle.std.proofs.Common.{refl}
-use Rattle.cached_pages.proofs.StoreCalls.{found_ready, named_ready, stored_adds, stored_ready}
+use Rattle.cached_pages.proofs.StoreCalls.{found_ready, named_ready, stored_adds, stored_ready, drops_narrows}
 use Rattle.cached_pages.proofs.storing.ready.Goals as goal
-use Rattle.cached_pages.proofs.Goes.{ends_ok}
+use Rattle.cached_pages.proofs.Goes.{ends_ok, told_err}
 use Rattle.cached_pages.proofs.Stills.{few_then}
 use Rattle.cached_pages.proofs.Uses.{leaves_then, order_same, stay_found, used_then}
 use Rattle.cached_pages.proofs.Common.{ap, subst, sym, lasts_trans}
@@ -13,6 +13,7 @@ use Rattle.cached_pages.proofs.DirtyMarks.{marks_any, marks_of, marks_trans}
 use Rattle.cached_pages.proofs.FailedUses.{failed_used}
 use Rattle.cached_pages.proofs.Uses.{stay_hit, stay_trans}
 use Rattle.cached_pages.proofs.Common.{Some}
+use Rattle.rio_base.specs.declared.failures.VolFail.TheVariants.{Fault}
 
 pub returns-clause-stay : goal.returns-clause-stay
 returns-clause-stay g c cached = stay_trans _ _ _ (stay_hit (g.M.Machine.contents c.args.m.now) (g.M.Machine.contents c.fetch.new.m) (ap g.M.Machine.contents (c.fetch.ensures.hit cached))) (stay_found _ _ c.make_ready.ensures.widens.found)
@@ -138,3 +139,21 @@ returns-in_err-make_ready-clause-failed g c q = failed_used c.args.b.0 _ c.args.
 
 pub returns-clause-failed : goal.returns-clause-failed
 returns-clause-failed g c q = absurd (true_false (sym q))
+
+pub fetch-requires-clause-sound : goal.fetch-requires-clause-sound
+fetch-requires-clause-sound g c = c.requires.sound
+
+pub fetch-requires-clause-block : goal.fetch-requires-clause-block
+fetch-requires-clause-block g c = c.requires.block
+
+pub fetch-requires-clause-name : goal.fetch-requires-clause-name
+fetch-requires-clause-name g c = c.requires.name
+
+pub returns-in_err-k-clause-ends : goal.returns-in_err-k-clause-ends
+returns-in_err-k-clause-ends g c = ends_told (g.M.Machine.run c.args.m.now) (g.M.Machine.run c.fetch.new.m) _ Stopped c.from_residual.result (grind (arith, c.from_residual.ensures)) c.in_err-k.ensures.ends
+
+pub returns-in_err-k-clause-drops : goal.returns-in_err-k-clause-drops
+returns-in_err-k-clause-drops g c q = drops_narrows (g.M.Machine.contents c.args.m.now) (g.M.Machine.contents c.fetch.new.m) (c.in_err-k.ensures.unfetched (told_err _ Fault c.from_residual.result (grind (arith, c.from_residual.ensures)) q))
+
+pub returns-in_err-k-clause-fault : goal.returns-in_err-k-clause-fault
+returns-in_err-k-clause-fault g c q = c.in_err-k.ensures.fault (told_err _ Fault c.from_residual.result (grind (arith, c.from_residual.ensures)) q)

@@ -1,11 +1,16 @@
-use Rattle.cached_pages.proofs.Common.{ap, arith, subst, sym, InRange, size_at, Entry}
-use Rattle.std.proofs.Common.{◌<◌}
+use Rattle.cached_pages.proofs.Common.{ap, arith, subst, sym, InRange, size_at, Entry, true_false, tag_at, Keeps}
+use Rattle.std.proofs.Common.{◌<◌, refl}
 use Rattle.cached_pages.specs.Stores.{Widens}
-use Rattle.cached_pages.proofs.Widths.{larger_keeps, larger_sound, larger_widens}
+use Rattle.cached_pages.proofs.Widths.{larger_keeps, larger_sound, larger_widens, widens_same}
 use Rattle.cached_pages.proofs.storing.widen.Goals as goal
 use Rattle.cached_pages.proofs.DirtyMarks.{marks_begun, marks_same}
 use Rattle.cached_pages.proofs.Common.{None, Contents}
 use Rattle.cached_pages.proofs.DirtyMarks.{marks_refl}
+use Rattle.cached_pages.proofs.Goes.{ends_stop}
+use Rattle.cached_pages.proofs.Stills.{still_rest, still_refl}
+use Rattle.cached_pages.proofs.Stores.{sound_same}
+use Rattle.rio_base.proofs.MachineRules.{ends_none, lasts_refl}
+use Rattle.rio_model.proofs.CoverSteps.{keeps_refl}
 
 pub returns-clause-sound : goal.returns-clause-sound
 returns-clause-sound g c =
@@ -43,3 +48,90 @@ returns-in_default-clause-marks g c = marks_refl None _
 
 pub returns-then-from-read_entry-clause-marks : goal.returns-then-from-read_entry-clause-marks
 returns-then-from-read_entry-clause-marks g c = marks_refl None _
+
+pub returns-clause-lasts : goal.returns-clause-lasts
+returns-clause-lasts g c = c.set_size.ensures.changes.lasts
+
+pub returns-clause-still : goal.returns-clause-still
+returns-clause-still g c = still_rest (g.M.Machine.contents c.args.m.now) (g.M.Machine.contents c.set_size.new.m) c.set_size.ensures.changes.rest
+
+pub returns-clause-tables : goal.returns-clause-tables
+returns-clause-tables g c = refl
+
+pub returns-in_err-set_size-clause-lasts : goal.returns-in_err-set_size-clause-lasts
+returns-in_err-set_size-clause-lasts g c = c.set_size.ensures.changes.lasts
+
+pub returns-in_err-set_size-clause-still : goal.returns-in_err-set_size-clause-still
+returns-in_err-set_size-clause-still g c = still_rest (g.M.Machine.contents c.args.m.now) (g.M.Machine.contents c.set_size.new.m) c.set_size.ensures.changes.rest
+
+pub returns-in_err-set_size-clause-tables : goal.returns-in_err-set_size-clause-tables
+returns-in_err-set_size-clause-tables g c = refl
+
+pub returns-clause-ends : goal.returns-clause-ends
+returns-clause-ends g c = c.in_ok-set_size.ensures.changes.ends
+
+pub returns-clause-tag : goal.returns-clause-tag
+returns-clause-tag g c = ap (λ (x : Entry). x.tag) c.in_ok-set_size.ensures.entry
+
+pub returns-in_err-set_size-clause-ends : goal.returns-in_err-set_size-clause-ends
+returns-in_err-set_size-clause-ends g c = ends_stop (g.M.Machine.run c.args.m.now) (g.M.Machine.run c.set_size.new.m) _ _ refl (grind (arith, c.from_residual.ensures)) c.in_err-set_size.ensures.changes.ends
+
+pub returns-in_err-set_size-clause-sound : goal.returns-in_err-set_size-clause-sound
+returns-in_err-set_size-clause-sound g c = sound_same _ _ (g.M.Machine.contents c.args.m.now) (g.M.Machine.contents c.set_size.new.m) c.args.t.now c.requires.sound c.set_size.ensures.changes.ends.steps.scratch_count c.in_err-set_size.ensures.same
+
+pub returns-in_err-set_size-clause-tag : goal.returns-in_err-set_size-clause-tag
+returns-in_err-set_size-clause-tag g c = ap (λ (m : Contents). tag_at m.words c.args.k) c.in_err-set_size.ensures.same
+
+pub returns-in_err-set_size-clause-widens : goal.returns-in_err-set_size-clause-widens
+returns-in_err-set_size-clause-widens g c = widens_same c.args.k c.args.name (g.M.Machine.contents c.args.m.now).words (g.M.Machine.contents c.set_size.new.m).words (ap (λ (m : Contents). m.words) c.in_err-set_size.ensures.same)
+
+pub returns-in_err-set_size-clause-keeps : goal.returns-in_err-set_size-clause-keeps
+returns-in_err-set_size-clause-keeps g c = subst (λ (m : Contents). Keeps (g.M.Machine.contents c.args.m.now) m) (sym c.in_err-set_size.ensures.same) (keeps_refl (g.M.Machine.contents c.args.m.now))
+
+pub returns-in_default-clause-lasts : goal.returns-in_default-clause-lasts
+returns-in_default-clause-lasts g c = lasts_refl (g.M.Machine.contents c.args.m.now)
+
+pub returns-in_default-clause-still : goal.returns-in_default-clause-still
+returns-in_default-clause-still g c = still_refl (g.M.Machine.contents c.args.m.now)
+
+pub returns-in_default-clause-tables : goal.returns-in_default-clause-tables
+returns-in_default-clause-tables g c = refl
+
+pub returns-in_default-clause-tag : goal.returns-in_default-clause-tag
+returns-in_default-clause-tag g c = refl
+
+pub returns-in_default-clause-sound : goal.returns-in_default-clause-sound
+returns-in_default-clause-sound g c = c.requires.sound
+
+pub returns-in_default-clause-keeps : goal.returns-in_default-clause-keeps
+returns-in_default-clause-keeps g c = keeps_refl (g.M.Machine.contents c.args.m.now)
+
+pub returns-in_default-clause-ends : goal.returns-in_default-clause-ends
+returns-in_default-clause-ends g c = ends_none (g.M.Machine.run c.args.m.now) _ (λ q. true_false (sym q))
+
+pub returns-in_default-clause-widens : goal.returns-in_default-clause-widens
+returns-in_default-clause-widens g c = widens_same c.args.k c.args.name (g.M.Machine.contents c.args.m.now).words (g.M.Machine.contents c.args.m.now).words refl
+
+pub returns-then-from-read_entry-clause-lasts : goal.returns-then-from-read_entry-clause-lasts
+returns-then-from-read_entry-clause-lasts g c = lasts_refl (g.M.Machine.contents c.args.m.now)
+
+pub returns-then-from-read_entry-clause-still : goal.returns-then-from-read_entry-clause-still
+returns-then-from-read_entry-clause-still g c = still_refl (g.M.Machine.contents c.args.m.now)
+
+pub returns-then-from-read_entry-clause-tables : goal.returns-then-from-read_entry-clause-tables
+returns-then-from-read_entry-clause-tables g c = refl
+
+pub returns-then-from-read_entry-clause-tag : goal.returns-then-from-read_entry-clause-tag
+returns-then-from-read_entry-clause-tag g c = refl
+
+pub returns-then-from-read_entry-clause-sound : goal.returns-then-from-read_entry-clause-sound
+returns-then-from-read_entry-clause-sound g c = c.requires.sound
+
+pub returns-then-from-read_entry-clause-keeps : goal.returns-then-from-read_entry-clause-keeps
+returns-then-from-read_entry-clause-keeps g c = keeps_refl (g.M.Machine.contents c.args.m.now)
+
+pub returns-then-from-read_entry-clause-ends : goal.returns-then-from-read_entry-clause-ends
+returns-then-from-read_entry-clause-ends g c = ends_none (g.M.Machine.run c.args.m.now) _ (λ q. true_false (sym q))
+
+pub returns-then-from-read_entry-clause-widens : goal.returns-then-from-read_entry-clause-widens
+returns-then-from-read_entry-clause-widens g c = widens_same c.args.k c.args.name (g.M.Machine.contents c.args.m.now).words (g.M.Machine.contents c.args.m.now).words refl
