@@ -1,9 +1,11 @@
 -- How a call of an update ends, told by an answer that may also be a fault.
-use Rattle.std.proofs.Common.{◌≡◌, ◌∙◌, ap, subst, sym}
-use Rattle.std.specs.Prelude.{Err, Result}
+use Rattle.std.proofs.Common.{◌≡◌, ◌∙◌, ap, refl, subst, sym}
+use Rattle.std.specs.Prelude.{Ok, Err, IfOk, IsErrOf, OnOk, Result}
 use Rattle.rio_base.specs.declared.failures.VolFail.{VolFail}
-use Rattle.rio_base.specs.declared.failures.VolFail.TheVariants.{Stopped}
+use Rattle.rio_base.specs.declared.failures.VolFail.TheVariants.{Fault, Stopped}
 use Rattle.rio_base.specs.Blocks.{Ends, Halts, Health}
+use Rattle.file_tree.specs.Failures.{Unrefused, fail_of_vol}
+use Rattle.file_tree.specs.declared.failures.FileFail.{FileFail}
 
 -- a call whose one failure is a stop, told by the answer of a call that may also meet a fault
 pub ends_halted : {T U E : Type 0} (s t : Health) (r : Result T E) (q : Result U VolFail) (e : E) (d : VolFail) → r ≡ Err e → q ≡ Err d → d ≡ Stopped → Halts s t r → Ends s t q
@@ -11,3 +13,34 @@ ends_halted {T = T} {U = U} {E = E} s t r q e d re qd de h = subst (λ x. Ends s
   where
     by : Halts {T = T} {E = E} s t (Err e) → Ends {T = U} s t (Err Stopped)
     by g = record { later = g.later; stays = g.stays; cause = g.cause }
+
+-- of a call that failed nothing is said that holds where it did not
+pub never_ok : {T E : Type 0} (q : Result T E) (P : Type 0) (d : E) → q ≡ Err d → OnOk q P
+never_ok {T = T} {E = E} q P d is = subst (λ (x : Result T E). OnOk x P) (sym is) tt
+
+pub never_some : {T E : Type 0} (q : Result T E) (P : T → Type 0) (d : E) → q ≡ Err d → IfOk q P
+never_some {T = T} {E = E} q P d is = subst (λ (x : Result T E). IfOk x P) (sym is) tt
+
+-- and of one that was stopped nothing that holds after a fault
+pub never_fault : {T : Type 0} (q : Result T VolFail) (d : VolFail) (P : Type 0) → q ≡ Err d → d ≡ Stopped → IsErrOf q Fault → P
+never_fault q d P is stopped fault = absurd cc
+
+-- which fault was handed on
+pub fault_handed : {T U : Type 0} (r : Result T VolFail) (q : Result U VolFail) (e d : VolFail) → r ≡ Err e → q ≡ Err d → d ≡ e → IsErrOf q Fault → IsErrOf r Fault
+fault_handed r q e d re qd de fault = cc
+
+-- a failure by its name
+pub ends_same : {T : Type 0} (s t : Health) (e d : VolFail) → e ≡ d → Ends {T = T} s t (Err e) → Ends {T = T} s t (Err d)
+ends_same {T = T} s t e d is h = subst (λ x. Ends {T = T} s t (Err x)) is h
+
+-- a call that was not stopped
+pub ends_unhalted : {T U E : Type 0} (s t : Health) (v : T) (u : U) → Halts {E = E} s t (Ok v) → Ends s t (Ok u)
+ends_unhalted s t v u h = record { later = h.later; stays = h.stays; cause = h.cause }
+
+-- a failure of the volume refuses nothing
+vol_unrefused : (T : Type 0) (e : VolFail) → Unrefused {T = T} (Err (fail_of_vol e))
+vol_unrefused T Fault = refl
+vol_unrefused T Stopped = tt
+
+pub unrefused_vol : {T : Type 0} (q : Result T FileFail) (e : VolFail) (d : FileFail) → q ≡ Err d → d ≡ fail_of_vol e → Unrefused q
+unrefused_vol {T = T} q e d qd de = subst (λ (v : Result T FileFail). Unrefused v) (sym (qd ∙ ap Err de)) (vol_unrefused T e)

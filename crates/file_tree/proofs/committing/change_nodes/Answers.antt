@@ -1,5 +1,6 @@
+use Rattle.directories.proofs.EndsAs.{ends_err}
 use Rattle.rio_base.proofs.BlockRules.{ends_later, shape_dropped}
-use Rattle.file_tree.proofs.UpdateEnds.{ends_halted}
+use Rattle.file_tree.proofs.UpdateEnds.{ends_halted, ends_unhalted, fault_handed, never_fault, never_ok}
 use Rattle.file_tree.proofs.Common.{caches_by_trans, err_from_is_err_and, firm_trans, inl, ◌then◌, ◌∙◌}
 use Rattle.rio_base.proofs.BlockSets.{caches_by_drops}
 use Rattle.file_tree.proofs.Several.{makes_fit}
@@ -112,3 +113,27 @@ returns-in_err-commit-clause-caches g c = caches_by_trans _ _ _ _ (caches_by_tra
 
 pub returns-clause-caches : goal.returns-clause-caches
 returns-clause-caches g c = caches_by_trans _ _ _ _ (caches_by_trans _ _ _ _ c.open_changes.ensures.caches c.make_changes.ensures.caches) (caches_by_drops _ _ _ c.commit.ensures.drops)
+
+pub returns-in_err-open_changes-clause-ok : goal.returns-in_err-open_changes-clause-ok
+returns-in_err-open_changes-clause-ok g c = let p = err_from_is_err_and c.from_residual.result c.from_residual.ensures.1 in never_ok _ _ p.0 p.1
+
+pub returns-in_err-open_changes-clause-ends : goal.returns-in_err-open_changes-clause-ends
+returns-in_err-open_changes-clause-ends g c = let p = err_from_is_err_and c.from_residual.result c.from_residual.ensures.1 in ends_err _ _ c.open_changes.result c.from_residual.result _ p.0 c.in_err-open_changes.was p.1 p.2 c.open_changes.ensures.ends
+
+pub returns-in_err-open_changes-clause-fault : goal.returns-in_err-open_changes-clause-fault
+returns-in_err-open_changes-clause-fault g c = let p = err_from_is_err_and c.from_residual.result c.from_residual.ensures.1 in λ is. let fault = c.open_changes.ensures.fault (fault_handed _ _ _ p.0 c.in_err-open_changes.was p.1 p.2 is) in (fault.0, fault.1, c.open_changes.ensures.standing)
+
+pub returns-in_err-make_changes-clause-ok : goal.returns-in_err-make_changes-clause-ok
+returns-in_err-make_changes-clause-ok g c = let p = err_from_is_err_and c.from_residual-in_err-make_changes.result c.from_residual-in_err-make_changes.ensures.1 in never_ok _ _ p.0 p.1
+
+pub returns-in_err-make_changes-clause-fault : goal.returns-in_err-make_changes-clause-fault
+returns-in_err-make_changes-clause-fault g c = let p = err_from_is_err_and c.from_residual-in_err-make_changes.result c.from_residual-in_err-make_changes.ensures.1 in never_fault _ p.0 _ p.1 p.2
+
+pub returns-in_err-commit-clause-ok : goal.returns-in_err-commit-clause-ok
+returns-in_err-commit-clause-ok g c = let p = err_from_is_err_and c.from_residual-in_err-commit.result c.from_residual-in_err-commit.ensures.1 in never_ok _ _ p.0 p.1
+
+pub returns-in_err-commit-clause-fault : goal.returns-in_err-commit-clause-fault
+returns-in_err-commit-clause-fault g c = let p = err_from_is_err_and c.from_residual-in_err-commit.result c.from_residual-in_err-commit.ensures.1 in never_fault _ p.0 _ p.1 p.2
+
+pub returns-clause-ends : goal.returns-clause-ends
+returns-clause-ends g c = ends_later _ _ _ _ c.open_changes.ensures.ends.later c.in_ok-open_changes.ensures.ends.cause (ends_later _ _ _ _ c.make_changes.ensures.ends.later c.in_ok-make_changes.ensures.ends.cause (ends_unhalted _ _ _ _ c.in_ok-commit.ensures.ends))

@@ -1,4 +1,5 @@
-use Rattle.file_tree.proofs.Common.{◌<◌, refl, sym, subst, ◌∙◌, le_refl, le_trans, arith, firm_outside_trans, goes_refl, goes_trans}
+use Rattle.file_tree.proofs.UpdateEnds.{never_ok}
+use Rattle.file_tree.proofs.Common.{◌<◌, refl, sym, subst, ◌∙◌, le_refl, le_trans, arith, firm_outside_trans, goes_refl, goes_trans, err_from_is_err_and}
 use Rattle.rio_base.proofs.BlockSets.{firm_outside_refl, firm_outside_wider, same_outside_refl, same_outside_trans, same_outside_wider}
 use Rattle.rio_base.proofs.Rules.{drops_trans}
 use Rattle.file_tree.proofs.Forgotten.{forgotten_every, forgotten_next, forgotten_none}
@@ -47,3 +48,60 @@ loop-change-preserved g c =
 
 pub returns-clause-forgotten : goal.returns-clause-forgotten
 returns-clause-forgotten g c = forgotten_every (g.V.Blocks.seen c.loop-change.v) c.args.changes.now c.loop-change.change-index (omega (arith, c.loop-change-test.false)) c.loop-change.invariant.forgotten
+
+pub returns-in_err-forget_blocks-clause-forgotten : goal.returns-in_err-forget_blocks-clause-forgotten
+returns-in_err-forget_blocks-clause-forgotten g c = let p = err_from_is_err_and c.from_residual.result c.from_residual.ensures.1 in never_ok _ _ p.0 p.1
+
+pub returns-in_err-forget_blocks-clause-standing : goal.returns-in_err-forget_blocks-clause-standing
+returns-in_err-forget_blocks-clause-standing g c = same_outside_trans _ _ _ _ c.loop-change.invariant.standing (same_outside_wider _ _ _ _ (λ b h. freed_in c.args.changes.now c.change-item.result _ b (c.loop-change.change-index, c.loop-change-test.true, sym c.change-item.is) c.as_slice.ensures h) c.forget_blocks.ensures.standing)
+
+pub returns-in_err-forget_blocks-clause-firm : goal.returns-in_err-forget_blocks-clause-firm
+returns-in_err-forget_blocks-clause-firm g c = firm_outside_trans _ _ _ _ c.loop-change.invariant.firm (firm_outside_wider _ _ _ _ (λ b h. freed_in c.args.changes.now c.change-item.result _ b (c.loop-change.change-index, c.loop-change-test.true, sym c.change-item.is) c.as_slice.ensures h) c.forget_blocks.ensures.firm)
+
+pub returns-in_err-forget_blocks-clause-drops : goal.returns-in_err-forget_blocks-clause-drops
+returns-in_err-forget_blocks-clause-drops g c = drops_trans _ _ _ c.loop-change.invariant.drops c.forget_blocks.ensures.drops
+
+pub returns-in_err-forget_blocks-clause-count : goal.returns-in_err-forget_blocks-clause-count
+returns-in_err-forget_blocks-clause-count g c = c.forget_blocks.ensures.count ∙ c.loop-change.invariant.count
+
+pub returns-in_err-forget_blocks-clause-idle : goal.returns-in_err-forget_blocks-clause-idle
+returns-in_err-forget_blocks-clause-idle g c = c.forget_blocks.ensures.idle
+
+pub returns-in_err-forget_blocks-clause-goes : goal.returns-in_err-forget_blocks-clause-goes
+returns-in_err-forget_blocks-clause-goes g c = goes_trans _ _ _ _ _ _ c.loop-change.invariant.goes c.forget_blocks.ensures.goes
+
+pub returns-in_err-forget_blocks-clause-sound : goal.returns-in_err-forget_blocks-clause-sound
+returns-in_err-forget_blocks-clause-sound g c = c.forget_blocks.ensures.sound
+
+pub returns-clause-words : goal.returns-clause-words
+returns-clause-words g c = c.loop-change.invariant.words
+
+pub returns-clause-standing : goal.returns-clause-standing
+returns-clause-standing g c = c.loop-change.invariant.standing
+
+pub returns-clause-firm : goal.returns-clause-firm
+returns-clause-firm g c = c.loop-change.invariant.firm
+
+pub returns-clause-count : goal.returns-clause-count
+returns-clause-count g c = c.loop-change.invariant.count
+
+pub returns-clause-drops : goal.returns-clause-drops
+returns-clause-drops g c = c.loop-change.invariant.drops
+
+pub returns-clause-idle : goal.returns-clause-idle
+returns-clause-idle g c = c.loop-change.invariant.idle
+
+pub returns-clause-goes : goal.returns-clause-goes
+returns-clause-goes g c = c.loop-change.invariant.goes
+
+pub returns-clause-sound : goal.returns-clause-sound
+returns-clause-sound g c = c.loop-change.invariant.sound
+
+pub returns-clause-ends : goal.returns-clause-ends
+returns-clause-ends g c = record { later = c.loop-change.invariant.later; stays = λ on. c.loop-change.invariant.running ∙ on; cause = c.loop-change.invariant.running }
+
+pub forget_blocks-requires-clause-sound : goal.forget_blocks-requires-clause-sound
+forget_blocks-requires-clause-sound g c = c.loop-change.invariant.sound
+
+pub forget_blocks-requires-clause-idle : goal.forget_blocks-requires-clause-idle
+forget_blocks-requires-clause-idle g c = c.loop-change.invariant.idle

@@ -1,7 +1,7 @@
-use Rattle.file_tree.proofs.UpdateEnds.{ends_halted}
+use Rattle.file_tree.proofs.UpdateEnds.{ends_halted, ends_same, never_fault, never_ok}
 use Rattle.rio_base.proofs.BlockSets.{caches_by_drops}
 use Rattle.file_tree.proofs.Common.{caches_by_trans, err_from_is_err_and, firm_trans, ◌then◌, ◌∙◌}
-use Rattle.rio_base.proofs.BlockRules.{shape_dropped}
+use Rattle.rio_base.proofs.BlockRules.{shape_dropped, ends_later}
 use Rattle.file_tree.proofs.Several.{can_on_drops}
 use Rattle.file_tree.proofs.committing.open_changes.Goals as goal
 
@@ -94,3 +94,15 @@ returns-in-Ok-clause-caches g c = caches_by_trans _ _ _ _ (caches_by_drops _ _ _
 
 pub returns-in-Err-Stopped-clause-caches : goal.returns-in-Err-Stopped-clause-caches
 returns-in-Err-Stopped-clause-caches g c = caches_by_trans _ _ _ _ (caches_by_drops _ _ _ c.begin.ensures.drops) c.touch_changes.ensures.caches
+
+pub returns-in_err-begin-clause-ok : goal.returns-in_err-begin-clause-ok
+returns-in_err-begin-clause-ok g c = let p = err_from_is_err_and c.from_residual.result c.from_residual.ensures.1 in never_ok _ _ p.0 p.1
+
+pub returns-in_err-begin-clause-fault : goal.returns-in_err-begin-clause-fault
+returns-in_err-begin-clause-fault g c = let p = err_from_is_err_and c.from_residual.result c.from_residual.ensures.1 in never_fault _ p.0 _ p.1 p.2
+
+pub returns-in-Ok-clause-ends : goal.returns-in-Ok-clause-ends
+returns-in-Ok-clause-ends g c = ends_later _ _ _ _ c.begin.ensures.ends.later c.in_ok-begin.ensures.ends.cause c.in-Ok.ensures.ends
+
+pub returns-in-Err-Stopped-clause-ends : goal.returns-in-Err-Stopped-clause-ends
+returns-in-Err-Stopped-clause-ends g c = ends_later _ _ _ _ c.begin.ensures.ends.later c.in_ok-begin.ensures.ends.cause (ends_same _ _ _ _ c.in-Err-Stopped.field-0-is c.in-Err-Stopped.ensures.ends)

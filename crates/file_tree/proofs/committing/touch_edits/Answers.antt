@@ -1,4 +1,7 @@
-use Rattle.file_tree.proofs.Common.{◌<◌, ◌∙◌, le_refl, le_trans, refl, arith, subst, sym, caches_by_trans, firm_trans, goes_refl, goes_trans, looks_trans}
+use Rattle.rio_base.proofs.BlockRules.{ends_later}
+use Rattle.directories.proofs.EndsAs.{ends_err}
+use Rattle.file_tree.proofs.UpdateEnds.{never_ok}
+use Rattle.file_tree.proofs.Common.{◌<◌, ◌∙◌, le_refl, le_trans, refl, arith, subst, sym, caches_by_trans, firm_trans, goes_refl, goes_trans, looks_trans, err_from_is_err_and}
 use Rattle.rio_base.proofs.BlockSets.{caches_by_refl}
 use Rattle.rio_base.specs.Rules.{firm_refl}
 use Rattle.rio_base.proofs.Rules.{looks_refl}
@@ -56,3 +59,69 @@ loop-t-preserved g c =
       running = now.ends.cause ∙ inv.running;
       sound = call.sound;
     }
+
+pub returns-in_err-touch-clause-ok : goal.returns-in_err-touch-clause-ok
+returns-in_err-touch-clause-ok g c = let p = err_from_is_err_and c.from_residual.result c.from_residual.ensures.1 in never_ok _ _ p.0 p.1
+
+pub returns-in_err-touch-clause-touches : goal.returns-in_err-touch-clause-touches
+returns-in_err-touch-clause-touches g c = let p = err_from_is_err_and c.from_residual.result c.from_residual.ensures.1 in never_ok _ _ p.0 p.1
+
+pub returns-in_err-touch-clause-more : goal.returns-in_err-touch-clause-more
+returns-in_err-touch-clause-more g c = let p = err_from_is_err_and c.from_residual.result c.from_residual.ensures.1 in never_ok _ _ p.0 p.1
+
+pub returns-in_err-touch-clause-looks : goal.returns-in_err-touch-clause-looks
+returns-in_err-touch-clause-looks g c = looks_trans _ _ _ c.loop-t.invariant.looks c.touch.ensures.looks
+
+pub returns-in_err-touch-clause-standing : goal.returns-in_err-touch-clause-standing
+returns-in_err-touch-clause-standing g c = c.touch.ensures.standing ∙ c.loop-t.invariant.standing
+
+pub returns-in_err-touch-clause-firm : goal.returns-in_err-touch-clause-firm
+returns-in_err-touch-clause-firm g c = firm_trans _ _ _ c.loop-t.invariant.firm c.touch.ensures.firm
+
+pub returns-in_err-touch-clause-caches : goal.returns-in_err-touch-clause-caches
+returns-in_err-touch-clause-caches g c = caches_by_trans _ _ _ _ c.loop-t.invariant.caches (caches_edit c.args.edits.now c.loop-t.t _ _ _ c.loop-t-test.true c.touch.ensures.caches)
+
+pub returns-in_err-touch-clause-in_update : goal.returns-in_err-touch-clause-in_update
+returns-in_err-touch-clause-in_update g c = c.touch.ensures.in_update
+
+pub returns-in_err-touch-clause-goes : goal.returns-in_err-touch-clause-goes
+returns-in_err-touch-clause-goes g c = goes_trans _ _ _ _ _ _ c.loop-t.invariant.goes c.touch.ensures.goes
+
+pub returns-in_err-touch-clause-ends : goal.returns-in_err-touch-clause-ends
+returns-in_err-touch-clause-ends g c = let p = err_from_is_err_and c.from_residual.result c.from_residual.ensures.1 in ends_later _ _ _ _ c.loop-t.invariant.later c.loop-t.invariant.running (ends_err _ _ c.touch.result c.from_residual.result _ p.0 c.in_err-touch.was p.1 p.2 c.touch.ensures.ends)
+
+pub returns-in_err-touch-clause-sound : goal.returns-in_err-touch-clause-sound
+returns-in_err-touch-clause-sound g c = c.touch.ensures.sound
+
+pub returns-clause-more : goal.returns-clause-more
+returns-clause-more g c = c.loop-t.invariant.more
+
+pub returns-clause-looks : goal.returns-clause-looks
+returns-clause-looks g c = c.loop-t.invariant.looks
+
+pub returns-clause-standing : goal.returns-clause-standing
+returns-clause-standing g c = c.loop-t.invariant.standing
+
+pub returns-clause-firm : goal.returns-clause-firm
+returns-clause-firm g c = c.loop-t.invariant.firm
+
+pub returns-clause-caches : goal.returns-clause-caches
+returns-clause-caches g c = c.loop-t.invariant.caches
+
+pub returns-clause-in_update : goal.returns-clause-in_update
+returns-clause-in_update g c = c.loop-t.invariant.in_update
+
+pub returns-clause-goes : goal.returns-clause-goes
+returns-clause-goes g c = c.loop-t.invariant.goes
+
+pub returns-clause-sound : goal.returns-clause-sound
+returns-clause-sound g c = c.loop-t.invariant.sound
+
+pub returns-clause-ends : goal.returns-clause-ends
+returns-clause-ends g c = record { later = c.loop-t.invariant.later; stays = λ on. c.loop-t.invariant.running ∙ on; cause = c.loop-t.invariant.running }
+
+pub touch-requires-clause-sound : goal.touch-requires-clause-sound
+touch-requires-clause-sound g c = c.loop-t.invariant.sound
+
+pub touch-requires-clause-in_update : goal.touch-requires-clause-in_update
+touch-requires-clause-in_update g c = c.loop-t.invariant.in_update

@@ -1,7 +1,9 @@
+use Rattle.directories.proofs.EndsAs.{ends_err}
+use Rattle.file_tree.proofs.UpdateEnds.{never_ok}
 use Rattle.file_pages.proofs.Updated.{touched_still}
 use Rattle.rio_base.proofs.BlockRules.{ends_later}
 use Rattle.rio_base.proofs.BlockSets.{caches_by_one}
-use Rattle.file_tree.proofs.Common.{inr, arith, subst, sym, InThreeBlocks, firm_trans, inl, looks_trans, refl, ◌then◌, ◌∙◌}
+use Rattle.file_tree.proofs.Common.{inr, arith, subst, sym, InThreeBlocks, firm_trans, inl, looks_trans, refl, ◌then◌, ◌∙◌, err_from_is_err_and}
 use Rattle.file_tree.proofs.Several.{node_edits_fit, node_touched, touches_most}
 use Rattle.file_tree.proofs.committing.touch_node.Goals as goal
 
@@ -97,3 +99,27 @@ returns-in_err-touch-clause-caches g c = caches_by_one _ _ _ _ _ c.touch.ensures
 
 pub returns-clause-more : goal.returns-clause-more
 returns-clause-more g c = λ b on. c.in_ok-touch_edits.ensures.more b (touched_still _ b _ _ c.in_ok-touch.ensures.ok on)
+
+pub returns-in_err-touch-clause-ok : goal.returns-in_err-touch-clause-ok
+returns-in_err-touch-clause-ok g c = let p = err_from_is_err_and c.from_residual.result c.from_residual.ensures.1 in never_ok _ _ p.0 p.1
+
+pub returns-in_err-touch-clause-touches : goal.returns-in_err-touch-clause-touches
+returns-in_err-touch-clause-touches g c = let p = err_from_is_err_and c.from_residual.result c.from_residual.ensures.1 in never_ok _ _ p.0 p.1
+
+pub returns-in_err-touch-clause-more : goal.returns-in_err-touch-clause-more
+returns-in_err-touch-clause-more g c = let p = err_from_is_err_and c.from_residual.result c.from_residual.ensures.1 in never_ok _ _ p.0 p.1
+
+pub returns-in_err-touch-clause-ends : goal.returns-in_err-touch-clause-ends
+returns-in_err-touch-clause-ends g c = let p = err_from_is_err_and c.from_residual.result c.from_residual.ensures.1 in ends_err _ _ c.touch.result c.from_residual.result _ p.0 c.in_err-touch.was p.1 p.2 c.touch.ensures.ends
+
+pub returns-in_err-touch_edits-clause-ok : goal.returns-in_err-touch_edits-clause-ok
+returns-in_err-touch_edits-clause-ok g c = let p = err_from_is_err_and c.from_residual-in_err-touch_edits.result c.from_residual-in_err-touch_edits.ensures.1 in never_ok _ _ p.0 p.1
+
+pub returns-in_err-touch_edits-clause-touches : goal.returns-in_err-touch_edits-clause-touches
+returns-in_err-touch_edits-clause-touches g c = let p = err_from_is_err_and c.from_residual-in_err-touch_edits.result c.from_residual-in_err-touch_edits.ensures.1 in never_ok _ _ p.0 p.1
+
+pub returns-in_err-touch_edits-clause-more : goal.returns-in_err-touch_edits-clause-more
+returns-in_err-touch_edits-clause-more g c = let p = err_from_is_err_and c.from_residual-in_err-touch_edits.result c.from_residual-in_err-touch_edits.ensures.1 in never_ok _ _ p.0 p.1
+
+pub returns-in_err-touch_edits-clause-ends : goal.returns-in_err-touch_edits-clause-ends
+returns-in_err-touch_edits-clause-ends g c = let p = err_from_is_err_and c.from_residual-in_err-touch_edits.result c.from_residual-in_err-touch_edits.ensures.1 in ends_later _ _ _ _ c.touch.ensures.ends.later c.in_ok-touch.ensures.ends.cause (ends_err _ _ c.touch_edits.result c.from_residual-in_err-touch_edits.result _ p.0 c.in_err-touch_edits.was p.1 p.2 c.touch_edits.ensures.ends)
