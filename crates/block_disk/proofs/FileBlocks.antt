@@ -1,5 +1,6 @@
 -- The bytes of a file and the words of its blocks, where one block is written.
 use Rattle.std.proofs.Common.{◌≡◌, ◌≢◌, ◌<◌, ◌≤◌, ℕ, suc, ◌+◌, ◌-◌, ◌*◌, ◌/◌, ◌%◌, true, List, [], ◌∷◌, ◌++◌, length, take, drop, set, replicate, slice_index, Option, Some, None, is_some, unwrap_or, ◌⊎◌, inl, inr, refl, sym, ap, subst, ◌∙◌, arith, length-append, length-drop, get_or-take, get_or-drop}
+use borrow.Rule.Slice.PartMut.{put_mid}
 use Rattle.std.specs.FinMap.{get, insert}
 use Rattle.std.proofs.lemmas.Bool.{cases_lt, cases_eq}
 use Rattle.std.proofs.lemmas.List.{ext_get_or, get_or_append_left, get_or-append_right, get_or_past, get_or-set_same, get_or-set_other, length-set, length-take-le}
@@ -129,6 +130,24 @@ over_stored whole (b ∷ from) off fits =
           below = λ i less. get_or_append_left (take off whole ++ ys) (drop (off + length ys) whole) 0 i (omega (arith, less, all)) ∙ get_or_append_left (take off whole) ys 0 i (omega (arith, less, front)) ∙ get_or-take off whole i 0 less;
           above = λ i more. get_or-append_right (take off whole ++ ys) (drop (off + length ys) whole) (off + length ys) i 0 all more ∙ get_or-drop (off + length ys) whole (i - (off + length ys)) 0 ∙ ap (λ k. slice_index whole k) (let back : off + length ys + (i - (off + length ys)) ≡ i = omega (arith, more) in back);
         }
+
+-- words that were put into the middle of others
+mid_stored : (off n : ℕ) (from old : List ℕ) → length from ≡ n → off + n ≤ length old → FrontStored off n from old (put_mid off n old from)
+mid_stored off n from old long fits =
+    let front : length (take off old) ≡ off = length-take-le off old (omega (arith, fits)) in
+    let rest : List ℕ = drop n (drop off old) in
+    record {
+      count = omega (arith, length-append (take off old) (from ++ rest), length-append from rest, front, long, length-drop n (drop off old), length-drop off old, fits);
+      front = λ i less. get_or-append_right (take off old) (from ++ rest) off (off + i) 0 front (omega arith) ∙ get_or_append_left from rest 0 (off + i - off) (omega (arith, less, long)) ∙ ap (λ k. slice_index from k) (let back : off + i - off ≡ i = omega arith in back);
+      below = λ i less. get_or_append_left (take off old) (from ++ rest) 0 i (omega (arith, less, front)) ∙ get_or-take off old i 0 less;
+      above = λ i more. get_or-append_right (take off old) (from ++ rest) off i 0 front (omega (arith, more)) ∙ get_or-append_right from rest n (i - off) 0 long (omega (arith, more)) ∙ get_or-drop n (drop off old) (i - off - n) 0 ∙ get_or-drop off old (n + (i - off - n)) 0 ∙ ap (λ k. slice_index old k) (let back : off + (n + (i - off - n)) ≡ i = omega (arith, more) in back);
+    }
+
+pub block_stored : (b : ℕ) (from old given : List ℕ) → given ≡ from → length from ≡ 512 → 512 * b + 512 ≤ length old → FrontStored (512 * b) 512 from old (put_mid (512 * b) (512 * b + 512 - 512 * b) old given)
+block_stored b from old given is long fits =
+    let count : 512 ≡ 512 * b + 512 - 512 * b = omega arith in
+    subst (λ (ys : List ℕ). FrontStored (512 * b) 512 from old (put_mid (512 * b) (512 * b + 512 - 512 * b) old ys)) (sym is)
+    (subst (λ n. FrontStored (512 * b) 512 from old (put_mid (512 * b) n old from)) count (mid_stored (512 * b) 512 from old long fits))
 
 some_files : (x y : Files) → Some x ≡ Some y → x ≡ y
 some_files x y e = cc

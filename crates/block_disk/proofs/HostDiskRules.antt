@@ -5,7 +5,7 @@ use Rattle.std.proofs.lemmas.Bool.{cases_Bool, cases_eq, cases_lt}
 use Rattle.std.proofs.lemmas.List.{ext_get_or, get_or_past, get_or-replicate, length-replicate, length-take-le}
 use Rattle.rio_base.specs.Blocks.{Around}
 use Rattle.rio_base.specs.Bytes.{bytes_of}
-use Rattle.rio_base.specs.Disks.{DiskContents, FaultCount, HasFaultCause, block_at, blocks_of, is_pending, raised, with_synced, with_written}
+use Rattle.rio_base.specs.Disks.{DiskContents, FaultCount, FaultsLast, HasFaultCause, block_at, blocks_of, is_pending, raised, with_synced, with_written}
 use Rattle.rio_base.specs.Hosts.{Files, IsFile}
 use Rattle.rio_base.specs.Memory.{FrontStored}
 use Rattle.rio_base.specs.Rules.{true_false}
@@ -105,6 +105,10 @@ pub record WrittenFirst (told : Option Files) (name words : List ℕ) (marks : L
   pub kept : OnHost told name words marks
   pub done : (j : ℕ) → j < i → HasBlock told name words (slice_index numbers j)
 
+-- none is written yet
+pub written_none : (told : Option Files) (name words : List ℕ) (marks : List Bool) (numbers : List ℕ) → OnHost told name words marks → WrittenFirst told name words marks numbers 0
+written_none told name words marks numbers kept = record { kept = kept; done = λ j none. absurd (omega (arith, none)) }
+
 -- a marked block is written, or its write fails
 pub kept_marked : (told new : Option Files) (name words : List ℕ) (b : ℕ) (marks : List Bool) → OnHost told name words marks → is_pending marks b ≡ true → FitsFile new name words → ((c : ℕ) → c ≢ b → HasBlock told name words c → HasBlock new name words c) → OnHost new name words marks
 kept_marked told new name words b marks kept marked fits others = record { fits = fits; written = λ c clear. others c (λ is. true_false (sym marked ∙ ap (is_pending marks) (sym is) ∙ clear)) (kept.written c clear) }
@@ -172,12 +176,16 @@ blocks_fit words fit b w = at (cases_lt b (length words / 512)) (cases_lt w 512)
 abbrev pub no_limit : ℕ → FaultCount
 no_limit n = record { count = n; limit = None }
 
--- a call that fails never
-pub none_failed : {E : Type 0} (n : ℕ) → HasFaultCause {T = Unit {0}} {E = E} (Ok tt) (no_limit n) (no_limit n)
-none_failed n = record { last = record { later = le_refl n; limit = λ most e. absurd (never most e) }; cause = tt }
+-- a count that does not fall
+pub none_lower : (old new : ℕ) → old ≤ new → FaultsLast (no_limit old) (no_limit new)
+none_lower old new later = record { later = later; limit = λ most e. absurd (never most e) }
   where
     never : (most : ℕ) → None ≡ Some most → ⊥
     never most e = cc
+
+-- a call that fails never
+pub none_failed : {E : Type 0} (n : ℕ) → HasFaultCause {T = Unit {0}} {E = E} (Ok tt) (no_limit n) (no_limit n)
+none_failed n = record { last = none_lower n n (le_refl n); cause = tt }
 
 -- ---- the disk after a call
 
@@ -224,3 +232,13 @@ pub torn_given : (told new : Option Files) (name from old words given : List ℕ
 torn_given told new name from old words given b marks later kept put lent fits others within is =
     kept_torn told new name from old words b marks later kept put (subst (λ (ws : List ℕ). FitsFile new name ws) lent fits)
     (subst (λ (ws : List ℕ). (c : ℕ) → c ≢ b → HasBlock told name ws c → HasBlock new name ws c) lent others) within is
+
+pub lent_kept : (told : Option Files) (name words given : List ℕ) (marks : List Bool) → given ≡ words → OnHost told name words marks → OnHost told name given marks
+lent_kept told name words given marks lent kept = subst (λ (ws : List ℕ). OnHost told name ws marks) (sym lent) kept
+
+pub given_kept : (new : Option Files) (name words given : List ℕ) (marks : List Bool) → given ≡ words → OnHost new name given marks → OnHost new name words marks
+given_kept new name words given marks lent kept = subst (λ (ws : List ℕ). OnHost new name ws marks) lent kept
+
+-- all was written, and then the files stayed
+pub all_kept : (told new : Option Files) (name words given : List ℕ) (marks : List Bool) → new ≡ told → given ≡ words → OnHost told name given [] → OnHost new name words marks
+all_kept told new name words given marks same lent kept = kept_all new name words marks (given_kept new name words given [] lent (subst (λ (t : Option Files). OnHost t name given []) (sym same) kept))

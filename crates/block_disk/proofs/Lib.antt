@@ -1,3 +1,4 @@
+pub mod Ends
 pub mod Failing
 pub mod FileBlocks
 pub mod FileReads
