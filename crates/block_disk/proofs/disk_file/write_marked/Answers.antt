@@ -1,9 +1,21 @@
-use Rattle.std.proofs.Common.{ℕ, List, refl, sym, subst, arith, le_refl, ◌∙◌}
+use Rattle.std.proofs.Common.{ℕ, List, refl, sym, subst, arith, rules, le_refl, ◌∙◌}
 use Rattle.block_disk.specs.BlockLists.{Lists}
 use Rattle.block_disk.proofs.Ends.{failed_on, none_owed}
 use Rattle.block_disk.proofs.HostDiskRules.{kept_marked, written_all, written_next, written_none}
 use Rattle.block_disk.proofs.Marks.{listed, listed_within}
 use Rattle.block_disk.proofs.disk_file.write_marked.Goals as goal
+
+-- What a turn leaves stands first: a body that goes on after a failed write is then refused by that.
+
+pub loop-i-preserved : goal.loop-i-preserved
+loop-i-preserved g c =
+    let lists = subst (λ (ns : List ℕ). Lists ns c.args.marked.now.marks.items) (sym c.numbers-numbers.ensures) c.args.marked.now.lists in
+    record {
+      room = c.write_block.ensures.room;
+      first = written_next _ _ _ _ _ _ _ _ c.loop-i.invariant.first lists c.loop-i-test.true refl c.write_block.ensures.fits (search rules) c.write_block.ensures.others;
+      around = c.write_block.ensures.around ∙ c.loop-i.invariant.around;
+      later = omega (arith, c.loop-i.invariant.later, c.write_block.ensures.cause.later);
+    }
 
 pub write_block-requires-clause-block : goal.write_block-requires-clause-block
 write_block-requires-clause-block g c =
@@ -21,16 +33,6 @@ write_block-requires-clause-fits g c = c.loop-i.invariant.first.kept.fits
 
 pub loop-i-init : goal.loop-i-init
 loop-i-init g c = record { room = c.requires.room; first = written_none _ _ _ _ _ c.requires.file; around = refl; later = le_refl _ }
-
-pub loop-i-preserved : goal.loop-i-preserved
-loop-i-preserved g c =
-    let lists = subst (λ (ns : List ℕ). Lists ns c.args.marked.now.marks.items) (sym c.numbers-numbers.ensures) c.args.marked.now.lists in
-    record {
-      room = c.write_block.ensures.room;
-      first = written_next _ _ _ _ _ _ _ _ c.loop-i.invariant.first lists c.loop-i-test.true refl c.write_block.ensures.fits c.in_ok-write_block.ensures.here c.write_block.ensures.others;
-      around = c.write_block.ensures.around ∙ c.loop-i.invariant.around;
-      later = omega (arith, c.loop-i.invariant.later, c.write_block.ensures.cause.later);
-    }
 
 pub returns-in_err-write_block-clause-room : goal.returns-in_err-write_block-clause-room
 returns-in_err-write_block-clause-room g c = c.write_block.ensures.room
