@@ -1,6 +1,8 @@
 pub mod ClearTurns
 pub mod Common
 pub mod Due
+pub mod Exits
+pub mod ReadEnds
 pub mod Restores
 pub mod SettleTurns
 pub mod Steps

@@ -6,7 +6,7 @@ use Rattle.page_restore.proofs.Steps.{phase_none, phase_ok, phase_then}
 use Rattle.page_restore.specs.Phases.{PhaseEnds, WritesDue, is_due}
 use Rattle.page_restore.specs.declared.kinds.PageKind.{PageKind}
 
-valid_due : (kind : PageKind) (marks : List Bool) (words : List ℕ) (k : ℕ) → k < frames_of words → is_due kind marks words k ≡ true → IsValid words k
+pub valid_due : (kind : PageKind) (marks : List Bool) (words : List ℕ) (k : ℕ) → k < frames_of words → is_due kind marks words k ≡ true → IsValid words k
 valid_due kind marks words k less e = record { within = less; valid = (and_parts _ _ e).0 }
 
 pub dirty_due : (kind : PageKind) (marks : List Bool) (words : List ℕ) (k : ℕ) → is_due kind marks words k ≡ true → is_dirty (tag_at words k) ≡ true

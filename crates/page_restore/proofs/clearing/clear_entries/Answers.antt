@@ -1,5 +1,7 @@
 use Rattle.std.proofs.Common.{◌∙◌, ◌<◌, Err, ap, arith, subst, sym}
 use Rattle.std.proofs.lemmas.Result.{err_from_is_err_and}
+use Rattle.rio_base.proofs.MachineRules.{never}
+use Rattle.rio_base.specs.declared.failures.VolFail.TheVariants.{Stopped}
 use Rattle.rio_model.specs.Standing.{stale_block}
 use Rattle.page_restore.proofs.ClearTurns.{Clears, cleared_all, cleared_cut, cleared_next, cleared_none, home_then, synced_then}
 use Rattle.page_restore.proofs.Steps.{image_next, phase_told}
@@ -38,7 +40,7 @@ pub loop-k-preserved : goal.loop-k-preserved
 loop-k-preserved g c =
     let h = c.in_ok-clear_entry.ensures in
     let turn : Clears c.args.marks.now c.loop-k.k (g.M.Machine.contents c.loop-k.m) (g.M.Machine.contents c.clear_entry.new.m) (g.M.Machine.run c.loop-k.m) (g.M.Machine.run c.clear_entry.new.m) _ _ = record { endures = h.endures; rest = h.rest; one = h.one_entry; ends = h.ends } in
-    cleared_next c.args.marks.now c.loop-k.k _ _ _ _ _ _ _ _ (λ e. cc) (subst (λ f. c.loop-k.k < f) c.frame_count-frames.ensures c.loop-k-test.true) c.loop-k.invariant turn h.gone
+    cleared_next c.args.marks.now c.loop-k.k _ _ _ _ _ _ _ _ (never _ Stopped) (subst (λ f. c.loop-k.k < f) c.frame_count-frames.ensures c.loop-k-test.true) c.loop-k.invariant turn h.gone
 
 pub returns-clause-gone : goal.returns-clause-gone
 returns-clause-gone g c = cleared_all c.args.marks.now c.loop-k.k _ _ _ _ (omega (arith, c.loop-k.auto.k-end, c.loop-k-test.false, c.frame_count-frames.ensures)) c.loop-k.invariant

@@ -1,5 +1,7 @@
 use Rattle.std.proofs.Common.{◌∙◌, Err, List, ap, inl, inr, refl, sym, ℕ}
 use Rattle.std.proofs.lemmas.Result.{err_from_is_err_and}
+use Rattle.rio_base.proofs.MachineRules.{never}
+use Rattle.rio_base.specs.declared.failures.VolFail.TheVariants.{Fault, Stopped}
 use Rattle.rio_model.specs.Registry.{frames_of}
 use Rattle.rio_model.specs.Standing.{none_apart}
 use Rattle.rio_model.proofs.RebootSteps.{brings_trans, brings_words}
@@ -31,7 +33,7 @@ returns-in_err-meta-clause-dropped g c =
 pub returns-in_err-meta-clause-ends : goal.returns-in_err-meta-clause-ends
 returns-in_err-meta-clause-ends g c =
     let p = err_from_is_err_and c.from_residual-in_err-meta.result c.from_residual-in_err-meta.ensures.1 in
-    phase_told _ _ _ _ _ _ (p.1 ∙ ap Err p.2) (phase_then _ _ _ _ _ _ _ _ _ _ (λ e. cc) c.in_ok-settle.ensures.ends c.in_err-meta.ensures.ends)
+    phase_told _ _ _ _ _ _ (p.1 ∙ ap Err p.2) (phase_then _ _ _ _ _ _ _ _ _ _ (never _ Stopped) c.in_ok-settle.ensures.ends c.in_err-meta.ensures.ends)
 
 -- ---- the third, after metadata
 
@@ -55,7 +57,7 @@ returns-in_err-pages-clause-dropped g c =
 pub returns-in_err-pages-clause-ends : goal.returns-in_err-pages-clause-ends
 returns-in_err-pages-clause-ends g c =
     let p = err_from_is_err_and c.from_residual-in_err-pages.result c.from_residual-in_err-pages.ensures.1 in
-    phase_told _ _ _ _ _ _ (p.1 ∙ ap Err p.2) (phase_then _ _ _ _ _ _ _ _ _ _ (λ e. cc) (phase_then _ _ _ _ _ _ _ _ _ _ (λ e. cc) c.in_ok-settle.ensures.ends c.in_ok-meta.ensures.ends) c.in_err-pages.ensures.ends)
+    phase_told _ _ _ _ _ _ (p.1 ∙ ap Err p.2) (phase_then _ _ _ _ _ _ _ _ _ _ (never _ Stopped) (phase_then _ _ _ _ _ _ _ _ _ _ (never _ Stopped) c.in_ok-settle.ensures.ends c.in_ok-meta.ensures.ends) c.in_err-pages.ensures.ends)
 
 -- ---- after both
 
@@ -86,4 +88,4 @@ returns-clause-counts g c = λ l are.
     (c.count_due-stale.ensures ∙ ap (due_count Stale c.args.marks.now) (c.bring-2.ensures.words ∙ c.bring.ensures.words)) are
 
 pub returns-clause-ends : goal.returns-clause-ends
-returns-clause-ends g c = phase_as _ _ _ _ _ _ _ _ (λ e. cc) (λ e. cc) (λ e. cc) (phase_then _ _ _ _ _ _ _ _ _ _ (λ e. cc) (phase_then _ _ _ _ _ _ _ _ _ _ (λ e. cc) c.in_ok-settle.ensures.ends c.in_ok-meta.ensures.ends) c.in_ok-pages.ensures.ends)
+returns-clause-ends g c = phase_as _ _ _ _ _ _ _ _ (never _ Stopped) (never _ Fault) (never _ Stopped) (phase_then _ _ _ _ _ _ _ _ _ _ (never _ Stopped) (phase_then _ _ _ _ _ _ _ _ _ _ (never _ Stopped) c.in_ok-settle.ensures.ends c.in_ok-meta.ensures.ends) c.in_ok-pages.ensures.ends)

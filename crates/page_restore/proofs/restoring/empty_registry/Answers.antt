@@ -1,5 +1,7 @@
 use Rattle.std.proofs.Common.{◌∙◌, Err, ap}
 use Rattle.std.proofs.lemmas.Result.{err_from_is_err_and}
+use Rattle.rio_base.proofs.MachineRules.{never}
+use Rattle.rio_base.specs.declared.failures.VolFail.TheVariants.{Stopped}
 use Rattle.rio_model.specs.Standing.{stale_block}
 use Rattle.rio_model.proofs.RebootSteps.{endures_trans, endures_widened}
 use Rattle.page_restore.proofs.ClearTurns.{rest_then}
@@ -18,7 +20,7 @@ returns-in_err-shut_gate-clause-rest g c = rest_then (g.M.Machine.contents c.arg
 pub returns-in_err-shut_gate-clause-ends : goal.returns-in_err-shut_gate-clause-ends
 returns-in_err-shut_gate-clause-ends g c =
     let p = err_from_is_err_and c.from_residual-in_err-shut_gate.result c.from_residual-in_err-shut_gate.ensures.1 in
-    phase_told _ _ _ _ _ _ (p.1 ∙ ap Err p.2) (phase_then _ _ _ _ _ _ _ _ _ _ (λ e. cc) c.in_ok-clear_entries.ensures.ends c.in_err-shut_gate.ensures.ends)
+    phase_told _ _ _ _ _ _ (p.1 ∙ ap Err p.2) (phase_then _ _ _ _ _ _ _ _ _ _ (never _ Stopped) c.in_ok-clear_entries.ensures.ends c.in_err-shut_gate.ensures.ends)
 
 pub returns-clause-endures : goal.returns-clause-endures
 returns-clause-endures g c = endures_trans _ _ _ _ c.clear_entries.ensures.endures (endures_widened (stale_block c.args.marks.now (g.M.Machine.contents c.args.m.now).words) _ _ c.shut_gate.ensures.endures)
@@ -27,4 +29,4 @@ pub returns-clause-rest : goal.returns-clause-rest
 returns-clause-rest g c = rest_then (g.M.Machine.contents c.args.m.now) (g.M.Machine.contents c.clear_entries.new.m) (g.M.Machine.contents c.shut_gate.new.m) c.clear_entries.ensures.rest c.shut_gate.ensures.rest
 
 pub returns-clause-ends : goal.returns-clause-ends
-returns-clause-ends g c = phase_then _ _ _ _ _ _ _ _ _ _ (λ e. cc) c.in_ok-clear_entries.ensures.ends c.in_ok-shut_gate.ensures.ends
+returns-clause-ends g c = phase_then _ _ _ _ _ _ _ _ _ _ (never _ Stopped) c.in_ok-clear_entries.ensures.ends c.in_ok-shut_gate.ensures.ends

@@ -1,5 +1,7 @@
 use Rattle.std.proofs.Common.{◌∙◌, Err, ap, inl, inr}
 use Rattle.std.proofs.lemmas.Result.{err_from_is_err_and}
+use Rattle.rio_base.proofs.MachineRules.{never}
+use Rattle.rio_base.specs.declared.failures.VolFail.TheVariants.{Fault, Stopped}
 use Rattle.rio_model.specs.Standing.{none_apart, stale_block}
 use Rattle.rio_model.proofs.RebootSteps.{endures_widened}
 use Rattle.page_restore.proofs.ClearTurns.{synced_then}
@@ -28,7 +30,7 @@ returns-in_err-empty_registry-clause-dropped g c = stale_emptied c.args.marks.no
 pub returns-in_err-empty_registry-clause-ends : goal.returns-in_err-empty_registry-clause-ends
 returns-in_err-empty_registry-clause-ends g c =
     let p = err_from_is_err_and c.from_residual-in_err-empty_registry.result c.from_residual-in_err-empty_registry.ensures.1 in
-    phase_told _ _ _ _ _ _ (p.1 ∙ ap Err p.2) (phase_then _ _ _ _ _ _ _ _ _ _ (λ e. cc) c.in_ok-counts.ensures.ends c.in_err-empty_registry.ensures.ends)
+    phase_told _ _ _ _ _ _ (p.1 ∙ ap Err p.2) (phase_then _ _ _ _ _ _ _ _ _ _ (never _ Stopped) c.in_ok-counts.ensures.ends c.in_err-empty_registry.ensures.ends)
 
 pub returns-clause-endures : goal.returns-clause-endures
 returns-clause-endures g c = endures_emptied c.args.marks.now _ _ _ c.bring_home.ensures.brings c.empty_registry.ensures.endures
@@ -43,7 +45,7 @@ pub returns-clause-dropped : goal.returns-clause-dropped
 returns-clause-dropped g c = stale_emptied c.args.marks.now (g.M.Machine.contents c.args.m.now) (g.M.Machine.contents c.bring_home.new.m) (g.M.Machine.contents c.empty_registry.new.m) c.empty_registry.ensures.rest c.bring_home.ensures.dropped
 
 pub returns-clause-running : goal.returns-clause-running
-returns-clause-running g c = c.in_ok-empty_registry.ensures.ends.ends.runs (λ e. cc) ∙ c.in_ok-counts.ensures.running
+returns-clause-running g c = c.in_ok-empty_registry.ensures.ends.ends.runs (never _ Stopped) ∙ c.in_ok-counts.ensures.running
 
 pub returns-clause-ends : goal.returns-clause-ends
-returns-clause-ends g c = phase_as _ _ _ _ _ _ _ _ (λ e. cc) (λ e. cc) (λ e. cc) (phase_then _ _ _ _ _ _ _ _ _ _ (λ e. cc) c.in_ok-counts.ensures.ends c.in_ok-empty_registry.ensures.ends)
+returns-clause-ends g c = phase_as _ _ _ _ _ _ _ _ (never _ Stopped) (never _ Fault) (never _ Stopped) (phase_then _ _ _ _ _ _ _ _ _ _ (never _ Stopped) c.in_ok-counts.ensures.ends c.in_ok-empty_registry.ensures.ends)

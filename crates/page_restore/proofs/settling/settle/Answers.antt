@@ -1,5 +1,7 @@
 use Rattle.std.proofs.Common.{◌∙◌, ◌<◌, Err, ap, arith, subst, sym}
 use Rattle.std.proofs.lemmas.Result.{err_from_is_err_and}
+use Rattle.rio_base.proofs.MachineRules.{never}
+use Rattle.rio_base.specs.declared.failures.VolFail.TheVariants.{Stopped}
 use Rattle.rio_model.specs.Standing.{none_apart}
 use Rattle.page_restore.proofs.SettleTurns.{Settles, settled_all, settled_brings, settled_cut, settled_next, settled_none}
 use Rattle.page_restore.proofs.Steps.{image_next, phase_told}
@@ -47,7 +49,7 @@ loop-k-preserved g c =
     let less = subst (λ f. c.loop-k.k < f) c.frame_count-frames.ensures c.loop-k-test.true in
     let h = c.in_ok-settle_entry.ensures in
     let turn : Settles c.loop-k.k (g.M.Machine.contents c.loop-k.m) (g.M.Machine.contents c.settle_entry.new.m) (g.M.Machine.run c.loop-k.m) (g.M.Machine.run c.settle_entry.new.m) _ _ = record { endures = h.endures; marked = h.marked; one = h.one_entry; disk = h.disk; ends = h.ends } in
-    record { walk = settled_next c.loop-k.k _ _ _ _ _ _ _ _ (λ e. cc) less c.loop-k.invariant.walk turn h.settled; room = h.room }
+    record { walk = settled_next c.loop-k.k _ _ _ _ _ _ _ _ (never _ Stopped) less c.loop-k.invariant.walk turn h.settled; room = h.room }
 
 pub returns-clause-brings : goal.returns-clause-brings
 returns-clause-brings g c = settled_brings c.loop-k.k _ _ _ _ c.loop-k.invariant.walk

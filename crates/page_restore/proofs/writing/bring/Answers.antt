@@ -1,5 +1,7 @@
 use Rattle.std.proofs.Common.{◌∙◌, Err, ap}
 use Rattle.std.proofs.lemmas.Result.{err_from_is_err_and}
+use Rattle.rio_base.proofs.MachineRules.{never}
+use Rattle.rio_base.specs.declared.failures.VolFail.TheVariants.{Fault, Stopped}
 use Rattle.rio_model.specs.Standing.{none_apart}
 use Rattle.rio_model.proofs.RebootSteps.{endures_trans}
 use Rattle.page_restore.proofs.Steps.{phase_as, phase_then, phase_told}
@@ -18,7 +20,7 @@ returns-in_err-sync_all-clause-writes g c = writes_disk c.args.kind c.args.marks
 pub returns-in_err-sync_all-clause-ends : goal.returns-in_err-sync_all-clause-ends
 returns-in_err-sync_all-clause-ends g c =
     let p = err_from_is_err_and c.from_residual-in_err-sync_all.result c.from_residual-in_err-sync_all.ensures.1 in
-    phase_told _ _ _ _ _ _ (p.1 ∙ ap Err p.2) (phase_then _ _ _ _ _ _ _ _ _ _ (λ e. cc) c.in_ok-count.ensures.ends c.in_err-sync_all.ensures.ends)
+    phase_told _ _ _ _ _ _ (p.1 ∙ ap Err p.2) (phase_then _ _ _ _ _ _ _ _ _ _ (never _ Stopped) c.in_ok-count.ensures.ends c.in_err-sync_all.ensures.ends)
 
 pub returns-clause-endures : goal.returns-clause-endures
 returns-clause-endures g c = endures_trans none_apart _ _ _ c.write_due.ensures.endures c.sync_all.ensures.endures
@@ -30,4 +32,4 @@ pub returns-clause-writes : goal.returns-clause-writes
 returns-clause-writes g c = writes_disk c.args.kind c.args.marks.now _ _ _ c.sync_all.ensures.disk c.write_due.ensures.writes
 
 pub returns-clause-ends : goal.returns-clause-ends
-returns-clause-ends g c = phase_as _ _ _ _ _ _ _ _ (λ e. cc) (λ e. cc) (λ e. cc) (phase_then _ _ _ _ _ _ _ _ _ _ (λ e. cc) c.in_ok-count.ensures.ends c.in_ok-sync_all.ensures.ends)
+returns-clause-ends g c = phase_as _ _ _ _ _ _ _ _ (never _ Stopped) (never _ Fault) (never _ Stopped) (phase_then _ _ _ _ _ _ _ _ _ _ (never _ Stopped) c.in_ok-count.ensures.ends c.in_ok-sync_all.ensures.ends)

@@ -1,5 +1,7 @@
 use Rattle.std.proofs.Common.{◌∙◌, ◌<◌, ◌+◌, ◌≡◌, Err, List, ap, arith, subst, sym, ℕ}
 use Rattle.std.proofs.lemmas.Result.{err_from_is_err_and}
+use Rattle.rio_base.proofs.MachineRules.{never}
+use Rattle.rio_base.specs.declared.failures.VolFail.TheVariants.{Stopped}
 use Rattle.rio_model.specs.Registry.{frames_of}
 use Rattle.rio_model.specs.Standing.{none_apart}
 use Rattle.page_restore.specs.Phases.{due_before, is_due}
@@ -31,7 +33,7 @@ loop-k-preserved g c =
     let h = c.in_ok-due.ensures in
     let turn : Writes c.args.kind c.args.marks.now c.loop-k.k (g.M.Machine.contents c.loop-k.m) (g.M.Machine.contents c.write_if_due.new.m) (g.M.Machine.run c.loop-k.m) (g.M.Machine.run c.write_if_due.new.m) _ _ = record { endures = h.endures; words = h.words; same = h.same; others = h.others; ends = h.ends } in
     record {
-      walk = wrote_next c.args.kind c.args.marks.now c.loop-k.k _ _ _ _ _ _ _ _ (λ e. cc) c.requires.image.rules.blocks (subst (λ f. c.loop-k.k < f) c.frame_count-frames.ensures c.loop-k-test.true) c.loop-k.invariant.walk turn h.home;
+      walk = wrote_next c.args.kind c.args.marks.now c.loop-k.k _ _ _ _ _ _ _ _ (never _ Stopped) c.requires.image.rules.blocks (subst (λ f. c.loop-k.k < f) c.frame_count-frames.ensures c.loop-k-test.true) c.loop-k.invariant.walk turn h.home;
       counted = ap (λ n. n + c.from-count.result) c.loop-k.invariant.counted ∙ sym (due_more c.args.kind c.args.marks.now (g.M.Machine.contents c.args.m.now).words c.loop-k.k c.from-count.result c.in_ok-due.due c.from-count.ensures (h.answer ∙ ap (λ (ws : List ℕ). is_due c.args.kind c.args.marks.now ws c.loop-k.k) c.loop-k.invariant.walk.words));
     }
 
