@@ -94,7 +94,7 @@ sort_of (Err UndoFull) = inl tt
 sort_of (Err (Fault k)) = inr (inl tt)
 sort_of (Err Stopped) = inr (inr refl)
 
-told_apart : {T : Type 0} (r : Result T TxnFail) → IsTold r → IsFault r → ⊥
+pub told_apart : {T : Type 0} (r : Result T TxnFail) → IsTold r → IsFault r → ⊥
 told_apart (Ok v) t h = h
 told_apart (Err (Fault k)) t h = t
 told_apart (Err NoTransaction) t h = h

@@ -7,7 +7,7 @@ use Rattle.vista_region.specs.Marks.{Marks, mark_of, marked_txn, txn_in}
 use Rattle.vista_region.specs.Regions.{region_now}
 use Rattle.vista_region.specs.Steps.{doomed_by}
 use Rattle.vista_region.proofs.Bytes.{same_bytes}
-use Rattle.vista_region.proofs.Outcomes.{answer, past_end, within_goes}
+use Rattle.vista_region.proofs.Outcomes.{answer, one_number, past_end, within_goes}
 
 goes_by : (i : ℕ) (f : RegionContent) (o : Option Bool) (go : Outcome) → doomed_by o ≡ false → unless_doomed (marked_txn i f o) go ≡ go
 goes_by i f None go h = refl
@@ -26,3 +26,12 @@ get_done marks i f off len place old bytes h fits at none is =
 
 pub get_past : (marks : Marks) (i : ℕ) (f : RegionContent) (off len : ℕ) → doomed_by (mark_of marks i) ≡ false → 4096 * f 2 < off + len → get_on (region_now f) (txn_in marks i f) off len ≡ Err 19
 get_past marks i f off len h past = goes_by i f (mark_of marks i) _ h ∙ past_end f off len _ past
+
+-- the transaction may only be aborted
+pub get_doomed : (marks : Marks) (i : ℕ) (f : RegionContent) (off len number : ℕ) → doomed_by (mark_of marks i) ≡ true → Some 22 ≡ Some number → get_on (region_now f) (txn_in marks i f) off len ≡ Err number
+get_doomed marks i f off len number h is = by (mark_of marks i) h ∙ ap (λ n. Err n) (one_number 22 number is)
+  where
+    by : (o : Option Bool) → doomed_by o ≡ true → get_on (region_now f) (marked_txn i f o) off len ≡ Err 22
+    by None e = absurd (true_false (sym e))
+    by (Some true) e = refl
+    by (Some false) e = absurd (true_false (sym e))

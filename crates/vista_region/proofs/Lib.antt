@@ -2,6 +2,7 @@ mod Blocks
 mod Bytes
 mod Covered
 pub mod Ended
+mod Exits
 mod Gets
 mod Heaps
 mod MarkRows

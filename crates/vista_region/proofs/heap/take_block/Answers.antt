@@ -1,4 +1,4 @@
-use Rattle.vista_region.proofs.Common.{ℕ, Err, ◌∙◌, ap, sym, subst, refl, arith, err_from_is_err_and}
+use Rattle.vista_region.proofs.Common.{ℕ, Err, ◌∙◌, ap, sym, subst, refl, arith, err_from_is_err_and, Ok, inl, inr}
 use Rattle.rio_requests.specs.RegionAnswers.{alloc_on}
 use Rattle.vista_region.specs.Ends.{DoneAs, TxnEnds}
 use Rattle.vista_region.specs.Failures.{heap_handed}
@@ -6,6 +6,13 @@ use Rattle.vista_region.specs.Marks.{txn_in}
 use Rattle.vista_region.specs.Regions.{region_now}
 use Rattle.vista_region.specs.Steps.{says_unit}
 use Rattle.vista_region.proofs.Blocks.{alloc_done, alloc_fails, at_least, no_gap, too_many}
+use Rattle.std.proofs.Common.{le_refl}
+use Rattle.rio_model.proofs.UndoRules.{undoes_refl}
+use Rattle.undo_list.proofs.Outcomes.{stays_none}
+use Rattle.vista_region.proofs.Outcomes.{ok_apart}
+use Rattle.vista_region.proofs.Exits.{told_ends, ends_heap, heap_fault, heap_stays}
+use Rattle.recov_alloc.specs.declared.failures.HeapFail.TheVariants.{Stopped as HeapStopped}
+use Rattle.vista_region.specs.declared.failures.TxnFail.TheVariants.{HeapFull}
 use Rattle.vista_region.proofs.heap.take_block.Goals as goal
 
 pub returns-in_default-clause-ends : goal.returns-in_default-clause-ends
@@ -35,3 +42,66 @@ returns-clause-ends g c marks i m =
     let same = c.in-Ok.ensures.1 in
     subst (λ (u : ℕ). DoneAs (alloc_on (region_now f) (txn_in marks i f) u) marks i last (says_unit c.in_ok-unit.unit)) same
     (alloc_done marks i (g.R.RegionWords.count c.args.r.now) f last c.in-Ok.units c.in_ok-unit.unit m c.requires.heap (omega (arith, same, c.requires.units)) call.ok call.room call.before call.listed)
+
+pub returns-in_default-clause-fault : goal.returns-in_default-clause-fault
+returns-in_default-clause-fault g c = tt
+
+pub returns-in_default-clause-heap : goal.returns-in_default-clause-heap
+returns-in_default-clause-heap g c = λ told. c.requires.heap
+
+pub returns-in_default-clause-before : goal.returns-in_default-clause-before
+returns-in_default-clause-before g c = undoes_refl (g.R.RegionWords.count c.args.r.now) (g.R.RegionWords.words c.args.r.now) c.requires.region
+
+pub returns-in_default-clause-stays : goal.returns-in_default-clause-stays
+returns-in_default-clause-stays g c = stays_none c.args.r.now (g.met.R.RegionWords.rest_refl c.args.r.now) c.requires.ready
+
+pub returns-in_default-clause-causes : goal.returns-in_default-clause-causes
+returns-in_default-clause-causes g c = told_ends {T = ℕ} _ _ (Err HeapFull) tt (le_refl _) refl
+
+pub allocate-requires-clause-ready : goal.allocate-requires-clause-ready
+allocate-requires-clause-ready g c = c.requires.ready
+
+pub allocate-requires-clause-region : goal.allocate-requires-clause-region
+allocate-requires-clause-region g c = c.requires.region
+
+pub allocate-requires-clause-heap : goal.allocate-requires-clause-heap
+allocate-requires-clause-heap g c = c.requires.heap
+
+pub returns-in_err-unit-clause-fault : goal.returns-in_err-unit-clause-fault
+returns-in_err-unit-clause-fault g c =
+    let p = err_from_is_err_and c.from_residual.result c.from_residual.ensures.1 in
+    heap_fault c.from_residual.result _ _ p.1 p.2
+
+pub returns-in_err-unit-clause-heap : goal.returns-in_err-unit-clause-heap
+returns-in_err-unit-clause-heap g c =
+    let p = err_from_is_err_and c.from_residual.result c.from_residual.ensures.1 in
+    heap_stays c.allocate.result c.from_residual.result _ _ (g.R.RegionWords.words c.args.r.now) (g.R.RegionWords.words c.allocate.new.r) c.in_err-unit.was p.1 p.2 (λ x. c.allocate.ensures.refused (inl x)) (λ x. absurd (c.allocate.ensures.no_block x)) (λ x. c.allocate.ensures.refused (inr x)) c.requires.heap
+
+pub returns-in_err-unit-clause-causes : goal.returns-in_err-unit-clause-causes
+returns-in_err-unit-clause-causes g c =
+    let p = err_from_is_err_and c.from_residual.result c.from_residual.ensures.1 in
+    ends_heap _ _ c.allocate.result c.from_residual.result _ _ c.in_err-unit.was p.1 p.2 c.allocate.ensures.ends
+
+pub returns-in_err-unit-clause-before : goal.returns-in_err-unit-clause-before
+returns-in_err-unit-clause-before g c = c.allocate.ensures.before
+
+pub returns-in_err-unit-clause-stays : goal.returns-in_err-unit-clause-stays
+returns-in_err-unit-clause-stays g c = c.allocate.ensures.stays
+
+pub returns-clause-before : goal.returns-clause-before
+returns-clause-before g c = c.allocate.ensures.before
+
+pub returns-clause-stays : goal.returns-clause-stays
+returns-clause-stays g c = c.allocate.ensures.stays
+
+pub returns-clause-fault : goal.returns-clause-fault
+returns-clause-fault g c = tt
+
+pub returns-clause-heap : goal.returns-clause-heap
+returns-clause-heap g c = λ told. c.in_ok-unit.ensures.heap
+
+pub returns-clause-causes : goal.returns-clause-causes
+returns-clause-causes g c = told_ends {T = ℕ} _ _ (Ok _) tt c.allocate.ensures.ends.later (c.in_ok-unit.ensures.ends.runs (ok_apart c.in_ok-unit.unit HeapStopped))
+
+pub allocate-requires-clause-units : goal.allocate-requires-clause-units
+allocate-requires-clause-units g c = omega (arith, c.in-Ok.ensures.1, c.requires.units)

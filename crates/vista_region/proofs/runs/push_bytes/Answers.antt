@@ -1,8 +1,10 @@
-use Rattle.vista_region.proofs.Common.{◌≡◌, ◌+◌, ◌-◌, ◌*◌, ◌/◌, ◌∙◌, ◌++◌, ap, sym, subst, arith, stays_trans, RegionContent, byte_in, bytes_in, IsRegion, live}
+use Rattle.vista_region.proofs.Common.{◌≡◌, ◌+◌, ◌-◌, ◌*◌, ◌/◌, ◌∙◌, ◌++◌, ap, sym, subst, arith, stays_trans, RegionContent, byte_in, bytes_in, IsRegion, live, err_from_is_err_and}
 use Rattle.std.proofs.Common.{le_trans}
 use Rattle.vista_region.proofs.Bytes.{bytes_moved, bytes_next}
 use Rattle.vista_region.proofs.Outcomes.{ok_apart}
 use Rattle.vista_region.specs.declared.failures.GetFail.TheVariants.{Stopped}
+use Rattle.rio_base.proofs.Rules.{ends_by_after}
+use Rattle.vista_region.proofs.Exits.{ends_read, told_read, read_ends}
 use Rattle.vista_region.proofs.runs.push_bytes.Goals as goal
 
 pub loop-at-preserved : goal.loop-at-preserved
@@ -27,3 +29,42 @@ loop-at-preserved g c =
       later = le_trans inv.later call.ends.later;
       running = call.ends.runs (ok_apart c.in_ok-push_run.field-0 Stopped) ∙ inv.running;
     }
+
+pub returns-in_err-push_run-clause-told : goal.returns-in_err-push_run-clause-told
+returns-in_err-push_run-clause-told g c =
+    let p = err_from_is_err_and c.from_residual.result c.from_residual.ensures.1 in
+    told_read c.push_run.result c.from_residual.result _ _ c.in_err-push_run.was p.1 p.2 c.push_run.ensures.told
+
+pub returns-in_err-push_run-clause-bytes : goal.returns-in_err-push_run-clause-bytes
+returns-in_err-push_run-clause-bytes g c =
+    let p = err_from_is_err_and c.from_residual.result c.from_residual.ensures.1 in
+    rw (p.1) tt
+
+pub returns-in_err-push_run-clause-words : goal.returns-in_err-push_run-clause-words
+returns-in_err-push_run-clause-words g c = c.push_run.ensures.words ∙ c.loop-at.invariant.words
+
+pub returns-in_err-push_run-clause-stays : goal.returns-in_err-push_run-clause-stays
+returns-in_err-push_run-clause-stays g c = stays_trans g.met.R.RegionWords.rest_trans c.loop-at.invariant.stays c.push_run.ensures.stays
+
+pub returns-in_err-push_run-clause-ends : goal.returns-in_err-push_run-clause-ends
+returns-in_err-push_run-clause-ends g c =
+    let p = err_from_is_err_and c.from_residual.result c.from_residual.ensures.1 in
+    ends_by_after _ _ _ _ _ c.loop-at.invariant.later c.loop-at.invariant.running (ends_read _ _ c.push_run.result c.from_residual.result _ _ c.in_err-push_run.was p.1 p.2 c.push_run.ensures.ends)
+
+pub returns-clause-told : goal.returns-clause-told
+returns-clause-told g c = tt
+
+pub returns-clause-words : goal.returns-clause-words
+returns-clause-words g c = c.loop-at.invariant.words
+
+pub returns-clause-stays : goal.returns-clause-stays
+returns-clause-stays g c = c.loop-at.invariant.stays
+
+pub returns-clause-ends : goal.returns-clause-ends
+returns-clause-ends g c = read_ends _ _ _ c.loop-at.invariant.later c.loop-at.invariant.running
+
+pub push_run-requires-clause-ready : goal.push_run-requires-clause-ready
+push_run-requires-clause-ready g c = c.loop-at.invariant.stays.ready
+
+pub push_run-requires-clause-region : goal.push_run-requires-clause-region
+push_run-requires-clause-region g c = c.loop-at.invariant.region

@@ -1,4 +1,4 @@
-use Rattle.vista_region.proofs.Common.{ℕ, Err, ◌*◌, ◌/◌, ◌≤◌, ◌∙◌, ap, refl, sym, subst, length, err_from_is_err_and, FaultAt, RegionContent, RunFail, CoversAll, Puts, undo_records, words_of}
+use Rattle.vista_region.proofs.Common.{ℕ, Err, ◌*◌, ◌/◌, ◌≤◌, ◌∙◌, ap, refl, sym, subst, length, err_from_is_err_and, FaultAt, RegionContent, RunFail, CoversAll, Puts, undo_records, words_of, Ok, ◌+◌, arith, stays_trans, map_pages}
 use Rattle.rio_requests.specs.RegionAnswers.{put_on}
 use Rattle.vista_region.specs.Ends.{OnFault, PutPart, says_number}
 use Rattle.vista_region.specs.Marks.{txn_in}
@@ -6,6 +6,14 @@ use Rattle.vista_region.specs.Regions.{region_now}
 use Rattle.vista_region.proofs.Outcomes.{is_open, refused_at, whole_len}
 use Rattle.vista_region.proofs.Puts.{is_no, is_yes, none_put, put_done, put_fits, put_part, put_refused, put_stops, unread}
 use Rattle.vista_region.proofs.Spans.{in_data, no_words, past_data}
+use Rattle.std.proofs.Common.{le_refl, le_trans}
+use Rattle.rio_base.proofs.Rules.{ends_by_after}
+use Rattle.rio_model.specs.Undo.{places}
+use Rattle.rio_model.proofs.UndoRules.{undoes_refl}
+use Rattle.undo_list.proofs.Frames.{undoes_from}
+use Rattle.undo_list.proofs.Outcomes.{stays_none}
+use Rattle.vista_region.proofs.Exits.{told_ends, told_quiet, told_active, told_words, told_past, inactive, ends_handed, handed_ends, handed_fault, ends_fault, ends_stop, undoes_same, fits_same}
+use Rattle.vista_region.specs.declared.failures.TxnFail.TheVariants.{NotCovered}
 use Rattle.vista_region.proofs.open_table.OpenTable.put.Goals as goal
 
 pub returns-in_err-whole_words-clause-ends : goal.returns-in_err-whole_words-clause-ends
@@ -120,3 +128,230 @@ returns-in-Err-Fault-clause-fits g c runs =
     let at = in_data f c.args.off (length bytes) c.in_ok-header.header.«data» c.whole_words.result c.in_ok-whole_words.field-0 c.in_ok-span.span c.in_ok-whole_words.was c.whole_words.ensures c.in_ok-header.ensures.header.data_pages c.in_ok-span.ensures in
     put_fits marks i (g.R.RegionWords.count c.args.r.now) n (g.R.RegionWords.count c.put_bytes.new.r) f last c.args.off (length bytes) c.in-Err-Fault.words span (words_of bytes) m c.requires.fits c.in-Err-Fault.ensures.stays.count at.0
     (subst (λ (w : RegionContent). Puts n w last span.place c.in-Err-Fault.words (words_of bytes)) same fault.1)
+
+pub returns-in_err-active-clause-ends : goal.returns-in_err-active-clause-ends
+returns-in_err-active-clause-ends g c =
+    let p = err_from_is_err_and c.from_residual.result c.from_residual.ensures.1 in
+    inactive _ says_number c.args.self.now c.args.i.0 (g.R.RegionWords.words c.args.r.now) c.active.result c.from_residual.result _ _ c.in_err-active.was p.1 p.2 c.active.ensures
+
+pub returns-in_err-active-clause-fault : goal.returns-in_err-active-clause-fault
+returns-in_err-active-clause-fault g c =
+    let p = err_from_is_err_and c.from_residual.result c.from_residual.ensures.1 in
+    told_quiet c.from_residual.result _ (told_active c.args.self.now c.args.i.0 c.active.result c.from_residual.result _ _ c.in_err-active.was p.1 p.2 c.active.ensures)
+
+pub returns-in_err-active-clause-table : goal.returns-in_err-active-clause-table
+returns-in_err-active-clause-table g c = refl
+
+pub returns-in_err-active-clause-before : goal.returns-in_err-active-clause-before
+returns-in_err-active-clause-before g c = undoes_refl (g.R.RegionWords.count c.args.r.now) (g.R.RegionWords.words c.args.r.now) c.requires.fits.region
+
+pub returns-in_err-active-clause-fits : goal.returns-in_err-active-clause-fits
+returns-in_err-active-clause-fits g c = λ runs. c.requires.fits
+
+pub returns-in_err-active-clause-stays : goal.returns-in_err-active-clause-stays
+returns-in_err-active-clause-stays g c = stays_none c.args.r.now (g.met.R.RegionWords.rest_refl c.args.r.now) c.requires.ready
+
+pub returns-in_err-active-clause-causes : goal.returns-in_err-active-clause-causes
+returns-in_err-active-clause-causes g c =
+    let p = err_from_is_err_and c.from_residual.result c.from_residual.ensures.1 in
+    told_ends _ _ c.from_residual.result (told_active c.args.self.now c.args.i.0 c.active.result c.from_residual.result _ _ c.in_err-active.was p.1 p.2 c.active.ensures) (le_refl _) refl
+
+pub returns-in_err-whole_words-clause-fault : goal.returns-in_err-whole_words-clause-fault
+returns-in_err-whole_words-clause-fault g c =
+    let p = err_from_is_err_and c.from_residual-in_err-whole_words.result c.from_residual-in_err-whole_words.ensures.1 in
+    told_quiet c.from_residual-in_err-whole_words.result _ (told_words c.args.off (length c.args.bytes.now) c.whole_words.result c.from_residual-in_err-whole_words.result _ _ c.in_err-whole_words.was p.1 p.2 c.whole_words.ensures)
+
+pub returns-in_err-whole_words-clause-table : goal.returns-in_err-whole_words-clause-table
+returns-in_err-whole_words-clause-table g c = refl
+
+pub returns-in_err-whole_words-clause-before : goal.returns-in_err-whole_words-clause-before
+returns-in_err-whole_words-clause-before g c = undoes_refl (g.R.RegionWords.count c.args.r.now) (g.R.RegionWords.words c.args.r.now) c.requires.fits.region
+
+pub returns-in_err-whole_words-clause-fits : goal.returns-in_err-whole_words-clause-fits
+returns-in_err-whole_words-clause-fits g c = λ runs. c.requires.fits
+
+pub returns-in_err-whole_words-clause-stays : goal.returns-in_err-whole_words-clause-stays
+returns-in_err-whole_words-clause-stays g c = stays_none c.args.r.now (g.met.R.RegionWords.rest_refl c.args.r.now) c.requires.ready
+
+pub returns-in_err-whole_words-clause-causes : goal.returns-in_err-whole_words-clause-causes
+returns-in_err-whole_words-clause-causes g c =
+    let p = err_from_is_err_and c.from_residual-in_err-whole_words.result c.from_residual-in_err-whole_words.ensures.1 in
+    told_ends _ _ c.from_residual-in_err-whole_words.result (told_words c.args.off (length c.args.bytes.now) c.whole_words.result c.from_residual-in_err-whole_words.result _ _ c.in_err-whole_words.was p.1 p.2 c.whole_words.ensures) (le_refl _) refl
+
+pub read_header-requires-clause-ready : goal.read_header-requires-clause-ready
+read_header-requires-clause-ready g c = c.requires.ready
+
+pub read_header-requires-clause-region : goal.read_header-requires-clause-region
+read_header-requires-clause-region g c = c.requires.fits.region
+
+pub returns-in_err-header-clause-ends : goal.returns-in_err-header-clause-ends
+returns-in_err-header-clause-ends g c =
+    let p = err_from_is_err_and c.from_residual-in_err-header.result c.from_residual-in_err-header.ensures.1 in
+    handed_ends _ says_number c.args.self.now c.args.self.now c.args.i.0 (g.R.RegionWords.words c.args.r.now) (g.R.RegionWords.words c.read_header.new.r) c.from_residual-in_err-header.result _ _ p.1 p.2
+
+pub returns-in_err-header-clause-table : goal.returns-in_err-header-clause-table
+returns-in_err-header-clause-table g c = refl
+
+pub returns-in_err-header-clause-before : goal.returns-in_err-header-clause-before
+returns-in_err-header-clause-before g c = undoes_same (g.R.RegionWords.count c.args.r.now) (g.R.RegionWords.words c.args.r.now) (g.R.RegionWords.words c.read_header.new.r) c.requires.fits.region c.read_header.ensures.words
+
+pub returns-in_err-header-clause-fits : goal.returns-in_err-header-clause-fits
+returns-in_err-header-clause-fits g c = λ runs. fits_same c.args.self.now c.args.i.0 (g.R.RegionWords.count c.args.r.now) (g.R.RegionWords.count c.read_header.new.r) (g.R.RegionWords.words c.args.r.now) (g.R.RegionWords.words c.read_header.new.r) c.read_header.ensures.stays.count c.read_header.ensures.words c.requires.fits
+
+pub returns-in_err-header-clause-stays : goal.returns-in_err-header-clause-stays
+returns-in_err-header-clause-stays g c = c.read_header.ensures.stays
+
+pub returns-in_err-header-clause-causes : goal.returns-in_err-header-clause-causes
+returns-in_err-header-clause-causes g c =
+    let p = err_from_is_err_and c.from_residual-in_err-header.result c.from_residual-in_err-header.ensures.1 in
+    ends_handed _ _ c.read_header.result c.from_residual-in_err-header.result _ _ c.in_err-header.was p.1 p.2 c.read_header.ensures.ends
+
+pub data_span-requires : goal.data_span-requires
+data_span-requires g c = omega (arith, g.met.R.RegionWords.small c.args.r.now c.requires.ready, c.requires.fits.region.size, c.in_ok-header.ensures.header.data_pages)
+
+pub returns-in_err-span-clause-fault : goal.returns-in_err-span-clause-fault
+returns-in_err-span-clause-fault g c =
+    let p = err_from_is_err_and c.from_residual-in_err-span.result c.from_residual-in_err-span.ensures.1 in
+    told_quiet c.from_residual-in_err-span.result _ (told_past c.from_residual-in_err-span.result _ _ p.1 p.2 c.in_err-span.ensures.0)
+
+pub returns-in_err-span-clause-table : goal.returns-in_err-span-clause-table
+returns-in_err-span-clause-table g c = refl
+
+pub returns-in_err-span-clause-before : goal.returns-in_err-span-clause-before
+returns-in_err-span-clause-before g c = undoes_same (g.R.RegionWords.count c.args.r.now) (g.R.RegionWords.words c.args.r.now) (g.R.RegionWords.words c.read_header.new.r) c.requires.fits.region c.read_header.ensures.words
+
+pub returns-in_err-span-clause-fits : goal.returns-in_err-span-clause-fits
+returns-in_err-span-clause-fits g c = λ runs. fits_same c.args.self.now c.args.i.0 (g.R.RegionWords.count c.args.r.now) (g.R.RegionWords.count c.read_header.new.r) (g.R.RegionWords.words c.args.r.now) (g.R.RegionWords.words c.read_header.new.r) c.read_header.ensures.stays.count c.read_header.ensures.words c.requires.fits
+
+pub returns-in_err-span-clause-stays : goal.returns-in_err-span-clause-stays
+returns-in_err-span-clause-stays g c = c.read_header.ensures.stays
+
+pub returns-in_err-span-clause-causes : goal.returns-in_err-span-clause-causes
+returns-in_err-span-clause-causes g c =
+    let p = err_from_is_err_and c.from_residual-in_err-span.result c.from_residual-in_err-span.ensures.1 in
+    told_ends _ _ c.from_residual-in_err-span.result (told_past c.from_residual-in_err-span.result _ _ p.1 p.2 c.in_err-span.ensures.0) c.read_header.ensures.ends.later c.in_ok-header.ensures.ends.cause
+
+pub covered_with-requires-clause-ready : goal.covered_with-requires-clause-ready
+covered_with-requires-clause-ready g c = c.read_header.ensures.stays.ready
+
+pub covered_with-requires-clause-region : goal.covered_with-requires-clause-region
+covered_with-requires-clause-region g c = c.read_header.ensures.region
+
+pub covered_with-requires-clause-head : goal.covered_with-requires-clause-head
+covered_with-requires-clause-head g c = c.in_ok-header.ensures.header.head ∙ sym (ap (λ (w : RegionContent). w 3) c.read_header.ensures.words)
+
+pub covered_with-requires-clause-place : goal.covered_with-requires-clause-place
+covered_with-requires-clause-place g c = subst (λ (w : RegionContent). c.in_ok-span.span.place + c.in_ok-span.span.count ≤ places w) (sym c.read_header.ensures.words) (subst (λ d. c.in_ok-span.span.place + c.in_ok-span.span.count ≤ 512 * (map_pages d + d)) c.in_ok-header.ensures.header.data_pages c.in_ok-span.ensures.within)
+
+pub returns-in_err-covered_with-clause-ends : goal.returns-in_err-covered_with-clause-ends
+returns-in_err-covered_with-clause-ends g c =
+    let p = err_from_is_err_and c.from_residual-in_err-covered_with.result c.from_residual-in_err-covered_with.ensures.1 in
+    handed_ends _ says_number c.args.self.now c.args.self.now c.args.i.0 (g.R.RegionWords.words c.args.r.now) (g.R.RegionWords.words c.covered_with.new.r) c.from_residual-in_err-covered_with.result _ _ p.1 p.2
+
+pub returns-in_err-covered_with-clause-fault : goal.returns-in_err-covered_with-clause-fault
+returns-in_err-covered_with-clause-fault g c =
+    let p = err_from_is_err_and c.from_residual-in_err-covered_with.result c.from_residual-in_err-covered_with.ensures.1 in
+    handed_fault c.covered_with.result c.from_residual-in_err-covered_with.result _ _ (λ k. PutPart (put_on (region_now (g.R.RegionWords.words c.args.r.now)) (txn_in c.args.self.now c.args.i.0 (g.R.RegionWords.words c.args.r.now)) c.args.off c.args.bytes.now) c.args.self.now c.args.i.0 (g.R.RegionWords.words c.args.r.now) (g.R.RegionWords.words c.covered_with.new.r) c.args.off c.args.bytes.now k) c.in_err-covered_with.was p.1 p.2 (λ fault. none_put _ c.args.self.now c.args.i.0 (g.R.RegionWords.words c.args.r.now) (g.R.RegionWords.words c.covered_with.new.r) c.args.off c.args.bytes.now (c.covered_with.ensures.words ∙ c.read_header.ensures.words) 0 refl)
+
+pub returns-in_err-covered_with-clause-table : goal.returns-in_err-covered_with-clause-table
+returns-in_err-covered_with-clause-table g c = refl
+
+pub returns-in_err-covered_with-clause-before : goal.returns-in_err-covered_with-clause-before
+returns-in_err-covered_with-clause-before g c = undoes_same (g.R.RegionWords.count c.args.r.now) (g.R.RegionWords.words c.args.r.now) (g.R.RegionWords.words c.covered_with.new.r) c.requires.fits.region (c.covered_with.ensures.words ∙ c.read_header.ensures.words)
+
+pub returns-in_err-covered_with-clause-fits : goal.returns-in_err-covered_with-clause-fits
+returns-in_err-covered_with-clause-fits g c = λ runs. fits_same c.args.self.now c.args.i.0 (g.R.RegionWords.count c.args.r.now) (g.R.RegionWords.count c.covered_with.new.r) (g.R.RegionWords.words c.args.r.now) (g.R.RegionWords.words c.covered_with.new.r) (c.covered_with.ensures.stays.count ∙ c.read_header.ensures.stays.count) (c.covered_with.ensures.words ∙ c.read_header.ensures.words) c.requires.fits
+
+pub returns-in_err-covered_with-clause-stays : goal.returns-in_err-covered_with-clause-stays
+returns-in_err-covered_with-clause-stays g c = stays_trans g.met.R.RegionWords.rest_trans c.read_header.ensures.stays c.covered_with.ensures.stays
+
+pub returns-in_err-covered_with-clause-causes : goal.returns-in_err-covered_with-clause-causes
+returns-in_err-covered_with-clause-causes g c =
+    let p = err_from_is_err_and c.from_residual-in_err-covered_with.result c.from_residual-in_err-covered_with.ensures.1 in
+    ends_by_after _ _ _ _ _ c.read_header.ensures.ends.later c.in_ok-header.ensures.ends.cause (ends_handed _ _ c.covered_with.result c.from_residual-in_err-covered_with.result _ _ c.in_err-covered_with.was p.1 p.2 c.covered_with.ensures.ends)
+
+pub returns-then-not-branch-clause-fault : goal.returns-then-not-branch-clause-fault
+returns-then-not-branch-clause-fault g c = tt
+
+pub returns-then-not-branch-clause-table : goal.returns-then-not-branch-clause-table
+returns-then-not-branch-clause-table g c = refl
+
+pub returns-then-not-branch-clause-before : goal.returns-then-not-branch-clause-before
+returns-then-not-branch-clause-before g c = undoes_same (g.R.RegionWords.count c.args.r.now) (g.R.RegionWords.words c.args.r.now) (g.R.RegionWords.words c.covered_with.new.r) c.requires.fits.region (c.covered_with.ensures.words ∙ c.read_header.ensures.words)
+
+pub returns-then-not-branch-clause-fits : goal.returns-then-not-branch-clause-fits
+returns-then-not-branch-clause-fits g c = λ runs. fits_same c.args.self.now c.args.i.0 (g.R.RegionWords.count c.args.r.now) (g.R.RegionWords.count c.covered_with.new.r) (g.R.RegionWords.words c.args.r.now) (g.R.RegionWords.words c.covered_with.new.r) (c.covered_with.ensures.stays.count ∙ c.read_header.ensures.stays.count) (c.covered_with.ensures.words ∙ c.read_header.ensures.words) c.requires.fits
+
+pub returns-then-not-branch-clause-stays : goal.returns-then-not-branch-clause-stays
+returns-then-not-branch-clause-stays g c = stays_trans g.met.R.RegionWords.rest_trans c.read_header.ensures.stays c.covered_with.ensures.stays
+
+pub returns-then-not-branch-clause-causes : goal.returns-then-not-branch-clause-causes
+returns-then-not-branch-clause-causes g c = told_ends {T = ℕ} _ _ (Err NotCovered) tt (le_trans c.read_header.ensures.ends.later c.covered_with.ensures.ends.later) (c.in_ok-covered_with.ensures.ends.cause ∙ c.in_ok-header.ensures.ends.cause)
+
+pub put_bytes-requires-clause-ready : goal.put_bytes-requires-clause-ready
+put_bytes-requires-clause-ready g c = c.covered_with.ensures.stays.ready
+
+pub put_bytes-requires-clause-region : goal.put_bytes-requires-clause-region
+put_bytes-requires-clause-region g c = c.covered_with.ensures.region
+
+pub put_bytes-requires-clause-undo : goal.put_bytes-requires-clause-undo
+put_bytes-requires-clause-undo g c = c.in_ok-header.ensures.header.undo ∙ sym (ap (λ (w : RegionContent). w 1) (c.covered_with.ensures.words ∙ c.read_header.ensures.words))
+
+pub put_bytes-requires-clause-place : goal.put_bytes-requires-clause-place
+put_bytes-requires-clause-place g c = subst (λ (w : RegionContent). c.in_ok-span.span.place + length c.args.bytes.now / 8 ≤ places w) (sym (c.covered_with.ensures.words ∙ c.read_header.ensures.words)) (subst (λ k. c.in_ok-span.span.place + k ≤ places (g.R.RegionWords.words c.args.r.now)) c.in_ok-span.ensures.count (subst (λ d. c.in_ok-span.span.place + c.in_ok-span.span.count ≤ 512 * (map_pages d + d)) c.in_ok-header.ensures.header.data_pages c.in_ok-span.ensures.within))
+
+pub put_bytes-requires-clause-covered : goal.put_bytes-requires-clause-covered
+put_bytes-requires-clause-covered g c =
+    let all = is_yes c.in_ok-covered_with.field-0 _ _ c.if-not-branch.false c.in_ok-covered_with.ensures.value in
+    subst (λ k. CoversAll (undo_records (g.R.RegionWords.words c.covered_with.new.r)) c.in_ok-span.span.place k) c.in_ok-span.ensures.count (subst (λ (w : RegionContent). CoversAll (undo_records w) c.in_ok-span.span.place c.in_ok-span.span.count) (sym c.covered_with.ensures.words) all)
+
+pub returns-in-Ok-clause-table : goal.returns-in-Ok-clause-table
+returns-in-Ok-clause-table g c = refl
+
+pub returns-in-Ok-clause-before : goal.returns-in-Ok-clause-before
+returns-in-Ok-clause-before g c = undoes_from (g.R.RegionWords.count c.args.r.now) (g.R.RegionWords.count c.covered_with.new.r) (g.R.RegionWords.words c.covered_with.new.r) (g.R.RegionWords.words c.args.r.now) (g.R.RegionWords.words c.put_bytes.new.r) (c.covered_with.ensures.words ∙ c.read_header.ensures.words) (c.covered_with.ensures.stays.count ∙ c.read_header.ensures.stays.count) c.put_bytes.ensures.keeps.undoes
+
+pub returns-in-Ok-clause-stays : goal.returns-in-Ok-clause-stays
+returns-in-Ok-clause-stays g c = stays_trans g.met.R.RegionWords.rest_trans (stays_trans g.met.R.RegionWords.rest_trans c.read_header.ensures.stays c.covered_with.ensures.stays) c.put_bytes.ensures.stays
+
+pub returns-in-Err-Fault-clause-table : goal.returns-in-Err-Fault-clause-table
+returns-in-Err-Fault-clause-table g c = refl
+
+pub returns-in-Err-Fault-clause-before : goal.returns-in-Err-Fault-clause-before
+returns-in-Err-Fault-clause-before g c = undoes_from (g.R.RegionWords.count c.args.r.now) (g.R.RegionWords.count c.covered_with.new.r) (g.R.RegionWords.words c.covered_with.new.r) (g.R.RegionWords.words c.args.r.now) (g.R.RegionWords.words c.put_bytes.new.r) (c.covered_with.ensures.words ∙ c.read_header.ensures.words) (c.covered_with.ensures.stays.count ∙ c.read_header.ensures.stays.count) c.put_bytes.ensures.keeps.undoes
+
+pub returns-in-Err-Fault-clause-stays : goal.returns-in-Err-Fault-clause-stays
+returns-in-Err-Fault-clause-stays g c = stays_trans g.met.R.RegionWords.rest_trans (stays_trans g.met.R.RegionWords.rest_trans c.read_header.ensures.stays c.covered_with.ensures.stays) c.put_bytes.ensures.stays
+
+pub returns-in-Err-Stopped-clause-table : goal.returns-in-Err-Stopped-clause-table
+returns-in-Err-Stopped-clause-table g c = refl
+
+pub returns-in-Err-Stopped-clause-before : goal.returns-in-Err-Stopped-clause-before
+returns-in-Err-Stopped-clause-before g c = undoes_from (g.R.RegionWords.count c.args.r.now) (g.R.RegionWords.count c.covered_with.new.r) (g.R.RegionWords.words c.covered_with.new.r) (g.R.RegionWords.words c.args.r.now) (g.R.RegionWords.words c.put_bytes.new.r) (c.covered_with.ensures.words ∙ c.read_header.ensures.words) (c.covered_with.ensures.stays.count ∙ c.read_header.ensures.stays.count) c.put_bytes.ensures.keeps.undoes
+
+pub returns-in-Err-Stopped-clause-stays : goal.returns-in-Err-Stopped-clause-stays
+returns-in-Err-Stopped-clause-stays g c = stays_trans g.met.R.RegionWords.rest_trans (stays_trans g.met.R.RegionWords.rest_trans c.read_header.ensures.stays c.covered_with.ensures.stays) c.put_bytes.ensures.stays
+
+pub returns-in-Ok-clause-fault : goal.returns-in-Ok-clause-fault
+returns-in-Ok-clause-fault g c = tt
+
+pub returns-in-Err-Fault-clause-ends : goal.returns-in-Err-Fault-clause-ends
+returns-in-Err-Fault-clause-ends g c = tt
+
+pub returns-in-Err-Stopped-clause-ends : goal.returns-in-Err-Stopped-clause-ends
+returns-in-Err-Stopped-clause-ends g c = tt
+
+pub returns-in-Err-Stopped-clause-fault : goal.returns-in-Err-Stopped-clause-fault
+returns-in-Err-Stopped-clause-fault g c = tt
+
+pub returns-in-Err-Stopped-clause-fits : goal.returns-in-Err-Stopped-clause-fits
+returns-in-Err-Stopped-clause-fits g c = λ runs. absurd (runs refl)
+
+pub returns-in-Ok-clause-causes : goal.returns-in-Ok-clause-causes
+returns-in-Ok-clause-causes g c = told_ends {T = ℕ} _ _ (Ok _) tt (le_trans c.read_header.ensures.ends.later (le_trans c.covered_with.ensures.ends.later c.put_bytes.ensures.ends.later)) (c.in-Ok.ensures.ends.cause ∙ (c.in_ok-covered_with.ensures.ends.cause ∙ c.in_ok-header.ensures.ends.cause))
+
+pub returns-in-Err-Fault-clause-causes : goal.returns-in-Err-Fault-clause-causes
+returns-in-Err-Fault-clause-causes g c = ends_by_after _ _ _ _ _ (le_trans c.read_header.ensures.ends.later c.covered_with.ensures.ends.later) (c.in_ok-covered_with.ensures.ends.cause ∙ c.in_ok-header.ensures.ends.cause) (ends_fault {T = Unit {0}} _ _ c.in-Err-Fault.field-0 c.in-Err-Fault.words _ c.in-Err-Fault.field-0-is c.in-Err-Fault.ensures.ends)
+
+pub returns-in-Err-Stopped-clause-causes : goal.returns-in-Err-Stopped-clause-causes
+returns-in-Err-Stopped-clause-causes g c = ends_by_after _ _ _ _ _ (le_trans c.read_header.ensures.ends.later c.covered_with.ensures.ends.later) (c.in_ok-covered_with.ensures.ends.cause ∙ c.in_ok-header.ensures.ends.cause) (ends_stop {T = Unit {0}} _ _ c.in-Err-Stopped.field-0 c.in-Err-Stopped.field-0-is c.in-Err-Stopped.ensures.ends)
