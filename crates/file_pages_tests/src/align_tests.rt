@@ -44,7 +44,7 @@ fn is_plain<V: Volume>(alloc: Global, v: &mut V, old: &[u8], off: usize, bytes: 
     requires sound { V.sound v.old }
     requires files { FilesReady SMALL (V.seen v.old) (V.kept v.old) }
 {
-    let Ok(_answer) = put(alloc, v, &SMALL, FILE, 0, old) else {
+    let Ok(Answer::Done(_)) = put(alloc, v, &SMALL, FILE, 0, old) else {
         return false;
     };
     let Ok(answer) = put(alloc, v, &SMALL, FILE, off as u64, bytes) else {

@@ -76,6 +76,7 @@ fn written(came: Result<u64, WriteFail>) -> Result<Answer, Stopped>
     }
 }
 
+/// What a write that failed answers; or the stop that came in its place.
 fn not_written(fail: WriteFail) -> Result<Answer, Stopped>
     ensures { IsErr result ↔ (fail ≡ WriteFail.Stopped) }
 {
@@ -98,6 +99,7 @@ fn resized(came: Result<(), SizeFail>) -> Result<Answer, Stopped>
     }
 }
 
+/// What a change of size that failed answers; or the stop that came in its place.
 fn not_resized(fail: SizeFail) -> Result<Answer, Stopped>
     ensures { IsErr result ↔ (fail ≡ SizeFail.Stopped) }
 {
@@ -149,14 +151,6 @@ pub(crate) fn set_size<V: Volume>(
     resized(came)
 }
 
-/// So many bytes of one value. None where there is no memory for them: no row is answered so as it must.
-pub(crate) fn filled(alloc: Global, count: usize, byte: u8) -> Vec<u8> {
-    match vec![in alloc; byte; count] {
-        Ok(bytes) => bytes,
-        Err(_none) => Vec::new(alloc),
-    }
-}
-
 /// Makes a call on a file.
 pub(crate) fn make<V: Volume>(
     alloc: Global,
@@ -173,10 +167,10 @@ pub(crate) fn make<V: Volume>(
     ensures sound { V.sound v.new }
 {
     match call {
-        Call::Write(off, count, byte) => {
-            let bytes = filled(alloc, count, byte);
-            put(alloc, v, shape, i, off, &bytes)
-        }
+        Call::Write(off, count, byte) => match vec![in alloc; byte; count] {
+            Ok(bytes) => put(alloc, v, shape, i, off, &bytes),
+            Err(_none) => Ok(Answer::Memory),
+        },
         Call::Resize(len) => set_size(alloc, v, shape, i, len),
     }
 }

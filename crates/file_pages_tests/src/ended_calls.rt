@@ -131,7 +131,7 @@ pub(crate) fn after(rt: &impl Abort, alloc: Global, shape: &VolumeShape, first: 
     ensures stand { FilesStand shape.now (list_seen result) (list_kept result) }
 {
     let mut v = with_files(rt, alloc, shape);
-    let Ok(_answer) = make(alloc, &mut v, shape, FILE, first) else {
+    let Ok(Answer::Done(_)) = make(alloc, &mut v, shape, FILE, first) else {
         panic!(rt; "the first call");
     };
     v
@@ -244,38 +244,37 @@ pub(crate) fn stop_at(
     look_at(alloc, &mut v, case, end, old, new)
 }
 
-/// A call that is done, of which nothing more is asked.
-const DONE: Left = Left {
-    end: End::Done,
-    whole: true,
-    may_stand: true,
-    as_said: true,
-    shown: None,
-    again: true,
-};
+/// What comes of a call in which a call below may fail.
+#[derive(Clone, Copy)]
+pub(crate) enum Faulted {
+    /// It is done, and nothing more is asked of it.
+    Done,
+    /// What is left of the file. None where it cannot be read.
+    Left(Option<Left>),
+}
 
-/// What is left of the file by a call in which a call below may fail. None where it cannot be read.
+/// Makes a call in which a call below may fail.
 fn left_by_fault<V: Volume>(
     alloc: Global,
     v: &mut V,
     case: &Case,
     old: &[u8],
     new: &[u8],
-) -> Option<Left>
+) -> Faulted
     requires sound { V.sound v.old }
     requires files { FilesReady case.now.shape (V.seen v.old) (V.kept v.old) }
 {
     let Ok(answer) = make(alloc, v, &case.shape, FILE, case.call) else {
-        return None;
+        return Faulted::Left(None);
     };
     let end = end_of(Ok(answer));
     if let End::Done = end {
-        return Some(DONE);
+        return Faulted::Done;
     }
-    look_at(alloc, v, case, end, old, new)
+    Faulted::Left(look_at(alloc, v, case, end, old, new))
 }
 
-/// What is left of the file where the `n`th call below that may need the disk fails. None where it cannot be read.
+/// Makes a call in which the `n`th call below that may need the disk fails.
 pub(crate) fn fail_at(
     rt: &impl Abort,
     alloc: Global,
@@ -283,7 +282,7 @@ pub(crate) fn fail_at(
     n: u64,
     old: &[u8],
     new: &[u8],
-) -> Option<Left>
+) -> Faulted
     requires { IsTestShape case.now.shape }
 {
     let mut v = FaultyVolume::new(after(rt, alloc, &case.shape, case.first), n);
@@ -291,7 +290,7 @@ pub(crate) fn fail_at(
 }
 
 /// Whether a call is done.
-pub(crate) fn is_done(left: Option<Left>) -> bool {
+fn is_done(left: Option<Left>) -> bool {
     match left {
         Some(left) => matches!(left.end, End::Done),
         None => false,
@@ -341,10 +340,9 @@ fn fail_each_of(rt: &impl Abort, alloc: Global, case: &Case, old: &[u8], new: &[
     requires { IsTestShape case.now.shape }
 {
     for n in 1..MANY {
-        let left = fail_at(rt, alloc, case, n, old, new);
-        if is_done(left) {
+        let Faulted::Left(left) = fail_at(rt, alloc, case, n, old, new) else {
             return n - 1;
-        }
+        };
         holds(rt, "as many bytes are new", case.at(n), may_be_left(left));
     }
     never_done(rt, case);

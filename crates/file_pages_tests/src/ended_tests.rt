@@ -6,7 +6,7 @@ ghost use Rattle.file_pages_tests.specs.TestFiles.{FilesReady};
 use crate::calls::{Call, reads, some_of};
 use crate::compare::{At, holds};
 use crate::ended_calls::{
-    Case, EIGHT, End, Left, Look, MANY, WHOLE, after, end_each, fail_at, fail_each, is_done,
+    Case, EIGHT, End, Faulted, Left, Look, MANY, WHOLE, after, end_each, fail_at, fail_each,
     never_done, stop_at,
 };
 use crate::plain_file::plain_call;
@@ -88,11 +88,11 @@ fn shown_by_fault(left: Option<Left>, last: u64) -> Option<u64> {
 fn a_fault_of_a_write_over_the_end_says_how_much_is_done(rt: HostRuntime) {
     let mut last = 0;
     for n in 1..MANY {
-        let left = fail_at(&rt, rt.alloc(), &OVER_THE_END, n, EIGHT, WHOLE);
-        if is_done(left) {
+        let came = fail_at(&rt, rt.alloc(), &OVER_THE_END, n, EIGHT, WHOLE);
+        let Faulted::Left(left) = came else {
             holds(&rt, "4 in the end", OVER_THE_END.at(n), last == 4);
             return;
-        }
+        };
         let Some(done) = shown_by_fault(left, last) else {
             holds(&rt, "from the last up to 4", OVER_THE_END.at(n), false);
             return;
@@ -190,21 +190,28 @@ fn shows_first(left: Option<Left>, due: u64) -> bool {
     let Some(now) = left.shown else {
         return false;
     };
-    left.again && done == due && now == due
+    left.again && left.as_said && done == due && now == due
 }
 
 /// Lets each call below fail of a write over two pages, up to the one that is done. Those after `alone` of them, which are
 /// `rest`, are about the second page alone.
-fn fail_by_page(rt: &impl Abort, alloc: Global, case: &Case, new: &[u8], alone: u64, rest: u64)
+fn fail_by_page(
+    rt: &impl Abort,
+    alloc: Global,
+    case: &Case,
+    old: &[u8],
+    new: &[u8],
+    alone: u64,
+    rest: u64,
+)
     requires { case.now.shape ≡ SMALL }
 {
     for n in 1..MANY {
-        let left = fail_at(rt, alloc, case, n, &[], new);
-        if is_done(left) {
+        let Faulted::Left(left) = fail_at(rt, alloc, case, n, old, new) else {
             let all = alone.saturating_add(rest);
             holds(rt, "so many calls below", case.at(n), n - 1 == all);
             return;
-        }
+        };
         let due = if n > alone { 8 } else { 0 };
         holds(rt, "the first page", case.at(n), shows_first(left, due));
     }
@@ -219,7 +226,7 @@ fn fail_by_pages(rt: &impl Abort, alloc: Global, count: usize, rest: u64) {
     let case = over_two_pages(count);
     let old = plain_call(rt, alloc, &[], case.first);
     let new = plain_call(rt, alloc, &old, case.call);
-    fail_by_page(rt, alloc, &case, &new, alone, rest);
+    fail_by_page(rt, alloc, &case, &old, &new, alone, rest);
 }
 
 #[test]

@@ -1,6 +1,6 @@
 //! The bytes of a file as a plain list, and what calls make of them.
 
-use crate::calls::{Call, filled};
+use crate::calls::Call;
 use std::alloc::Global;
 use std::process::Abort;
 
@@ -54,7 +54,7 @@ pub(crate) fn is_written(came: &[u8], old: &[u8], off: usize, bytes: &[u8]) -> b
 pub(crate) fn plain_call(rt: &impl Abort, alloc: Global, old: &[u8], call: Call) -> Vec<u8> {
     match call {
         Call::Write(off, count, byte) => {
-            let bytes = filled(alloc, count, byte);
+            let bytes = vec![in alloc; byte; count].expect(rt, "memory");
             let len = plain_len(old.len(), off as usize, count);
             plain_bytes(rt, alloc, old, off as usize, &bytes, len)
         }

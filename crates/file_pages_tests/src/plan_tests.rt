@@ -4,7 +4,7 @@ ghost use Rattle.std.specs.Prelude.{◌≤◌};
 ghost use Rattle.test_volumes.specs.TestVolumes.{IsTestShape};
 ghost use Rattle.file_pages_tests.specs.TestFiles.{FilesReady};
 
-use crate::calls::{Call, make, put};
+use crate::calls::{Answer, Call, make, put};
 use crate::compare::{At, all_answered, holds};
 use crate::plans::{NEW_SIZE, lowest, page_block, plan_file, plan_node};
 use crate::volumes::{FILE, SMALL, with_files};
@@ -157,7 +157,7 @@ fn prepared<V: Volume>(
     requires sound { V.sound v.old }
     requires files { FilesReady shape.now (V.seen v.old) (V.kept v.old) }
 {
-    let Ok(_answer) = make(alloc, v, shape, FILE, row.first) else {
+    let Ok(Answer::Done(_)) = make(alloc, v, shape, FILE, row.first) else {
         return Err(SizeFail::Stopped);
     };
     let Ok(skip) = lowest(alloc, v, shape, row.skip) else {
@@ -345,12 +345,13 @@ fn is_block(came: Result<Option<Block>, VolFail>, due: Option<Block>) -> bool {
     }
 }
 
-/// Looks for the blocks of pages of a file, up to the first that lies elsewhere, and tells which that is, if any.
+/// Looks for the blocks of pages of a file, up to the first that lies elsewhere, and tells which that is, if any. The first
+/// one too where the file is not made.
 fn check_pages<V: Volume>(alloc: Global, v: &mut V) -> Option<usize>
     requires sound { V.sound v.old }
     requires files { FilesReady SMALL (V.seen v.old) (V.kept v.old) }
 {
-    let Ok(_answer) = put(alloc, v, &SMALL, FILE, 98_304, b"a") else {
+    let Ok(Answer::Done(_)) = put(alloc, v, &SMALL, FILE, 98_304, b"a") else {
         return Some(0);
     };
     for k in 0..PAGES.len() {

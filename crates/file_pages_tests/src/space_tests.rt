@@ -22,10 +22,10 @@ fn fill_up<V: Volume>(alloc: Global, v: &mut V) -> Result<(), Stopped>
     ensures sound { V.sound v.new }
 {
     for page in 0..18 {
-        let Ok(_one) = put(alloc, v, &SMALL, FILE, PAGE * page, &[1]) else {
+        let Ok(Answer::Done(_)) = put(alloc, v, &SMALL, FILE, PAGE * page, &[1]) else {
             return Err(Stopped);
         };
-        let Ok(_other) = put(alloc, v, &SMALL, OTHER, PAGE * page, &[2]) else {
+        let Ok(Answer::Done(_)) = put(alloc, v, &SMALL, OTHER, PAGE * page, &[2]) else {
             return Err(Stopped);
         };
     }
@@ -71,7 +71,8 @@ fn first_other_of<V: Volume>(alloc: Global, v: &mut V, free: u64) -> Option<usiz
     None
 }
 
-/// Makes the calls where so many blocks are free, each between two of the file.
+/// Makes the calls where so many blocks are free, each between two of the file. Tells the first where the volume does not get
+/// so.
 fn with_gaps<V: Volume>(alloc: Global, v: &mut V, free: u64) -> Option<usize>
     requires sound { V.sound v.old }
     requires files { FilesReady SMALL (V.seen v.old) (V.kept v.old) }
@@ -80,7 +81,7 @@ fn with_gaps<V: Volume>(alloc: Global, v: &mut V, free: u64) -> Option<usize>
     let Ok(()) = fill_up(alloc, v) else {
         return Some(0);
     };
-    let Ok(_cut) = set_size(alloc, v, &SMALL, OTHER, PAGE * (18 - free)) else {
+    let Ok(Answer::Done(_)) = set_size(alloc, v, &SMALL, OTHER, PAGE * (18 - free)) else {
         return Some(0);
     };
     first_other_of(alloc, v, free)
@@ -115,7 +116,7 @@ static LOST: [Row; 10] = [
     Row::Make(File::Second, Call::Resize(12 * PAGE + 1), Answer::NoSpace),
 ];
 
-/// Makes these calls.
+/// Makes these calls. Tells the first where the volume is not filled up.
 fn lost<V: Volume>(alloc: Global, v: &mut V) -> Option<usize>
     requires sound { V.sound v.old }
     requires files { FilesReady SMALL (V.seen v.old) (V.kept v.old) }
