@@ -13,6 +13,9 @@ use Rattle.cached_pages.proofs.Uses.{stay_trans}
 use Rattle.cached_pages.proofs.Common.{Some}
 use Rattle.rio_base.proofs.MachineRules.{never}
 
+pub put_frame-requires-clause-dirty : goal.put_frame-requires-clause-dirty
+put_frame-requires-clause-dirty g c = search rules
+
 pub returns-clause-writes : goal.returns-clause-writes
 returns-clause-writes g c = few_then c.args.b.0 _ (g.M.Machine.contents c.args.m.now) (g.M.Machine.contents c.ready.new.m) _ c.ready.ensures.writes (search rules)
 

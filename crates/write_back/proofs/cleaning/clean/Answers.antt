@@ -1,4 +1,4 @@
-use Rattle.std.proofs.Common.{◌∙◌, Err, ap, refl, sym}
+use Rattle.std.proofs.Common.{◌∙◌, Err, ap, arith, refl, sym}
 use Rattle.std.proofs.lemmas.Result.{err_from_is_err_and}
 use Rattle.rio_base.specs.declared.failures.VolFail.TheVariants.{Stopped, Fault}
 use Rattle.rio_base.specs.Rules.{true_false}
@@ -9,6 +9,9 @@ use Rattle.rio_model.specs.Registry.{is_dirty}
 use Rattle.rio_model.proofs.CoverSteps.{keeps_refl}
 use Rattle.write_back.proofs.Exits.{at_err, cleaned_from, fault_on, fault_told, few_on, held_from, narrows_same, not_fault, not_ok, one_from, one_more, one_same, writes_rest}
 use Rattle.write_back.proofs.cleaning.clean.Goals as goal
+
+pub mark_clean-requires-clause-synced : goal.mark_clean-requires-clause-synced
+mark_clean-requires-clause-synced g c = search arith
 
 pub mark_clean-requires-clause-coherent : goal.mark_clean-requires-clause-coherent
 mark_clean-requires-clause-coherent g c =
