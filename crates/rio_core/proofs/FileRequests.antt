@@ -16,6 +16,7 @@ use Rattle.file_tree.proofs.EndRules.{left_same}
 use Rattle.file_tree.specs.declared.failures.FileFail.TheVariants.{Stopped}
 use Rattle.rio_core.specs.Replying.{Replies}
 use Rattle.rio_core.specs.Serving.{RequestEnds, Serves}
+use Rattle.rio_core.specs.Groups.{ByName}
 use Rattle.rio_core.proofs.FileSteps.{files_held}
 use Rattle.rio_core.proofs.RegionEnds.{held_serves, serves_held}
 
@@ -106,31 +107,41 @@ request_ends {T = T} says shape x k y j marks s r q p one may on serves h told =
 pub lacks_memory : (shape : VolumeShape) (x : Seen) (k : Kept) (marks : Marks) (s : State) (r : Request) → MayLackMemory r → Serves shape x k marks s → RequestEnds shape x k marks s r (Ok (RefusedBy 31))
 lacks_memory shape x k marks s r may serves = (s, inr (inl (may, refl, refl)), serves)
 
--- ---- no such request
+-- ---- what is left where no arm of a match is taken
 
-pub record NoFileRequest (r : Request) : Type 0 where
+pub record MakesNone (r : Request) : Type 0 where
   pub mkdir : (path : List ℕ) → r ≡ Mkdir path → ⊥
   pub create : (path : List ℕ) → r ≡ Create path → ⊥
   pub region : (path : List ℕ) (pages undo : ℕ) → r ≡ MakeRegion path pages undo → ⊥
   pub write : (path : List ℕ) (off : ℕ) (bytes : List ℕ) → r ≡ Write path off bytes → ⊥
   pub read : (path : List ℕ) (off : ℕ) (len : ℕ) → r ≡ Read path off len → ⊥
   pub truncate : (path : List ℕ) (len : ℕ) → r ≡ Truncate path len → ⊥
+
+pub left_by_name : (r : Request) → MakesNone r → OnFiles r → ByName r
+left_by_name (Mkdir path) none on = absurd (none.mkdir path refl)
+left_by_name (Create path) none on = absurd (none.create path refl)
+left_by_name (MakeRegion path pages undo) none on = absurd (none.region path pages undo refl)
+left_by_name (Write path off bytes) none on = absurd (none.write path off bytes refl)
+left_by_name (Read path off len) none on = absurd (none.read path off len refl)
+left_by_name (Truncate path len) none on = absurd (none.truncate path len refl)
+left_by_name (Unlink path) none on = tt
+left_by_name (Rmdir path) none on = tt
+left_by_name (Rename path to) none on = tt
+left_by_name (StatOf path) none on = tt
+left_by_name (ListOf path) none on = tt
+left_by_name _ none on = on
+
+pub record NamesNone (r : Request) : Type 0 where
   pub unlink : (path : List ℕ) → r ≡ Unlink path → ⊥
   pub rmdir : (path : List ℕ) → r ≡ Rmdir path → ⊥
   pub rename : (path : List ℕ) (to : List ℕ) → r ≡ Rename path to → ⊥
   pub stat : (path : List ℕ) → r ≡ StatOf path → ⊥
   pub list : (path : List ℕ) → r ≡ ListOf path → ⊥
 
-pub none_other : (r : Request) → NoFileRequest r → OnFiles r → ⊥
-none_other (Mkdir path) none on = none.mkdir path refl
-none_other (Create path) none on = none.create path refl
-none_other (MakeRegion path pages undo) none on = none.region path pages undo refl
-none_other (Write path off bytes) none on = none.write path off bytes refl
-none_other (Read path off len) none on = none.read path off len refl
-none_other (Truncate path len) none on = none.truncate path len refl
-none_other (Unlink path) none on = none.unlink path refl
-none_other (Rmdir path) none on = none.rmdir path refl
-none_other (Rename path to) none on = none.rename path to refl
-none_other (StatOf path) none on = none.stat path refl
-none_other (ListOf path) none on = none.list path refl
-none_other _ none on = on
+pub none_by_name : (r : Request) → NamesNone r → ByName r → ⊥
+none_by_name (Unlink path) none on = none.unlink path refl
+none_by_name (Rmdir path) none on = none.rmdir path refl
+none_by_name (Rename path to) none on = none.rename path to refl
+none_by_name (StatOf path) none on = none.stat path refl
+none_by_name (ListOf path) none on = none.list path refl
+none_by_name _ none on = on

@@ -17,6 +17,7 @@ use Rattle.rio_requests.specs.declared.reply.Reply.TheVariants.{Err as RefusedBy
 use Rattle.rio_requests.specs.Answer.{at_inode, refused}
 use Rattle.rio_requests.specs.Transactions.{at_region, looked, on_region}
 use Rattle.rio_core.proofs.CallEnds.{CallEnds}
+use Rattle.rio_core.specs.Groups.{Within}
 use Rattle.rio_core.specs.CallEnds.{IsAt, ReadsHeld}
 use Rattle.rio_core.specs.Regions.{marks_of}
 
@@ -203,25 +204,34 @@ same_inos (i ∷ list) (t ∷ txns) e =
 pub inos_open : (list : List Ino) (marks : Marks) (s : State) → marks ≡ marks_of s.txns → map (λ (i : Ino). i.0) list ≡ map (λ m. m.0) marks → list ≡ map (λ (t : Txn). t.ino) s.txns
 inos_open list marks s is e = same_inos list s.txns (e ∙ ap (λ (ms : Marks). map (λ m. m.0) ms) is)
 
--- ---- no request on a region
+-- ---- what is left where no arm of a match is taken
 
-pub record NoRegionRequest (r : Request) : Type 0 where
+pub record OpensNone (r : Request) : Type 0 where
   pub begin : (path : List ℕ) → r ≡ Begin path → ⊥
   pub range : (path : List ℕ) (off : ℕ) (len : ℕ) → r ≡ Range path off len → ⊥
+  pub commit : (path : List ℕ) → r ≡ Commit path → ⊥
+  pub abort : (path : List ℕ) → r ≡ Abort path → ⊥
+
+pub left_within : (path : List ℕ) (r : Request) → OpensNone r → IsAt path r → Within r
+left_within path (Begin p) none at = absurd (none.begin p refl)
+left_within path (Range p off len) none at = absurd (none.range p off len refl)
+left_within path (Commit p) none at = absurd (none.commit p refl)
+left_within path (Abort p) none at = absurd (none.abort p refl)
+left_within path (Put p off bytes) none at = tt
+left_within path (Get p off len) none at = tt
+left_within path (Alloc p units) none at = tt
+left_within path (Free p unit) none at = tt
+left_within path _ none at = at
+
+pub record TouchesNone (r : Request) : Type 0 where
   pub put : (path : List ℕ) (off : ℕ) (bytes : List ℕ) → r ≡ Put path off bytes → ⊥
   pub get : (path : List ℕ) (off : ℕ) (len : ℕ) → r ≡ Get path off len → ⊥
   pub alloc : (path : List ℕ) (units : ℕ) → r ≡ Alloc path units → ⊥
   pub free : (path : List ℕ) (at : ℕ) → r ≡ Free path at → ⊥
-  pub commit : (path : List ℕ) → r ≡ Commit path → ⊥
-  pub abort : (path : List ℕ) → r ≡ Abort path → ⊥
 
-pub none_region : (path : List ℕ) (r : Request) → NoRegionRequest r → IsAt path r → ⊥
-none_region path (Begin p) none at = none.begin p refl
-none_region path (Range p off len) none at = none.range p off len refl
-none_region path (Put p off bytes) none at = none.put p off bytes refl
-none_region path (Get p off len) none at = none.get p off len refl
-none_region path (Alloc p units) none at = none.alloc p units refl
-none_region path (Free p unit) none at = none.free p unit refl
-none_region path (Commit p) none at = none.commit p refl
-none_region path (Abort p) none at = none.abort p refl
-none_region path _ none at = at
+pub none_within : (r : Request) → TouchesNone r → Within r → ⊥
+none_within (Put p off bytes) none on = none.put p off bytes refl
+none_within (Get p off len) none on = none.get p off len refl
+none_within (Alloc p units) none on = none.alloc p units refl
+none_within (Free p unit) none on = none.free p unit refl
+none_within _ none on = on

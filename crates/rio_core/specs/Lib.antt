@@ -1,4 +1,5 @@
 pub mod CallEnds
+pub mod Groups
 pub mod LineLaws
 pub mod Lines
 pub mod QuietLaws

@@ -7,6 +7,7 @@ ghost use Rattle.rio_requests.specs.Requests.{IsRequest};
 ghost use Rattle.rio_model.specs.declared.state.State.{State};
 ghost use Rattle.rio_requests.specs.CrashFiles.{OnFiles};
 ghost use Rattle.file_tree.specs.Memos.{InStep};
+ghost use Rattle.rio_core.specs.Groups.{ByName};
 ghost use Rattle.rio_core.specs.Serving.{RequestEnds, Serves, TellsFault};
 
 use crate::replies::{
@@ -75,6 +76,32 @@ fn answer_on<V: Volume>(
             *data_pages,
             *undo_pages,
         )),
+        _ => answer_by_name(alloc, v, shape, memo, table, request),
+    }
+}
+
+/// Answers a request that takes a name away, moves it or tells what it leads to. What is held in memory is in step afterwards,
+/// unless the machine is stopped.
+fn answer_by_name<V: Volume>(
+    alloc: Global,
+    v: &mut V,
+    shape: &VolumeShape,
+    memo: &mut Memo,
+    table: &OpenTable,
+    request: &Request,
+) -> Result<Reply, Stopped>
+    requires sound { V.sound v.old }
+    requires serves { (s : State) × Serves shape.now (V.seen v.old) (V.kept v.old) table.now s }
+    requires in_step { InStep shape.now (V.seen v.old).words memo.old }
+    requires request { IsRequest request.now }
+    requires by_name { ByName request.now }
+    ensures answered { (s : State) → Serves shape.now (V.seen v.old) (V.kept v.old) table.now s → RequestEnds shape.now (V.seen v.new) (V.kept v.new) table.now s request.now result }
+    ensures in_step { (IsErr result → ⊥) → InStep shape.now (V.seen v.new).words memo.new }
+    ensures goes { Goes (V.health v.old) (V.below v.old) (V.health v.new) (V.below v.new) }
+    ensures ends { EndsBy (V.health v.old) (V.health v.new) (TellsFault result) (IsErr result) }
+    ensures sound { V.sound v.new }
+{
+    match request {
         Request::Unlink { path } => match table.open_list(alloc) {
             Ok(busy) => done_reply(unlink_with(alloc, v, shape, memo, path.as_slice(), &busy)),
             Err(_) => Ok(Reply::Err(NO_MEMORY)),
