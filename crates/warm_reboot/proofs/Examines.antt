@@ -1,23 +1,31 @@
 -- What is found of memory and disk, and why nothing is.
 use Rattle.page_restore.proofs.Common.{Bool, List, None, Option, Some, false, length, refl, ℕ, ◌+◌, ◌<◌, ◌≡◌, ap, arith, inl, inr, subst, sym, ◌∙◌, is_pending, slice_index, Contents, Running, frames_of, tag_at, tag_block, Restorable}
-use Rattle.rio_base.specs.Blocks.{BlockWords}
+use Rattle.std.specs.Prelude.{Result, Err, IfOk, IfErr, ◌≤◌, true}
+use Rattle.rio_base.specs.Blocks.{BlockWords, Ends}
+use Rattle.rio_base.specs.Counts.{Rose}
 use Rattle.rio_base.specs.Image.{HasHeader, registry_pages}
 use Rattle.rio_base.specs.Rules.{true_false}
 use Rattle.rio_base.specs.Shapes.{HasShape}
+use Rattle.rio_base.specs.declared.failures.ReadFail.{ReadFail}
+use Rattle.rio_base.specs.declared.failures.ReadFail.TheVariants.{Fault as ReadFault, Memory as ReadMemory, Stopped as ReadStopped}
+use Rattle.rio_base.specs.declared.failures.VolFail.{VolFail}
+use Rattle.rio_base.specs.declared.failures.VolFail.TheVariants.{Fault as VolumeFault, Stopped as VolumeStopped}
 use Rattle.rio_base.specs.declared.places.Block.{Block}
 use Rattle.rio_base.specs.declared.places.VolumeShape.{VolumeShape}
+use Rattle.rio_base.proofs.Rules.{rose_later}
 use Rattle.rio_model.specs.declared.census.Census.{Census}
+use Rattle.rio_model.specs.declared.census.Owner.{Owner}
 use Rattle.rio_model.specs.declared.state.State.{State}
-use Rattle.rio_model.specs.Censuses.{IsCensus}
+use Rattle.rio_model.specs.Censuses.{HasOwners, IsCensus}
 use Rattle.rio_model.specs.Cover.{MayLeave, stands, stands_on}
 use Rattle.rio_model.specs.CoverLookups.{cover_same}
 use Rattle.rio_model.specs.Held.{held_of}
 use Rattle.rio_model.specs.Placed.{Layout, volume_layout}
 use Rattle.rio_model.specs.Registry.{FailsRegistry, HasLayout, KeepsRegistry, page_of_entry, scratch_of}
 use Rattle.rio_model.specs.Standing.{EntriesFit, StandsFor, StandsWith}
-use Rattle.rio_model.specs.VolumeFails.{FailsPair, SaysShape}
+use Rattle.rio_model.specs.VolumeFails.{FailsPair, FailsVolume, SaysShape}
 use Rattle.rio_model.specs.VolumeReads.{ReadsAs}
-use Rattle.rio_model.specs.VolumeRules.{KindRule, TreeRule}
+use Rattle.rio_model.specs.VolumeRules.{IsLaid, KindRule, TreeRule}
 use Rattle.rio_model.proofs.OneReading.{one_reading}
 use Rattle.rio_model.proofs.StandingStates.{AreWhole, one_shape, stands_with_reads}
 use Rattle.rio_model.proofs.StateSteps.{walk_kept}
@@ -25,10 +33,13 @@ use Rattle.rio_model.proofs.VolumeFailRules.{none_fails_standing}
 use Rattle.page_restore.specs.Stale.{MarksStale}
 use Rattle.warm_reboot.specs.declared.report.BootFail.{BootFail}
 use Rattle.warm_reboot.specs.declared.report.BootFail.TheVariants.{BadImage, BadVolume, Fault, Memory, Stopped}
-use Rattle.registry.specs.Views.{view_seen}
+use Rattle.registry.specs.Views.{view_health, view_seen}
+use Rattle.volume_check.specs.Failures.{Refuses}
+use Rattle.volume_check.specs.declared.failures.CheckFail.{CheckFail}
+use Rattle.volume_check.specs.declared.failures.CheckFail.TheVariants.{BadVolume as VolumeBad, Fault as CheckFault, Memory as CheckMemory, Stopped as CheckStopped}
 use Rattle.region_recovery.specs.RegionLists.{region_inos}
 use Rattle.warm_reboot.specs.Boots.{StandsNow}
-use Rattle.warm_reboot.specs.Examining.{IsExamined, IsLeastMisfit, TellsNoRule, Unexamined}
+use Rattle.warm_reboot.specs.Examining.{IsExamined, IsLeastMisfit, KnowsOwners, TellsNoRule, Unexamined, handed, refused, told}
 
 -- ---- one state
 
@@ -118,6 +129,39 @@ is_examined old mid census found rules h rest least none = by h
 
 pub marks_read : (old new : Contents) (l : Layout) (marks : List Bool) → new ≡ record old { faults = new.faults } → MarksStale l new.words marks → MarksStale l old.words marks
 marks_read old new l marks rest h = subst (λ (c : Contents). MarksStale l c.words marks) rest h
+
+-- the owners are those of the blocks
+pub owners_read : (old mid : Contents) (census : Census) (owners xs : List Owner) → HasRead old census → mid ≡ record old { faults = mid.faults } → xs ≡ owners → HasOwners (volume_layout census.shape (stands old)) owners → KnowsOwners mid census.shape xs
+owners_read old mid census owners xs h rest same has = record {
+  served = (says_read old census h).served;
+  count = ap (λ (c : Contents). length c.disk) rest ∙ (says_read old census h).blocks;
+  laid = subst (λ (c : Contents). IsLaid (volume_layout census.shape (stands c))) (sym rest) h.1.mapped.laid;
+  has = subst (λ (c : Contents). HasOwners (volume_layout census.shape (stands c)) xs) (sym rest) (subst (HasOwners (volume_layout census.shape (stands old))) (sym same) has);
+}
+
+-- ---- a part of the look failed
+
+-- no answer is made then
+pub none_made : {T E : Type 0} (r : Result T E) (e : E) (p : T → Type 0) → r ≡ Err e → IfOk r p
+none_made {T} {E} r e p is = subst (λ (z : Result T E). IfOk z p) (sym is) tt
+
+pub fails_so : {T : Type 0} (old new : Contents) (s : Running) (r : Result T BootFail) (e d : BootFail) → r ≡ Err e → e ≡ d → Unexamined old new s d → IfErr r (Unexamined old new s)
+fails_so {T} old new s r e d is same h = subst (λ (z : Result T BootFail). IfErr z (Unexamined old new s)) (sym is) (subst (Unexamined old new s) (sym same) h)
+
+pub volume_failed : (old new : Contents) (s : Running) (fail : CheckFail) → KeepsRegistry old.words → Refuses (FailsVolume (stands old) (length old.disk)) fail → (fail ≡ CheckFault → Rose old.faults.count new.faults.count) → (fail ≡ CheckStopped → s.stopped ≡ true) → Unexamined old new s (told fail)
+volume_failed old new s (VolumeBad rule b) rules refuses fault stop = (rules, inl refuses)
+volume_failed old new s CheckFault rules refuses fault stop = fault refl
+volume_failed old new s CheckStopped rules refuses fault stop = stop refl
+volume_failed old new s CheckMemory rules refuses fault stop = tt
+
+pub misfit_failed : {T : Type 0} (old mid new : Contents) (q s : Running) (fail : VolFail) → old.faults.count ≤ mid.faults.count → Ends {T = T} (view_health mid q) (view_health new s) (Err fail) → Unexamined old new s (handed fail)
+misfit_failed old mid new q s VolumeFault less ends = rose_later old.faults.count mid.faults.count new.faults.count less ends.cause.0
+misfit_failed old mid new q s VolumeStopped less ends = ends.cause
+
+pub list_failed : (old mid new : Contents) (s : Running) (fail : ReadFail) → old.faults.count ≤ mid.faults.count → (fail ≡ ReadFault → Rose mid.faults.count new.faults.count) → (fail ≡ ReadStopped → s.stopped ≡ true) → Unexamined old new s (refused fail)
+list_failed old mid new s ReadFault less fault stop = rose_later old.faults.count mid.faults.count new.faults.count less (fault refl)
+list_failed old mid new s ReadStopped less fault stop = stop refl
+list_failed old mid new s ReadMemory less fault stop = tt
 
 -- ---- where nothing is pending
 

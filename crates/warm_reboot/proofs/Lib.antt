@@ -1,4 +1,5 @@
 pub mod Examines
+pub mod Looking
 pub mod Marks
 pub mod MisfitWalk
 pub mod Outcomes

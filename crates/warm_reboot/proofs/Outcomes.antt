@@ -32,7 +32,7 @@ use Rattle.region_recovery.proofs.HeldRegions.{regions_held, undone_held}
 use Rattle.warm_reboot.specs.Boots.{AreMarked, IsCutOff, StandsNow, Starts}
 use Rattle.warm_reboot.proofs.Starts.{stands_now}
 use Rattle.warm_reboot.proofs.Survivals.{cut_later, survives_viewed}
-use Rattle.warm_reboot.specs.Examining.{IsExamined, Unexamined, handed}
+use Rattle.warm_reboot.specs.Examining.{IsExamined, TellsNoRule, Unexamined, handed}
 use Rattle.warm_reboot.specs.Reboots.{Booted, Recovers, Unbooted}
 use Rattle.warm_reboot.specs.declared.report.BootFail.{BootFail}
 use Rattle.warm_reboot.specs.declared.report.BootFail.TheVariants.{BadImage, BadVolume, Fault as BootFault, Memory, Stopped as BootStopped}
@@ -143,6 +143,20 @@ examined_viewed c d r q census v h = subst (λ (e : Contents). IsExamined e cens
 pub unbooted_cut : (old new : Contents) (r q : Running) (e : VolFail) → IsCutOff old r new q e → Unbooted old r new q (handed e)
 unbooted_cut old new r q Fault h = h
 unbooted_cut old new r q Stopped h = h
+
+-- why a reboot was cut off that was looked at before
+abbrev pub IsCut : Contents → Contents → Running → Running → BootFail → Type 0
+IsCut old new r q fail = (e : VolFail) × (fail ≡ handed e) × IsCutOff old r new q e
+
+pub unbooted_so : (old new : Contents) (r q : Running) (fail : BootFail) → IsCut old new r q fail → Unbooted old r new q fail
+unbooted_so old new r q fail (e, is, cut) = subst (Unbooted old r new q) (sym is) (unbooted_cut old new r q e cut)
+
+handed_none : (e : VolFail) → TellsNoRule (handed e)
+handed_none Fault = tt
+handed_none Stopped = tt
+
+pub no_rule_so : (old new : Contents) (r q : Running) (fail : BootFail) → IsCut old new r q fail → TellsNoRule fail
+no_rule_so old new r q fail (e, is, cut) = subst TellsNoRule (sym is) (handed_none e)
 
 pub unbooted_viewed : (old mid new : Contents) (r q t : Running) (e : BootFail) → Viewed old mid r q → Unbooted mid q new t e → Unbooted old r new t e
 unbooted_viewed old mid new r q t (BadImage rule) v h = (subst (λ (c : Contents). FailsRegistry c.words rule) v.rest h.0, viewed_trans old mid new r q t v h.1)

@@ -1,12 +1,12 @@
 -- What stands over the parts of a reboot, one after the other.
 use Rattle.page_restore.proofs.Common.{Bool, Err, false, length, refl, true, ℕ, ◌≡◌, ◌≢◌, ◌≤◌, ap, arith, subst, sym, ◌∙◌, is_pending, Contents, Running, Endures, Restorable, none_apart}
-use Rattle.std.specs.Prelude.{Option, None, Some, ◌==◌}
-use Rattle.rio_base.specs.Blocks.{BlockWords, Ends, Home}
+use Rattle.std.specs.Prelude.{Option, None, Some, Result, Ok, IfOk, OnOk, [], ◌==◌}
+use Rattle.rio_base.specs.Blocks.{BlockWords, Ends, Health, Home, Seen}
 use Rattle.rio_base.specs.Counts.{Rose}
 use Rattle.rio_base.specs.declared.failures.VolFail.{VolFail}
 use Rattle.rio_base.specs.declared.failures.VolFail.TheVariants.{Fault, Stopped}
 use Rattle.rio_base.specs.declared.places.VolumeShape.{VolumeShape}
-use Rattle.rio_base.specs.Volume.{Settled}
+use Rattle.rio_base.specs.Volume.{Kept, Settled}
 use Rattle.rio_base.proofs.Rules.{rose_later}
 use Rattle.rio_model.specs.declared.state.State.{State}
 use Rattle.rio_model.specs.Cover.{home_of, reads}
@@ -23,7 +23,9 @@ use Rattle.page_cache.specs.Settled.{cache_settled, gate_shut}
 use Rattle.cached_pages.specs.declared.tables.CacheTables.{CacheTables}
 use Rattle.region_recovery.proofs.ReadySound.{sound_ready}
 use Rattle.region_recovery.proofs.SameDisk.{same_disk}
+use Rattle.region_recovery.specs.RegionLists.{AreRecovered, region_inos, undone_count}
 use Rattle.warm_reboot.specs.Boots.{IsCutOff, Survives}
+use Rattle.warm_reboot.specs.Reboots.{Recovers}
 
 -- ---- one after the other
 
@@ -124,12 +126,31 @@ gate_is_shut c n t sound idle = not_one (gate_of c.words) sound.coherent.rules.g
     not_one : (g : ℕ) → g ≤ 1 → g ≢ 1 → g ≡ 0
     not_one g most ne = omega (arith, most, ne)
 
--- ---- a view of a cache
+-- ---- a view of a volume
 
--- what is said of one is said of an equal one
-pub by_eq : {V : Type 0} (v w : V) → w ≡ v → (p : V → Type 0) → p w → p v
-by_eq v w e p h = subst p e h
+-- what is seen of two that are equal is equal
+pub seen_as : {V S : Type 0} (v w : V) → v ≡ w → (seen : V → S) → seen v ≡ seen w
+seen_as v w e seen = ap seen e
 
 -- what is said of the sizes and the volume that a view was made of is said of the view's
 pub by_view : {V : Type 0} (shape here : VolumeShape) (v w : V) → here ≡ shape → w ≡ v → (p : VolumeShape → V → Type 0) → p here w → p shape v
 by_view shape here v w e k p h = subst (λ (sh : VolumeShape). p sh v) e (subst (p here) k h)
+
+-- and of the volume that is taken back
+pub by_views : {V : Type 0} (shape here : VolumeShape) (v w x y : V) → here ≡ shape → w ≡ v → y ≡ x → (p : VolumeShape → V → V → Type 0) → p here w y → p shape v x
+by_views shape here v w x y e k l p h = by_view shape here v w e k (λ sh u. p sh u x) (subst (p here w) l h)
+
+-- the regions were recovered
+pub recovers_by : (r : Result ℕ VolFail) (shape : VolumeShape) (x y : Seen) (k : Kept) → ((s : State) → ReadsAs shape x.words s → ReadsAs shape y.words s) → OnOk r (AreRecovered shape y.words) → IfOk r (λ n. n ≡ undone_count shape x.words) → Ready shape y k → (region_inos shape x.words ≡ [] → y.cached ≡ x.cached) → IfOk r (Recovers shape x y k)
+recovers_by (Ok n) shape x y k reads recovered count ready bare = record { reads = reads; recovered = recovered; undone = count; ready = ready; bare = bare }
+recovers_by (Err e) shape x y k reads recovered count ready bare = tt
+
+pub ok_is : {T E : Type 0} (r : Result T E) (x : T) (p : T → Type 0) → r ≡ Ok x → IfOk r p → p x
+ok_is {T} {E} r x p is h = subst (λ (z : Result T E). IfOk z p) is h
+
+-- the machine runs as it ran
+pub ran_on : {T : Type 0} (s t : Health) (r : Result T VolFail) (x : T) → r ≡ Ok x → Ends s t r → t.stopped ≡ s.stopped
+ran_on {T} s t r x is h = (subst (λ (z : Result T VolFail). Ends s t z) is h).cause
+
+pub err_ends : {T : Type 0} (s t : Health) (r : Result T VolFail) (e : VolFail) → r ≡ Err e → Ends s t r → Ends {T = T} s t (Err e)
+err_ends {T} s t r e is h = subst (λ (z : Result T VolFail). Ends s t z) is h

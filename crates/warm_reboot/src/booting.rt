@@ -1,9 +1,10 @@
 //! A reboot: what memory holds goes to the disk, a cache starts on it, and what no commit sealed is undone.
 
 ghost use Rattle.std.specs.Prelude.{◌≡◌, ◌<◌, ◌≤◌, ℕ, None, IfErr, IfOk, MatchResult, false, length, true};
+ghost use Rattle.rio_base.specs.Blocks.{Ends};
 ghost use Rattle.rio_base.specs.Disks.{is_pending};
 ghost use Rattle.rio_base.specs.Image.{HasHeader};
-ghost use Rattle.rio_base.specs.Volume.{Runs};
+ghost use Rattle.rio_base.specs.Volume.{Goes, Runs};
 ghost use Rattle.rio_model.specs.declared.state.State.{State};
 ghost use Rattle.rio_model.specs.Cover.{stands};
 ghost use Rattle.rio_model.specs.Placed.{volume_layout};
@@ -25,7 +26,7 @@ use page_cache::{CacheTables, PageCache};
 use region_recovery::recover_regions;
 use region_view::RegionView;
 use registry::frame_count;
-use rio_base::{BLOCK_WORDS, Ino, Machine, VolFail, VolumeShape};
+use rio_base::{BLOCK_WORDS, Ino, Machine, VolFail, Volume, VolumeShape};
 use std::alloc::{AllocError, Global};
 
 /// Finds the files and regions that memory and disk stand for after a stop at any step, brings them to the disk, undoes what no
@@ -180,11 +181,31 @@ fn recover_cache<M: Machine>(
     ensures closed { IfErr result (λ e. (M.contents e.0).open_page ≡ None) }
     ensures runs { MatchResult result (λ b. Runs (cache_health (M.contents cache.machine) (M.run cache.machine)) (cache_below (M.contents cache.machine) (M.run cache.machine)) (cache_health (M.contents b.0.machine) (M.run b.0.machine)) (cache_below (M.contents b.0.machine) (M.run b.0.machine))) (λ e. Runs (cache_health (M.contents cache.machine) (M.run cache.machine)) (cache_below (M.contents cache.machine) (M.run cache.machine)) (cache_health (M.contents e.0) (M.run e.0)) (cache_below (M.contents e.0) (M.run e.0))) }
 {
-    let mut view = RegionView::over(cache, shape);
-    let undone = recover_regions(&mut view, regions);
-    let cache = view.into_volume();
+    let (cache, undone) = recover_volume(cache, shape, regions);
     match undone {
         Ok(undone) => Ok((cache, undone)),
         Err(fail) => Err((cache.into_machine(), fail)),
     }
+}
+
+/// The same over any volume, which is handed back at each exit.
+fn recover_volume<V: Volume>(
+    volume: V,
+    shape: VolumeShape,
+    regions: &[Ino],
+) -> (V, Result<u32, VolFail>)
+    requires sound { V.sound volume }
+    requires ready { Ready shape (V.seen volume) (V.kept volume) }
+    requires reads { (s : State) × ReadsAs shape (V.seen volume).words s }
+    requires regions { ino_numbers regions.now ≡ region_inos shape (V.seen volume).words }
+    ensures recovers { IfOk result.1 (Recovers shape (V.seen volume) (V.seen result.0) (V.kept result.0)) }
+    ensures reads { (s : State) → ReadsAs shape (V.seen volume).words s → ReadsAs shape (V.seen result.0).words s }
+    ensures ready { Ready shape (V.seen result.0) (V.kept result.0) }
+    ensures goes { Goes (V.health volume) (V.below volume) (V.health result.0) (V.below result.0) }
+    ensures ends { Ends (V.health volume) (V.health result.0) result.1 }
+    ensures sound { V.sound result.0 }
+{
+    let mut view = RegionView::over(volume, shape);
+    let undone = recover_regions(&mut view, regions);
+    (view.into_volume(), undone)
 }

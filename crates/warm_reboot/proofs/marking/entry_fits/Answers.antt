@@ -1,7 +1,12 @@
 use Rattle.std.proofs.Common.{◌∙◌, ap, sym}
+use Rattle.std.proofs.lemmas.Result.{err_from_is_err_and}
+use Rattle.rio_base.proofs.BlockSets.{caches_by_refl}
+use Rattle.rio_base.proofs.Rules.{looks_refl}
 use Rattle.rio_model.specs.Placed.{volume_layout}
 use Rattle.rio_model.specs.Registry.{is_data, tag_block}
 use Rattle.registry.specs.declared.entry.Entry.{Entry}
+use Rattle.warm_reboot.proofs.Examines.{none_made}
+use Rattle.warm_reboot.proofs.Looking.{ends_failed, ends_other, ends_still}
 use Rattle.warm_reboot.proofs.Marks.{page_fits, table_fits}
 use Rattle.warm_reboot.proofs.marking.entry_fits.Goals as goal
 
@@ -14,3 +19,104 @@ pub returns-in_ok-inode-in-PageOf-clause-value : goal.returns-in_ok-inode-in-Pag
 returns-in_ok-inode-in-PageOf-clause-value g c = λ words k entry.
     page_fits (volume_layout c.args.shape.now (g.V.Blocks.seen c.args.v.now).words) c.args.owners.now words k _ c.in-PageOf.page c.in-PageOf.i c.page_fits.result c.requires.owners c.requires.laid
     (c.block-block.ensures ∙ ap (λ (e : Entry). tag_block e.tag) entry) c.if-block-shape.false c.in-PageOf.is (c.page_fits.ensures (volume_layout c.args.shape.now (g.V.Blocks.seen c.args.v.now).words) words k entry (sym c.in_ok-inode-in-PageOf.ensures.value.kind) (sym c.in_ok-inode-in-PageOf.ensures.value.size))
+
+-- ---- where nothing is read
+
+pub returns-then-block-shape-clause-looks : goal.returns-then-block-shape-clause-looks
+returns-then-block-shape-clause-looks g c = looks_refl _
+
+pub returns-then-block-shape-clause-shape : goal.returns-then-block-shape-clause-shape
+returns-then-block-shape-clause-shape g c = c.requires.shape
+
+pub returns-then-block-shape-clause-caches : goal.returns-then-block-shape-clause-caches
+returns-then-block-shape-clause-caches g c = caches_by_refl _ _
+
+pub returns-then-block-shape-clause-passes : goal.returns-then-block-shape-clause-passes
+returns-then-block-shape-clause-passes g c = g.met.V.Blocks.passes_refl c.args.v.now
+
+pub returns-then-block-shape-clause-ends : goal.returns-then-block-shape-clause-ends
+returns-then-block-shape-clause-ends g c = ends_still _ _
+
+pub returns-then-block-shape-clause-sound : goal.returns-then-block-shape-clause-sound
+returns-then-block-shape-clause-sound g c = c.requires.sound
+
+pub returns-in-Nobody-clause-looks : goal.returns-in-Nobody-clause-looks
+returns-in-Nobody-clause-looks g c = looks_refl _
+
+pub returns-in-Nobody-clause-shape : goal.returns-in-Nobody-clause-shape
+returns-in-Nobody-clause-shape g c = c.requires.shape
+
+pub returns-in-Nobody-clause-caches : goal.returns-in-Nobody-clause-caches
+returns-in-Nobody-clause-caches g c = caches_by_refl _ _
+
+pub returns-in-Nobody-clause-passes : goal.returns-in-Nobody-clause-passes
+returns-in-Nobody-clause-passes g c = g.met.V.Blocks.passes_refl c.args.v.now
+
+pub returns-in-Nobody-clause-ends : goal.returns-in-Nobody-clause-ends
+returns-in-Nobody-clause-ends g c = ends_still _ _
+
+pub returns-in-Nobody-clause-sound : goal.returns-in-Nobody-clause-sound
+returns-in-Nobody-clause-sound g c = c.requires.sound
+
+pub returns-in-TableOf-clause-looks : goal.returns-in-TableOf-clause-looks
+returns-in-TableOf-clause-looks g c = looks_refl _
+
+pub returns-in-TableOf-clause-shape : goal.returns-in-TableOf-clause-shape
+returns-in-TableOf-clause-shape g c = c.requires.shape
+
+pub returns-in-TableOf-clause-caches : goal.returns-in-TableOf-clause-caches
+returns-in-TableOf-clause-caches g c = caches_by_refl _ _
+
+pub returns-in-TableOf-clause-passes : goal.returns-in-TableOf-clause-passes
+returns-in-TableOf-clause-passes g c = g.met.V.Blocks.passes_refl c.args.v.now
+
+pub returns-in-TableOf-clause-ends : goal.returns-in-TableOf-clause-ends
+returns-in-TableOf-clause-ends g c = ends_still _ _
+
+pub returns-in-TableOf-clause-sound : goal.returns-in-TableOf-clause-sound
+returns-in-TableOf-clause-sound g c = c.requires.sound
+
+-- ---- where an inode is
+
+pub read_inode-requires-clause-sound : goal.read_inode-requires-clause-sound
+read_inode-requires-clause-sound g c = c.requires.sound
+
+pub read_inode-requires-clause-shape : goal.read_inode-requires-clause-shape
+read_inode-requires-clause-shape g c = c.requires.shape
+
+pub returns-in_err-inode-in-PageOf-clause-looks : goal.returns-in_err-inode-in-PageOf-clause-looks
+returns-in_err-inode-in-PageOf-clause-looks g c = c.read_inode.ensures.looks
+
+pub returns-in_err-inode-in-PageOf-clause-shape : goal.returns-in_err-inode-in-PageOf-clause-shape
+returns-in_err-inode-in-PageOf-clause-shape g c = c.read_inode.ensures.shape
+
+pub returns-in_err-inode-in-PageOf-clause-passes : goal.returns-in_err-inode-in-PageOf-clause-passes
+returns-in_err-inode-in-PageOf-clause-passes g c = c.read_inode.ensures.passes
+
+pub returns-in_err-inode-in-PageOf-clause-sound : goal.returns-in_err-inode-in-PageOf-clause-sound
+returns-in_err-inode-in-PageOf-clause-sound g c = c.read_inode.ensures.sound
+
+pub returns-in_ok-inode-in-PageOf-clause-looks : goal.returns-in_ok-inode-in-PageOf-clause-looks
+returns-in_ok-inode-in-PageOf-clause-looks g c = c.read_inode.ensures.looks
+
+pub returns-in_ok-inode-in-PageOf-clause-shape : goal.returns-in_ok-inode-in-PageOf-clause-shape
+returns-in_ok-inode-in-PageOf-clause-shape g c = c.read_inode.ensures.shape
+
+pub returns-in_ok-inode-in-PageOf-clause-passes : goal.returns-in_ok-inode-in-PageOf-clause-passes
+returns-in_ok-inode-in-PageOf-clause-passes g c = c.read_inode.ensures.passes
+
+pub returns-in_ok-inode-in-PageOf-clause-sound : goal.returns-in_ok-inode-in-PageOf-clause-sound
+returns-in_ok-inode-in-PageOf-clause-sound g c = c.read_inode.ensures.sound
+
+pub returns-in_ok-inode-in-PageOf-clause-ends : goal.returns-in_ok-inode-in-PageOf-clause-ends
+returns-in_ok-inode-in-PageOf-clause-ends g c = ends_other _ _ _ _ c.in_ok-inode-in-PageOf.ensures.ends
+
+pub returns-in_err-inode-in-PageOf-clause-value : goal.returns-in_err-inode-in-PageOf-clause-value
+returns-in_err-inode-in-PageOf-clause-value g c =
+    let p = err_from_is_err_and c.from_residual.result c.from_residual.ensures.1 in
+    none_made c.from_residual.result p.0 _ p.1
+
+pub returns-in_err-inode-in-PageOf-clause-ends : goal.returns-in_err-inode-in-PageOf-clause-ends
+returns-in_err-inode-in-PageOf-clause-ends g c =
+    let p = err_from_is_err_and c.from_residual.result c.from_residual.ensures.1 in
+    ends_failed _ _ c.from_residual.result p.0 _ p.1 p.2 c.in_err-inode-in-PageOf.ensures.ends

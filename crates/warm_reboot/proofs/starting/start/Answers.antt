@@ -60,3 +60,20 @@ returns-in-Err-clause-survives g c = λ are. survives_kept c.args.marks.now _ _ 
 
 pub returns-in-Err-clause-runs : goal.returns-in-Err-clause-runs
 returns-in-Err-clause-runs g c = runs_on (stale_block c.args.marks.now (g.M.Machine.contents c.args.machine).words) _ _ _ _ _ _ c.requires.image c.restore.ensures.endures c.restore.ensures.ends
+
+-- ---- what is asked first
+
+pub restore-requires-clause-image : goal.restore-requires-clause-image
+restore-requires-clause-image g c = c.requires.image
+
+pub restore-requires-clause-closed : goal.restore-requires-clause-closed
+restore-requires-clause-closed g c = c.requires.closed
+
+pub restore-requires-clause-room : goal.restore-requires-clause-room
+restore-requires-clause-room g c = c.requires.room
+
+pub restore-requires-clause-marks : goal.restore-requires-clause-marks
+restore-requires-clause-marks g c = c.requires.marks
+
+pub restore-requires-clause-of_data : goal.restore-requires-clause-of_data
+restore-requires-clause-of_data g c = c.requires.of_data
