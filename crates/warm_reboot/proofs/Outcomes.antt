@@ -9,13 +9,14 @@ use Rattle.rio_base.specs.declared.places.VolumeShape.{VolumeShape}
 use Rattle.rio_base.specs.Machine.{Steps}
 use Rattle.rio_base.specs.Volume.{Kept, Runs}
 use Rattle.rio_base.proofs.MachineRules.{steps_refl}
+use Rattle.rio_base.specs.Image.{HasHeader}
 use Rattle.rio_model.specs.declared.census.Census.{Census}
 use Rattle.rio_model.specs.declared.state.State.{State}
 use Rattle.rio_model.specs.Cover.{stands}
 use Rattle.rio_model.specs.Held.{held_of}
 use Rattle.rio_model.specs.Placed.{Layout, volume_layout}
-use Rattle.rio_model.specs.Registry.{FailsRegistry, KeepsRegistry}
-use Rattle.rio_model.specs.Standing.{EntriesFit}
+use Rattle.rio_model.specs.Registry.{FailsRegistry, HasLayout, KeepsRegistry}
+use Rattle.rio_model.specs.Standing.{EntriesFit, Restorable}
 use Rattle.rio_model.specs.VolumeFails.{FailsPair}
 use Rattle.rio_model.specs.VolumeReads.{ReadsAs}
 use Rattle.rio_model.specs.VolumeReady.{Ready}
@@ -30,6 +31,7 @@ use Rattle.page_restore.specs.declared.kinds.PageCounts.{PageCounts}
 use Rattle.region_recovery.specs.RegionLists.{region_inos}
 use Rattle.region_recovery.proofs.HeldRegions.{regions_held, undone_held}
 use Rattle.warm_reboot.specs.Boots.{AreMarked, IsCutOff, StandsNow, Starts}
+use Rattle.warm_reboot.proofs.Examines.{restorable_examined}
 use Rattle.warm_reboot.proofs.Starts.{stands_now}
 use Rattle.warm_reboot.proofs.Survivals.{cut_later, survives_viewed}
 use Rattle.warm_reboot.specs.Examining.{IsExamined, TellsNoRule, Unexamined, handed}
@@ -137,6 +139,12 @@ booted_viewed c d r q s report x k v on h = booted_again c d s report x k (subst
 
 pub examined_viewed : (c d : Contents) (r q : Running) (census : Census) → Viewed c d r q → IsExamined c census → IsExamined d census
 examined_viewed c d r q census v h = subst (λ (e : Contents). IsExamined e census) (sym v.rest) (record { image = h.image; state = h.state; says = h.says; reads = record { reads = h.reads.reads; entries = h.reads.entries }; counts = h.counts })
+
+pub image_viewed : (c d : Contents) (r q : Running) (census : Census) → Viewed c d r q → HasHeader c.words → HasLayout c.words r.scratch → IsExamined c census → Restorable d (length q.scratch)
+image_viewed c d r q census v header layout h = restorable_examined d q.scratch census
+    (subst (λ (e : Contents). HasHeader e.words) (sym v.rest) header)
+    (subst (λ (e : Contents). HasLayout e.words q.scratch) (sym v.rest) (subst (λ (x : Running). HasLayout c.words x.scratch) (sym v.run) layout))
+    (examined_viewed c d r q census v h)
 
 -- ---- how it fails
 

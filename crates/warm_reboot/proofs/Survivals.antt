@@ -140,6 +140,9 @@ by_view shape here v w e k p h = subst (λ (sh : VolumeShape). p sh v) e (subst 
 pub by_views : {V : Type 0} (shape here : VolumeShape) (v w x y : V) → here ≡ shape → w ≡ v → y ≡ x → (p : VolumeShape → V → V → Type 0) → p here w y → p shape v x
 by_views shape here v w x y e k l p h = by_view shape here v w e k (λ sh u. p sh u x) (subst (p here w) l h)
 
+pub by_two : {V : Type 0} (v w x y : V) → w ≡ v → y ≡ x → (p : V → V → Type 0) → p w y → p v x
+by_two v w x y e k p h = subst (λ u. p u x) e (subst (p w) k h)
+
 -- the regions were recovered
 pub recovers_by : (r : Result ℕ VolFail) (shape : VolumeShape) (x y : Seen) (k : Kept) → ((s : State) → ReadsAs shape x.words s → ReadsAs shape y.words s) → OnOk r (AreRecovered shape y.words) → IfOk r (λ n. n ≡ undone_count shape x.words) → Ready shape y k → (region_inos shape x.words ≡ [] → y.cached ≡ x.cached) → IfOk r (Recovers shape x y k)
 recovers_by (Ok n) shape x y k reads recovered count ready bare = record { reads = reads; recovered = recovered; undone = count; ready = ready; bare = bare }

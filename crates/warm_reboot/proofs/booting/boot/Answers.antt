@@ -1,9 +1,14 @@
 use Rattle.std.specs.Prelude.{length}
-use Rattle.std.proofs.Common.{◌∙◌, ap, inl, inr}
+use Rattle.std.proofs.Common.{◌≡◌, ◌∙◌, ap, inl, inr, subst, sym}
 use Rattle.rio_base.specs.Machine.{Contents}
+use Rattle.rio_model.specs.Cover.{stands}
+use Rattle.rio_model.specs.Placed.{volume_layout}
+use Rattle.rio_model.specs.Standing.{Restored}
 use Rattle.cached_pages.specs.Caches.{is_roomy}
+use Rattle.page_restore.specs.Stale.{MarksStale}
+use Rattle.region_recovery.specs.RegionLists.{ino_numbers, region_inos}
 use Rattle.warm_reboot.proofs.Examines.{tells_none}
-use Rattle.warm_reboot.proofs.Outcomes.{booted_viewed, either_as, err_always, err_as, examined_viewed, now_found, ok_always, ok_as, runs_viewed, unbooted_look, unbooted_viewed}
+use Rattle.warm_reboot.proofs.Outcomes.{booted_viewed, either_as, err_always, err_as, examined_viewed, image_viewed, now_found, ok_always, ok_as, runs_viewed, unbooted_look, unbooted_viewed}
 use Rattle.rio_base.specs.Rules.{runs_trans}
 use Rattle.warm_reboot.proofs.booting.boot.Goals as goal
 
@@ -43,3 +48,46 @@ returns-in-Ok-clause-looked g c = err_always c.boot_looked.result _ (λ e. inl (
 
 pub returns-in-Err-clause-closed : goal.returns-in-Err-clause-closed
 returns-in-Err-clause-closed g c = ap (λ (x : Contents). x.open_page) c.in-Err.ensures.untouched.rest ∙ c.requires.closed
+
+-- ---- what is asked
+
+pub look-requires-clause-layout : goal.look-requires-clause-layout
+look-requires-clause-layout g c = c.requires.layout
+
+pub look-requires-clause-closed : goal.look-requires-clause-closed
+look-requires-clause-closed g c = c.requires.closed
+
+pub boot_looked-requires-clause-image : goal.boot_looked-requires-clause-image
+boot_looked-requires-clause-image g c = image_viewed (g.M.Machine.contents c.args.machine) (g.M.Machine.contents c.in-Ok.machine) (g.M.Machine.run c.args.machine) (g.M.Machine.run c.in-Ok.machine) c.in-Ok.examined.census c.in-Ok.ensures.untouched c.requires.header c.requires.layout c.in-Ok.ensures.examined
+
+pub boot_looked-requires-clause-closed : goal.boot_looked-requires-clause-closed
+boot_looked-requires-clause-closed g c = ap (λ (x : Contents). x.open_page) c.in-Ok.ensures.untouched.rest ∙ c.requires.closed
+
+pub boot_looked-requires-clause-marks : goal.boot_looked-requires-clause-marks
+boot_looked-requires-clause-marks g c = subst (λ (x : Contents). MarksStale (volume_layout c.in-Ok.examined.census.shape (stands x)) x.words c.in-Ok.examined.marks.items) (sym c.in-Ok.ensures.untouched.rest) c.in-Ok.ensures.marks
+
+pub boot_looked-requires-clause-regions : goal.boot_looked-requires-clause-regions
+boot_looked-requires-clause-regions g c = subst (λ (x : Contents). ino_numbers c.in-Ok.examined.regions.items ≡ region_inos c.in-Ok.examined.census.shape (stands x)) (sym c.in-Ok.ensures.untouched.rest) c.in-Ok.ensures.regions
+
+-- ---- what is left
+
+pub returns-in-Ok-clause-shut : goal.returns-in-Ok-clause-shut
+returns-in-Ok-clause-shut g c = c.boot_looked.ensures.shut
+
+pub returns-in-Ok-clause-running : goal.returns-in-Ok-clause-running
+returns-in-Ok-clause-running g c = c.boot_looked.ensures.running
+
+pub returns-in-Ok-clause-sound : goal.returns-in-Ok-clause-sound
+returns-in-Ok-clause-sound g c = c.boot_looked.ensures.sound
+
+pub returns-in-Ok-clause-closed : goal.returns-in-Ok-clause-closed
+returns-in-Ok-clause-closed g c = c.boot_looked.ensures.closed
+
+pub returns-in-Ok-clause-standing : goal.returns-in-Ok-clause-standing
+returns-in-Ok-clause-standing g c = λ s h. c.boot_looked.ensures.no_rule
+
+pub returns-in-Ok-clause-restored : goal.returns-in-Ok-clause-restored
+returns-in-Ok-clause-restored g c = ok_as c.boot_looked.result _ _ (λ b h roomy. subst (λ (x : Contents). Restored (volume_layout b.1.shape (stands x)) x.words x.disk (g.M.Machine.contents b.0.machine).disk) c.in-Ok.ensures.untouched.rest (h (ap is_roomy c.in-Ok.ensures.untouched.rest ∙ roomy))) c.boot_looked.ensures.restored
+
+pub returns-in-Err-clause-runs : goal.returns-in-Err-clause-runs
+returns-in-Err-clause-runs g c = runs_viewed (g.M.Machine.contents c.args.machine) (g.M.Machine.contents c.in-Err.error.machine) (g.M.Machine.run c.args.machine) (g.M.Machine.run c.in-Err.error.machine) c.in-Err.ensures.untouched
