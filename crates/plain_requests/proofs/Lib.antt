@@ -3,5 +3,6 @@ pub mod Common
 pub mod FileAnswers
 pub mod FreeInodes
 pub mod Listing
+pub mod PieceSteps
 pub mod RegionSteps
 pub mod Room

@@ -1,9 +1,9 @@
 -- How what the plain program finds of a region follows, step by step.
-use Rattle.plain_requests.proofs.Common.{◌≡◌, ℕ, suc, ◌+◌, ◌-◌, ◌<◌, true, false, List, [], ◌∷◌, ◌++◌, length, map, take, drop, refl, sym, ap, ◌∙◌, arith, ◌&&◌, range_with_len}
+use Rattle.plain_requests.proofs.Common.{◌≡◌, ℕ, suc, ◌+◌, ◌-◌, ◌<◌, true, false, List, [], ◌∷◌, ◌++◌, length, map, take, drop, get_or, refl, sym, ap, ◌∙◌, arith, ◌&&◌, range_with_len}
 use Rattle.std.proofs.Common.{set, append_assoc}
 use Rattle.std.specs.Prelude.{not}
 use Rattle.std.proofs.lemmas.List.FromFn.{map-range_with_len_more}
-use Rattle.std.proofs.lemmas.List.{take_more_set, take-append-drop, drop-set-lt}
+use Rattle.std.proofs.lemmas.List.{map-append, take_more, take_more_set, take-append-drop, drop-set-lt}
 use Rattle.rio_model.specs.Heap.{in_block}
 use Rattle.rio_requests.specs.RegionAnswers.{all_free, all_in_range, in_range}
 
@@ -29,6 +29,13 @@ free_passed blocks t d n below is =
 -- one more is pushed
 pub pushed : (F : ℕ → ℕ) (a n : ℕ) (xs ys : List ℕ) (y : ℕ) → xs ≡ map F (range_with_len a n) → ys ≡ xs ++ y ∷ [] → y ≡ F (a + n) → ys ≡ map F (range_with_len a (n + 1))
 pushed F a n xs ys y were now is = now ∙ ap (λ zs. zs ++ y ∷ []) were ∙ ap (λ z. map F (range_with_len a n) ++ z ∷ []) is ∙ sym (map-range_with_len_more F a n (a + n) refl)
+
+-- the same of a list that is gone over
+pub mapped_more : {X Y : Type 0} (f : X → Y) (xs : List X) (i : ℕ) (x : X) (ys zs : List Y) → i < length xs → x ≡ get_or xs i x → ys ≡ map f (take i xs) → zs ≡ ys ++ f x ∷ [] → zs ≡ map f (take (i + 1) xs)
+mapped_more f xs i x ys zs below is were now =
+    now
+    ∙ ap (λ vs. vs ++ f x ∷ []) were
+    ∙ sym (ap (map f) (take_more xs i x below ∙ ap (λ v. take i xs ++ v ∷ []) (sym is)) ∙ map-append f (take i xs) (x ∷ []))
 
 -- ---- rows of transactions
 

@@ -1,14 +1,15 @@
 //! Words of a region's data that a transaction saves, puts and reads.
 
-ghost use Rattle.std.specs.Prelude.{◌≡◌, ◌+◌, ◌*◌, ◌/◌, ◌≤◌, ◌<◌, ◌^◌, drop, length, slice_index_or, IfOk, if◌then◌else◌, Ok as Good, Err as Bad};
+ghost use Rattle.std.specs.Prelude.{◌≡◌, ◌+◌, ◌*◌, ◌/◌, ◌≤◌, ◌<◌, ◌^◌, ◌++◌, ◌∷◌, [], drop, length, slice_index_or, IfOk, if◌then◌else◌, Ok as Good, Err as Bad};
+ghost use Rattle.std.specs.Option.{option_copied};
 ghost use Rattle.byteorder.specs.Endian.{little_number};
 ghost use Rattle.rio_model.specs.FileParts.{put_at as put_at_of};
 ghost use Rattle.rio_model.specs.Held.{byte_in, bytes_in};
-ghost use Rattle.rio_requests.specs.RegionAnswers.{Outcome as OutcomeOf, all_in_range as all_in_range_of, data_word, get_on, in_range as in_range_of, of_words, put_on, range_on, with_range as with_range_of, with_undo, with_words as with_words_of, within, words_of as words_of_of};
-ghost use Rattle.rio_requests.specs.declared.region_answer.RegionAnswer.{RegionAnswer as RegionAnswerOf};
+ghost use Rattle.rio_requests.specs.RegionAnswers.{all_in_range as all_in_range_of, in_range as in_range_of, of_words, put_on, range_on, with_range as with_range_of, with_undo, with_words as with_words_of, within, words_of as words_of_of};
 ghost use Rattle.rio_requests.specs.declared.reply.Reply.TheVariants.{Ok as Done, Number as NumberOf};
+ghost use Rattle.plain_requests.specs.OnRegions.{Reads};
 
-use super::transactions::{Outcome, is_past, is_whole, lacks_undo, narrow};
+use super::transactions::{Outcome, is_past, is_whole, kept, lacks_undo, narrow};
 use byteorder::{ByteOrder, LittleEndian};
 use rio_base::{Octets, RangeList, Words};
 use rio_model::{RegionNode, Txn};
@@ -18,11 +19,11 @@ use std::alloc::{AllocError, Global};
 /// Lets a transaction change a range of bytes.
 pub fn range(
     region: &RegionNode,
-    txn: Option<Txn>,
+    txn: Option<&Txn>,
     off: u64,
     len: u64,
 ) -> Result<Outcome, AllocError>
-    ensures { IfOk result (λ o. o ≡ range_on region.now txn off len) }
+    ensures { IfOk result (λ o. o ≡ range_on region.now (option_copied txn.entry) off len) }
 {
     match txn {
         None => Ok(Err(14)),
@@ -36,8 +37,8 @@ pub fn range(
 }
 
 /// Lets a transaction that is not doomed change a range of bytes.
-fn range_in(region: &RegionNode, txn: Txn, off: u64, len: u64) -> Result<Outcome, AllocError>
-    ensures { IfOk result (λ o. o ≡ of_words off len (within region.now off len (with_undo region.now txn (3 + len / 8) (Good (record { region = region.now; txn = Some (with_range_of txn off len); reply = Done }))))) }
+fn range_in(region: &RegionNode, txn: &Txn, off: u64, len: u64) -> Result<Outcome, AllocError>
+    ensures { IfOk result (λ o. o ≡ of_words off len (within region.now off len (with_undo region.now txn.now (3 + len / 8) (Good (record { region = region.now; txn = Some (with_range_of txn.now off len); reply = Done }))))) }
 {
     if !is_whole(off, len) {
         return Ok(Err(20));
@@ -45,35 +46,34 @@ fn range_in(region: &RegionNode, txn: Txn, off: u64, len: u64) -> Result<Outcome
     if is_past(region, off, len) {
         return Ok(Err(19));
     }
-    if lacks_undo(region, &txn, 3 + len / 8) {
+    if lacks_undo(region, txn, 3 + len / 8) {
         return Ok(Err(16));
     }
     let txn = with_range(txn, off, len)?;
-    let region = region.clone()?;
-    Ok(Ok(RegionAnswer {
-        region,
-        txn: Some(txn),
-        reply: Reply::Ok,
-    }))
+    kept(region, Some(txn), Reply::Ok)
 }
 
 /// The transaction with one range more.
-fn with_range(txn: Txn, off: u64, len: u64) -> Result<Txn, AllocError>
-    ensures { IfOk result (λ t. t ≡ with_range_of txn off len) }
+fn with_range(txn: &Txn, off: u64, len: u64) -> Result<Txn, AllocError>
+    ensures { IfOk result (λ t. t ≡ with_range_of txn.now off len) }
 {
     let first = narrow(off / 8)?;
     let count = narrow(len / 8)?;
     let used = narrow(txn.used as u64 + 3 + len / 8)?;
-    let mut ranges = txn.ranges.into_vec();
-    ranges.push((first, count))?;
-    Ok(Txn {
-        ino: txn.ino,
-        before: txn.before,
-        before_blocks: txn.before_blocks,
-        ranges: RangeList::from(ranges),
-        used,
-        doomed: txn.doomed,
-    })
+    let ranges = one_more(&txn.ranges, (first, count))?;
+    let mut next = txn.clone()?;
+    next.ranges = ranges;
+    next.used = used;
+    Ok(next)
+}
+
+/// The ranges with one more, which goes last.
+fn one_more(ranges: &RangeList, range: (u32, u32)) -> Result<RangeList, AllocError>
+    ensures { IfOk result (λ made. made ≡ ranges.now ++ range ∷ []) }
+{
+    let mut rows = ranges.clone()?.into_vec();
+    rows.push(range)?;
+    Ok(RangeList::from(rows))
 }
 
 /// Whether a word is in some range.
@@ -106,11 +106,11 @@ fn all_in_range(ranges: &[(u32, u32)], word: u64, count: u64) -> bool
 pub fn put(
     alloc: Global,
     region: &RegionNode,
-    txn: Option<Txn>,
+    txn: Option<&Txn>,
     off: u64,
     bytes: &[u8],
 ) -> Result<Outcome, AllocError>
-    ensures { IfOk result (λ o. o ≡ put_on region.now txn off bytes.now) }
+    ensures { IfOk result (λ o. o ≡ put_on region.now (option_copied txn.entry) off bytes.now) }
 {
     match txn {
         None => Ok(Err(14)),
@@ -127,11 +127,11 @@ pub fn put(
 fn put_in(
     alloc: Global,
     region: &RegionNode,
-    txn: Txn,
+    txn: &Txn,
     off: u64,
     bytes: &[u8],
 ) -> Result<Outcome, AllocError>
-    ensures { IfOk result (λ o. o ≡ of_words off (length bytes.now) (within region.now off (length bytes.now) (if all_in_range_of txn.ranges (off / 8) (length bytes.now / 8) then Good (record { region = with_words_of region.now off bytes.now; txn = Some txn; reply = NumberOf (length bytes.now) }) else Bad 15))) }
+    ensures { IfOk result (λ o. o ≡ of_words off (length bytes.now) (within region.now off (length bytes.now) (if all_in_range_of txn.now.ranges (off / 8) (length bytes.now / 8) then Good (record { region = with_words_of region.now off bytes.now; txn = Some txn.now; reply = NumberOf (length bytes.now) }) else Bad 15))) }
 {
     let len = bytes.len() as u64;
     if !is_whole(off, len) {
@@ -143,11 +143,26 @@ fn put_in(
     if !all_in_range(txn.ranges.as_slice(), off / 8, len / 8) {
         return Ok(Err(15));
     }
+    put_words(alloc, region, txn, off, bytes)
+}
+
+/// Puts bytes over whole words of the data.
+fn put_words(
+    alloc: Global,
+    region: &RegionNode,
+    txn: &Txn,
+    off: u64,
+    bytes: &[u8],
+) -> Result<Outcome, AllocError>
+    requires { off + length bytes.now ≤ 8 * length region.now.words }
+    ensures { IfOk result (λ o. o ≡ Good (record { region = with_words_of region.now off bytes.now; txn = Some txn.now; reply = NumberOf (length bytes.now) })) }
+{
     let region = with_words(alloc, region, off, bytes)?;
+    let txn = txn.clone()?;
     Ok(Ok(RegionAnswer {
         region,
         txn: Some(txn),
-        reply: Reply::Number(len),
+        reply: Reply::Number(bytes.len() as u64),
     }))
 }
 
@@ -213,13 +228,13 @@ fn put_at(alloc: Global, old: &[u64], at: usize, new: &[u64]) -> Result<Vec<u64>
 pub fn get(
     alloc: Global,
     region: &RegionNode,
-    txn: Option<Txn>,
+    txn: Option<&Txn>,
     off: u64,
     len: u64,
-) -> Result<Outcome, AllocError>
-    ensures { IfOk result (λ o. o ≡ get_on region.now txn off len) }
+) -> Result<Result<Octets, u8>, AllocError>
+    ensures { IfOk result (Reads region.now (option_copied txn.entry) off len) }
 {
-    let doomed = match &txn {
+    let doomed = match txn {
         Some(txn) => txn.doomed,
         None => false,
     };
@@ -230,12 +245,7 @@ pub fn get(
         return Ok(Err(19));
     }
     let bytes = bytes_from(alloc, region.words.as_slice(), off as usize, len as usize)?;
-    let region = region.clone()?;
-    Ok(Ok(RegionAnswer {
-        region,
-        txn,
-        reply: Reply::Bytes(bytes),
-    }))
+    Ok(Ok(bytes))
 }
 
 /// So many bytes of words, from a byte on.

@@ -1,6 +1,7 @@
 //! Blocks of a region's heap, taken by first fit and given back.
 
-ghost use Rattle.std.specs.Prelude.{◌≡◌, ◌+◌, ◌*◌, ◌≤◌, ◌<◌, ◌^◌, ◌&&◌, nat_le, IfOk, Some as There};
+ghost use Rattle.std.specs.Prelude.{◌≡◌, ◌+◌, ◌≤◌, ◌<◌, ◌^◌, ◌&&◌, ◌++◌, ◌∷◌, ℕ, drop, length, nat_le, take as first_of, IfOk, Ok as Good, Some as There};
+ghost use Rattle.std.specs.Option.{option_copied};
 ghost use Rattle.rio_model.specs.Heap.{block_size as block_size_of, in_block as in_block_of, with_block as with_block_of, without_block as without_block_of};
 ghost use Rattle.rio_requests.specs.RegionAnswers.{all_free as all_free_of, alloc_on, first_fit as first_fit_of, free_on, give_back as give_back_of, map_record as map_record_of, take_fit as take_fit_of, units_in as units_in_of, with_used as with_used_of};
 
@@ -11,8 +12,8 @@ use rio_requests::{RegionAnswer, Reply};
 use std::alloc::AllocError;
 
 /// Takes a block of so many units.
-pub fn alloc(region: &RegionNode, txn: Option<Txn>, units: u64) -> Result<Outcome, AllocError>
-    ensures { IfOk result (λ o. o ≡ alloc_on region.now txn units) }
+pub fn alloc(region: &RegionNode, txn: Option<&Txn>, units: u64) -> Result<Outcome, AllocError>
+    ensures { IfOk result (λ o. o ≡ alloc_on region.now (option_copied txn.entry) units) }
 {
     match txn {
         None => Ok(Err(14)),
@@ -29,8 +30,8 @@ pub fn alloc(region: &RegionNode, txn: Option<Txn>, units: u64) -> Result<Outcom
 }
 
 /// Gives back the block that starts at a byte offset.
-pub fn free(region: &RegionNode, txn: Option<Txn>, at: u64) -> Result<Outcome, AllocError>
-    ensures { IfOk result (λ o. o ≡ free_on region.now txn at) }
+pub fn free(region: &RegionNode, txn: Option<&Txn>, at: u64) -> Result<Outcome, AllocError>
+    ensures { IfOk result (λ o. o ≡ free_on region.now (option_copied txn.entry) at) }
 {
     match txn {
         None => Ok(Err(14)),
@@ -133,55 +134,58 @@ fn map_record(unit: u64, units: u64) -> Result<u64, AllocError>
 }
 
 /// The transaction with more undo words used.
-fn with_used(txn: Txn, words: u64) -> Result<Txn, AllocError>
+fn with_used(txn: &Txn, words: u64) -> Result<Txn, AllocError>
     requires { words < 2 ^ 63 }
-    ensures { IfOk result (λ t. t ≡ with_used_of txn words) }
+    ensures { IfOk result (λ t. t ≡ with_used_of txn.now words) }
 {
     let used = narrow(txn.used as u64 + words)?;
-    Ok(Txn {
-        ino: txn.ino,
-        before: txn.before,
-        before_blocks: txn.before_blocks,
-        ranges: txn.ranges,
-        used,
-        doomed: txn.doomed,
-    })
+    let mut next = txn.clone()?;
+    next.used = used;
+    Ok(next)
 }
 
 /// Takes a gap of so many units as a block.
-fn take(region: &RegionNode, txn: Txn, at: u64, units: u64) -> Result<Outcome, AllocError>
-    ensures { IfOk result (λ o. o ≡ take_fit_of region.now units txn (There at)) }
+fn take(region: &RegionNode, txn: &Txn, at: u64, units: u64) -> Result<Outcome, AllocError>
+    ensures { IfOk result (λ o. o ≡ take_fit_of region.now units txn.now (There at)) }
 {
     let words = map_record(at, units)?;
-    if lacks_undo(region, &txn, words) {
+    if lacks_undo(region, txn, words) {
         return Ok(Err(16));
     }
     let unit = narrow(at)?;
-    let txn = with_used(txn, words)?;
-    let blocks = with_block(region.blocks.clone()?, at, units)?;
-    let region = with_blocks(region, blocks)?;
-    Ok(Ok(RegionAnswer {
-        region,
-        txn: Some(txn),
-        reply: Reply::Number(64 * unit as u64),
-    }))
+    let blocks = with_block(&region.blocks, at, units)?;
+    recorded(region, blocks, txn, words, Reply::Number(64 * unit as u64))
 }
 
 /// Gives back a block of so many units.
-fn give(region: &RegionNode, txn: Txn, unit: u64, units: u64) -> Result<Outcome, AllocError>
-    ensures { IfOk result (λ o. o ≡ give_back_of region.now unit txn (There units)) }
+fn give(region: &RegionNode, txn: &Txn, unit: u64, units: u64) -> Result<Outcome, AllocError>
+    ensures { IfOk result (λ o. o ≡ give_back_of region.now unit txn.now (There units)) }
 {
     let words = map_record(unit, units)?;
-    if lacks_undo(region, &txn, words) {
+    if lacks_undo(region, txn, words) {
         return Ok(Err(16));
     }
-    let txn = with_used(txn, words)?;
     let blocks = without_block(region.blocks.clone()?, unit);
+    recorded(region, blocks, txn, words, Reply::Ok)
+}
+
+/// What comes of a request that makes these a region's blocks, where their record takes so many undo words.
+fn recorded(
+    region: &RegionNode,
+    blocks: HeapList,
+    txn: &Txn,
+    words: u64,
+    reply: Reply,
+) -> Result<Outcome, AllocError>
+    requires { words < 2 ^ 63 }
+    ensures { IfOk result (λ o. o ≡ Good (record { region = record region.now { blocks = blocks }; txn = There (with_used_of txn.now words); reply = reply })) }
+{
     let region = with_blocks(region, blocks)?;
+    let txn = with_used(txn, words)?;
     Ok(Ok(RegionAnswer {
         region,
         txn: Some(txn),
-        reply: Reply::Ok,
+        reply,
     }))
 }
 
@@ -198,19 +202,27 @@ fn with_blocks(region: &RegionNode, blocks: HeapList) -> Result<RegionNode, Allo
 }
 
 /// Blocks with one more, in its place by its first unit.
-fn with_block(blocks: HeapList, unit: u64, units: u64) -> Result<HeapList, AllocError>
-    ensures { IfOk result (λ made. made ≡ with_block_of blocks unit units) }
+fn with_block(blocks: &HeapList, unit: u64, units: u64) -> Result<HeapList, AllocError>
+    ensures { IfOk result (λ made. made ≡ with_block_of blocks.now unit units) }
 {
     let block = (narrow(unit)?, narrow(units)?);
-    let mut rows = blocks.into_vec();
-    for at in 0..rows.len() {
-        if unit < rows[at].0 as u64 {
-            rows.insert(at, block)?;
-            return Ok(HeapList::from(rows));
+    let mut rows = blocks.clone()?.into_vec();
+    let at = place_of(rows.as_slice(), block.0);
+    rows.insert(at, block)?;
+    Ok(HeapList::from(rows))
+}
+
+/// Where a block belongs among others that starts at a unit.
+fn place_of(blocks: &[(u32, u32)], unit: u32) -> usize
+    ensures within { result ≤ length blocks.now }
+    ensures is { (units : ℕ) → with_block_of blocks.now unit units ≡ first_of result blocks.now ++ (unit, units) ∷ drop result blocks.now }
+{
+    for at in 0..blocks.len() {
+        if unit < blocks[at].0 {
+            return at;
         }
     }
-    rows.push(block)?;
-    Ok(HeapList::from(rows))
+    blocks.len()
 }
 
 /// Blocks without the one that starts at a unit.

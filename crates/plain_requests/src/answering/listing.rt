@@ -1,9 +1,9 @@
 //! The names of a directory.
 
-ghost use Rattle.std.specs.Prelude.{◌≡◌, ◌==◌, ◌^◌, ◌<◌, length, IfOk, OnOk, map, filter};
+ghost use Rattle.std.specs.Prelude.{ℕ, ◌≡◌, ◌^◌, ◌<◌, length, IfOk, OnOk, map};
 ghost use Rattle.std.specs.FinMap.{entries, from_entries, put};
-ghost use Rattle.rio_model.specs.States.{names_in as names_in_of};
-ghost use Rattle.rio_model.specs.Names.{name_cmp, row_entry, row_entries};
+ghost use Rattle.rio_model.specs.States.{names_below, names_in as names_in_of};
+ghost use Rattle.rio_model.specs.Names.{NameKey, name_cmp, row_entry, row_entries};
 
 use name_list::NameList;
 use rio_base::{Ino, Octets};
@@ -16,8 +16,15 @@ pub fn names_in(alloc: Global, s: &State, dir: Ino) -> Result<Vec<Octets>, Alloc
     ensures { IfOk result (λ names. names.items ≡ names_in_of s.now dir.0) }
 {
     let rows = in_order(alloc, s.names.as_slice())?;
+    names_among(alloc, rows.as_slice(), dir)
+}
+
+/// The names that rows have for a directory, in the order of the rows.
+fn names_among(alloc: Global, rows: &[NameRow], dir: Ino) -> Result<Vec<Octets>, AllocError>
+    ensures { IfOk result (λ names. names.items ≡ names_below (map (λ (e : NameKey × ℕ). e.0) (row_entries rows.now)) dir.0) }
+{
     let mut names = Vec::new(alloc);
-    for row in &rows {
+    for row in rows {
         if row.dir.0 == dir.0 {
             names.push(row.name.clone()?)?;
         }

@@ -1,7 +1,7 @@
 //! Making directories and files.
 
-ghost use Rattle.std.specs.Prelude.{◌≡◌, ◌*◌, nat_lt, IfOk, MatchOption, Some as There, None as Absent};
-ghost use Rattle.std.specs.FinMap.{get};
+ghost use Rattle.std.specs.Prelude.{◌≡◌, ◌*◌, nat_lt, IfOk, MatchOption, OnOk, Some as There, None as Absent};
+ghost use Rattle.std.specs.FinMap.{get, insert};
 ghost use Rattle.rio_requests.specs.Answer.{answered as answered_of};
 ghost use Rattle.rio_model.specs.States.{least_free as least_free_of, with_new as with_new_of};
 ghost use Rattle.rio_requests.specs.Answers.{create as create_of, make as make_of, make_new as make_new_of, make_region as make_region_of, make_row as make_row_of, mkdir as mkdir_of, region_row as region_row_of};
@@ -13,7 +13,7 @@ use super::paths::{directory_of, last_of, names_of};
 use super::room::{lacks_room, new_blocks, row_wanted};
 use super::{refused, with_node};
 use rio_base::{HeapList, Ino, Octets, Words};
-use rio_model::{NameRow, Node, RegionNode, State};
+use rio_model::{NameRow, NameRows, Node, RegionNode, State};
 use rio_requests::{Answered, Reply};
 use std::alloc::{AllocError, Global};
 
@@ -195,11 +195,32 @@ fn with_new(
 ) -> Result<Answered, AllocError>
     ensures { IfOk result (λ a. a ≡ answered_of (with_new_of s.now dir.0 name.now ino.0 node.now) (NumberOf ino.0)) }
 {
-    let mut next = with_node(s, ino, node.clone()?)?;
-    let name = name.clone()?;
-    next.names.insert(NameRow { dir, name, ino })?;
+    let next = state_with(s, dir, name, ino, node)?;
     Ok(Answered {
         next,
         reply: Some(Reply::Number(ino.0 as u64)),
     })
+}
+
+/// The same state, alone.
+fn state_with(
+    s: &State,
+    dir: Ino,
+    name: &Octets,
+    ino: Ino,
+    node: &Node,
+) -> Result<State, AllocError>
+    ensures { IfOk result (λ next. next ≡ with_new_of s.now dir.0 name.now ino.0 node.now) }
+{
+    let mut next = with_node(s, ino, node.clone()?)?;
+    add_name(&mut next.names, dir, name, ino)?;
+    Ok(next)
+}
+
+/// Lets a directory's name name an inode, in place of what it named.
+pub fn add_name(names: &mut NameRows, dir: Ino, name: &Octets, ino: Ino) -> Result<(), AllocError>
+    ensures { OnOk result (names.new ≡ insert names.old (dir.0, name.now) ino.0) }
+{
+    let name = name.clone()?;
+    names.insert(NameRow { dir, name, ino })
 }

@@ -1,8 +1,10 @@
 //! Requests on the region at a path, with the transaction that is open on it.
 
-ghost use Rattle.std.specs.Prelude.{◌≡◌, ◌+◌, ◌<◌, ◌++◌, length, take, drop, IfOk, Ok as Good};
+ghost use Rattle.std.specs.Prelude.{◌≡◌, ◌+◌, ◌<◌, ◌++◌, length, map, take, drop, IfOk, Ok as Good};
+ghost use Rattle.std.specs.Option.{option_copied};
 ghost use Rattle.rio_requests.specs.RegionAnswers.{abort_on, alloc_on, begin_on, commit_on, free_on, get_on, put_on, range_on};
 ghost use Rattle.rio_requests.specs.Transactions.{at_region as at_region_of, changed as changed_of, looked as looked_of, set_txn as set_txn_of, txn_at as txn_at_of, txn_before, txns as txns_of, with_region as with_region_of};
+ghost use Rattle.rio_model.specs.declared.txn.Txn.{Txn as ModelTxn};
 ghost use Rattle.plain_requests.specs.OnRegions.{FindsRegion, IsRegionAt};
 
 use super::paths::{names_of, walk};
@@ -14,11 +16,11 @@ use rio_requests::{Answered, RegionAnswer, Reply};
 use std::alloc::{AllocError, Global};
 
 /// A region, and the transaction that is open on it.
-#[derive(Drop)]
+#[derive(Clone, Copy)]
 pub struct OnRegion<'s> {
     pub ino: Ino,
     pub region: &'s RegionNode,
-    pub txn: Option<Txn>,
+    pub txn: Option<&'s Txn>,
 }
 
 /// Begins a transaction on a region.
@@ -83,10 +85,24 @@ pub fn get(
     ensures { IfOk result (λ a. a ≡ at_region_of s.now path.now (λ i r o. looked_of s.now (get_on r o off len))) }
 {
     match region_at(s, path, alloc)? {
-        Ok(at) => {
-            let outcome = data::get(alloc, at.region, at.txn, off, len)?;
-            looked(s, outcome)
-        }
+        Ok(at) => read_in(alloc, s, at.region, at.txn, off, len),
+        Err(number) => refused(s, number),
+    }
+}
+
+/// Reads bytes of this region.
+fn read_in(
+    alloc: Global,
+    s: &State,
+    region: &RegionNode,
+    txn: Option<&Txn>,
+    off: u64,
+    len: u64,
+) -> Result<Answered, AllocError>
+    ensures { IfOk result (λ a. a ≡ looked_of s.now (get_on region.now (option_copied txn.entry) off len)) }
+{
+    match data::get(alloc, region, txn, off, len)? {
+        Ok(bytes) => unchanged(s, Reply::Bytes(bytes)),
         Err(number) => refused(s, number),
     }
 }
@@ -152,11 +168,19 @@ pub fn abort(alloc: Global, s: &State, path: &[u8]) -> Result<Answered, AllocErr
 pub fn txns(alloc: Global, s: &State) -> Result<Answered, AllocError>
     ensures { IfOk result (λ a. a ≡ txns_of s.now) }
 {
+    let inos = inos_of(alloc, s.txns.as_slice())?;
+    unchanged(s, Reply::Inos(inos))
+}
+
+/// The regions of transactions.
+fn inos_of(alloc: Global, txns: &[Txn]) -> Result<InoList, AllocError>
+    ensures { IfOk result (λ inos. inos ≡ map (λ (t : ModelTxn). t.ino) txns.now) }
+{
     let mut inos = Vec::new(alloc);
-    for txn in s.txns.as_slice() {
+    for txn in txns {
         inos.push(txn.ino)?;
     }
-    unchanged(s, Reply::Inos(InoList::from(inos)))
+    Ok(InoList::from(inos))
 }
 
 /// The region at a path, or a refusal.
@@ -169,36 +193,36 @@ fn region_at<'s>(
 {
     let names = names_of(alloc, path)?;
     match walk(s, names.as_slice()) {
-        Ok(ino) => as_region(s, ino),
+        Ok(ino) => Ok(as_region(s, ino)),
         Err(number) => Ok(Err(number)),
     }
 }
 
 /// The region of an inode, or a refusal.
-fn as_region(s: &State, ino: Ino) -> Result<Result<OnRegion<'_>, u8>, AllocError>
-    ensures { IfOk result (IsRegionAt s.now ino.0) }
+fn as_region(s: &State, ino: Ino) -> Result<OnRegion<'_>, u8>
+    ensures { IsRegionAt s.now ino.0 result }
 {
     match s.nodes.get(ino) {
         Some(Node::Region(region)) => {
-            let txn = txn_at(s.txns.as_slice(), ino)?;
-            Ok(Ok(OnRegion { ino, region, txn }))
+            let txn = txn_at(s.txns.as_slice(), ino);
+            Ok(OnRegion { ino, region, txn })
         }
-        Some(Node::Dir) => Ok(Err(8)),
-        Some(Node::File(_)) => Ok(Err(8)),
-        None => Ok(Err(2)),
+        Some(Node::Dir) => Err(8),
+        Some(Node::File(_)) => Err(8),
+        None => Err(2),
     }
 }
 
 /// The transaction that is open on a region, where one is.
-fn txn_at(txns: &[Txn], ino: Ino) -> Result<Option<Txn>, AllocError>
-    ensures { IfOk result (λ o. o ≡ txn_at_of txns.now ino.0) }
+fn txn_at(txns: &[Txn], ino: Ino) -> Option<&Txn>
+    ensures { option_copied result ≡ txn_at_of txns.now ino.0 }
 {
     for txn in txns {
         if txn.ino.0 == ino.0 {
-            return Ok(Some(txn.clone()?));
+            return Some(txn);
         }
     }
-    Ok(None)
+    None
 }
 
 /// The transactions, where that of a region becomes another, or ends.
@@ -262,18 +286,16 @@ fn with_region(
 ) -> Result<State, AllocError>
     ensures { IfOk result (λ next. next ≡ with_region_of s.now ino.0 region txn) }
 {
-    let txns = set_txn(s.txns.clone()?, ino, txn)?;
+    let txns = with_txn(s, ino, txn)?;
     let mut next = with_node(s, ino, Node::Region(region))?;
     next.txns = txns;
     Ok(next)
 }
 
-/// What came of a request that looks at a region.
-fn looked(s: &State, outcome: Outcome) -> Result<Answered, AllocError>
-    ensures { IfOk result (λ a. a ≡ looked_of s.now outcome) }
+/// The open transactions, where that of a region becomes another, or ends.
+fn with_txn(s: &State, ino: Ino, txn: Option<Txn>) -> Result<TxnList, AllocError>
+    ensures { IfOk result (λ txns. txns ≡ set_txn_of s.now.txns ino.0 txn) }
 {
-    match outcome {
-        Err(number) => refused(s, number),
-        Ok(answer) => unchanged(s, answer.reply),
-    }
+    let txns = s.txns.clone()?;
+    set_txn(txns, ino, txn)
 }

@@ -7,12 +7,13 @@ ghost use Rattle.rio_requests.specs.Answers.{is_below as is_below_of, move_row a
 ghost use Rattle.rio_model.specs.Paths.{walk as walk_of};
 ghost use Rattle.rio_model.specs.Transactions.{open_inodes};
 
+use super::making::add_name;
 use super::paths::{directory_of, is_dir, last_of, names_of, walk};
 use super::removing::is_open;
 use super::room::{lacks_room, row_wanted};
 use super::{refused, unchanged};
 use rio_base::{Ino, Octets};
-use rio_model::{NameRow, State};
+use rio_model::State;
 use rio_requests::{Answered, Reply};
 use std::alloc::{AllocError, Global};
 
@@ -175,12 +176,7 @@ fn moved(
 {
     let mut next = s.clone()?;
     next.names.remove(dir, name.as_slice());
-    let name = to_name.clone()?;
-    next.names.insert(NameRow {
-        dir: to_dir,
-        name,
-        ino,
-    })?;
+    add_name(&mut next.names, to_dir, to_name, ino)?;
     Ok(next)
 }
 

@@ -1,7 +1,9 @@
 //! Transactions begun and ended, and what each request on one asks of it first.
 
-ghost use Rattle.std.specs.Prelude.{◌≡◌, ◌+◌, ◌*◌, ◌<◌, ◌^◌, ◌==◌, ◌%◌, ◌&&◌, nat_lt, length, IfOk, MatchResult, Ok as Good, Err as Bad};
-ghost use Rattle.rio_requests.specs.RegionAnswers.{Outcome, abort_on, begin_on, commit_on};
+ghost use Rattle.std.specs.Prelude.{◌≡◌, ◌+◌, ◌*◌, ◌<◌, ◌^◌, ◌==◌, ◌%◌, ◌&&◌, nat_lt, length, IfOk, None as Absent, Ok as Good, Some as There};
+ghost use Rattle.std.specs.Option.{option_copied};
+ghost use Rattle.rio_requests.specs.RegionAnswers.{abort_on, begin_on, commit_on, undone as undone_of};
+ghost use Rattle.rio_requests.specs.declared.reply.Reply.TheVariants.{Ok as Done};
 
 use rio_base::{Ino, Items, RangeList};
 use rio_model::{RegionNode, Txn};
@@ -39,6 +41,14 @@ pub fn is_past(region: &RegionNode, off: u64, len: u64) -> bool
     }
 }
 
+/// What comes of a request that leaves a region as it is.
+pub fn kept(region: &RegionNode, txn: Option<Txn>, reply: Reply) -> Result<Outcome, AllocError>
+    ensures { IfOk result (λ o. o ≡ Good (record { region = region.now; txn = txn; reply = reply })) }
+{
+    let region = region.clone()?;
+    Ok(Ok(RegionAnswer { region, txn, reply }))
+}
+
 /// Whether the undo pages have fewer words left.
 pub fn lacks_undo(region: &RegionNode, txn: &Txn, words: u64) -> bool
     requires { words < 2 ^ 63 }
@@ -52,37 +62,37 @@ pub fn begin(
     alloc: Global,
     ino: Ino,
     region: &RegionNode,
-    txn: Option<Txn>,
+    txn: Option<&Txn>,
 ) -> Result<Outcome, AllocError>
-    ensures { IfOk result (λ o. o ≡ begin_on ino.0 region.now txn) }
+    ensures { IfOk result (λ o. o ≡ begin_on ino.0 region.now (option_copied txn.entry)) }
 {
     match txn {
         Some(_) => Ok(Err(13)),
         None => {
-            let before = region.words.clone()?;
-            let before_blocks = region.blocks.clone()?;
-            let ranges = RangeList::from(Vec::new(alloc));
-            let begun = Txn {
-                ino,
-                before,
-                before_blocks,
-                ranges,
-                used: 0,
-                doomed: false,
-            };
-            let region = region.clone()?;
-            Ok(Ok(RegionAnswer {
-                region,
-                txn: Some(begun),
-                reply: Reply::Ok,
-            }))
+            let begun = begun(alloc, ino, region)?;
+            kept(region, Some(begun), Reply::Ok)
         }
     }
 }
 
+/// A transaction under which nothing has changed yet.
+fn begun(alloc: Global, ino: Ino, region: &RegionNode) -> Result<Txn, AllocError>
+    ensures { IfOk result (λ t. begin_on ino.0 region.now Absent ≡ Good (record { region = region.now; txn = There t; reply = Done })) }
+{
+    let RegionNode { words, blocks, .. } = region.clone()?;
+    Ok(Txn {
+        ino,
+        before: words,
+        before_blocks: blocks,
+        ranges: RangeList::from(Vec::new(alloc)),
+        used: 0,
+        doomed: false,
+    })
+}
+
 /// Ends a transaction and keeps its changes.
-pub fn commit(region: &RegionNode, txn: Option<Txn>) -> Result<Outcome, AllocError>
-    ensures { IfOk result (λ o. o ≡ commit_on region.now txn) }
+pub fn commit(region: &RegionNode, txn: Option<&Txn>) -> Result<Outcome, AllocError>
+    ensures { IfOk result (λ o. o ≡ commit_on region.now (option_copied txn.entry)) }
 {
     match txn {
         None => Ok(Err(14)),
@@ -90,7 +100,19 @@ pub fn commit(region: &RegionNode, txn: Option<Txn>) -> Result<Outcome, AllocErr
             if txn.doomed {
                 return Ok(Err(22));
             }
-            let region = region.clone()?;
+            kept(region, None, Reply::Ok)
+        }
+    }
+}
+
+/// Ends a transaction and undoes its changes.
+pub fn abort(region: &RegionNode, txn: Option<&Txn>) -> Result<Outcome, AllocError>
+    ensures { IfOk result (λ o. o ≡ abort_on region.now (option_copied txn.entry)) }
+{
+    match txn {
+        None => Ok(Err(14)),
+        Some(txn) => {
+            let region = undone(region, txn)?;
             Ok(Ok(RegionAnswer {
                 region,
                 txn: None,
@@ -100,28 +122,18 @@ pub fn commit(region: &RegionNode, txn: Option<Txn>) -> Result<Outcome, AllocErr
     }
 }
 
-/// Ends a transaction and undoes its changes.
-pub fn abort(region: &RegionNode, txn: Option<Txn>) -> Result<Outcome, AllocError>
-    ensures { IfOk result (λ o. o ≡ abort_on region.now txn) }
+/// The region as it was when a transaction began.
+fn undone(region: &RegionNode, txn: &Txn) -> Result<RegionNode, AllocError>
+    ensures { IfOk result (λ r. r ≡ undone_of region.now txn.now) }
 {
-    match txn {
-        None => Ok(Err(14)),
-        Some(txn) => {
-            let Txn {
-                before,
-                before_blocks,
-                ..
-            } = txn;
-            let region = RegionNode {
-                words: before,
-                undo: region.undo,
-                blocks: before_blocks,
-            };
-            Ok(Ok(RegionAnswer {
-                region,
-                txn: None,
-                reply: Reply::Ok,
-            }))
-        }
-    }
+    let Txn {
+        before,
+        before_blocks,
+        ..
+    } = txn.clone()?;
+    Ok(RegionNode {
+        words: before,
+        undo: region.undo,
+        blocks: before_blocks,
+    })
 }
