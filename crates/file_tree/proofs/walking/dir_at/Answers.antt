@@ -1,4 +1,5 @@
-use Rattle.file_tree.proofs.Common.{◌≡◌, ◌<◌, ap, sym, subst, err_from_is_err_and, ◌then◌, held_of, names_of, walk, IsInode}
+use Rattle.file_tree.proofs.UpdateEnds.{never_some}
+use Rattle.file_tree.proofs.Common.{◌≡◌, ◌<◌, ap, sym, subst, err_from_is_err_and, ◌then◌, held_of, names_of, walk, IsInode, ◌∙◌}
 use Rattle.file_tree.specs.Failures.{Refuses}
 use Rattle.file_tree.specs.Walks.{ino_in}
 use Rattle.file_tree.proofs.CallEnds.{after_well, ends_ok, ends_on, well}
@@ -52,3 +53,72 @@ returns-clause-ends g c = ends_ok _ _ _ (after_well _ _ _ _ _ (well _ _ c.walk.r
 
 pub returns-clause-inode : goal.returns-clause-inode
 returns-clause-inode g c = subst (λ f. IsInode f c.in_ok-dir.dir.0 c.in_ok-inode.inode) c.walk.ensures.words c.in_ok-inode.ensures.inode
+
+pub walk-requires-clause-sound : goal.walk-requires-clause-sound
+walk-requires-clause-sound g c = c.requires.sound
+
+pub walk-requires-clause-can : goal.walk-requires-clause-can
+walk-requires-clause-can g c = c.requires.can
+
+pub walk-requires-clause-in_step : goal.walk-requires-clause-in_step
+walk-requires-clause-in_step g c = c.requires.in_step
+
+pub must_be_dir-requires-clause-sound : goal.must_be_dir-requires-clause-sound
+must_be_dir-requires-clause-sound g c = c.walk.ensures.sound
+
+pub must_be_dir-requires-clause-can : goal.must_be_dir-requires-clause-can
+must_be_dir-requires-clause-can g c = c.walk.ensures.can
+
+pub returns-in_err-dir-clause-dir : goal.returns-in_err-dir-clause-dir
+returns-in_err-dir-clause-dir g c = let p = err_from_is_err_and c.from_residual.result c.from_residual.ensures.1 in never_some _ _ p.0 p.1
+
+pub returns-in_err-dir-clause-inode : goal.returns-in_err-dir-clause-inode
+returns-in_err-dir-clause-inode g c = let p = err_from_is_err_and c.from_residual.result c.from_residual.ensures.1 in never_some _ _ p.0 p.1
+
+pub returns-in_err-dir-clause-in_step : goal.returns-in_err-dir-clause-in_step
+returns-in_err-dir-clause-in_step g c = c.walk.ensures.in_step
+
+pub returns-in_err-dir-clause-leaves : goal.returns-in_err-dir-clause-leaves
+returns-in_err-dir-clause-leaves g c = c.walk.ensures.leaves
+
+pub returns-in_err-dir-clause-words : goal.returns-in_err-dir-clause-words
+returns-in_err-dir-clause-words g c = c.walk.ensures.words
+
+pub returns-in_err-dir-clause-can : goal.returns-in_err-dir-clause-can
+returns-in_err-dir-clause-can g c = c.walk.ensures.can
+
+pub returns-in_err-dir-clause-goes : goal.returns-in_err-dir-clause-goes
+returns-in_err-dir-clause-goes g c = c.walk.ensures.goes
+
+pub returns-in_err-dir-clause-sound : goal.returns-in_err-dir-clause-sound
+returns-in_err-dir-clause-sound g c = c.walk.ensures.sound
+
+pub returns-in_err-inode-clause-dir : goal.returns-in_err-inode-clause-dir
+returns-in_err-inode-clause-dir g c = let p = err_from_is_err_and c.from_residual-in_err-inode.result c.from_residual-in_err-inode.ensures.1 in never_some _ _ p.0 p.1
+
+pub returns-in_err-inode-clause-inode : goal.returns-in_err-inode-clause-inode
+returns-in_err-inode-clause-inode g c = let p = err_from_is_err_and c.from_residual-in_err-inode.result c.from_residual-in_err-inode.ensures.1 in never_some _ _ p.0 p.1
+
+pub returns-in_err-inode-clause-in_step : goal.returns-in_err-inode-clause-in_step
+returns-in_err-inode-clause-in_step g c = c.walk.ensures.in_step
+
+pub returns-in_err-inode-clause-can : goal.returns-in_err-inode-clause-can
+returns-in_err-inode-clause-can g c = c.must_be_dir.ensures.can
+
+pub returns-in_err-inode-clause-sound : goal.returns-in_err-inode-clause-sound
+returns-in_err-inode-clause-sound g c = c.must_be_dir.ensures.sound
+
+pub returns-in_err-inode-clause-words : goal.returns-in_err-inode-clause-words
+returns-in_err-inode-clause-words g c = c.must_be_dir.ensures.words ∙ c.walk.ensures.words
+
+pub returns-clause-in_step : goal.returns-clause-in_step
+returns-clause-in_step g c = c.walk.ensures.in_step
+
+pub returns-clause-can : goal.returns-clause-can
+returns-clause-can g c = c.must_be_dir.ensures.can
+
+pub returns-clause-sound : goal.returns-clause-sound
+returns-clause-sound g c = c.must_be_dir.ensures.sound
+
+pub returns-clause-words : goal.returns-clause-words
+returns-clause-words g c = c.must_be_dir.ensures.words ∙ c.walk.ensures.words

@@ -1,4 +1,5 @@
-use Rattle.file_tree.proofs.Common.{◌≡◌, ℕ, sym, subst, err_from_is_err_and, ◌then◌, held_of, IsInode, HasRow, IsEntry}
+use Rattle.file_tree.proofs.UpdateEnds.{never_some}
+use Rattle.file_tree.proofs.Common.{◌≡◌, ℕ, sym, subst, err_from_is_err_and, ◌then◌, held_of, IsInode, HasRow, IsEntry, ◌∙◌}
 use Rattle.file_tree.specs.Failures.{Refuses}
 use Rattle.file_tree.proofs.CallEnds.{after_well, ends_ok, ends_on, well}
 use Rattle.file_tree.proofs.LookedAt.{row_used, step_no_dir, step_no_row, step_taken}
@@ -61,3 +62,60 @@ returns-in_err-i-clause-in_step g c = same_step c.args.shape.now _ _ _ (sym c.mu
 
 pub returns-clause-in_step : goal.returns-clause-in_step
 returns-clause-in_step g c = same_step c.args.shape.now _ _ _ (sym c.must_be_dir.ensures.words) c.row_of.ensures.in_step
+
+pub must_be_dir-requires-clause-sound : goal.must_be_dir-requires-clause-sound
+must_be_dir-requires-clause-sound g c = c.requires.sound
+
+pub must_be_dir-requires-clause-can : goal.must_be_dir-requires-clause-can
+must_be_dir-requires-clause-can g c = c.requires.can
+
+pub must_be_dir-requires-clause-used : goal.must_be_dir-requires-clause-used
+must_be_dir-requires-clause-used g c = c.requires.used
+
+pub row_of-requires-clause-sound : goal.row_of-requires-clause-sound
+row_of-requires-clause-sound g c = c.must_be_dir.ensures.sound
+
+pub row_of-requires-clause-can : goal.row_of-requires-clause-can
+row_of-requires-clause-can g c = c.must_be_dir.ensures.can
+
+pub returns-in_err-inode-clause-used : goal.returns-in_err-inode-clause-used
+returns-in_err-inode-clause-used g c = let p = err_from_is_err_and c.from_residual.result c.from_residual.ensures.1 in never_some _ _ p.0 p.1
+
+pub returns-in_err-inode-clause-in_step : goal.returns-in_err-inode-clause-in_step
+returns-in_err-inode-clause-in_step g c = c.requires.in_step
+
+pub returns-in_err-inode-clause-leaves : goal.returns-in_err-inode-clause-leaves
+returns-in_err-inode-clause-leaves g c = c.must_be_dir.ensures.leaves
+
+pub returns-in_err-inode-clause-words : goal.returns-in_err-inode-clause-words
+returns-in_err-inode-clause-words g c = c.must_be_dir.ensures.words
+
+pub returns-in_err-inode-clause-can : goal.returns-in_err-inode-clause-can
+returns-in_err-inode-clause-can g c = c.must_be_dir.ensures.can
+
+pub returns-in_err-inode-clause-goes : goal.returns-in_err-inode-clause-goes
+returns-in_err-inode-clause-goes g c = c.must_be_dir.ensures.goes
+
+pub returns-in_err-inode-clause-sound : goal.returns-in_err-inode-clause-sound
+returns-in_err-inode-clause-sound g c = c.must_be_dir.ensures.sound
+
+pub returns-in_err-i-clause-used : goal.returns-in_err-i-clause-used
+returns-in_err-i-clause-used g c = let p = err_from_is_err_and c.from_residual-in_err-i.result c.from_residual-in_err-i.ensures.1 in never_some _ _ p.0 p.1
+
+pub returns-in_err-i-clause-can : goal.returns-in_err-i-clause-can
+returns-in_err-i-clause-can g c = c.row_of.ensures.can
+
+pub returns-in_err-i-clause-sound : goal.returns-in_err-i-clause-sound
+returns-in_err-i-clause-sound g c = c.row_of.ensures.sound
+
+pub returns-in_err-i-clause-words : goal.returns-in_err-i-clause-words
+returns-in_err-i-clause-words g c = c.row_of.ensures.words ∙ c.must_be_dir.ensures.words
+
+pub returns-clause-can : goal.returns-clause-can
+returns-clause-can g c = c.row_of.ensures.can
+
+pub returns-clause-sound : goal.returns-clause-sound
+returns-clause-sound g c = c.row_of.ensures.sound
+
+pub returns-clause-words : goal.returns-clause-words
+returns-clause-words g c = c.row_of.ensures.words ∙ c.must_be_dir.ensures.words

@@ -1,5 +1,6 @@
-use Rattle.file_tree.proofs.Common.{arith, names_of, walk, err_from_is_err_and}
-use Rattle.file_tree.proofs.CallEnds.{ends_on}
+use Rattle.file_tree.proofs.UpdateEnds.{never_some}
+use Rattle.file_tree.proofs.Common.{arith, names_of, walk, err_from_is_err_and, refl, le_refl, ends_by_well, goes_refl, leaves_refl}
+use Rattle.file_tree.proofs.CallEnds.{ends_on, ends_ok, well}
 use Rattle.file_tree.proofs.LookedAt.{comes_handed}
 use Rattle.file_tree.proofs.Reached.{root_held}
 use Rattle.file_tree.proofs.WalksHeld.{walked_used}
@@ -30,3 +31,81 @@ returns-clause-in_step g c = record {
   full = c.walk_names.ensures.in_step.full;
   path = λ s reads. c.keep.ensures s (c.walk_names.ensures.in_step.path s reads) (c.in_ok-i.ensures.value s reads);
 }
+
+pub walk_names-requires-clause-sound : goal.walk_names-requires-clause-sound
+walk_names-requires-clause-sound g c = c.requires.sound
+
+pub walk_names-requires-clause-can : goal.walk_names-requires-clause-can
+walk_names-requires-clause-can g c = c.requires.can
+
+pub walk_names-requires-clause-in_step : goal.walk_names-requires-clause-in_step
+walk_names-requires-clause-in_step g c = c.requires.in_step
+
+pub returns-in-Some-clause-value : goal.returns-in-Some-clause-value
+returns-in-Some-clause-value g c = λ s reads. c.in-Some.ensures s (c.requires.in_step.path s reads)
+
+pub returns-in-Some-clause-in_step : goal.returns-in-Some-clause-in_step
+returns-in-Some-clause-in_step g c = c.requires.in_step
+
+pub returns-in-Some-clause-leaves : goal.returns-in-Some-clause-leaves
+returns-in-Some-clause-leaves g c = leaves_refl c.args.shape.now _ _ c.requires.can.ready
+
+pub returns-in-Some-clause-words : goal.returns-in-Some-clause-words
+returns-in-Some-clause-words g c = refl
+
+pub returns-in-Some-clause-can : goal.returns-in-Some-clause-can
+returns-in-Some-clause-can g c = c.requires.can
+
+pub returns-in-Some-clause-goes : goal.returns-in-Some-clause-goes
+returns-in-Some-clause-goes g c = goes_refl _ _
+
+pub returns-in-Some-clause-ends : goal.returns-in-Some-clause-ends
+returns-in-Some-clause-ends g c = ends_ok _ _ _ (ends_by_well _ _ _ _ (le_refl _) refl (λ a. a) (λ a. a))
+
+pub returns-in-Some-clause-sound : goal.returns-in-Some-clause-sound
+returns-in-Some-clause-sound g c = c.requires.sound
+
+pub returns-in_err-i-clause-used : goal.returns-in_err-i-clause-used
+returns-in_err-i-clause-used g c = let p = err_from_is_err_and c.from_residual.result c.from_residual.ensures.1 in never_some _ _ p.0 p.1
+
+pub returns-in_err-i-clause-in_step : goal.returns-in_err-i-clause-in_step
+returns-in_err-i-clause-in_step g c = c.walk_names.ensures.in_step
+
+pub returns-in_err-i-clause-leaves : goal.returns-in_err-i-clause-leaves
+returns-in_err-i-clause-leaves g c = c.walk_names.ensures.leaves
+
+pub returns-in_err-i-clause-words : goal.returns-in_err-i-clause-words
+returns-in_err-i-clause-words g c = c.walk_names.ensures.words
+
+pub returns-in_err-i-clause-can : goal.returns-in_err-i-clause-can
+returns-in_err-i-clause-can g c = c.walk_names.ensures.can
+
+pub returns-in_err-i-clause-goes : goal.returns-in_err-i-clause-goes
+returns-in_err-i-clause-goes g c = c.walk_names.ensures.goes
+
+pub returns-in_err-i-clause-sound : goal.returns-in_err-i-clause-sound
+returns-in_err-i-clause-sound g c = c.walk_names.ensures.sound
+
+pub returns-clause-value : goal.returns-clause-value
+returns-clause-value g c = c.in_ok-i.ensures.value
+
+pub returns-clause-used : goal.returns-clause-used
+returns-clause-used g c = c.in_ok-i.ensures.used
+
+pub returns-clause-ends : goal.returns-clause-ends
+returns-clause-ends g c = ends_ok _ _ _ (well _ _ c.walk_names.result _ c.in_ok-i.was c.walk_names.ensures.ends)
+
+pub returns-clause-leaves : goal.returns-clause-leaves
+returns-clause-leaves g c = c.walk_names.ensures.leaves
+
+pub returns-clause-words : goal.returns-clause-words
+returns-clause-words g c = c.walk_names.ensures.words
+
+pub returns-clause-can : goal.returns-clause-can
+returns-clause-can g c = c.walk_names.ensures.can
+
+pub returns-clause-goes : goal.returns-clause-goes
+returns-clause-goes g c = c.walk_names.ensures.goes
+
+pub returns-clause-sound : goal.returns-clause-sound
+returns-clause-sound g c = c.walk_names.ensures.sound
