@@ -93,8 +93,7 @@ fn touch_node<V: Volume>(v: &mut V, shape: &VolumeShape, change: &NodeChange) ->
     ensures sound { V.sound v.new }
 {
     v.touch(inode_block(shape, change.ino))?;
-    touch_edits(v, change.edits.as_slice())?;
-    Ok(())
+    touch_edits(v, change.edits.as_slice())
 }
 
 /// Whether a change takes no block and frees none.

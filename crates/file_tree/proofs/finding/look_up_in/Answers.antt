@@ -1,3 +1,4 @@
+use Rattle.file_tree.proofs.UpdateEnds.{never_some}
 use Rattle.file_tree.proofs.Common.{◌≡◌, arith, sym, subst, ◌∙◌, err_from_is_err_and, ◌then◌, held_of, IsInode, Finds}
 use Rattle.std.specs.Prelude.{IfOk}
 use Rattle.file_tree.proofs.CallEnds.{after_well, ends_on, well}
@@ -45,3 +46,45 @@ returns-clause-goes g c = c.inode_of.ensures.goes then c.look_up.ensures.goes
 
 pub returns-clause-ends : goal.returns-clause-ends
 returns-clause-ends g c = after_well _ _ _ _ _ (well _ _ c.inode_of.result _ c.in_ok-inode.was c.inode_of.ensures.ends) c.look_up.ensures.ends
+
+pub inode_of-requires-clause-sound : goal.inode_of-requires-clause-sound
+inode_of-requires-clause-sound g c = c.requires.sound
+
+pub inode_of-requires-clause-can : goal.inode_of-requires-clause-can
+inode_of-requires-clause-can g c = c.requires.can
+
+pub look_up-requires-clause-sound : goal.look_up-requires-clause-sound
+look_up-requires-clause-sound g c = c.inode_of.ensures.sound
+
+pub look_up-requires-clause-can : goal.look_up-requires-clause-can
+look_up-requires-clause-can g c = c.inode_of.ensures.can
+
+pub returns-in_err-inode-clause-found : goal.returns-in_err-inode-clause-found
+returns-in_err-inode-clause-found g c = let p = err_from_is_err_and c.from_residual.result c.from_residual.ensures.1 in never_some _ _ p.0 p.1
+
+pub returns-in_err-inode-clause-in_step : goal.returns-in_err-inode-clause-in_step
+returns-in_err-inode-clause-in_step g c = c.requires.in_step
+
+pub returns-in_err-inode-clause-leaves : goal.returns-in_err-inode-clause-leaves
+returns-in_err-inode-clause-leaves g c = c.inode_of.ensures.leaves
+
+pub returns-in_err-inode-clause-words : goal.returns-in_err-inode-clause-words
+returns-in_err-inode-clause-words g c = c.inode_of.ensures.words
+
+pub returns-in_err-inode-clause-can : goal.returns-in_err-inode-clause-can
+returns-in_err-inode-clause-can g c = c.inode_of.ensures.can
+
+pub returns-in_err-inode-clause-goes : goal.returns-in_err-inode-clause-goes
+returns-in_err-inode-clause-goes g c = c.inode_of.ensures.goes
+
+pub returns-in_err-inode-clause-sound : goal.returns-in_err-inode-clause-sound
+returns-in_err-inode-clause-sound g c = c.inode_of.ensures.sound
+
+pub returns-clause-other : goal.returns-clause-other
+returns-clause-other g c = c.look_up.ensures.other
+
+pub returns-clause-can : goal.returns-clause-can
+returns-clause-can g c = c.look_up.ensures.can
+
+pub returns-clause-sound : goal.returns-clause-sound
+returns-clause-sound g c = c.look_up.ensures.sound

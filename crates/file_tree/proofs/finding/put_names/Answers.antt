@@ -84,3 +84,48 @@ returns-in-Err-Stopped-clause-goes g c = (g.met.V.Volume.passes_keeps _ _ c.hold
 
 pub returns-in-Err-Stopped-clause-ends : goal.returns-in-Err-Stopped-clause-ends
 returns-in-Err-Stopped-clause-ends g c = ends_read _ _ c.hold_names.result _ ReadStopped Stopped (c.in-Err-Stopped.is ∙ ap (λ (e : ReadFail). Err e) c.in-Err-Stopped.field-0-is) refl refl c.hold_names.ensures.ends
+
+pub returns-in-Ok-clause-words : goal.returns-in-Ok-clause-words
+returns-in-Ok-clause-words g c = c.hold_names.ensures.looks.words
+
+pub returns-in-Ok-clause-sound : goal.returns-in-Ok-clause-sound
+returns-in-Ok-clause-sound g c = c.hold_names.ensures.sound
+
+pub returns-in-Err-Memory-clause-words : goal.returns-in-Err-Memory-clause-words
+returns-in-Err-Memory-clause-words g c = c.hold_names.ensures.looks.words
+
+pub returns-in-Err-Memory-clause-sound : goal.returns-in-Err-Memory-clause-sound
+returns-in-Err-Memory-clause-sound g c = c.hold_names.ensures.sound
+
+pub returns-in-Err-Fault-clause-words : goal.returns-in-Err-Fault-clause-words
+returns-in-Err-Fault-clause-words g c = c.hold_names.ensures.looks.words
+
+pub returns-in-Err-Fault-clause-sound : goal.returns-in-Err-Fault-clause-sound
+returns-in-Err-Fault-clause-sound g c = c.hold_names.ensures.sound
+
+pub returns-in-Err-Fault-clause-all : goal.returns-in-Err-Fault-clause-all
+returns-in-Err-Fault-clause-all g c = tt
+
+pub returns-in-Err-Stopped-clause-words : goal.returns-in-Err-Stopped-clause-words
+returns-in-Err-Stopped-clause-words g c = c.hold_names.ensures.looks.words
+
+pub returns-in-Err-Stopped-clause-sound : goal.returns-in-Err-Stopped-clause-sound
+returns-in-Err-Stopped-clause-sound g c = c.hold_names.ensures.sound
+
+pub returns-in-Err-Stopped-clause-all : goal.returns-in-Err-Stopped-clause-all
+returns-in-Err-Stopped-clause-all g c = tt
+
+pub returns-in-Ok-clause-other : goal.returns-in-Ok-clause-other
+returns-in-Ok-clause-other g c = tt
+
+pub returns-in-Err-Memory-clause-other : goal.returns-in-Err-Memory-clause-other
+returns-in-Err-Memory-clause-other g c = tt
+
+pub returns-in-Err-Stopped-clause-other : goal.returns-in-Err-Stopped-clause-other
+returns-in-Err-Stopped-clause-other g c = tt
+
+pub returns-in-Err-Fault-clause-other : goal.returns-in-Err-Fault-clause-other
+returns-in-Err-Fault-clause-other g c = refl
+
+pub hold_names-requires-clause-sound : goal.hold_names-requires-clause-sound
+hold_names-requires-clause-sound g c = c.requires.sound

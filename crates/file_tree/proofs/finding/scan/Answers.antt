@@ -1,3 +1,4 @@
+use Rattle.file_tree.proofs.UpdateEnds.{never_some, unrefused_vol}
 use Rattle.file_tree.proofs.Common.{err_from_is_err_and, volume_layout, LeavesInUse}
 use Rattle.file_tree.proofs.CallEnds.{ends_ok, ends_vol, well_vol}
 use Rattle.file_tree.proofs.Unchanged.{can_again, leaves_read}
@@ -42,3 +43,27 @@ returns-clause-goes g c = (g.met.V.Volume.passes_keeps _ _ c.find_with.ensures.p
 
 pub returns-clause-ends : goal.returns-clause-ends
 returns-clause-ends g c = ends_ok _ _ _ (well_vol _ _ c.find_with.result _ c.in_ok-found.was c.find_with.ensures.ends)
+
+pub returns-in_err-found-clause-found : goal.returns-in_err-found-clause-found
+returns-in_err-found-clause-found g c = let p = err_from_is_err_and c.from_residual.result c.from_residual.ensures.1 in never_some _ _ p.0 p.1
+
+pub returns-in_err-found-clause-other : goal.returns-in_err-found-clause-other
+returns-in_err-found-clause-other g c = let p = err_from_is_err_and c.from_residual.result c.from_residual.ensures.1 in unrefused_vol c.from_residual.result _ _ p.1 p.2
+
+pub returns-in_err-found-clause-words : goal.returns-in_err-found-clause-words
+returns-in_err-found-clause-words g c = c.find_with.ensures.looks.words
+
+pub returns-in_err-found-clause-sound : goal.returns-in_err-found-clause-sound
+returns-in_err-found-clause-sound g c = c.find_with.ensures.sound
+
+pub returns-clause-words : goal.returns-clause-words
+returns-clause-words g c = c.find_with.ensures.looks.words
+
+pub returns-clause-sound : goal.returns-clause-sound
+returns-clause-sound g c = c.find_with.ensures.sound
+
+pub returns-clause-other : goal.returns-clause-other
+returns-clause-other g c = tt
+
+pub find_with-requires-clause-sound : goal.find_with-requires-clause-sound
+find_with-requires-clause-sound g c = c.requires.sound

@@ -139,3 +139,42 @@ returns-in_ok-size-clause-in_step g c = λ on. same_step c.args.shape.now _ _ _ 
 
 pub returns-else-inode-eq-REGION-clause-in_step : goal.returns-else-inode-eq-REGION-clause-in_step
 returns-else-inode-eq-REGION-clause-in_step g c = λ on. same_step c.args.shape.now _ _ _ (c.inode_of.ensures.words ∙ c.walk.ensures.words) c.walk.ensures.in_step
+
+pub returns-in_err-i-clause-sound : goal.returns-in_err-i-clause-sound
+returns-in_err-i-clause-sound g c = c.walk.ensures.sound
+
+pub returns-in_err-i-clause-goes : goal.returns-in_err-i-clause-goes
+returns-in_err-i-clause-goes g c = c.walk.ensures.goes
+
+pub returns-in_err-inode-clause-sound : goal.returns-in_err-inode-clause-sound
+returns-in_err-inode-clause-sound g c = c.inode_of.ensures.sound
+
+pub returns-in_err-size-clause-sound : goal.returns-in_err-size-clause-sound
+returns-in_err-size-clause-sound g c = c.region_bytes.ensures.sound
+
+pub returns-in_ok-size-clause-sound : goal.returns-in_ok-size-clause-sound
+returns-in_ok-size-clause-sound g c = c.region_bytes.ensures.sound
+
+pub returns-else-inode-eq-REGION-clause-sound : goal.returns-else-inode-eq-REGION-clause-sound
+returns-else-inode-eq-REGION-clause-sound g c = c.inode_of.ensures.sound
+
+pub walk-requires-clause-sound : goal.walk-requires-clause-sound
+walk-requires-clause-sound g c = c.requires.sound
+
+pub walk-requires-clause-can : goal.walk-requires-clause-can
+walk-requires-clause-can g c = c.requires.can
+
+pub walk-requires-clause-in_step : goal.walk-requires-clause-in_step
+walk-requires-clause-in_step g c = c.requires.in_step
+
+pub inode_of-requires-clause-sound : goal.inode_of-requires-clause-sound
+inode_of-requires-clause-sound g c = c.walk.ensures.sound
+
+pub inode_of-requires-clause-can : goal.inode_of-requires-clause-can
+inode_of-requires-clause-can g c = c.walk.ensures.can
+
+pub region_bytes-requires-clause-sound : goal.region_bytes-requires-clause-sound
+region_bytes-requires-clause-sound g c = c.inode_of.ensures.sound
+
+pub region_bytes-requires-clause-can : goal.region_bytes-requires-clause-can
+region_bytes-requires-clause-can g c = c.inode_of.ensures.can

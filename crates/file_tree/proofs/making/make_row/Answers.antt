@@ -1,3 +1,4 @@
+use Rattle.file_tree.proofs.UpdateEnds.{never_ok}
 use Rattle.file_tree.proofs.Common.{[], ◌∷◌, ap, ◌∙◌, arith, err_from_is_err_and, Some, ◌then◌, answered, with_new, Number, empty_node, make_new}
 use Rattle.file_tree.specs.Ends.{SaysNumber}
 use Rattle.file_tree.proofs.CallEnds.{after_well, ends_size, well_size}
@@ -53,3 +54,33 @@ returns-clause-goes g c = c.plan_add.ensures.goes then c.commit_planned.ensures.
 
 pub returns-clause-ends : goal.returns-clause-ends
 returns-clause-ends g c = after_well _ _ _ _ _ (well_size _ _ c.plan_add.result _ c.in_ok-row.was c.plan_add.ensures.ends) c.commit_planned.ensures.ends
+
+pub plan_add-requires-clause-sound : goal.plan_add-requires-clause-sound
+plan_add-requires-clause-sound g c = c.requires.sound
+
+pub plan_add-requires-clause-ready : goal.plan_add-requires-clause-ready
+plan_add-requires-clause-ready g c = c.requires.can.ready
+
+pub plan_add-requires-clause-is_name : goal.plan_add-requires-clause-is_name
+plan_add-requires-clause-is_name g c = c.requires.is_name
+
+pub plan_add-requires-clause-dir : goal.plan_add-requires-clause-dir
+plan_add-requires-clause-dir g c = c.requires.dir
+
+pub plan_add-requires-clause-absent : goal.plan_add-requires-clause-absent
+plan_add-requires-clause-absent g c = c.requires.absent
+
+pub commit_planned-requires-clause-sound : goal.commit_planned-requires-clause-sound
+commit_planned-requires-clause-sound g c = c.plan_add.ensures.sound
+
+pub returns-in_err-row-clause-sound : goal.returns-in_err-row-clause-sound
+returns-in_err-row-clause-sound g c = c.plan_add.ensures.sound
+
+pub returns-in_err-row-clause-forgets : goal.returns-in_err-row-clause-forgets
+returns-in_err-row-clause-forgets g c = let p = err_from_is_err_and c.from_residual.result c.from_residual.ensures.1 in never_ok _ _ p.0 p.1
+
+pub returns-in_err-row-clause-goes : goal.returns-in_err-row-clause-goes
+returns-in_err-row-clause-goes g c = c.plan_add.ensures.goes
+
+pub returns-clause-sound : goal.returns-clause-sound
+returns-clause-sound g c = c.commit_planned.ensures.sound

@@ -1,10 +1,11 @@
-use Rattle.file_tree.proofs.Common.{◌≢◌, inl, inr, ◌∙◌, refl, sym, subst, OnOk, err_from_is_err_and, ◌then◌, answered, held_of, volume_layout, ReadsAs, IsInode, leaves_refl, replaced, NoneDone, Forgets}
+use Rattle.file_tree.proofs.UpdateEnds.{never_ok}
+use Rattle.file_tree.proofs.Common.{◌≢◌, inl, inr, ◌∙◌, refl, sym, subst, OnOk, err_from_is_err_and, ◌then◌, answered, held_of, volume_layout, ReadsAs, IsInode, leaves_refl, replaced, NoneDone, Forgets, le_refl, ends_by_well, goes_refl, ◌<◌}
 use Rattle.rio_requests.specs.declared.reply.Reply.TheVariants.{Ok as Done}
 use Rattle.rio_requests.specs.Answers.{replace_row as replace_row_of}
 use Rattle.file_tree.specs.Ends.{SaysDone}
 use Rattle.file_tree.specs.Walks.{IsRow, ino_numbers}
 use Rattle.file_tree.proofs.AnsweredAt.{ends_answered, fails_unrefused}
-use Rattle.file_tree.proofs.CallEnds.{after_well, ends_on, ends_refused, well}
+use Rattle.file_tree.proofs.CallEnds.{after_well, ends_on, ends_refused, well, ends_ok}
 use Rattle.file_tree.proofs.Planning.{ends_planning, leaves_on}
 use Rattle.file_tree.proofs.RenamedAs.{InodesRead, ends_by_call, ends_no, gone_kind, moved_kind, replace_busy, replace_dir, replace_done, replace_same}
 use Rattle.file_tree.proofs.moving.replace_row.Goals as goal
@@ -132,3 +133,120 @@ returns-else-from-to-2-clause-goes g c = c.inode_of.ensures.goes then c.inode_of
 
 pub returns-else-from-to-2-clause-ends : goal.returns-else-from-to-2-clause-ends
 returns-else-from-to-2-clause-ends g c = after_well _ _ _ _ _ (after_well _ _ _ _ _ (well _ _ c.inode_of.result _ c.in_ok-moved.was c.inode_of.ensures.ends) (well _ _ c.inode_of-2.result _ c.in_ok-gone.was c.inode_of-2.ensures.ends)) c.replace_across.ensures.ends
+
+pub inode_of-requires-clause-sound : goal.inode_of-requires-clause-sound
+inode_of-requires-clause-sound g c = c.requires.sound
+
+pub inode_of-requires-clause-can : goal.inode_of-requires-clause-can
+inode_of-requires-clause-can g c = c.requires.can
+
+pub inode_of-requires-clause-used : goal.inode_of-requires-clause-used
+inode_of-requires-clause-used g c = c.requires.used
+
+pub inode_of-requires-2-clause-sound : goal.inode_of-requires-2-clause-sound
+inode_of-requires-2-clause-sound g c = c.inode_of.ensures.sound
+
+pub inode_of-requires-2-clause-can : goal.inode_of-requires-2-clause-can
+inode_of-requires-2-clause-can g c = c.inode_of.ensures.can
+
+pub inode_of-requires-2-clause-used : goal.inode_of-requires-2-clause-used
+inode_of-requires-2-clause-used g c = subst (λ f. 0 < (held_of c.args.shape.now f c.args.to.ino.0).kind) (sym c.inode_of.ensures.words) c.requires.used_to
+
+pub returns-then-from-to-clause-goes : goal.returns-then-from-to-clause-goes
+returns-then-from-to-clause-goes g c = goes_refl _ _
+
+pub returns-then-from-to-clause-ends : goal.returns-then-from-to-clause-ends
+returns-then-from-to-clause-ends g c = ends_ok _ _ _ (ends_by_well _ _ _ _ (le_refl _) refl (λ a. a) (λ a. a))
+
+pub returns-then-from-to-clause-sound : goal.returns-then-from-to-clause-sound
+returns-then-from-to-clause-sound g c = c.requires.sound
+
+pub returns-in_err-moved-clause-forgets : goal.returns-in_err-moved-clause-forgets
+returns-in_err-moved-clause-forgets g c = let p = err_from_is_err_and c.from_residual.result c.from_residual.ensures.1 in never_ok _ _ p.0 p.1
+
+pub returns-in_err-moved-clause-goes : goal.returns-in_err-moved-clause-goes
+returns-in_err-moved-clause-goes g c = c.inode_of.ensures.goes
+
+pub returns-in_err-moved-clause-sound : goal.returns-in_err-moved-clause-sound
+returns-in_err-moved-clause-sound g c = c.inode_of.ensures.sound
+
+pub returns-in_err-gone-clause-forgets : goal.returns-in_err-gone-clause-forgets
+returns-in_err-gone-clause-forgets g c = let p = err_from_is_err_and c.from_residual-in_err-gone.result c.from_residual-in_err-gone.ensures.1 in never_ok _ _ p.0 p.1
+
+pub returns-in_err-gone-clause-sound : goal.returns-in_err-gone-clause-sound
+returns-in_err-gone-clause-sound g c = c.inode_of-2.ensures.sound
+
+pub returns-then-moved-eq-DIRECTORY-clause-forgets : goal.returns-then-moved-eq-DIRECTORY-clause-forgets
+returns-then-moved-eq-DIRECTORY-clause-forgets g c = tt
+
+pub returns-then-moved-eq-DIRECTORY-clause-sound : goal.returns-then-moved-eq-DIRECTORY-clause-sound
+returns-then-moved-eq-DIRECTORY-clause-sound g c = c.inode_of-2.ensures.sound
+
+pub returns-then-gone-eq-DIRECTORY-clause-forgets : goal.returns-then-gone-eq-DIRECTORY-clause-forgets
+returns-then-gone-eq-DIRECTORY-clause-forgets g c = tt
+
+pub returns-then-gone-eq-DIRECTORY-clause-sound : goal.returns-then-gone-eq-DIRECTORY-clause-sound
+returns-then-gone-eq-DIRECTORY-clause-sound g c = c.inode_of-2.ensures.sound
+
+pub returns-then-is_open-clause-forgets : goal.returns-then-is_open-clause-forgets
+returns-then-is_open-clause-forgets g c = tt
+
+pub returns-then-is_open-clause-sound : goal.returns-then-is_open-clause-sound
+returns-then-is_open-clause-sound g c = c.inode_of-2.ensures.sound
+
+pub returns-then-from-to-2-clause-sound : goal.returns-then-from-to-2-clause-sound
+returns-then-from-to-2-clause-sound g c = c.replace_within.ensures.sound
+
+pub replace_within-requires-clause-sound : goal.replace_within-requires-clause-sound
+replace_within-requires-clause-sound g c = c.inode_of-2.ensures.sound
+
+pub replace_within-requires-clause-can : goal.replace_within-requires-clause-can
+replace_within-requires-clause-can g c = c.inode_of-2.ensures.can
+
+pub replace_within-requires-clause-from : goal.replace_within-requires-clause-from
+replace_within-requires-clause-from g c = (c.requires.from.0, subst (λ f. IsRow c.args.shape.now f c.requires.from.0 c.args.from) (sym (c.inode_of-2.ensures.words ∙ c.inode_of.ensures.words)) c.requires.from.1)
+
+pub replace_within-requires-clause-used : goal.replace_within-requires-clause-used
+replace_within-requires-clause-used g c = subst (λ f. 0 < (held_of c.args.shape.now f c.args.from.ino.0).kind) (sym (c.inode_of-2.ensures.words ∙ c.inode_of.ensures.words)) c.requires.used
+
+pub replace_within-requires-clause-used_to : goal.replace_within-requires-clause-used_to
+replace_within-requires-clause-used_to g c = subst (λ f. 0 < (held_of c.args.shape.now f c.args.to.ino.0).kind) (sym (c.inode_of-2.ensures.words ∙ c.inode_of.ensures.words)) c.requires.used_to
+
+pub replace_within-requires-clause-other : goal.replace_within-requires-clause-other
+replace_within-requires-clause-other g c = c.if-from-to.false
+
+pub replace_within-requires-clause-to : goal.replace_within-requires-clause-to
+replace_within-requires-clause-to g c = (c.args.name.now, subst (λ f. IsRow c.args.shape.now f c.args.name.now c.args.to) (sym (c.inode_of-2.ensures.words ∙ c.inode_of.ensures.words)) c.requires.to)
+
+pub replace_within-requires-clause-one : goal.replace_within-requires-clause-one
+replace_within-requires-clause-one g c = c.if-from-to-2.true
+
+pub returns-else-from-to-2-clause-sound : goal.returns-else-from-to-2-clause-sound
+returns-else-from-to-2-clause-sound g c = c.replace_across.ensures.sound
+
+pub replace_across-requires-clause-sound : goal.replace_across-requires-clause-sound
+replace_across-requires-clause-sound g c = c.inode_of-2.ensures.sound
+
+pub replace_across-requires-clause-can : goal.replace_across-requires-clause-can
+replace_across-requires-clause-can g c = c.inode_of-2.ensures.can
+
+pub replace_across-requires-clause-from : goal.replace_across-requires-clause-from
+replace_across-requires-clause-from g c = (c.requires.from.0, subst (λ f. IsRow c.args.shape.now f c.requires.from.0 c.args.from) (sym (c.inode_of-2.ensures.words ∙ c.inode_of.ensures.words)) c.requires.from.1)
+
+pub replace_across-requires-clause-used : goal.replace_across-requires-clause-used
+replace_across-requires-clause-used g c = subst (λ f. 0 < (held_of c.args.shape.now f c.args.from.ino.0).kind) (sym (c.inode_of-2.ensures.words ∙ c.inode_of.ensures.words)) c.requires.used
+
+pub replace_across-requires-clause-used_to : goal.replace_across-requires-clause-used_to
+replace_across-requires-clause-used_to g c = subst (λ f. 0 < (held_of c.args.shape.now f c.args.to.ino.0).kind) (sym (c.inode_of-2.ensures.words ∙ c.inode_of.ensures.words)) c.requires.used_to
+
+pub replace_across-requires-clause-other : goal.replace_across-requires-clause-other
+replace_across-requires-clause-other g c = c.if-from-to.false
+
+pub replace_across-requires-clause-to : goal.replace_across-requires-clause-to
+replace_across-requires-clause-to g c = subst (λ f. IsRow c.args.shape.now f c.args.name.now c.args.to) (sym (c.inode_of-2.ensures.words ∙ c.inode_of.ensures.words)) c.requires.to
+
+pub replace_across-requires-clause-two : goal.replace_across-requires-clause-two
+replace_across-requires-clause-two g c = c.if-from-to-2.false
+
+pub replace_across-requires-clause-is_name : goal.replace_across-requires-clause-is_name
+replace_across-requires-clause-is_name g c = c.requires.is_name

@@ -1,3 +1,4 @@
+use Rattle.file_tree.proofs.UpdateEnds.{never_ok}
 use Rattle.file_tree.proofs.Common.{◌≡◌, ℕ, refl, sym, ap, subst, err_from_is_err_and, Ok, None, Some, inode_kind, ◌then◌, held_of, volume_layout, ReadsAs, LeavesInUse, HasRow, with_new, NoneDone, Forgets, State}
 use Rattle.std.specs.Prelude.{is_err}
 use Rattle.rio_model.specs.States.{least_free as least_of}
@@ -178,3 +179,36 @@ returns-clause-in_step g c = λ on.
     let done = was_done (SaysNumber i) shape m l y j s (make_new_of s d name node (Some i)) (NoneDone s) c.make_node.result (ap is_err c.in_ok-make_node.was) (c.make_node.ensures.leaves s (subst (λ f. ReadsAs shape f s) (sym same) reads)) in
     c.made.ensures shape x.words y.words s (with_new s d name i node) (record { names = c.requires.in_step.names; full = c.least_free_with.ensures.known; path = c.requires.in_step.path }) reads
     (subst (λ (t : State). ReadsAs shape y.words t) (new_next s d name i node done.reply done.told done.said) done.reads) refl (stay_new s d name i node)
+
+pub returns-in_err-i-clause-forgets : goal.returns-in_err-i-clause-forgets
+returns-in_err-i-clause-forgets g c = let p = err_from_is_err_and c.from_residual.result c.from_residual.ensures.1 in never_ok _ _ p.0 p.1
+
+pub returns-in_err-make_node-clause-forgets : goal.returns-in_err-make_node-clause-forgets
+returns-in_err-make_node-clause-forgets g c = let p = err_from_is_err_and c.from_residual-in_err-make_node.result c.from_residual-in_err-make_node.ensures.1 in never_ok _ _ p.0 p.1
+
+pub returns-in_err-make_node-clause-sound : goal.returns-in_err-make_node-clause-sound
+returns-in_err-make_node-clause-sound g c = c.make_node.ensures.sound
+
+pub returns-clause-sound : goal.returns-clause-sound
+returns-clause-sound g c = c.make_node.ensures.sound
+
+pub returns-in_default-clause-forgets : goal.returns-in_default-clause-forgets
+returns-in_default-clause-forgets g c = tt
+
+pub returns-in_err-i-clause-sound : goal.returns-in_err-i-clause-sound
+returns-in_err-i-clause-sound g c = c.least_free_with.ensures.sound
+
+pub returns-in_default-clause-sound : goal.returns-in_default-clause-sound
+returns-in_default-clause-sound g c = c.least_free_with.ensures.sound
+
+pub make_node-requires-clause-sound : goal.make_node-requires-clause-sound
+make_node-requires-clause-sound g c = c.least_free_with.ensures.sound
+
+pub make_node-requires-clause-is_name : goal.make_node-requires-clause-is_name
+make_node-requires-clause-is_name g c = c.requires.is_name
+
+pub make_node-requires-clause-node : goal.make_node-requires-clause-node
+make_node-requires-clause-node g c = c.requires.node
+
+pub least_free_with-requires-clause-sound : goal.least_free_with-requires-clause-sound
+least_free_with-requires-clause-sound g c = c.requires.sound

@@ -1,3 +1,4 @@
+use Rattle.file_tree.proofs.UpdateEnds.{never_ok}
 use Rattle.file_tree.proofs.Common.{[], ◌∷◌, ap, arith, err_from_is_err_and, Some, ◌then◌, Region, with_new, make_new, new_region, Number}
 use Rattle.file_tree.specs.Ends.{SaysNumber}
 use Rattle.file_tree.proofs.CallEnds.{after_well, ends_size, well_size}
@@ -84,3 +85,48 @@ returns-clause-goes g c = c.plan_add.ensures.goes then c.plan_region.ensures.goe
 
 pub returns-clause-ends : goal.returns-clause-ends
 returns-clause-ends g c = after_well _ _ _ _ _ (after_well _ _ _ _ _ (well_size _ _ c.plan_add.result _ c.in_ok-row.was c.plan_add.ensures.ends) (well_size _ _ c.plan_region.result _ c.in_ok-node.was c.plan_region.ensures.ends)) c.commit_planned.ensures.ends
+
+pub returns-in_err-row-clause-forgets : goal.returns-in_err-row-clause-forgets
+returns-in_err-row-clause-forgets g c = let p = err_from_is_err_and c.from_residual.result c.from_residual.ensures.1 in never_ok _ _ p.0 p.1
+
+pub returns-in_err-row-clause-goes : goal.returns-in_err-row-clause-goes
+returns-in_err-row-clause-goes g c = c.plan_add.ensures.goes
+
+pub returns-in_err-row-clause-sound : goal.returns-in_err-row-clause-sound
+returns-in_err-row-clause-sound g c = c.plan_add.ensures.sound
+
+pub returns-in_err-node-clause-forgets : goal.returns-in_err-node-clause-forgets
+returns-in_err-node-clause-forgets g c = let p = err_from_is_err_and c.from_residual-in_err-node.result c.from_residual-in_err-node.ensures.1 in never_ok _ _ p.0 p.1
+
+pub returns-in_err-node-clause-sound : goal.returns-in_err-node-clause-sound
+returns-in_err-node-clause-sound g c = c.plan_region.ensures.sound
+
+pub returns-clause-sound : goal.returns-clause-sound
+returns-clause-sound g c = c.commit_planned.ensures.sound
+
+pub plan_add-requires-clause-sound : goal.plan_add-requires-clause-sound
+plan_add-requires-clause-sound g c = c.requires.sound
+
+pub plan_add-requires-clause-ready : goal.plan_add-requires-clause-ready
+plan_add-requires-clause-ready g c = c.requires.can.ready
+
+pub plan_add-requires-clause-dir : goal.plan_add-requires-clause-dir
+plan_add-requires-clause-dir g c = c.requires.dir
+
+pub plan_add-requires-clause-is_name : goal.plan_add-requires-clause-is_name
+plan_add-requires-clause-is_name g c = c.requires.is_name
+
+pub plan_add-requires-clause-absent : goal.plan_add-requires-clause-absent
+plan_add-requires-clause-absent g c = c.requires.absent
+
+pub plan_region-requires-clause-sound : goal.plan_region-requires-clause-sound
+plan_region-requires-clause-sound g c = c.plan_add.ensures.sound
+
+pub plan_region-requires-clause-ino : goal.plan_region-requires-clause-ino
+plan_region-requires-clause-ino g c = c.requires.ino
+
+pub plan_region-requires-clause-sizes : goal.plan_region-requires-clause-sizes
+plan_region-requires-clause-sizes g c = c.requires.sizes
+
+pub commit_planned-requires-clause-sound : goal.commit_planned-requires-clause-sound
+commit_planned-requires-clause-sound g c = c.plan_region.ensures.sound

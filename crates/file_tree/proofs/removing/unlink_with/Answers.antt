@@ -1,4 +1,5 @@
-use Rattle.file_tree.proofs.Common.{◌≡◌, ◌<◌, ◌∙◌, le_refl, refl, sym, ap, subst, OnOk, err_from_is_err_and, ◌then◌, ends_by_well, answered, last_of, held_of, names_of, volume_layout, ReadsAs, LeavesInUse, IsInode, leaves_refl, without, NoneDone, Forgets}
+use Rattle.file_tree.proofs.UpdateEnds.{never_ok}
+use Rattle.file_tree.proofs.Common.{◌≡◌, ◌<◌, ◌∙◌, le_refl, refl, sym, ap, subst, OnOk, err_from_is_err_and, ◌then◌, ends_by_well, answered, last_of, held_of, names_of, volume_layout, ReadsAs, LeavesInUse, IsInode, leaves_refl, without, NoneDone, Forgets, goes_refl}
 use Rattle.rio_requests.specs.declared.reply.Reply.TheVariants.{Ok as Done}
 use Rattle.rio_requests.specs.Answers.{unlink as unlink_of, unlink_at}
 use Rattle.file_tree.specs.Ends.{FileEnds, SaysDone}
@@ -218,3 +219,69 @@ cut_last-requires-clause-some g c = c.is_root.ensures.not c.if-is_root.false
 
 pub take_row-requires-clause-in_step : goal.take_row-requires-clause-in_step
 take_row-requires-clause-in_step g c = same_step c.args.shape.now _ _ _ (c.inode_of.ensures.words ∙ c.walk_to_row.ensures.words) c.walk_to_row.ensures.in_step
+
+pub returns-then-is_root-clause-forgets : goal.returns-then-is_root-clause-forgets
+returns-then-is_root-clause-forgets g c = tt
+
+pub returns-then-is_root-clause-in_step : goal.returns-then-is_root-clause-in_step
+returns-then-is_root-clause-in_step g c = λ on. c.requires.in_step
+
+pub returns-then-is_root-clause-goes : goal.returns-then-is_root-clause-goes
+returns-then-is_root-clause-goes g c = goes_refl _ _
+
+pub returns-then-is_root-clause-sound : goal.returns-then-is_root-clause-sound
+returns-then-is_root-clause-sound g c = c.requires.sound
+
+pub returns-in_err-row-clause-sound : goal.returns-in_err-row-clause-sound
+returns-in_err-row-clause-sound g c = c.walk_to_row.ensures.sound
+
+pub returns-in_err-row-clause-forgets : goal.returns-in_err-row-clause-forgets
+returns-in_err-row-clause-forgets g c = let p = err_from_is_err_and c.from_residual.result c.from_residual.ensures.1 in never_ok _ _ p.0 p.1
+
+pub returns-in_err-row-clause-goes : goal.returns-in_err-row-clause-goes
+returns-in_err-row-clause-goes g c = c.walk_to_row.ensures.goes
+
+pub returns-in_err-inode-clause-sound : goal.returns-in_err-inode-clause-sound
+returns-in_err-inode-clause-sound g c = c.inode_of.ensures.sound
+
+pub returns-in_err-inode-clause-forgets : goal.returns-in_err-inode-clause-forgets
+returns-in_err-inode-clause-forgets g c = let p = err_from_is_err_and c.from_residual-in_err-inode.result c.from_residual-in_err-inode.ensures.1 in never_ok _ _ p.0 p.1
+
+pub returns-then-inode-eq-DIRECTORY-clause-sound : goal.returns-then-inode-eq-DIRECTORY-clause-sound
+returns-then-inode-eq-DIRECTORY-clause-sound g c = c.inode_of.ensures.sound
+
+pub returns-then-inode-eq-DIRECTORY-clause-forgets : goal.returns-then-inode-eq-DIRECTORY-clause-forgets
+returns-then-inode-eq-DIRECTORY-clause-forgets g c = tt
+
+pub returns-then-is_open-clause-sound : goal.returns-then-is_open-clause-sound
+returns-then-is_open-clause-sound g c = c.inode_of.ensures.sound
+
+pub returns-then-is_open-clause-forgets : goal.returns-then-is_open-clause-forgets
+returns-then-is_open-clause-forgets g c = tt
+
+pub returns-clause-in_step : goal.returns-clause-in_step
+returns-clause-in_step g c = c.take_row.ensures.in_step
+
+pub returns-clause-sound : goal.returns-clause-sound
+returns-clause-sound g c = c.take_row.ensures.sound
+
+pub take_row-requires-clause-sound : goal.take_row-requires-clause-sound
+take_row-requires-clause-sound g c = c.inode_of.ensures.sound
+
+pub walk_to_row-requires-clause-sound : goal.walk_to_row-requires-clause-sound
+walk_to_row-requires-clause-sound g c = c.requires.sound
+
+pub walk_to_row-requires-clause-can : goal.walk_to_row-requires-clause-can
+walk_to_row-requires-clause-can g c = c.requires.can
+
+pub walk_to_row-requires-clause-in_step : goal.walk_to_row-requires-clause-in_step
+walk_to_row-requires-clause-in_step g c = c.requires.in_step
+
+pub walk_to_row-requires-clause-path : goal.walk_to_row-requires-clause-path
+walk_to_row-requires-clause-path g c = c.requires.path
+
+pub inode_of-requires-clause-sound : goal.inode_of-requires-clause-sound
+inode_of-requires-clause-sound g c = c.walk_to_row.ensures.sound
+
+pub inode_of-requires-clause-can : goal.inode_of-requires-clause-can
+inode_of-requires-clause-can g c = c.walk_to_row.ensures.can

@@ -47,3 +47,45 @@ returns-clause-in_step g c = λ on.
     c.moved.ensures shape x.words y.words s (moved s from.dir.0 old d name i) c.requires.in_step reads
     (subst (λ (t : State). ReadsAs shape y.words t) (move_next s from.dir.0 old d name i done.reply done.told done.said) done.reads)
     (two_free s (from.dir.0, old) (d, name) i row (no_row shape x.words s d name reads c.requires.absent)) refl (λ n none. none)
+
+pub returns-then-is_err-clause-forgets : goal.returns-then-is_err-clause-forgets
+returns-then-is_err-clause-forgets g c = c.move_row-done.ensures.forgets
+
+pub returns-then-is_err-clause-goes : goal.returns-then-is_err-clause-goes
+returns-then-is_err-clause-goes g c = c.move_row-done.ensures.goes
+
+pub returns-then-is_err-clause-ends : goal.returns-then-is_err-clause-ends
+returns-then-is_err-clause-ends g c = c.move_row-done.ensures.ends
+
+pub returns-then-is_err-clause-sound : goal.returns-then-is_err-clause-sound
+returns-then-is_err-clause-sound g c = c.move_row-done.ensures.sound
+
+pub returns-clause-forgets : goal.returns-clause-forgets
+returns-clause-forgets g c = c.move_row-done.ensures.forgets
+
+pub returns-clause-goes : goal.returns-clause-goes
+returns-clause-goes g c = c.move_row-done.ensures.goes
+
+pub returns-clause-ends : goal.returns-clause-ends
+returns-clause-ends g c = c.move_row-done.ensures.ends
+
+pub returns-clause-sound : goal.returns-clause-sound
+returns-clause-sound g c = c.move_row-done.ensures.sound
+
+pub move_row-done-requires-clause-sound : goal.move_row-done-requires-clause-sound
+move_row-done-requires-clause-sound g c = c.requires.sound
+
+pub move_row-done-requires-clause-can : goal.move_row-done-requires-clause-can
+move_row-done-requires-clause-can g c = c.requires.can
+
+pub move_row-done-requires-clause-used : goal.move_row-done-requires-clause-used
+move_row-done-requires-clause-used g c = c.requires.used
+
+pub move_row-done-requires-clause-dir : goal.move_row-done-requires-clause-dir
+move_row-done-requires-clause-dir g c = c.requires.dir
+
+pub move_row-done-requires-clause-is_name : goal.move_row-done-requires-clause-is_name
+move_row-done-requires-clause-is_name g c = c.requires.is_name
+
+pub move_row-done-requires-clause-absent : goal.move_row-done-requires-clause-absent
+move_row-done-requires-clause-absent g c = c.requires.absent

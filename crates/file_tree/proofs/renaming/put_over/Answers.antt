@@ -72,3 +72,57 @@ returns-clause-in_step g c = λ on.
     c.replaced.ensures shape x.words y.words s (replaced s from.dir.0 old d name i o) c.requires.in_step reads
     (subst (λ (t : State). ReadsAs shape y.words t) (replace_next s busy from.dir.0 old d name i o done.reply c.if-from-to.false done.told done.said) done.reads)
     (two_nodes s (from.dir.0, old) (d, name) i o row other c.if-from-to.false) refl (stay_replaced s from.dir.0 old d name i o)
+
+pub returns-then-is_err-clause-forgets : goal.returns-then-is_err-clause-forgets
+returns-then-is_err-clause-forgets g c = c.replace_row-done.ensures.forgets
+
+pub returns-then-is_err-clause-goes : goal.returns-then-is_err-clause-goes
+returns-then-is_err-clause-goes g c = c.replace_row-done.ensures.goes
+
+pub returns-then-is_err-clause-ends : goal.returns-then-is_err-clause-ends
+returns-then-is_err-clause-ends g c = c.replace_row-done.ensures.ends
+
+pub returns-then-is_err-clause-sound : goal.returns-then-is_err-clause-sound
+returns-then-is_err-clause-sound g c = c.replace_row-done.ensures.sound
+
+pub returns-clause-forgets : goal.returns-clause-forgets
+returns-clause-forgets g c = c.replace_row-done.ensures.forgets
+
+pub returns-clause-goes : goal.returns-clause-goes
+returns-clause-goes g c = c.replace_row-done.ensures.goes
+
+pub returns-clause-ends : goal.returns-clause-ends
+returns-clause-ends g c = c.replace_row-done.ensures.ends
+
+pub returns-clause-sound : goal.returns-clause-sound
+returns-clause-sound g c = c.replace_row-done.ensures.sound
+
+pub returns-then-from-to-clause-forgets : goal.returns-then-from-to-clause-forgets
+returns-then-from-to-clause-forgets g c = c.replace_row-done.ensures.forgets
+
+pub returns-then-from-to-clause-goes : goal.returns-then-from-to-clause-goes
+returns-then-from-to-clause-goes g c = c.replace_row-done.ensures.goes
+
+pub returns-then-from-to-clause-ends : goal.returns-then-from-to-clause-ends
+returns-then-from-to-clause-ends g c = c.replace_row-done.ensures.ends
+
+pub returns-then-from-to-clause-sound : goal.returns-then-from-to-clause-sound
+returns-then-from-to-clause-sound g c = c.replace_row-done.ensures.sound
+
+pub replace_row-done-requires-clause-sound : goal.replace_row-done-requires-clause-sound
+replace_row-done-requires-clause-sound g c = c.requires.sound
+
+pub replace_row-done-requires-clause-can : goal.replace_row-done-requires-clause-can
+replace_row-done-requires-clause-can g c = c.requires.can
+
+pub replace_row-done-requires-clause-used : goal.replace_row-done-requires-clause-used
+replace_row-done-requires-clause-used g c = c.requires.used
+
+pub replace_row-done-requires-clause-to : goal.replace_row-done-requires-clause-to
+replace_row-done-requires-clause-to g c = c.requires.to
+
+pub replace_row-done-requires-clause-used_to : goal.replace_row-done-requires-clause-used_to
+replace_row-done-requires-clause-used_to g c = c.requires.used_to
+
+pub replace_row-done-requires-clause-is_name : goal.replace_row-done-requires-clause-is_name
+replace_row-done-requires-clause-is_name g c = c.requires.is_name
