@@ -15,6 +15,7 @@ pub mod Forgotten
 pub mod FreeFound
 pub mod FreeRows
 pub mod LookedAt
+pub mod Lookups
 pub mod LowestTaken
 pub mod MemoEnds
 pub mod MemoSteps

@@ -261,3 +261,11 @@ plans_region shape f z l y j i given r skip c b node h at puts words is = subst 
 
     page : HasSlot m (AtPage 0)
     page = first_page shape f z l i.0 given r skip c h
+
+-- ---- how many blocks it wants, where it has none yet
+
+pub less_wanted : (free wanted held : ℕ) → free < wanted - held → free < wanted
+less_wanted free wanted held less = omega (arith, less)
+
+pub all_wanted : (free wanted held : ℕ) → held ≡ 0 → wanted - held ≤ free → wanted ≤ free
+all_wanted free wanted held none few = omega (arith, none, few)

@@ -2,11 +2,14 @@
 
 ghost use Rattle.std.specs.Prelude.{◌≡◌, true, IfOk, IfSome, IsErrOf};
 ghost use Rattle.std.specs.FinMap.{empty};
-ghost use Rattle.rio_base.specs.Blocks.{EndsBy};
+ghost use Rattle.rio_base.specs.Blocks.{EndsBy, Looks};
+ghost use Rattle.rio_base.specs.Shapes.{HasShape};
 ghost use Rattle.rio_base.specs.Volume.{Goes};
 ghost use Rattle.rio_model.specs.Held.{held_of};
 ghost use Rattle.rio_model.specs.Placed.{volume_layout};
-ghost use Rattle.rio_model.specs.VolumeReady.{LeavesInUse};
+ghost use Rattle.rio_model.specs.VolumeReads.{ReadsAs};
+ghost use Rattle.rio_model.specs.VolumeReady.{AllNamed, LeavesInUse};
+ghost use Rattle.rio_model.specs.declared.state.State.{State};
 ghost use Rattle.inode_table.specs.Inodes.{IsInode};
 ghost use Rattle.directories.specs.Holding.{HoldsRows};
 ghost use Rattle.directories.specs.Rows.{Finds, IsEntry};
@@ -20,13 +23,13 @@ use crate::walking::inode_of;
 use directories::{find_with, hold_names, row_at};
 use inode_table::Inode;
 use name_index::{DirNames, Lookup};
-use rio_base::{Ino, ReadFail, Volume, VolumeShape};
+use rio_base::{Blocks, Ino, ReadFail, Volume, VolumeShape};
 
 /// The bytes of the largest directory that is looked through all the same: one page.
 const SMALL_BYTES: u64 = 4096;
 
 /// Looks through a directory, which has this inode.
-fn scan<V: Volume>(
+fn scan<V: Blocks>(
     v: &mut V,
     shape: &VolumeShape,
     dir: Ino,
@@ -34,15 +37,17 @@ fn scan<V: Volume>(
     name: &[u8],
 ) -> Result<Option<(Ino, u32)>, FileFail>
     requires sound { V.sound v.old }
-    requires can { CanServe shape.now (V.seen v.old) (V.kept v.old) }
+    requires shape { HasShape shape.now (V.seen v.old) }
+    requires named { AllNamed (volume_layout shape.now (V.seen v.old).words) (V.seen v.old) }
+    requires reads { (s : State) × ReadsAs shape.now (V.seen v.old).words s }
     requires dir { (held_of shape.now (V.seen v.old).words dir.0).kind ≡ 1 }
     requires inode { IsInode (V.seen v.old).words dir.0 inode.now }
     ensures found { IfOk result (Finds (held_of shape.now (V.seen v.old).words dir.0) name.now) }
     ensures other { Unrefused result }
-    ensures leaves { LeavesInUse (volume_layout shape.now (V.seen v.old).words) (V.seen v.old) (V.kept v.old) (V.seen v.new) (V.kept v.new) }
-    ensures words { (V.seen v.new).words ≡ (V.seen v.old).words }
-    ensures can { CanServe shape.now (V.seen v.new) (V.kept v.new) }
-    ensures goes { Goes (V.health v.old) (V.below v.old) (V.health v.new) (V.below v.new) }
+    ensures looks { Looks (V.seen v.old) (V.seen v.new) }
+    ensures shape { HasShape shape.now (V.seen v.new) }
+    ensures named { AllNamed (volume_layout shape.now (V.seen v.old).words) (V.seen v.new) }
+    ensures passes { V.passes v.old v.new }
     ensures ends { EndsBy (V.health v.old) (V.health v.new) (Faulted result) (IsErrOf result FileFail.Stopped) }
     ensures sound { V.sound v.new }
 {
@@ -51,7 +56,7 @@ fn scan<V: Volume>(
 }
 
 /// What the entry in a slot of a directory names, where it has this name.
-fn entry_at<V: Volume>(
+fn entry_at<V: Blocks>(
     v: &mut V,
     shape: &VolumeShape,
     dir: Ino,
@@ -60,15 +65,17 @@ fn entry_at<V: Volume>(
     name: &[u8],
 ) -> Result<Option<Ino>, FileFail>
     requires sound { V.sound v.old }
-    requires can { CanServe shape.now (V.seen v.old) (V.kept v.old) }
+    requires shape { HasShape shape.now (V.seen v.old) }
+    requires named { AllNamed (volume_layout shape.now (V.seen v.old).words) (V.seen v.old) }
+    requires reads { (s : State) × ReadsAs shape.now (V.seen v.old).words s }
     requires dir { (held_of shape.now (V.seen v.old).words dir.0).kind ≡ 1 }
     requires inode { IsInode (V.seen v.old).words dir.0 inode.now }
     ensures found { IfOk result (λ found. IfSome found (λ i. IsEntry (held_of shape.now (V.seen v.old).words dir.0) slot name.now i.0)) }
     ensures other { Unrefused result }
-    ensures leaves { LeavesInUse (volume_layout shape.now (V.seen v.old).words) (V.seen v.old) (V.kept v.old) (V.seen v.new) (V.kept v.new) }
-    ensures words { (V.seen v.new).words ≡ (V.seen v.old).words }
-    ensures can { CanServe shape.now (V.seen v.new) (V.kept v.new) }
-    ensures goes { Goes (V.health v.old) (V.below v.old) (V.health v.new) (V.below v.new) }
+    ensures looks { Looks (V.seen v.old) (V.seen v.new) }
+    ensures shape { HasShape shape.now (V.seen v.new) }
+    ensures named { AllNamed (volume_layout shape.now (V.seen v.old).words) (V.seen v.new) }
+    ensures passes { V.passes v.old v.new }
     ensures ends { EndsBy (V.health v.old) (V.health v.new) (Faulted result) (IsErrOf result FileFail.Stopped) }
     ensures sound { V.sound v.new }
 {
@@ -77,7 +84,7 @@ fn entry_at<V: Volume>(
 }
 
 /// The row of a name, which is looked for in this slot first.
-fn row_near<V: Volume>(
+fn row_near<V: Blocks>(
     v: &mut V,
     shape: &VolumeShape,
     dir: Ino,
@@ -86,15 +93,17 @@ fn row_near<V: Volume>(
     name: &[u8],
 ) -> Result<Option<(Ino, u32)>, FileFail>
     requires sound { V.sound v.old }
-    requires can { CanServe shape.now (V.seen v.old) (V.kept v.old) }
+    requires shape { HasShape shape.now (V.seen v.old) }
+    requires named { AllNamed (volume_layout shape.now (V.seen v.old).words) (V.seen v.old) }
+    requires reads { (s : State) × ReadsAs shape.now (V.seen v.old).words s }
     requires dir { (held_of shape.now (V.seen v.old).words dir.0).kind ≡ 1 }
     requires inode { IsInode (V.seen v.old).words dir.0 inode.now }
     ensures found { IfOk result (Finds (held_of shape.now (V.seen v.old).words dir.0) name.now) }
     ensures other { Unrefused result }
-    ensures leaves { LeavesInUse (volume_layout shape.now (V.seen v.old).words) (V.seen v.old) (V.kept v.old) (V.seen v.new) (V.kept v.new) }
-    ensures words { (V.seen v.new).words ≡ (V.seen v.old).words }
-    ensures can { CanServe shape.now (V.seen v.new) (V.kept v.new) }
-    ensures goes { Goes (V.health v.old) (V.below v.old) (V.health v.new) (V.below v.new) }
+    ensures looks { Looks (V.seen v.old) (V.seen v.new) }
+    ensures shape { HasShape shape.now (V.seen v.new) }
+    ensures named { AllNamed (volume_layout shape.now (V.seen v.old).words) (V.seen v.new) }
+    ensures passes { V.passes v.old v.new }
     ensures ends { EndsBy (V.health v.old) (V.health v.new) (Faulted result) (IsErrOf result FileFail.Stopped) }
     ensures sound { V.sound v.new }
 {
@@ -105,7 +114,7 @@ fn row_near<V: Volume>(
 }
 
 /// Puts the names of a directory, where none are put yet. Answers whether all are: it is not so where there is no memory for them.
-fn put_names<V: Volume>(
+fn put_names<V: Blocks>(
     v: &mut V,
     shape: &VolumeShape,
     dir: Ino,
@@ -113,16 +122,18 @@ fn put_names<V: Volume>(
     names: &mut DirNames,
 ) -> Result<bool, FileFail>
     requires sound { V.sound v.old }
-    requires can { CanServe shape.now (V.seen v.old) (V.kept v.old) }
+    requires shape { HasShape shape.now (V.seen v.old) }
+    requires named { AllNamed (volume_layout shape.now (V.seen v.old).words) (V.seen v.old) }
+    requires reads { (s : State) × ReadsAs shape.now (V.seen v.old).words s }
     requires dir { (held_of shape.now (V.seen v.old).words dir.0).kind ≡ 1 }
     requires inode { IsInode (V.seen v.old).words dir.0 inode.now }
     requires blank { names.old ≡ empty }
     ensures all { IfOk result (λ all. all ≡ true → HoldsRows (held_of shape.now (V.seen v.old).words dir.0) names.new) }
     ensures other { Unrefused result }
-    ensures leaves { LeavesInUse (volume_layout shape.now (V.seen v.old).words) (V.seen v.old) (V.kept v.old) (V.seen v.new) (V.kept v.new) }
-    ensures words { (V.seen v.new).words ≡ (V.seen v.old).words }
-    ensures can { CanServe shape.now (V.seen v.new) (V.kept v.new) }
-    ensures goes { Goes (V.health v.old) (V.below v.old) (V.health v.new) (V.below v.new) }
+    ensures looks { Looks (V.seen v.old) (V.seen v.new) }
+    ensures shape { HasShape shape.now (V.seen v.new) }
+    ensures named { AllNamed (volume_layout shape.now (V.seen v.old).words) (V.seen v.new) }
+    ensures passes { V.passes v.old v.new }
     ensures ends { EndsBy (V.health v.old) (V.health v.new) (Faulted result) (IsErrOf result FileFail.Stopped) }
     ensures sound { V.sound v.new }
 {
@@ -135,7 +146,7 @@ fn put_names<V: Volume>(
 }
 
 /// Holds the names of a directory from now on, if there is memory for them and they are not held yet.
-fn hold_dir<V: Volume>(
+fn hold_dir<V: Blocks>(
     v: &mut V,
     shape: &VolumeShape,
     memo: &mut Memo,
@@ -143,16 +154,18 @@ fn hold_dir<V: Volume>(
     inode: &Inode,
 ) -> Result<(), FileFail>
     requires sound { V.sound v.old }
-    requires can { CanServe shape.now (V.seen v.old) (V.kept v.old) }
+    requires shape { HasShape shape.now (V.seen v.old) }
+    requires named { AllNamed (volume_layout shape.now (V.seen v.old).words) (V.seen v.old) }
+    requires reads { (s : State) × ReadsAs shape.now (V.seen v.old).words s }
     requires in_step { InStep shape.now (V.seen v.old).words memo.old }
     requires dir { (held_of shape.now (V.seen v.old).words dir.0).kind ≡ 1 }
     requires inode { IsInode (V.seen v.old).words dir.0 inode.now }
     ensures other { Unrefused result }
     ensures in_step { InStep shape.now (V.seen v.old).words memo.new }
-    ensures leaves { LeavesInUse (volume_layout shape.now (V.seen v.old).words) (V.seen v.old) (V.kept v.old) (V.seen v.new) (V.kept v.new) }
-    ensures words { (V.seen v.new).words ≡ (V.seen v.old).words }
-    ensures can { CanServe shape.now (V.seen v.new) (V.kept v.new) }
-    ensures goes { Goes (V.health v.old) (V.below v.old) (V.health v.new) (V.below v.new) }
+    ensures looks { Looks (V.seen v.old) (V.seen v.new) }
+    ensures shape { HasShape shape.now (V.seen v.new) }
+    ensures named { AllNamed (volume_layout shape.now (V.seen v.old).words) (V.seen v.new) }
+    ensures passes { V.passes v.old v.new }
     ensures ends { EndsBy (V.health v.old) (V.health v.new) (Faulted result) (IsErrOf result FileFail.Stopped) }
     ensures sound { V.sound v.new }
 {
@@ -173,7 +186,7 @@ fn hold_dir<V: Volume>(
 
 /// What a name of a directory, which has this inode, names, and the slot of its row; `None` where it has no such name. Of a
 /// directory of more than one page all names are read, to be held, and as long as they are held they are asked in its place.
-pub fn look_up<V: Volume>(
+pub fn look_up<V: Blocks>(
     v: &mut V,
     shape: &VolumeShape,
     memo: &mut Memo,
@@ -182,17 +195,19 @@ pub fn look_up<V: Volume>(
     name: &[u8],
 ) -> Result<Option<(Ino, u32)>, FileFail>
     requires sound { V.sound v.old }
-    requires can { CanServe shape.now (V.seen v.old) (V.kept v.old) }
+    requires shape { HasShape shape.now (V.seen v.old) }
+    requires named { AllNamed (volume_layout shape.now (V.seen v.old).words) (V.seen v.old) }
+    requires reads { (s : State) × ReadsAs shape.now (V.seen v.old).words s }
     requires in_step { InStep shape.now (V.seen v.old).words memo.old }
     requires dir { (held_of shape.now (V.seen v.old).words dir.0).kind ≡ 1 }
     requires inode { IsInode (V.seen v.old).words dir.0 inode.now }
     ensures found { IfOk result (Finds (held_of shape.now (V.seen v.old).words dir.0) name.now) }
     ensures other { Unrefused result }
     ensures in_step { InStep shape.now (V.seen v.old).words memo.new }
-    ensures leaves { LeavesInUse (volume_layout shape.now (V.seen v.old).words) (V.seen v.old) (V.kept v.old) (V.seen v.new) (V.kept v.new) }
-    ensures words { (V.seen v.new).words ≡ (V.seen v.old).words }
-    ensures can { CanServe shape.now (V.seen v.new) (V.kept v.new) }
-    ensures goes { Goes (V.health v.old) (V.below v.old) (V.health v.new) (V.below v.new) }
+    ensures looks { Looks (V.seen v.old) (V.seen v.new) }
+    ensures shape { HasShape shape.now (V.seen v.new) }
+    ensures named { AllNamed (volume_layout shape.now (V.seen v.old).words) (V.seen v.new) }
+    ensures passes { V.passes v.old v.new }
     ensures ends { EndsBy (V.health v.old) (V.health v.new) (Faulted result) (IsErrOf result FileFail.Stopped) }
     ensures sound { V.sound v.new }
 {

@@ -1,14 +1,15 @@
 //! What stands at a path.
 
 ghost use Rattle.std.specs.Prelude.{◌≡◌, ◌<◌, ℕ, [], ◌∷◌, length, IfOk, OnOk, IsErrOf};
-ghost use Rattle.rio_base.specs.Blocks.{EndsBy};
+ghost use Rattle.rio_base.specs.Blocks.{EndsBy, Looks};
+ghost use Rattle.rio_base.specs.Shapes.{HasShape};
 ghost use Rattle.rio_base.specs.Volume.{Goes};
 ghost use Rattle.rio_model.specs.States.{last_of};
 ghost use Rattle.rio_model.specs.Held.{held_of};
 ghost use Rattle.rio_model.specs.Paths.{IsPath, names_of, walk as walk_of, walk_to_dir as walk_to_dir_of};
 ghost use Rattle.rio_model.specs.Placed.{volume_layout};
 ghost use Rattle.rio_model.specs.VolumeReads.{ReadsAs};
-ghost use Rattle.rio_model.specs.VolumeReady.{LeavesInUse};
+ghost use Rattle.rio_model.specs.VolumeReady.{AllNamed, LeavesInUse};
 ghost use Rattle.rio_model.specs.declared.state.State.{State};
 ghost use Rattle.inode_table.specs.Inodes.{IsInode};
 ghost use Rattle.directories.specs.Rows.{HasRow, IsEntry};
@@ -23,7 +24,7 @@ use crate::finding::look_up;
 use crate::memo::Memo;
 use crate::paths::{cut_last, name_end};
 use inode_table::{Inode, read_inode};
-use rio_base::{Ino, Volume, VolumeShape};
+use rio_base::{Blocks, Ino, Volume, VolumeShape};
 
 /// The root directory.
 const ROOT: Ino = Ino(1);
@@ -47,21 +48,23 @@ pub fn inode_of<V: Volume>(v: &mut V, shape: &VolumeShape, i: Ino) -> Result<Ino
 }
 
 /// The inode of a directory. Refuses a node that is none.
-fn must_be_dir<V: Volume>(v: &mut V, shape: &VolumeShape, i: Ino) -> Result<Inode, FileFail>
+fn must_be_dir<V: Blocks>(v: &mut V, shape: &VolumeShape, i: Ino) -> Result<Inode, FileFail>
     requires sound { V.sound v.old }
-    requires can { CanServe shape.now (V.seen v.old) (V.kept v.old) }
+    requires shape { HasShape shape.now (V.seen v.old) }
+    requires named { AllNamed (volume_layout shape.now (V.seen v.old).words) (V.seen v.old) }
+    requires reads { (s : State) × ReadsAs shape.now (V.seen v.old).words s }
     requires used { 0 < (held_of shape.now (V.seen v.old).words i.0).kind }
     ensures ok { OnOk result ((held_of shape.now (V.seen v.old).words i.0).kind ≡ 1) }
     ensures inode { IfOk result (IsInode (V.seen v.old).words i.0) }
     ensures refused { Refuses result 4 ((held_of shape.now (V.seen v.old).words i.0).kind ≡ 1 → ⊥) }
-    ensures leaves { LeavesInUse (volume_layout shape.now (V.seen v.old).words) (V.seen v.old) (V.kept v.old) (V.seen v.new) (V.kept v.new) }
-    ensures words { (V.seen v.new).words ≡ (V.seen v.old).words }
-    ensures can { CanServe shape.now (V.seen v.new) (V.kept v.new) }
-    ensures goes { Goes (V.health v.old) (V.below v.old) (V.health v.new) (V.below v.new) }
+    ensures looks { Looks (V.seen v.old) (V.seen v.new) }
+    ensures shape { HasShape shape.now (V.seen v.new) }
+    ensures named { AllNamed (volume_layout shape.now (V.seen v.old).words) (V.seen v.new) }
+    ensures passes { V.passes v.old v.new }
     ensures ends { EndsBy (V.health v.old) (V.health v.new) (Faulted result) (IsErrOf result FileFail.Stopped) }
     ensures sound { V.sound v.new }
 {
-    let inode = inode_of(v, shape, i)?;
+    let inode = read_inode(v, shape, i)?;
     if inode.kind != DIRECTORY {
         return Err(FileFail::Refused(NOT_A_DIRECTORY));
     }
@@ -69,7 +72,7 @@ fn must_be_dir<V: Volume>(v: &mut V, shape: &VolumeShape, i: Ino) -> Result<Inod
 }
 
 /// What a name of a directory, which has this inode, names, and the slot of its row.
-fn row_of<V: Volume>(
+fn row_of<V: Blocks>(
     v: &mut V,
     shape: &VolumeShape,
     memo: &mut Memo,
@@ -78,17 +81,19 @@ fn row_of<V: Volume>(
     name: &[u8],
 ) -> Result<(Ino, u32), FileFail>
     requires sound { V.sound v.old }
-    requires can { CanServe shape.now (V.seen v.old) (V.kept v.old) }
+    requires shape { HasShape shape.now (V.seen v.old) }
+    requires named { AllNamed (volume_layout shape.now (V.seen v.old).words) (V.seen v.old) }
+    requires reads { (s : State) × ReadsAs shape.now (V.seen v.old).words s }
     requires in_step { InStep shape.now (V.seen v.old).words memo.old }
     requires dir { (held_of shape.now (V.seen v.old).words dir.0).kind ≡ 1 }
     requires inode { IsInode (V.seen v.old).words dir.0 inode.now }
     ensures row { IfOk result (λ row. IsEntry (held_of shape.now (V.seen v.old).words dir.0) row.1 name.now row.0.0) }
     ensures refused { Refuses result 2 ((n : ℕ) → HasRow (held_of shape.now (V.seen v.old).words dir.0) name.now n → ⊥) }
     ensures in_step { InStep shape.now (V.seen v.old).words memo.new }
-    ensures leaves { LeavesInUse (volume_layout shape.now (V.seen v.old).words) (V.seen v.old) (V.kept v.old) (V.seen v.new) (V.kept v.new) }
-    ensures words { (V.seen v.new).words ≡ (V.seen v.old).words }
-    ensures can { CanServe shape.now (V.seen v.new) (V.kept v.new) }
-    ensures goes { Goes (V.health v.old) (V.below v.old) (V.health v.new) (V.below v.new) }
+    ensures looks { Looks (V.seen v.old) (V.seen v.new) }
+    ensures shape { HasShape shape.now (V.seen v.new) }
+    ensures named { AllNamed (volume_layout shape.now (V.seen v.old).words) (V.seen v.new) }
+    ensures passes { V.passes v.old v.new }
     ensures ends { EndsBy (V.health v.old) (V.health v.new) (Faulted result) (IsErrOf result FileFail.Stopped) }
     ensures sound { V.sound v.new }
 {
@@ -99,7 +104,7 @@ fn row_of<V: Volume>(
 }
 
 /// The step from a node by a name.
-fn step<V: Volume>(
+fn step<V: Blocks>(
     v: &mut V,
     shape: &VolumeShape,
     memo: &mut Memo,
@@ -107,16 +112,18 @@ fn step<V: Volume>(
     name: &[u8],
 ) -> Result<Ino, FileFail>
     requires sound { V.sound v.old }
-    requires can { CanServe shape.now (V.seen v.old) (V.kept v.old) }
+    requires shape { HasShape shape.now (V.seen v.old) }
+    requires named { AllNamed (volume_layout shape.now (V.seen v.old).words) (V.seen v.old) }
+    requires reads { (s : State) × ReadsAs shape.now (V.seen v.old).words s }
     requires in_step { InStep shape.now (V.seen v.old).words memo.old }
     requires used { 0 < (held_of shape.now (V.seen v.old).words dir.0).kind }
     ensures value { (s : State) → ReadsAs shape.now (V.seen v.old).words s → Comes (walk_of s dir.0 (name.now ∷ [])) result }
     ensures used { IfOk result (λ i. 0 < (held_of shape.now (V.seen v.old).words i.0).kind) }
     ensures in_step { InStep shape.now (V.seen v.old).words memo.new }
-    ensures leaves { LeavesInUse (volume_layout shape.now (V.seen v.old).words) (V.seen v.old) (V.kept v.old) (V.seen v.new) (V.kept v.new) }
-    ensures words { (V.seen v.new).words ≡ (V.seen v.old).words }
-    ensures can { CanServe shape.now (V.seen v.new) (V.kept v.new) }
-    ensures goes { Goes (V.health v.old) (V.below v.old) (V.health v.new) (V.below v.new) }
+    ensures looks { Looks (V.seen v.old) (V.seen v.new) }
+    ensures shape { HasShape shape.now (V.seen v.new) }
+    ensures named { AllNamed (volume_layout shape.now (V.seen v.old).words) (V.seen v.new) }
+    ensures passes { V.passes v.old v.new }
     ensures ends { EndsBy (V.health v.old) (V.health v.new) (Faulted result) (IsErrOf result FileFail.Stopped) }
     ensures sound { V.sound v.new }
 {
@@ -126,22 +133,24 @@ fn step<V: Volume>(
 }
 
 /// The node at a path, name by name.
-fn walk_names<V: Volume>(
+fn walk_names<V: Blocks>(
     v: &mut V,
     shape: &VolumeShape,
     memo: &mut Memo,
     path: &[u8],
 ) -> Result<Ino, FileFail>
     requires sound { V.sound v.old }
-    requires can { CanServe shape.now (V.seen v.old) (V.kept v.old) }
+    requires shape { HasShape shape.now (V.seen v.old) }
+    requires named { AllNamed (volume_layout shape.now (V.seen v.old).words) (V.seen v.old) }
+    requires reads { (s : State) × ReadsAs shape.now (V.seen v.old).words s }
     requires in_step { InStep shape.now (V.seen v.old).words memo.old }
     ensures value { (s : State) → ReadsAs shape.now (V.seen v.old).words s → Comes (walk_of s 1 (names_of path.now)) result }
     ensures used { IfOk result (λ i. 0 < (held_of shape.now (V.seen v.old).words i.0).kind) }
     ensures in_step { InStep shape.now (V.seen v.old).words memo.new }
-    ensures leaves { LeavesInUse (volume_layout shape.now (V.seen v.old).words) (V.seen v.old) (V.kept v.old) (V.seen v.new) (V.kept v.new) }
-    ensures words { (V.seen v.new).words ≡ (V.seen v.old).words }
-    ensures can { CanServe shape.now (V.seen v.new) (V.kept v.new) }
-    ensures goes { Goes (V.health v.old) (V.below v.old) (V.health v.new) (V.below v.new) }
+    ensures looks { Looks (V.seen v.old) (V.seen v.new) }
+    ensures shape { HasShape shape.now (V.seen v.new) }
+    ensures named { AllNamed (volume_layout shape.now (V.seen v.old).words) (V.seen v.new) }
+    ensures passes { V.passes v.old v.new }
     ensures ends { EndsBy (V.health v.old) (V.health v.new) (Faulted result) (IsErrOf result FileFail.Stopped) }
     ensures sound { V.sound v.new }
 {

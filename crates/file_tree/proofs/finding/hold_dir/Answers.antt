@@ -1,23 +1,12 @@
-use Rattle.file_tree.proofs.Common.{le_refl, refl, err_from_is_err_and, ends_by_well, goes_refl, leaves_refl}
+use Rattle.rio_base.proofs.Rules.{looks_refl}
+use Rattle.file_tree.proofs.Common.{le_refl, refl, err_from_is_err_and, ends_by_well}
 use Rattle.file_tree.proofs.CallEnds.{ends_ok, ends_on, well}
 use Rattle.file_tree.proofs.LookedAt.{unrefused_on}
 use Rattle.file_tree.proofs.MemoSteps.{closed_step, rows_are}
 use Rattle.file_tree.proofs.finding.hold_dir.Goals as goal
 
-pub returns-then-has-clause-leaves : goal.returns-then-has-clause-leaves
-returns-then-has-clause-leaves g c = leaves_refl c.args.shape.now _ _ c.requires.can.ready
-
-pub returns-then-has-clause-goes : goal.returns-then-has-clause-goes
-returns-then-has-clause-goes g c = goes_refl _ _
-
 pub returns-then-has-clause-ends : goal.returns-then-has-clause-ends
 returns-then-has-clause-ends g c = ends_ok _ _ _ (ends_by_well _ _ _ _ (le_refl _) refl (λ a. a) (λ a. a))
-
-pub returns-in_default-clause-leaves : goal.returns-in_default-clause-leaves
-returns-in_default-clause-leaves g c = leaves_refl c.args.shape.now _ _ c.requires.can.ready
-
-pub returns-in_default-clause-goes : goal.returns-in_default-clause-goes
-returns-in_default-clause-goes g c = goes_refl _ _
 
 pub returns-in_default-clause-ends : goal.returns-in_default-clause-ends
 returns-in_default-clause-ends g c = ends_ok _ _ _ (ends_by_well _ _ _ _ (le_refl _) refl (λ a. a) (λ a. a))
@@ -52,12 +41,6 @@ returns-clause-in_step g c =
 pub returns-clause-ends : goal.returns-clause-ends
 returns-clause-ends g c = ends_ok _ _ _ (well _ _ c.put_names.result _ c.in_ok-all.was c.put_names.ensures.ends)
 
-pub put_names-requires-clause-sound : goal.put_names-requires-clause-sound
-put_names-requires-clause-sound g c = c.requires.sound
-
-pub put_names-requires-clause-can : goal.put_names-requires-clause-can
-put_names-requires-clause-can g c = c.requires.can
-
 pub put_names-requires-clause-dir : goal.put_names-requires-clause-dir
 put_names-requires-clause-dir g c = c.requires.dir
 
@@ -70,44 +53,11 @@ returns-then-has-clause-in_step g c = c.requires.in_step
 pub returns-then-has-clause-other : goal.returns-then-has-clause-other
 returns-then-has-clause-other g c = tt
 
-pub returns-then-has-clause-words : goal.returns-then-has-clause-words
-returns-then-has-clause-words g c = refl
-
-pub returns-then-has-clause-can : goal.returns-then-has-clause-can
-returns-then-has-clause-can g c = c.requires.can
-
-pub returns-then-has-clause-sound : goal.returns-then-has-clause-sound
-returns-then-has-clause-sound g c = c.requires.sound
-
 pub returns-in_default-clause-in_step : goal.returns-in_default-clause-in_step
 returns-in_default-clause-in_step g c = c.requires.in_step
 
 pub returns-in_default-clause-other : goal.returns-in_default-clause-other
 returns-in_default-clause-other g c = tt
-
-pub returns-in_default-clause-words : goal.returns-in_default-clause-words
-returns-in_default-clause-words g c = refl
-
-pub returns-in_default-clause-can : goal.returns-in_default-clause-can
-returns-in_default-clause-can g c = c.requires.can
-
-pub returns-in_default-clause-sound : goal.returns-in_default-clause-sound
-returns-in_default-clause-sound g c = c.requires.sound
-
-pub returns-in_err-all-clause-leaves : goal.returns-in_err-all-clause-leaves
-returns-in_err-all-clause-leaves g c = c.put_names.ensures.leaves
-
-pub returns-in_err-all-clause-words : goal.returns-in_err-all-clause-words
-returns-in_err-all-clause-words g c = c.put_names.ensures.words
-
-pub returns-in_err-all-clause-can : goal.returns-in_err-all-clause-can
-returns-in_err-all-clause-can g c = c.put_names.ensures.can
-
-pub returns-in_err-all-clause-goes : goal.returns-in_err-all-clause-goes
-returns-in_err-all-clause-goes g c = c.put_names.ensures.goes
-
-pub returns-in_err-all-clause-sound : goal.returns-in_err-all-clause-sound
-returns-in_err-all-clause-sound g c = c.put_names.ensures.sound
 
 pub returns-in_err-all-clause-in_step : goal.returns-in_err-all-clause-in_step
 returns-in_err-all-clause-in_step g c = c.requires.in_step
@@ -115,35 +65,92 @@ returns-in_err-all-clause-in_step g c = c.requires.in_step
 pub returns-then-not-all-clause-other : goal.returns-then-not-all-clause-other
 returns-then-not-all-clause-other g c = tt
 
-pub returns-then-not-all-clause-leaves : goal.returns-then-not-all-clause-leaves
-returns-then-not-all-clause-leaves g c = c.put_names.ensures.leaves
+pub returns-clause-other : goal.returns-clause-other
+returns-clause-other g c = tt
 
-pub returns-then-not-all-clause-words : goal.returns-then-not-all-clause-words
-returns-then-not-all-clause-words g c = c.put_names.ensures.words
+pub put_names-requires-clause-sound : goal.put_names-requires-clause-sound
+put_names-requires-clause-sound g c = c.requires.sound
 
-pub returns-then-not-all-clause-can : goal.returns-then-not-all-clause-can
-returns-then-not-all-clause-can g c = c.put_names.ensures.can
+pub put_names-requires-clause-shape : goal.put_names-requires-clause-shape
+put_names-requires-clause-shape g c = c.requires.shape
 
-pub returns-then-not-all-clause-goes : goal.returns-then-not-all-clause-goes
-returns-then-not-all-clause-goes g c = c.put_names.ensures.goes
+pub put_names-requires-clause-named : goal.put_names-requires-clause-named
+put_names-requires-clause-named g c = c.requires.named
+
+pub put_names-requires-clause-reads : goal.put_names-requires-clause-reads
+put_names-requires-clause-reads g c = c.requires.reads
+
+pub returns-then-has-clause-looks : goal.returns-then-has-clause-looks
+returns-then-has-clause-looks g c = looks_refl _
+
+pub returns-then-has-clause-shape : goal.returns-then-has-clause-shape
+returns-then-has-clause-shape g c = c.requires.shape
+
+pub returns-then-has-clause-named : goal.returns-then-has-clause-named
+returns-then-has-clause-named g c = c.requires.named
+
+pub returns-then-has-clause-passes : goal.returns-then-has-clause-passes
+returns-then-has-clause-passes g c = g.met.V.Blocks.passes_refl _
+
+pub returns-then-has-clause-sound : goal.returns-then-has-clause-sound
+returns-then-has-clause-sound g c = c.requires.sound
+
+pub returns-in_default-clause-looks : goal.returns-in_default-clause-looks
+returns-in_default-clause-looks g c = looks_refl _
+
+pub returns-in_default-clause-shape : goal.returns-in_default-clause-shape
+returns-in_default-clause-shape g c = c.requires.shape
+
+pub returns-in_default-clause-named : goal.returns-in_default-clause-named
+returns-in_default-clause-named g c = c.requires.named
+
+pub returns-in_default-clause-passes : goal.returns-in_default-clause-passes
+returns-in_default-clause-passes g c = g.met.V.Blocks.passes_refl _
+
+pub returns-in_default-clause-sound : goal.returns-in_default-clause-sound
+returns-in_default-clause-sound g c = c.requires.sound
+
+pub returns-in_err-all-clause-looks : goal.returns-in_err-all-clause-looks
+returns-in_err-all-clause-looks g c = c.put_names.ensures.looks
+
+pub returns-in_err-all-clause-shape : goal.returns-in_err-all-clause-shape
+returns-in_err-all-clause-shape g c = c.put_names.ensures.shape
+
+pub returns-in_err-all-clause-named : goal.returns-in_err-all-clause-named
+returns-in_err-all-clause-named g c = c.put_names.ensures.named
+
+pub returns-in_err-all-clause-passes : goal.returns-in_err-all-clause-passes
+returns-in_err-all-clause-passes g c = c.put_names.ensures.passes
+
+pub returns-in_err-all-clause-sound : goal.returns-in_err-all-clause-sound
+returns-in_err-all-clause-sound g c = c.put_names.ensures.sound
+
+pub returns-then-not-all-clause-looks : goal.returns-then-not-all-clause-looks
+returns-then-not-all-clause-looks g c = c.put_names.ensures.looks
+
+pub returns-then-not-all-clause-shape : goal.returns-then-not-all-clause-shape
+returns-then-not-all-clause-shape g c = c.put_names.ensures.shape
+
+pub returns-then-not-all-clause-named : goal.returns-then-not-all-clause-named
+returns-then-not-all-clause-named g c = c.put_names.ensures.named
+
+pub returns-then-not-all-clause-passes : goal.returns-then-not-all-clause-passes
+returns-then-not-all-clause-passes g c = c.put_names.ensures.passes
 
 pub returns-then-not-all-clause-sound : goal.returns-then-not-all-clause-sound
 returns-then-not-all-clause-sound g c = c.put_names.ensures.sound
 
-pub returns-clause-other : goal.returns-clause-other
-returns-clause-other g c = tt
+pub returns-clause-looks : goal.returns-clause-looks
+returns-clause-looks g c = c.put_names.ensures.looks
 
-pub returns-clause-leaves : goal.returns-clause-leaves
-returns-clause-leaves g c = c.put_names.ensures.leaves
+pub returns-clause-shape : goal.returns-clause-shape
+returns-clause-shape g c = c.put_names.ensures.shape
 
-pub returns-clause-words : goal.returns-clause-words
-returns-clause-words g c = c.put_names.ensures.words
+pub returns-clause-named : goal.returns-clause-named
+returns-clause-named g c = c.put_names.ensures.named
 
-pub returns-clause-can : goal.returns-clause-can
-returns-clause-can g c = c.put_names.ensures.can
-
-pub returns-clause-goes : goal.returns-clause-goes
-returns-clause-goes g c = c.put_names.ensures.goes
+pub returns-clause-passes : goal.returns-clause-passes
+returns-clause-passes g c = c.put_names.ensures.passes
 
 pub returns-clause-sound : goal.returns-clause-sound
 returns-clause-sound g c = c.put_names.ensures.sound

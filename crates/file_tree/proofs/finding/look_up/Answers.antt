@@ -1,12 +1,12 @@
+use Rattle.file_tree.proofs.Lookups.{reads_then, named_then}
 use Rattle.file_tree.proofs.UpdateEnds.{never_some}
-use Rattle.file_tree.proofs.Common.{◌≡◌, sym, subst, ◌∙◌, err_from_is_err_and, ◌then◌, get, held_of, IsInode, Finds}
+use Rattle.file_tree.proofs.Common.{looks_trans, ◌≡◌, sym, subst, err_from_is_err_and, get, held_of, IsInode, Finds}
 use Rattle.std.specs.Prelude.{IfOk}
 use Rattle.name_index.specs.Agreeing.{Says}
 use Rattle.name_index.specs.declared.index.Lookup.{Lookup}
 use Rattle.file_tree.proofs.CallEnds.{after_well, ends_ok, ends_on, well}
 use Rattle.file_tree.proofs.LookedAt.{unrefused_on}
 use Rattle.file_tree.proofs.MemoSteps.{none_there}
-use Rattle.file_tree.proofs.Unchanged.{leaves_then}
 use Rattle.file_tree.proofs.finding.look_up.Goals as goal
 
 pub returns-in_err-hold_dir-clause-other : goal.returns-in_err-hold_dir-clause-other
@@ -20,22 +20,13 @@ returns-in_err-hold_dir-clause-ends g c =
     ends_on _ _ c.hold_dir.result c.from_residual.result _ p.0 c.in_err-hold_dir.was p.1 p.2 c.hold_dir.ensures.ends
 
 pub scan-requires-in-Unknown-clause-dir : goal.scan-requires-in-Unknown-clause-dir
-scan-requires-in-Unknown-clause-dir g c = subst (λ f. (held_of c.args.shape.now f c.args.dir.0).kind ≡ 1) (sym c.hold_dir.ensures.words) c.requires.dir
+scan-requires-in-Unknown-clause-dir g c = subst (λ f. (held_of c.args.shape.now f c.args.dir.0).kind ≡ 1) (sym c.hold_dir.ensures.looks.words) c.requires.dir
 
 pub scan-requires-in-Unknown-clause-inode : goal.scan-requires-in-Unknown-clause-inode
-scan-requires-in-Unknown-clause-inode g c = subst (λ f. IsInode f c.args.dir.0 c.args.inode.now) (sym c.hold_dir.ensures.words) c.requires.inode
+scan-requires-in-Unknown-clause-inode g c = subst (λ f. IsInode f c.args.dir.0 c.args.inode.now) (sym c.hold_dir.ensures.looks.words) c.requires.inode
 
 pub returns-in-Unknown-clause-found : goal.returns-in-Unknown-clause-found
-returns-in-Unknown-clause-found g c = subst (λ f. IfOk c.scan-in-Unknown.result (Finds (held_of c.args.shape.now f c.args.dir.0) c.args.name.now)) c.hold_dir.ensures.words c.scan-in-Unknown.ensures.found
-
-pub returns-in-Unknown-clause-leaves : goal.returns-in-Unknown-clause-leaves
-returns-in-Unknown-clause-leaves g c = leaves_then c.args.shape.now _ _ _ _ _ _ c.hold_dir.ensures.leaves c.hold_dir.ensures.words c.scan-in-Unknown.ensures.leaves
-
-pub returns-in-Unknown-clause-words : goal.returns-in-Unknown-clause-words
-returns-in-Unknown-clause-words g c = c.scan-in-Unknown.ensures.words ∙ c.hold_dir.ensures.words
-
-pub returns-in-Unknown-clause-goes : goal.returns-in-Unknown-clause-goes
-returns-in-Unknown-clause-goes g c = c.hold_dir.ensures.goes then c.scan-in-Unknown.ensures.goes
+returns-in-Unknown-clause-found g c = subst (λ f. IfOk c.scan-in-Unknown.result (Finds (held_of c.args.shape.now f c.args.dir.0) c.args.name.now)) c.hold_dir.ensures.looks.words c.scan-in-Unknown.ensures.found
 
 pub returns-in-Unknown-clause-ends : goal.returns-in-Unknown-clause-ends
 returns-in-Unknown-clause-ends g c = after_well _ _ _ _ _ (well _ _ c.hold_dir.result _ c.in_ok-hold_dir.was c.hold_dir.ensures.ends) c.scan-in-Unknown.ensures.ends
@@ -44,39 +35,24 @@ pub returns-in-Absent-clause-found : goal.returns-in-Absent-clause-found
 returns-in-Absent-clause-found g c =
     let shape = c.args.shape.now in
     let f = (g.V.Blocks.seen c.args.v.now).words in
-    let s = c.requires.can.state in
-    none_there shape f s c.args.dir.0 c.args.name.now c.requires.can.reads c.requires.dir
-    (subst (λ (said : Lookup). Says said (get s.names (c.args.dir.0, c.args.name.now))) c.in-Absent.is (c.find.ensures s.names (c.hold_dir.ensures.in_step.names s c.requires.can.reads)))
+    let s = c.requires.reads.0 in
+    none_there shape f s c.args.dir.0 c.args.name.now c.requires.reads.1 c.requires.dir
+    (subst (λ (said : Lookup). Says said (get s.names (c.args.dir.0, c.args.name.now))) c.in-Absent.is (c.find.ensures s.names (c.hold_dir.ensures.in_step.names s c.requires.reads.1)))
 
 pub returns-in-Absent-clause-ends : goal.returns-in-Absent-clause-ends
 returns-in-Absent-clause-ends g c = ends_ok _ _ _ (well _ _ c.hold_dir.result _ c.in_ok-hold_dir.was c.hold_dir.ensures.ends)
 
 pub row_near-requires-clause-dir : goal.row_near-requires-clause-dir
-row_near-requires-clause-dir g c = subst (λ f. (held_of c.args.shape.now f c.args.dir.0).kind ≡ 1) (sym c.hold_dir.ensures.words) c.requires.dir
+row_near-requires-clause-dir g c = subst (λ f. (held_of c.args.shape.now f c.args.dir.0).kind ≡ 1) (sym c.hold_dir.ensures.looks.words) c.requires.dir
 
 pub row_near-requires-clause-inode : goal.row_near-requires-clause-inode
-row_near-requires-clause-inode g c = subst (λ f. IsInode f c.args.dir.0 c.args.inode.now) (sym c.hold_dir.ensures.words) c.requires.inode
+row_near-requires-clause-inode g c = subst (λ f. IsInode f c.args.dir.0 c.args.inode.now) (sym c.hold_dir.ensures.looks.words) c.requires.inode
 
 pub returns-in-Present-clause-found : goal.returns-in-Present-clause-found
-returns-in-Present-clause-found g c = subst (λ f. IfOk c.row_near.result (Finds (held_of c.args.shape.now f c.args.dir.0) c.args.name.now)) c.hold_dir.ensures.words c.row_near.ensures.found
-
-pub returns-in-Present-clause-leaves : goal.returns-in-Present-clause-leaves
-returns-in-Present-clause-leaves g c = leaves_then c.args.shape.now _ _ _ _ _ _ c.hold_dir.ensures.leaves c.hold_dir.ensures.words c.row_near.ensures.leaves
-
-pub returns-in-Present-clause-words : goal.returns-in-Present-clause-words
-returns-in-Present-clause-words g c = c.row_near.ensures.words ∙ c.hold_dir.ensures.words
-
-pub returns-in-Present-clause-goes : goal.returns-in-Present-clause-goes
-returns-in-Present-clause-goes g c = c.hold_dir.ensures.goes then c.row_near.ensures.goes
+returns-in-Present-clause-found g c = subst (λ f. IfOk c.row_near.result (Finds (held_of c.args.shape.now f c.args.dir.0) c.args.name.now)) c.hold_dir.ensures.looks.words c.row_near.ensures.found
 
 pub returns-in-Present-clause-ends : goal.returns-in-Present-clause-ends
 returns-in-Present-clause-ends g c = after_well _ _ _ _ _ (well _ _ c.hold_dir.result _ c.in_ok-hold_dir.was c.hold_dir.ensures.ends) c.row_near.ensures.ends
-
-pub scan-requires-clause-sound : goal.scan-requires-clause-sound
-scan-requires-clause-sound g c = c.requires.sound
-
-pub scan-requires-clause-can : goal.scan-requires-clause-can
-scan-requires-clause-can g c = c.requires.can
 
 pub scan-requires-clause-dir : goal.scan-requires-clause-dir
 scan-requires-clause-dir g c = c.requires.dir
@@ -90,32 +66,11 @@ returns-then-inode-le-SMALL_BYTES-clause-found g c = c.scan.ensures.found
 pub returns-then-inode-le-SMALL_BYTES-clause-other : goal.returns-then-inode-le-SMALL_BYTES-clause-other
 returns-then-inode-le-SMALL_BYTES-clause-other g c = c.scan.ensures.other
 
-pub returns-then-inode-le-SMALL_BYTES-clause-leaves : goal.returns-then-inode-le-SMALL_BYTES-clause-leaves
-returns-then-inode-le-SMALL_BYTES-clause-leaves g c = c.scan.ensures.leaves
-
-pub returns-then-inode-le-SMALL_BYTES-clause-words : goal.returns-then-inode-le-SMALL_BYTES-clause-words
-returns-then-inode-le-SMALL_BYTES-clause-words g c = c.scan.ensures.words
-
-pub returns-then-inode-le-SMALL_BYTES-clause-can : goal.returns-then-inode-le-SMALL_BYTES-clause-can
-returns-then-inode-le-SMALL_BYTES-clause-can g c = c.scan.ensures.can
-
-pub returns-then-inode-le-SMALL_BYTES-clause-goes : goal.returns-then-inode-le-SMALL_BYTES-clause-goes
-returns-then-inode-le-SMALL_BYTES-clause-goes g c = c.scan.ensures.goes
-
 pub returns-then-inode-le-SMALL_BYTES-clause-ends : goal.returns-then-inode-le-SMALL_BYTES-clause-ends
 returns-then-inode-le-SMALL_BYTES-clause-ends g c = c.scan.ensures.ends
 
-pub returns-then-inode-le-SMALL_BYTES-clause-sound : goal.returns-then-inode-le-SMALL_BYTES-clause-sound
-returns-then-inode-le-SMALL_BYTES-clause-sound g c = c.scan.ensures.sound
-
 pub returns-then-inode-le-SMALL_BYTES-clause-in_step : goal.returns-then-inode-le-SMALL_BYTES-clause-in_step
 returns-then-inode-le-SMALL_BYTES-clause-in_step g c = c.requires.in_step
-
-pub hold_dir-requires-clause-sound : goal.hold_dir-requires-clause-sound
-hold_dir-requires-clause-sound g c = c.requires.sound
-
-pub hold_dir-requires-clause-can : goal.hold_dir-requires-clause-can
-hold_dir-requires-clause-can g c = c.requires.can
 
 pub hold_dir-requires-clause-in_step : goal.hold_dir-requires-clause-in_step
 hold_dir-requires-clause-in_step g c = c.requires.in_step
@@ -132,44 +87,11 @@ returns-in_err-hold_dir-clause-found g c = let p = err_from_is_err_and c.from_re
 pub returns-in_err-hold_dir-clause-in_step : goal.returns-in_err-hold_dir-clause-in_step
 returns-in_err-hold_dir-clause-in_step g c = c.hold_dir.ensures.in_step
 
-pub returns-in_err-hold_dir-clause-leaves : goal.returns-in_err-hold_dir-clause-leaves
-returns-in_err-hold_dir-clause-leaves g c = c.hold_dir.ensures.leaves
-
-pub returns-in_err-hold_dir-clause-words : goal.returns-in_err-hold_dir-clause-words
-returns-in_err-hold_dir-clause-words g c = c.hold_dir.ensures.words
-
-pub returns-in_err-hold_dir-clause-can : goal.returns-in_err-hold_dir-clause-can
-returns-in_err-hold_dir-clause-can g c = c.hold_dir.ensures.can
-
-pub returns-in_err-hold_dir-clause-goes : goal.returns-in_err-hold_dir-clause-goes
-returns-in_err-hold_dir-clause-goes g c = c.hold_dir.ensures.goes
-
-pub returns-in_err-hold_dir-clause-sound : goal.returns-in_err-hold_dir-clause-sound
-returns-in_err-hold_dir-clause-sound g c = c.hold_dir.ensures.sound
-
-pub scan-requires-in-Unknown-clause-sound : goal.scan-requires-in-Unknown-clause-sound
-scan-requires-in-Unknown-clause-sound g c = c.hold_dir.ensures.sound
-
-pub scan-requires-in-Unknown-clause-can : goal.scan-requires-in-Unknown-clause-can
-scan-requires-in-Unknown-clause-can g c = c.hold_dir.ensures.can
-
-pub row_near-requires-clause-sound : goal.row_near-requires-clause-sound
-row_near-requires-clause-sound g c = c.hold_dir.ensures.sound
-
-pub row_near-requires-clause-can : goal.row_near-requires-clause-can
-row_near-requires-clause-can g c = c.hold_dir.ensures.can
-
 pub returns-in-Unknown-clause-in_step : goal.returns-in-Unknown-clause-in_step
 returns-in-Unknown-clause-in_step g c = c.hold_dir.ensures.in_step
 
-pub returns-in-Unknown-clause-can : goal.returns-in-Unknown-clause-can
-returns-in-Unknown-clause-can g c = c.scan-in-Unknown.ensures.can
-
 pub returns-in-Unknown-clause-other : goal.returns-in-Unknown-clause-other
 returns-in-Unknown-clause-other g c = c.scan-in-Unknown.ensures.other
-
-pub returns-in-Unknown-clause-sound : goal.returns-in-Unknown-clause-sound
-returns-in-Unknown-clause-sound g c = c.scan-in-Unknown.ensures.sound
 
 pub returns-in-Absent-clause-other : goal.returns-in-Absent-clause-other
 returns-in-Absent-clause-other g c = tt
@@ -177,29 +99,131 @@ returns-in-Absent-clause-other g c = tt
 pub returns-in-Absent-clause-in_step : goal.returns-in-Absent-clause-in_step
 returns-in-Absent-clause-in_step g c = c.hold_dir.ensures.in_step
 
-pub returns-in-Absent-clause-leaves : goal.returns-in-Absent-clause-leaves
-returns-in-Absent-clause-leaves g c = c.hold_dir.ensures.leaves
+pub returns-in-Present-clause-in_step : goal.returns-in-Present-clause-in_step
+returns-in-Present-clause-in_step g c = c.hold_dir.ensures.in_step
 
-pub returns-in-Absent-clause-words : goal.returns-in-Absent-clause-words
-returns-in-Absent-clause-words g c = c.hold_dir.ensures.words
+pub returns-in-Present-clause-other : goal.returns-in-Present-clause-other
+returns-in-Present-clause-other g c = c.row_near.ensures.other
 
-pub returns-in-Absent-clause-can : goal.returns-in-Absent-clause-can
-returns-in-Absent-clause-can g c = c.hold_dir.ensures.can
+pub scan-requires-clause-sound : goal.scan-requires-clause-sound
+scan-requires-clause-sound g c = c.requires.sound
 
-pub returns-in-Absent-clause-goes : goal.returns-in-Absent-clause-goes
-returns-in-Absent-clause-goes g c = c.hold_dir.ensures.goes
+pub scan-requires-clause-shape : goal.scan-requires-clause-shape
+scan-requires-clause-shape g c = c.requires.shape
+
+pub scan-requires-clause-named : goal.scan-requires-clause-named
+scan-requires-clause-named g c = c.requires.named
+
+pub scan-requires-clause-reads : goal.scan-requires-clause-reads
+scan-requires-clause-reads g c = c.requires.reads
+
+pub returns-then-inode-le-SMALL_BYTES-clause-looks : goal.returns-then-inode-le-SMALL_BYTES-clause-looks
+returns-then-inode-le-SMALL_BYTES-clause-looks g c = c.scan.ensures.looks
+
+pub returns-then-inode-le-SMALL_BYTES-clause-shape : goal.returns-then-inode-le-SMALL_BYTES-clause-shape
+returns-then-inode-le-SMALL_BYTES-clause-shape g c = c.scan.ensures.shape
+
+pub returns-then-inode-le-SMALL_BYTES-clause-named : goal.returns-then-inode-le-SMALL_BYTES-clause-named
+returns-then-inode-le-SMALL_BYTES-clause-named g c = c.scan.ensures.named
+
+pub returns-then-inode-le-SMALL_BYTES-clause-passes : goal.returns-then-inode-le-SMALL_BYTES-clause-passes
+returns-then-inode-le-SMALL_BYTES-clause-passes g c = c.scan.ensures.passes
+
+pub returns-then-inode-le-SMALL_BYTES-clause-sound : goal.returns-then-inode-le-SMALL_BYTES-clause-sound
+returns-then-inode-le-SMALL_BYTES-clause-sound g c = c.scan.ensures.sound
+
+pub hold_dir-requires-clause-sound : goal.hold_dir-requires-clause-sound
+hold_dir-requires-clause-sound g c = c.requires.sound
+
+pub hold_dir-requires-clause-shape : goal.hold_dir-requires-clause-shape
+hold_dir-requires-clause-shape g c = c.requires.shape
+
+pub hold_dir-requires-clause-named : goal.hold_dir-requires-clause-named
+hold_dir-requires-clause-named g c = c.requires.named
+
+pub hold_dir-requires-clause-reads : goal.hold_dir-requires-clause-reads
+hold_dir-requires-clause-reads g c = c.requires.reads
+
+pub returns-in_err-hold_dir-clause-looks : goal.returns-in_err-hold_dir-clause-looks
+returns-in_err-hold_dir-clause-looks g c = c.hold_dir.ensures.looks
+
+pub returns-in_err-hold_dir-clause-shape : goal.returns-in_err-hold_dir-clause-shape
+returns-in_err-hold_dir-clause-shape g c = c.hold_dir.ensures.shape
+
+pub returns-in_err-hold_dir-clause-named : goal.returns-in_err-hold_dir-clause-named
+returns-in_err-hold_dir-clause-named g c = c.hold_dir.ensures.named
+
+pub returns-in_err-hold_dir-clause-passes : goal.returns-in_err-hold_dir-clause-passes
+returns-in_err-hold_dir-clause-passes g c = c.hold_dir.ensures.passes
+
+pub returns-in_err-hold_dir-clause-sound : goal.returns-in_err-hold_dir-clause-sound
+returns-in_err-hold_dir-clause-sound g c = c.hold_dir.ensures.sound
+
+pub scan-requires-in-Unknown-clause-sound : goal.scan-requires-in-Unknown-clause-sound
+scan-requires-in-Unknown-clause-sound g c = c.hold_dir.ensures.sound
+
+pub scan-requires-in-Unknown-clause-shape : goal.scan-requires-in-Unknown-clause-shape
+scan-requires-in-Unknown-clause-shape g c = c.hold_dir.ensures.shape
+
+pub scan-requires-in-Unknown-clause-named : goal.scan-requires-in-Unknown-clause-named
+scan-requires-in-Unknown-clause-named g c = named_then c.args.shape.now _ _ _ (sym c.hold_dir.ensures.looks.words) c.hold_dir.ensures.named
+
+pub scan-requires-in-Unknown-clause-reads : goal.scan-requires-in-Unknown-clause-reads
+scan-requires-in-Unknown-clause-reads g c = reads_then c.args.shape.now _ _ (sym c.hold_dir.ensures.looks.words) c.requires.reads
+
+pub row_near-requires-clause-sound : goal.row_near-requires-clause-sound
+row_near-requires-clause-sound g c = c.hold_dir.ensures.sound
+
+pub row_near-requires-clause-shape : goal.row_near-requires-clause-shape
+row_near-requires-clause-shape g c = c.hold_dir.ensures.shape
+
+pub row_near-requires-clause-named : goal.row_near-requires-clause-named
+row_near-requires-clause-named g c = named_then c.args.shape.now _ _ _ (sym c.hold_dir.ensures.looks.words) c.hold_dir.ensures.named
+
+pub row_near-requires-clause-reads : goal.row_near-requires-clause-reads
+row_near-requires-clause-reads g c = reads_then c.args.shape.now _ _ (sym c.hold_dir.ensures.looks.words) c.requires.reads
+
+pub returns-in-Unknown-clause-looks : goal.returns-in-Unknown-clause-looks
+returns-in-Unknown-clause-looks g c = looks_trans _ _ _ c.hold_dir.ensures.looks c.scan-in-Unknown.ensures.looks
+
+pub returns-in-Unknown-clause-shape : goal.returns-in-Unknown-clause-shape
+returns-in-Unknown-clause-shape g c = c.scan-in-Unknown.ensures.shape
+
+pub returns-in-Unknown-clause-named : goal.returns-in-Unknown-clause-named
+returns-in-Unknown-clause-named g c = named_then c.args.shape.now _ _ _ c.hold_dir.ensures.looks.words c.scan-in-Unknown.ensures.named
+
+pub returns-in-Unknown-clause-passes : goal.returns-in-Unknown-clause-passes
+returns-in-Unknown-clause-passes g c = g.met.V.Blocks.passes_trans _ _ _ c.hold_dir.ensures.passes c.scan-in-Unknown.ensures.passes
+
+pub returns-in-Unknown-clause-sound : goal.returns-in-Unknown-clause-sound
+returns-in-Unknown-clause-sound g c = c.scan-in-Unknown.ensures.sound
+
+pub returns-in-Absent-clause-looks : goal.returns-in-Absent-clause-looks
+returns-in-Absent-clause-looks g c = c.hold_dir.ensures.looks
+
+pub returns-in-Absent-clause-shape : goal.returns-in-Absent-clause-shape
+returns-in-Absent-clause-shape g c = c.hold_dir.ensures.shape
+
+pub returns-in-Absent-clause-named : goal.returns-in-Absent-clause-named
+returns-in-Absent-clause-named g c = c.hold_dir.ensures.named
+
+pub returns-in-Absent-clause-passes : goal.returns-in-Absent-clause-passes
+returns-in-Absent-clause-passes g c = c.hold_dir.ensures.passes
 
 pub returns-in-Absent-clause-sound : goal.returns-in-Absent-clause-sound
 returns-in-Absent-clause-sound g c = c.hold_dir.ensures.sound
 
-pub returns-in-Present-clause-in_step : goal.returns-in-Present-clause-in_step
-returns-in-Present-clause-in_step g c = c.hold_dir.ensures.in_step
+pub returns-in-Present-clause-looks : goal.returns-in-Present-clause-looks
+returns-in-Present-clause-looks g c = looks_trans _ _ _ c.hold_dir.ensures.looks c.row_near.ensures.looks
 
-pub returns-in-Present-clause-can : goal.returns-in-Present-clause-can
-returns-in-Present-clause-can g c = c.row_near.ensures.can
+pub returns-in-Present-clause-shape : goal.returns-in-Present-clause-shape
+returns-in-Present-clause-shape g c = c.row_near.ensures.shape
 
-pub returns-in-Present-clause-other : goal.returns-in-Present-clause-other
-returns-in-Present-clause-other g c = c.row_near.ensures.other
+pub returns-in-Present-clause-named : goal.returns-in-Present-clause-named
+returns-in-Present-clause-named g c = named_then c.args.shape.now _ _ _ c.hold_dir.ensures.looks.words c.row_near.ensures.named
+
+pub returns-in-Present-clause-passes : goal.returns-in-Present-clause-passes
+returns-in-Present-clause-passes g c = g.met.V.Blocks.passes_trans _ _ _ c.hold_dir.ensures.passes c.row_near.ensures.passes
 
 pub returns-in-Present-clause-sound : goal.returns-in-Present-clause-sound
 returns-in-Present-clause-sound g c = c.row_near.ensures.sound

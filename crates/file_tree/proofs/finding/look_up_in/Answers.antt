@@ -1,10 +1,11 @@
+use Rattle.file_tree.proofs.Lookups.{can_looked}
 use Rattle.file_tree.proofs.UpdateEnds.{never_some}
 use Rattle.file_tree.proofs.Common.{◌≡◌, arith, sym, subst, ◌∙◌, err_from_is_err_and, ◌then◌, held_of, IsInode, Finds}
 use Rattle.std.specs.Prelude.{IfOk}
 use Rattle.file_tree.proofs.CallEnds.{after_well, ends_on, well}
 use Rattle.file_tree.proofs.LookedAt.{unrefused_on}
 use Rattle.file_tree.proofs.MemoSteps.{same_step}
-use Rattle.file_tree.proofs.Unchanged.{leaves_then}
+use Rattle.file_tree.proofs.Unchanged.{leaves_read, leaves_then}
 use Rattle.file_tree.proofs.finding.look_up_in.Goals as goal
 
 pub inode_of-requires-clause-used : goal.inode_of-requires-clause-used
@@ -36,13 +37,13 @@ pub returns-clause-in_step : goal.returns-clause-in_step
 returns-clause-in_step g c = same_step c.args.shape.now _ _ _ (sym c.inode_of.ensures.words) c.look_up.ensures.in_step
 
 pub returns-clause-leaves : goal.returns-clause-leaves
-returns-clause-leaves g c = leaves_then c.args.shape.now _ _ _ _ _ _ c.inode_of.ensures.leaves c.inode_of.ensures.words c.look_up.ensures.leaves
+returns-clause-leaves g c = leaves_then c.args.shape.now _ _ _ _ _ _ c.inode_of.ensures.leaves c.inode_of.ensures.words (leaves_read c.args.shape.now _ _ _ _ _ _ _ _ c.inode_of.ensures.can.ready c.look_up.ensures.looks c.look_up.ensures.shape c.look_up.ensures.named (g.met.V.Volume.passes_keeps _ _ c.look_up.ensures.passes))
 
 pub returns-clause-words : goal.returns-clause-words
-returns-clause-words g c = c.look_up.ensures.words ∙ c.inode_of.ensures.words
+returns-clause-words g c = c.look_up.ensures.looks.words ∙ c.inode_of.ensures.words
 
 pub returns-clause-goes : goal.returns-clause-goes
-returns-clause-goes g c = c.inode_of.ensures.goes then c.look_up.ensures.goes
+returns-clause-goes g c = c.inode_of.ensures.goes then (g.met.V.Volume.passes_keeps _ _ c.look_up.ensures.passes).goes
 
 pub returns-clause-ends : goal.returns-clause-ends
 returns-clause-ends g c = after_well _ _ _ _ _ (well _ _ c.inode_of.result _ c.in_ok-inode.was c.inode_of.ensures.ends) c.look_up.ensures.ends
@@ -56,8 +57,14 @@ inode_of-requires-clause-can g c = c.requires.can
 pub look_up-requires-clause-sound : goal.look_up-requires-clause-sound
 look_up-requires-clause-sound g c = c.inode_of.ensures.sound
 
-pub look_up-requires-clause-can : goal.look_up-requires-clause-can
-look_up-requires-clause-can g c = c.inode_of.ensures.can
+pub look_up-requires-clause-shape : goal.look_up-requires-clause-shape
+look_up-requires-clause-shape g c = c.inode_of.ensures.can.ready.order.has_shape
+
+pub look_up-requires-clause-named : goal.look_up-requires-clause-named
+look_up-requires-clause-named g c = c.inode_of.ensures.can.ready.order.named
+
+pub look_up-requires-clause-reads : goal.look_up-requires-clause-reads
+look_up-requires-clause-reads g c = (c.inode_of.ensures.can.state, c.inode_of.ensures.can.reads)
 
 pub returns-in_err-inode-clause-found : goal.returns-in_err-inode-clause-found
 returns-in_err-inode-clause-found g c = let p = err_from_is_err_and c.from_residual.result c.from_residual.ensures.1 in never_some _ _ p.0 p.1
@@ -84,7 +91,7 @@ pub returns-clause-other : goal.returns-clause-other
 returns-clause-other g c = c.look_up.ensures.other
 
 pub returns-clause-can : goal.returns-clause-can
-returns-clause-can g c = c.look_up.ensures.can
+returns-clause-can g c = can_looked c.args.shape.now _ _ _ _ _ _ _ _ c.inode_of.ensures.can c.look_up.ensures.looks c.look_up.ensures.shape c.look_up.ensures.named (g.met.V.Volume.passes_keeps _ _ c.look_up.ensures.passes)
 
 pub returns-clause-sound : goal.returns-clause-sound
 returns-clause-sound g c = c.look_up.ensures.sound

@@ -1,45 +1,12 @@
 use Rattle.file_tree.proofs.UpdateEnds.{never_some, unrefused_vol}
-use Rattle.file_tree.proofs.Common.{err_from_is_err_and, volume_layout, LeavesInUse}
+use Rattle.file_tree.proofs.Common.{err_from_is_err_and}
 use Rattle.file_tree.proofs.CallEnds.{ends_ok, ends_vol, well_vol}
-use Rattle.file_tree.proofs.Unchanged.{can_again, leaves_read}
 use Rattle.file_tree.proofs.finding.scan.Goals as goal
-
-pub returns-in_err-found-clause-leaves : goal.returns-in_err-found-clause-leaves
-returns-in_err-found-clause-leaves g c = leaves_read c.args.shape.now _ _ _ _ _ _ _ _ c.requires.can.ready c.find_with.ensures.looks c.find_with.ensures.shape c.find_with.ensures.named (g.met.V.Volume.passes_keeps _ _ c.find_with.ensures.passes)
-
-pub returns-in_err-found-clause-can : goal.returns-in_err-found-clause-can
-returns-in_err-found-clause-can g c =
-    let shape = c.args.shape.now in
-    let x = g.V.Blocks.seen c.args.v.now in
-    let k = g.V.Volume.kept c.args.v.now in
-    let y = g.V.Blocks.seen c.find_with.new.v in
-    let j = g.V.Volume.kept c.find_with.new.v in
-    let leaves : LeavesInUse (volume_layout shape x.words) x k y j = leaves_read shape _ _ _ _ _ _ _ _ c.requires.can.ready c.find_with.ensures.looks c.find_with.ensures.shape c.find_with.ensures.named (g.met.V.Volume.passes_keeps _ _ c.find_with.ensures.passes) in
-    can_again shape x k y j c.requires.can leaves c.find_with.ensures.looks.words
-
-pub returns-in_err-found-clause-goes : goal.returns-in_err-found-clause-goes
-returns-in_err-found-clause-goes g c = (g.met.V.Volume.passes_keeps _ _ c.find_with.ensures.passes).goes
 
 pub returns-in_err-found-clause-ends : goal.returns-in_err-found-clause-ends
 returns-in_err-found-clause-ends g c =
     let p = err_from_is_err_and c.from_residual.result c.from_residual.ensures.1 in
     ends_vol _ _ c.find_with.result c.from_residual.result _ p.0 c.in_err-found.was p.1 p.2 c.find_with.ensures.ends
-
-pub returns-clause-leaves : goal.returns-clause-leaves
-returns-clause-leaves g c = leaves_read c.args.shape.now _ _ _ _ _ _ _ _ c.requires.can.ready c.find_with.ensures.looks c.find_with.ensures.shape c.find_with.ensures.named (g.met.V.Volume.passes_keeps _ _ c.find_with.ensures.passes)
-
-pub returns-clause-can : goal.returns-clause-can
-returns-clause-can g c =
-    let shape = c.args.shape.now in
-    let x = g.V.Blocks.seen c.args.v.now in
-    let k = g.V.Volume.kept c.args.v.now in
-    let y = g.V.Blocks.seen c.find_with.new.v in
-    let j = g.V.Volume.kept c.find_with.new.v in
-    let leaves : LeavesInUse (volume_layout shape x.words) x k y j = leaves_read shape _ _ _ _ _ _ _ _ c.requires.can.ready c.find_with.ensures.looks c.find_with.ensures.shape c.find_with.ensures.named (g.met.V.Volume.passes_keeps _ _ c.find_with.ensures.passes) in
-    can_again shape x k y j c.requires.can leaves c.find_with.ensures.looks.words
-
-pub returns-clause-goes : goal.returns-clause-goes
-returns-clause-goes g c = (g.met.V.Volume.passes_keeps _ _ c.find_with.ensures.passes).goes
 
 pub returns-clause-ends : goal.returns-clause-ends
 returns-clause-ends g c = ends_ok _ _ _ (well_vol _ _ c.find_with.result _ c.in_ok-found.was c.find_with.ensures.ends)
@@ -50,20 +17,56 @@ returns-in_err-found-clause-found g c = let p = err_from_is_err_and c.from_resid
 pub returns-in_err-found-clause-other : goal.returns-in_err-found-clause-other
 returns-in_err-found-clause-other g c = let p = err_from_is_err_and c.from_residual.result c.from_residual.ensures.1 in unrefused_vol c.from_residual.result _ _ p.1 p.2
 
-pub returns-in_err-found-clause-words : goal.returns-in_err-found-clause-words
-returns-in_err-found-clause-words g c = c.find_with.ensures.looks.words
-
-pub returns-in_err-found-clause-sound : goal.returns-in_err-found-clause-sound
-returns-in_err-found-clause-sound g c = c.find_with.ensures.sound
-
-pub returns-clause-words : goal.returns-clause-words
-returns-clause-words g c = c.find_with.ensures.looks.words
-
-pub returns-clause-sound : goal.returns-clause-sound
-returns-clause-sound g c = c.find_with.ensures.sound
-
 pub returns-clause-other : goal.returns-clause-other
 returns-clause-other g c = tt
 
 pub find_with-requires-clause-sound : goal.find_with-requires-clause-sound
 find_with-requires-clause-sound g c = c.requires.sound
+
+pub returns-in_err-found-clause-looks : goal.returns-in_err-found-clause-looks
+returns-in_err-found-clause-looks g c = c.find_with.ensures.looks
+
+pub returns-in_err-found-clause-shape : goal.returns-in_err-found-clause-shape
+returns-in_err-found-clause-shape g c = c.find_with.ensures.shape
+
+pub returns-in_err-found-clause-named : goal.returns-in_err-found-clause-named
+returns-in_err-found-clause-named g c = c.find_with.ensures.named
+
+pub returns-in_err-found-clause-passes : goal.returns-in_err-found-clause-passes
+returns-in_err-found-clause-passes g c = c.find_with.ensures.passes
+
+pub returns-in_err-found-clause-sound : goal.returns-in_err-found-clause-sound
+returns-in_err-found-clause-sound g c = c.find_with.ensures.sound
+
+pub returns-clause-looks : goal.returns-clause-looks
+returns-clause-looks g c = c.find_with.ensures.looks
+
+pub returns-clause-shape : goal.returns-clause-shape
+returns-clause-shape g c = c.find_with.ensures.shape
+
+pub returns-clause-named : goal.returns-clause-named
+returns-clause-named g c = c.find_with.ensures.named
+
+pub returns-clause-passes : goal.returns-clause-passes
+returns-clause-passes g c = c.find_with.ensures.passes
+
+pub returns-clause-sound : goal.returns-clause-sound
+returns-clause-sound g c = c.find_with.ensures.sound
+
+pub find_with-requires-clause-shape : goal.find_with-requires-clause-shape
+find_with-requires-clause-shape g c = c.requires.shape
+
+pub find_with-requires-clause-mapped : goal.find_with-requires-clause-mapped
+find_with-requires-clause-mapped g c = c.requires.reads.1.mapped
+
+pub find_with-requires-clause-named : goal.find_with-requires-clause-named
+find_with-requires-clause-named g c = c.requires.named
+
+pub find_with-requires-clause-entries : goal.find_with-requires-clause-entries
+find_with-requires-clause-entries g c = c.requires.reads.1.entries
+
+pub find_with-requires-clause-dir : goal.find_with-requires-clause-dir
+find_with-requires-clause-dir g c = c.requires.dir
+
+pub find_with-requires-clause-inode : goal.find_with-requires-clause-inode
+find_with-requires-clause-inode g c = c.requires.inode

@@ -1,10 +1,11 @@
+use Rattle.file_tree.proofs.Lookups.{can_looked}
 use Rattle.file_tree.proofs.UpdateEnds.{never_some}
 use Rattle.file_tree.proofs.Common.{◌≡◌, ◌<◌, ap, sym, subst, err_from_is_err_and, ◌then◌, held_of, names_of, walk, IsInode, ◌∙◌}
 use Rattle.file_tree.specs.Failures.{Refuses}
 use Rattle.file_tree.specs.Walks.{ino_in}
 use Rattle.file_tree.proofs.CallEnds.{after_well, ends_ok, ends_on, well}
 use Rattle.file_tree.proofs.LookedAt.{to_dir_leaf, to_dir_ok, to_dir_walk}
-use Rattle.file_tree.proofs.Unchanged.{leaves_then}
+use Rattle.file_tree.proofs.Unchanged.{leaves_read, leaves_then}
 use Rattle.file_tree.proofs.walking.dir_at.Goals as goal
 
 pub returns-in_err-dir-clause-value : goal.returns-in_err-dir-clause-value
@@ -26,10 +27,10 @@ returns-in_err-inode-clause-value g c =
     λ s reads. to_dir_leaf c.args.shape.now (g.V.Blocks.seen c.args.v.now).words s (walk s 1 (names_of c.args.path.now)) c.in_ok-dir.dir.0 c.must_be_dir.result (ino_in c.from_residual-in_err-inode.result) _ p.0 (c.in_ok-dir.ensures.value s reads) c.in_err-inode.was (ap ino_in p.1) p.2 (subst (λ f. Refuses c.must_be_dir.result 4 ((held_of c.args.shape.now f c.in_ok-dir.dir.0).kind ≡ 1 → ⊥)) c.walk.ensures.words c.must_be_dir.ensures.refused) reads
 
 pub returns-in_err-inode-clause-leaves : goal.returns-in_err-inode-clause-leaves
-returns-in_err-inode-clause-leaves g c = leaves_then c.args.shape.now _ _ _ _ _ _ c.walk.ensures.leaves c.walk.ensures.words c.must_be_dir.ensures.leaves
+returns-in_err-inode-clause-leaves g c = leaves_then c.args.shape.now _ _ _ _ _ _ c.walk.ensures.leaves c.walk.ensures.words (leaves_read c.args.shape.now _ _ _ _ _ _ _ _ c.walk.ensures.can.ready c.must_be_dir.ensures.looks c.must_be_dir.ensures.shape c.must_be_dir.ensures.named (g.met.V.Volume.passes_keeps _ _ c.must_be_dir.ensures.passes))
 
 pub returns-in_err-inode-clause-goes : goal.returns-in_err-inode-clause-goes
-returns-in_err-inode-clause-goes g c = c.walk.ensures.goes then c.must_be_dir.ensures.goes
+returns-in_err-inode-clause-goes g c = c.walk.ensures.goes then (g.met.V.Volume.passes_keeps _ _ c.must_be_dir.ensures.passes).goes
 
 pub returns-in_err-inode-clause-ends : goal.returns-in_err-inode-clause-ends
 returns-in_err-inode-clause-ends g c =
@@ -43,10 +44,10 @@ pub returns-clause-dir : goal.returns-clause-dir
 returns-clause-dir g c = subst (λ f. (held_of c.args.shape.now f c.in_ok-dir.dir.0).kind ≡ 1) c.walk.ensures.words c.in_ok-inode.ensures.ok
 
 pub returns-clause-leaves : goal.returns-clause-leaves
-returns-clause-leaves g c = leaves_then c.args.shape.now _ _ _ _ _ _ c.walk.ensures.leaves c.walk.ensures.words c.must_be_dir.ensures.leaves
+returns-clause-leaves g c = leaves_then c.args.shape.now _ _ _ _ _ _ c.walk.ensures.leaves c.walk.ensures.words (leaves_read c.args.shape.now _ _ _ _ _ _ _ _ c.walk.ensures.can.ready c.must_be_dir.ensures.looks c.must_be_dir.ensures.shape c.must_be_dir.ensures.named (g.met.V.Volume.passes_keeps _ _ c.must_be_dir.ensures.passes))
 
 pub returns-clause-goes : goal.returns-clause-goes
-returns-clause-goes g c = c.walk.ensures.goes then c.must_be_dir.ensures.goes
+returns-clause-goes g c = c.walk.ensures.goes then (g.met.V.Volume.passes_keeps _ _ c.must_be_dir.ensures.passes).goes
 
 pub returns-clause-ends : goal.returns-clause-ends
 returns-clause-ends g c = ends_ok _ _ _ (after_well _ _ _ _ _ (well _ _ c.walk.result _ c.in_ok-dir.was c.walk.ensures.ends) (well _ _ c.must_be_dir.result _ c.in_ok-inode.was c.must_be_dir.ensures.ends))
@@ -66,8 +67,14 @@ walk-requires-clause-in_step g c = c.requires.in_step
 pub must_be_dir-requires-clause-sound : goal.must_be_dir-requires-clause-sound
 must_be_dir-requires-clause-sound g c = c.walk.ensures.sound
 
-pub must_be_dir-requires-clause-can : goal.must_be_dir-requires-clause-can
-must_be_dir-requires-clause-can g c = c.walk.ensures.can
+pub must_be_dir-requires-clause-shape : goal.must_be_dir-requires-clause-shape
+must_be_dir-requires-clause-shape g c = c.walk.ensures.can.ready.order.has_shape
+
+pub must_be_dir-requires-clause-named : goal.must_be_dir-requires-clause-named
+must_be_dir-requires-clause-named g c = c.walk.ensures.can.ready.order.named
+
+pub must_be_dir-requires-clause-reads : goal.must_be_dir-requires-clause-reads
+must_be_dir-requires-clause-reads g c = (c.walk.ensures.can.state, c.walk.ensures.can.reads)
 
 pub returns-in_err-dir-clause-dir : goal.returns-in_err-dir-clause-dir
 returns-in_err-dir-clause-dir g c = let p = err_from_is_err_and c.from_residual.result c.from_residual.ensures.1 in never_some _ _ p.0 p.1
@@ -103,22 +110,22 @@ pub returns-in_err-inode-clause-in_step : goal.returns-in_err-inode-clause-in_st
 returns-in_err-inode-clause-in_step g c = c.walk.ensures.in_step
 
 pub returns-in_err-inode-clause-can : goal.returns-in_err-inode-clause-can
-returns-in_err-inode-clause-can g c = c.must_be_dir.ensures.can
+returns-in_err-inode-clause-can g c = can_looked c.args.shape.now _ _ _ _ _ _ _ _ c.walk.ensures.can c.must_be_dir.ensures.looks c.must_be_dir.ensures.shape c.must_be_dir.ensures.named (g.met.V.Volume.passes_keeps _ _ c.must_be_dir.ensures.passes)
 
 pub returns-in_err-inode-clause-sound : goal.returns-in_err-inode-clause-sound
 returns-in_err-inode-clause-sound g c = c.must_be_dir.ensures.sound
 
 pub returns-in_err-inode-clause-words : goal.returns-in_err-inode-clause-words
-returns-in_err-inode-clause-words g c = c.must_be_dir.ensures.words ∙ c.walk.ensures.words
+returns-in_err-inode-clause-words g c = c.must_be_dir.ensures.looks.words ∙ c.walk.ensures.words
 
 pub returns-clause-in_step : goal.returns-clause-in_step
 returns-clause-in_step g c = c.walk.ensures.in_step
 
 pub returns-clause-can : goal.returns-clause-can
-returns-clause-can g c = c.must_be_dir.ensures.can
+returns-clause-can g c = can_looked c.args.shape.now _ _ _ _ _ _ _ _ c.walk.ensures.can c.must_be_dir.ensures.looks c.must_be_dir.ensures.shape c.must_be_dir.ensures.named (g.met.V.Volume.passes_keeps _ _ c.must_be_dir.ensures.passes)
 
 pub returns-clause-sound : goal.returns-clause-sound
 returns-clause-sound g c = c.must_be_dir.ensures.sound
 
 pub returns-clause-words : goal.returns-clause-words
-returns-clause-words g c = c.must_be_dir.ensures.words ∙ c.walk.ensures.words
+returns-clause-words g c = c.must_be_dir.ensures.looks.words ∙ c.walk.ensures.words

@@ -1,3 +1,4 @@
+use Rattle.file_tree.proofs.Lookups.{can_looked}
 use Rattle.file_tree.proofs.UpdateEnds.{never_some}
 use Rattle.file_tree.proofs.Common.{◌≡◌, ap, sym, subst, ◌∙◌, err_from_is_err_and, ◌then◌, held_of, names_of, IsInode, Finds}
 use Rattle.file_tree.specs.Walks.{ino_in}
@@ -6,7 +7,7 @@ use Rattle.file_tree.proofs.CallEnds.{after_well, ends_ok, ends_on, ends_refused
 use Rattle.file_tree.proofs.FreeRows.{free_fails, free_over, free_unrefused}
 use Rattle.file_tree.proofs.LookedAt.{no_row}
 use Rattle.file_tree.proofs.MemoSteps.{same_step}
-use Rattle.file_tree.proofs.Unchanged.{leaves_then}
+use Rattle.file_tree.proofs.Unchanged.{leaves_read, leaves_then}
 use Rattle.file_tree.proofs.walking.dir_without.Goals as goal
 
 pub returns-in_err-dir-clause-value : goal.returns-in_err-dir-clause-value
@@ -37,13 +38,13 @@ pub returns-in_err-look_up-clause-in_step : goal.returns-in_err-look_up-clause-i
 returns-in_err-look_up-clause-in_step g c = same_step c.args.shape.now _ _ _ (sym c.dir_at.ensures.words) c.look_up.ensures.in_step
 
 pub returns-in_err-look_up-clause-leaves : goal.returns-in_err-look_up-clause-leaves
-returns-in_err-look_up-clause-leaves g c = leaves_then c.args.shape.now _ _ _ _ _ _ c.dir_at.ensures.leaves c.dir_at.ensures.words c.look_up.ensures.leaves
+returns-in_err-look_up-clause-leaves g c = leaves_then c.args.shape.now _ _ _ _ _ _ c.dir_at.ensures.leaves c.dir_at.ensures.words (leaves_read c.args.shape.now _ _ _ _ _ _ _ _ c.dir_at.ensures.can.ready c.look_up.ensures.looks c.look_up.ensures.shape c.look_up.ensures.named (g.met.V.Volume.passes_keeps _ _ c.look_up.ensures.passes))
 
 pub returns-in_err-look_up-clause-words : goal.returns-in_err-look_up-clause-words
-returns-in_err-look_up-clause-words g c = c.look_up.ensures.words ∙ c.dir_at.ensures.words
+returns-in_err-look_up-clause-words g c = c.look_up.ensures.looks.words ∙ c.dir_at.ensures.words
 
 pub returns-in_err-look_up-clause-goes : goal.returns-in_err-look_up-clause-goes
-returns-in_err-look_up-clause-goes g c = c.dir_at.ensures.goes then c.look_up.ensures.goes
+returns-in_err-look_up-clause-goes g c = c.dir_at.ensures.goes then (g.met.V.Volume.passes_keeps _ _ c.look_up.ensures.passes).goes
 
 pub returns-in_err-look_up-clause-ends : goal.returns-in_err-look_up-clause-ends
 returns-in_err-look_up-clause-ends g c =
@@ -63,13 +64,13 @@ pub returns-then-is_some-clause-in_step : goal.returns-then-is_some-clause-in_st
 returns-then-is_some-clause-in_step g c = same_step c.args.shape.now _ _ _ (sym c.dir_at.ensures.words) c.look_up.ensures.in_step
 
 pub returns-then-is_some-clause-leaves : goal.returns-then-is_some-clause-leaves
-returns-then-is_some-clause-leaves g c = leaves_then c.args.shape.now _ _ _ _ _ _ c.dir_at.ensures.leaves c.dir_at.ensures.words c.look_up.ensures.leaves
+returns-then-is_some-clause-leaves g c = leaves_then c.args.shape.now _ _ _ _ _ _ c.dir_at.ensures.leaves c.dir_at.ensures.words (leaves_read c.args.shape.now _ _ _ _ _ _ _ _ c.dir_at.ensures.can.ready c.look_up.ensures.looks c.look_up.ensures.shape c.look_up.ensures.named (g.met.V.Volume.passes_keeps _ _ c.look_up.ensures.passes))
 
 pub returns-then-is_some-clause-words : goal.returns-then-is_some-clause-words
-returns-then-is_some-clause-words g c = c.look_up.ensures.words ∙ c.dir_at.ensures.words
+returns-then-is_some-clause-words g c = c.look_up.ensures.looks.words ∙ c.dir_at.ensures.words
 
 pub returns-then-is_some-clause-goes : goal.returns-then-is_some-clause-goes
-returns-then-is_some-clause-goes g c = c.dir_at.ensures.goes then c.look_up.ensures.goes
+returns-then-is_some-clause-goes g c = c.dir_at.ensures.goes then (g.met.V.Volume.passes_keeps _ _ c.look_up.ensures.passes).goes
 
 pub returns-then-is_some-clause-ends : goal.returns-then-is_some-clause-ends
 returns-then-is_some-clause-ends g c = ends_refused _ _ 3 (after_well _ _ _ _ _ (well _ _ c.dir_at.result _ c.in_ok-dir.was c.dir_at.ensures.ends) (well _ _ c.look_up.result _ c.in_ok-look_up.was c.look_up.ensures.ends))
@@ -90,13 +91,13 @@ pub returns-clause-in_step : goal.returns-clause-in_step
 returns-clause-in_step g c = same_step c.args.shape.now _ _ _ (sym c.dir_at.ensures.words) c.look_up.ensures.in_step
 
 pub returns-clause-leaves : goal.returns-clause-leaves
-returns-clause-leaves g c = leaves_then c.args.shape.now _ _ _ _ _ _ c.dir_at.ensures.leaves c.dir_at.ensures.words c.look_up.ensures.leaves
+returns-clause-leaves g c = leaves_then c.args.shape.now _ _ _ _ _ _ c.dir_at.ensures.leaves c.dir_at.ensures.words (leaves_read c.args.shape.now _ _ _ _ _ _ _ _ c.dir_at.ensures.can.ready c.look_up.ensures.looks c.look_up.ensures.shape c.look_up.ensures.named (g.met.V.Volume.passes_keeps _ _ c.look_up.ensures.passes))
 
 pub returns-clause-words : goal.returns-clause-words
-returns-clause-words g c = c.look_up.ensures.words ∙ c.dir_at.ensures.words
+returns-clause-words g c = c.look_up.ensures.looks.words ∙ c.dir_at.ensures.words
 
 pub returns-clause-goes : goal.returns-clause-goes
-returns-clause-goes g c = c.dir_at.ensures.goes then c.look_up.ensures.goes
+returns-clause-goes g c = c.dir_at.ensures.goes then (g.met.V.Volume.passes_keeps _ _ c.look_up.ensures.passes).goes
 
 pub returns-clause-ends : goal.returns-clause-ends
 returns-clause-ends g c = ends_ok _ _ _ (after_well _ _ _ _ _ (well _ _ c.dir_at.result _ c.in_ok-dir.was c.dir_at.ensures.ends) (well _ _ c.look_up.result _ c.in_ok-look_up.was c.look_up.ensures.ends))
@@ -113,8 +114,14 @@ dir_at-requires-clause-in_step g c = c.requires.in_step
 pub look_up-requires-clause-sound : goal.look_up-requires-clause-sound
 look_up-requires-clause-sound g c = c.dir_at.ensures.sound
 
-pub look_up-requires-clause-can : goal.look_up-requires-clause-can
-look_up-requires-clause-can g c = c.dir_at.ensures.can
+pub look_up-requires-clause-shape : goal.look_up-requires-clause-shape
+look_up-requires-clause-shape g c = c.dir_at.ensures.can.ready.order.has_shape
+
+pub look_up-requires-clause-named : goal.look_up-requires-clause-named
+look_up-requires-clause-named g c = c.dir_at.ensures.can.ready.order.named
+
+pub look_up-requires-clause-reads : goal.look_up-requires-clause-reads
+look_up-requires-clause-reads g c = (c.dir_at.ensures.can.state, c.dir_at.ensures.can.reads)
 
 pub returns-in_err-dir-clause-dir : goal.returns-in_err-dir-clause-dir
 returns-in_err-dir-clause-dir g c = let p = err_from_is_err_and c.from_residual.result c.from_residual.ensures.1 in never_some _ _ p.0 p.1
@@ -147,7 +154,7 @@ pub returns-in_err-look_up-clause-absent : goal.returns-in_err-look_up-clause-ab
 returns-in_err-look_up-clause-absent g c = let p = err_from_is_err_and c.from_residual-in_err-look_up.result c.from_residual-in_err-look_up.ensures.1 in never_some _ _ p.0 p.1
 
 pub returns-in_err-look_up-clause-can : goal.returns-in_err-look_up-clause-can
-returns-in_err-look_up-clause-can g c = c.look_up.ensures.can
+returns-in_err-look_up-clause-can g c = can_looked c.args.shape.now _ _ _ _ _ _ _ _ c.dir_at.ensures.can c.look_up.ensures.looks c.look_up.ensures.shape c.look_up.ensures.named (g.met.V.Volume.passes_keeps _ _ c.look_up.ensures.passes)
 
 pub returns-in_err-look_up-clause-sound : goal.returns-in_err-look_up-clause-sound
 returns-in_err-look_up-clause-sound g c = c.look_up.ensures.sound
@@ -159,13 +166,13 @@ pub returns-then-is_some-clause-absent : goal.returns-then-is_some-clause-absent
 returns-then-is_some-clause-absent g c = tt
 
 pub returns-then-is_some-clause-can : goal.returns-then-is_some-clause-can
-returns-then-is_some-clause-can g c = c.look_up.ensures.can
+returns-then-is_some-clause-can g c = can_looked c.args.shape.now _ _ _ _ _ _ _ _ c.dir_at.ensures.can c.look_up.ensures.looks c.look_up.ensures.shape c.look_up.ensures.named (g.met.V.Volume.passes_keeps _ _ c.look_up.ensures.passes)
 
 pub returns-then-is_some-clause-sound : goal.returns-then-is_some-clause-sound
 returns-then-is_some-clause-sound g c = c.look_up.ensures.sound
 
 pub returns-clause-can : goal.returns-clause-can
-returns-clause-can g c = c.look_up.ensures.can
+returns-clause-can g c = can_looked c.args.shape.now _ _ _ _ _ _ _ _ c.dir_at.ensures.can c.look_up.ensures.looks c.look_up.ensures.shape c.look_up.ensures.named (g.met.V.Volume.passes_keeps _ _ c.look_up.ensures.passes)
 
 pub returns-clause-sound : goal.returns-clause-sound
 returns-clause-sound g c = c.look_up.ensures.sound

@@ -20,41 +20,11 @@ returns-in-Some-clause-ends g c = ends_ok _ _ _ (well _ _ c.look_up.result _ c.i
 pub returns-in-None-clause-ends : goal.returns-in-None-clause-ends
 returns-in-None-clause-ends g c = ends_refused _ _ 2 (well _ _ c.look_up.result _ c.in_ok-row.was c.look_up.ensures.ends)
 
-pub look_up-requires-clause-sound : goal.look_up-requires-clause-sound
-look_up-requires-clause-sound g c = c.requires.sound
-
-pub look_up-requires-clause-can : goal.look_up-requires-clause-can
-look_up-requires-clause-can g c = c.requires.can
-
-pub look_up-requires-clause-in_step : goal.look_up-requires-clause-in_step
-look_up-requires-clause-in_step g c = c.requires.in_step
-
-pub look_up-requires-clause-dir : goal.look_up-requires-clause-dir
-look_up-requires-clause-dir g c = c.requires.dir
-
-pub look_up-requires-clause-inode : goal.look_up-requires-clause-inode
-look_up-requires-clause-inode g c = c.requires.inode
-
 pub returns-in_err-row-clause-row : goal.returns-in_err-row-clause-row
 returns-in_err-row-clause-row g c = let p = err_from_is_err_and c.from_residual.result c.from_residual.ensures.1 in never_some _ _ p.0 p.1
 
 pub returns-in_err-row-clause-in_step : goal.returns-in_err-row-clause-in_step
 returns-in_err-row-clause-in_step g c = c.look_up.ensures.in_step
-
-pub returns-in_err-row-clause-leaves : goal.returns-in_err-row-clause-leaves
-returns-in_err-row-clause-leaves g c = c.look_up.ensures.leaves
-
-pub returns-in_err-row-clause-words : goal.returns-in_err-row-clause-words
-returns-in_err-row-clause-words g c = c.look_up.ensures.words
-
-pub returns-in_err-row-clause-can : goal.returns-in_err-row-clause-can
-returns-in_err-row-clause-can g c = c.look_up.ensures.can
-
-pub returns-in_err-row-clause-goes : goal.returns-in_err-row-clause-goes
-returns-in_err-row-clause-goes g c = c.look_up.ensures.goes
-
-pub returns-in_err-row-clause-sound : goal.returns-in_err-row-clause-sound
-returns-in_err-row-clause-sound g c = c.look_up.ensures.sound
 
 pub returns-in-Some-clause-refused : goal.returns-in-Some-clause-refused
 returns-in-Some-clause-refused g c = tt
@@ -62,38 +32,74 @@ returns-in-Some-clause-refused g c = tt
 pub returns-in-Some-clause-in_step : goal.returns-in-Some-clause-in_step
 returns-in-Some-clause-in_step g c = c.look_up.ensures.in_step
 
-pub returns-in-Some-clause-leaves : goal.returns-in-Some-clause-leaves
-returns-in-Some-clause-leaves g c = c.look_up.ensures.leaves
-
-pub returns-in-Some-clause-words : goal.returns-in-Some-clause-words
-returns-in-Some-clause-words g c = c.look_up.ensures.words
-
-pub returns-in-Some-clause-can : goal.returns-in-Some-clause-can
-returns-in-Some-clause-can g c = c.look_up.ensures.can
-
-pub returns-in-Some-clause-goes : goal.returns-in-Some-clause-goes
-returns-in-Some-clause-goes g c = c.look_up.ensures.goes
-
-pub returns-in-Some-clause-sound : goal.returns-in-Some-clause-sound
-returns-in-Some-clause-sound g c = c.look_up.ensures.sound
-
 pub returns-in-None-clause-row : goal.returns-in-None-clause-row
 returns-in-None-clause-row g c = tt
 
 pub returns-in-None-clause-in_step : goal.returns-in-None-clause-in_step
 returns-in-None-clause-in_step g c = c.look_up.ensures.in_step
 
-pub returns-in-None-clause-leaves : goal.returns-in-None-clause-leaves
-returns-in-None-clause-leaves g c = c.look_up.ensures.leaves
+pub look_up-requires-clause-sound : goal.look_up-requires-clause-sound
+look_up-requires-clause-sound g c = c.requires.sound
 
-pub returns-in-None-clause-words : goal.returns-in-None-clause-words
-returns-in-None-clause-words g c = c.look_up.ensures.words
+pub look_up-requires-clause-shape : goal.look_up-requires-clause-shape
+look_up-requires-clause-shape g c = c.requires.shape
 
-pub returns-in-None-clause-can : goal.returns-in-None-clause-can
-returns-in-None-clause-can g c = c.look_up.ensures.can
+pub look_up-requires-clause-named : goal.look_up-requires-clause-named
+look_up-requires-clause-named g c = c.requires.named
 
-pub returns-in-None-clause-goes : goal.returns-in-None-clause-goes
-returns-in-None-clause-goes g c = c.look_up.ensures.goes
+pub look_up-requires-clause-reads : goal.look_up-requires-clause-reads
+look_up-requires-clause-reads g c = c.requires.reads
+
+pub look_up-requires-clause-dir : goal.look_up-requires-clause-dir
+look_up-requires-clause-dir g c = c.requires.dir
+
+pub look_up-requires-clause-inode : goal.look_up-requires-clause-inode
+look_up-requires-clause-inode g c = c.requires.inode
+
+pub look_up-requires-clause-in_step : goal.look_up-requires-clause-in_step
+look_up-requires-clause-in_step g c = c.requires.in_step
+
+pub returns-in_err-row-clause-looks : goal.returns-in_err-row-clause-looks
+returns-in_err-row-clause-looks g c = c.look_up.ensures.looks
+
+pub returns-in_err-row-clause-shape : goal.returns-in_err-row-clause-shape
+returns-in_err-row-clause-shape g c = c.look_up.ensures.shape
+
+pub returns-in_err-row-clause-named : goal.returns-in_err-row-clause-named
+returns-in_err-row-clause-named g c = c.look_up.ensures.named
+
+pub returns-in_err-row-clause-passes : goal.returns-in_err-row-clause-passes
+returns-in_err-row-clause-passes g c = c.look_up.ensures.passes
+
+pub returns-in_err-row-clause-sound : goal.returns-in_err-row-clause-sound
+returns-in_err-row-clause-sound g c = c.look_up.ensures.sound
+
+pub returns-in-Some-clause-looks : goal.returns-in-Some-clause-looks
+returns-in-Some-clause-looks g c = c.look_up.ensures.looks
+
+pub returns-in-Some-clause-shape : goal.returns-in-Some-clause-shape
+returns-in-Some-clause-shape g c = c.look_up.ensures.shape
+
+pub returns-in-Some-clause-named : goal.returns-in-Some-clause-named
+returns-in-Some-clause-named g c = c.look_up.ensures.named
+
+pub returns-in-Some-clause-passes : goal.returns-in-Some-clause-passes
+returns-in-Some-clause-passes g c = c.look_up.ensures.passes
+
+pub returns-in-Some-clause-sound : goal.returns-in-Some-clause-sound
+returns-in-Some-clause-sound g c = c.look_up.ensures.sound
+
+pub returns-in-None-clause-looks : goal.returns-in-None-clause-looks
+returns-in-None-clause-looks g c = c.look_up.ensures.looks
+
+pub returns-in-None-clause-shape : goal.returns-in-None-clause-shape
+returns-in-None-clause-shape g c = c.look_up.ensures.shape
+
+pub returns-in-None-clause-named : goal.returns-in-None-clause-named
+returns-in-None-clause-named g c = c.look_up.ensures.named
+
+pub returns-in-None-clause-passes : goal.returns-in-None-clause-passes
+returns-in-None-clause-passes g c = c.look_up.ensures.passes
 
 pub returns-in-None-clause-sound : goal.returns-in-None-clause-sound
 returns-in-None-clause-sound g c = c.look_up.ensures.sound

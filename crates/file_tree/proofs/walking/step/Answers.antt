@@ -1,10 +1,10 @@
+use Rattle.file_tree.proofs.Lookups.{reads_then, named_then}
 use Rattle.file_tree.proofs.UpdateEnds.{never_some}
-use Rattle.file_tree.proofs.Common.{◌≡◌, ℕ, sym, subst, err_from_is_err_and, ◌then◌, held_of, IsInode, HasRow, IsEntry, ◌∙◌}
+use Rattle.file_tree.proofs.Common.{looks_trans, ◌≡◌, ℕ, sym, subst, err_from_is_err_and, held_of, IsInode, HasRow, IsEntry}
 use Rattle.file_tree.specs.Failures.{Refuses}
 use Rattle.file_tree.proofs.CallEnds.{after_well, ends_ok, ends_on, well}
 use Rattle.file_tree.proofs.LookedAt.{row_used, step_no_dir, step_no_row, step_taken}
 use Rattle.file_tree.proofs.MemoSteps.{same_step}
-use Rattle.file_tree.proofs.Unchanged.{leaves_then}
 use Rattle.file_tree.proofs.walking.step.Goals as goal
 
 pub returns-in_err-inode-clause-value : goal.returns-in_err-inode-clause-value
@@ -18,21 +18,15 @@ returns-in_err-inode-clause-ends g c =
     ends_on _ _ c.must_be_dir.result c.from_residual.result _ p.0 c.in_err-inode.was p.1 p.2 c.must_be_dir.ensures.ends
 
 pub row_of-requires-clause-dir : goal.row_of-requires-clause-dir
-row_of-requires-clause-dir g c = subst (λ f. (held_of c.args.shape.now f c.args.dir.0).kind ≡ 1) (sym c.must_be_dir.ensures.words) c.in_ok-inode.ensures.ok
+row_of-requires-clause-dir g c = subst (λ f. (held_of c.args.shape.now f c.args.dir.0).kind ≡ 1) (sym c.must_be_dir.ensures.looks.words) c.in_ok-inode.ensures.ok
 
 pub row_of-requires-clause-inode : goal.row_of-requires-clause-inode
-row_of-requires-clause-inode g c = subst (λ f. IsInode f c.args.dir.0 c.in_ok-inode.inode) (sym c.must_be_dir.ensures.words) c.in_ok-inode.ensures.inode
+row_of-requires-clause-inode g c = subst (λ f. IsInode f c.args.dir.0 c.in_ok-inode.inode) (sym c.must_be_dir.ensures.looks.words) c.in_ok-inode.ensures.inode
 
 pub returns-in_err-i-clause-value : goal.returns-in_err-i-clause-value
 returns-in_err-i-clause-value g c =
     let p = err_from_is_err_and c.from_residual-in_err-i.result c.from_residual-in_err-i.ensures.1 in
-    step_no_row c.args.shape.now (g.V.Blocks.seen c.args.v.now).words c.args.dir.0 c.args.name.now c.row_of.result c.from_residual-in_err-i.result _ p.0 c.in_ok-inode.ensures.ok c.in_err-i.was p.1 p.2 (subst (λ f. Refuses c.row_of.result 2 ((n : ℕ) → HasRow (held_of c.args.shape.now f c.args.dir.0) c.args.name.now n → ⊥)) c.must_be_dir.ensures.words c.row_of.ensures.refused)
-
-pub returns-in_err-i-clause-leaves : goal.returns-in_err-i-clause-leaves
-returns-in_err-i-clause-leaves g c = leaves_then c.args.shape.now _ _ _ _ _ _ c.must_be_dir.ensures.leaves c.must_be_dir.ensures.words c.row_of.ensures.leaves
-
-pub returns-in_err-i-clause-goes : goal.returns-in_err-i-clause-goes
-returns-in_err-i-clause-goes g c = c.must_be_dir.ensures.goes then c.row_of.ensures.goes
+    step_no_row c.args.shape.now (g.V.Blocks.seen c.args.v.now).words c.args.dir.0 c.args.name.now c.row_of.result c.from_residual-in_err-i.result _ p.0 c.in_ok-inode.ensures.ok c.in_err-i.was p.1 p.2 (subst (λ f. Refuses c.row_of.result 2 ((n : ℕ) → HasRow (held_of c.args.shape.now f c.args.dir.0) c.args.name.now n → ⊥)) c.must_be_dir.ensures.looks.words c.row_of.ensures.refused)
 
 pub returns-in_err-i-clause-ends : goal.returns-in_err-i-clause-ends
 returns-in_err-i-clause-ends g c =
@@ -40,34 +34,25 @@ returns-in_err-i-clause-ends g c =
     after_well _ _ _ _ _ (well _ _ c.must_be_dir.result _ c.in_ok-inode.was c.must_be_dir.ensures.ends) (ends_on _ _ c.row_of.result c.from_residual-in_err-i.result _ p.0 c.in_err-i.was p.1 p.2 c.row_of.ensures.ends)
 
 pub returns-clause-value : goal.returns-clause-value
-returns-clause-value g c = step_taken c.args.shape.now (g.V.Blocks.seen c.args.v.now).words c.args.dir.0 _ c.args.name.now _ c.in_ok-inode.ensures.ok (subst (λ f. IsEntry (held_of c.args.shape.now f c.args.dir.0) c.in_ok-i.field-0-1 c.args.name.now c.in_ok-i.i.0) c.must_be_dir.ensures.words c.in_ok-i.ensures.row)
+returns-clause-value g c = step_taken c.args.shape.now (g.V.Blocks.seen c.args.v.now).words c.args.dir.0 _ c.args.name.now _ c.in_ok-inode.ensures.ok (subst (λ f. IsEntry (held_of c.args.shape.now f c.args.dir.0) c.in_ok-i.field-0-1 c.args.name.now c.in_ok-i.i.0) c.must_be_dir.ensures.looks.words c.in_ok-i.ensures.row)
 
 pub returns-clause-used : goal.returns-clause-used
-returns-clause-used g c = row_used c.args.shape.now (g.V.Blocks.seen c.args.v.now).words c.requires.can.state c.args.dir.0 _ c.args.name.now _ c.requires.can.reads c.in_ok-inode.ensures.ok (subst (λ f. IsEntry (held_of c.args.shape.now f c.args.dir.0) c.in_ok-i.field-0-1 c.args.name.now c.in_ok-i.i.0) c.must_be_dir.ensures.words c.in_ok-i.ensures.row)
-
-pub returns-clause-leaves : goal.returns-clause-leaves
-returns-clause-leaves g c = leaves_then c.args.shape.now _ _ _ _ _ _ c.must_be_dir.ensures.leaves c.must_be_dir.ensures.words c.row_of.ensures.leaves
-
-pub returns-clause-goes : goal.returns-clause-goes
-returns-clause-goes g c = c.must_be_dir.ensures.goes then c.row_of.ensures.goes
+returns-clause-used g c = row_used c.args.shape.now (g.V.Blocks.seen c.args.v.now).words c.requires.reads.0 c.args.dir.0 _ c.args.name.now _ c.requires.reads.1 c.in_ok-inode.ensures.ok (subst (λ f. IsEntry (held_of c.args.shape.now f c.args.dir.0) c.in_ok-i.field-0-1 c.args.name.now c.in_ok-i.i.0) c.must_be_dir.ensures.looks.words c.in_ok-i.ensures.row)
 
 pub returns-clause-ends : goal.returns-clause-ends
 returns-clause-ends g c = ends_ok _ _ _ (after_well _ _ _ _ _ (well _ _ c.must_be_dir.result _ c.in_ok-inode.was c.must_be_dir.ensures.ends) (well _ _ c.row_of.result _ c.in_ok-i.was c.row_of.ensures.ends))
 
 pub row_of-requires-clause-in_step : goal.row_of-requires-clause-in_step
-row_of-requires-clause-in_step g c = same_step c.args.shape.now _ _ c.args.memo.now c.must_be_dir.ensures.words c.requires.in_step
+row_of-requires-clause-in_step g c = same_step c.args.shape.now _ _ c.args.memo.now c.must_be_dir.ensures.looks.words c.requires.in_step
 
 pub returns-in_err-i-clause-in_step : goal.returns-in_err-i-clause-in_step
-returns-in_err-i-clause-in_step g c = same_step c.args.shape.now _ _ _ (sym c.must_be_dir.ensures.words) c.row_of.ensures.in_step
+returns-in_err-i-clause-in_step g c = same_step c.args.shape.now _ _ _ (sym c.must_be_dir.ensures.looks.words) c.row_of.ensures.in_step
 
 pub returns-clause-in_step : goal.returns-clause-in_step
-returns-clause-in_step g c = same_step c.args.shape.now _ _ _ (sym c.must_be_dir.ensures.words) c.row_of.ensures.in_step
+returns-clause-in_step g c = same_step c.args.shape.now _ _ _ (sym c.must_be_dir.ensures.looks.words) c.row_of.ensures.in_step
 
 pub must_be_dir-requires-clause-sound : goal.must_be_dir-requires-clause-sound
 must_be_dir-requires-clause-sound g c = c.requires.sound
-
-pub must_be_dir-requires-clause-can : goal.must_be_dir-requires-clause-can
-must_be_dir-requires-clause-can g c = c.requires.can
 
 pub must_be_dir-requires-clause-used : goal.must_be_dir-requires-clause-used
 must_be_dir-requires-clause-used g c = c.requires.used
@@ -75,47 +60,74 @@ must_be_dir-requires-clause-used g c = c.requires.used
 pub row_of-requires-clause-sound : goal.row_of-requires-clause-sound
 row_of-requires-clause-sound g c = c.must_be_dir.ensures.sound
 
-pub row_of-requires-clause-can : goal.row_of-requires-clause-can
-row_of-requires-clause-can g c = c.must_be_dir.ensures.can
-
 pub returns-in_err-inode-clause-used : goal.returns-in_err-inode-clause-used
 returns-in_err-inode-clause-used g c = let p = err_from_is_err_and c.from_residual.result c.from_residual.ensures.1 in never_some _ _ p.0 p.1
 
 pub returns-in_err-inode-clause-in_step : goal.returns-in_err-inode-clause-in_step
 returns-in_err-inode-clause-in_step g c = c.requires.in_step
 
-pub returns-in_err-inode-clause-leaves : goal.returns-in_err-inode-clause-leaves
-returns-in_err-inode-clause-leaves g c = c.must_be_dir.ensures.leaves
+pub returns-in_err-i-clause-used : goal.returns-in_err-i-clause-used
+returns-in_err-i-clause-used g c = let p = err_from_is_err_and c.from_residual-in_err-i.result c.from_residual-in_err-i.ensures.1 in never_some _ _ p.0 p.1
 
-pub returns-in_err-inode-clause-words : goal.returns-in_err-inode-clause-words
-returns-in_err-inode-clause-words g c = c.must_be_dir.ensures.words
+pub must_be_dir-requires-clause-shape : goal.must_be_dir-requires-clause-shape
+must_be_dir-requires-clause-shape g c = c.requires.shape
 
-pub returns-in_err-inode-clause-can : goal.returns-in_err-inode-clause-can
-returns-in_err-inode-clause-can g c = c.must_be_dir.ensures.can
+pub must_be_dir-requires-clause-named : goal.must_be_dir-requires-clause-named
+must_be_dir-requires-clause-named g c = c.requires.named
 
-pub returns-in_err-inode-clause-goes : goal.returns-in_err-inode-clause-goes
-returns-in_err-inode-clause-goes g c = c.must_be_dir.ensures.goes
+pub must_be_dir-requires-clause-reads : goal.must_be_dir-requires-clause-reads
+must_be_dir-requires-clause-reads g c = c.requires.reads
+
+pub row_of-requires-clause-shape : goal.row_of-requires-clause-shape
+row_of-requires-clause-shape g c = c.must_be_dir.ensures.shape
+
+pub row_of-requires-clause-named : goal.row_of-requires-clause-named
+row_of-requires-clause-named g c = named_then c.args.shape.now _ _ _ (sym c.must_be_dir.ensures.looks.words) c.must_be_dir.ensures.named
+
+pub row_of-requires-clause-reads : goal.row_of-requires-clause-reads
+row_of-requires-clause-reads g c = reads_then c.args.shape.now _ _ (sym c.must_be_dir.ensures.looks.words) c.requires.reads
+
+pub returns-in_err-inode-clause-looks : goal.returns-in_err-inode-clause-looks
+returns-in_err-inode-clause-looks g c = c.must_be_dir.ensures.looks
+
+pub returns-in_err-inode-clause-shape : goal.returns-in_err-inode-clause-shape
+returns-in_err-inode-clause-shape g c = c.must_be_dir.ensures.shape
+
+pub returns-in_err-inode-clause-named : goal.returns-in_err-inode-clause-named
+returns-in_err-inode-clause-named g c = c.must_be_dir.ensures.named
+
+pub returns-in_err-inode-clause-passes : goal.returns-in_err-inode-clause-passes
+returns-in_err-inode-clause-passes g c = c.must_be_dir.ensures.passes
 
 pub returns-in_err-inode-clause-sound : goal.returns-in_err-inode-clause-sound
 returns-in_err-inode-clause-sound g c = c.must_be_dir.ensures.sound
 
-pub returns-in_err-i-clause-used : goal.returns-in_err-i-clause-used
-returns-in_err-i-clause-used g c = let p = err_from_is_err_and c.from_residual-in_err-i.result c.from_residual-in_err-i.ensures.1 in never_some _ _ p.0 p.1
+pub returns-in_err-i-clause-looks : goal.returns-in_err-i-clause-looks
+returns-in_err-i-clause-looks g c = looks_trans _ _ _ c.must_be_dir.ensures.looks c.row_of.ensures.looks
 
-pub returns-in_err-i-clause-can : goal.returns-in_err-i-clause-can
-returns-in_err-i-clause-can g c = c.row_of.ensures.can
+pub returns-in_err-i-clause-shape : goal.returns-in_err-i-clause-shape
+returns-in_err-i-clause-shape g c = c.row_of.ensures.shape
+
+pub returns-in_err-i-clause-named : goal.returns-in_err-i-clause-named
+returns-in_err-i-clause-named g c = named_then c.args.shape.now _ _ _ c.must_be_dir.ensures.looks.words c.row_of.ensures.named
+
+pub returns-in_err-i-clause-passes : goal.returns-in_err-i-clause-passes
+returns-in_err-i-clause-passes g c = g.met.V.Blocks.passes_trans _ _ _ c.must_be_dir.ensures.passes c.row_of.ensures.passes
 
 pub returns-in_err-i-clause-sound : goal.returns-in_err-i-clause-sound
 returns-in_err-i-clause-sound g c = c.row_of.ensures.sound
 
-pub returns-in_err-i-clause-words : goal.returns-in_err-i-clause-words
-returns-in_err-i-clause-words g c = c.row_of.ensures.words ∙ c.must_be_dir.ensures.words
+pub returns-clause-looks : goal.returns-clause-looks
+returns-clause-looks g c = looks_trans _ _ _ c.must_be_dir.ensures.looks c.row_of.ensures.looks
 
-pub returns-clause-can : goal.returns-clause-can
-returns-clause-can g c = c.row_of.ensures.can
+pub returns-clause-shape : goal.returns-clause-shape
+returns-clause-shape g c = c.row_of.ensures.shape
+
+pub returns-clause-named : goal.returns-clause-named
+returns-clause-named g c = named_then c.args.shape.now _ _ _ c.must_be_dir.ensures.looks.words c.row_of.ensures.named
+
+pub returns-clause-passes : goal.returns-clause-passes
+returns-clause-passes g c = g.met.V.Blocks.passes_trans _ _ _ c.must_be_dir.ensures.passes c.row_of.ensures.passes
 
 pub returns-clause-sound : goal.returns-clause-sound
 returns-clause-sound g c = c.row_of.ensures.sound
-
-pub returns-clause-words : goal.returns-clause-words
-returns-clause-words g c = c.row_of.ensures.words ∙ c.must_be_dir.ensures.words

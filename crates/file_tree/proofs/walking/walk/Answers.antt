@@ -1,3 +1,5 @@
+use Rattle.file_tree.proofs.Lookups.{can_looked}
+use Rattle.file_tree.proofs.Unchanged.{leaves_read}
 use Rattle.file_tree.proofs.UpdateEnds.{never_some}
 use Rattle.file_tree.proofs.Common.{arith, names_of, walk, err_from_is_err_and, refl, le_refl, ends_by_well, goes_refl, leaves_refl}
 use Rattle.file_tree.proofs.CallEnds.{ends_on, ends_ok, well}
@@ -35,8 +37,14 @@ returns-clause-in_step g c = record {
 pub walk_names-requires-clause-sound : goal.walk_names-requires-clause-sound
 walk_names-requires-clause-sound g c = c.requires.sound
 
-pub walk_names-requires-clause-can : goal.walk_names-requires-clause-can
-walk_names-requires-clause-can g c = c.requires.can
+pub walk_names-requires-clause-shape : goal.walk_names-requires-clause-shape
+walk_names-requires-clause-shape g c = c.requires.can.ready.order.has_shape
+
+pub walk_names-requires-clause-named : goal.walk_names-requires-clause-named
+walk_names-requires-clause-named g c = c.requires.can.ready.order.named
+
+pub walk_names-requires-clause-reads : goal.walk_names-requires-clause-reads
+walk_names-requires-clause-reads g c = (c.requires.can.state, c.requires.can.reads)
 
 pub walk_names-requires-clause-in_step : goal.walk_names-requires-clause-in_step
 walk_names-requires-clause-in_step g c = c.requires.in_step
@@ -72,16 +80,16 @@ pub returns-in_err-i-clause-in_step : goal.returns-in_err-i-clause-in_step
 returns-in_err-i-clause-in_step g c = c.walk_names.ensures.in_step
 
 pub returns-in_err-i-clause-leaves : goal.returns-in_err-i-clause-leaves
-returns-in_err-i-clause-leaves g c = c.walk_names.ensures.leaves
+returns-in_err-i-clause-leaves g c = leaves_read c.args.shape.now _ _ _ _ _ _ _ _ c.requires.can.ready c.walk_names.ensures.looks c.walk_names.ensures.shape c.walk_names.ensures.named (g.met.V.Volume.passes_keeps _ _ c.walk_names.ensures.passes)
 
 pub returns-in_err-i-clause-words : goal.returns-in_err-i-clause-words
-returns-in_err-i-clause-words g c = c.walk_names.ensures.words
+returns-in_err-i-clause-words g c = c.walk_names.ensures.looks.words
 
 pub returns-in_err-i-clause-can : goal.returns-in_err-i-clause-can
-returns-in_err-i-clause-can g c = c.walk_names.ensures.can
+returns-in_err-i-clause-can g c = can_looked c.args.shape.now _ _ _ _ _ _ _ _ c.requires.can c.walk_names.ensures.looks c.walk_names.ensures.shape c.walk_names.ensures.named (g.met.V.Volume.passes_keeps _ _ c.walk_names.ensures.passes)
 
 pub returns-in_err-i-clause-goes : goal.returns-in_err-i-clause-goes
-returns-in_err-i-clause-goes g c = c.walk_names.ensures.goes
+returns-in_err-i-clause-goes g c = (g.met.V.Volume.passes_keeps _ _ c.walk_names.ensures.passes).goes
 
 pub returns-in_err-i-clause-sound : goal.returns-in_err-i-clause-sound
 returns-in_err-i-clause-sound g c = c.walk_names.ensures.sound
@@ -96,16 +104,16 @@ pub returns-clause-ends : goal.returns-clause-ends
 returns-clause-ends g c = ends_ok _ _ _ (well _ _ c.walk_names.result _ c.in_ok-i.was c.walk_names.ensures.ends)
 
 pub returns-clause-leaves : goal.returns-clause-leaves
-returns-clause-leaves g c = c.walk_names.ensures.leaves
+returns-clause-leaves g c = leaves_read c.args.shape.now _ _ _ _ _ _ _ _ c.requires.can.ready c.walk_names.ensures.looks c.walk_names.ensures.shape c.walk_names.ensures.named (g.met.V.Volume.passes_keeps _ _ c.walk_names.ensures.passes)
 
 pub returns-clause-words : goal.returns-clause-words
-returns-clause-words g c = c.walk_names.ensures.words
+returns-clause-words g c = c.walk_names.ensures.looks.words
 
 pub returns-clause-can : goal.returns-clause-can
-returns-clause-can g c = c.walk_names.ensures.can
+returns-clause-can g c = can_looked c.args.shape.now _ _ _ _ _ _ _ _ c.requires.can c.walk_names.ensures.looks c.walk_names.ensures.shape c.walk_names.ensures.named (g.met.V.Volume.passes_keeps _ _ c.walk_names.ensures.passes)
 
 pub returns-clause-goes : goal.returns-clause-goes
-returns-clause-goes g c = c.walk_names.ensures.goes
+returns-clause-goes g c = (g.met.V.Volume.passes_keeps _ _ c.walk_names.ensures.passes).goes
 
 pub returns-clause-sound : goal.returns-clause-sound
 returns-clause-sound g c = c.walk_names.ensures.sound

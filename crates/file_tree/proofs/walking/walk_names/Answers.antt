@@ -1,9 +1,11 @@
-use Rattle.file_tree.proofs.Common.{◌<◌, arith, refl, sym, subst, ◌∙◌, err_from_is_err_and, ends_by_well, goes_refl, ◌then◌, held_of, ReadsAs, leaves_refl}
+use Rattle.rio_base.proofs.Rules.{looks_refl}
+use Rattle.file_tree.proofs.Lookups.{named_then, reads_then}
+use Rattle.file_tree.proofs.UpdateEnds.{never_some}
+use Rattle.file_tree.proofs.Common.{◌<◌, arith, refl, sym, subst, ◌∙◌, err_from_is_err_and, ends_by_well, held_of, looks_trans, ReadsAs}
 use Rattle.file_tree.proofs.CallEnds.{after_well, ends_ok, ends_on, well}
 use Rattle.file_tree.proofs.LookedAt.{comes_same}
 use Rattle.file_tree.proofs.MemoSteps.{same_step}
 use Rattle.file_tree.proofs.Reached.{root_held}
-use Rattle.file_tree.proofs.Unchanged.{leaves_then}
 use Rattle.file_tree.proofs.WalkedOn.{left_fails, left_next, left_none}
 use Rattle.file_tree.proofs.walking.walk_names.Goals as goal
 
@@ -11,22 +13,22 @@ pub loop-at-init : goal.loop-at-init
 loop-at-init g c =
     let shape = c.args.shape.now in
     let x = g.V.Blocks.seen c.args.v.now in
-    let root = root_held shape x.words c.requires.can.ready.order.mapped in
+    let root = root_held shape x.words c.requires.reads.1.mapped in
     record {
       from = omega arith;
       walked = λ s reads. refl;
       used = omega (arith, root);
-      leaves = leaves_refl shape x _ c.requires.can.ready;
-      words = refl;
+      looks = looks_refl _;
+      shape = c.requires.shape;
+      named = c.requires.named;
+      passes = g.met.V.Blocks.passes_refl _;
       in_step = c.requires.in_step;
-      can = c.requires.can;
-      goes = goes_refl _ _;
       well = ends_by_well _ _ _ _ (omega arith) refl (λ a. a) (λ a. a);
       sound = c.requires.sound;
     }
 
 pub step-requires-clause-used : goal.step-requires-clause-used
-step-requires-clause-used g c = subst (λ f. 0 < (held_of c.args.shape.now f c.loop-at.i.0).kind) (sym c.loop-at.invariant.words) c.loop-at.invariant.used
+step-requires-clause-used g c = subst (λ f. 0 < (held_of c.args.shape.now f c.loop-at.i.0).kind) (sym c.loop-at.invariant.looks.words) c.loop-at.invariant.used
 
 pub returns-in_err-i-clause-value : goal.returns-in_err-i-clause-value
 returns-in_err-i-clause-value g c =
@@ -36,13 +38,7 @@ returns-in_err-i-clause-value g c =
     let p = err_from_is_err_and c.from_residual.result c.from_residual.ensures.1 in
     λ s reads. comes_same _ _ c.from_residual.result (inv.walked s reads)
     (left_fails s c.args.path.now c.loop-at.i.0 c.loop-at.at c.name_end-end.result c.step.result c.from_residual.result _ p.0 c.loop-at-test.true cut.from cut.lacks cut.ended c.in_err-i.was p.1 p.2
-    (c.step.ensures.value s (subst (λ f. ReadsAs shape f s) (sym inv.words) reads)))
-
-pub returns-in_err-i-clause-leaves : goal.returns-in_err-i-clause-leaves
-returns-in_err-i-clause-leaves g c = leaves_then c.args.shape.now _ _ _ _ _ _ c.loop-at.invariant.leaves c.loop-at.invariant.words c.step.ensures.leaves
-
-pub returns-in_err-i-clause-goes : goal.returns-in_err-i-clause-goes
-returns-in_err-i-clause-goes g c = c.loop-at.invariant.goes then c.step.ensures.goes
+    (c.step.ensures.value s (subst (λ f. ReadsAs shape f s) (sym inv.looks.words) reads)))
 
 pub returns-in_err-i-clause-ends : goal.returns-in_err-i-clause-ends
 returns-in_err-i-clause-ends g c =
@@ -59,13 +55,13 @@ loop-at-preserved g c =
     let now = c.in_ok-i in
     record {
       from = omega arith;
-      walked = λ s reads. inv.walked s reads ∙ left_next s c.args.path.now c.loop-at.i.0 now.i.0 c.loop-at.at c.name_end-end.result c.loop-at-test.true cut.from cut.lacks cut.ended (now.ensures.value s (subst (λ f. ReadsAs shape f s) (sym inv.words) reads));
-      used = subst (λ f. 0 < (held_of shape f now.i.0).kind) inv.words now.ensures.used;
-      leaves = leaves_then shape _ _ _ _ _ _ inv.leaves inv.words call.leaves;
-      words = call.words ∙ inv.words;
-      in_step = same_step shape _ _ _ (sym inv.words) call.in_step;
-      can = call.can;
-      goes = inv.goes then call.goes;
+      walked = λ s reads. inv.walked s reads ∙ left_next s c.args.path.now c.loop-at.i.0 now.i.0 c.loop-at.at c.name_end-end.result c.loop-at-test.true cut.from cut.lacks cut.ended (now.ensures.value s (subst (λ f. ReadsAs shape f s) (sym inv.looks.words) reads));
+      used = subst (λ f. 0 < (held_of shape f now.i.0).kind) inv.looks.words now.ensures.used;
+      looks = looks_trans _ _ _ inv.looks call.looks;
+      shape = call.shape;
+      named = named_then shape _ _ _ inv.looks.words call.named;
+      passes = g.met.V.Blocks.passes_trans _ _ _ inv.passes call.passes;
+      in_step = same_step shape _ _ _ (sym inv.looks.words) call.in_step;
       well = after_well _ _ _ _ _ inv.well (well _ _ c.step.result _ now.was call.ends);
       sound = call.sound;
     }
@@ -77,7 +73,58 @@ pub returns-clause-ends : goal.returns-clause-ends
 returns-clause-ends g c = ends_ok _ _ _ c.loop-at.invariant.well
 
 pub step-requires-clause-in_step : goal.step-requires-clause-in_step
-step-requires-clause-in_step g c = same_step c.args.shape.now _ _ _ c.loop-at.invariant.words c.loop-at.invariant.in_step
+step-requires-clause-in_step g c = same_step c.args.shape.now _ _ _ c.loop-at.invariant.looks.words c.loop-at.invariant.in_step
 
 pub returns-in_err-i-clause-in_step : goal.returns-in_err-i-clause-in_step
-returns-in_err-i-clause-in_step g c = same_step c.args.shape.now _ _ _ (sym c.loop-at.invariant.words) c.step.ensures.in_step
+returns-in_err-i-clause-in_step g c = same_step c.args.shape.now _ _ _ (sym c.loop-at.invariant.looks.words) c.step.ensures.in_step
+
+pub step-requires-clause-sound : goal.step-requires-clause-sound
+step-requires-clause-sound g c = c.loop-at.invariant.sound
+
+pub step-requires-clause-shape : goal.step-requires-clause-shape
+step-requires-clause-shape g c = c.loop-at.invariant.shape
+
+pub step-requires-clause-named : goal.step-requires-clause-named
+step-requires-clause-named g c = named_then c.args.shape.now _ _ _ (sym c.loop-at.invariant.looks.words) c.loop-at.invariant.named
+
+pub step-requires-clause-reads : goal.step-requires-clause-reads
+step-requires-clause-reads g c = reads_then c.args.shape.now _ _ (sym c.loop-at.invariant.looks.words) c.requires.reads
+
+pub returns-in_err-i-clause-used : goal.returns-in_err-i-clause-used
+returns-in_err-i-clause-used g c = let p = err_from_is_err_and c.from_residual.result c.from_residual.ensures.1 in never_some _ _ p.0 p.1
+
+pub returns-in_err-i-clause-looks : goal.returns-in_err-i-clause-looks
+returns-in_err-i-clause-looks g c = looks_trans _ _ _ c.loop-at.invariant.looks c.step.ensures.looks
+
+pub returns-in_err-i-clause-shape : goal.returns-in_err-i-clause-shape
+returns-in_err-i-clause-shape g c = c.step.ensures.shape
+
+pub returns-in_err-i-clause-named : goal.returns-in_err-i-clause-named
+returns-in_err-i-clause-named g c = named_then c.args.shape.now _ _ _ c.loop-at.invariant.looks.words c.step.ensures.named
+
+pub returns-in_err-i-clause-passes : goal.returns-in_err-i-clause-passes
+returns-in_err-i-clause-passes g c = g.met.V.Blocks.passes_trans _ _ _ c.loop-at.invariant.passes c.step.ensures.passes
+
+pub returns-in_err-i-clause-sound : goal.returns-in_err-i-clause-sound
+returns-in_err-i-clause-sound g c = c.step.ensures.sound
+
+pub returns-clause-used : goal.returns-clause-used
+returns-clause-used g c = c.loop-at.invariant.used
+
+pub returns-clause-in_step : goal.returns-clause-in_step
+returns-clause-in_step g c = c.loop-at.invariant.in_step
+
+pub returns-clause-looks : goal.returns-clause-looks
+returns-clause-looks g c = c.loop-at.invariant.looks
+
+pub returns-clause-shape : goal.returns-clause-shape
+returns-clause-shape g c = c.loop-at.invariant.shape
+
+pub returns-clause-named : goal.returns-clause-named
+returns-clause-named g c = c.loop-at.invariant.named
+
+pub returns-clause-passes : goal.returns-clause-passes
+returns-clause-passes g c = c.loop-at.invariant.passes
+
+pub returns-clause-sound : goal.returns-clause-sound
+returns-clause-sound g c = c.loop-at.invariant.sound

@@ -1,5 +1,4 @@
-use Rattle.file_tree.proofs.Common.{◌≡◌, ◌+◌, ◌-◌, ◌<◌, ◌≤◌, length, EndsBy, Goes, held_of, names_of, walk, volume_layout, ReadsAs, LeavesInUse, State}
-use Rattle.file_tree.specs.Ends.{CanServe}
+use Rattle.file_tree.proofs.Common.{◌≡◌, ◌+◌, ◌-◌, ◌<◌, ◌≤◌, length, EndsBy, Looks, HasShape, held_of, names_of, walk, volume_layout, ReadsAs, AllNamed, State}
 use Rattle.file_tree.specs.Memos.{InStep}
 use Rattle.file_tree.proofs.WalkedOn.{walk_left}
 use Rattle.file_tree.proofs.walking.walk_names.Given as goal
@@ -8,18 +7,17 @@ use Rattle.file_tree.proofs.walking.walk_names.Given as goal
 abbrev pub invariant-loop-at : goal.invariant-loop-at
 invariant-loop-at g l =
     let seen = g.V.Blocks.seen in
-    let kept = g.V.Volume.kept in
     let health = g.V.Blocks.health in
     let first = (seen l.fn.v).words in
     record {
       from : 1 ≤ l.at;
       walked : (s : State) → ReadsAs l.shape first s → walk s 1 (names_of l.path) ≡ walk_left s l.path l.i.0 l.at;
       used : 0 < (held_of l.shape first l.i.0).kind;
-      leaves : LeavesInUse (volume_layout l.shape first) (seen l.fn.v) (kept l.fn.v) (seen l.v) (kept l.v);
-      words : (seen l.v).words ≡ first;
+      looks : Looks (seen l.fn.v) (seen l.v);
+      shape : HasShape l.shape (seen l.v);
+      named : AllNamed (volume_layout l.shape first) (seen l.v);
+      passes : g.V.Blocks.passes l.fn.v l.v;
       in_step : InStep l.shape first l.memo;
-      can : CanServe l.shape (seen l.v) (kept l.v);
-      goes : Goes (health l.fn.v) (g.V.Volume.below l.fn.v) (health l.v) (g.V.Volume.below l.v);
       well : EndsBy (health l.fn.v) (health l.v) ⊥ ⊥;
       sound : g.V.Blocks.sound l.v;
     }

@@ -1,3 +1,4 @@
+use Rattle.file_tree.proofs.Lookups.{can_looked}
 use Rattle.file_tree.proofs.UpdateEnds.{never_some}
 use Rattle.file_tree.proofs.Common.{◌≡◌, ℕ, ap, sym, subst, err_from_is_err_and, ◌then◌, held_of, names_of, IsInode, HasRow, IsEntry, ◌∙◌}
 use Rattle.file_tree.specs.Failures.{Refuses}
@@ -5,7 +6,7 @@ use Rattle.file_tree.specs.Walks.{ino_in}
 use Rattle.file_tree.proofs.CallEnds.{after_well, ends_ok, ends_on, well}
 use Rattle.file_tree.proofs.LookedAt.{row_missing, row_no_dir, row_there, row_used}
 use Rattle.file_tree.proofs.MemoSteps.{same_step}
-use Rattle.file_tree.proofs.Unchanged.{leaves_then}
+use Rattle.file_tree.proofs.Unchanged.{leaves_read, leaves_then}
 use Rattle.file_tree.proofs.walking.walk_to_row.Goals as goal
 
 pub returns-in_err-dir-clause-value : goal.returns-in_err-dir-clause-value
@@ -35,10 +36,10 @@ returns-in_err-ino-clause-value g c =
     (subst (λ h. Refuses c.row_of.result 2 ((n : ℕ) → HasRow (held_of shape h dir.dir.0) cut.result.1.now n → ⊥)) c.dir_at.ensures.words c.row_of.ensures.refused) reads
 
 pub returns-in_err-ino-clause-leaves : goal.returns-in_err-ino-clause-leaves
-returns-in_err-ino-clause-leaves g c = leaves_then c.args.shape.now _ _ _ _ _ _ c.dir_at.ensures.leaves c.dir_at.ensures.words c.row_of.ensures.leaves
+returns-in_err-ino-clause-leaves g c = leaves_then c.args.shape.now _ _ _ _ _ _ c.dir_at.ensures.leaves c.dir_at.ensures.words (leaves_read c.args.shape.now _ _ _ _ _ _ _ _ c.dir_at.ensures.can.ready c.row_of.ensures.looks c.row_of.ensures.shape c.row_of.ensures.named (g.met.V.Volume.passes_keeps _ _ c.row_of.ensures.passes))
 
 pub returns-in_err-ino-clause-goes : goal.returns-in_err-ino-clause-goes
-returns-in_err-ino-clause-goes g c = c.dir_at.ensures.goes then c.row_of.ensures.goes
+returns-in_err-ino-clause-goes g c = c.dir_at.ensures.goes then (g.met.V.Volume.passes_keeps _ _ c.row_of.ensures.passes).goes
 
 pub returns-in_err-ino-clause-ends : goal.returns-in_err-ino-clause-ends
 returns-in_err-ino-clause-ends g c =
@@ -76,10 +77,10 @@ returns-clause-used g c =
     row_used shape f can.state dir.dir.0 _ c.cut_last.result.1.now _ can.reads dir.ensures.dir (subst (λ h. IsEntry (held_of shape h dir.dir.0) row.slot c.cut_last.result.1.now row.ino.0) c.dir_at.ensures.words c.in_ok-ino.ensures.row)
 
 pub returns-clause-leaves : goal.returns-clause-leaves
-returns-clause-leaves g c = leaves_then c.args.shape.now _ _ _ _ _ _ c.dir_at.ensures.leaves c.dir_at.ensures.words c.row_of.ensures.leaves
+returns-clause-leaves g c = leaves_then c.args.shape.now _ _ _ _ _ _ c.dir_at.ensures.leaves c.dir_at.ensures.words (leaves_read c.args.shape.now _ _ _ _ _ _ _ _ c.dir_at.ensures.can.ready c.row_of.ensures.looks c.row_of.ensures.shape c.row_of.ensures.named (g.met.V.Volume.passes_keeps _ _ c.row_of.ensures.passes))
 
 pub returns-clause-goes : goal.returns-clause-goes
-returns-clause-goes g c = c.dir_at.ensures.goes then c.row_of.ensures.goes
+returns-clause-goes g c = c.dir_at.ensures.goes then (g.met.V.Volume.passes_keeps _ _ c.row_of.ensures.passes).goes
 
 pub returns-clause-ends : goal.returns-clause-ends
 returns-clause-ends g c = ends_ok _ _ _ (after_well _ _ _ _ _ (well _ _ c.dir_at.result _ c.in_ok-dir.was c.dir_at.ensures.ends) (well _ _ c.row_of.result _ c.in_ok-ino.was c.row_of.ensures.ends))
@@ -105,8 +106,14 @@ dir_at-requires-clause-in_step g c = c.requires.in_step
 pub row_of-requires-clause-sound : goal.row_of-requires-clause-sound
 row_of-requires-clause-sound g c = c.dir_at.ensures.sound
 
-pub row_of-requires-clause-can : goal.row_of-requires-clause-can
-row_of-requires-clause-can g c = c.dir_at.ensures.can
+pub row_of-requires-clause-shape : goal.row_of-requires-clause-shape
+row_of-requires-clause-shape g c = c.dir_at.ensures.can.ready.order.has_shape
+
+pub row_of-requires-clause-named : goal.row_of-requires-clause-named
+row_of-requires-clause-named g c = c.dir_at.ensures.can.ready.order.named
+
+pub row_of-requires-clause-reads : goal.row_of-requires-clause-reads
+row_of-requires-clause-reads g c = (c.dir_at.ensures.can.state, c.dir_at.ensures.can.reads)
 
 pub returns-in_err-dir-clause-row : goal.returns-in_err-dir-clause-row
 returns-in_err-dir-clause-row g c = let p = err_from_is_err_and c.from_residual.result c.from_residual.ensures.1 in never_some _ _ p.0 p.1
@@ -139,19 +146,19 @@ pub returns-in_err-ino-clause-used : goal.returns-in_err-ino-clause-used
 returns-in_err-ino-clause-used g c = let p = err_from_is_err_and c.from_residual-in_err-ino.result c.from_residual-in_err-ino.ensures.1 in never_some _ _ p.0 p.1
 
 pub returns-in_err-ino-clause-can : goal.returns-in_err-ino-clause-can
-returns-in_err-ino-clause-can g c = c.row_of.ensures.can
+returns-in_err-ino-clause-can g c = can_looked c.args.shape.now _ _ _ _ _ _ _ _ c.dir_at.ensures.can c.row_of.ensures.looks c.row_of.ensures.shape c.row_of.ensures.named (g.met.V.Volume.passes_keeps _ _ c.row_of.ensures.passes)
 
 pub returns-in_err-ino-clause-sound : goal.returns-in_err-ino-clause-sound
 returns-in_err-ino-clause-sound g c = c.row_of.ensures.sound
 
 pub returns-in_err-ino-clause-words : goal.returns-in_err-ino-clause-words
-returns-in_err-ino-clause-words g c = c.row_of.ensures.words ∙ c.dir_at.ensures.words
+returns-in_err-ino-clause-words g c = c.row_of.ensures.looks.words ∙ c.dir_at.ensures.words
 
 pub returns-clause-can : goal.returns-clause-can
-returns-clause-can g c = c.row_of.ensures.can
+returns-clause-can g c = can_looked c.args.shape.now _ _ _ _ _ _ _ _ c.dir_at.ensures.can c.row_of.ensures.looks c.row_of.ensures.shape c.row_of.ensures.named (g.met.V.Volume.passes_keeps _ _ c.row_of.ensures.passes)
 
 pub returns-clause-sound : goal.returns-clause-sound
 returns-clause-sound g c = c.row_of.ensures.sound
 
 pub returns-clause-words : goal.returns-clause-words
-returns-clause-words g c = c.row_of.ensures.words ∙ c.dir_at.ensures.words
+returns-clause-words g c = c.row_of.ensures.looks.words ∙ c.dir_at.ensures.words
