@@ -18,7 +18,7 @@ ghost use Rattle.file_tree.specs.Memos.{InStep};
 use crate::changes::REGION;
 use crate::failures::FileFail;
 use crate::memo::Memo;
-use crate::walking::{inode_of, walk, walk_to_dir};
+use crate::walking::{node_inode, walk, walk_to_dir};
 use directories::names;
 use file_pages::block_of;
 use name_list::NameList;
@@ -71,7 +71,7 @@ pub fn stat_with<V: Volume>(
     ensures sound { V.sound v.new }
 {
     let i = walk(v, shape, memo, path)?;
-    let inode = inode_of(v, shape, i)?;
+    let inode = node_inode(v, shape, i)?;
     let size = if inode.kind == REGION {
         region_bytes(v, shape, i)?
     } else {

@@ -31,7 +31,7 @@ use crate::failures::{EXISTS, FileFail, NOT_A_REGION, TOO_LARGE};
 use crate::memo::Memo;
 use crate::new_nodes::{NewNode, make_new};
 use crate::paths::{cut_last, is_root};
-use crate::walking::{dir_without, inode_of, walk};
+use crate::walking::{dir_without, node_inode, walk};
 use directories::plan_add;
 use file_pages::{SizeFail, plan_size};
 use inode_table::Inode;
@@ -235,7 +235,7 @@ pub fn region_at<V: Volume>(
     ensures sound { V.sound v.new }
 {
     let i = walk(v, shape, memo, path)?;
-    let inode = inode_of(v, shape, i)?;
+    let inode = node_inode(v, shape, i)?;
     if inode.kind != REGION {
         return Err(FileFail::Refused(NOT_A_REGION));
     }

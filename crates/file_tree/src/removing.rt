@@ -23,7 +23,7 @@ use crate::committing::commit_planned;
 use crate::failures::{BUSY, FileFail, IS_A_DIRECTORY, IS_ROOT, NOT_A_DIRECTORY, NOT_EMPTY};
 use crate::memo::Memo;
 use crate::paths::{cut_last, is_root};
-use crate::walking::{Row, inode_of, walk_to_row};
+use crate::walking::{Row, node_inode, walk_to_row};
 use directories::plan_remove;
 use file_pages::blocks_of;
 use inode_table::Inode;
@@ -127,7 +127,7 @@ pub fn unlink_with<V: Volume>(
         return Err(FileFail::Refused(IS_ROOT));
     }
     let row = walk_to_row(v, shape, memo, path)?;
-    let inode = inode_of(v, shape, row.ino)?;
+    let inode = node_inode(v, shape, row.ino)?;
     if inode.kind == DIRECTORY {
         return Err(FileFail::Refused(IS_A_DIRECTORY));
     }
@@ -161,7 +161,7 @@ pub fn rmdir_with<V: Volume>(
         return Err(FileFail::Refused(IS_ROOT));
     }
     let row = walk_to_row(v, shape, memo, path)?;
-    let inode = inode_of(v, shape, row.ino)?;
+    let inode = node_inode(v, shape, row.ino)?;
     if inode.kind != DIRECTORY {
         return Err(FileFail::Refused(NOT_A_DIRECTORY));
     }

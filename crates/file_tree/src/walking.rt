@@ -29,6 +29,26 @@ use rio_base::{Blocks, Ino, Volume, VolumeShape};
 /// The root directory.
 const ROOT: Ino = Ino(1);
 
+/// The inode of a node, over blocks alone.
+pub fn node_inode<V: Blocks>(v: &mut V, shape: &VolumeShape, i: Ino) -> Result<Inode, FileFail>
+    requires sound { V.sound v.old }
+    requires shape { HasShape shape.now (V.seen v.old) }
+    requires named { AllNamed (volume_layout shape.now (V.seen v.old).words) (V.seen v.old) }
+    requires reads { (s : State) × ReadsAs shape.now (V.seen v.old).words s }
+    requires used { 0 < (held_of shape.now (V.seen v.old).words i.0).kind }
+    ensures value { IfOk result (IsInode (V.seen v.old).words i.0) }
+    ensures other { Unrefused result }
+    ensures looks { Looks (V.seen v.old) (V.seen v.new) }
+    ensures shape { HasShape shape.now (V.seen v.new) }
+    ensures named { AllNamed (volume_layout shape.now (V.seen v.old).words) (V.seen v.new) }
+    ensures passes { V.passes v.old v.new }
+    ensures ends { EndsBy (V.health v.old) (V.health v.new) (Faulted result) (IsErrOf result FileFail.Stopped) }
+    ensures sound { V.sound v.new }
+{
+    let inode = read_inode(v, shape, i)?;
+    Ok(inode)
+}
+
 /// The inode of a node.
 pub fn inode_of<V: Volume>(v: &mut V, shape: &VolumeShape, i: Ino) -> Result<Inode, FileFail>
     requires sound { V.sound v.old }
@@ -43,8 +63,7 @@ pub fn inode_of<V: Volume>(v: &mut V, shape: &VolumeShape, i: Ino) -> Result<Ino
     ensures ends { EndsBy (V.health v.old) (V.health v.new) (Faulted result) (IsErrOf result FileFail.Stopped) }
     ensures sound { V.sound v.new }
 {
-    let inode = read_inode(v, shape, i)?;
-    Ok(inode)
+    node_inode(v, shape, i)
 }
 
 /// The inode of a directory. Refuses a node that is none.

@@ -11,7 +11,7 @@ use Rattle.file_tree.proofs.CallEnds.{after_well, ends_on, ends_refused, well}
 use Rattle.file_tree.proofs.LookedAt.{dir_read, inode_kind_held, leaf_read}
 use Rattle.file_tree.proofs.MemoSteps.{same_step}
 use Rattle.file_tree.proofs.Requested.{ends_as}
-use Rattle.file_tree.proofs.Unchanged.{can_again, leaves_then}
+use Rattle.file_tree.proofs.Unchanged.{can_again, leaves_then, leaves_read}
 use Rattle.file_tree.proofs.removing.rmdir_with.Goals as goal
 
 pub returns-then-is_root-clause-leaves : goal.returns-then-is_root-clause-leaves
@@ -44,8 +44,8 @@ returns-in_err-row-clause-ends g c =
     let p = err_from_is_err_and c.from_residual.result c.from_residual.ensures.1 in
     ends_on _ _ c.walk_to_row.result c.from_residual.result _ p.0 c.in_err-row.was p.1 p.2 c.walk_to_row.ensures.ends
 
-pub inode_of-requires-clause-used : goal.inode_of-requires-clause-used
-inode_of-requires-clause-used g c = subst (λ f. 0 < (held_of c.args.shape.now f c.in_ok-row.row.ino.0).kind) (sym c.walk_to_row.ensures.words) c.in_ok-row.ensures.used
+pub node_inode-requires-clause-used : goal.node_inode-requires-clause-used
+node_inode-requires-clause-used g c = subst (λ f. 0 < (held_of c.args.shape.now f c.in_ok-row.row.ino.0).kind) (sym c.walk_to_row.ensures.words) c.in_ok-row.ensures.used
 
 pub returns-in_err-inode-clause-leaves : goal.returns-in_err-inode-clause-leaves
 returns-in_err-inode-clause-leaves g c =
@@ -55,19 +55,19 @@ returns-in_err-inode-clause-leaves g c =
     let names = names_of c.args.path.now in
     let m = g.V.Blocks.seen c.walk_to_row.new.v in
     let l = g.V.Volume.kept c.walk_to_row.new.v in
-    let n = g.V.Blocks.seen c.inode_of.new.v in
-    let q = g.V.Volume.kept c.inode_of.new.v in
-    let leaves : LeavesInUse (volume_layout shape x.words) x k n q = leaves_then shape x k m l n q c.walk_to_row.ensures.leaves c.walk_to_row.ensures.words c.inode_of.ensures.leaves in
+    let n = g.V.Blocks.seen c.node_inode.new.v in
+    let q = g.V.Volume.kept c.node_inode.new.v in
+    let leaves : LeavesInUse (volume_layout shape x.words) x k n q = leaves_then shape x k m l n q c.walk_to_row.ensures.leaves c.walk_to_row.ensures.words (leaves_read c.args.shape.now _ _ _ _ _ _ _ _ c.walk_to_row.ensures.can.ready c.node_inode.ensures.looks c.node_inode.ensures.shape c.node_inode.ensures.named (g.met.V.Volume.passes_keeps _ _ c.node_inode.ensures.passes)) in
     let p = err_from_is_err_and c.from_residual-in_err-inode.result c.from_residual-in_err-inode.ensures.1 in
-    λ s reads. ends_look {T = Unit {0}} SaysDone shape x k n q s (rmdir_of s c.args.path.now) (NoneDone s) c.from_residual-in_err-inode.result _ p.0 p.1 p.2 c.requires.can.ready (g.met.V.Volume.settled _ c.requires.sound) leaves reads (refl, refl) (fails_unrefused s (rmdir_of s c.args.path.now) c.inode_of.result _ c.in_err-inode.was c.inode_of.ensures.other)
+    λ s reads. ends_look {T = Unit {0}} SaysDone shape x k n q s (rmdir_of s c.args.path.now) (NoneDone s) c.from_residual-in_err-inode.result _ p.0 p.1 p.2 c.requires.can.ready (g.met.V.Volume.settled _ c.requires.sound) leaves reads (refl, refl) (fails_unrefused s (rmdir_of s c.args.path.now) c.node_inode.result _ c.in_err-inode.was c.node_inode.ensures.other)
 
 pub returns-in_err-inode-clause-goes : goal.returns-in_err-inode-clause-goes
-returns-in_err-inode-clause-goes g c = c.walk_to_row.ensures.goes then c.inode_of.ensures.goes
+returns-in_err-inode-clause-goes g c = c.walk_to_row.ensures.goes then (g.met.V.Volume.passes_keeps _ _ c.node_inode.ensures.passes).goes
 
 pub returns-in_err-inode-clause-ends : goal.returns-in_err-inode-clause-ends
 returns-in_err-inode-clause-ends g c =
     let p = err_from_is_err_and c.from_residual-in_err-inode.result c.from_residual-in_err-inode.ensures.1 in
-    after_well _ _ _ _ _ (well _ _ c.walk_to_row.result _ c.in_ok-row.was c.walk_to_row.ensures.ends) (ends_on _ _ c.inode_of.result c.from_residual-in_err-inode.result _ p.0 c.in_err-inode.was p.1 p.2 c.inode_of.ensures.ends)
+    after_well _ _ _ _ _ (well _ _ c.walk_to_row.result _ c.in_ok-row.was c.walk_to_row.ensures.ends) (ends_on _ _ c.node_inode.result c.from_residual-in_err-inode.result _ p.0 c.in_err-inode.was p.1 p.2 c.node_inode.ensures.ends)
 
 pub returns-then-inode-ne-DIRECTORY-clause-leaves : goal.returns-then-inode-ne-DIRECTORY-clause-leaves
 returns-then-inode-ne-DIRECTORY-clause-leaves g c =
@@ -77,9 +77,9 @@ returns-then-inode-ne-DIRECTORY-clause-leaves g c =
     let names = names_of c.args.path.now in
     let m = g.V.Blocks.seen c.walk_to_row.new.v in
     let l = g.V.Volume.kept c.walk_to_row.new.v in
-    let n = g.V.Blocks.seen c.inode_of.new.v in
-    let q = g.V.Volume.kept c.inode_of.new.v in
-    let leaves : LeavesInUse (volume_layout shape x.words) x k n q = leaves_then shape x k m l n q c.walk_to_row.ensures.leaves c.walk_to_row.ensures.words c.inode_of.ensures.leaves in
+    let n = g.V.Blocks.seen c.node_inode.new.v in
+    let q = g.V.Volume.kept c.node_inode.new.v in
+    let leaves : LeavesInUse (volume_layout shape x.words) x k n q = leaves_then shape x k m l n q c.walk_to_row.ensures.leaves c.walk_to_row.ensures.words (leaves_read c.args.shape.now _ _ _ _ _ _ _ _ c.walk_to_row.ensures.can.ready c.node_inode.ensures.looks c.node_inode.ensures.shape c.node_inode.ensures.named (g.met.V.Volume.passes_keeps _ _ c.node_inode.ensures.passes)) in
     let row = c.in_ok-row.row in
     let i = row.ino.0 in
     let inode = c.in_ok-inode.inode in
@@ -90,10 +90,10 @@ returns-then-inode-ne-DIRECTORY-clause-leaves g c =
     λ s reads. ends_look {T = Unit {0}} SaysDone shape x k n q s (rmdir_of s c.args.path.now) (NoneDone s) _ (Refused 4) (Refused 4) refl refl c.requires.can.ready (g.met.V.Volume.settled _ c.requires.sound) leaves reads (refl, refl) (rmdir_taken s names row (c.is_root.ensures.not c.if-is_root.false) (c.in_ok-row.ensures.value s reads) ∙ rmdir_leaf s row.dir.0 (last_of names) i (leaf_read shape x.words s i reads (λ dir. c.if-inode-ne-DIRECTORY.true (kind ∙ dir))))
 
 pub returns-then-inode-ne-DIRECTORY-clause-goes : goal.returns-then-inode-ne-DIRECTORY-clause-goes
-returns-then-inode-ne-DIRECTORY-clause-goes g c = c.walk_to_row.ensures.goes then c.inode_of.ensures.goes
+returns-then-inode-ne-DIRECTORY-clause-goes g c = c.walk_to_row.ensures.goes then (g.met.V.Volume.passes_keeps _ _ c.node_inode.ensures.passes).goes
 
 pub returns-then-inode-ne-DIRECTORY-clause-ends : goal.returns-then-inode-ne-DIRECTORY-clause-ends
-returns-then-inode-ne-DIRECTORY-clause-ends g c = ends_refused _ _ 4 (after_well _ _ _ _ _ (well _ _ c.walk_to_row.result _ c.in_ok-row.was c.walk_to_row.ensures.ends) (well _ _ c.inode_of.result _ c.in_ok-inode.was c.inode_of.ensures.ends))
+returns-then-inode-ne-DIRECTORY-clause-ends g c = ends_refused _ _ 4 (after_well _ _ _ _ _ (well _ _ c.walk_to_row.result _ c.in_ok-row.was c.walk_to_row.ensures.ends) (well _ _ c.node_inode.result _ c.in_ok-inode.was c.node_inode.ensures.ends))
 
 pub returns-then-inode-ne0-clause-leaves : goal.returns-then-inode-ne0-clause-leaves
 returns-then-inode-ne0-clause-leaves g c =
@@ -103,9 +103,9 @@ returns-then-inode-ne0-clause-leaves g c =
     let names = names_of c.args.path.now in
     let m = g.V.Blocks.seen c.walk_to_row.new.v in
     let l = g.V.Volume.kept c.walk_to_row.new.v in
-    let n = g.V.Blocks.seen c.inode_of.new.v in
-    let q = g.V.Volume.kept c.inode_of.new.v in
-    let leaves : LeavesInUse (volume_layout shape x.words) x k n q = leaves_then shape x k m l n q c.walk_to_row.ensures.leaves c.walk_to_row.ensures.words c.inode_of.ensures.leaves in
+    let n = g.V.Blocks.seen c.node_inode.new.v in
+    let q = g.V.Volume.kept c.node_inode.new.v in
+    let leaves : LeavesInUse (volume_layout shape x.words) x k n q = leaves_then shape x k m l n q c.walk_to_row.ensures.leaves c.walk_to_row.ensures.words (leaves_read c.args.shape.now _ _ _ _ _ _ _ _ c.walk_to_row.ensures.can.ready c.node_inode.ensures.looks c.node_inode.ensures.shape c.node_inode.ensures.named (g.met.V.Volume.passes_keeps _ _ c.node_inode.ensures.passes)) in
     let row = c.in_ok-row.row in
     let i = row.ino.0 in
     let inode = c.in_ok-inode.inode in
@@ -116,10 +116,10 @@ returns-then-inode-ne0-clause-leaves g c =
     λ s reads. ends_look {T = Unit {0}} SaysDone shape x k n q s (rmdir_of s c.args.path.now) (NoneDone s) _ (Refused 6) (Refused 6) refl refl c.requires.can.ready (g.met.V.Volume.settled _ c.requires.sound) leaves reads (refl, refl) (rmdir_taken s names row (c.is_root.ensures.not c.if-is_root.false) (c.in_ok-row.ensures.value s reads) ∙ rmdir_full s row.dir.0 (last_of names) i (dir_read shape x.words s i reads (sym kind ∙ c.if-inode-ne-DIRECTORY.false)) (dir_full shape x.words s i reads (sym kind ∙ c.if-inode-ne-DIRECTORY.false) (λ none. c.if-inode-ne0.true (size ∙ none))))
 
 pub returns-then-inode-ne0-clause-goes : goal.returns-then-inode-ne0-clause-goes
-returns-then-inode-ne0-clause-goes g c = c.walk_to_row.ensures.goes then c.inode_of.ensures.goes
+returns-then-inode-ne0-clause-goes g c = c.walk_to_row.ensures.goes then (g.met.V.Volume.passes_keeps _ _ c.node_inode.ensures.passes).goes
 
 pub returns-then-inode-ne0-clause-ends : goal.returns-then-inode-ne0-clause-ends
-returns-then-inode-ne0-clause-ends g c = ends_refused _ _ 6 (after_well _ _ _ _ _ (well _ _ c.walk_to_row.result _ c.in_ok-row.was c.walk_to_row.ensures.ends) (well _ _ c.inode_of.result _ c.in_ok-inode.was c.inode_of.ensures.ends))
+returns-then-inode-ne0-clause-ends g c = ends_refused _ _ 6 (after_well _ _ _ _ _ (well _ _ c.walk_to_row.result _ c.in_ok-row.was c.walk_to_row.ensures.ends) (well _ _ c.node_inode.result _ c.in_ok-inode.was c.node_inode.ensures.ends))
 
 pub take_row-requires-clause-can : goal.take_row-requires-clause-can
 take_row-requires-clause-can g c =
@@ -129,20 +129,20 @@ take_row-requires-clause-can g c =
     let names = names_of c.args.path.now in
     let m = g.V.Blocks.seen c.walk_to_row.new.v in
     let l = g.V.Volume.kept c.walk_to_row.new.v in
-    let n = g.V.Blocks.seen c.inode_of.new.v in
-    let q = g.V.Volume.kept c.inode_of.new.v in
-    let leaves : LeavesInUse (volume_layout shape x.words) x k n q = leaves_then shape x k m l n q c.walk_to_row.ensures.leaves c.walk_to_row.ensures.words c.inode_of.ensures.leaves in
-    can_again shape x k n q c.requires.can leaves (c.inode_of.ensures.words ∙ c.walk_to_row.ensures.words)
+    let n = g.V.Blocks.seen c.node_inode.new.v in
+    let q = g.V.Volume.kept c.node_inode.new.v in
+    let leaves : LeavesInUse (volume_layout shape x.words) x k n q = leaves_then shape x k m l n q c.walk_to_row.ensures.leaves c.walk_to_row.ensures.words (leaves_read c.args.shape.now _ _ _ _ _ _ _ _ c.walk_to_row.ensures.can.ready c.node_inode.ensures.looks c.node_inode.ensures.shape c.node_inode.ensures.named (g.met.V.Volume.passes_keeps _ _ c.node_inode.ensures.passes)) in
+    can_again shape x k n q c.requires.can leaves (c.node_inode.ensures.looks.words ∙ c.walk_to_row.ensures.words)
 
 pub take_row-requires-clause-row : goal.take_row-requires-clause-row
 take_row-requires-clause-row g c =
     let names = names_of c.args.path.now in
     let row = c.in_ok-row.row in
-    subst (λ n. IsRow c.args.shape.now (g.V.Blocks.seen c.inode_of.new.v).words n row) c.cut_last.ensures.last
-    (subst (λ f. IsRow c.args.shape.now f (last_of names) row) (sym (c.inode_of.ensures.words ∙ c.walk_to_row.ensures.words)) c.in_ok-row.ensures.row)
+    subst (λ n. IsRow c.args.shape.now (g.V.Blocks.seen c.node_inode.new.v).words n row) c.cut_last.ensures.last
+    (subst (λ f. IsRow c.args.shape.now f (last_of names) row) (sym (c.node_inode.ensures.looks.words ∙ c.walk_to_row.ensures.words)) c.in_ok-row.ensures.row)
 
 pub take_row-requires-clause-used : goal.take_row-requires-clause-used
-take_row-requires-clause-used g c = subst (λ f. 0 < (held_of c.args.shape.now f c.in_ok-row.row.ino.0).kind) (sym (c.inode_of.ensures.words ∙ c.walk_to_row.ensures.words)) c.in_ok-row.ensures.used
+take_row-requires-clause-used g c = subst (λ f. 0 < (held_of c.args.shape.now f c.in_ok-row.row.ino.0).kind) (sym (c.node_inode.ensures.looks.words ∙ c.walk_to_row.ensures.words)) c.in_ok-row.ensures.used
 
 pub take_row-requires-clause-bare : goal.take_row-requires-clause-bare
 take_row-requires-clause-bare g c =
@@ -159,7 +159,7 @@ take_row-requires-clause-bare g c =
     let is : IsInode x.words i inode = subst (λ f. IsInode f i inode) c.walk_to_row.ensures.words c.in_ok-inode.ensures.value in
     let kind : inode.kind ≡ (held_of shape x.words i).kind = inode_kind_held shape x.words i inode used is in
     let size : inode.size ≡ (held_of shape x.words i).size = inode_size_held shape x.words i inode used is in
-    subst (λ f. (held_of shape f i).kind ≡ 1 → (held_of shape f i).size ≡ 0) (sym (c.inode_of.ensures.words ∙ c.walk_to_row.ensures.words)) (λ dir. sym size ∙ c.if-inode-ne0.false)
+    subst (λ f. (held_of shape f i).kind ≡ 1 → (held_of shape f i).size ≡ 0) (sym (c.node_inode.ensures.looks.words ∙ c.walk_to_row.ensures.words)) (λ dir. sym size ∙ c.if-inode-ne0.false)
 
 pub returns-clause-leaves : goal.returns-clause-leaves
 returns-clause-leaves g c =
@@ -169,9 +169,9 @@ returns-clause-leaves g c =
     let names = names_of c.args.path.now in
     let m = g.V.Blocks.seen c.walk_to_row.new.v in
     let l = g.V.Volume.kept c.walk_to_row.new.v in
-    let n = g.V.Blocks.seen c.inode_of.new.v in
-    let q = g.V.Volume.kept c.inode_of.new.v in
-    let leaves : LeavesInUse (volume_layout shape x.words) x k n q = leaves_then shape x k m l n q c.walk_to_row.ensures.leaves c.walk_to_row.ensures.words c.inode_of.ensures.leaves in
+    let n = g.V.Blocks.seen c.node_inode.new.v in
+    let q = g.V.Volume.kept c.node_inode.new.v in
+    let leaves : LeavesInUse (volume_layout shape x.words) x k n q = leaves_then shape x k m l n q c.walk_to_row.ensures.leaves c.walk_to_row.ensures.words (leaves_read c.args.shape.now _ _ _ _ _ _ _ _ c.walk_to_row.ensures.can.ready c.node_inode.ensures.looks c.node_inode.ensures.shape c.node_inode.ensures.named (g.met.V.Volume.passes_keeps _ _ c.node_inode.ensures.passes)) in
     let row = c.in_ok-row.row in
     let i = row.ino.0 in
     let inode = c.in_ok-inode.inode in
@@ -181,39 +181,39 @@ returns-clause-leaves g c =
     let size : inode.size ≡ (held_of shape x.words i).size = inode_size_held shape x.words i inode used is in
     let y = g.V.Blocks.seen c.take_row.new.v in
     let j = g.V.Volume.kept c.take_row.new.v in
-    λ s reads. ends_after SaysDone shape x k n q y j s (rmdir_of s c.args.path.now) (NoneDone s) c.take_row.result leaves (c.inode_of.ensures.words ∙ c.walk_to_row.ensures.words)
+    λ s reads. ends_after SaysDone shape x k n q y j s (rmdir_of s c.args.path.now) (NoneDone s) c.take_row.result leaves (c.node_inode.ensures.looks.words ∙ c.walk_to_row.ensures.words)
     (ends_as SaysDone shape n q y j s (rmdir_of s c.args.path.now) (answered (without s row.dir.0 (last_of names) i) Done) (NoneDone s) c.take_row.result (rmdir_taken s names row (c.is_root.ensures.not c.if-is_root.false) (c.in_ok-row.ensures.value s reads) ∙ rmdir_bare s row.dir.0 (last_of names) i (dir_read shape x.words s i reads (sym kind ∙ c.if-inode-ne-DIRECTORY.false)) (dir_bare shape x.words s i reads (sym kind ∙ c.if-inode-ne-DIRECTORY.false) (sym size ∙ c.if-inode-ne0.false)))
-    (subst (λ a. FileEnds SaysDone shape n q y j s (answered (without s row.dir.0 a i) Done) (NoneDone s) c.take_row.result) (sym c.cut_last.ensures.last) (c.take_row.ensures.leaves s (subst (λ f. ReadsAs shape f s) (sym (c.inode_of.ensures.words ∙ c.walk_to_row.ensures.words)) reads))))
+    (subst (λ a. FileEnds SaysDone shape n q y j s (answered (without s row.dir.0 a i) Done) (NoneDone s) c.take_row.result) (sym c.cut_last.ensures.last) (c.take_row.ensures.leaves s (subst (λ f. ReadsAs shape f s) (sym (c.node_inode.ensures.looks.words ∙ c.walk_to_row.ensures.words)) reads))))
 
 pub returns-clause-forgets : goal.returns-clause-forgets
 returns-clause-forgets g c =
     let shape = c.args.shape.now in
     let z = g.V.Blocks.seen c.take_row.new.v in
-    subst (λ f. OnOk c.take_row.result (Forgets (volume_layout shape f) (volume_layout shape z.words) z)) (c.inode_of.ensures.words ∙ c.walk_to_row.ensures.words) c.take_row.ensures.forgets
+    subst (λ f. OnOk c.take_row.result (Forgets (volume_layout shape f) (volume_layout shape z.words) z)) (c.node_inode.ensures.looks.words ∙ c.walk_to_row.ensures.words) c.take_row.ensures.forgets
 
 pub returns-clause-goes : goal.returns-clause-goes
-returns-clause-goes g c = c.walk_to_row.ensures.goes then c.inode_of.ensures.goes then c.take_row.ensures.goes
+returns-clause-goes g c = c.walk_to_row.ensures.goes then (g.met.V.Volume.passes_keeps _ _ c.node_inode.ensures.passes).goes then c.take_row.ensures.goes
 
 pub returns-clause-ends : goal.returns-clause-ends
-returns-clause-ends g c = after_well _ _ _ _ _ (after_well _ _ _ _ _ (well _ _ c.walk_to_row.result _ c.in_ok-row.was c.walk_to_row.ensures.ends) (well _ _ c.inode_of.result _ c.in_ok-inode.was c.inode_of.ensures.ends)) c.take_row.ensures.ends
+returns-clause-ends g c = after_well _ _ _ _ _ (after_well _ _ _ _ _ (well _ _ c.walk_to_row.result _ c.in_ok-row.was c.walk_to_row.ensures.ends) (well _ _ c.node_inode.result _ c.in_ok-inode.was c.node_inode.ensures.ends)) c.take_row.ensures.ends
 
 pub returns-in_err-row-clause-in_step : goal.returns-in_err-row-clause-in_step
 returns-in_err-row-clause-in_step g c = λ on. same_step c.args.shape.now _ _ _ (c.walk_to_row.ensures.words) c.walk_to_row.ensures.in_step
 
 pub returns-in_err-inode-clause-in_step : goal.returns-in_err-inode-clause-in_step
-returns-in_err-inode-clause-in_step g c = λ on. same_step c.args.shape.now _ _ _ (c.inode_of.ensures.words ∙ c.walk_to_row.ensures.words) c.walk_to_row.ensures.in_step
+returns-in_err-inode-clause-in_step g c = λ on. same_step c.args.shape.now _ _ _ (c.node_inode.ensures.looks.words ∙ c.walk_to_row.ensures.words) c.walk_to_row.ensures.in_step
 
 pub returns-then-inode-ne-DIRECTORY-clause-in_step : goal.returns-then-inode-ne-DIRECTORY-clause-in_step
-returns-then-inode-ne-DIRECTORY-clause-in_step g c = λ on. same_step c.args.shape.now _ _ _ (c.inode_of.ensures.words ∙ c.walk_to_row.ensures.words) c.walk_to_row.ensures.in_step
+returns-then-inode-ne-DIRECTORY-clause-in_step g c = λ on. same_step c.args.shape.now _ _ _ (c.node_inode.ensures.looks.words ∙ c.walk_to_row.ensures.words) c.walk_to_row.ensures.in_step
 
 pub returns-then-inode-ne0-clause-in_step : goal.returns-then-inode-ne0-clause-in_step
-returns-then-inode-ne0-clause-in_step g c = λ on. same_step c.args.shape.now _ _ _ (c.inode_of.ensures.words ∙ c.walk_to_row.ensures.words) c.walk_to_row.ensures.in_step
+returns-then-inode-ne0-clause-in_step g c = λ on. same_step c.args.shape.now _ _ _ (c.node_inode.ensures.looks.words ∙ c.walk_to_row.ensures.words) c.walk_to_row.ensures.in_step
 
 pub cut_last-requires-clause-some : goal.cut_last-requires-clause-some
 cut_last-requires-clause-some g c = c.is_root.ensures.not c.if-is_root.false
 
 pub take_row-requires-clause-in_step : goal.take_row-requires-clause-in_step
-take_row-requires-clause-in_step g c = same_step c.args.shape.now _ _ _ (c.inode_of.ensures.words ∙ c.walk_to_row.ensures.words) c.walk_to_row.ensures.in_step
+take_row-requires-clause-in_step g c = same_step c.args.shape.now _ _ _ (c.node_inode.ensures.looks.words ∙ c.walk_to_row.ensures.words) c.walk_to_row.ensures.in_step
 
 pub returns-then-is_root-clause-forgets : goal.returns-then-is_root-clause-forgets
 returns-then-is_root-clause-forgets g c = tt
@@ -237,19 +237,19 @@ pub returns-in_err-row-clause-goes : goal.returns-in_err-row-clause-goes
 returns-in_err-row-clause-goes g c = c.walk_to_row.ensures.goes
 
 pub returns-in_err-inode-clause-sound : goal.returns-in_err-inode-clause-sound
-returns-in_err-inode-clause-sound g c = c.inode_of.ensures.sound
+returns-in_err-inode-clause-sound g c = c.node_inode.ensures.sound
 
 pub returns-in_err-inode-clause-forgets : goal.returns-in_err-inode-clause-forgets
 returns-in_err-inode-clause-forgets g c = let p = err_from_is_err_and c.from_residual-in_err-inode.result c.from_residual-in_err-inode.ensures.1 in never_ok _ _ p.0 p.1
 
 pub returns-then-inode-ne-DIRECTORY-clause-sound : goal.returns-then-inode-ne-DIRECTORY-clause-sound
-returns-then-inode-ne-DIRECTORY-clause-sound g c = c.inode_of.ensures.sound
+returns-then-inode-ne-DIRECTORY-clause-sound g c = c.node_inode.ensures.sound
 
 pub returns-then-inode-ne-DIRECTORY-clause-forgets : goal.returns-then-inode-ne-DIRECTORY-clause-forgets
 returns-then-inode-ne-DIRECTORY-clause-forgets g c = tt
 
 pub returns-then-inode-ne0-clause-sound : goal.returns-then-inode-ne0-clause-sound
-returns-then-inode-ne0-clause-sound g c = c.inode_of.ensures.sound
+returns-then-inode-ne0-clause-sound g c = c.node_inode.ensures.sound
 
 pub returns-then-inode-ne0-clause-forgets : goal.returns-then-inode-ne0-clause-forgets
 returns-then-inode-ne0-clause-forgets g c = tt
@@ -261,7 +261,7 @@ pub returns-clause-sound : goal.returns-clause-sound
 returns-clause-sound g c = c.take_row.ensures.sound
 
 pub take_row-requires-clause-sound : goal.take_row-requires-clause-sound
-take_row-requires-clause-sound g c = c.inode_of.ensures.sound
+take_row-requires-clause-sound g c = c.node_inode.ensures.sound
 
 pub walk_to_row-requires-clause-sound : goal.walk_to_row-requires-clause-sound
 walk_to_row-requires-clause-sound g c = c.requires.sound
@@ -275,8 +275,14 @@ walk_to_row-requires-clause-in_step g c = c.requires.in_step
 pub walk_to_row-requires-clause-path : goal.walk_to_row-requires-clause-path
 walk_to_row-requires-clause-path g c = c.requires.path
 
-pub inode_of-requires-clause-sound : goal.inode_of-requires-clause-sound
-inode_of-requires-clause-sound g c = c.walk_to_row.ensures.sound
+pub node_inode-requires-clause-sound : goal.node_inode-requires-clause-sound
+node_inode-requires-clause-sound g c = c.walk_to_row.ensures.sound
 
-pub inode_of-requires-clause-can : goal.inode_of-requires-clause-can
-inode_of-requires-clause-can g c = c.walk_to_row.ensures.can
+pub node_inode-requires-clause-shape : goal.node_inode-requires-clause-shape
+node_inode-requires-clause-shape g c = c.walk_to_row.ensures.can.ready.order.has_shape
+
+pub node_inode-requires-clause-named : goal.node_inode-requires-clause-named
+node_inode-requires-clause-named g c = c.walk_to_row.ensures.can.ready.order.named
+
+pub node_inode-requires-clause-reads : goal.node_inode-requires-clause-reads
+node_inode-requires-clause-reads g c = (c.walk_to_row.ensures.can.state, c.walk_to_row.ensures.can.reads)

@@ -1,0 +1,66 @@
+use Rattle.file_tree.proofs.Lookups.{inode_looked}
+use Rattle.region_view.proofs.UsedInodes.{used_ino}
+use Rattle.file_tree.proofs.UpdateEnds.{never_some, unrefused_vol}
+use Rattle.file_tree.proofs.Common.{err_from_is_err_and}
+use Rattle.file_tree.proofs.CallEnds.{ends_ok, ends_vol, well_vol}
+use Rattle.file_tree.proofs.walking.node_inode.Goals as goal
+
+pub returns-in_err-inode-clause-value : goal.returns-in_err-inode-clause-value
+returns-in_err-inode-clause-value g c = let p = err_from_is_err_and c.from_residual.result c.from_residual.ensures.1 in never_some _ _ p.0 p.1
+
+pub returns-in_err-inode-clause-other : goal.returns-in_err-inode-clause-other
+returns-in_err-inode-clause-other g c = let p = err_from_is_err_and c.from_residual.result c.from_residual.ensures.1 in unrefused_vol _ _ p.0 p.1 p.2
+
+pub returns-in_err-inode-clause-ends : goal.returns-in_err-inode-clause-ends
+returns-in_err-inode-clause-ends g c = let p = err_from_is_err_and c.from_residual.result c.from_residual.ensures.1 in ends_vol _ _ c.read_inode.result c.from_residual.result _ p.0 c.in_err-inode.was p.1 p.2 c.read_inode.ensures.ends
+
+pub returns-in_err-inode-clause-looks : goal.returns-in_err-inode-clause-looks
+returns-in_err-inode-clause-looks g c = c.read_inode.ensures.looks
+
+pub returns-in_err-inode-clause-shape : goal.returns-in_err-inode-clause-shape
+returns-in_err-inode-clause-shape g c = (inode_looked c.args.shape.now _ _ c.args.i.0 _ c.requires.shape c.requires.named c.requires.reads.1 c.requires.used c.read_inode.ensures.looks c.read_inode.ensures.caches).0
+
+pub returns-in_err-inode-clause-named : goal.returns-in_err-inode-clause-named
+returns-in_err-inode-clause-named g c = (inode_looked c.args.shape.now _ _ c.args.i.0 _ c.requires.shape c.requires.named c.requires.reads.1 c.requires.used c.read_inode.ensures.looks c.read_inode.ensures.caches).1
+
+pub returns-in_err-inode-clause-passes : goal.returns-in_err-inode-clause-passes
+returns-in_err-inode-clause-passes g c = c.read_inode.ensures.passes
+
+pub returns-in_err-inode-clause-sound : goal.returns-in_err-inode-clause-sound
+returns-in_err-inode-clause-sound g c = c.read_inode.ensures.sound
+
+pub returns-clause-value : goal.returns-clause-value
+returns-clause-value g c = c.in_ok-inode.ensures.value
+
+pub returns-clause-other : goal.returns-clause-other
+returns-clause-other g c = tt
+
+pub returns-clause-ends : goal.returns-clause-ends
+returns-clause-ends g c = ends_ok _ _ _ (well_vol _ _ c.read_inode.result _ c.in_ok-inode.was c.read_inode.ensures.ends)
+
+pub returns-clause-looks : goal.returns-clause-looks
+returns-clause-looks g c = c.read_inode.ensures.looks
+
+pub returns-clause-shape : goal.returns-clause-shape
+returns-clause-shape g c = (inode_looked c.args.shape.now _ _ c.args.i.0 _ c.requires.shape c.requires.named c.requires.reads.1 c.requires.used c.read_inode.ensures.looks c.read_inode.ensures.caches).0
+
+pub returns-clause-named : goal.returns-clause-named
+returns-clause-named g c = (inode_looked c.args.shape.now _ _ c.args.i.0 _ c.requires.shape c.requires.named c.requires.reads.1 c.requires.used c.read_inode.ensures.looks c.read_inode.ensures.caches).1
+
+pub returns-clause-passes : goal.returns-clause-passes
+returns-clause-passes g c = c.read_inode.ensures.passes
+
+pub returns-clause-sound : goal.returns-clause-sound
+returns-clause-sound g c = c.read_inode.ensures.sound
+
+pub read_inode-requires-clause-sound : goal.read_inode-requires-clause-sound
+read_inode-requires-clause-sound g c = c.requires.sound
+
+pub read_inode-requires-clause-shape : goal.read_inode-requires-clause-shape
+read_inode-requires-clause-shape g c = c.requires.shape
+
+pub read_inode-requires-clause-ino : goal.read_inode-requires-clause-ino
+read_inode-requires-clause-ino g c = used_ino _ (g.V.Blocks.seen c.args.v.now).words _ c.requires.used
+
+pub read_inode-requires-clause-kind : goal.read_inode-requires-clause-kind
+read_inode-requires-clause-kind g c = c.requires.reads.1.mapped.laid.kinds.each _ (used_ino _ (g.V.Blocks.seen c.args.v.now).words _ c.requires.used)
