@@ -1,13 +1,16 @@
 -- A command of `clap` that gets one argument after the other, and what a caller knows of its answer.
-use Rattle.std.proofs.Common.{◌≡◌, ◌∙◌, ◌<◌, ◌+◌, ℕ, true, sym, ap, subst, arith, List, [], ◌∷◌, map, length, drop, get_or, Ok, Err, inl, inr, append_assoc}
+use Rattle.std.proofs.Common.{◌≡◌, ◌∙◌, ◌<◌, ◌+◌, ℕ, true, false, sym, ap, subst, arith, List, [], ◌∷◌, map, length, drop, get_or, Result, Ok, Err, IfOk, inl, inr, append_assoc}
 use Rattle.std.specs.Borrow.{Bor}
 use Rattle.std.proofs.lemmas.List.{drop_more}
+use Rattle.clap.specs.Built.{AddsArg}
 use Rattle.clap.specs.Matches.{found_of}
 use Rattle.clap.specs.Values.{kind_of}
-use Rattle.clap.specs.Walk.{Rule, Text, rows_of, texts}
-use Rattle.clap.specs.Simple.{App, HasMatchesOf, is_simple, matches_of, with_rule}
+use Rattle.clap.specs.Walk.{Rule, Text, rows_of, rule_of, texts}
+use Rattle.clap.specs.Simple.{App, HasMatchesOf, app_of, is_simple, matches_of, with_rule}
 use Rattle.clap.specs.Kinds.{FailsBy, HasKind, Kinds}
 use Rattle.clap.specs.Faults.{fault_of, is_simple_and_free}
+use Rattle.clap.specs.declared.builder.arg.Arg.{Arg}
+use Rattle.clap.specs.declared.builder.command.Command.{Command}
 use Rattle.clap.specs.declared.error.Error.{Error}
 use Rattle.clap.specs.declared.parser.matches.ArgMatches.{ArgMatches}
 use Rattle.rio_words.specs.Clap.{IsMatched, Sorts, fail_of, found_in}
@@ -21,6 +24,12 @@ use Rattle.rio_words.proofs.ClapRuns.{and_both}
 pub one_more : (a b : App) (r : Rule) (rest : List Rule) → b ≡ with_rule a r → with_rules b rest ≡ with_rules a (r ∷ rest)
 one_more a b r rest e =
     ap (λ (x : App). with_rules x rest) e ∙ ap (λ (rs : List Rule). record a { top = record a.top { rules = rs } }) (append_assoc a.top.rules (r ∷ []) rest)
+
+-- a command that may have got an argument
+pub arg_added : {E : Type 0} (old : Command) (a : Arg) (r : Result Command E) (rule : Rule) → rule_of a ≡ rule → a.global ≡ false → IfOk r (λ c. AddsArg old a c)
+    → IfOk r (λ c. app_of c ≡ with_rule (app_of old) rule)
+arg_added old a (Ok c) rule is local added = added.shape local ∙ ap (with_rule (app_of old)) is
+arg_added old a (Err e) rule is local added = tt
 
 -- the arguments that are left
 pub left_at : (given : Text → Rule) (names : List (Bor Text)) (i : ℕ) (d : Bor Text) → i < length names

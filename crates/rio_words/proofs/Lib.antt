@@ -6,6 +6,7 @@ mod ClapPlans
 mod ClapRows
 mod ClapRuns
 mod ClapSteps
+mod FoundCommands
 mod OneReading
 mod Ranges
 mod Readings

@@ -1,10 +1,12 @@
 -- Words are a form of one command at most.
-use Rattle.std.proofs.Common.{◌≡◌, ◌∙◌, ℕ, sym, List, [], drop, Option, Result, Ok, Err, codes}
+use Rattle.std.proofs.Common.{◌≡◌, ◌∙◌, ℕ, sym, subst, List, [], drop, Option, Result, Ok, Err, codes}
+use Rattle.std.specs.Prelude.{String}
+use Rattle.std.specs.Global.{Global}
 use Rattle.rio_words.specs.Clap.{Sorts}
 use Rattle.rio_words.specs.Files.{IsFile}
 use Rattle.rio_words.specs.Plans.{ArePlanned}
 use Rattle.rio_words.specs.Tokens.{Text}
-use Rattle.rio_words.specs.Words.{IsOnlyReading, IsReading, Reads, drill_keys, format_keys, serve_keys}
+use Rattle.rio_words.specs.Words.{IsOnlyReading, IsReading, Reads, drill_keys, format_keys, serve_keys, texts_of}
 use Rattle.rio_words.specs.declared.command.RioCommand.{RioCommand}
 use Rattle.rio_words.specs.declared.command.RioCommand.TheVariants.{Format, Serve, Registry, Check, Drill}
 use Rattle.rio_words.specs.declared.fail.WordsFail.{WordsFail}
@@ -98,6 +100,13 @@ one_reading words (Drill seed boots requests) r other r2 =
     (λ seed2 boots2 requests2 same. one_drill words seed boots requests r seed2 boots2 requests2 same) other r2
 
 -- so a reading is the only one
-pub only_reading : (words : List Text) (r : Result RioCommand WordsFail) → IsReading words r → IsOnlyReading words r
+only_reading : (words : List Text) (r : Result RioCommand WordsFail) → IsReading words r → IsOnlyReading words r
 only_reading words (Ok c) reads = one_reading words c reads
 only_reading words (Err e) none = tt
+
+-- the same of words that were lent
+pub read_as : (lent words : List (String Global)) → lent ≡ words → (r : Result RioCommand WordsFail) → IsReading (texts_of lent) r → IsReading (texts_of words) r
+read_as lent words same r reads = subst (λ (ws : List (String Global)). IsReading (texts_of ws) r) same reads
+
+pub only_read_as : (lent words : List (String Global)) → lent ≡ words → (r : Result RioCommand WordsFail) → IsReading (texts_of lent) r → IsOnlyReading (texts_of words) r
+only_read_as lent words same r reads = only_reading (texts_of words) r (read_as lent words same r reads)

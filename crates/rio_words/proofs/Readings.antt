@@ -374,16 +374,6 @@ format_alone words found image disk frames blocks inodes scratch s r =
       sizes_moved (given_by r.0) found frames blocks inodes scratch finds.of_key r.2,
     )
 
-pub format_without_files : (words : List Text) (found : Text → Option Text) → Begins (codes "format") words → Sorts format_keys pair_ids (drop 1 words) found
-    → ((image disk : Text) → AreFiles found image disk → ⊥) → (c : RioCommand) → Reads words c → ⊥
-format_without_files words found begins s none =
-    only_format words begins (λ c. ⊥) (λ image disk frames blocks inodes scratch r. none image disk (format_alone words found image disk frames blocks inodes scratch s r).0)
-
-pub format_without_sizes : (words : List Text) (found : Text → Option Text) → Begins (codes "format") words → Sorts format_keys pair_ids (drop 1 words) found
-    → ((frames blocks inodes scratch : ℕ) → HasSizes found frames blocks inodes scratch → ⊥) → (c : RioCommand) → Reads words c → ⊥
-format_without_sizes words found begins s none =
-    only_format words begins (λ c. ⊥) (λ image disk frames blocks inodes scratch r. none frames blocks inodes scratch (format_alone words found image disk frames blocks inodes scratch s r).1)
-
 abbrev pub GivesNone : List Text → List Text → List Text → Type 0
 GivesNone keys ids words = (options : Options) (names : List Text) → Gives keys ids (drop 1 words) options names → AreNoFlags (map (λ o. o.1) options) → AreNoFlags names → ⊥
 
@@ -435,14 +425,6 @@ pair_alone command words found options image disk s line =
     let given = pair_given command words options image disk line in
     line_pair command [] words options image disk found line (s.alone given.options given.names given.gives given.values given.no_flags)
 
-pub serve_without_files : (words : List Text) (found : Text → Option Text) → Begins (codes "serve") words → Sorts serve_keys pair_ids (drop 1 words) found
-    → ((image disk : Text) → AreFiles found image disk → ⊥) → (c : RioCommand) → Reads words c → ⊥
-serve_without_files words found begins s none = only_serve words begins (λ c. ⊥) (λ image disk stop r. none image disk (serve_alone words found image disk stop s r).0)
-
-pub serve_without_stop : (words : List Text) (found : Text → Option Text) → Begins (codes "serve") words → Sorts serve_keys pair_ids (drop 1 words) found
-    → ((stop : Option ℕ) → MayHaveNumber found (codes "stop") stop → ⊥) → (c : RioCommand) → Reads words c → ⊥
-serve_without_stop words found begins s none = only_serve words begins (λ c. ⊥) (λ image disk stop r. none stop (serve_alone words found image disk stop s r).1)
-
 pub not_serve : (words : List Text) → Begins (codes "serve") words → GivesNone serve_keys pair_ids words → (c : RioCommand) → Reads words c → ⊥
 not_serve words begins none = only_serve words begins (λ c. ⊥) (λ image disk stop r.
     let given = serve_given words image disk stop r in
@@ -451,10 +433,6 @@ not_serve words begins none = only_serve words begins (λ c. ⊥) (λ image disk
 pub check_read : (words : List Text) (found : Text → Option Text) (image disk : Text) → Begins (codes "check") words → Sorts [] pair_ids (drop 1 words) found → AreFiles found image disk
     → Reads words (Check image disk)
 check_read words found image disk begins s files = (s.options, pair_line (codes "check") [] words found image disk begins s files)
-
-pub check_without_files : (words : List Text) (found : Text → Option Text) → Begins (codes "check") words → Sorts [] pair_ids (drop 1 words) found
-    → ((image disk : Text) → AreFiles found image disk → ⊥) → (c : RioCommand) → Reads words c → ⊥
-check_without_files words found begins s none = only_check words begins (λ c. ⊥) (λ image disk r. none image disk (pair_alone (codes "check") words found r.0 image disk s r.1))
 
 pub not_check : (words : List Text) → Begins (codes "check") words → GivesNone [] pair_ids words → (c : RioCommand) → Reads words c → ⊥
 not_check words begins none = only_check words begins (λ c. ⊥) (λ image disk r.
@@ -479,10 +457,6 @@ unfolding registry_given
 registry_alone words found image s r =
     let given = registry_given words image r in
     line_image (codes "registry") words r.0 image found r.1 (s.alone given.options given.names given.gives given.values given.no_flags)
-
-pub registry_without_file : (words : List Text) (found : Text → Option Text) → Begins (codes "registry") words → Sorts [] image_ids (drop 1 words) found
-    → ((image : Text) → IsFile found (codes "image") image → ⊥) → (c : RioCommand) → Reads words c → ⊥
-registry_without_file words found begins s none = only_registry words begins (λ c. ⊥) (λ image r. none image (registry_alone words found image s r))
 
 pub not_registry : (words : List Text) → Begins (codes "registry") words → GivesNone [] image_ids words → (c : RioCommand) → Reads words c → ⊥
 not_registry words begins none = only_registry words begins (λ c. ⊥) (λ image r.
@@ -513,11 +487,6 @@ drill_alone words found seed boots requests s r =
     let given = drill_given words seed boots requests r in
     let finds = s.alone given.options given.names given.gives given.values given.no_flags in
     drill_moved (given_by r.0) found seed boots requests finds.of_key r.2
-
-pub drill_without_numbers : (words : List Text) (found : Text → Option Text) → Begins (codes "drill") words → Sorts drill_keys [] (drop 1 words) found
-    → ((seed boots requests : ℕ) → HasDrill found seed boots requests → ⊥) → (c : RioCommand) → Reads words c → ⊥
-drill_without_numbers words found begins s none =
-    only_drill words begins (λ c. ⊥) (λ seed boots requests r. none seed boots requests (drill_alone words found seed boots requests s r))
 
 pub not_drill : (words : List Text) → Begins (codes "drill") words → GivesNone drill_keys [] words → (c : RioCommand) → Reads words c → ⊥
 not_drill words begins none = only_drill words begins (λ c. ⊥) (λ seed boots requests r.

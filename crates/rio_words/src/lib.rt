@@ -7,6 +7,7 @@ mod fail;
 mod file_name;
 mod files;
 mod format_words;
+mod matched;
 mod matching;
 mod numbers;
 mod reading;

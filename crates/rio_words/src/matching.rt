@@ -1,8 +1,9 @@
 //! Words matched by `clap`, as texts.
 
-ghost use Rattle.std.specs.Prelude.{◌≡◌, ◌++◌, IfOk, map, drop};
+ghost use Rattle.std.specs.Prelude.{◌≡◌, ◌++◌, false, [], IfOk, map, drop};
 ghost use Rattle.clap.specs.Words.{app_of};
-ghost use Rattle.clap.specs.Walk.{texts};
+ghost use Rattle.clap.specs.Simple.{with_rule};
+ghost use Rattle.clap.specs.Walk.{rule_of, texts};
 ghost use Rattle.rio_words.specs.Clap.{IsMatched};
 ghost use Rattle.rio_words.specs.Plans.{ArePlanned, file_given, option_given, plan_app, with_rules};
 ghost use Rattle.rio_words.specs.Words.{texts_of};
@@ -37,11 +38,17 @@ fn command_of<'a>(
 ) -> Result<Command<'a>, AllocError>
     ensures { IfOk result (λ c. app_of c ≡ plan_app (texts options.now) (texts files.now)) }
 {
-    let command = Command::new(alloc, "rio")
-        .disable_help_flag(true)
-        .disable_version_flag(true);
-    let command = with_options(alloc, command, options)?;
+    let command = with_options(alloc, bare_command(alloc), options)?;
     with_files(alloc, command, files)
+}
+
+/// The command line without options and files.
+fn bare_command<'a>(alloc: Global) -> Command<'a>
+    ensures { app_of result ≡ plan_app [] [] }
+{
+    Command::new(alloc, "rio")
+        .disable_help_flag(true)
+        .disable_version_flag(true)
 }
 
 /// Adds an option `--name VALUE` for each name.
@@ -53,10 +60,28 @@ fn with_options<'a>(
     ensures { IfOk result (λ c. app_of c ≡ with_rules (app_of command.entry) (map option_given (texts names.now))) }
 {
     for name in names {
-        let option = Arg::new(alloc, name).long(name).action(ArgAction::Set);
-        command = command.arg(option)?;
+        command = with_option(alloc, command, name)?;
     }
     Ok(command)
+}
+
+/// Adds one option.
+fn with_option<'a>(
+    alloc: Global,
+    command: Command<'a>,
+    name: &'a str,
+) -> Result<Command<'a>, AllocError>
+    ensures { IfOk result (λ c. app_of c ≡ with_rule (app_of command.entry) (option_given name.entry.now)) }
+{
+    command.arg(option_of(alloc, name))
+}
+
+/// An option `--name VALUE`.
+fn option_of<'a>(alloc: Global, name: &'a str) -> Arg<'a>
+    ensures rule { rule_of result ≡ option_given name.entry.now }
+    ensures local { result.global ≡ false }
+{
+    Arg::new(alloc, name).long(name).action(ArgAction::Set)
 }
 
 /// Adds a positional argument for each name, in this order.
@@ -68,8 +93,18 @@ fn with_files<'a>(
     ensures { IfOk result (λ c. app_of c ≡ with_rules (app_of command.entry) (map file_given (texts names.now))) }
 {
     for name in names {
-        let file = Arg::new(alloc, name).action(ArgAction::Set);
-        command = command.arg(file)?;
+        command = with_file(alloc, command, name)?;
     }
     Ok(command)
+}
+
+/// Adds one positional argument.
+fn with_file<'a>(
+    alloc: Global,
+    command: Command<'a>,
+    name: &'a str,
+) -> Result<Command<'a>, AllocError>
+    ensures { IfOk result (λ c. app_of c ≡ with_rule (app_of command.entry) (file_given name.entry.now)) }
+{
+    command.arg(Arg::new(alloc, name).action(ArgAction::Set))
 }

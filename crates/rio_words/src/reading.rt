@@ -4,13 +4,12 @@ ghost use Rattle.std.specs.Prelude.{◌≡◌, ◌∷◌, ℕ, List, codes, IfOk
 ghost use Rattle.rio_words.specs.Words.{Begins, IsOnlyReading, IsReading, texts_of};
 
 use crate::command::RioCommand;
-use crate::drill_words::{DRILL_OPTIONS, numbers_of};
+use crate::drill_words::DRILL_OPTIONS;
 use crate::fail::WordsFail;
-use crate::file_name::FileName;
-use crate::files::{file_of, pair_of};
-use crate::format_words::{FORMAT_OPTIONS, sizes_of};
+use crate::format_words::FORMAT_OPTIONS;
+use crate::matched::{check_of, drill_of, format_of, registry_of, serve_of};
 use crate::matching::matches_of;
-use crate::serve_words::{SERVE_OPTIONS, stop_of};
+use crate::serve_words::SERVE_OPTIONS;
 use std::alloc::Global;
 
 /// The files of a command on an image and a volume.
@@ -24,7 +23,6 @@ const NONE: [&str; 0] = [];
 
 /// Reads the words behind the program's name. `Usage` is the answer exactly where they are no form of a command, and a command
 /// is the only one that they are a form of.
-#[tactic(auto, using(crate::proofs::OneReading::only_reading))]
 pub fn read_words(alloc: Global, words: &Vec<String>) -> Result<RioCommand, WordsFail>
     ensures reading { IsReading (texts_of words.now.items) result }
     ensures only { IsOnlyReading (texts_of words.now.items) result }
@@ -49,22 +47,7 @@ fn read_format(alloc: Global, words: &[String]) -> Result<RioCommand, WordsFail>
     ensures { IsReading (texts_of words.now) result }
 {
     let matches = matches_of(alloc, &FORMAT_OPTIONS, &PAIR, words)?;
-    let Some(pair) = pair_of(&matches) else {
-        return Err(WordsFail::Usage);
-    };
-    let Some(sizes) = sizes_of(&matches) else {
-        return Err(WordsFail::Usage);
-    };
-    let image = FileName::copied(alloc, pair.image)?;
-    let disk = FileName::copied(alloc, pair.disk)?;
-    Ok(RioCommand::Format {
-        image,
-        disk,
-        frames: sizes.frames,
-        blocks: sizes.blocks,
-        inodes: sizes.inodes,
-        scratch: sizes.scratch,
-    })
+    format_of(alloc, &matches)
 }
 
 /// Reads words that begin with `serve`.
@@ -73,15 +56,7 @@ fn read_serve(alloc: Global, words: &[String]) -> Result<RioCommand, WordsFail>
     ensures { IsReading (texts_of words.now) result }
 {
     let matches = matches_of(alloc, &SERVE_OPTIONS, &PAIR, words)?;
-    let Some(pair) = pair_of(&matches) else {
-        return Err(WordsFail::Usage);
-    };
-    let Some(stop) = stop_of(&matches) else {
-        return Err(WordsFail::Usage);
-    };
-    let image = FileName::copied(alloc, pair.image)?;
-    let disk = FileName::copied(alloc, pair.disk)?;
-    Ok(RioCommand::Serve { image, disk, stop })
+    serve_of(alloc, &matches)
 }
 
 /// Reads words that begin with `registry`.
@@ -90,11 +65,7 @@ fn read_registry(alloc: Global, words: &[String]) -> Result<RioCommand, WordsFai
     ensures { IsReading (texts_of words.now) result }
 {
     let matches = matches_of(alloc, &NONE, &IMAGE, words)?;
-    let Some(image) = file_of(&matches, "image") else {
-        return Err(WordsFail::Usage);
-    };
-    let image = FileName::copied(alloc, image)?;
-    Ok(RioCommand::Registry { image })
+    registry_of(alloc, &matches)
 }
 
 /// Reads words that begin with `check`.
@@ -103,12 +74,7 @@ fn read_check(alloc: Global, words: &[String]) -> Result<RioCommand, WordsFail>
     ensures { IsReading (texts_of words.now) result }
 {
     let matches = matches_of(alloc, &NONE, &PAIR, words)?;
-    let Some(pair) = pair_of(&matches) else {
-        return Err(WordsFail::Usage);
-    };
-    let image = FileName::copied(alloc, pair.image)?;
-    let disk = FileName::copied(alloc, pair.disk)?;
-    Ok(RioCommand::Check { image, disk })
+    check_of(alloc, &matches)
 }
 
 /// Reads words that begin with `drill`.
@@ -117,12 +83,5 @@ fn read_drill(alloc: Global, words: &[String]) -> Result<RioCommand, WordsFail>
     ensures { IsReading (texts_of words.now) result }
 {
     let matches = matches_of(alloc, &DRILL_OPTIONS, &NONE, words)?;
-    let Some(numbers) = numbers_of(&matches) else {
-        return Err(WordsFail::Usage);
-    };
-    Ok(RioCommand::Drill {
-        seed: numbers.seed,
-        boots: numbers.boots,
-        requests: numbers.requests,
-    })
+    drill_of(&matches)
 }

@@ -1,7 +1,7 @@
-use Rattle.std.proofs.Common.{rules, ◌≡◌, ◌∙◌, ℕ, ◌+◌, List, [], ◌∷◌, sym, ap, map, drop, get_or}
+use Rattle.std.proofs.Common.{rules, ◌≡◌, ◌∙◌, ℕ, ◌+◌, List, [], sym, ap, map, drop, get_or}
 use Rattle.std.specs.Borrow.{Bor}
 use Rattle.clap.specs.Simple.{app_of, with_rule}
-use Rattle.clap.specs.Walk.{Rule, rule_of, texts}
+use Rattle.clap.specs.Walk.{texts}
 use Rattle.rio_words.specs.Plans.{file_given, with_rules}
 use Rattle.rio_words.proofs.ClapCommands.{left_at, one_more}
 use Rattle.rio_words.proofs.matching.with_files.Goals as goal
@@ -12,9 +12,7 @@ loop-name-preserved c =
     let names = c.args.names.now in
     let d : Bor (List ℕ) = record { ref_ptr = (0, 0); now = [] } in
     let name = get_or names at.name-index d in
-    let rule : rule_of c.action-file.result ≡ file_given name.now = search rules in
-    let added : app_of c.in_ok-command.command ≡ with_rule (app_of at.command) (rule_of c.action-file.result) = c.in_ok-command.ensures.shape (search rules) in
+    let added : app_of c.in_ok-command.command ≡ with_rule (app_of at.command) (file_given name.now) = search rules in
     let rest = map file_given (texts (drop (at.name-index + 1) names)) in
-    one_more (app_of at.command) (app_of c.in_ok-command.command) (rule_of c.action-file.result) rest added
-    ∙ ap (λ (r : Rule). with_rules (app_of at.command) (r ∷ rest)) rule
+    one_more (app_of at.command) (app_of c.in_ok-command.command) (file_given name.now) rest added
     ∙ sym (ap (with_rules (app_of at.command)) (left_at file_given names at.name-index d c.loop-name-test.true)) ∙ at.invariant

@@ -1,15 +1,13 @@
 use Rattle.std.proofs.Common.{[]}
 use Rattle.rio_words.specs.Clap.{found_in}
 use Rattle.rio_words.specs.Words.{drill_keys, texts_of}
-use Rattle.rio_words.proofs.Readings.{drill_read, drill_without_numbers, not_drill, passed}
+use Rattle.rio_words.proofs.FoundCommands.{drill_handed}
+use Rattle.rio_words.proofs.Readings.{not_drill, passed}
 use Rattle.rio_words.proofs.reading.read_drill.Goals as goal
 
 pub returns-in_err-matches : goal.returns-in_err-matches
 returns-in_err-matches c =
     passed drill_keys [] (texts_of c.args.words.now) c.from_residual.result c.in_err-matches.field-0.0 c.from_residual.ensures.1 c.in_err-matches.ensures (not_drill (texts_of c.args.words.now) c.requires)
 
-pub returns-in_default : goal.returns-in_default
-returns-in_default c = drill_without_numbers (texts_of c.args.words.now) (found_in c.in_ok-matches.matches) c.requires c.in_ok-matches.ensures c.in_default.ensures
-
 pub returns : goal.returns
-returns c = drill_read (texts_of c.args.words.now) (found_in c.in_ok-matches.matches) _ _ _ c.requires c.in_ok-matches.ensures c.in-Some.ensures
+returns c = drill_handed (texts_of c.args.words.now) (found_in c.in_ok-matches.matches) c.requires c.in_ok-matches.ensures c.drill_of.result c.drill_of.ensures

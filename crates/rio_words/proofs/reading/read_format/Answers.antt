@@ -1,18 +1,12 @@
 use Rattle.rio_words.specs.Clap.{found_in}
 use Rattle.rio_words.specs.Words.{format_keys, texts_of}
-use Rattle.rio_words.proofs.Readings.{files_moved, format_read, format_without_files, format_without_sizes, not_format, pair_ids, passed}
+use Rattle.rio_words.proofs.FoundCommands.{format_handed}
+use Rattle.rio_words.proofs.Readings.{not_format, pair_ids, passed}
 use Rattle.rio_words.proofs.reading.read_format.Goals as goal
 
 pub returns-in_err-matches : goal.returns-in_err-matches
 returns-in_err-matches c =
     passed format_keys pair_ids (texts_of c.args.words.now) c.from_residual.result c.in_err-matches.field-0.0 c.from_residual.ensures.1 c.in_err-matches.ensures (not_format (texts_of c.args.words.now) c.requires)
 
-pub returns-in_default : goal.returns-in_default
-returns-in_default c = format_without_files (texts_of c.args.words.now) (found_in c.in_ok-matches.matches) c.requires c.in_ok-matches.ensures c.in_default.ensures
-
-pub returns-in_default-sizes_of : goal.returns-in_default-sizes_of
-returns-in_default-sizes_of c = format_without_sizes (texts_of c.args.words.now) (found_in c.in_ok-matches.matches) c.requires c.in_ok-matches.ensures c.in_default-sizes_of.ensures
-
 pub returns : goal.returns
-returns c = format_read (texts_of c.args.words.now) (found_in c.in_ok-matches.matches) c.in_ok-image.image c.in_ok-disk.disk _ _ _ _ c.requires c.in_ok-matches.ensures
-    (files_moved (found_in c.in_ok-matches.matches) c.in-Some.pair.image.now c.in-Some.pair.disk.now c.in_ok-image.image c.in_ok-disk.disk c.in_ok-image.ensures c.in_ok-disk.ensures c.in-Some.ensures) c.in-Some-sizes_of.ensures
+returns c = format_handed (texts_of c.args.words.now) (found_in c.in_ok-matches.matches) c.requires c.in_ok-matches.ensures c.format_of.result c.format_of.ensures
