@@ -54,6 +54,9 @@ fits_left text i n within fits =
     let fits : n ≤ length (drop i text) = rw (take_rest text i) at fits in
     omega (arith, length-drop i text)
 
+pub some_left : (text : List ℕ) (i : ℕ) → i < length text → 0 < length (take (length text - i) (drop i text))
+some_left text i within = let P : List ℕ → Type 0 = λ xs. 0 < length xs in subst P (sym (take_rest text i)) (omega (arith, within, length-drop i text))
+
 -- ---- a text behind what was held, part after part
 
 -- nothing was written, and these bytes are held too
@@ -65,6 +68,10 @@ sent_held {a} {f} {h} {x} {b} {f1} {h1} y s =
 -- nothing is done
 pub sent_none : {a : Option (List ℕ)} {f : ℕ} {h : List ℕ} → Sent a f h [] a f h
 sent_none {a} {f} {h} = record { took = rw append-nil (took_none a a h refl); steady = refl }
+
+-- nothing was written yet of a text
+pub sent_nothing : {a : Option (List ℕ)} {f : ℕ} {text : List ℕ} → Sent a f [] text a f text
+sent_nothing {a} {f} {text} = record { took = took_none a a text refl; steady = refl }
 
 -- a part, and then what cuts the next one
 pub sent_cut : {a : Option (List ℕ)} {f : ℕ} {h x : List ℕ} {b : Option (List ℕ)} {f1 : ℕ} {h1 y : List ℕ} {c : Option (List ℕ)} {f2 : ℕ} → Sent a f h x b f1 h1 → IsCutOff b f1 h1 y c f2 → IsCutOff a f h (x ++ y) c f2
@@ -93,6 +100,17 @@ sent_then {r = r} s t = record { ok = on_ok_weaker r (λ u. sent_sent s u) t.ok;
 pub cut_at : {T E : Type 0} {r : Result T E} {a : Option (List ℕ)} {f : ℕ} {h text : List ℕ} {c : Option (List ℕ)} {f2 : ℕ} {h2 : List ℕ} → IsErr r → IsCutOff a f h text c f2 → Sends r a f h text c f2 h2
 cut_at {r = Ok _} bad k = cc bad
 cut_at {r = Err _} bad k = record { ok = tt; err = k }
+
+-- a call that wrote nothing cuts the text off where it was
+pub cut_here : {a : Option (List ℕ)} {f : ℕ} {text : List ℕ} {b : Option (List ℕ)} {f1 : ℕ} {rest : List ℕ} {c : Option (List ℕ)} {f2 : ℕ} → Sent a f [] text b f1 rest → c ≡ b → f1 ≤ f2 → Rose f1 f2 → IsCutOff a f [] text c f2
+cut_here {a} {f} {text} {b} {f1} {rest} {c} {f2} s same later rose =
+    let P : Option (List ℕ) → Type 0 = λ o. Took a text o rest in
+    let Q : ℕ → Type 0 = λ n. Rose n f2 in
+    record { lost = rest; took = subst P (sym same) s.took; later = let e = s.steady in omega (arith, later, e); rose = subst Q s.steady rose }
+
+pub cut_nothing : {a : Option (List ℕ)} {f : ℕ} {text : List ℕ} {b : Option (List ℕ)} {f1 : ℕ} {rest : List ℕ} {c : Option (List ℕ)} {f2 : ℕ} (n : ℕ) (piece : List ℕ) → Sent a f [] text b f1 rest → c ≡ appended b (take n piece)
+    → n ≡ 0 → f1 ≤ f2 → Rose f1 f2 → IsCutOff a f [] text c f2
+cut_nothing {b = b} n piece s wrote none later rose = cut_here s (wrote ∙ ap (λ k. appended b (take k piece)) none ∙ sym (appended_nothing b)) later rose
 
 -- what was held is sent as a text of its own
 pub sent_flushed : {a : Option (List ℕ)} {f : ℕ} {h : List ℕ} {b : Option (List ℕ)} {f1 : ℕ} → Sent a f [] h b f1 [] → Sent a f h [] b f1 []

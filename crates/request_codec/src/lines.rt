@@ -18,7 +18,7 @@ use thiserror::Error;
 pub const INPUT_LIMIT: u64 = 1 << 40;
 
 /// What comes next in the input.
-#[derive(Debug, Drop)]
+#[derive(Drop)]
 pub enum NextLine {
     /// A line, without its end.
     Line(Octets),

@@ -1,5 +1,5 @@
 use Rattle.std.proofs.Common.{arith}
-use Rattle.request_codec.proofs.Sendings.{cut_flushed, cut_more, puts_cut, sent_cut, sent_flushed, sent_last}
+use Rattle.request_codec.proofs.Sendings.{cut_flushed, cut_more, held_more, puts_cut, sent_cut, sent_flushed, sent_last}
 use Rattle.request_codec.proofs.text_room.put.Goals as goal
 
 pub returns-in_err-send : goal.returns-in_err-send
@@ -16,3 +16,12 @@ returns-then-bytes-room g c = record {
 
 pub returns-in_err-held : goal.returns-in_err-held
 returns-in_err-held g c = puts_cut c.from_residual-in_err-held.ensures.0 (cut_more _ c.in_err-held.ensures.puts.err)
+
+pub returns : goal.returns
+returns g c = record {
+  ok = record {
+    fits = omega (arith, c.in_ok-held.ensures.room, c.hold.auto.room);
+    sent = held_more c.args.bytes.now c.in_ok-held.ensures.puts.ok.sent c.hold.ensures;
+  };
+  err = tt;
+}

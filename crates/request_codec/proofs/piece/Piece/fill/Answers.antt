@@ -9,6 +9,10 @@ use Rattle.request_codec.proofs.piece.Piece.fill.Goals as goal
 front_held : (n size : ℕ) (new old : List ℕ) → n ≤ length new → n ≤ size → take (n - 0) (drop 0 (take size (new ++ old))) ≡ take n new
 front_held n size new old most less = ap (λ k. take k (take size (new ++ old))) (omega arith) ∙ take-take n size (new ++ old) less ∙ take-append-le n new old most
 
+-- a vector keeps its size where it was lent
+front_size : (size : ℕ) (new old : List ℕ) → size ≤ length new → length (take size (new ++ old)) ≡ size
+front_size size new old less = ap (λ (xs : List ℕ). length xs) (take-append-le size new old less) ∙ length-take-le size new less
+
 pub read_front-requires-clause-some : goal.read_front-requires-clause-some
 read_front-requires-clause-some g c = omega (arith, c.requires.some, c.min-room.ensures, c.len.ensures, c.self.invariant.2)
 
@@ -60,3 +64,21 @@ pub returns-in_err-n-clause-cause : goal.returns-in_err-n-clause-cause
 returns-in_err-n-clause-cause g c =
     let told = err_from_is_err_and c.from_residual.result c.from_residual.ensures.1 in
     rw told.1 (record { later = c.in_err-n.ensures.cause.later; cause = c.in_err-n.ensures.cause.cause })
+
+pub returns-clause-err : goal.returns-clause-err
+returns-clause-err g c = tt
+
+pub invariant_of-self : goal.invariant_of-self
+invariant_of-self g c =
+    let size = c.self.inside.bytes.len in
+    let less : size ≤ length c.read_front.new.buffer = omega (arith, c.as_mut_slice.ensures.len, c.read_front.auto.buffer) in
+    let whole : size ≡ 131072 = omega (arith, c.self.invariant.2, c.len.ensures, c.as_mut_slice.ensures.len) in
+    (omega arith, omega arith, front_size size c.read_front.new.buffer _ less ∙ whole)
+
+pub invariant_of-self-2 : goal.invariant_of-self-2
+invariant_of-self-2 g c =
+    let size = c.self.inside.bytes.len in
+    let less : size ≤ length c.read_front.new.buffer = omega (arith, c.as_mut_slice.ensures.len, c.read_front.auto.buffer) in
+    let whole : size ≡ 131072 = omega (arith, c.self.invariant.2, c.len.ensures, c.as_mut_slice.ensures.len) in
+    let same = front_size size c.read_front.new.buffer _ less in
+    (omega arith, omega (arith, same, c.in_ok-n.ensures.bound, c.min-room.ensures, c.len.ensures, c.as_mut_slice.ensures.len), same ∙ whole)
