@@ -3,7 +3,7 @@
 use crate::file_name::FileName;
 
 /// A command, with all that its words say. The file names of one command are all different.
-#[derive(Debug, Drop)]
+#[derive(Drop)]
 pub enum RioCommand {
     /// Writes a fresh memory image and a fresh volume.
     Format {
