@@ -14,7 +14,7 @@ pub type CallList = Items<u64>;
 pub type BootPlans = Items<BootPlan>;
 
 /// A fresh volume with its machine, and the boots on them, each on what the one before it left.
-#[derive(Debug, Drop)]
+#[derive(Drop)]
 pub struct LivePlan {
     /// How many frames the cache has.
     pub frames: u32,
@@ -29,7 +29,7 @@ pub struct LivePlan {
 }
 
 /// One boot: what it serves, and what befalls it.
-#[derive(Debug, Drop)]
+#[derive(Drop)]
 pub struct BootPlan {
     /// The requests that it serves.
     pub requests: RequestList,
