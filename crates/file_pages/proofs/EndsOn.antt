@@ -4,7 +4,7 @@ use Rattle.std.specs.Prelude.{IsErr}
 use Rattle.rio_base.specs.declared.failures.VolFail.TheVariants.{Fault, Stopped}
 use Rattle.rio_base.specs.Blocks.{Ends, Halts, as_word}
 use Rattle.rio_base.specs.declared.failures.RunFail.{RunFail}
-use Rattle.rio_base.proofs.Rules.{rose_later, rose_stays}
+use Rattle.rio_base.proofs.Rules.{rose_stays}
 
 -- a call whose one failure is a stop, told by the answer of a call that may also meet a fault
 pub ends_halted : {T U E : Type 0} (s t : Health) (r : Result T E) (q : Result U VolFail) (e : E) (d : VolFail) → r ≡ Err e → q ≡ Err d → d ≡ Stopped → Halts s t r → Ends s t q
@@ -59,11 +59,6 @@ halts_ok s t v later same = record { later = later; stays = λ on. same ∙ on; 
 pub halts_later : {T E : Type 0} (s t u : Health) (r : Result T E) → s.faults ≤ t.faults → t.stopped ≡ s.stopped → Halts t u r → Halts s u r
 halts_later s t u (Ok v) later same h = record { later = le_trans later h.later; stays = λ on. h.stays (same ∙ on); cause = h.cause ∙ same }
 halts_later s t u (Err e) later same h = record { later = le_trans later h.later; stays = λ on. h.stays (same ∙ on); cause = h.cause }
-
-pub vol_later : {T : Type 0} (s t u : Health) (r : Result T VolFail) → s.faults ≤ t.faults → t.stopped ≡ s.stopped → Ends t u r → Ends s u r
-vol_later s t u (Ok v) later same h = record { later = le_trans later h.later; stays = λ on. h.stays (same ∙ on); cause = h.cause ∙ same }
-vol_later s t u (Err Fault) later same h = record { later = le_trans later h.later; stays = λ on. h.stays (same ∙ on); cause = (rose_later s.faults t.faults u.faults later h.cause.0, h.cause.1 ∙ same) }
-vol_later s t u (Err Stopped) later same h = record { later = le_trans later h.later; stays = λ on. h.stays (same ∙ on); cause = h.cause }
 
 -- what a last call gives where it ends well
 pub on_ok : {T E : Type 0} (r : Result T E) (A B : Type 0) → (A → B) → OnOk r A → OnOk r B

@@ -1,6 +1,6 @@
 use Rattle.file_pages.proofs.Common.{Applied, err_from_is_err_and, firm_trans, inl, inr, subst, sym, ◌then◌, ◌∙◌}
 use Rattle.rio_base.proofs.BlockSets.{caches_by_trans}
-use Rattle.file_pages.proofs.EndsOn.{ends_halted}
+use Rattle.file_pages.proofs.EndsOn.{ends_halted, ends_vol, if_err}
 use Rattle.rio_base.proofs.BlockRules.{ends_later}
 use Rattle.file_pages.specs.Changes.{size_update}
 use Rattle.file_pages.proofs.committing.change_node.Goals as goal
@@ -103,3 +103,12 @@ returns-clause-stopped g c = inr (subst (λ f. Applied c.args.shape.now (size_up
 
 pub returns-in_err-close_change-clause-stopped : goal.returns-in_err-close_change-clause-stopped
 returns-in_err-close_change-clause-stopped g c = elim c.close_change.ensures.stopped [ inl same ↦ inl (same ∙ c.open_change.ensures.standing) | inr done ↦ inr (subst (λ f. Applied c.args.shape.now (size_update c.args.i.0 c.args.change.now) f (g.V.Volume.kept c.close_change.new.v).standing) c.in_ok-open_change.ensures.ok.2 done) ]
+
+pub returns-in_err-open_change-clause-ok : goal.returns-in_err-open_change-clause-ok
+returns-in_err-open_change-clause-ok g c = if_err c.from_residual.result _ c.from_residual.ensures.0
+
+pub returns-in_err-close_change-clause-ok : goal.returns-in_err-close_change-clause-ok
+returns-in_err-close_change-clause-ok g c = if_err c.from_residual-in_err-close_change.result _ c.from_residual-in_err-close_change.ensures.0
+
+pub returns-in_err-open_change-clause-ends : goal.returns-in_err-open_change-clause-ends
+returns-in_err-open_change-clause-ends g c = let p = err_from_is_err_and c.from_residual.result c.from_residual.ensures.1 in ends_vol _ _ c.open_change.result c.from_residual.result _ p.0 c.in_err-open_change.was p.1 p.2 c.open_change.ensures.ends

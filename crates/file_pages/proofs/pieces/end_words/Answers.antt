@@ -1,7 +1,7 @@
 use Rattle.file_pages.proofs.Common.{◌+◌, ◌-◌, ◌/◌, ◌<◌, ◌∙◌, BlockWords, ap, arith, err_from_is_err_and, le_trans, subst, sym}
-use Rattle.rio_base.proofs.BlockRules.{caches_trans, can_name_on}
+use Rattle.rio_base.proofs.BlockRules.{caches_trans, can_name_on, ends_later}
 use Rattle.rio_base.proofs.Rules.{looks_trans}
-use Rattle.file_pages.proofs.EndsOn.{ends_vol, ends_vol_ok, if_err, vol_later}
+use Rattle.file_pages.proofs.EndsOn.{ends_vol, ends_vol_ok, if_err}
 use Rattle.file_pages.proofs.Filled.{some_left}
 use Rattle.file_pages.proofs.pieces.end_words.Goals as goal
 
@@ -81,7 +81,7 @@ pub returns-in_err-last-clause-passes : goal.returns-in_err-last-clause-passes
 returns-in_err-last-clause-passes g c = g.met.V.Blocks.passes_trans _ _ _ c.own_word.ensures.passes c.own_word-2.ensures.passes
 
 pub returns-in_err-last-clause-ends : goal.returns-in_err-last-clause-ends
-returns-in_err-last-clause-ends g c = let p = err_from_is_err_and c.from_residual-in_err-last.result c.from_residual-in_err-last.ensures.1 in vol_later _ _ _ _ c.own_word.ensures.ends.later c.in_ok-first.ensures.ends.cause (ends_vol _ _ c.own_word-2.result c.from_residual-in_err-last.result _ p.0 c.in_err-last.was p.1 p.2 c.own_word-2.ensures.ends)
+returns-in_err-last-clause-ends g c = let p = err_from_is_err_and c.from_residual-in_err-last.result c.from_residual-in_err-last.ensures.1 in ends_later _ _ _ _ c.own_word.ensures.ends.later c.in_ok-first.ensures.ends.cause (ends_vol _ _ c.own_word-2.result c.from_residual-in_err-last.result _ p.0 c.in_err-last.was p.1 p.2 c.own_word-2.ensures.ends)
 
 pub returns-in_err-last-clause-sound : goal.returns-in_err-last-clause-sound
 returns-in_err-last-clause-sound g c = c.own_word-2.ensures.sound
