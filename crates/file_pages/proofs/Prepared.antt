@@ -189,3 +189,7 @@ made_ok {T = T} shape f y m z l i r v rv c = of_ok (subst (λ p. Committed shape
   where
     of_ok : Committed {T = T} shape f y m z l i (Ok v) → SetsBoth shape f z l i (held_bytes (held y.words m)) × Ready shape z l
     of_ok h = h
+
+pub made_all : {T : Type 0} (shape : VolumeShape) (x : Seen) (k : Kept) (y : Seen) (m : Placed) (z : Seen) (l : Kept) (i len : ℕ) (r : Result T SizeFail) → held_bytes (held y.words (placed_at x.words i)) ≡ file_bytes shape x.words i → held_bytes (held y.words m) ≡ resized (file_bytes shape x.words i) len → Committed shape x.words y m z l i r → SizeLeaves shape x k z l i len r
+made_all shape x k y m z l i len (Ok v) old new c = (subst (SetsBoth shape x.words z l i) new c.0, c.1)
+made_all {T = T} shape x k y m z l i len (Err e) old new c = made_as T T shape x k y m z l i len e old new c

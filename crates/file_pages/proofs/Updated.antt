@@ -16,7 +16,7 @@ use Rattle.rio_model.specs.Updates.{with_inode}
 use Rattle.rio_model.specs.VolumeRules.{bitmap_bits}
 use Rattle.inode_table.specs.Inodes.{inode_words}
 use Rattle.file_pages.specs.Changes.{node_update, word_edit}
-use Rattle.file_pages.specs.Updating.{CanUpdate, IsEditRun, IsUpdated, SetsBits}
+use Rattle.file_pages.specs.Updating.{CanUpdate, IsEditRun, IsEdited, IsUpdated, SetsBits}
 use Rattle.file_pages.specs.declared.changes.Edit.{Edit}
 use Rattle.file_pages.proofs.Listed.{place_of}
 
@@ -178,6 +178,18 @@ first_place es n count d some within is = subst (λ (m : ℕ). (slice_index_or e
 
 pub first_touched : (es : List Edit) (d e : Edit) (k l : Kept) → 0 < length es → ((a b : Edit) → Contains es a → Contains es b → a.block.0 ≡ b.block.0) → Touches (slice_index_or es 0 d).block.0 k l → Contains es e → l.touched e.block.0 ≡ true
 first_touched es d e k l some one h on = subst (λ b. l.touched b ≡ true) (one _ e (edit_in es 0 d some) on) (touched_now _ k l h)
+
+pub first_edited : (es : List Edit) (d : Edit) → 0 < length es → IsEdited es (slice_index_or es 0 d).block.0
+first_edited es d some = (slice_index_or es 0 d, edit_in es 0 d some, refl)
+
+pub first_unnamed : (es : List Edit) (d : Edit) (y : Seen) → 0 < length es → ((e : Edit) → Contains es e → y.cached e.block.0 ≡ true → y.names e.block.0 ≡ None) → CanName y (slice_index_or es 0 d).block.0 None
+first_unnamed es d y some none = can_touch y _ (none _ (edit_in es 0 d some))
+
+pub no_edit : (es : List Edit) (e : Edit) → (length es == 0) ≡ true → Contains es e → ⊥
+no_edit es e h (k, few, is) = omega (arith, few, no_length (length es) h)
+  where
+    no_length : (n : ℕ) → (n == 0) ≡ true → n ≡ 0
+    no_length n h = grind (arith, nat_tests, h)
 
 pub some_length : (n : ℕ) → (n == 0) ≡ false → 0 < n
 some_length n h = grind (arith, nat_tests, h)

@@ -317,8 +317,7 @@ pub fn read_with<V: Blocks>(
     ensures sound { V.sound v.new }
 {
     let end = off.saturating_add(len).min(inode.size);
-    let bytes = read_bytes(alloc, v, shape, i, inode, off, end)?;
-    Ok(bytes)
+    read_bytes(alloc, v, shape, i, inode, off, end)
 }
 
 /// The same of a file whose inode is not read yet.

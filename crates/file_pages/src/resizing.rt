@@ -89,8 +89,7 @@ fn grow<V: Volume>(
     let taken = take_lowest(alloc, v, shape, wanted)?;
     let change = plan_growth(alloc, v, shape, i, inode, len, taken)?;
     clear_tail(v, shape, i, inode.size, len)?;
-    commit_change(v, shape, i, &change)?;
-    Ok(())
+    commit_change(v, shape, i, &change)
 }
 
 /// Gives file `i`, which has this inode, another size, one that a file may have.

@@ -48,8 +48,7 @@ fn touch_table<V: Volume>(v: &mut V, shape: &VolumeShape, edits: &[Edit]) -> Res
     if edits.is_empty() {
         return Ok(());
     }
-    v.touch(edits[0].block)?;
-    Ok(())
+    v.touch(edits[0].block)
 }
 
 /// Whether a change takes no block and frees none.
@@ -89,8 +88,7 @@ fn touch_bitmap<V: Volume>(
     if keeps_blocks(change) {
         return Ok(());
     }
-    v.touch(BITMAP)?;
-    Ok(())
+    v.touch(BITMAP)
 }
 
 /// Touches the blocks that a change of node `i` edits: the bitmap, where it takes or frees blocks, the block of its inode, and
@@ -119,8 +117,7 @@ pub fn touch_change<V: Volume>(
 {
     touch_bitmap(v, shape, change)?;
     v.touch(inode_block(shape, i))?;
-    touch_table(v, shape, change.edits.as_slice())?;
-    Ok(())
+    touch_table(v, shape, change.edits.as_slice())
 }
 
 /// Whether an edit is of the same block as the first one, at the word so many behind its own.
@@ -267,8 +264,7 @@ pub fn make_words<V: Volume>(
     ensures sound { V.sound v.new }
 {
     make_edits(v, edits)?;
-    edit_inode(v, shape, i, inode)?;
-    Ok(())
+    edit_inode(v, shape, i, inode)
 }
 
 /// Makes an update of one node's blocks in the open update: edits, inode `i`, which is stored, and the bits of the blocks
@@ -303,8 +299,7 @@ pub fn make_update<V: Volume>(
     make_edits(v, edits)?;
     edit_inode(v, shape, i, inode)?;
     mark_all(v, shape, taken, true)?;
-    mark_all(v, shape, freed, false)?;
-    Ok(())
+    mark_all(v, shape, freed, false)
 }
 
 /// Makes a prepared change of node `i`, in the open update. All its blocks must be touched.

@@ -1,3 +1,4 @@
+use Rattle.file_pages.proofs.PlannedSize.{if_ok_map}
 use Rattle.file_pages.proofs.Common.{◌∙◌, drop, take, sym, ap, arith, byte_in, word_in, placed_at}
 use Rattle.file_pages.proofs.LookingUpRules.{named_on}
 use Rattle.file_pages.proofs.PageRead.{read_value}
@@ -11,9 +12,6 @@ read_bytes-requires-clause-ino g c = file_ino c.args.shape.now (g.V.Blocks.seen 
 pub read_bytes-requires-clause-file : goal.read_bytes-requires-clause-file
 read_bytes-requires-clause-file g c = file_placed c.args.shape.now (g.V.Blocks.seen c.args.v.now).words c.args.i.0 (file_ino c.args.shape.now (g.V.Blocks.seen c.args.v.now).words c.args.i.0 c.requires.file) c.requires.file
 
-pub returns-in_err-bytes-clause-named : goal.returns-in_err-bytes-clause-named
-returns-in_err-bytes-clause-named g c = named_on c.args.shape.now (g.V.Blocks.seen c.args.v.now) _ c.requires.mapped c.requires.named c.read_bytes.ensures.looks
-
 pub returns-clause-named : goal.returns-clause-named
 returns-clause-named g c = named_on c.args.shape.now (g.V.Blocks.seen c.args.v.now) _ c.requires.mapped c.requires.named c.read_bytes.ensures.looks
 
@@ -26,6 +24,46 @@ returns-clause-value g c =
     let ino = file_ino shape x.words i c.requires.file in
     let kind = file_placed shape x.words i ino c.requires.file in
     let most = (c.requires.mapped.laid.sizes.each i ino (omega (arith, kind))).most in
-    c.in_ok-bytes.ensures.value
+    if_ok_map _ _ c.read_bytes.result (λ bs h. h
     ∙ read_value (byte_in (word_in x.words n)) n.size c.args.off c.args.len c.min-end.result (omega (arith, c.min-end.ensures, c.saturating_add.ensures, c.requires.inode.size, most))
-    ∙ ap (λ bs. take c.args.len (drop c.args.off bs)) (sym (file_node shape x.words i ino ∙ bytes_sized x.words n (omega (arith, kind))))
+    ∙ ap (λ bs. take c.args.len (drop c.args.off bs)) (sym (file_node shape x.words i ino ∙ bytes_sized x.words n (omega (arith, kind))))) c.read_bytes.ensures.value
+
+pub returns-clause-looks : goal.returns-clause-looks
+returns-clause-looks g c = c.read_bytes.ensures.looks.looks
+
+pub returns-clause-passes : goal.returns-clause-passes
+returns-clause-passes g c = c.read_bytes.ensures.passes
+
+pub returns-clause-ends : goal.returns-clause-ends
+returns-clause-ends g c = c.read_bytes.ensures.ends
+
+pub returns-clause-sound : goal.returns-clause-sound
+returns-clause-sound g c = c.read_bytes.ensures.sound
+
+pub read_bytes-requires-clause-sound : goal.read_bytes-requires-clause-sound
+read_bytes-requires-clause-sound g c = c.requires.sound
+
+pub read_bytes-requires-clause-shape : goal.read_bytes-requires-clause-shape
+read_bytes-requires-clause-shape g c = c.requires.shape
+
+pub read_bytes-requires-clause-mapped : goal.read_bytes-requires-clause-mapped
+read_bytes-requires-clause-mapped g c = c.requires.mapped
+
+pub read_bytes-requires-clause-named : goal.read_bytes-requires-clause-named
+read_bytes-requires-clause-named g c = c.requires.named
+
+pub read_bytes-requires-clause-inode : goal.read_bytes-requires-clause-inode
+read_bytes-requires-clause-inode g c = c.requires.inode
+
+pub read_bytes-requires-clause-within : goal.read_bytes-requires-clause-within
+read_bytes-requires-clause-within g c = omega (arith, c.min-end.ensures)
+
+pub read_bytes-requires-clause-most : goal.read_bytes-requires-clause-most
+read_bytes-requires-clause-most g c =
+    let shape = c.args.shape.now in
+    let x = g.V.Blocks.seen c.args.v.now in
+    let i = c.args.i.0 in
+    let ino = file_ino shape x.words i c.requires.file in
+    let kind = file_placed shape x.words i ino c.requires.file in
+    let most = (c.requires.mapped.laid.sizes.each i ino (omega (arith, kind))).most in
+    omega (arith, c.requires.inode.size, most)

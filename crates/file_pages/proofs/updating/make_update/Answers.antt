@@ -1,6 +1,6 @@
 use Rattle.rio_base.proofs.BlockRules.{shape_dropped}
-use Rattle.file_pages.proofs.EndsOn.{halts_later, halts_ok, halts_on, if_err}
-use Rattle.file_pages.proofs.Common.{◌<◌, ◌∙◌, ◌then◌, ℕ, firm_trans, sym, subst, numbers, Bool, ap, err_from_is_err_and, inode_block, le_trans}
+use Rattle.file_pages.proofs.EndsOn.{halts_later, halts_on, if_err, on_ok}
+use Rattle.file_pages.proofs.Common.{◌<◌, ◌∙◌, ◌then◌, ℕ, firm_trans, sym, subst, numbers, Bool, ap, err_from_is_err_and, inode_block}
 use Rattle.file_pages.specs.Updating.{SetsBits}
 use Rattle.file_pages.proofs.Listed.{as_many}
 use Rattle.file_pages.proofs.Updated.{applied, update_trans}
@@ -15,12 +15,12 @@ returns-clause-ok g c =
     let shape = c.args.shape.now in
     let taken = c.args.taken.now in
     let freed = c.args.freed.now in
-    applied shape c.args.i.0 c.args.inode.now c.args.edits.now taken freed (seen c.args.v.now).words (seen c.make_edits.new.v).words (seen c.edit_inode.new.v).words (seen c.mark_all.new.v).words (seen c.mark_all-2.new.v).words c.requires.shape.sizes c.requires.ino
+    on_ok c.mark_all-2.result _ _ (λ done. applied shape c.args.i.0 c.args.inode.now c.args.edits.now taken freed (seen c.args.v.now).words (seen c.make_edits.new.v).words (seen c.edit_inode.new.v).words (seen c.mark_all.new.v).words (seen c.mark_all-2.new.v).words c.requires.shape.sizes c.requires.ino
     c.requires.can.from c.requires.can.apart
     c.in_ok-make_edits.ensures.ok
     c.in_ok-edit_inode.ensures.ok
     (subst (λ n. SetsBits shape (seen c.edit_inode.new.v).words (seen c.mark_all.new.v).words (numbers taken) n 1) (sym (as_many taken)) c.in_ok-mark_all.ensures.ok)
-    (subst (λ n. SetsBits shape (seen c.mark_all.new.v).words (seen c.mark_all-2.new.v).words (numbers freed) n 0) (sym (as_many freed)) c.in_ok-mark_all-2.ensures.ok)
+    (subst (λ n. SetsBits shape (seen c.mark_all.new.v).words (seen c.mark_all-2.new.v).words (numbers freed) n 0) (sym (as_many freed)) done)) c.mark_all-2.ensures.ok
 
 pub returns-in_err-make_edits-clause-in_update : goal.returns-in_err-make_edits-clause-in_update
 returns-in_err-make_edits-clause-in_update g c = c.make_edits.ensures.in_update
@@ -72,24 +72,6 @@ returns-in_err-mark_all-clause-goes g c = c.make_edits.ensures.goes then c.edit_
 
 pub returns-in_err-mark_all-clause-firm : goal.returns-in_err-mark_all-clause-firm
 returns-in_err-mark_all-clause-firm g c = firm_trans _ _ _ (firm_trans _ _ _ c.make_edits.ensures.firm c.edit_inode.ensures.firm) c.mark_all.ensures.firm
-
-pub returns-in_err-mark_all-2-clause-in_update : goal.returns-in_err-mark_all-2-clause-in_update
-returns-in_err-mark_all-2-clause-in_update g c = c.mark_all-2.ensures.in_update
-
-pub returns-in_err-mark_all-2-clause-sound : goal.returns-in_err-mark_all-2-clause-sound
-returns-in_err-mark_all-2-clause-sound g c = c.mark_all-2.ensures.sound
-
-pub returns-in_err-mark_all-2-clause-shape : goal.returns-in_err-mark_all-2-clause-shape
-returns-in_err-mark_all-2-clause-shape g c = c.mark_all-2.ensures.shape
-
-pub returns-in_err-mark_all-2-clause-standing : goal.returns-in_err-mark_all-2-clause-standing
-returns-in_err-mark_all-2-clause-standing g c = c.mark_all-2.ensures.standing ∙ c.mark_all.ensures.standing ∙ c.edit_inode.ensures.standing ∙ c.make_edits.ensures.standing
-
-pub returns-in_err-mark_all-2-clause-goes : goal.returns-in_err-mark_all-2-clause-goes
-returns-in_err-mark_all-2-clause-goes g c = c.make_edits.ensures.goes then c.edit_inode.ensures.goes then c.mark_all.ensures.goes then c.mark_all-2.ensures.goes
-
-pub returns-in_err-mark_all-2-clause-firm : goal.returns-in_err-mark_all-2-clause-firm
-returns-in_err-mark_all-2-clause-firm g c = firm_trans _ _ _ (firm_trans _ _ _ (firm_trans _ _ _ c.make_edits.ensures.firm c.edit_inode.ensures.firm) c.mark_all.ensures.firm) c.mark_all-2.ensures.firm
 
 pub returns-clause-in_update : goal.returns-clause-in_update
 returns-clause-in_update g c = c.mark_all-2.ensures.in_update
@@ -154,12 +136,6 @@ returns-in_err-mark_all-clause-ok g c = if_err c.from_residual-in_err-mark_all.r
 pub returns-in_err-mark_all-clause-update : goal.returns-in_err-mark_all-clause-update
 returns-in_err-mark_all-clause-update g c = if_err c.from_residual-in_err-mark_all.result _ c.from_residual-in_err-mark_all.ensures.0
 
-pub returns-in_err-mark_all-2-clause-ok : goal.returns-in_err-mark_all-2-clause-ok
-returns-in_err-mark_all-2-clause-ok g c = if_err c.from_residual-in_err-mark_all-2.result _ c.from_residual-in_err-mark_all-2.ensures.0
-
-pub returns-in_err-mark_all-2-clause-update : goal.returns-in_err-mark_all-2-clause-update
-returns-in_err-mark_all-2-clause-update g c = if_err c.from_residual-in_err-mark_all-2.result _ c.from_residual-in_err-mark_all-2.ensures.0
-
 pub returns-in_err-make_edits-clause-ends : goal.returns-in_err-make_edits-clause-ends
 returns-in_err-make_edits-clause-ends g c = let p = err_from_is_err_and c.from_residual.result c.from_residual.ensures.1 in halts_on _ _ c.make_edits.result c.from_residual.result _ p.0 c.in_err-make_edits.was p.1 c.make_edits.ensures.ends
 
@@ -169,14 +145,11 @@ returns-in_err-edit_inode-clause-ends g c = let p = err_from_is_err_and c.from_r
 pub returns-in_err-mark_all-clause-ends : goal.returns-in_err-mark_all-clause-ends
 returns-in_err-mark_all-clause-ends g c = let p = err_from_is_err_and c.from_residual-in_err-mark_all.result c.from_residual-in_err-mark_all.ensures.1 in halts_later _ _ _ _ c.make_edits.ensures.ends.later c.in_ok-make_edits.ensures.ends.cause (halts_later _ _ _ _ c.edit_inode.ensures.ends.later c.in_ok-edit_inode.ensures.ends.cause (halts_on _ _ c.mark_all.result c.from_residual-in_err-mark_all.result _ p.0 c.in_err-mark_all.was p.1 c.mark_all.ensures.ends))
 
-pub returns-in_err-mark_all-2-clause-ends : goal.returns-in_err-mark_all-2-clause-ends
-returns-in_err-mark_all-2-clause-ends g c = let p = err_from_is_err_and c.from_residual-in_err-mark_all-2.result c.from_residual-in_err-mark_all-2.ensures.1 in halts_later _ _ _ _ c.make_edits.ensures.ends.later c.in_ok-make_edits.ensures.ends.cause (halts_later _ _ _ _ c.edit_inode.ensures.ends.later c.in_ok-edit_inode.ensures.ends.cause (halts_later _ _ _ _ c.mark_all.ensures.ends.later c.in_ok-mark_all.ensures.ends.cause (halts_on _ _ c.mark_all-2.result c.from_residual-in_err-mark_all-2.result _ p.0 c.in_err-mark_all-2.was p.1 c.mark_all-2.ensures.ends)))
-
 pub returns-clause-ends : goal.returns-clause-ends
-returns-clause-ends g c = halts_ok _ _ _ (le_trans c.make_edits.ensures.ends.later (le_trans c.edit_inode.ensures.ends.later (le_trans c.mark_all.ensures.ends.later c.mark_all-2.ensures.ends.later))) (c.in_ok-mark_all-2.ensures.ends.cause ∙ c.in_ok-mark_all.ensures.ends.cause ∙ c.in_ok-edit_inode.ensures.ends.cause ∙ c.in_ok-make_edits.ensures.ends.cause)
+returns-clause-ends g c = halts_later _ _ _ _ c.make_edits.ensures.ends.later c.in_ok-make_edits.ensures.ends.cause (halts_later _ _ _ _ c.edit_inode.ensures.ends.later c.in_ok-edit_inode.ensures.ends.cause (halts_later _ _ _ _ c.mark_all.ensures.ends.later c.in_ok-mark_all.ensures.ends.cause c.mark_all-2.ensures.ends))
 
 pub returns-clause-update : goal.returns-clause-update
-returns-clause-update g c = update_trans _ _ _ (update_trans _ _ _ (update_trans _ _ _ c.in_ok-make_edits.ensures.update c.in_ok-edit_inode.ensures.update) c.in_ok-mark_all.ensures.update) c.in_ok-mark_all-2.ensures.update
+returns-clause-update g c = on_ok c.mark_all-2.result _ _ (λ done. update_trans _ _ _ (update_trans _ _ _ (update_trans _ _ _ c.in_ok-make_edits.ensures.update c.in_ok-edit_inode.ensures.update) c.in_ok-mark_all.ensures.update) done) c.mark_all-2.ensures.update
 
 pub returns-in_err-make_edits-clause-shape : goal.returns-in_err-make_edits-clause-shape
 returns-in_err-make_edits-clause-shape g c = shape_dropped _ _ _ c.requires.shape c.make_edits.ensures.count c.make_edits.ensures.drops

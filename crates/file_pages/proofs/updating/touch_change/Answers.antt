@@ -1,5 +1,5 @@
 use Rattle.file_pages.proofs.Updated.{unnamed_on}
-use Rattle.file_pages.proofs.EndsOn.{ends_vol, if_err}
+use Rattle.file_pages.proofs.EndsOn.{ends_vol, if_err, on_both}
 use Rattle.file_pages.proofs.Common.{sym, subst, Contains, arith, caches_by_one, firm_trans, inl, inr, refl, ◌then◌, ◌∙◌, CanName, None, err_from_is_err_and, inode_low}
 use Rattle.file_pages.proofs.Touched.{change_touched, touches_most}
 use Rattle.file_pages.specs.Updating.{InOneBlock, IsEdited}
@@ -50,24 +50,6 @@ returns-in_err-touch-clause-goes g c = c.touch_bitmap.ensures.goes then c.touch.
 pub returns-in_err-touch-clause-sound : goal.returns-in_err-touch-clause-sound
 returns-in_err-touch-clause-sound g c = c.touch.ensures.sound
 
-pub returns-in_err-touch_table-clause-looks : goal.returns-in_err-touch_table-clause-looks
-returns-in_err-touch_table-clause-looks g c = looks_trans _ _ _ (looks_trans _ _ _ c.touch_bitmap.ensures.looks c.touch.ensures.looks) c.touch_table.ensures.looks
-
-pub returns-in_err-touch_table-clause-standing : goal.returns-in_err-touch_table-clause-standing
-returns-in_err-touch_table-clause-standing g c = c.touch_table.ensures.standing ∙ c.touch.ensures.standing ∙ c.touch_bitmap.ensures.standing
-
-pub returns-in_err-touch_table-clause-firm : goal.returns-in_err-touch_table-clause-firm
-returns-in_err-touch_table-clause-firm g c = firm_trans _ _ _ (firm_trans _ _ _ c.touch_bitmap.ensures.firm c.touch.ensures.firm) c.touch_table.ensures.firm
-
-pub returns-in_err-touch_table-clause-in_update : goal.returns-in_err-touch_table-clause-in_update
-returns-in_err-touch_table-clause-in_update g c = c.touch_table.ensures.in_update
-
-pub returns-in_err-touch_table-clause-goes : goal.returns-in_err-touch_table-clause-goes
-returns-in_err-touch_table-clause-goes g c = c.touch_bitmap.ensures.goes then c.touch.ensures.goes then c.touch_table.ensures.goes
-
-pub returns-in_err-touch_table-clause-sound : goal.returns-in_err-touch_table-clause-sound
-returns-in_err-touch_table-clause-sound g c = c.touch_table.ensures.sound
-
 pub returns-clause-looks : goal.returns-clause-looks
 returns-clause-looks g c = looks_trans _ _ _ (looks_trans _ _ _ c.touch_bitmap.ensures.looks c.touch.ensures.looks) c.touch_table.ensures.looks
 
@@ -84,7 +66,7 @@ pub returns-clause-goes : goal.returns-clause-goes
 returns-clause-goes g c = c.touch_bitmap.ensures.goes then c.touch.ensures.goes then c.touch_table.ensures.goes
 
 pub returns-clause-ends : goal.returns-clause-ends
-returns-clause-ends g c = ends_later _ _ _ _ c.touch_bitmap.ensures.ends.later c.in_ok-touch_bitmap.ensures.ends.cause (ends_later _ _ _ _ c.touch.ensures.ends.later c.in_ok-touch.ensures.ends.cause c.in_ok-touch_table.ensures.ends)
+returns-clause-ends g c = ends_later _ _ _ _ c.touch_bitmap.ensures.ends.later c.in_ok-touch_bitmap.ensures.ends.cause (ends_later _ _ _ _ c.touch.ensures.ends.later c.in_ok-touch.ensures.ends.cause c.touch_table.ensures.ends)
 
 pub returns-clause-sound : goal.returns-clause-sound
 returns-clause-sound g c = c.touch_table.ensures.sound
@@ -119,9 +101,6 @@ returns-in_err-touch_bitmap-clause-caches g c = caches_by_one _ _ _ _ _ c.touch_
 pub returns-in_err-touch-clause-caches : goal.returns-in_err-touch-clause-caches
 returns-in_err-touch-clause-caches g c = caches_by_trans _ _ _ _ (caches_by_one _ _ _ _ _ c.touch_bitmap.ensures.caches (inl refl, refl)) (caches_by_one _ _ _ _ _ c.touch.ensures.caches (inr (inl c.inode_block.ensures), refl))
 
-pub returns-in_err-touch_table-clause-caches : goal.returns-in_err-touch_table-clause-caches
-returns-in_err-touch_table-clause-caches g c = caches_by_trans _ _ _ _ (caches_by_one _ _ _ _ _ c.touch_bitmap.ensures.caches (inl refl, refl)) (caches_by_trans _ _ _ _ (caches_by_one _ _ _ _ _ c.touch.ensures.caches (inr (inl c.inode_block.ensures), refl)) (caches_by_wider _ _ _ _ (λ b name h. (inr (inr (subst (λ es. IsEdited es b) c.as_slice.ensures h.0)), h.1)) c.touch_table.ensures.caches))
-
 pub returns-clause-caches : goal.returns-clause-caches
 returns-clause-caches g c = caches_by_trans _ _ _ _ (caches_by_one _ _ _ _ _ c.touch_bitmap.ensures.caches (inl refl, refl)) (caches_by_trans _ _ _ _ (caches_by_one _ _ _ _ _ c.touch.ensures.caches (inr (inl c.inode_block.ensures), refl)) (caches_by_wider _ _ _ _ (λ b name h. (inr (inr (subst (λ es. IsEdited es b) c.as_slice.ensures h.0)), h.1)) c.touch_table.ensures.caches))
 
@@ -132,7 +111,7 @@ pub touch_table-requires-clause-room : goal.touch_table-requires-clause-room
 touch_table-requires-clause-room g c = omega (arith, touches_most _ _ _ c.in_ok-touch.ensures.ok, c.in_ok-touch_bitmap.ensures.touches)
 
 pub returns-clause-ok : goal.returns-clause-ok
-returns-clause-ok g c = change_touched _ _ _ c.args.i.0 _ c.args.change.now _ c.inode_block.ensures c.as_slice.ensures c.in_ok-touch_bitmap.ensures.ok c.in_ok-touch.ensures.ok c.in_ok-touch_table.ensures.more c.in_ok-touch_table.ensures.ok
+returns-clause-ok g c = on_both c.touch_table.result _ _ _ (λ more done. change_touched _ _ _ c.args.i.0 _ c.args.change.now _ c.inode_block.ensures c.as_slice.ensures c.in_ok-touch_bitmap.ensures.ok c.in_ok-touch.ensures.ok more done) c.touch_table.ensures.more c.touch_table.ensures.ok
 
 pub returns-in_err-touch_bitmap-clause-ends : goal.returns-in_err-touch_bitmap-clause-ends
 returns-in_err-touch_bitmap-clause-ends g c = let p = err_from_is_err_and c.from_residual.result c.from_residual.ensures.1 in ends_vol _ _ c.touch_bitmap.result c.from_residual.result _ p.0 c.in_err-touch_bitmap.was p.1 p.2 c.touch_bitmap.ensures.ends
@@ -145,12 +124,6 @@ returns-in_err-touch-clause-ends g c = let p = err_from_is_err_and c.from_residu
 
 pub returns-in_err-touch-clause-ok : goal.returns-in_err-touch-clause-ok
 returns-in_err-touch-clause-ok g c = if_err c.from_residual-in_err-touch.result _ c.from_residual-in_err-touch.ensures.0
-
-pub returns-in_err-touch_table-clause-ends : goal.returns-in_err-touch_table-clause-ends
-returns-in_err-touch_table-clause-ends g c = let p = err_from_is_err_and c.from_residual-in_err-touch_table.result c.from_residual-in_err-touch_table.ensures.1 in ends_later _ _ _ _ c.touch_bitmap.ensures.ends.later c.in_ok-touch_bitmap.ensures.ends.cause (ends_later _ _ _ _ c.touch.ensures.ends.later c.in_ok-touch.ensures.ends.cause (ends_vol _ _ c.touch_table.result c.from_residual-in_err-touch_table.result _ p.0 c.in_err-touch_table.was p.1 p.2 c.touch_table.ensures.ends))
-
-pub returns-in_err-touch_table-clause-ok : goal.returns-in_err-touch_table-clause-ok
-returns-in_err-touch_table-clause-ok g c = if_err c.from_residual-in_err-touch_table.result _ c.from_residual-in_err-touch_table.ensures.0
 
 pub touch_bitmap-requires-clause-shape : goal.touch_bitmap-requires-clause-shape
 touch_bitmap-requires-clause-shape g c = c.requires.shape
