@@ -100,6 +100,10 @@ ends_well_memory {T = T} s t q d qd de later same = subst (λ x. EndsSize s t x)
 pub ends_well_ok : {T : Type 0} (s t : Health) (v : T) → s.faults ≤ t.faults → t.stopped ≡ s.stopped → EndsSize s t (Ok v)
 ends_well_ok s t v later same = ends_by_well s t _ _ later same (λ a. cc) (λ a. cc)
 
+-- no call was made
+pub refused_still : {T : Type 0} (s : Health) → EndsSize {T = T} s s (Err TooLarge)
+refused_still s = ends_by_well s s _ _ (omega arith) refl (λ a. cc) (λ a. cc)
+
 -- ---- one call and then another
 
 pub size_then : {T U : Type 0} (s t u : Health) (r : Result T SizeFail) (v : T) (q : Result U SizeFail) → r ≡ Ok v → EndsSize s t r → EndsSize t u q → EndsSize s u q

@@ -3,6 +3,7 @@ use Rattle.file_pages.proofs.Common.{◌≡◌, ℕ, ◌≤◌, arith, length, r
 use Rattle.std.specs.Prelude.{List}
 use Rattle.rio_base.specs.declared.failures.VolFail.TheVariants.{Fault as VolFault, Stopped as VolStopped}
 use Rattle.rio_model.proofs.WordRules.{file_beside}
+use Rattle.rio_model.specs.VolumeRules.{SizeFits}
 use Rattle.file_pages.specs.Changes.{wanted_blocks}
 use Rattle.file_pages.specs.Failures.{size_handed}
 use Rattle.file_pages.specs.Files.{HasSpace, SetsBoth, StopsAs, file_bytes}
@@ -52,3 +53,6 @@ cleared_err {T = T} shape x k z l i len q e d qd de ready settled both = subst (
 
 pub has_space : (shape : VolumeShape) (f : BlockWords) (size len wanted : ℕ) → wanted ≡ wanted_blocks size len → len ≤ largest_size → wanted ≤ length (free_blocks shape f) → HasSpace shape f size len
 has_space shape f size len wanted is most room = record { most = most; room = subst (λ (n : ℕ). n ≤ length (free_blocks shape f)) is room }
+
+pub file_fits : (kind len : ℕ) → kind ≡ 2 → len ≤ largest_size → SizeFits kind len
+file_fits kind len file most = record { most = most; directory = λ is. absurd (omega (arith, file, is)); region = λ is. absurd (omega (arith, file, is)); region_pages = λ is. absurd (omega (arith, file, is)) }

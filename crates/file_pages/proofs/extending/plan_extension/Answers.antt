@@ -1,3 +1,4 @@
+use Rattle.file_pages.proofs.GrowEnds.{file_fits}
 use Rattle.file_pages.proofs.Common.{◌-◌, ◌∙◌, ap, subst, err_from_is_err_and, ◌then◌, numbers, grown, volume_layout, LeavesInUse, Ready, IsFree, arith, free_blocks, inl, length, slice_index, sym, ℕ, ◌<◌, ◌≤◌}
 use Rattle.file_pages.specs.Changes.{Grows, given_node, PlansFor}
 use Rattle.file_pages.specs.LookingUp.{page_blocks}
@@ -226,3 +227,6 @@ returns-in_err-blocks-clause-ok g c = if_err c.from_residual-in_err-blocks.resul
 
 pub returns-in_err-blocks-clause-room : goal.returns-in_err-blocks-clause-room
 returns-in_err-blocks-clause-room g c = if_err c.from_residual-in_err-blocks.result _ c.from_residual-in_err-blocks.ensures.0
+
+pub plan_growth-requires-clause-fits : goal.plan_growth-requires-clause-fits
+plan_growth-requires-clause-fits g c = file_fits _ _ c.requires.file c.requires.most

@@ -1,8 +1,11 @@
+use Rattle.rio_base.specs.Rules.{goes_refl}
+use Rattle.file_pages.proofs.EndsOn.{if_err}
+use Rattle.file_pages.proofs.LookingUpRules.{can_look_up}
 use Rattle.file_pages.proofs.Common.{◌≡◌, ◌<◌, ◌≤◌, ◌∙◌, ℕ, take, length, sym, ap, subst, arith, slice_index, err_from_is_err_and, ◌then◌, numbers, IsFree, volume_layout, largest_size, LeavesInUse}
 use Rattle.file_pages.specs.Changes.{Grows, PlansFor, PlansSize, Shrinks, free_beside, wanted_blocks}
-use Rattle.file_pages.proofs.OrderRules.{leaves_looked, leaves_trans, ready_left}
+use Rattle.file_pages.proofs.OrderRules.{leaves_looked, leaves_trans, ready_left, leaves_refl}
 use Rattle.file_pages.specs.declared.failures.SizeFail.TheVariants.{NoSpace, TooLarge}
-use Rattle.file_pages.proofs.Ends.{err_handed, size_err, size_then}
+use Rattle.file_pages.proofs.Ends.{err_handed, size_err, size_then, refused_still}
 use Rattle.file_pages.proofs.Listed.{as_many}
 use Rattle.file_pages.proofs.Planned.{taken_most, wanted_none}
 use Rattle.file_pages.proofs.PlannedSize.{if_ok_map, plans_grown, plans_shrunk, spares_kept, spares_looked}
@@ -354,3 +357,54 @@ plan_growth-requires-clause-sound g c = c.take_beside.ensures.sound
 
 pub plan_growth-requires-clause-ino : goal.plan_growth-requires-clause-ino
 plan_growth-requires-clause-ino g c = c.requires.ino
+
+pub returns-then-len-gt-LARGEST_SIZE-clause-ok : goal.returns-then-len-gt-LARGEST_SIZE-clause-ok
+returns-then-len-gt-LARGEST_SIZE-clause-ok g c = tt
+
+pub returns-then-len-gt-LARGEST_SIZE-clause-space : goal.returns-then-len-gt-LARGEST_SIZE-clause-space
+returns-then-len-gt-LARGEST_SIZE-clause-space g c = tt
+
+pub returns-then-len-gt-LARGEST_SIZE-clause-too_large : goal.returns-then-len-gt-LARGEST_SIZE-clause-too_large
+returns-then-len-gt-LARGEST_SIZE-clause-too_large g c = λ is. omega (arith, c.if-len-gt-LARGEST_SIZE.true)
+
+pub returns-then-len-gt-LARGEST_SIZE-clause-no_space : goal.returns-then-len-gt-LARGEST_SIZE-clause-no_space
+returns-then-len-gt-LARGEST_SIZE-clause-no_space g c = λ is. absurd cc
+
+pub returns-then-len-gt-LARGEST_SIZE-clause-leaves : goal.returns-then-len-gt-LARGEST_SIZE-clause-leaves
+returns-then-len-gt-LARGEST_SIZE-clause-leaves g c = leaves_refl c.args.shape.now _ _ c.requires.ready
+
+pub returns-then-len-gt-LARGEST_SIZE-clause-goes : goal.returns-then-len-gt-LARGEST_SIZE-clause-goes
+returns-then-len-gt-LARGEST_SIZE-clause-goes g c = goes_refl _ _
+
+pub returns-then-len-gt-LARGEST_SIZE-clause-ends : goal.returns-then-len-gt-LARGEST_SIZE-clause-ends
+returns-then-len-gt-LARGEST_SIZE-clause-ends g c = refused_still _
+
+pub returns-in_err-taken-clause-ok : goal.returns-in_err-taken-clause-ok
+returns-in_err-taken-clause-ok g c = if_err c.from_residual.result _ c.from_residual.ensures.0
+
+pub returns-in_err-taken-clause-space : goal.returns-in_err-taken-clause-space
+returns-in_err-taken-clause-space g c = if_err c.from_residual.result _ c.from_residual.ensures.0
+
+pub wanted_count-wanted-requires-clause-grows : goal.wanted_count-wanted-requires-clause-grows
+wanted_count-wanted-requires-clause-grows g c = omega (arith, c.if-len-inode.false)
+
+pub wanted_count-wanted-requires-clause-most : goal.wanted_count-wanted-requires-clause-most
+wanted_count-wanted-requires-clause-most g c = omega (arith, c.if-len-gt-LARGEST_SIZE.false)
+
+pub plan_shrink-requires-clause-less : goal.plan_shrink-requires-clause-less
+plan_shrink-requires-clause-less g c = c.if-len-inode.true
+
+pub plan_shrink-requires-clause-fits : goal.plan_shrink-requires-clause-fits
+plan_shrink-requires-clause-fits g c = c.requires.fits (omega (arith, c.if-len-gt-LARGEST_SIZE.false))
+
+pub plan_shrink-requires-clause-laid : goal.plan_shrink-requires-clause-laid
+plan_shrink-requires-clause-laid g c = c.requires.ready.order.mapped.laid
+
+pub plan_shrink-requires-clause-can : goal.plan_shrink-requires-clause-can
+plan_shrink-requires-clause-can g c = can_look_up c.args.shape.now _ c.requires.ready.order.has_shape c.requires.ready.order.mapped c.requires.ready.order.named
+
+pub plan_growth-requires-clause-grows : goal.plan_growth-requires-clause-grows
+plan_growth-requires-clause-grows g c = omega (arith, c.if-len-inode.false)
+
+pub plan_growth-requires-clause-fits : goal.plan_growth-requires-clause-fits
+plan_growth-requires-clause-fits g c = c.requires.fits (omega (arith, c.if-len-gt-LARGEST_SIZE.false))

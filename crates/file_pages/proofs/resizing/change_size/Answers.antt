@@ -1,9 +1,12 @@
+use Rattle.rio_base.specs.Rules.{goes_refl}
+use Rattle.file_pages.proofs.EndsOn.{if_err}
+use Rattle.file_pages.proofs.LookingUpRules.{can_look_up}
 use Rattle.file_pages.proofs.Common.{◌≡◌, ◌<◌, length, sym, subst, arith, inl, inr, OnOk, err_from_is_err_and, free_blocks, ◌then◌, ends_by_after, IsInode, placed_at, volume_layout, LeavesInUse}
 use Rattle.file_pages.specs.Changes.{wanted_blocks}
 use Rattle.file_pages.specs.Files.{HasSpace}
 use Rattle.file_pages.specs.Forgetting.{Forgets}
-use Rattle.file_pages.proofs.OrderRules.{leaves_looked, leaves_trans, ready_left}
-use Rattle.file_pages.proofs.Ends.{ends_vol_size, unrefused_vol}
+use Rattle.file_pages.proofs.OrderRules.{leaves_looked, leaves_trans, ready_left, leaves_refl}
+use Rattle.file_pages.proofs.Ends.{ends_vol_size, unrefused_vol, refused_still}
 use Rattle.file_pages.proofs.Prepared.{leaves_err}
 use Rattle.file_pages.proofs.Resized.{held_file, size_after}
 use Rattle.file_pages.proofs.resizing.change_size.Goals as goal
@@ -108,3 +111,60 @@ pub returns-clause-forgets : goal.returns-clause-forgets
 returns-clause-forgets g c =
     let y = g.V.Blocks.seen c.size_at.new.v in
     subst (λ f. OnOk c.size_at.result (Forgets (volume_layout c.args.shape.now f) (volume_layout c.args.shape.now y.words) y)) c.look_inode.ensures.looks.looks.words c.size_at.ensures.forgets
+
+pub returns-then-len-gt-LARGEST_SIZE-clause-leaves : goal.returns-then-len-gt-LARGEST_SIZE-clause-leaves
+returns-then-len-gt-LARGEST_SIZE-clause-leaves g c = leaves_refl c.args.shape.now _ _ c.requires.ready
+
+pub returns-then-len-gt-LARGEST_SIZE-clause-space : goal.returns-then-len-gt-LARGEST_SIZE-clause-space
+returns-then-len-gt-LARGEST_SIZE-clause-space g c = inr (leaves_refl c.args.shape.now _ _ c.requires.ready)
+
+pub returns-then-len-gt-LARGEST_SIZE-clause-room : goal.returns-then-len-gt-LARGEST_SIZE-clause-room
+returns-then-len-gt-LARGEST_SIZE-clause-room g c = tt
+
+pub returns-then-len-gt-LARGEST_SIZE-clause-forgets : goal.returns-then-len-gt-LARGEST_SIZE-clause-forgets
+returns-then-len-gt-LARGEST_SIZE-clause-forgets g c = tt
+
+pub returns-then-len-gt-LARGEST_SIZE-clause-no_space : goal.returns-then-len-gt-LARGEST_SIZE-clause-no_space
+returns-then-len-gt-LARGEST_SIZE-clause-no_space g c = λ is. absurd cc
+
+pub returns-then-len-gt-LARGEST_SIZE-clause-large : goal.returns-then-len-gt-LARGEST_SIZE-clause-large
+returns-then-len-gt-LARGEST_SIZE-clause-large g c = λ is. omega (arith, c.if-len-gt-LARGEST_SIZE.true)
+
+pub returns-then-len-gt-LARGEST_SIZE-clause-goes : goal.returns-then-len-gt-LARGEST_SIZE-clause-goes
+returns-then-len-gt-LARGEST_SIZE-clause-goes g c = goes_refl _ _
+
+pub returns-then-len-gt-LARGEST_SIZE-clause-ends : goal.returns-then-len-gt-LARGEST_SIZE-clause-ends
+returns-then-len-gt-LARGEST_SIZE-clause-ends g c = refused_still _
+
+pub returns-then-len-gt-LARGEST_SIZE-clause-sound : goal.returns-then-len-gt-LARGEST_SIZE-clause-sound
+returns-then-len-gt-LARGEST_SIZE-clause-sound g c = c.requires.sound
+
+pub returns-in_err-inode-clause-room : goal.returns-in_err-inode-clause-room
+returns-in_err-inode-clause-room g c = if_err c.from_residual.result _ c.from_residual.ensures.0
+
+pub returns-in_err-inode-clause-forgets : goal.returns-in_err-inode-clause-forgets
+returns-in_err-inode-clause-forgets g c = if_err c.from_residual.result _ c.from_residual.ensures.0
+
+pub returns-in_err-inode-clause-sound : goal.returns-in_err-inode-clause-sound
+returns-in_err-inode-clause-sound g c = c.look_inode.ensures.sound
+
+pub returns-clause-sound : goal.returns-clause-sound
+returns-clause-sound g c = c.size_at.ensures.sound
+
+pub look_inode-requires-clause-sound : goal.look_inode-requires-clause-sound
+look_inode-requires-clause-sound g c = c.requires.sound
+
+pub look_inode-requires-clause-ino : goal.look_inode-requires-clause-ino
+look_inode-requires-clause-ino g c = c.requires.ino
+
+pub look_inode-requires-clause-can : goal.look_inode-requires-clause-can
+look_inode-requires-clause-can g c = can_look_up c.args.shape.now _ c.requires.ready.order.has_shape c.requires.ready.order.mapped c.requires.ready.order.named
+
+pub size_at-requires-clause-sound : goal.size_at-requires-clause-sound
+size_at-requires-clause-sound g c = c.look_inode.ensures.sound
+
+pub size_at-requires-clause-ino : goal.size_at-requires-clause-ino
+size_at-requires-clause-ino g c = c.requires.ino
+
+pub size_at-requires-clause-most : goal.size_at-requires-clause-most
+size_at-requires-clause-most g c = omega (arith, c.if-len-gt-LARGEST_SIZE.false)

@@ -11,7 +11,7 @@ use Rattle.file_pages.proofs.Ends.{err_handed, size_err, unrefused_err, size_the
 use Rattle.file_pages.specs.declared.failures.SizeFail.TheVariants.{NoSpace, TooLarge}
 use Rattle.file_pages.proofs.Extended.{grow_new, grow_old, grow_prepared}
 use Rattle.file_pages.proofs.Forgotten.{grown_frees, prepared_forgets}
-use Rattle.file_pages.proofs.GrowEnds.{cleared_both, cleared_err, has_space, file_left}
+use Rattle.file_pages.proofs.GrowEnds.{cleared_both, cleared_err, has_space, file_left, file_fits}
 use Rattle.file_pages.proofs.Prepared.{leaves_err, prepared_can, made_all}
 use Rattle.file_pages.proofs.resizing.grow.Goals as goal
 
@@ -391,3 +391,6 @@ commit_change-requires-clause-shape g c = c.clear_tail.ensures.stores.ready.orde
 
 pub commit_change-requires-clause-idle : goal.commit_change-requires-clause-idle
 commit_change-requires-clause-idle g c = c.clear_tail.ensures.stores.ready.idle
+
+pub plan_growth-requires-clause-fits : goal.plan_growth-requires-clause-fits
+plan_growth-requires-clause-fits g c = file_fits _ _ c.requires.file c.requires.most

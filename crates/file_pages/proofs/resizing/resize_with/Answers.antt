@@ -1,4 +1,7 @@
-use Rattle.file_pages.proofs.Common.{◌≡◌, ◌<◌, ◌⊎◌, length, sym, subst, arith, OnOk, free_blocks, IsIno, placed_at, volume_layout, LeavesInUse}
+use Rattle.rio_base.specs.Rules.{goes_refl}
+use Rattle.file_pages.proofs.Ends.{refused_still}
+use Rattle.file_pages.proofs.OrderRules.{leaves_refl}
+use Rattle.file_pages.proofs.Common.{◌≡◌, ◌<◌, ◌⊎◌, length, sym, subst, arith, OnOk, free_blocks, IsIno, placed_at, volume_layout, LeavesInUse, inr}
 use Rattle.file_pages.specs.Changes.{wanted_blocks}
 use Rattle.file_pages.specs.Files.{HasSpace, file_bytes}
 use Rattle.file_pages.proofs.Resized.{file_ino, file_placed, file_size, size_fault, size_ok, size_ready, size_refused, size_stopped}
@@ -114,3 +117,60 @@ returns-clause-ready g c =
     let r = c.size_at.result in
     let call = c.size_at.ensures in
     size_ready shape x k y j i len r c.requires.ready call.leaves
+
+pub returns-then-len-gt-LARGEST_SIZE-clause-ok : goal.returns-then-len-gt-LARGEST_SIZE-clause-ok
+returns-then-len-gt-LARGEST_SIZE-clause-ok g c = tt
+
+pub returns-then-len-gt-LARGEST_SIZE-clause-space : goal.returns-then-len-gt-LARGEST_SIZE-clause-space
+returns-then-len-gt-LARGEST_SIZE-clause-space g c = tt
+
+pub returns-then-len-gt-LARGEST_SIZE-clause-forgets : goal.returns-then-len-gt-LARGEST_SIZE-clause-forgets
+returns-then-len-gt-LARGEST_SIZE-clause-forgets g c = tt
+
+pub returns-then-len-gt-LARGEST_SIZE-clause-too_large : goal.returns-then-len-gt-LARGEST_SIZE-clause-too_large
+returns-then-len-gt-LARGEST_SIZE-clause-too_large g c = λ is. omega (arith, c.if-len-gt-LARGEST_SIZE.true)
+
+pub returns-then-len-gt-LARGEST_SIZE-clause-no_space : goal.returns-then-len-gt-LARGEST_SIZE-clause-no_space
+returns-then-len-gt-LARGEST_SIZE-clause-no_space g c = λ is. absurd cc
+
+pub returns-then-len-gt-LARGEST_SIZE-clause-refused : goal.returns-then-len-gt-LARGEST_SIZE-clause-refused
+returns-then-len-gt-LARGEST_SIZE-clause-refused g c = λ is. leaves_refl c.args.shape.now _ _ c.requires.ready
+
+pub returns-then-len-gt-LARGEST_SIZE-clause-fault : goal.returns-then-len-gt-LARGEST_SIZE-clause-fault
+returns-then-len-gt-LARGEST_SIZE-clause-fault g c = λ is. absurd cc
+
+pub returns-then-len-gt-LARGEST_SIZE-clause-stopped : goal.returns-then-len-gt-LARGEST_SIZE-clause-stopped
+returns-then-len-gt-LARGEST_SIZE-clause-stopped g c = λ is. absurd cc
+
+pub returns-then-len-gt-LARGEST_SIZE-clause-ready : goal.returns-then-len-gt-LARGEST_SIZE-clause-ready
+returns-then-len-gt-LARGEST_SIZE-clause-ready g c = inr c.requires.ready
+
+pub returns-then-len-gt-LARGEST_SIZE-clause-goes : goal.returns-then-len-gt-LARGEST_SIZE-clause-goes
+returns-then-len-gt-LARGEST_SIZE-clause-goes g c = goes_refl _ _
+
+pub returns-then-len-gt-LARGEST_SIZE-clause-ends : goal.returns-then-len-gt-LARGEST_SIZE-clause-ends
+returns-then-len-gt-LARGEST_SIZE-clause-ends g c = refused_still _
+
+pub returns-then-len-gt-LARGEST_SIZE-clause-sound : goal.returns-then-len-gt-LARGEST_SIZE-clause-sound
+returns-then-len-gt-LARGEST_SIZE-clause-sound g c = c.requires.sound
+
+pub returns-clause-goes : goal.returns-clause-goes
+returns-clause-goes g c = c.size_at.ensures.goes
+
+pub returns-clause-ends : goal.returns-clause-ends
+returns-clause-ends g c = c.size_at.ensures.ends
+
+pub returns-clause-sound : goal.returns-clause-sound
+returns-clause-sound g c = c.size_at.ensures.sound
+
+pub returns-clause-forgets : goal.returns-clause-forgets
+returns-clause-forgets g c = c.size_at.ensures.forgets
+
+pub size_at-requires-clause-sound : goal.size_at-requires-clause-sound
+size_at-requires-clause-sound g c = c.requires.sound
+
+pub size_at-requires-clause-ready : goal.size_at-requires-clause-ready
+size_at-requires-clause-ready g c = c.requires.ready
+
+pub size_at-requires-clause-most : goal.size_at-requires-clause-most
+size_at-requires-clause-most g c = omega (arith, c.if-len-gt-LARGEST_SIZE.false)

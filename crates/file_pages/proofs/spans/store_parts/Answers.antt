@@ -1,5 +1,5 @@
 use Rattle.file_pages.proofs.Written.{bytes_fault, bytes_runs, bytes_stop}
-use Rattle.file_pages.proofs.Common.{◌≡◌, ◌-◌, min, arith, ap, subst, sym, ◌∙◌, Err, ◌then◌, firm_trans, ends_by_after, numbers}
+use Rattle.file_pages.proofs.Common.{◌≡◌, ◌-◌, min, arith, ap, subst, sym, ◌∙◌, Err, ◌then◌, firm_trans, ends_by_after, numbers, ℕ, ◌<◌, slice_index}
 use Rattle.file_pages.specs.Spans.{PutsLead}
 use Rattle.file_pages.proofs.Spanned.{fault_told, parts_first, parts_then, parts_whole}
 use Rattle.file_pages.proofs.Staged.{beside_trans}
@@ -220,3 +220,14 @@ returns-in-Ok-store_span-clause-ends g c = ends_by_after _ _ _ _ _ c.store_span.
 
 pub returns-in-Err-Stopped-store_span-clause-ends : goal.returns-in-Err-Stopped-store_span-clause-ends
 returns-in-Err-Stopped-store_span-clause-ends g c = ends_by_after _ _ _ _ _ c.store_span.ensures.ends.later (bytes_runs _ _ _ c.in-Ok.ensures.ends) (bytes_stop _ _ _ c.in-Err-Stopped-store_span.field-0-is c.in-Err-Stopped-store_span.ensures.ends)
+
+pub returns-in-Err-Fault-clause-fault : goal.returns-in-Err-Fault-clause-fault
+returns-in-Err-Fault-clause-fault g c = λ k is.
+    let front = c.store_span.ensures.front in
+    subst (PutsLead _ _ (numbers c.args.blocks.now) c.args.first c.args.size c.args.off c.args.bytes.now) (fault_told _ k is) (parts_first _ _ (numbers c.args.blocks.now) c.args.first c.args.size c.args.off c.args.bytes.now _ front.0 c.live_bytes-live.ensures front.1 front.2)
+
+pub store_span-requires-2-clause-places : goal.store_span-requires-2-clause-places
+store_span-requires-2-clause-places g c = λ t few. subst (λ (n : ℕ). slice_index (numbers c.args.blocks.now) t < n) (sym c.store_span.ensures.beside.count) (c.requires.places t few)
+
+pub store_span-requires-clause-from : goal.store_span-requires-clause-from
+store_span-requires-clause-from g c = omega (arith, c.requires.from)
