@@ -1,6 +1,6 @@
 use Rattle.file_pages.proofs.EndsOn.{if_err}
 use Rattle.file_pages.proofs.Ends.{ends_read, ends_read_ok, read_runs, read_still, read_still_memory}
-use Rattle.file_pages.proofs.Common.{◌≡◌, ◌/◌, ◌∙◌, length, sym, ap, subst, arith, inl, placed_at, volume_layout, AllNamed, numbers, err_from_is_err_and, ends_by_after, le_trans}
+use Rattle.file_pages.proofs.Common.{◌≡◌, ◌/◌, ◌∙◌, length, sym, ap, subst, arith, inl, placed_at, volume_layout, AllNamed, numbers, err_from_is_err_and, ends_by_after, le_trans, IsMapped}
 use Rattle.file_pages.specs.LookingUp.{page_blocks}
 use Rattle.file_pages.proofs.LookingUpRules.{look_trans, named_on, can_look_up, look_refl}
 use Rattle.file_pages.proofs.Given.{direct_page}
@@ -159,3 +159,30 @@ read_in_page-requires-clause-within g c = c.requires.within
 
 pub push_pages-requires-clause-shape : goal.push_pages-requires-clause-shape
 push_pages-requires-clause-shape g c = c.page_blocks.ensures.looks.still.has_shape
+
+pub page_blocks-requires-clause-inode : goal.page_blocks-requires-clause-inode
+page_blocks-requires-clause-inode g c = inl (c.requires.inode, omega (arith, c.requires.inode.kind, c.requires.file))
+
+pub page_blocks-requires-clause-order : goal.page_blocks-requires-clause-order
+page_blocks-requires-clause-order g c = omega (arith, c.div_ceil-last.ensures, c.if-off-end.false)
+
+pub push_pages-requires-clause-mapped : goal.push_pages-requires-clause-mapped
+push_pages-requires-clause-mapped g c = subst (IsMapped c.args.shape.now) (sym c.page_blocks.ensures.looks.looks.words) c.requires.mapped
+
+pub push_pages-requires-clause-file : goal.push_pages-requires-clause-file
+push_pages-requires-clause-file g c = subst (λ f. (placed_at f c.args.i.0).kind ≡ 2) (sym c.page_blocks.ensures.looks.looks.words) c.requires.file
+
+pub push_pages-requires-clause-size : goal.push_pages-requires-clause-size
+push_pages-requires-clause-size g c = subst (λ f. (placed_at f c.args.i.0).size ≡ c.args.inode.now.size) (sym c.page_blocks.ensures.looks.looks.words) (sym c.requires.inode.size)
+
+pub push_pages-requires-clause-order : goal.push_pages-requires-clause-order
+push_pages-requires-clause-order g c = omega (arith, c.if-off-end.false)
+
+pub read_in_page-requires-clause-size : goal.read_in_page-requires-clause-size
+read_in_page-requires-clause-size g c = sym c.requires.inode.size
+
+pub read_in_page-requires-clause-order : goal.read_in_page-requires-clause-order
+read_in_page-requires-clause-order g c = omega (arith, c.if-off-end.false)
+
+pub returns-in-Some-clause-value : goal.returns-in-Some-clause-value
+returns-in-Some-clause-value g c = c.read_in_page.ensures.value
