@@ -80,3 +80,42 @@ returns-else-len-inode-clause-ends g c = c.grow.ensures.ends
 
 pub returns-else-len-inode-clause-forgets : goal.returns-else-len-inode-clause-forgets
 returns-else-len-inode-clause-forgets g c = c.grow.ensures.forgets
+
+pub grow-requires-clause-ino : goal.grow-requires-clause-ino
+grow-requires-clause-ino g c = c.requires.ino
+
+pub shrink-requires-clause-ino : goal.shrink-requires-clause-ino
+shrink-requires-clause-ino g c = c.requires.ino
+
+pub grow-requires-clause-inode : goal.grow-requires-clause-inode
+grow-requires-clause-inode g c = c.requires.inode
+
+pub shrink-requires-clause-inode : goal.shrink-requires-clause-inode
+shrink-requires-clause-inode g c = c.requires.inode
+
+pub grow-requires-clause-ready : goal.grow-requires-clause-ready
+grow-requires-clause-ready g c = c.requires.ready
+
+pub shrink-requires-clause-ready : goal.shrink-requires-clause-ready
+shrink-requires-clause-ready g c = c.requires.ready
+
+pub grow-requires-clause-sound : goal.grow-requires-clause-sound
+grow-requires-clause-sound g c = c.requires.sound
+
+pub shrink-requires-clause-sound : goal.shrink-requires-clause-sound
+shrink-requires-clause-sound g c = c.requires.sound
+
+pub grow-requires-clause-most : goal.grow-requires-clause-most
+grow-requires-clause-most g c = c.requires.most
+
+pub grow-requires-clause-grows : goal.grow-requires-clause-grows
+grow-requires-clause-grows g c = omega (arith, c.if-len-inode.false)
+
+pub shrink-requires-clause-less : goal.shrink-requires-clause-less
+shrink-requires-clause-less g c = c.if-len-inode.true
+
+pub returns-else-len-inode-clause-sound : goal.returns-else-len-inode-clause-sound
+returns-else-len-inode-clause-sound g c = c.grow.ensures.sound
+
+pub returns-then-len-inode-clause-sound : goal.returns-then-len-inode-clause-sound
+returns-then-len-inode-clause-sound g c = c.shrink.ensures.sound

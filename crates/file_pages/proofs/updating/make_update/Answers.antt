@@ -1,4 +1,6 @@
-use Rattle.rio_base.proofs.BlockRules.{shape_dropped}
+use Rattle.file_pages.proofs.Touched.{bitmap_dropped}
+use Rattle.rio_base.proofs.Rules.{drops_trans}
+use Rattle.rio_base.proofs.BlockRules.{shape_dropped, caches_trans}
 use Rattle.file_pages.proofs.EndsOn.{halts_later, halts_on, if_err, on_ok}
 use Rattle.file_pages.proofs.Common.{◌<◌, ◌∙◌, ◌then◌, ℕ, firm_trans, sym, subst, numbers, Bool, ap, err_from_is_err_and, inode_block}
 use Rattle.file_pages.specs.Updating.{SetsBits}
@@ -180,3 +182,15 @@ mark_all-requires-clause-touched g c = ap (λ (f : ℕ → Bool). f 1) (c.in_ok-
 
 pub mark_all-requires-2-clause-touched : goal.mark_all-requires-2-clause-touched
 mark_all-requires-2-clause-touched g c = ap (λ (f : ℕ → Bool). f 1) (c.in_ok-mark_all.ensures.update.touched ∙ c.in_ok-edit_inode.ensures.update.touched ∙ c.in_ok-make_edits.ensures.update.touched) ∙ c.requires.touched.bitmap
+
+pub returns-in_err-make_edits-clause-caches : goal.returns-in_err-make_edits-clause-caches
+returns-in_err-make_edits-clause-caches g c = bitmap_dropped _ _ c.make_edits.ensures.drops
+
+pub returns-in_err-edit_inode-clause-caches : goal.returns-in_err-edit_inode-clause-caches
+returns-in_err-edit_inode-clause-caches g c = bitmap_dropped _ _ (drops_trans _ _ _ c.make_edits.ensures.drops c.edit_inode.ensures.drops)
+
+pub returns-in_err-mark_all-clause-caches : goal.returns-in_err-mark_all-clause-caches
+returns-in_err-mark_all-clause-caches g c = caches_trans _ _ _ _ _ (bitmap_dropped _ _ (drops_trans _ _ _ c.make_edits.ensures.drops c.edit_inode.ensures.drops)) c.mark_all.ensures.caches
+
+pub returns-clause-caches : goal.returns-clause-caches
+returns-clause-caches g c = caches_trans _ _ _ _ _ (bitmap_dropped _ _ (drops_trans _ _ _ c.make_edits.ensures.drops c.edit_inode.ensures.drops)) (caches_trans _ _ _ _ _ c.mark_all.ensures.caches c.mark_all-2.ensures.caches)
