@@ -3,13 +3,11 @@
 ghost use Rattle.std.specs.Prelude.{◌≡◌, ◌<◌, false};
 ghost use Rattle.machine_tests.specs.Walks.{Walks};
 
-use crate::cache_walks::cache_of;
-use crate::crashes::crashed;
+use crate::jobs::{Job, used};
 use crate::machines::Mishap;
 use crate::same::same;
-use block_disk::DiskChoice;
 use page_cache::PageCache;
-use rio_base::{BLOCK_WORDS, Block, Blocks, Machine, VolFail, Volume};
+use rio_base::{BLOCK_WORDS, Block, Blocks, Machine, RunFail, VolFail, Volume, WordAt};
 use std::alloc::Global;
 use std::process::Abort;
 
@@ -59,7 +57,7 @@ fn turn<M: Machine>(v: &mut PageCache<M>, b: u32, ahead: bool) -> Result<(), Vol
 }
 
 /// Stores into the blocks 0 to 39 in turn, 128 times in all: a cache of 32 frames never has the next one.
-fn go_round<M: Machine>(v: &mut PageCache<M>, ahead: bool) -> Result<(), VolFail>
+pub(crate) fn go_round<M: Machine>(v: &mut PageCache<M>, ahead: bool) -> Result<(), VolFail>
     requires sound { ⟦<PageCache<M> as Blocks>⟧.sound v.old }
     requires walks { Walks (⟦<PageCache<M> as Blocks>⟧.seen v.old) }
     requires idle { (⟦<PageCache<M> as Volume>⟧.kept v.old).updating ≡ false }
@@ -72,7 +70,7 @@ fn go_round<M: Machine>(v: &mut PageCache<M>, ahead: bool) -> Result<(), VolFail
 }
 
 /// How many of the first 40 blocks have 7 as their first word.
-fn sevens(words: &[u64]) -> u32 {
+pub(crate) fn sevens(words: &[u64]) -> u32 {
     let mut count = 0u32;
     for b in 0..40usize {
         if words.get(BLOCK_WORDS * b) == Some(&7) {
@@ -84,18 +82,16 @@ fn sevens(words: &[u64]) -> u32 {
 
 /// What came of it: how it ended, how many blocks were written, and how many of the 40 blocks stand as stored, after a crash
 /// that lost each pending block.
-type Came = (Result<(), VolFail>, u64, u32);
+type Came = (Result<u64, RunFail>, u64, u32);
 
 /// Goes round on a cache of 32 frames: what came of it, and how many steps were no write of a block.
 fn came_of(rt: &impl Abort, alloc: Global, ahead: bool) -> (Came, u64) {
-    let mut v = cache_of(rt, alloc, 32, Mishap::Nothing);
-    let end = go_round(&mut v, ahead);
-    let machine = v.into_machine();
-    let steps = machine.steps();
-    let (mem, disk) = machine.into_parts();
-    let writes = disk.writes();
-    let found = crashed(rt, alloc, &mem.into_words(), disk, DiskChoice::AsSynced);
-    ((end, writes, sevens(&found)), steps.saturating_sub(writes))
+    let left = used(rt, alloc, Mishap::Nothing, Job::GoRound(ahead), WordAt(0));
+    let (end, _, _) = left.came;
+    (
+        (end, left.writes, left.sevens),
+        left.steps.saturating_sub(left.writes),
+    )
 }
 
 /// Both make the same stores. Of 96 pages that leave, each has a sync of its own, or 7 syncs serve them all: that of the
@@ -105,7 +101,7 @@ fn one_sync_serves_many_pages_that_leave(rt: HostRuntime) {
     let (alone, alone_steps) = came_of(&rt, rt.alloc(), false);
     let (ahead, ahead_steps) = came_of(&rt, rt.alloc(), true);
     let saved = alone_steps.saturating_sub(ahead_steps);
-    let due = ((Ok(()), 96, 40), (Ok(()), 127, 40), 96 - 7);
+    let due = ((Ok(0), 96, 40), (Ok(0), 127, 40), 96 - 7);
     same(
         &rt,
         "written, and syncs less",

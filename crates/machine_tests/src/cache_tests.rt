@@ -4,12 +4,10 @@
 ghost use Rattle.std.specs.Prelude.{◌≡◌, ◌+◌, ◌<◌, ◌≤◌, true, false, OnOk};
 ghost use Rattle.machine_tests.specs.Walks.{Walks};
 
-use crate::cache_walks::cache_of;
-use crate::crashes::crashed;
+use crate::jobs::{Job, used};
 use crate::machines::Mishap;
 use crate::same::same;
-use block_disk::DiskChoice;
-use rio_base::{BLOCK_WORDS, Block, Blocks, VolFail, Volume};
+use rio_base::{Block, Blocks, RunFail, VolFail, Volume, WordAt};
 use std::alloc::Global;
 use std::process::Abort;
 
@@ -51,7 +49,7 @@ fn is_lent<V: Volume>(v: &V, b: u32) -> bool
 }
 
 /// How the row ends, and whether the blocks 0, 1, 2 and 32 are then in memory.
-fn lent_after<V: Volume>(v: &mut V) -> (Result<(), VolFail>, [bool; 4])
+pub(crate) fn lent_after<V: Volume>(v: &mut V) -> (Result<(), VolFail>, [bool; 4])
     requires sound { V.sound v.old }
     requires walks { Walks (V.seen v.old) }
     ensures sound { V.sound v.new }
@@ -61,18 +59,11 @@ fn lent_after<V: Volume>(v: &mut V) -> (Result<(), VolFail>, [bool; 4])
     (end, lent)
 }
 
-/// The same on a fresh cache of 32 frames.
-fn lent(rt: &impl Abort, alloc: Global) -> (Result<(), VolFail>, [bool; 4]) {
-    let mut v = cache_of(rt, alloc, 32, Mishap::Nothing);
-    let came = lent_after(&mut v);
-    let (_, _) = v.into_machine().into_parts();
-    came
-}
-
 #[test]
 fn the_block_used_longest_ago_leaves(rt: HostRuntime) {
-    let due = (Ok(()), [true, false, true, true]);
-    same(&rt, "what is in memory", 0, &lent(&rt, rt.alloc()), &due);
+    let left = used(&rt, rt.alloc(), Mishap::Nothing, Job::ReadRow, WordAt(0));
+    let due = (Ok(0), None, [true, false, true, true]);
+    same(&rt, "what is in memory", 0, &left.came, &due);
 }
 
 /// Touches a block of metadata in the open update, and makes its first word 7.
@@ -95,7 +86,7 @@ fn set_first<V: Volume>(v: &mut V, b: Block) -> Result<(), VolFail>
 
 /// Makes the first words of the blocks 5 and 6 the word 7, by one update.
 #[tactic(auto, using(crate::proofs::WalkNames::walks_dropped))]
-fn update_two<V: Volume>(v: &mut V) -> Result<(), VolFail>
+pub(crate) fn update_two<V: Volume>(v: &mut V) -> Result<(), VolFail>
     requires sound { V.sound v.old }
     requires walks { Walks (V.seen v.old) }
     requires idle { (V.kept v.old).updating ≡ false }
@@ -109,17 +100,14 @@ fn update_two<V: Volume>(v: &mut V) -> Result<(), VolFail>
 }
 
 /// How an update ended, how many steps it made, and the first words of the two blocks that stand then.
-type Updated = (Result<(), VolFail>, u64, [u64; 2]);
+type Updated = (Result<u64, RunFail>, u64, [u64; 2]);
 
 /// Makes the update on a fresh cache of 32 frames, which this befalls.
 fn updated(rt: &impl Abort, alloc: Global, mishap: Mishap) -> Updated {
-    let mut v = cache_of(rt, alloc, 32, mishap);
-    let end = update_two(&mut v);
-    let machine = v.into_machine();
-    let steps = machine.steps();
-    let (mem, disk) = machine.into_parts();
-    let found = crashed(rt, alloc, &mem.into_words(), disk, DiskChoice::AsSynced);
-    (end, steps, [found[BLOCK_WORDS * 5], found[BLOCK_WORDS * 6]])
+    let left = used(rt, alloc, mishap, Job::Update, WordAt(0));
+    let (end, _, _) = left.came;
+    let [five, six] = left.firsts;
+    (end, left.steps, [five, six])
 }
 
 /// Stops the update after each number of steps: both words stand as before, or both as it makes them.
@@ -133,7 +121,7 @@ fn check_stops(rt: &impl Abort, alloc: Global, all: u64) {
             "steps",
             steps as usize,
             &(end, words),
-            &(Err(VolFail::Stopped), [v, v]),
+            &(Err(RunFail::Stopped), [v, v]),
         );
     }
 }
@@ -143,5 +131,5 @@ fn an_update_over_a_cache_stands_whole(rt: HostRuntime) {
     let (_, all, _) = updated(&rt, rt.alloc(), Mishap::Nothing);
     check_stops(&rt, rt.alloc(), all);
     let came = updated(&rt, rt.alloc(), Mishap::Stop(all));
-    same(&rt, "all steps", 0, &came, &(Ok(()), all, [7, 7]));
+    same(&rt, "all steps", 0, &came, &(Ok(0), all, [7, 7]));
 }

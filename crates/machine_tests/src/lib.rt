@@ -25,6 +25,8 @@ mod draws;
 #[cfg(test)]
 mod entries;
 #[cfg(test)]
+mod jobs;
+#[cfg(test)]
 mod machines;
 #[cfg(test)]
 mod plain_blocks;

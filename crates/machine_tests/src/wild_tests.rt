@@ -5,14 +5,11 @@ ghost use Rattle.std.specs.Prelude.{◌≡◌, ◌<◌, ◌≤◌, false, length
 ghost use Rattle.machine_tests.specs.Walks.{Walks};
 
 use crate::cache_tests::read_first;
-use crate::cache_walks::cache_of;
-use crate::cached::word_in;
-use crate::crashes::crashed;
+use crate::jobs::{Job, used};
 use crate::machines::Mishap;
 use crate::same::same;
-use block_disk::DiskChoice;
 use page_cache::PageCache;
-use rio_base::{BLOCK_WORDS, Block, Blocks, Machine, RunFail, VolFail, Volume, Wild, WordAt};
+use rio_base::{Block, Blocks, Machine, RunFail, VolFail, Volume, Wild, WordAt};
 use std::alloc::Global;
 use std::process::Abort;
 
@@ -23,10 +20,15 @@ const IN_SCRATCH: WordAt = WordAt(25_600);
 
 #[test]
 fn a_cache_tells_its_blocks_and_pages(rt: HostRuntime) {
-    let v = cache_of(&rt, rt.alloc(), 32, Mishap::Nothing);
-    let came = [v.volume_blocks(), v.machine().pages()];
-    let (_, _) = v.into_machine().into_parts();
-    same(&rt, "blocks and pages", 0, &came, &[64, 51]);
+    let left = used(&rt, rt.alloc(), Mishap::Nothing, Job::Count, WordAt(0));
+    let (blocks, _, _) = left.came;
+    same(
+        &rt,
+        "blocks and pages",
+        0,
+        &(blocks, left.pages),
+        &(Ok(64), 51),
+    );
 }
 
 /// A wild store of 9 now, to a place that every memory under a cache has.
@@ -55,7 +57,7 @@ fn arm<M: Machine>(v: &mut PageCache<M>, step: u64, at: WordAt)
 }
 
 /// What a wild store of 9 to a place meets, and what block 5 then reads as.
-fn struck<M: Machine>(v: &mut PageCache<M>, at: WordAt) -> (Wild, Result<u64, VolFail>)
+pub(crate) fn struck<M: Machine>(v: &mut PageCache<M>, at: WordAt) -> (Wild, Result<u64, VolFail>)
     requires sound { ⟦<PageCache<M> as Blocks>⟧.sound v.old }
     requires walks { Walks (⟦<PageCache<M> as Blocks>⟧.seen v.old) }
     requires running { (⟦<PageCache<M> as Blocks>⟧.health v.old).stopped ≡ false }
@@ -67,23 +69,19 @@ fn struck<M: Machine>(v: &mut PageCache<M>, at: WordAt) -> (Wild, Result<u64, Vo
 }
 
 /// What a wild store of 9 to a place meets, what block 5 then reads as, and the word at the place.
-type Struck = (Wild, Result<u64, VolFail>, u64);
+type Struck = (Option<Wild>, Result<u64, RunFail>, u64);
 
 /// Makes the wild store on a fresh cache.
 fn after_wild(rt: &impl Abort, alloc: Global, at: WordAt) -> Struck {
-    if 26_112 <= at.0 {
-        panic!(rt; "no such word");
-    }
-    let mut v = cache_of(rt, alloc, 32, Mishap::Nothing);
-    let (met, read) = struck(&mut v, at);
-    let (mem, _) = v.into_machine().into_parts();
-    (met, read, word_in(&mem, at.0))
+    let left = used(rt, alloc, Mishap::Nothing, Job::Strike, at);
+    let (read, met, _) = left.came;
+    (met, read, left.word)
 }
 
 /// Where a wild store falls, and what is found of it.
 static WILD: [(WordAt, Struck); 2] = [
-    (IN_FRAME, (Wild::Trapped, Err(VolFail::Stopped), 0)),
-    (IN_SCRATCH, (Wild::Changed, Ok(0), 9)),
+    (IN_FRAME, (Some(Wild::Trapped), Err(RunFail::Stopped), 0)),
+    (IN_SCRATCH, (Some(Wild::Changed), Ok(0), 9)),
 ];
 
 #[test]
@@ -111,7 +109,7 @@ fn store_first<V: Volume>(v: &mut V) -> Result<(), VolFail>
 }
 
 /// Stores 7 as the first word of block 5, while a wild store of 9 to a place is armed to fall after the first step.
-fn store_armed<M: Machine>(v: &mut PageCache<M>, at: WordAt) -> Result<(), VolFail>
+pub(crate) fn store_armed<M: Machine>(v: &mut PageCache<M>, at: WordAt) -> Result<(), VolFail>
     requires sound { ⟦<PageCache<M> as Blocks>⟧.sound v.old }
     requires walks { Walks (⟦<PageCache<M> as Blocks>⟧.seen v.old) }
     requires idle { (⟦<PageCache<M> as Volume>⟧.kept v.old).updating ≡ false }
@@ -124,27 +122,20 @@ fn store_armed<M: Machine>(v: &mut PageCache<M>, at: WordAt) -> Result<(), VolFa
 
 /// What is found of a store of 7 to block 5, while a wild store of 9 is armed to fall after its first step: how it ended,
 /// where the wild store trapped, the word at the place of the wild store, and the first word of block 5 that stands.
-type Armed = (Result<(), VolFail>, Option<WordAt>, u64, u64);
+type Armed = (Result<u64, RunFail>, Option<WordAt>, u64, u64);
 
 /// Makes the two stores on a fresh cache, the wild one to this place.
 fn after_armed(rt: &impl Abort, alloc: Global, at: WordAt) -> Armed {
-    if 26_112 <= at.0 {
-        panic!(rt; "no such word");
-    }
-    let mut v = cache_of(rt, alloc, 32, Mishap::Nothing);
-    let end = store_armed(&mut v, at);
-    let machine = v.into_machine();
-    let trapped = machine.trapped();
-    let (mem, disk) = machine.into_parts();
-    let word = word_in(&mem, at.0);
-    let found = crashed(rt, alloc, &mem.into_words(), disk, DiskChoice::AsSynced);
-    (end, trapped, word, found[BLOCK_WORDS * 5])
+    let left = used(rt, alloc, Mishap::Nothing, Job::StoreArmed, at);
+    let (end, _, _) = left.came;
+    let [first, _] = left.firsts;
+    (end, left.trapped, left.word, first)
 }
 
 /// Where the armed store falls, and what is found of both.
 static ARMED: [(WordAt, Armed); 2] = [
-    (IN_FRAME, (Err(VolFail::Stopped), Some(IN_FRAME), 0, 0)),
-    (IN_SCRATCH, (Ok(()), None, 9, 7)),
+    (IN_FRAME, (Err(RunFail::Stopped), Some(IN_FRAME), 0, 0)),
+    (IN_SCRATCH, (Ok(0), None, 9, 7)),
 ];
 
 #[test]
@@ -187,7 +178,11 @@ fn store_front<V: Volume>(v: &mut V, words: &[u64]) -> Result<(), RunFail>
 
 /// Has block 5 cached, and stores its first words in one run, while a wild store of 9 to a place is armed to fall after three
 /// steps.
-fn run_armed<M: Machine>(v: &mut PageCache<M>, at: WordAt, words: &[u64]) -> Result<(), RunFail>
+pub(crate) fn run_armed<M: Machine>(
+    v: &mut PageCache<M>,
+    at: WordAt,
+    words: &[u64],
+) -> Result<(), RunFail>
     requires sound { ⟦<PageCache<M> as Blocks>⟧.sound v.old }
     requires walks { Walks (⟦<PageCache<M> as Blocks>⟧.seen v.old) }
     requires idle { (⟦<PageCache<M> as Volume>⟧.kept v.old).updating ≡ false }
@@ -202,39 +197,32 @@ fn run_armed<M: Machine>(v: &mut PageCache<M>, at: WordAt, words: &[u64]) -> Res
 
 /// How a run of stores to block 5 ends, and the word at the place of a wild store of 9 that is armed to fall after three
 /// steps.
-type Run = (Result<(), RunFail>, u64);
+type Run = (Result<u64, RunFail>, u64);
 
-/// Makes a run of `n` stores on a fresh cache. The block is cached and its page clean: so the page's mark is the first step,
+/// Stores these words on a fresh cache. The block is cached and its page clean: so the page's mark is the first step,
 /// and each word is one more.
-fn after_three(rt: &impl Abort, alloc: Global, at: WordAt, n: usize) -> Run {
-    if 26_112 <= at.0 {
-        panic!(rt; "no such word");
-    }
-    if 3 < n {
-        panic!(rt; "too many words");
-    }
-    let mut v = cache_of(rt, alloc, 32, Mishap::Nothing);
-    let end = run_armed(&mut v, at, &[7; 3][..n]);
-    let (mem, _) = v.into_machine().into_parts();
-    (end, word_in(&mem, at.0))
+fn after_three(rt: &impl Abort, alloc: Global, at: WordAt, words: &'static [u64]) -> Run {
+    let left = used(rt, alloc, Mishap::Nothing, Job::RunArmed(words), at);
+    let (end, _, _) = left.came;
+    (end, left.word)
 }
 
-/// Where the armed store falls, how many words are stored, how that ends, and the word at the place.
-static RUNS: [(WordAt, usize, Run); 4] = [
-    (IN_SCRATCH, 2, (Ok(()), 0)),
-    (IN_SCRATCH, 3, (Ok(()), 9)),
-    (IN_FRAME, 2, (Ok(()), 0)),
-    (IN_FRAME, 3, (Err(RunFail::Stopped), 0)),
+/// Where the armed store falls, the words that are stored, how that ends, and the word at the place.
+static RUNS: [(WordAt, &[u64], Run); 4] = [
+    (IN_SCRATCH, &[7, 7], (Ok(0), 0)),
+    (IN_SCRATCH, &[7, 7, 7], (Ok(0), 9)),
+    (IN_FRAME, &[7, 7], (Ok(0), 0)),
+    (IN_FRAME, &[7, 7, 7], (Err(RunFail::Stopped), 0)),
 ];
 
 #[test]
 fn an_armed_store_falls_after_its_steps_and_not_before(rt: HostRuntime) {
-    for (k, (at, n, due)) in RUNS.iter().enumerate() {
+    for (k, (at, words, due)) in RUNS.iter().enumerate() {
         same(
             &rt,
             "steps before",
             k,
-            &after_three(&rt, rt.alloc(), *at, *n),
+            &after_three(&rt, rt.alloc(), *at, words),
             due,
         );
     }
