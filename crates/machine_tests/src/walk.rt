@@ -51,18 +51,17 @@ fn compare(plain: &PlainBlocks, b: Block, w: u16, words: &[u64]) -> Result<(), W
     Ok(())
 }
 
-/// Reads a word.
-#[tactic(auto, using(crate::proofs::WalkNames::walk_place, crate::proofs::WalkNames::can_walk_as, crate::proofs::WalkNames::walks_looked, crate::proofs::WalkNames::same_update_passed))]
-fn read_word<V: Volume>(v: &mut V, plain: &PlainBlocks, b: Block, w: u16) -> Result<(), WalkEnd>
-    requires sound { V.sound v.old }
-    requires walks { Walks (V.seen v.old) }
+/// How a walk goes on after a word was read: it ends where that is another one, and where the volume stopped.
+fn word_end(
+    plain: &PlainBlocks,
+    b: Block,
+    w: u16,
+    came: Result<u64, VolFail>,
+) -> Result<(), WalkEnd>
     requires block { b.0 < 64 }
     requires word { w < 512 }
-    ensures update { SameUpdate (V.kept v.old) (V.kept v.new) }
-    ensures walks { Walks (V.seen v.new) }
-    ensures sound { V.sound v.new }
 {
-    match v.word(b, name_of(b), w) {
+    match came {
         Ok(word) => compare(plain, b, w, &[word]),
         Err(VolFail::Fault) => Ok(()),
         Err(VolFail::Stopped) => Err(WalkEnd::Stopped),
@@ -197,7 +196,7 @@ fn flush<V: Volume>(v: &mut V, k: u64) -> Result<(), WalkEnd>
 }
 
 /// Edits a word of a touched block, and may read it back.
-#[tactic(auto, using(crate::proofs::WalkNames::walk_place, crate::proofs::WalkNames::walks_dropped, crate::proofs::WalkNames::same_update_trans))]
+#[tactic(auto, using(crate::proofs::WalkNames::walk_place, crate::proofs::WalkNames::can_walk_as, crate::proofs::WalkNames::walks_looked, crate::proofs::WalkNames::walks_dropped, crate::proofs::WalkNames::same_update_passed, crate::proofs::WalkNames::same_update_trans))]
 fn edit<V: Volume>(
     v: &mut V,
     plain: &mut PlainBlocks,
@@ -220,11 +219,12 @@ fn edit<V: Volume>(
     if draws.below(2) == 0 {
         return Ok(());
     }
-    read_word(v, plain, b, w)
+    let came = v.word(b, name_of(b), w);
+    word_end(plain, b, w, came)
 }
 
 /// Edits one or two words of a touched block, and reads a word of any block.
-#[tactic(auto, using(crate::proofs::WalkNames::same_update_trans))]
+#[tactic(auto, using(crate::proofs::WalkNames::walk_place, crate::proofs::WalkNames::can_walk_as, crate::proofs::WalkNames::walks_looked, crate::proofs::WalkNames::same_update_passed, crate::proofs::WalkNames::same_update_trans))]
 fn edit_words<V: Volume>(
     v: &mut V,
     plain: &mut PlainBlocks,
@@ -242,7 +242,10 @@ fn edit_words<V: Volume>(
 {
     edit(v, plain, draws, b)?;
     if draws.below(2) == 0 {
-        return read_word(v, plain, draws.block(), draws.word_place());
+        let other = draws.block();
+        let w = draws.word_place();
+        let came = v.word(other, name_of(other), w);
+        return word_end(plain, other, w, came);
     }
     edit(v, plain, draws, b)
 }
@@ -335,6 +338,7 @@ fn update<V: Volume>(v: &mut V, plain: &mut PlainBlocks, draws: &mut Draws) -> R
 }
 
 /// Reads a word or a run of words.
+#[tactic(auto, using(crate::proofs::WalkNames::walk_place, crate::proofs::WalkNames::can_walk_as, crate::proofs::WalkNames::walks_looked, crate::proofs::WalkNames::same_update_passed))]
 fn look<V: Volume>(v: &mut V, plain: &PlainBlocks, draws: &mut Draws) -> Result<(), WalkEnd>
     requires sound { V.sound v.old }
     requires walks { Walks (V.seen v.old) }
@@ -345,7 +349,8 @@ fn look<V: Volume>(v: &mut V, plain: &PlainBlocks, draws: &mut Draws) -> Result<
     let b = draws.block();
     let w = draws.word_place();
     if draws.below(4) != 0 {
-        return read_word(v, plain, b, w);
+        let came = v.word(b, name_of(b), w);
+        return word_end(plain, b, w, came);
     }
     let mut room = [0; RUN_WORDS];
     let n = draws.run(w, RUN_WORDS);
