@@ -13,7 +13,7 @@ use crate::draws::Draws;
 use crate::machines::{MemBoard, Mishap, board_on, disk_of};
 use crate::plain_blocks::PlainBlocks;
 use crate::same::same;
-use crate::walk::{WalkEnd, walk, walk_through};
+use crate::walk::{WalkEnd, walk_through};
 use block_disk::{DiskChoice, MemDisk};
 use board::Board;
 use image_codec::fresh_image;
@@ -114,10 +114,8 @@ pub(crate) fn go<V: Volume>(
     ensures sound { V.sound v.new }
 {
     let mut draws = Draws::new(course.seed, !course.roomy);
-    if course.mishap.stop_after().is_some() {
-        return walk(v, plain, &mut draws, course.actions);
-    }
-    walk_through(v, plain, &mut draws, course.actions)
+    let reads = course.mishap.stop_after().is_none();
+    walk_through(v, plain, &mut draws, course.actions, reads)
 }
 
 /// Goes through a walk on a cache with no block in it, and takes the cache apart where the walk ends. Answers how it ended.

@@ -92,27 +92,9 @@ fn read_run<V: Volume>(
     }
 }
 
-/// Stores a word.
-#[tactic(auto, using(crate::proofs::WalkNames::walk_place, crate::proofs::WalkNames::can_walk_as, crate::proofs::WalkNames::walks_stored))]
-fn store_word<V: Volume>(
-    v: &mut V,
-    plain: &mut PlainBlocks,
-    b: Block,
-    w: u16,
-    word: u64,
-) -> Result<(), WalkEnd>
-    requires sound { V.sound v.old }
-    requires walks { Walks (V.seen v.old) }
-    requires idle { (V.kept v.old).updating ≡ false }
-    requires block { b.0 < 64 }
-    requires word { w < 512 }
-    ensures idle { (V.kept v.new).updating ≡ false }
-    ensures walks { Walks (V.seen v.new) }
-    ensures sound { V.sound v.new }
-{
-    plain.begin(Stands::Front);
-    plain.store(b, w, word);
-    match v.store(b, name_of(b), w, word) {
+/// How a walk goes on after a word was stored, which the plain lists were told.
+fn store_end(plain: &mut PlainBlocks, came: Result<(), VolFail>) -> Result<(), WalkEnd> {
+    match came {
         Ok(()) => plain.end(),
         Err(VolFail::Fault) => plain.end_with(0),
         Err(VolFail::Stopped) => return Err(WalkEnd::Stopped),
@@ -179,17 +161,9 @@ fn renew<V: Volume>(v: &mut V, plain: &mut PlainBlocks, b: Block) -> Result<(), 
     Ok(())
 }
 
-/// Flushes up to so many blocks.
-#[tactic(auto, using(crate::proofs::WalkNames::walks_dropped))]
-fn flush<V: Volume>(v: &mut V, k: u64) -> Result<(), WalkEnd>
-    requires sound { V.sound v.old }
-    requires walks { Walks (V.seen v.old) }
-    requires idle { (V.kept v.old).updating ≡ false }
-    ensures idle { (V.kept v.new).updating ≡ false }
-    ensures walks { Walks (V.seen v.new) }
-    ensures sound { V.sound v.new }
-{
-    match v.flush(k) {
+/// How a walk goes on after a flush: it ends where the volume stopped.
+fn flush_end(came: Result<u32, VolFail>) -> Result<(), WalkEnd> {
+    match came {
         Ok(_) | Err(VolFail::Fault) => Ok(()),
         Err(VolFail::Stopped) => Err(WalkEnd::Stopped),
     }
@@ -358,6 +332,7 @@ fn look<V: Volume>(v: &mut V, plain: &PlainBlocks, draws: &mut Draws) -> Result<
 }
 
 /// Stores a word or a run of words.
+#[tactic(auto, using(crate::proofs::WalkNames::walk_place, crate::proofs::WalkNames::can_walk_as, crate::proofs::WalkNames::walks_stored))]
 fn change<V: Volume>(v: &mut V, plain: &mut PlainBlocks, draws: &mut Draws) -> Result<(), WalkEnd>
     requires sound { V.sound v.old }
     requires walks { Walks (V.seen v.old) }
@@ -369,7 +344,11 @@ fn change<V: Volume>(v: &mut V, plain: &mut PlainBlocks, draws: &mut Draws) -> R
     let b = draws.block();
     let w = draws.word_place();
     if draws.below(2) != 0 {
-        return store_word(v, plain, b, w, draws.word());
+        let word = draws.word();
+        plain.begin(Stands::Front);
+        plain.store(b, w, word);
+        let came = v.store(b, name_of(b), w, word);
+        return store_end(plain, came);
     }
     let mut words = [0; RUN_WORDS];
     draws.fill(&mut words);
@@ -378,6 +357,7 @@ fn change<V: Volume>(v: &mut V, plain: &mut PlainBlocks, draws: &mut Draws) -> R
 }
 
 /// Makes one drawn action. Each is one call, but for an update, and for a block that is forgotten and made anew.
+#[tactic(auto, using(crate::proofs::WalkNames::walks_dropped))]
 fn act<V: Volume>(v: &mut V, plain: &mut PlainBlocks, draws: &mut Draws) -> Result<(), WalkEnd>
     requires sound { V.sound v.old }
     requires walks { Walks (V.seen v.old) }
@@ -391,7 +371,7 @@ fn act<V: Volume>(v: &mut V, plain: &mut PlainBlocks, draws: &mut Draws) -> Resu
         4..7 => change(v, plain, draws),
         7 => update(v, plain, draws),
         8 => renew(v, plain, draws.block()),
-        _ => flush(v, draws.below(8) as u64),
+        _ => flush_end(v.flush(draws.below(8) as u64)),
     }
 }
 
@@ -430,12 +410,13 @@ pub(crate) fn read_all<V: Volume>(v: &mut V, plain: &PlainBlocks) -> Result<(), 
     Ok(())
 }
 
-/// Makes so many drawn actions, and then reads all blocks. The error says why that ended before.
+/// Makes so many drawn actions, and where it is so set then reads all blocks. The error says why that ended before.
 pub(crate) fn walk_through<V: Volume>(
     v: &mut V,
     plain: &mut PlainBlocks,
     draws: &mut Draws,
     actions: u32,
+    reads: bool,
 ) -> Result<(), WalkEnd>
     requires sound { V.sound v.old }
     requires walks { Walks (V.seen v.old) }
@@ -443,5 +424,8 @@ pub(crate) fn walk_through<V: Volume>(
     ensures sound { V.sound v.new }
 {
     walk(v, plain, draws, actions)?;
+    if !reads {
+        return Ok(());
+    }
     read_all(v, plain)
 }

@@ -71,7 +71,7 @@ fn faulty_walk(rt: &impl Abort, alloc: Global, n: u64) -> Result<(), WalkEnd> {
     };
     let mut plain = PlainBlocks::new(rt, alloc);
     let mut v = FaultyVolume::new(list, n);
-    walk_through(&mut v, &mut plain, &mut Draws::new(4, true), 60)
+    walk_through(&mut v, &mut plain, &mut Draws::new(4, true), 60, true)
 }
 
 #[test]
