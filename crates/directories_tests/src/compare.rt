@@ -1,19 +1,10 @@
-//! The assertions of these tests. Each says at which row, step or call it failed.
+//! The assertion of these tests. It says at which row of which table it failed.
 
-use std::fmt::Debug;
 use std::process::Abort;
 
-/// What came is what is due.
-pub(crate) fn same<T: PartialEq + Debug>(rt: &impl Abort, at: u64, came: &T, due: &T) {
-    assert_eq!(rt; came, due, "at {at}");
-}
-
-/// The same of bytes, or of other things one behind the other.
-pub(crate) fn same_items<T: PartialEq + Debug>(rt: &impl Abort, at: u64, came: &[T], due: &[T]) {
-    same(rt, at, &came, &due);
-}
-
-/// This is so.
-pub(crate) fn holds(rt: &impl Abort, what: &str, at: u64, so: bool) {
-    assert!(rt; so, "{what}, at {at}");
+/// Each row of a table was answered as it must, and none otherwise.
+pub(crate) fn all_answered(rt: &impl Abort, table: u64, other: Option<usize>) {
+    if let Some(row) = other {
+        panic!(rt; "table {table}: row {row} is answered otherwise");
+    }
 }

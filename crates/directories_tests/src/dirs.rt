@@ -25,7 +25,7 @@ use directories::{DirChange, apply, find, names, plan_add, plan_remove, plan_rep
 use file_pages::{Edit, SizeFail};
 use inode_table::{Inode, inode_block, read_inode};
 use name_list::NameList;
-use rio_base::{Block, Ino, ReadFail, VolFail, Volume, VolumeShape};
+use rio_base::{Block, Failed, Ino, ReadFail, VolFail, Volume, VolumeShape};
 use rio_fakes::ListVolume;
 use std::alloc::Global;
 use std::process::Abort;
@@ -184,39 +184,49 @@ fn find_row<V: Volume>(
     find(v, shape, dir, name)
 }
 
-/// The inode that a name names.
-pub(crate) fn ino_of(
+/// Whether what is found is this inode, or nothing.
+fn is_ino(found: Option<(Ino, u32)>, due: Option<u32>) -> bool {
+    match (found, due) {
+        (Some((i, _slot)), Some(wanted)) => i.0 == wanted,
+        (None, None) => true,
+        _ => false,
+    }
+}
+
+/// Whether a name names this inode, or none.
+pub(crate) fn names_ino(
     v: &mut ListVolume,
     shape: &VolumeShape,
     dir: Ino,
     name: &[u8],
-) -> Result<Option<u32>, VolFail>
+    due: Option<u32>,
+) -> bool
     requires sound { ListSound v.old }
     requires dirs { DirsReady shape.now (list_seen v.old) (list_kept v.old) }
     requires dir { IsTestDir dir.0 }
     ensures dirs { DirsReady shape.now (list_seen v.new) (list_kept v.new) }
     ensures sound { ListSound v.new }
 {
-    match find_row(v, shape, dir, name)? {
-        Some((i, slot)) => Ok(Some(i.0)),
-        None => Ok(None),
+    match find_row(v, shape, dir, name) {
+        Ok(found) => is_ino(found, due),
+        Err(_fail) => false,
     }
 }
 
 /// The slot of a name. It must be there.
-pub(crate) fn slot_of<V: Volume>(
-    v: &mut V,
+pub(crate) fn slot_of(
+    v: &mut ListVolume,
     shape: &VolumeShape,
     dir: Ino,
     name: &[u8],
 ) -> Result<u32, VolFail>
-    requires sound { V.sound v.old }
-    requires dirs { DirsReady shape.now (V.seen v.old) (V.kept v.old) }
+    requires sound { ListSound v.old }
+    requires dirs { DirsReady shape.now (list_seen v.old) (list_kept v.old) }
     requires dir { IsTestDir dir.0 }
-    ensures value { IfOk result (λ slot. 64 * slot < (held_of shape.now (V.seen v.new).words dir.0).size) }
-    ensures words { (V.seen v.new).words ≡ (V.seen v.old).words }
-    ensures dirs { DirsReady shape.now (V.seen v.new) (V.kept v.new) }
-    ensures sound { V.sound v.new }
+    ensures value { IfOk result (λ slot. 64 * slot < (held_of shape.now (list_seen v.new).words dir.0).size) }
+    ensures words { (list_seen v.new).words ≡ (list_seen v.old).words }
+    ensures dirs { DirsReady shape.now (list_seen v.new) (list_kept v.new) }
+    ensures sound { ListSound v.new }
 {
     match find_row(v, shape, dir, name)? {
         Some((i, slot)) => Ok(slot),
@@ -241,13 +251,13 @@ pub(crate) fn inode_in<V: Volume>(
 }
 
 /// The bytes of a directory.
-pub(crate) fn size_of<V: Volume>(v: &mut V, shape: &VolumeShape, dir: Ino) -> Result<u64, VolFail>
-    requires sound { V.sound v.old }
-    requires dirs { DirsReady shape.now (V.seen v.old) (V.kept v.old) }
+pub(crate) fn size_of(v: &mut ListVolume, shape: &VolumeShape, dir: Ino) -> Result<u64, VolFail>
+    requires sound { ListSound v.old }
+    requires dirs { DirsReady shape.now (list_seen v.old) (list_kept v.old) }
     requires dir { IsTestDir dir.0 }
-    ensures value { IfOk result (λ size. size ≡ (held_of shape.now (V.seen v.new).words dir.0).size) }
-    ensures dirs { DirsReady shape.now (V.seen v.new) (V.kept v.new) }
-    ensures sound { V.sound v.new }
+    ensures value { IfOk result (λ size. size ≡ (held_of shape.now (list_seen v.new).words dir.0).size) }
+    ensures dirs { DirsReady shape.now (list_seen v.new) (list_kept v.new) }
+    ensures sound { ListSound v.new }
 {
     let inode = inode_in(v, shape, dir)?;
     Ok(inode.size)
@@ -280,44 +290,44 @@ pub(crate) fn list<V: Volume>(
 }
 
 /// Prepares a row more, of a name that the directory has not, where it has room.
-fn plan_new<V: Volume>(
+fn plan_new(
     alloc: Global,
-    v: &mut V,
+    v: &mut ListVolume,
     shape: &VolumeShape,
     dir: Ino,
     name: &[u8],
     i: Ino,
 ) -> Result<DirChange, SizeFail>
-    requires sound { V.sound v.old }
-    requires dirs { DirsReady shape.now (V.seen v.old) (V.kept v.old) }
+    requires sound { ListSound v.old }
+    requires dirs { DirsReady shape.now (list_seen v.old) (list_kept v.old) }
     requires dir { IsTestDir dir.0 }
     requires ino { IsTestDir i.0 }
-    requires room { (held_of shape.now (V.seen v.old).words dir.0).size + 64 ≤ 4292608 }
+    requires room { (held_of shape.now (list_seen v.old).words dir.0).size + 64 ≤ 4292608 }
     requires is_name { IsName name.now }
-    requires absent { (n : ℕ) → HasRow (held_of shape.now (V.seen v.old).words dir.0) name.now n → ⊥ }
-    ensures can { IfOk result (CanMake shape.now (V.seen v.new) (V.kept v.new)) }
-    ensures dirs { DirsReady shape.now (V.seen v.new) (V.kept v.new) }
-    ensures sound { V.sound v.new }
+    requires absent { (n : ℕ) → HasRow (held_of shape.now (list_seen v.old).words dir.0) name.now n → ⊥ }
+    ensures can { IfOk result (CanMake shape.now (list_seen v.new) (list_kept v.new)) }
+    ensures dirs { DirsReady shape.now (list_seen v.new) (list_kept v.new) }
+    ensures sound { ListSound v.new }
 {
     plan_add(alloc, v, shape, dir, name, i)
 }
 
 /// The same, where it has neither been tried whether the directory has the name, nor whether it has room.
-pub(crate) fn plan_row<V: Volume>(
+pub(crate) fn plan_row(
     alloc: Global,
-    v: &mut V,
+    v: &mut ListVolume,
     shape: &VolumeShape,
     dir: Ino,
     name: &[u8],
     i: Ino,
 ) -> Result<DirChange, SizeFail>
-    requires sound { V.sound v.old }
-    requires dirs { DirsReady shape.now (V.seen v.old) (V.kept v.old) }
+    requires sound { ListSound v.old }
+    requires dirs { DirsReady shape.now (list_seen v.old) (list_kept v.old) }
     requires dir { IsTestDir dir.0 }
     requires ino { IsTestDir i.0 }
-    ensures can { IfOk result (CanMake shape.now (V.seen v.new) (V.kept v.new)) }
-    ensures dirs { DirsReady shape.now (V.seen v.new) (V.kept v.new) }
-    ensures sound { V.sound v.new }
+    ensures can { IfOk result (CanMake shape.now (list_seen v.new) (list_kept v.new)) }
+    ensures dirs { DirsReady shape.now (list_seen v.new) (list_kept v.new) }
+    ensures sound { ListSound v.new }
 {
     if !is_plain(name) {
         return Err(SizeFail::TooLarge);
@@ -333,117 +343,140 @@ pub(crate) fn plan_row<V: Volume>(
 }
 
 /// Makes a prepared change, as an update of its own.
-fn make_planned(rt: &impl Abort, v: &mut ListVolume, shape: &VolumeShape, change: DirChange)
+fn make_planned(v: &mut ListVolume, shape: &VolumeShape, change: DirChange) -> Result<(), Failed>
     requires sound { ListSound v.old }
     requires dirs { DirsReady shape.now (list_seen v.old) (list_kept v.old) }
     requires can { CanMake shape.now (list_seen v.old) (list_kept v.old) change }
-    ensures dirs { DirsReady shape.now (list_seen v.new) (list_kept v.new) }
+    ensures dirs { OnOk result (DirsReady shape.now (list_seen v.new) (list_kept v.new)) }
     ensures sound { ListSound v.new }
 {
-    make(v, shape, &change).expect(rt, "the change is made");
+    match make(v, shape, &change) {
+        Ok(()) => Ok(()),
+        Err(_fail) => Err(Failed),
+    }
 }
 
 /// Adds a row.
 pub(crate) fn add(
-    rt: &impl Abort,
     alloc: Global,
     v: &mut ListVolume,
     shape: &VolumeShape,
     dir: Ino,
     name: &[u8],
     i: Ino,
-)
+) -> Result<(), Failed>
     requires sound { ListSound v.old }
     requires dirs { DirsReady shape.now (list_seen v.old) (list_kept v.old) }
     requires dir { IsTestDir dir.0 }
     requires ino { IsTestDir i.0 }
-    ensures dirs { DirsReady shape.now (list_seen v.new) (list_kept v.new) }
+    ensures dirs { OnOk result (DirsReady shape.now (list_seen v.new) (list_kept v.new)) }
     ensures sound { ListSound v.new }
 {
-    let change = plan_row(alloc, v, shape, dir, name, i).expect(rt, "a row more");
-    make_planned(rt, v, shape, change);
+    let Ok(change) = plan_row(alloc, v, shape, dir, name, i) else {
+        return Err(Failed);
+    };
+    make_planned(v, shape, change)
 }
 
 /// Prepares that the row of a slot goes.
-fn plan_gone<V: Volume>(
+fn plan_gone(
     alloc: Global,
-    v: &mut V,
+    v: &mut ListVolume,
     shape: &VolumeShape,
     dir: Ino,
     slot: u32,
 ) -> Result<DirChange, ReadFail>
-    requires sound { V.sound v.old }
-    requires dirs { DirsReady shape.now (V.seen v.old) (V.kept v.old) }
+    requires sound { ListSound v.old }
+    requires dirs { DirsReady shape.now (list_seen v.old) (list_kept v.old) }
     requires dir { IsTestDir dir.0 }
-    requires slot { 64 * slot < (held_of shape.now (V.seen v.old).words dir.0).size }
-    ensures can { IfOk result (CanMake shape.now (V.seen v.new) (V.kept v.new)) }
-    ensures dirs { DirsReady shape.now (V.seen v.new) (V.kept v.new) }
-    ensures sound { V.sound v.new }
+    requires slot { 64 * slot < (held_of shape.now (list_seen v.old).words dir.0).size }
+    ensures can { IfOk result (CanMake shape.now (list_seen v.new) (list_kept v.new)) }
+    ensures dirs { DirsReady shape.now (list_seen v.new) (list_kept v.new) }
+    ensures sound { ListSound v.new }
 {
     plan_remove(alloc, v, shape, dir, slot)
 }
 
-/// Removes the row of a name.
-pub(crate) fn remove(
-    rt: &impl Abort,
+/// Prepares that the row of a name goes.
+fn plan_removed(
     alloc: Global,
     v: &mut ListVolume,
     shape: &VolumeShape,
     dir: Ino,
     name: &[u8],
-)
+) -> Result<DirChange, ReadFail>
     requires sound { ListSound v.old }
     requires dirs { DirsReady shape.now (list_seen v.old) (list_kept v.old) }
     requires dir { IsTestDir dir.0 }
+    ensures can { IfOk result (CanMake shape.now (list_seen v.new) (list_kept v.new)) }
     ensures dirs { DirsReady shape.now (list_seen v.new) (list_kept v.new) }
     ensures sound { ListSound v.new }
 {
-    let slot = slot_of(v, shape, dir, name).expect(rt, "its row");
-    let change = plan_gone(alloc, v, shape, dir, slot).expect(rt, "a row goes");
-    make_planned(rt, v, shape, change);
+    let slot = slot_of(v, shape, dir, name)?;
+    plan_gone(alloc, v, shape, dir, slot)
+}
+
+/// Removes the row of a name.
+pub(crate) fn remove(
+    alloc: Global,
+    v: &mut ListVolume,
+    shape: &VolumeShape,
+    dir: Ino,
+    name: &[u8],
+) -> Result<(), Failed>
+    requires sound { ListSound v.old }
+    requires dirs { DirsReady shape.now (list_seen v.old) (list_kept v.old) }
+    requires dir { IsTestDir dir.0 }
+    ensures dirs { OnOk result (DirsReady shape.now (list_seen v.new) (list_kept v.new)) }
+    ensures sound { ListSound v.new }
+{
+    let Ok(change) = plan_removed(alloc, v, shape, dir, name) else {
+        return Err(Failed);
+    };
+    make_planned(v, shape, change)
 }
 
 /// Prepares another row in a slot, of a name that the directory has not.
-fn plan_other<V: Volume>(
+fn plan_other(
     alloc: Global,
-    v: &mut V,
+    v: &mut ListVolume,
     shape: &VolumeShape,
     dir: Ino,
     slot: u32,
     name: &[u8],
     i: Ino,
 ) -> Result<DirChange, ReadFail>
-    requires sound { V.sound v.old }
-    requires dirs { DirsReady shape.now (V.seen v.old) (V.kept v.old) }
+    requires sound { ListSound v.old }
+    requires dirs { DirsReady shape.now (list_seen v.old) (list_kept v.old) }
     requires dir { IsTestDir dir.0 }
     requires ino { IsTestDir i.0 }
-    requires slot { 64 * slot < (held_of shape.now (V.seen v.old).words dir.0).size }
+    requires slot { 64 * slot < (held_of shape.now (list_seen v.old).words dir.0).size }
     requires is_name { IsName name.now }
-    requires absent { (n : ℕ) → HasRow (held_of shape.now (V.seen v.old).words dir.0) name.now n → ⊥ }
-    ensures can { IfOk result (CanMake shape.now (V.seen v.new) (V.kept v.new)) }
-    ensures dirs { DirsReady shape.now (V.seen v.new) (V.kept v.new) }
-    ensures sound { V.sound v.new }
+    requires absent { (n : ℕ) → HasRow (held_of shape.now (list_seen v.old).words dir.0) name.now n → ⊥ }
+    ensures can { IfOk result (CanMake shape.now (list_seen v.new) (list_kept v.new)) }
+    ensures dirs { DirsReady shape.now (list_seen v.new) (list_kept v.new) }
+    ensures sound { ListSound v.new }
 {
     plan_set(alloc, v, shape, dir, slot, name, i)
 }
 
 /// Prepares that the row of a name gets another one, which the directory has not, for this inode.
-fn plan_renamed<V: Volume>(
+fn plan_renamed(
     alloc: Global,
-    v: &mut V,
+    v: &mut ListVolume,
     shape: &VolumeShape,
     dir: Ino,
     name: &[u8],
     other: &[u8],
     i: Ino,
 ) -> Result<DirChange, ReadFail>
-    requires sound { V.sound v.old }
-    requires dirs { DirsReady shape.now (V.seen v.old) (V.kept v.old) }
+    requires sound { ListSound v.old }
+    requires dirs { DirsReady shape.now (list_seen v.old) (list_kept v.old) }
     requires dir { IsTestDir dir.0 }
     requires ino { IsTestDir i.0 }
-    ensures can { IfOk result (CanMake shape.now (V.seen v.new) (V.kept v.new)) }
-    ensures dirs { DirsReady shape.now (V.seen v.new) (V.kept v.new) }
-    ensures sound { V.sound v.new }
+    ensures can { IfOk result (CanMake shape.now (list_seen v.new) (list_kept v.new)) }
+    ensures dirs { DirsReady shape.now (list_seen v.new) (list_kept v.new) }
+    ensures sound { ListSound v.new }
 {
     if !is_plain(other) {
         return Err(ReadFail::Fault);
@@ -457,7 +490,6 @@ fn plan_renamed<V: Volume>(
 
 /// Sets the row of a name: to another name, for this inode.
 pub(crate) fn set_row(
-    rt: &impl Abort,
     alloc: Global,
     v: &mut ListVolume,
     shape: &VolumeShape,
@@ -465,59 +497,61 @@ pub(crate) fn set_row(
     name: &[u8],
     other: &[u8],
     i: Ino,
-)
+) -> Result<(), Failed>
     requires sound { ListSound v.old }
     requires dirs { DirsReady shape.now (list_seen v.old) (list_kept v.old) }
     requires dir { IsTestDir dir.0 }
     requires ino { IsTestDir i.0 }
-    ensures dirs { DirsReady shape.now (list_seen v.new) (list_kept v.new) }
+    ensures dirs { OnOk result (DirsReady shape.now (list_seen v.new) (list_kept v.new)) }
     ensures sound { ListSound v.new }
 {
-    let change = plan_renamed(alloc, v, shape, dir, name, other, i).expect(rt, "a row is set");
-    make_planned(rt, v, shape, change);
+    let Ok(change) = plan_renamed(alloc, v, shape, dir, name, other, i) else {
+        return Err(Failed);
+    };
+    make_planned(v, shape, change)
 }
 
 /// Prepares that the name of a slot names this inode, and that the row of another slot goes.
-fn plan_both<V: Volume>(
+fn plan_both(
     alloc: Global,
-    v: &mut V,
+    v: &mut ListVolume,
     shape: &VolumeShape,
     dir: Ino,
     slot: u32,
     i: Ino,
     gone: u32,
 ) -> Result<DirChange, ReadFail>
-    requires sound { V.sound v.old }
-    requires dirs { DirsReady shape.now (V.seen v.old) (V.kept v.old) }
+    requires sound { ListSound v.old }
+    requires dirs { DirsReady shape.now (list_seen v.old) (list_kept v.old) }
     requires dir { IsTestDir dir.0 }
     requires ino { IsTestDir i.0 }
-    requires slot { 64 * slot < (held_of shape.now (V.seen v.old).words dir.0).size }
-    requires gone { 64 * gone < (held_of shape.now (V.seen v.old).words dir.0).size }
+    requires slot { 64 * slot < (held_of shape.now (list_seen v.old).words dir.0).size }
+    requires gone { 64 * gone < (held_of shape.now (list_seen v.old).words dir.0).size }
     requires two { slot ≢ gone }
-    ensures can { IfOk result (CanMake shape.now (V.seen v.new) (V.kept v.new)) }
-    ensures dirs { DirsReady shape.now (V.seen v.new) (V.kept v.new) }
-    ensures sound { V.sound v.new }
+    ensures can { IfOk result (CanMake shape.now (list_seen v.new) (list_kept v.new)) }
+    ensures dirs { DirsReady shape.now (list_seen v.new) (list_kept v.new) }
+    ensures sound { ListSound v.new }
 {
     plan_replace(alloc, v, shape, dir, slot, i, gone)
 }
 
 /// Prepares that a name names this inode, and that the row of another name goes.
-fn plan_replaced<V: Volume>(
+fn plan_replaced(
     alloc: Global,
-    v: &mut V,
+    v: &mut ListVolume,
     shape: &VolumeShape,
     dir: Ino,
     name: &[u8],
     i: Ino,
     gone: &[u8],
 ) -> Result<DirChange, ReadFail>
-    requires sound { V.sound v.old }
-    requires dirs { DirsReady shape.now (V.seen v.old) (V.kept v.old) }
+    requires sound { ListSound v.old }
+    requires dirs { DirsReady shape.now (list_seen v.old) (list_kept v.old) }
     requires dir { IsTestDir dir.0 }
     requires ino { IsTestDir i.0 }
-    ensures can { IfOk result (CanMake shape.now (V.seen v.new) (V.kept v.new)) }
-    ensures dirs { DirsReady shape.now (V.seen v.new) (V.kept v.new) }
-    ensures sound { V.sound v.new }
+    ensures can { IfOk result (CanMake shape.now (list_seen v.new) (list_kept v.new)) }
+    ensures dirs { DirsReady shape.now (list_seen v.new) (list_kept v.new) }
+    ensures sound { ListSound v.new }
 {
     let slot = slot_of(v, shape, dir, name)?;
     let last = slot_of(v, shape, dir, gone)?;
@@ -529,7 +563,6 @@ fn plan_replaced<V: Volume>(
 
 /// Makes a name name this inode, and removes the row of another name, as one change.
 pub(crate) fn replace(
-    rt: &impl Abort,
     alloc: Global,
     v: &mut ListVolume,
     shape: &VolumeShape,
@@ -537,16 +570,18 @@ pub(crate) fn replace(
     name: &[u8],
     i: Ino,
     gone: &[u8],
-)
+) -> Result<(), Failed>
     requires sound { ListSound v.old }
     requires dirs { DirsReady shape.now (list_seen v.old) (list_kept v.old) }
     requires dir { IsTestDir dir.0 }
     requires ino { IsTestDir i.0 }
-    ensures dirs { DirsReady shape.now (list_seen v.new) (list_kept v.new) }
+    ensures dirs { OnOk result (DirsReady shape.now (list_seen v.new) (list_kept v.new)) }
     ensures sound { ListSound v.new }
 {
-    let change = plan_replaced(alloc, v, shape, dir, name, i, gone).expect(rt, "a row is replaced");
-    make_planned(rt, v, shape, change);
+    let Ok(change) = plan_replaced(alloc, v, shape, dir, name, i, gone) else {
+        return Err(Failed);
+    };
+    make_planned(v, shape, change)
 }
 
 /// Makes two plans of two directories in one update. The first one takes no block.
@@ -573,23 +608,23 @@ fn make_both<V: Volume>(
 }
 
 /// Moves the row of a slot of the root to the directory beside it, which has not the name and has room, in one update.
-fn move_slot<V: Volume>(
+fn move_slot(
     alloc: Global,
-    v: &mut V,
+    v: &mut ListVolume,
     shape: &VolumeShape,
     slot: u32,
     name: &[u8],
     i: Ino,
 ) -> Result<(), SizeFail>
-    requires sound { V.sound v.old }
-    requires dirs { DirsReady shape.now (V.seen v.old) (V.kept v.old) }
+    requires sound { ListSound v.old }
+    requires dirs { DirsReady shape.now (list_seen v.old) (list_kept v.old) }
     requires ino { IsTestDir i.0 }
-    requires slot { 64 * slot < (held_of shape.now (V.seen v.old).words 1).size }
-    requires room { (held_of shape.now (V.seen v.old).words 2).size + 64 ≤ 4292608 }
+    requires slot { 64 * slot < (held_of shape.now (list_seen v.old).words 1).size }
+    requires room { (held_of shape.now (list_seen v.old).words 2).size + 64 ≤ 4292608 }
     requires is_name { IsName name.now }
-    requires absent { (n : ℕ) → HasRow (held_of shape.now (V.seen v.old).words 2) name.now n → ⊥ }
-    ensures dirs { OnOk result (DirsReady shape.now (V.seen v.new) (V.kept v.new)) }
-    ensures sound { V.sound v.new }
+    requires absent { (n : ℕ) → HasRow (held_of shape.now (list_seen v.old).words 2) name.now n → ⊥ }
+    ensures dirs { OnOk result (DirsReady shape.now (list_seen v.new) (list_kept v.new)) }
+    ensures sound { ListSound v.new }
 {
     let goes = plan_remove(alloc, v, shape, ROOT, slot)?;
     let comes = plan_add(alloc, v, shape, OTHER, name, i)?;
@@ -598,19 +633,19 @@ fn move_slot<V: Volume>(
 }
 
 /// Moves the row of a name of the root to the directory beside it, under another name, in one update.
-pub(crate) fn move_row<V: Volume>(
+pub(crate) fn move_row(
     alloc: Global,
-    v: &mut V,
+    v: &mut ListVolume,
     shape: &VolumeShape,
     name: &[u8],
     other: &[u8],
     i: Ino,
 ) -> Result<(), SizeFail>
-    requires sound { V.sound v.old }
-    requires dirs { DirsReady shape.now (V.seen v.old) (V.kept v.old) }
+    requires sound { ListSound v.old }
+    requires dirs { DirsReady shape.now (list_seen v.old) (list_kept v.old) }
     requires ino { IsTestDir i.0 }
-    ensures dirs { OnOk result (DirsReady shape.now (V.seen v.new) (V.kept v.new)) }
-    ensures sound { V.sound v.new }
+    ensures dirs { OnOk result (DirsReady shape.now (list_seen v.new) (list_kept v.new)) }
+    ensures sound { ListSound v.new }
 {
     if !is_plain(other) {
         return Err(SizeFail::TooLarge);

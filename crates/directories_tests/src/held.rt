@@ -44,3 +44,12 @@ pub(crate) fn hold<V: Volume>(
     hold_names(v, shape, dir, &inode, &mut names)?;
     Ok(names)
 }
+
+/// Whether names that are held in memory have this name for this inode, in this slot, or have it not.
+pub(crate) fn is_held(names: &DirNames, name: &[u8], due: Option<(Ino, u32)>) -> bool {
+    match (names.find(name), due) {
+        (Ok(Some((i, slot))), Some((wanted, place))) => i.0 == wanted.0 && slot == place,
+        (Ok(None), None) => true,
+        _ => false,
+    }
+}

@@ -1,14 +1,14 @@
 //! Rows of many numbered names in the root.
 
+ghost use Rattle.std.specs.Prelude.{OnOk};
 ghost use Rattle.rio_fakes.specs.ListVolumes.{ListSound, list_kept, list_seen};
 ghost use Rattle.directories_tests.specs.TestDirs.{DirsReady};
 
-use crate::dirs::{ROOT, add, ino_of, remove};
-use crate::held::hold;
-use rio_base::{Ino, ReadFail, VolFail, VolumeShape};
+use crate::dirs::{ROOT, add, names_ino, remove};
+use crate::held::{hold, is_held};
+use rio_base::{Failed, Ino, VolumeShape};
 use rio_fakes::ListVolume;
 use std::alloc::Global;
-use std::process::Abort;
 
 /// The name of number `n`.
 pub(crate) fn numbered(n: u32) -> [u8; 9] {
@@ -22,77 +22,95 @@ pub(crate) fn numbered(n: u32) -> [u8; 9] {
 
 /// Adds rows of so many numbered names.
 pub(crate) fn add_numbered(
-    rt: &impl Abort,
     alloc: Global,
     v: &mut ListVolume,
     shape: &VolumeShape,
     count: u32,
-)
+) -> Result<(), Failed>
     requires sound { ListSound v.old }
     requires dirs { DirsReady shape.now (list_seen v.old) (list_kept v.old) }
-    ensures dirs { DirsReady shape.now (list_seen v.new) (list_kept v.new) }
+    ensures dirs { OnOk result (DirsReady shape.now (list_seen v.new) (list_kept v.new)) }
     ensures sound { ListSound v.new }
 {
     for n in 0..count {
         let i = Ino(n % 8 + 2);
-        add(rt, alloc, v, shape, ROOT, numbered(n).as_slice(), i);
+        let Ok(()) = add(alloc, v, shape, ROOT, numbered(n).as_slice(), i) else {
+            return Err(Failed);
+        };
     }
+    Ok(())
 }
 
 /// Whether each of them names its inode.
-pub(crate) fn are_numbered(
-    v: &mut ListVolume,
-    shape: &VolumeShape,
-    count: u32,
-) -> Result<bool, VolFail>
+fn are_numbered(v: &mut ListVolume, shape: &VolumeShape, count: u32) -> bool
     requires sound { ListSound v.old }
     requires dirs { DirsReady shape.now (list_seen v.old) (list_kept v.old) }
     ensures dirs { DirsReady shape.now (list_seen v.new) (list_kept v.new) }
     ensures sound { ListSound v.new }
 {
     for n in 0..count {
-        if ino_of(v, shape, ROOT, numbered(n).as_slice())? != Some(n % 8 + 2) {
-            return Ok(false);
+        if !names_ino(v, shape, ROOT, numbered(n).as_slice(), Some(n % 8 + 2)) {
+            return false;
         }
     }
-    Ok(true)
+    true
 }
 
 /// Whether each of them names its inode, and is told to lie in its slot, where all names of the root are held in memory.
-pub(crate) fn are_held(
+fn are_held(alloc: Global, v: &mut ListVolume, shape: &VolumeShape, count: u32) -> bool
+    requires sound { ListSound v.old }
+    requires dirs { DirsReady shape.now (list_seen v.old) (list_kept v.old) }
+    ensures dirs { DirsReady shape.now (list_seen v.new) (list_kept v.new) }
+    ensures sound { ListSound v.new }
+{
+    let Ok(names) = hold(alloc, v, shape, ROOT) else {
+        return false;
+    };
+    for n in 0..count {
+        if !is_held(&names, numbered(n).as_slice(), Some((Ino(n % 8 + 2), n))) {
+            return false;
+        }
+    }
+    true
+}
+
+/// Whether so many numbered names are there and held, and not the next one.
+pub(crate) fn has_numbered(
     alloc: Global,
     v: &mut ListVolume,
     shape: &VolumeShape,
     count: u32,
-) -> Result<bool, ReadFail>
+) -> bool
     requires sound { ListSound v.old }
     requires dirs { DirsReady shape.now (list_seen v.old) (list_kept v.old) }
     ensures dirs { DirsReady shape.now (list_seen v.new) (list_kept v.new) }
     ensures sound { ListSound v.new }
 {
-    let names = hold(alloc, v, shape, ROOT)?;
-    for n in 0..count {
-        if names.find(numbered(n).as_slice()) != Ok(Some((Ino(n % 8 + 2), n))) {
-            return Ok(false);
-        }
+    if !are_numbered(v, shape, count) {
+        return false;
     }
-    Ok(true)
+    if !are_held(alloc, v, shape, count) {
+        return false;
+    }
+    names_ino(v, shape, ROOT, numbered(count).as_slice(), None)
 }
 
 /// Removes all of them.
 pub(crate) fn remove_numbered(
-    rt: &impl Abort,
     alloc: Global,
     v: &mut ListVolume,
     shape: &VolumeShape,
     count: u32,
-)
+) -> Result<(), Failed>
     requires sound { ListSound v.old }
     requires dirs { DirsReady shape.now (list_seen v.old) (list_kept v.old) }
-    ensures dirs { DirsReady shape.now (list_seen v.new) (list_kept v.new) }
+    ensures dirs { OnOk result (DirsReady shape.now (list_seen v.new) (list_kept v.new)) }
     ensures sound { ListSound v.new }
 {
     for n in 0..count {
-        remove(rt, alloc, v, shape, ROOT, numbered(n).as_slice());
+        let Ok(()) = remove(alloc, v, shape, ROOT, numbered(n).as_slice()) else {
+            return Err(Failed);
+        };
     }
+    Ok(())
 }

@@ -1,19 +1,20 @@
 //! Tables of calls on the directories of a test, each with what must come of it.
 
-ghost use Rattle.std.specs.Prelude.{◌≡◌};
+ghost use Rattle.std.specs.Prelude.{◌≡◌, OnOk};
 ghost use Rattle.test_volumes.specs.TestVolumes.{IsTestShape};
 ghost use Rattle.rio_fakes.specs.ListVolumes.{ListSound, list_kept, list_seen};
 ghost use Rattle.directories_tests.specs.TestDirs.{DirsReady, IsTestDir};
 
-use crate::compare::{holds, same, same_items};
+use crate::compare::all_answered;
 use crate::dirs::{
-    OTHER, ROOT, add, free_blocks, ino_of, list, move_row, plan_row, remove, replace, set_row,
+    OTHER, ROOT, add, free_blocks, list, move_row, names_ino, plan_row, remove, replace, set_row,
     size_of, slot_of, with_dirs,
 };
-use crate::held::{hold, ino_at};
-use crate::numbered::{add_numbered, are_held, are_numbered, numbered, remove_numbered};
+use crate::held::{hold, ino_at, is_held};
+use crate::numbered::{add_numbered, has_numbered, remove_numbered};
 use file_pages::SizeFail;
-use rio_base::{Ino, VolumeShape};
+use name_list::NameList;
+use rio_base::{Failed, Ino, VolFail, VolumeShape};
 use rio_fakes::ListVolume;
 use std::alloc::Global;
 use std::process::Abort;
@@ -93,170 +94,241 @@ fn node_of(i: u32) -> Ino
     ROOT
 }
 
-/// Makes a change.
-fn make_change(
-    rt: &impl Abort,
+/// Moves a row, and says no more where it fails.
+fn move_to_other(
+    alloc: Global,
+    v: &mut ListVolume,
+    shape: &VolumeShape,
+    name: &[u8],
+    other: &[u8],
+    i: Ino,
+) -> Result<(), Failed>
+    requires sound { ListSound v.old }
+    requires dirs { DirsReady shape.now (list_seen v.old) (list_kept v.old) }
+    requires ino { IsTestDir i.0 }
+    ensures dirs { OnOk result (DirsReady shape.now (list_seen v.new) (list_kept v.new)) }
+    ensures sound { ListSound v.new }
+{
+    match move_row(alloc, v, shape, name, other, i) {
+        Ok(()) => Ok(()),
+        Err(_fail) => Err(Failed),
+    }
+}
+
+/// Makes a change of a row that is there.
+fn change_row(
     alloc: Global,
     v: &mut ListVolume,
     shape: &VolumeShape,
     change: Change,
-)
+) -> Result<(), Failed>
     requires sound { ListSound v.old }
     requires dirs { DirsReady shape.now (list_seen v.old) (list_kept v.old) }
-    ensures dirs { DirsReady shape.now (list_seen v.new) (list_kept v.new) }
+    ensures dirs { OnOk result (DirsReady shape.now (list_seen v.new) (list_kept v.new)) }
     ensures sound { ListSound v.new }
 {
     match change {
-        Change::Add(dir, name, i) => add(rt, alloc, v, shape, dir_of(dir), name, node_of(i)),
-        Change::Remove(dir, name) => remove(rt, alloc, v, shape, dir_of(dir), name),
         Change::Set(dir, name, other, i) => {
-            set_row(rt, alloc, v, shape, dir_of(dir), name, other, node_of(i));
+            set_row(alloc, v, shape, dir_of(dir), name, other, node_of(i))
         }
         Change::Replace(dir, name, i, gone) => {
-            replace(rt, alloc, v, shape, dir_of(dir), name, node_of(i), gone);
+            replace(alloc, v, shape, dir_of(dir), name, node_of(i), gone)
         }
-        Change::Move(name, other, i) => {
-            move_row(alloc, v, shape, name, other, node_of(i)).expect(rt, "a row moves");
-        }
-        Change::AddNumbered(count) => add_numbered(rt, alloc, v, shape, count),
-        Change::RemoveNumbered(count) => remove_numbered(rt, alloc, v, shape, count),
+        Change::Move(name, other, i) => move_to_other(alloc, v, shape, name, other, node_of(i)),
+        // Not reached: other changes are made elsewhere.
+        _ => Err(Failed),
     }
 }
 
-/// Compares the names of a directory with those of row `k`.
-fn check_list(
-    rt: &impl Abort,
+/// Makes a change.
+fn make_change(
     alloc: Global,
     v: &mut ListVolume,
     shape: &VolumeShape,
-    k: u64,
-    dir: Ino,
-    due: &[Name],
-)
+    change: Change,
+) -> Result<(), Failed>
+    requires sound { ListSound v.old }
+    requires dirs { DirsReady shape.now (list_seen v.old) (list_kept v.old) }
+    ensures dirs { OnOk result (DirsReady shape.now (list_seen v.new) (list_kept v.new)) }
+    ensures sound { ListSound v.new }
+{
+    match change {
+        Change::Add(dir, name, i) => add(alloc, v, shape, dir_of(dir), name, node_of(i)),
+        Change::Remove(dir, name) => remove(alloc, v, shape, dir_of(dir), name),
+        Change::AddNumbered(count) => add_numbered(alloc, v, shape, count),
+        Change::RemoveNumbered(count) => remove_numbered(alloc, v, shape, count),
+        _ => change_row(alloc, v, shape, change),
+    }
+}
+
+/// Whether names are these, in this order.
+fn are_names(names: &NameList, due: &[Name]) -> bool {
+    if names.len() != due.len() {
+        return false;
+    }
+    for n in 0..names.len() {
+        if names.get(n) != due[n] {
+            return false;
+        }
+    }
+    true
+}
+
+/// Whether a directory has just these names.
+fn lists(alloc: Global, v: &mut ListVolume, shape: &VolumeShape, dir: Ino, due: &[Name]) -> bool
     requires sound { ListSound v.old }
     requires dirs { DirsReady shape.now (list_seen v.old) (list_kept v.old) }
     requires dir { IsTestDir dir.0 }
     ensures dirs { DirsReady shape.now (list_seen v.new) (list_kept v.new) }
     ensures sound { ListSound v.new }
 {
-    let names = list(alloc, v, shape, dir).expect(rt, "its names are read");
-    same(rt, k, &names.len(), &due.len());
-    for n in 0..names.len().min(due.len()) {
-        same_items(rt, k, names.get(n), due[n]);
+    match list(alloc, v, shape, dir) {
+        Ok(names) => are_names(&names, due),
+        Err(_fail) => false,
     }
 }
 
-/// Compares what a name names, where all names of a directory are held in memory.
-fn check_held(
-    rt: &impl Abort,
+/// Whether a name names this inode in this slot, or none, where all names of a directory are held in memory.
+fn holds_row(
     alloc: Global,
     v: &mut ListVolume,
     shape: &VolumeShape,
-    k: u64,
     dir: Ino,
-    name: Name,
+    name: &[u8],
     due: Option<(Ino, u32)>,
-)
+) -> bool
     requires sound { ListSound v.old }
     requires dirs { DirsReady shape.now (list_seen v.old) (list_kept v.old) }
     requires dir { IsTestDir dir.0 }
     ensures dirs { DirsReady shape.now (list_seen v.new) (list_kept v.new) }
     ensures sound { ListSound v.new }
 {
-    let names = hold(alloc, v, shape, dir).expect(rt, "its names are held");
-    same(rt, k, &names.find(name), &Ok(due));
+    match hold(alloc, v, shape, dir) {
+        Ok(names) => is_held(&names, name, due),
+        Err(_fail) => false,
+    }
 }
 
-/// Looks whether so many numbered names are there, and not the next one.
-fn check_numbered(
-    rt: &impl Abort,
+/// Whether a row of this name finds no space.
+fn has_no_space(
     alloc: Global,
     v: &mut ListVolume,
     shape: &VolumeShape,
-    k: u64,
-    count: u32,
-)
+    dir: Ino,
+    name: &[u8],
+    i: Ino,
+) -> bool
     requires sound { ListSound v.old }
     requires dirs { DirsReady shape.now (list_seen v.old) (list_kept v.old) }
+    requires dir { IsTestDir dir.0 }
+    requires ino { IsTestDir i.0 }
     ensures dirs { DirsReady shape.now (list_seen v.new) (list_kept v.new) }
     ensures sound { ListSound v.new }
 {
-    let all = are_numbered(v, shape, count).expect(rt, "the names are found");
-    holds(rt, "each names its inode", k, all);
-    let held = are_held(alloc, v, shape, count).expect(rt, "the names are held");
-    holds(rt, "each is held", k, held);
-    let next = ino_of(v, shape, ROOT, numbered(count).as_slice()).expect(rt, "the next name");
-    same(rt, k, &next, &None);
+    match plan_row(alloc, v, shape, dir, name, i) {
+        Ok(_change) => false,
+        Err(fail) => matches!(fail, SizeFail::NoSpace),
+    }
 }
 
-/// Makes the call of a row, the `k`th of its table.
-fn check_row(
-    rt: &impl Abort,
-    alloc: Global,
-    v: &mut ListVolume,
-    shape: &VolumeShape,
-    k: u64,
-    row: Row,
-)
+/// Whether an entry is this inode's, or another's.
+fn is_entry(came: Result<Option<Ino>, VolFail>, due: Option<Ino>) -> bool {
+    match (came, due) {
+        (Ok(Some(i)), Some(wanted)) => i.0 == wanted.0,
+        (Ok(None), None) => true,
+        _ => false,
+    }
+}
+
+/// Whether this number came.
+fn is_number(came: Result<u32, VolFail>, due: u32) -> bool {
+    match came {
+        Ok(number) => number == due,
+        Err(_fail) => false,
+    }
+}
+
+/// Whether this size came.
+fn is_size(came: Result<u64, VolFail>, due: u64) -> bool {
+    match came {
+        Ok(size) => size == due,
+        Err(_fail) => false,
+    }
+}
+
+/// Whether what a row asks of one name is as it says.
+fn tells_of_name(alloc: Global, v: &mut ListVolume, shape: &VolumeShape, row: Row) -> bool
     requires sound { ListSound v.old }
     requires dirs { DirsReady shape.now (list_seen v.old) (list_kept v.old) }
     ensures dirs { DirsReady shape.now (list_seen v.new) (list_kept v.new) }
     ensures sound { ListSound v.new }
 {
     match row {
-        Row::Make(made) => make_change(rt, alloc, v, shape, made),
         Row::NoSpace(dir, name, i) => {
-            let came = plan_row(alloc, v, shape, dir_of(dir), name, node_of(i));
-            same(rt, k, &came.err(), &Some(SizeFail::NoSpace));
+            has_no_space(alloc, v, shape, dir_of(dir), name, node_of(i))
         }
-        Row::Names(dir, name, due) => {
-            let came = ino_of(v, shape, dir_of(dir), name).expect(rt, "a name");
-            same(rt, k, &came, &due);
-        }
-        Row::Slot(dir, name, due) => {
-            let came = slot_of(v, shape, dir_of(dir), name).expect(rt, "a slot");
-            same(rt, k, &came, &due);
-        }
+        Row::Names(dir, name, due) => names_ino(v, shape, dir_of(dir), name, due),
+        Row::Slot(dir, name, due) => is_number(slot_of(v, shape, dir_of(dir), name), due),
         Row::At(dir, slot, name, due) => {
-            let came = ino_at(v, shape, dir_of(dir), slot, name).expect(rt, "an entry");
-            same(rt, k, &came, &due);
+            is_entry(ino_at(v, shape, dir_of(dir), slot, name), due)
         }
-        Row::Held(dir, name, due) => {
-            check_held(rt, alloc, v, shape, k, dir_of(dir), name, due);
-        }
-        Row::Size(dir, due) => {
-            let came = size_of(v, shape, dir_of(dir)).expect(rt, "a size");
-            same(rt, k, &came, &due);
-        }
-        Row::Free(due) => {
-            let came = free_blocks(v, shape).expect(rt, "the free blocks are counted");
-            same(rt, k, &came, &due);
-        }
-        Row::Lists(dir, due) => check_list(rt, alloc, v, shape, k, dir_of(dir), due),
-        Row::Numbered(count) => check_numbered(rt, alloc, v, shape, k, count),
+        Row::Held(dir, name, due) => holds_row(alloc, v, shape, dir_of(dir), name, due),
+        // Not reached: changes are made elsewhere, and the volume is asked elsewhere.
+        _ => false,
     }
 }
 
-/// Makes the calls of a table one after the other.
-fn check_each(
-    rt: &impl Abort,
+/// Whether what a row asks for is as it says.
+fn tells(alloc: Global, v: &mut ListVolume, shape: &VolumeShape, row: Row) -> bool
+    requires sound { ListSound v.old }
+    requires dirs { DirsReady shape.now (list_seen v.old) (list_kept v.old) }
+    ensures dirs { DirsReady shape.now (list_seen v.new) (list_kept v.new) }
+    ensures sound { ListSound v.new }
+{
+    match row {
+        Row::Size(dir, due) => is_size(size_of(v, shape, dir_of(dir)), due),
+        Row::Free(due) => is_number(free_blocks(v, shape), due),
+        Row::Lists(dir, due) => lists(alloc, v, shape, dir_of(dir), due),
+        Row::Numbered(count) => has_numbered(alloc, v, shape, count),
+        _ => tells_of_name(alloc, v, shape, row),
+    }
+}
+
+/// Makes the call of a row, and says whether it answers as it must.
+fn answers(alloc: Global, v: &mut ListVolume, shape: &VolumeShape, row: Row) -> Result<bool, Failed>
+    requires sound { ListSound v.old }
+    requires dirs { DirsReady shape.now (list_seen v.old) (list_kept v.old) }
+    ensures dirs { OnOk result (DirsReady shape.now (list_seen v.new) (list_kept v.new)) }
+    ensures sound { ListSound v.new }
+{
+    match row {
+        Row::Make(change) => {
+            let Ok(()) = make_change(alloc, v, shape, change) else {
+                return Err(Failed);
+            };
+            Ok(true)
+        }
+        _ => Ok(tells(alloc, v, shape, row)),
+    }
+}
+
+/// Makes the calls of a table one after the other, up to the first that answers otherwise than it must, and tells which that
+/// is, if any.
+fn first_other(
     alloc: Global,
     v: &mut ListVolume,
     shape: &VolumeShape,
-    table: u64,
     rows: &[Row],
-)
+) -> Option<usize>
     requires sound { ListSound v.old }
     requires dirs { DirsReady shape.now (list_seen v.old) (list_kept v.old) }
 {
     for k in 0..rows.len() {
-        check_row(rt, alloc, v, shape, place(table, k), rows[k]);
+        let Ok(true) = answers(alloc, v, shape, rows[k]) else {
+            return Some(k);
+        };
     }
-}
-
-/// Row `k` of a table: the thousands are the table.
-fn place(table: u64, k: usize) -> u64 {
-    table.saturating_mul(1000).saturating_add(k as u64)
+    None
 }
 
 /// Makes the calls of a table on a volume with nine directories without names.
@@ -270,5 +342,5 @@ pub(crate) fn check_rows(
     requires { IsTestShape shape.now }
 {
     let mut v = with_dirs(rt, alloc, shape);
-    check_each(rt, alloc, &mut v, shape, table, rows);
+    all_answered(rt, table, first_other(alloc, &mut v, shape, rows));
 }

@@ -1,3 +1,4 @@
+use Rattle.rio_fakes.specs.ListVolumes.{list_kept, list_seen}
 use Rattle.directories.proofs.Common.{held_of, if_ok_map}
 use Rattle.directories.specs.Plans.{PlansDir}
 use Rattle.directories.specs.RowChanges.{AddsRow}
@@ -7,12 +8,12 @@ use Rattle.directories_tests.proofs.PlansMade.{add_keeps, can_make, dirs_left}
 use Rattle.directories_tests.proofs.dirs.plan_new.Goals as goal
 
 pub returns-clause-can : goal.returns-clause-can
-returns-clause-can g c =
+returns-clause-can c =
     let shape = c.args.shape.now in
-    let x = g.V.Blocks.seen c.args.v.now in
-    let k = g.V.Volume.kept c.args.v.now in
-    let y = g.V.Blocks.seen c.plan_add.new.v in
-    let j = g.V.Volume.kept c.plan_add.new.v in
+    let x = list_seen c.args.v.now in
+    let k = list_kept c.args.v.now in
+    let y = list_seen c.plan_add.new.v in
+    let j = list_kept c.plan_add.new.v in
     let d = c.args.dir.0 in
     let name = c.args.name.now in
     let i = c.args.i.0 in
@@ -21,4 +22,4 @@ returns-clause-can g c =
     (λ change p. can_make shape x k y j d (AddsRow name i) change c.requires.dirs c.requires.dir (dir_ino shape x.words d kind) c.plan_add.ensures.leaves (λ h row. add_keeps (held_of shape x.words d) h name i c.requires.is_name c.requires.ino row) p) c.plan_add.ensures.ok
 
 pub returns-clause-dirs : goal.returns-clause-dirs
-returns-clause-dirs g c = dirs_left c.args.shape.now _ _ _ _ c.requires.dirs c.plan_add.ensures.leaves
+returns-clause-dirs c = dirs_left c.args.shape.now _ _ _ _ c.requires.dirs c.plan_add.ensures.leaves

@@ -1,3 +1,4 @@
+use Rattle.rio_fakes.specs.ListVolumes.{list_kept, list_seen}
 use Rattle.directories.proofs.Common.{refl, held_of, if_ok_map}
 use Rattle.directories.specs.Plans.{PlansDir}
 use Rattle.directories.specs.RowChanges.{SetsRow}
@@ -7,18 +8,18 @@ use Rattle.directories_tests.proofs.PlansMade.{can_make, dirs_left, set_keeps}
 use Rattle.directories_tests.proofs.dirs.plan_other.Goals as goal
 
 pub plan_set-requires-clause-slot : goal.plan_set-requires-clause-slot
-plan_set-requires-clause-slot g c = record { dir = c.requires.dirs.dirs c.args.dir.0 c.requires.dir; within = c.requires.slot }
+plan_set-requires-clause-slot c = record { dir = c.requires.dirs.dirs c.args.dir.0 c.requires.dir; within = c.requires.slot }
 
 pub plan_set-requires-clause-absent : goal.plan_set-requires-clause-absent
-plan_set-requires-clause-absent g c = λ a within named. absurd (c.requires.absent _ (a, record { within = within; named = named; ino = refl }))
+plan_set-requires-clause-absent c = λ a within named. absurd (c.requires.absent _ (a, record { within = within; named = named; ino = refl }))
 
 pub returns-clause-can : goal.returns-clause-can
-returns-clause-can g c =
+returns-clause-can c =
     let shape = c.args.shape.now in
-    let x = g.V.Blocks.seen c.args.v.now in
-    let k = g.V.Volume.kept c.args.v.now in
-    let y = g.V.Blocks.seen c.plan_set.new.v in
-    let j = g.V.Volume.kept c.plan_set.new.v in
+    let x = list_seen c.args.v.now in
+    let k = list_kept c.args.v.now in
+    let y = list_seen c.plan_set.new.v in
+    let j = list_kept c.plan_set.new.v in
     let d = c.args.dir.0 in
     let slot = c.args.slot in
     let name = c.args.name.now in
@@ -28,4 +29,4 @@ returns-clause-can g c =
     (λ change p. can_make shape x k y j d (SetsRow slot name i) change c.requires.dirs c.requires.dir (dir_ino shape x.words d kind) c.plan_set.ensures.leaves (λ h row. set_keeps (held_of shape x.words d) h slot name i c.requires.is_name c.requires.ino row) p) c.plan_set.ensures.ok
 
 pub returns-clause-dirs : goal.returns-clause-dirs
-returns-clause-dirs g c = dirs_left c.args.shape.now _ _ _ _ c.requires.dirs c.plan_set.ensures.leaves
+returns-clause-dirs c = dirs_left c.args.shape.now _ _ _ _ c.requires.dirs c.plan_set.ensures.leaves

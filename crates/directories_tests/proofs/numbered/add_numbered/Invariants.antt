@@ -3,4 +3,4 @@ use Rattle.directories_tests.specs.TestDirs.{DirsReady}
 use Rattle.directories_tests.proofs.numbered.add_numbered.Given as goal
 
 abbrev pub invariant-loop-n : goal.invariant-loop-n
-invariant-loop-n g l = record { dirs : DirsReady l.shape (list_seen l.v) (list_kept l.v); sound : ListSound l.v }
+invariant-loop-n l = record { dirs : DirsReady l.shape (list_seen l.v) (list_kept l.v); sound : ListSound l.v }

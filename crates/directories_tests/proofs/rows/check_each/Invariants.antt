@@ -1,9 +1,0 @@
-use Rattle.rio_fakes.specs.ListVolumes.{ListSound, list_kept, list_seen}
-use Rattle.directories_tests.specs.TestDirs.{DirsReady}
-use Rattle.directories_tests.proofs.rows.check_each.Given as goal
-
-abbrev pub invariant-loop-k : goal.invariant-loop-k
-invariant-loop-k g l = record {
-  sound : ListSound l.v;
-  dirs : DirsReady l.shape (list_seen l.v) (list_kept l.v);
-}
