@@ -60,3 +60,10 @@ held_on T r (Err stop) tells on = tt
 -- a request that is answered, or stopped
 pub held_end : {T : Type 0} (says : T → Reply → Type 0) (shape : VolumeShape) (x : Seen) (k : Kept) (y : Seen) (j : Kept) (memo : Memo) (a : State → Answered) (leads : State → ℕ → State → Type 0) (r : Result T FileFail) (q : Result Bool MachineStopped) → CanServe shape x k → ((s : State) → ReadsAs shape x.words s → FileEnds says shape x k y j s (a s) (leads s) r) → ((IsErrOf r Stopped → ⊥) → InStep shape y.words memo) → (IsErr q ↔ IsErrOf r Stopped) → FollowsHeld shape y j memo q
 held_end {T = T} says shape x k y j memo a leads r q can h on tells = record { follows = follows_end says shape x k y j a leads r q can h tells; in_step = held_on T r q tells on }
+
+pub held_ok : {T : Type 0} (shape : VolumeShape) (x : Seen) (k : Kept) (memo : Memo) (v : T) → CanServe shape x k → InStep shape x.words memo → FollowsHeld {T = T} shape x k memo (Ok v)
+held_ok shape x k memo v can step = record { follows = follows_ok shape x k v can; in_step = step }
+
+-- a look that leaves all words leaves a memo in step
+pub held_looked : {T : Type 0} (shape : VolumeShape) (x y : Seen) (j : Kept) (memo : Memo) (v : T) → CanServe shape y j → y.words ≡ x.words → InStep shape x.words memo → FollowsHeld {T = T} shape y j memo (Ok v)
+held_looked shape x y j memo v can same step = held_ok shape y j memo v can (subst (λ (f : BlockWords). InStep shape f memo) (sym same) step)

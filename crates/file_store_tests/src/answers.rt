@@ -7,93 +7,52 @@ use file_tree::FileFail;
 use name_list::NameList;
 use rio_base::{Ino, Octets, Stopped, VolFail};
 
-/// What a request answers.
-pub(crate) trait Answer {
-    /// Whether it is what must come.
-    fn is_due(&self, want: Want) -> bool;
-}
-
-impl Answer for () {
-    fn is_due(&self, want: Want) -> bool {
-        matches!(want, Want::Done)
+/// Whether a number is the one that must come.
+fn is_number(number: u64, want: Want) -> bool {
+    match want {
+        Want::Number(due) => number == due,
+        _ => false,
     }
 }
 
-impl Answer for u64 {
-    fn is_due(&self, want: Want) -> bool {
-        match want {
-            Want::Number(due) => *self == due,
-            _ => false,
-        }
-    }
+/// Whether bytes are these.
+fn are_bytes(came: &[u8], due: &[u8]) -> bool {
+    came == due
 }
 
-impl Answer for Ino {
-    fn is_due(&self, want: Want) -> bool {
-        (self.0 as u64).is_due(want)
-    }
-}
-
-impl Answer for (Ino, u8, u64) {
-    fn is_due(&self, want: Want) -> bool {
-        match want {
-            Want::Stat(ino, kind, size) => self.0.0 == ino && self.1 == kind && self.2 == size,
-            _ => false,
-        }
-    }
-}
-
-impl Answer for Octets {
-    fn is_due(&self, want: Want) -> bool {
-        match want {
-            Want::Bytes(due) => self.as_slice() == due,
-            _ => false,
-        }
-    }
-}
-
-impl Answer for NameList {
-    fn is_due(&self, want: Want) -> bool {
-        match want {
-            Want::Names(due) => are_same(self, due),
-            Want::Numbered(count) => are_numbered(self, count),
-            _ => false,
-        }
-    }
-}
-
-/// The words of a block.
-impl Answer for [u64; 512] {
-    fn is_due(&self, want: Want) -> bool {
-        match want {
-            Want::Words(due) => begin_with(self, due),
-            _ => false,
-        }
-    }
-}
-
+/// Whether names are these, in this order.
 fn are_same(names: &NameList, due: &[&[u8]]) -> bool {
     if names.len() != due.len() {
         return false;
     }
     for t in 0..names.len() {
-        if names.get(t) != due[t] {
+        if !are_bytes(names.get(t), due[t]) {
             return false;
         }
     }
     true
 }
 
+/// Whether names are so many numbered ones, from the second on.
 fn are_numbered(names: &NameList, count: u8) -> bool {
     if names.len() != count as usize || count > 99 {
         return false;
     }
     for t in 0..names.len() {
-        if names.get(t) != &numbered(t as u8 + 1)[1..] {
+        if !are_bytes(names.get(t), &numbered(t as u8 + 1)[1..]) {
             return false;
         }
     }
     true
+}
+
+/// Whether names are those that must come.
+fn are_names(names: &NameList, want: Want) -> bool {
+    match want {
+        Want::Names(due) => are_same(names, due),
+        Want::Numbered(count) => are_numbered(names, count),
+        _ => false,
+    }
 }
 
 /// Whether words are these, with zeros behind them.
@@ -105,6 +64,14 @@ fn begin_with(words: &[u64], due: &[u64]) -> bool {
         }
     }
     true
+}
+
+/// Whether the words of a block are those that must come.
+pub(crate) fn are_words(words: &[u64], want: Want) -> bool {
+    match want {
+        Want::Words(due) => begin_with(words, due),
+        _ => false,
+    }
 }
 
 /// Whether a refusal is the one that must come; or the stop that came in its place.
@@ -125,23 +92,94 @@ fn is_refused(code: u8, want: Want) -> bool {
     }
 }
 
-/// Whether a request answers as it must; or the stop that came in its place.
-pub(crate) fn is_due<T: Answer + Drop>(
-    answer: Result<T, FileFail>,
+/// Whether a request is done where it must be.
+pub(crate) fn is_done(want: Want) -> bool {
+    matches!(want, Want::Done)
+}
+
+/// Whether a request that tells nothing answers as it must; or the stop that came in its place.
+pub(crate) fn done_is_due(answer: Result<(), FileFail>, want: Want) -> Result<bool, Stopped>
+    ensures { IsErr result ↔ IsErrOf answer FileFail.Stopped }
+{
+    match answer {
+        Ok(()) => Ok(is_done(want)),
+        Err(fail) => is_refusal(fail, want),
+    }
+}
+
+/// The same of one that tells a node.
+pub(crate) fn node_is_due(answer: Result<Ino, FileFail>, want: Want) -> Result<bool, Stopped>
+    ensures { IsErr result ↔ IsErrOf answer FileFail.Stopped }
+{
+    match answer {
+        Ok(i) => Ok(is_number(i.0 as u64, want)),
+        Err(fail) => is_refusal(fail, want),
+    }
+}
+
+/// The same of one that tells a count of bytes.
+pub(crate) fn count_is_due(answer: Result<u64, FileFail>, want: Want) -> Result<bool, Stopped>
+    ensures { IsErr result ↔ IsErrOf answer FileFail.Stopped }
+{
+    match answer {
+        Ok(count) => Ok(is_number(count, want)),
+        Err(fail) => is_refusal(fail, want),
+    }
+}
+
+/// Whether a node, its kind and its size are those that must come.
+fn is_stat(i: Ino, kind: u8, size: u64, want: Want) -> bool {
+    match want {
+        Want::Stat(ino, due, bytes) => i.0 == ino && kind == due && size == bytes,
+        _ => false,
+    }
+}
+
+/// The same of one that tells what a node is.
+pub(crate) fn stat_is_due(
+    answer: Result<(Ino, u8, u64), FileFail>,
     want: Want,
 ) -> Result<bool, Stopped>
     ensures { IsErr result ↔ IsErrOf answer FileFail.Stopped }
 {
     match answer {
-        Ok(value) => Ok(value.is_due(want)),
+        Ok((i, kind, size)) => Ok(is_stat(i, kind, size, want)),
         Err(fail) => is_refusal(fail, want),
     }
 }
 
-/// Whether a count is the one that must come.
+/// Whether bytes are those that must come.
+fn are_read(bytes: &[u8], want: Want) -> bool {
+    match want {
+        Want::Bytes(due) => are_bytes(bytes, due),
+        _ => false,
+    }
+}
+
+/// The same of one that tells bytes.
+pub(crate) fn bytes_are_due(answer: Result<Octets, FileFail>, want: Want) -> Result<bool, Stopped>
+    ensures { IsErr result ↔ IsErrOf answer FileFail.Stopped }
+{
+    match answer {
+        Ok(bytes) => Ok(are_read(bytes.as_slice(), want)),
+        Err(fail) => is_refusal(fail, want),
+    }
+}
+
+/// The same of one that tells names.
+pub(crate) fn names_are_due(answer: Result<NameList, FileFail>, want: Want) -> Result<bool, Stopped>
+    ensures { IsErr result ↔ IsErrOf answer FileFail.Stopped }
+{
+    match answer {
+        Ok(names) => Ok(are_names(&names, want)),
+        Err(fail) => is_refusal(fail, want),
+    }
+}
+
+/// Whether a count of blocks is the one that must come.
 pub(crate) fn is_count(answer: Result<u32, VolFail>, want: Want) -> bool {
     match answer {
-        Ok(count) => (count as u64).is_due(want),
+        Ok(count) => is_number(count as u64, want),
         Err(_) => false,
     }
 }

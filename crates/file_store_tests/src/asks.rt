@@ -47,3 +47,23 @@ pub(crate) type Row = (Ask, Want);
 pub(crate) fn numbered(n: u8) -> [u8; 4] {
     [b'/', b'n', b'0' + n / 10, b'0' + n % 10]
 }
+
+/// The path of a request, or none.
+pub(crate) fn path_of(ask: Ask) -> &'static [u8] {
+    match ask {
+        Ask::Mkdir(path)
+        | Ask::Create(path)
+        | Ask::Region(path, _, _)
+        | Ask::RegionOf(path)
+        | Ask::Write(path, _, _)
+        | Ask::WriteMany(path, _, _, _)
+        | Ask::Read(path, _, _)
+        | Ask::Truncate(path, _)
+        | Ask::Unlink(path)
+        | Ask::Rmdir(path)
+        | Ask::Rename(path, _)
+        | Ask::Stat(path)
+        | Ask::List(path) => path,
+        Ask::Fill(_) | Ask::Free | Ask::Block(_) => b"",
+    }
+}

@@ -2,11 +2,15 @@
 
 ghost use Rattle.std.specs.Prelude.{◌≡◌};
 ghost use Rattle.rio_fakes.specs.ListVolumes.{ListSound, list_kept, list_seen};
+ghost use Rattle.rio_model.specs.Paths.{IsPath};
 ghost use Rattle.file_tree.specs.Ends.{CanServe};
 ghost use Rattle.file_store_tests.specs.Playing.{Follows};
 
-use crate::answers::{Answer, is_count, is_due};
-use crate::asks::{Ask, Row, Want, numbered};
+use crate::answers::{
+    are_words, bytes_are_due, count_is_due, done_is_due, is_count, is_done, names_are_due,
+    node_is_due, stat_is_due,
+};
+use crate::asks::{Ask, Row, Want, numbered, path_of};
 use block_alloc::free_count;
 use file_store::{
     create, list, make_region, mkdir, read, region_of, rename, rmdir, stat, truncate, unlink, write,
@@ -15,25 +19,6 @@ use request_codec::is_path;
 use rio_base::{Block, Blocks, InoList, Stopped, Volume, VolumeShape};
 use rio_fakes::ListVolume;
 use std::alloc::Global;
-
-fn mkdir_as(
-    alloc: Global,
-    v: &mut ListVolume,
-    shape: &VolumeShape,
-    path: &[u8],
-    want: Want,
-) -> Result<bool, Stopped>
-    requires sound { ListSound v.old }
-    requires can { CanServe shape.now (list_seen v.old) (list_kept v.old) }
-    ensures follows { Follows shape.now (list_seen v.new) (list_kept v.new) result }
-    ensures sound { ListSound v.new }
-{
-    if !is_path(path) {
-        return Ok(false);
-    }
-    let answer = mkdir(alloc, v, shape, path);
-    is_due(answer, want)
-}
 
 fn create_as(
     alloc: Global,
@@ -51,7 +36,7 @@ fn create_as(
         return Ok(false);
     }
     let answer = create(alloc, v, shape, path);
-    is_due(answer, want)
+    node_is_due(answer, want)
 }
 
 fn write_as(
@@ -65,14 +50,12 @@ fn write_as(
 ) -> Result<bool, Stopped>
     requires sound { ListSound v.old }
     requires can { CanServe shape.now (list_seen v.old) (list_kept v.old) }
+    requires path { IsPath path.now }
     ensures follows { Follows shape.now (list_seen v.new) (list_kept v.new) result }
     ensures sound { ListSound v.new }
 {
-    if !is_path(path) {
-        return Ok(false);
-    }
     let answer = write(alloc, v, shape, path, off, bytes);
-    is_due(answer, want)
+    count_is_due(answer, want)
 }
 
 /// Writes so many bytes of one value. Without memory for them it is not answered as it must.
@@ -88,6 +71,7 @@ fn write_many_as(
 ) -> Result<bool, Stopped>
     requires sound { ListSound v.old }
     requires can { CanServe shape.now (list_seen v.old) (list_kept v.old) }
+    requires path { IsPath path.now }
     ensures follows { Follows shape.now (list_seen v.new) (list_kept v.new) result }
     ensures sound { ListSound v.new }
 {
@@ -95,47 +79,6 @@ fn write_many_as(
         return Ok(false);
     };
     write_as(alloc, v, shape, path, off, &bytes, want)
-}
-
-fn read_as(
-    alloc: Global,
-    v: &mut ListVolume,
-    shape: &VolumeShape,
-    path: &[u8],
-    off: u64,
-    len: u64,
-    want: Want,
-) -> Result<bool, Stopped>
-    requires sound { ListSound v.old }
-    requires can { CanServe shape.now (list_seen v.old) (list_kept v.old) }
-    ensures follows { Follows shape.now (list_seen v.new) (list_kept v.new) result }
-    ensures sound { ListSound v.new }
-{
-    if !is_path(path) {
-        return Ok(false);
-    }
-    let answer = read(alloc, v, shape, path, off, len);
-    is_due(answer, want)
-}
-
-fn truncate_as(
-    alloc: Global,
-    v: &mut ListVolume,
-    shape: &VolumeShape,
-    path: &[u8],
-    len: u64,
-    want: Want,
-) -> Result<bool, Stopped>
-    requires sound { ListSound v.old }
-    requires can { CanServe shape.now (list_seen v.old) (list_kept v.old) }
-    ensures follows { Follows shape.now (list_seen v.new) (list_kept v.new) result }
-    ensures sound { ListSound v.new }
-{
-    if !is_path(path) {
-        return Ok(false);
-    }
-    let answer = truncate(alloc, v, shape, path, len);
-    is_due(answer, want)
 }
 
 fn unlink_as(
@@ -147,34 +90,13 @@ fn unlink_as(
 ) -> Result<bool, Stopped>
     requires sound { ListSound v.old }
     requires can { CanServe shape.now (list_seen v.old) (list_kept v.old) }
+    requires path { IsPath path.now }
     ensures follows { Follows shape.now (list_seen v.new) (list_kept v.new) result }
     ensures sound { ListSound v.new }
 {
-    if !is_path(path) {
-        return Ok(false);
-    }
     let busy = InoList::from(Vec::new(alloc));
     let answer = unlink(alloc, v, shape, path, &busy);
-    is_due(answer, want)
-}
-
-fn rmdir_as(
-    alloc: Global,
-    v: &mut ListVolume,
-    shape: &VolumeShape,
-    path: &[u8],
-    want: Want,
-) -> Result<bool, Stopped>
-    requires sound { ListSound v.old }
-    requires can { CanServe shape.now (list_seen v.old) (list_kept v.old) }
-    ensures follows { Follows shape.now (list_seen v.new) (list_kept v.new) result }
-    ensures sound { ListSound v.new }
-{
-    if !is_path(path) {
-        return Ok(false);
-    }
-    let answer = rmdir(alloc, v, shape, path);
-    is_due(answer, want)
+    done_is_due(answer, want)
 }
 
 fn rename_as(
@@ -187,56 +109,16 @@ fn rename_as(
 ) -> Result<bool, Stopped>
     requires sound { ListSound v.old }
     requires can { CanServe shape.now (list_seen v.old) (list_kept v.old) }
+    requires path { IsPath path.now }
     ensures follows { Follows shape.now (list_seen v.new) (list_kept v.new) result }
     ensures sound { ListSound v.new }
 {
-    if !is_path(path) {
-        return Ok(false);
-    }
     if !is_path(to) {
         return Ok(false);
     }
     let busy = InoList::from(Vec::new(alloc));
     let answer = rename(alloc, v, shape, path, to, &busy);
-    is_due(answer, want)
-}
-
-fn stat_as(
-    alloc: Global,
-    v: &mut ListVolume,
-    shape: &VolumeShape,
-    path: &[u8],
-    want: Want,
-) -> Result<bool, Stopped>
-    requires sound { ListSound v.old }
-    requires can { CanServe shape.now (list_seen v.old) (list_kept v.old) }
-    ensures follows { Follows shape.now (list_seen v.new) (list_kept v.new) result }
-    ensures sound { ListSound v.new }
-{
-    if !is_path(path) {
-        return Ok(false);
-    }
-    let answer = stat(alloc, v, shape, path);
-    is_due(answer, want)
-}
-
-fn list_as(
-    alloc: Global,
-    v: &mut ListVolume,
-    shape: &VolumeShape,
-    path: &[u8],
-    want: Want,
-) -> Result<bool, Stopped>
-    requires sound { ListSound v.old }
-    requires can { CanServe shape.now (list_seen v.old) (list_kept v.old) }
-    ensures follows { Follows shape.now (list_seen v.new) (list_kept v.new) result }
-    ensures sound { ListSound v.new }
-{
-    if !is_path(path) {
-        return Ok(false);
-    }
-    let answer = list(alloc, v, shape, path);
-    is_due(answer, want)
+    done_is_due(answer, want)
 }
 
 fn region_as(
@@ -250,6 +132,7 @@ fn region_as(
 ) -> Result<bool, Stopped>
     requires sound { ListSound v.old }
     requires can { CanServe shape.now (list_seen v.old) (list_kept v.old) }
+    requires path { IsPath path.now }
     ensures follows { Follows shape.now (list_seen v.new) (list_kept v.new) result }
     ensures sound { ListSound v.new }
 {
@@ -259,24 +142,19 @@ fn region_as(
     if undo_pages == 0 {
         return Ok(false);
     }
-    if !is_path(path) {
-        return Ok(false);
-    }
     let answer = make_region(alloc, v, shape, path, data_pages, undo_pages);
-    is_due(answer, want)
+    node_is_due(answer, want)
 }
 
 /// Finds a region, which takes no step.
 fn region_of_as(v: &mut ListVolume, shape: &VolumeShape, path: &[u8], want: Want) -> bool
     requires sound { ListSound v.old }
     requires can { CanServe shape.now (list_seen v.old) (list_kept v.old) }
+    requires path { IsPath path.now }
     ensures can { CanServe shape.now (list_seen v.new) (list_kept v.new) }
     ensures sound { ListSound v.new }
 {
-    if !is_path(path) {
-        return false;
-    }
-    match is_due(region_of(v, shape, path), want) {
+    match node_is_due(region_of(v, shape, path), want) {
         Ok(due) => due,
         Err(Stopped) => false,
     }
@@ -307,7 +185,7 @@ pub(crate) fn block_as(v: &mut ListVolume, shape: &VolumeShape, b: u32, want: Wa
     }
     let mut words = [9; 512];
     match v.read_run(Block(b), None, 0, &mut words) {
-        Ok(()) => words.is_due(want),
+        Ok(()) => are_words(&words, want),
         Err(_) => false,
     }
 }
@@ -330,7 +208,88 @@ fn fill_as(
             return Ok(false);
         }
     }
-    Ok(().is_due(want))
+    Ok(is_done(want))
+}
+
+/// Whether a request at a path that makes a directory or file, or looks at or drops a directory, answers as it must; or the
+/// stop that came in its place.
+fn names_as(
+    alloc: Global,
+    v: &mut ListVolume,
+    shape: &VolumeShape,
+    path: &[u8],
+    ask: Ask,
+    want: Want,
+) -> Result<bool, Stopped>
+    requires sound { ListSound v.old }
+    requires can { CanServe shape.now (list_seen v.old) (list_kept v.old) }
+    requires path { IsPath path.now }
+    ensures follows { Follows shape.now (list_seen v.new) (list_kept v.new) result }
+    ensures sound { ListSound v.new }
+{
+    match ask {
+        Ask::Mkdir(_) => node_is_due(mkdir(alloc, v, shape, path), want),
+        Ask::Create(_) => create_as(alloc, v, shape, path, want),
+        Ask::Rmdir(_) => done_is_due(rmdir(alloc, v, shape, path), want),
+        Ask::List(_) => names_are_due(list(alloc, v, shape, path), want),
+        // Not reached: other requests are made elsewhere.
+        _ => Ok(false),
+    }
+}
+
+/// The same of a request for what a file has, or for a change of it; or of one of those above.
+fn bytes_as(
+    alloc: Global,
+    v: &mut ListVolume,
+    shape: &VolumeShape,
+    path: &[u8],
+    ask: Ask,
+    want: Want,
+) -> Result<bool, Stopped>
+    requires sound { ListSound v.old }
+    requires can { CanServe shape.now (list_seen v.old) (list_kept v.old) }
+    requires path { IsPath path.now }
+    ensures follows { Follows shape.now (list_seen v.new) (list_kept v.new) result }
+    ensures sound { ListSound v.new }
+{
+    match ask {
+        Ask::Write(_, off, bytes) => write_as(alloc, v, shape, path, off, bytes, want),
+        Ask::Read(_, off, len) => bytes_are_due(read(alloc, v, shape, path, off, len), want),
+        Ask::Truncate(_, len) => done_is_due(truncate(alloc, v, shape, path, len), want),
+        Ask::Stat(_) => stat_is_due(stat(alloc, v, shape, path), want),
+        _ => names_as(alloc, v, shape, path, ask, want),
+    }
+}
+
+/// The same of any request at a path.
+fn answers_at(
+    alloc: Global,
+    v: &mut ListVolume,
+    shape: &VolumeShape,
+    ask: Ask,
+    want: Want,
+) -> Result<bool, Stopped>
+    requires sound { ListSound v.old }
+    requires can { CanServe shape.now (list_seen v.old) (list_kept v.old) }
+    ensures follows { Follows shape.now (list_seen v.new) (list_kept v.new) result }
+    ensures sound { ListSound v.new }
+{
+    let path = path_of(ask);
+    if !is_path(path) {
+        return Ok(false);
+    }
+    match ask {
+        Ask::Region(_, data_pages, undo_pages) => {
+            region_as(alloc, v, shape, path, data_pages, undo_pages, want)
+        }
+        Ask::RegionOf(_) => Ok(region_of_as(v, shape, path, want)),
+        Ask::WriteMany(_, off, byte, count) => {
+            write_many_as(alloc, v, shape, path, off, byte, count, want)
+        }
+        Ask::Unlink(_) => unlink_as(alloc, v, shape, path, want),
+        Ask::Rename(_, to) => rename_as(alloc, v, shape, path, to, want),
+        _ => bytes_as(alloc, v, shape, path, ask, want),
+    }
 }
 
 /// Whether a request answers as it must; or the stop that came in its place.
@@ -347,26 +306,10 @@ fn answers(
     ensures sound { ListSound v.new }
 {
     match ask {
-        Ask::Mkdir(path) => mkdir_as(alloc, v, shape, path, want),
-        Ask::Create(path) => create_as(alloc, v, shape, path, want),
-        Ask::Region(path, data_pages, undo_pages) => {
-            region_as(alloc, v, shape, path, data_pages, undo_pages, want)
-        }
-        Ask::Write(path, off, bytes) => write_as(alloc, v, shape, path, off, bytes, want),
-        Ask::WriteMany(path, off, byte, count) => {
-            write_many_as(alloc, v, shape, path, off, byte, count, want)
-        }
-        Ask::Read(path, off, len) => read_as(alloc, v, shape, path, off, len, want),
-        Ask::Truncate(path, len) => truncate_as(alloc, v, shape, path, len, want),
-        Ask::Unlink(path) => unlink_as(alloc, v, shape, path, want),
-        Ask::Rmdir(path) => rmdir_as(alloc, v, shape, path, want),
-        Ask::Rename(path, to) => rename_as(alloc, v, shape, path, to, want),
-        Ask::Stat(path) => stat_as(alloc, v, shape, path, want),
-        Ask::List(path) => list_as(alloc, v, shape, path, want),
         Ask::Fill(count) => fill_as(alloc, v, shape, count, want),
-        Ask::RegionOf(path) => Ok(region_of_as(v, shape, path, want)),
         Ask::Free => Ok(free_as(v, shape, want)),
         Ask::Block(b) => Ok(block_as(v, shape, b, want)),
+        _ => answers_at(alloc, v, shape, ask, want),
     }
 }
 

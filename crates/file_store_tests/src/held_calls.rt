@@ -1,12 +1,15 @@
 //! The same requests by one who holds names and full blocks of inodes in memory, in a memo that is kept from call to call.
 
 ghost use Rattle.rio_fakes.specs.ListVolumes.{ListSound, list_kept, list_seen};
+ghost use Rattle.rio_model.specs.Paths.{IsPath};
 ghost use Rattle.file_tree.specs.Ends.{CanServe};
 ghost use Rattle.file_tree.specs.Memos.{InStep};
 ghost use Rattle.file_store_tests.specs.Playing.{FollowsHeld};
 
-use crate::answers::{Answer, is_due};
-use crate::asks::{Ask, Row, Want, numbered};
+use crate::answers::{
+    bytes_are_due, count_is_due, done_is_due, is_done, names_are_due, node_is_due, stat_is_due,
+};
+use crate::asks::{Ask, Row, Want, numbered, path_of};
 use crate::calls::{block_as, free_as};
 use file_store::{read_with, truncate_with, write_with};
 use file_tree::{
@@ -14,54 +17,34 @@ use file_tree::{
     rmdir_with, stat_with, unlink_with,
 };
 use request_codec::is_path;
-use rio_base::{InoList, Stopped, Volume, VolumeShape};
+use rio_base::{InoList, Stopped, VolumeShape};
 use rio_fakes::ListVolume;
 use std::alloc::Global;
 
-/// The path of a request, or none.
-fn path_of(ask: Ask) -> &'static [u8] {
-    match ask {
-        Ask::Mkdir(path)
-        | Ask::Create(path)
-        | Ask::Region(path, _, _)
-        | Ask::RegionOf(path)
-        | Ask::Write(path, _, _)
-        | Ask::WriteMany(path, _, _, _)
-        | Ask::Read(path, _, _)
-        | Ask::Truncate(path, _)
-        | Ask::Unlink(path)
-        | Ask::Rmdir(path)
-        | Ask::Rename(path, _)
-        | Ask::Stat(path)
-        | Ask::List(path) => path,
-        Ask::Fill(_) | Ask::Free | Ask::Block(_) => b"",
-    }
-}
-
-fn create_held<V: Volume>(
+fn create_held(
     alloc: Global,
-    v: &mut V,
+    v: &mut ListVolume,
     shape: &VolumeShape,
     memo: &mut Memo,
     path: &[u8],
     want: Want,
 ) -> Result<bool, Stopped>
-    requires sound { V.sound v.old }
-    requires can { CanServe shape.now (V.seen v.old) (V.kept v.old) }
-    requires in_step { InStep shape.now (V.seen v.old).words memo.old }
-    ensures follows { FollowsHeld shape.now (V.seen v.new) (V.kept v.new) memo.new result }
-    ensures sound { V.sound v.new }
+    requires sound { ListSound v.old }
+    requires can { CanServe shape.now (list_seen v.old) (list_kept v.old) }
+    requires in_step { InStep shape.now (list_seen v.old).words memo.old }
+    ensures follows { FollowsHeld shape.now (list_seen v.new) (list_kept v.new) memo.new result }
+    ensures sound { ListSound v.new }
 {
     if !is_path(path) {
         return Ok(false);
     }
     let answer = create_with(alloc, v, shape, memo, path);
-    is_due(answer, want)
+    node_is_due(answer, want)
 }
 
-fn write_held<V: Volume>(
+fn write_held(
     alloc: Global,
-    v: &mut V,
+    v: &mut ListVolume,
     shape: &VolumeShape,
     memo: &mut Memo,
     path: &[u8],
@@ -69,23 +52,21 @@ fn write_held<V: Volume>(
     bytes: &[u8],
     want: Want,
 ) -> Result<bool, Stopped>
-    requires sound { V.sound v.old }
-    requires can { CanServe shape.now (V.seen v.old) (V.kept v.old) }
-    requires in_step { InStep shape.now (V.seen v.old).words memo.old }
-    ensures follows { FollowsHeld shape.now (V.seen v.new) (V.kept v.new) memo.new result }
-    ensures sound { V.sound v.new }
+    requires sound { ListSound v.old }
+    requires can { CanServe shape.now (list_seen v.old) (list_kept v.old) }
+    requires path { IsPath path.now }
+    requires in_step { InStep shape.now (list_seen v.old).words memo.old }
+    ensures follows { FollowsHeld shape.now (list_seen v.new) (list_kept v.new) memo.new result }
+    ensures sound { ListSound v.new }
 {
-    if !is_path(path) {
-        return Ok(false);
-    }
     let answer = write_with(alloc, v, shape, memo, path, off, bytes);
-    is_due(answer, want)
+    count_is_due(answer, want)
 }
 
 /// Writes so many bytes of one value. Without memory for them it is not answered as it must.
-fn write_many_held<V: Volume>(
+fn write_many_held(
     alloc: Global,
-    v: &mut V,
+    v: &mut ListVolume,
     shape: &VolumeShape,
     memo: &mut Memo,
     path: &[u8],
@@ -94,11 +75,12 @@ fn write_many_held<V: Volume>(
     count: usize,
     want: Want,
 ) -> Result<bool, Stopped>
-    requires sound { V.sound v.old }
-    requires can { CanServe shape.now (V.seen v.old) (V.kept v.old) }
-    requires in_step { InStep shape.now (V.seen v.old).words memo.old }
-    ensures follows { FollowsHeld shape.now (V.seen v.new) (V.kept v.new) memo.new result }
-    ensures sound { V.sound v.new }
+    requires sound { ListSound v.old }
+    requires can { CanServe shape.now (list_seen v.old) (list_kept v.old) }
+    requires path { IsPath path.now }
+    requires in_step { InStep shape.now (list_seen v.old).words memo.old }
+    ensures follows { FollowsHeld shape.now (list_seen v.new) (list_kept v.new) memo.new result }
+    ensures sound { ListSound v.new }
 {
     let Ok(bytes) = vec![in alloc; byte; count] else {
         return Ok(false);
@@ -106,31 +88,29 @@ fn write_many_held<V: Volume>(
     write_held(alloc, v, shape, memo, path, off, &bytes, want)
 }
 
-fn unlink_held<V: Volume>(
+fn unlink_held(
     alloc: Global,
-    v: &mut V,
+    v: &mut ListVolume,
     shape: &VolumeShape,
     memo: &mut Memo,
     path: &[u8],
     want: Want,
 ) -> Result<bool, Stopped>
-    requires sound { V.sound v.old }
-    requires can { CanServe shape.now (V.seen v.old) (V.kept v.old) }
-    requires in_step { InStep shape.now (V.seen v.old).words memo.old }
-    ensures follows { FollowsHeld shape.now (V.seen v.new) (V.kept v.new) memo.new result }
-    ensures sound { V.sound v.new }
+    requires sound { ListSound v.old }
+    requires can { CanServe shape.now (list_seen v.old) (list_kept v.old) }
+    requires path { IsPath path.now }
+    requires in_step { InStep shape.now (list_seen v.old).words memo.old }
+    ensures follows { FollowsHeld shape.now (list_seen v.new) (list_kept v.new) memo.new result }
+    ensures sound { ListSound v.new }
 {
-    if !is_path(path) {
-        return Ok(false);
-    }
     let busy = InoList::from(Vec::new(alloc));
     let answer = unlink_with(alloc, v, shape, memo, path, &busy);
-    is_due(answer, want)
+    done_is_due(answer, want)
 }
 
-fn region_held<V: Volume>(
+fn region_held(
     alloc: Global,
-    v: &mut V,
+    v: &mut ListVolume,
     shape: &VolumeShape,
     memo: &mut Memo,
     path: &[u8],
@@ -138,11 +118,12 @@ fn region_held<V: Volume>(
     undo_pages: u64,
     want: Want,
 ) -> Result<bool, Stopped>
-    requires sound { V.sound v.old }
-    requires can { CanServe shape.now (V.seen v.old) (V.kept v.old) }
-    requires in_step { InStep shape.now (V.seen v.old).words memo.old }
-    ensures follows { FollowsHeld shape.now (V.seen v.new) (V.kept v.new) memo.new result }
-    ensures sound { V.sound v.new }
+    requires sound { ListSound v.old }
+    requires can { CanServe shape.now (list_seen v.old) (list_kept v.old) }
+    requires path { IsPath path.now }
+    requires in_step { InStep shape.now (list_seen v.old).words memo.old }
+    ensures follows { FollowsHeld shape.now (list_seen v.new) (list_kept v.new) memo.new result }
+    ensures sound { ListSound v.new }
 {
     if data_pages == 0 {
         return Ok(false);
@@ -150,108 +131,159 @@ fn region_held<V: Volume>(
     if undo_pages == 0 {
         return Ok(false);
     }
-    if !is_path(path) {
-        return Ok(false);
-    }
     let answer = make_region_with(alloc, v, shape, memo, path, data_pages, undo_pages);
-    is_due(answer, want)
+    node_is_due(answer, want)
 }
 
-fn rename_held<V: Volume>(
+fn rename_held(
     alloc: Global,
-    v: &mut V,
+    v: &mut ListVolume,
     shape: &VolumeShape,
     memo: &mut Memo,
     path: &[u8],
     to: &[u8],
     want: Want,
 ) -> Result<bool, Stopped>
-    requires sound { V.sound v.old }
-    requires can { CanServe shape.now (V.seen v.old) (V.kept v.old) }
-    requires in_step { InStep shape.now (V.seen v.old).words memo.old }
-    ensures follows { FollowsHeld shape.now (V.seen v.new) (V.kept v.new) memo.new result }
-    ensures sound { V.sound v.new }
+    requires sound { ListSound v.old }
+    requires can { CanServe shape.now (list_seen v.old) (list_kept v.old) }
+    requires path { IsPath path.now }
+    requires in_step { InStep shape.now (list_seen v.old).words memo.old }
+    ensures follows { FollowsHeld shape.now (list_seen v.new) (list_kept v.new) memo.new result }
+    ensures sound { ListSound v.new }
 {
-    if !is_path(path) {
-        return Ok(false);
-    }
     if !is_path(to) {
         return Ok(false);
     }
     let busy = InoList::from(Vec::new(alloc));
     let answer = rename_with(alloc, v, shape, memo, path, to, &busy);
-    is_due(answer, want)
+    done_is_due(answer, want)
 }
 
 /// Finds a region, which takes no step.
-fn region_of_held<V: Volume>(
-    v: &mut V,
+fn region_of_held(
+    v: &mut ListVolume,
     shape: &VolumeShape,
     memo: &mut Memo,
     path: &[u8],
     want: Want,
 ) -> bool
-    requires sound { V.sound v.old }
-    requires can { CanServe shape.now (V.seen v.old) (V.kept v.old) }
-    requires in_step { InStep shape.now (V.seen v.old).words memo.old }
-    ensures can { CanServe shape.now (V.seen v.new) (V.kept v.new) }
-    ensures in_step { InStep shape.now (V.seen v.new).words memo.new }
-    ensures sound { V.sound v.new }
+    requires sound { ListSound v.old }
+    requires can { CanServe shape.now (list_seen v.old) (list_kept v.old) }
+    requires path { IsPath path.now }
+    requires in_step { InStep shape.now (list_seen v.old).words memo.old }
+    ensures can { CanServe shape.now (list_seen v.new) (list_kept v.new) }
+    ensures in_step { InStep shape.now (list_seen v.new).words memo.new }
+    ensures sound { ListSound v.new }
 {
-    if !is_path(path) {
-        return false;
-    }
-    match is_due(region_of_with(v, shape, memo, path), want) {
+    match node_is_due(region_of_with(v, shape, memo, path), want) {
         Ok(due) => due,
         Err(Stopped) => false,
     }
 }
 
-/// Whether a request at a path, which is none of those above, answers as it must; or the stop that came in its place.
-fn answers_at<V: Volume>(
+/// Whether a request at a path that makes a directory or file, or looks at or drops a directory, answers as it must; or the
+/// stop that came in its place.
+fn names_held(
     alloc: Global,
-    v: &mut V,
+    v: &mut ListVolume,
+    shape: &VolumeShape,
+    memo: &mut Memo,
+    path: &[u8],
+    ask: Ask,
+    want: Want,
+) -> Result<bool, Stopped>
+    requires sound { ListSound v.old }
+    requires can { CanServe shape.now (list_seen v.old) (list_kept v.old) }
+    requires path { IsPath path.now }
+    requires in_step { InStep shape.now (list_seen v.old).words memo.old }
+    ensures follows { FollowsHeld shape.now (list_seen v.new) (list_kept v.new) memo.new result }
+    ensures sound { ListSound v.new }
+{
+    match ask {
+        Ask::Mkdir(_) => node_is_due(mkdir_with(alloc, v, shape, memo, path), want),
+        Ask::Create(_) => create_held(alloc, v, shape, memo, path, want),
+        Ask::Rmdir(_) => done_is_due(rmdir_with(alloc, v, shape, memo, path), want),
+        Ask::List(_) => names_are_due(list_with(alloc, v, shape, memo, path), want),
+        // Not reached: other requests are made elsewhere.
+        _ => Ok(false),
+    }
+}
+
+/// The same of a request for what a file has, or for a change of it; or of one of those above.
+fn bytes_held(
+    alloc: Global,
+    v: &mut ListVolume,
+    shape: &VolumeShape,
+    memo: &mut Memo,
+    path: &[u8],
+    ask: Ask,
+    want: Want,
+) -> Result<bool, Stopped>
+    requires sound { ListSound v.old }
+    requires can { CanServe shape.now (list_seen v.old) (list_kept v.old) }
+    requires path { IsPath path.now }
+    requires in_step { InStep shape.now (list_seen v.old).words memo.old }
+    ensures follows { FollowsHeld shape.now (list_seen v.new) (list_kept v.new) memo.new result }
+    ensures sound { ListSound v.new }
+{
+    match ask {
+        Ask::Write(_, off, bytes) => write_held(alloc, v, shape, memo, path, off, bytes, want),
+        Ask::Read(_, off, len) => {
+            bytes_are_due(read_with(alloc, v, shape, memo, path, off, len), want)
+        }
+        Ask::Truncate(_, len) => done_is_due(truncate_with(alloc, v, shape, memo, path, len), want),
+        Ask::Stat(_) => stat_is_due(stat_with(alloc, v, shape, memo, path), want),
+        _ => names_held(alloc, v, shape, memo, path, ask, want),
+    }
+}
+
+/// The same of any request at a path.
+fn answers_at(
+    alloc: Global,
+    v: &mut ListVolume,
     shape: &VolumeShape,
     memo: &mut Memo,
     ask: Ask,
     want: Want,
 ) -> Result<bool, Stopped>
-    requires sound { V.sound v.old }
-    requires can { CanServe shape.now (V.seen v.old) (V.kept v.old) }
-    requires in_step { InStep shape.now (V.seen v.old).words memo.old }
-    ensures follows { FollowsHeld shape.now (V.seen v.new) (V.kept v.new) memo.new result }
-    ensures sound { V.sound v.new }
+    requires sound { ListSound v.old }
+    requires can { CanServe shape.now (list_seen v.old) (list_kept v.old) }
+    requires in_step { InStep shape.now (list_seen v.old).words memo.old }
+    ensures follows { FollowsHeld shape.now (list_seen v.new) (list_kept v.new) memo.new result }
+    ensures sound { ListSound v.new }
 {
     let path = path_of(ask);
     if !is_path(path) {
         return Ok(false);
     }
     match ask {
-        Ask::Mkdir(_) => is_due(mkdir_with(alloc, v, shape, memo, path), want),
-        Ask::Read(_, off, len) => is_due(read_with(alloc, v, shape, memo, path, off, len), want),
-        Ask::Truncate(_, len) => is_due(truncate_with(alloc, v, shape, memo, path, len), want),
-        Ask::Rmdir(_) => is_due(rmdir_with(alloc, v, shape, memo, path), want),
-        Ask::Stat(_) => is_due(stat_with(alloc, v, shape, memo, path), want),
-        Ask::List(_) => is_due(list_with(alloc, v, shape, memo, path), want),
-        // Not reached: other requests are made elsewhere.
-        _ => Ok(false),
+        Ask::Region(_, data_pages, undo_pages) => region_held(
+            alloc, v, shape, memo, path, data_pages, undo_pages, want,
+        ),
+        Ask::RegionOf(_) => Ok(region_of_held(v, shape, memo, path, want)),
+        Ask::WriteMany(_, off, byte, count) => {
+            write_many_held(alloc, v, shape, memo, path, off, byte, count, want)
+        }
+        Ask::Unlink(_) => unlink_held(alloc, v, shape, memo, path, want),
+        Ask::Rename(_, to) => rename_held(alloc, v, shape, memo, path, to, want),
+        _ => bytes_held(alloc, v, shape, memo, path, ask, want),
     }
 }
 
 /// Makes so many files in an empty root directory.
-fn fill_held<V: Volume>(
+fn fill_held(
     alloc: Global,
-    v: &mut V,
+    v: &mut ListVolume,
     shape: &VolumeShape,
     memo: &mut Memo,
     count: u8,
     want: Want,
 ) -> Result<bool, Stopped>
-    requires sound { V.sound v.old }
-    requires can { CanServe shape.now (V.seen v.old) (V.kept v.old) }
-    requires in_step { InStep shape.now (V.seen v.old).words memo.old }
-    ensures follows { FollowsHeld shape.now (V.seen v.new) (V.kept v.new) memo.new result }
-    ensures sound { V.sound v.new }
+    requires sound { ListSound v.old }
+    requires can { CanServe shape.now (list_seen v.old) (list_kept v.old) }
+    requires in_step { InStep shape.now (list_seen v.old).words memo.old }
+    ensures follows { FollowsHeld shape.now (list_seen v.new) (list_kept v.new) memo.new result }
+    ensures sound { ListSound v.new }
 {
     for n in 0..count {
         if !create_held(
@@ -265,44 +297,11 @@ fn fill_held<V: Volume>(
             return Ok(false);
         }
     }
-    Ok(().is_due(want))
+    Ok(is_done(want))
 }
 
-/// Whether a request other than for the words of a block answers as it must; or the stop that came in its place.
-fn answers_held<V: Volume>(
-    alloc: Global,
-    v: &mut V,
-    shape: &VolumeShape,
-    memo: &mut Memo,
-    ask: Ask,
-    want: Want,
-) -> Result<bool, Stopped>
-    requires sound { V.sound v.old }
-    requires can { CanServe shape.now (V.seen v.old) (V.kept v.old) }
-    requires in_step { InStep shape.now (V.seen v.old).words memo.old }
-    ensures follows { FollowsHeld shape.now (V.seen v.new) (V.kept v.new) memo.new result }
-    ensures sound { V.sound v.new }
-{
-    match ask {
-        Ask::Create(path) => create_held(alloc, v, shape, memo, path, want),
-        Ask::Write(path, off, bytes) => write_held(alloc, v, shape, memo, path, off, bytes, want),
-        Ask::WriteMany(path, off, byte, count) => {
-            write_many_held(alloc, v, shape, memo, path, off, byte, count, want)
-        }
-        Ask::Region(path, data_pages, undo_pages) => region_held(
-            alloc, v, shape, memo, path, data_pages, undo_pages, want,
-        ),
-        Ask::Unlink(path) => unlink_held(alloc, v, shape, memo, path, want),
-        Ask::Rename(path, to) => rename_held(alloc, v, shape, memo, path, to, want),
-        Ask::RegionOf(path) => Ok(region_of_held(v, shape, memo, path, want)),
-        Ask::Fill(count) => fill_held(alloc, v, shape, memo, count, want),
-        Ask::Free => Ok(free_as(v, shape, want)),
-        _ => answers_at(alloc, v, shape, memo, ask, want),
-    }
-}
-
-/// The same, also of the words of a block.
-fn row_held(
+/// Whether a request answers as it must; or the stop that came in its place.
+fn answers_held(
     alloc: Global,
     v: &mut ListVolume,
     shape: &VolumeShape,
@@ -317,8 +316,10 @@ fn row_held(
     ensures sound { ListSound v.new }
 {
     match ask {
+        Ask::Fill(count) => fill_held(alloc, v, shape, memo, count, want),
+        Ask::Free => Ok(free_as(v, shape, want)),
         Ask::Block(b) => Ok(block_as(v, shape, b, want)),
-        _ => answers_held(alloc, v, shape, memo, ask, want),
+        _ => answers_at(alloc, v, shape, memo, ask, want),
     }
 }
 
@@ -336,7 +337,7 @@ pub(crate) fn first_other_held(
     let mut memo = Memo::new(alloc);
     for t in 0..rows.len() {
         let (ask, want) = rows[t];
-        if !row_held(alloc, v, shape, &mut memo, ask, want)? {
+        if !answers_held(alloc, v, shape, &mut memo, ask, want)? {
             return Ok(Some(t));
         }
     }

@@ -74,12 +74,12 @@ pub(crate) fn view_of(
     }
     let ino = match stand_at(&mut view, path) {
         Ok(ino) => ino,
-        Err(fail) => panic!(rt; "no region: {fail:?}"),
+        Err(_fail) => panic!(rt; "no region"),
     };
-    if ino != due {
+    if ino.0 != due.0 {
         panic!(rt; "another region");
     }
-    if view.ino != ino {
+    if view.ino.0 != ino.0 {
         panic!(rt; "it stands on another region");
     }
     view

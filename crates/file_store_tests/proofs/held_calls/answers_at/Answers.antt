@@ -1,23 +1,92 @@
-use Rattle.rio_requests.specs.Answers.{list as list_of, mkdir as mkdir_of, read as read_of, rmdir as rmdir_of, stat as stat_of, truncate as truncate_of}
-use Rattle.rio_requests.specs.Parts.{NoneDone}
-use Rattle.file_tree.specs.Ends.{SaysBytes, SaysDone, SaysIno, SaysNames, SaysStat}
-use Rattle.file_store_tests.proofs.Played.{held_end}
+use Rattle.file_store_tests.proofs.Played.{held_ok}
 use Rattle.file_store_tests.proofs.held_calls.answers_at.Goals as goal
 
-pub returns-in-Mkdir-clause-follows : goal.returns-in-Mkdir-clause-follows
-returns-in-Mkdir-clause-follows g c = held_end SaysIno c.args.shape.now (g.V.Blocks.seen c.args.v.now) (g.V.Volume.kept c.args.v.now) (g.V.Blocks.seen c.mkdir_with.new.v) (g.V.Volume.kept c.mkdir_with.new.v) c.mkdir_with.new.memo (λ s. mkdir_of s c.path_of-path.result.now) (λ s. NoneDone s) c.mkdir_with.result c.is_due.result c.requires.can c.mkdir_with.ensures.leaves c.mkdir_with.ensures.in_step c.is_due.ensures
+pub returns-in-Region-clause-follows : goal.returns-in-Region-clause-follows
+returns-in-Region-clause-follows c = c.region_held.ensures.follows
 
-pub returns-in-Read-clause-follows : goal.returns-in-Read-clause-follows
-returns-in-Read-clause-follows g c = held_end SaysBytes c.args.shape.now (g.V.Blocks.seen c.args.v.now) (g.V.Volume.kept c.args.v.now) (g.V.Blocks.seen c.read_with.new.v) (g.V.Volume.kept c.read_with.new.v) c.read_with.new.memo (λ s. read_of s c.path_of-path.result.now c.in-Read.off c.in-Read.len) (λ s. NoneDone s) c.read_with.result c.is_due-in-Read.result c.requires.can c.read_with.ensures.leaves c.read_with.ensures.in_step c.is_due-in-Read.ensures
+pub returns-in-Region-clause-sound : goal.returns-in-Region-clause-sound
+returns-in-Region-clause-sound c = c.region_held.ensures.sound
 
-pub returns-in-Truncate-clause-follows : goal.returns-in-Truncate-clause-follows
-returns-in-Truncate-clause-follows g c = held_end SaysDone c.args.shape.now (g.V.Blocks.seen c.args.v.now) (g.V.Volume.kept c.args.v.now) (g.V.Blocks.seen c.truncate_with.new.v) (g.V.Volume.kept c.truncate_with.new.v) c.truncate_with.new.memo (λ s. truncate_of s c.path_of-path.result.now c.in-Truncate.len) (λ s. NoneDone s) c.truncate_with.result c.is_due-in-Truncate.result c.requires.can c.truncate_with.ensures.leaves c.truncate_with.ensures.in_step c.is_due-in-Truncate.ensures
+pub region_held-requires-clause-can : goal.region_held-requires-clause-can
+region_held-requires-clause-can c = c.requires.can
 
-pub returns-in-Rmdir-clause-follows : goal.returns-in-Rmdir-clause-follows
-returns-in-Rmdir-clause-follows g c = held_end SaysDone c.args.shape.now (g.V.Blocks.seen c.args.v.now) (g.V.Volume.kept c.args.v.now) (g.V.Blocks.seen c.rmdir_with.new.v) (g.V.Volume.kept c.rmdir_with.new.v) c.rmdir_with.new.memo (λ s. rmdir_of s c.path_of-path.result.now) (λ s. NoneDone s) c.rmdir_with.result c.is_due-in-Rmdir.result c.requires.can c.rmdir_with.ensures.leaves c.rmdir_with.ensures.in_step c.is_due-in-Rmdir.ensures
+pub region_held-requires-clause-sound : goal.region_held-requires-clause-sound
+region_held-requires-clause-sound c = c.requires.sound
 
-pub returns-in-Stat-clause-follows : goal.returns-in-Stat-clause-follows
-returns-in-Stat-clause-follows g c = held_end SaysStat c.args.shape.now (g.V.Blocks.seen c.args.v.now) (g.V.Volume.kept c.args.v.now) (g.V.Blocks.seen c.stat_with.new.v) (g.V.Volume.kept c.stat_with.new.v) c.stat_with.new.memo (λ s. stat_of s c.path_of-path.result.now) (λ s. NoneDone s) c.stat_with.result c.is_due-in-Stat.result c.requires.can c.stat_with.ensures.leaves c.stat_with.ensures.in_step c.is_due-in-Stat.ensures
+pub region_held-requires-clause-in_step : goal.region_held-requires-clause-in_step
+region_held-requires-clause-in_step c = c.requires.in_step
 
-pub returns-in-List-clause-follows : goal.returns-in-List-clause-follows
-returns-in-List-clause-follows g c = held_end SaysNames c.args.shape.now (g.V.Blocks.seen c.args.v.now) (g.V.Volume.kept c.args.v.now) (g.V.Blocks.seen c.list_with.new.v) (g.V.Volume.kept c.list_with.new.v) c.list_with.new.memo (λ s. list_of s c.path_of-path.result.now) (λ s. NoneDone s) c.list_with.result c.is_due-in-List.result c.requires.can c.list_with.ensures.leaves c.list_with.ensures.in_step c.is_due-in-List.ensures
+pub returns-in-WriteMany-clause-follows : goal.returns-in-WriteMany-clause-follows
+returns-in-WriteMany-clause-follows c = c.write_many_held.ensures.follows
+
+pub returns-in-WriteMany-clause-sound : goal.returns-in-WriteMany-clause-sound
+returns-in-WriteMany-clause-sound c = c.write_many_held.ensures.sound
+
+pub write_many_held-requires-clause-can : goal.write_many_held-requires-clause-can
+write_many_held-requires-clause-can c = c.requires.can
+
+pub write_many_held-requires-clause-sound : goal.write_many_held-requires-clause-sound
+write_many_held-requires-clause-sound c = c.requires.sound
+
+pub write_many_held-requires-clause-in_step : goal.write_many_held-requires-clause-in_step
+write_many_held-requires-clause-in_step c = c.requires.in_step
+
+pub returns-in-Unlink-clause-follows : goal.returns-in-Unlink-clause-follows
+returns-in-Unlink-clause-follows c = c.unlink_held.ensures.follows
+
+pub returns-in-Unlink-clause-sound : goal.returns-in-Unlink-clause-sound
+returns-in-Unlink-clause-sound c = c.unlink_held.ensures.sound
+
+pub unlink_held-requires-clause-can : goal.unlink_held-requires-clause-can
+unlink_held-requires-clause-can c = c.requires.can
+
+pub unlink_held-requires-clause-sound : goal.unlink_held-requires-clause-sound
+unlink_held-requires-clause-sound c = c.requires.sound
+
+pub unlink_held-requires-clause-in_step : goal.unlink_held-requires-clause-in_step
+unlink_held-requires-clause-in_step c = c.requires.in_step
+
+pub returns-in-Rename-clause-follows : goal.returns-in-Rename-clause-follows
+returns-in-Rename-clause-follows c = c.rename_held.ensures.follows
+
+pub returns-in-Rename-clause-sound : goal.returns-in-Rename-clause-sound
+returns-in-Rename-clause-sound c = c.rename_held.ensures.sound
+
+pub rename_held-requires-clause-can : goal.rename_held-requires-clause-can
+rename_held-requires-clause-can c = c.requires.can
+
+pub rename_held-requires-clause-sound : goal.rename_held-requires-clause-sound
+rename_held-requires-clause-sound c = c.requires.sound
+
+pub rename_held-requires-clause-in_step : goal.rename_held-requires-clause-in_step
+rename_held-requires-clause-in_step c = c.requires.in_step
+
+pub returns-in-RegionOf-clause-follows : goal.returns-in-RegionOf-clause-follows
+returns-in-RegionOf-clause-follows c = held_ok _ _ _ _ _ c.region_of_held.ensures.can c.region_of_held.ensures.in_step
+
+pub returns-in-RegionOf-clause-sound : goal.returns-in-RegionOf-clause-sound
+returns-in-RegionOf-clause-sound c = c.region_of_held.ensures.sound
+
+pub region_of_held-requires-clause-can : goal.region_of_held-requires-clause-can
+region_of_held-requires-clause-can c = c.requires.can
+
+pub region_of_held-requires-clause-sound : goal.region_of_held-requires-clause-sound
+region_of_held-requires-clause-sound c = c.requires.sound
+
+pub region_of_held-requires-clause-in_step : goal.region_of_held-requires-clause-in_step
+region_of_held-requires-clause-in_step c = c.requires.in_step
+
+pub bytes_held-requires-clause-can : goal.bytes_held-requires-clause-can
+bytes_held-requires-clause-can c = c.requires.can
+
+pub bytes_held-requires-clause-sound : goal.bytes_held-requires-clause-sound
+bytes_held-requires-clause-sound c = c.requires.sound
+
+pub bytes_held-requires-clause-in_step : goal.bytes_held-requires-clause-in_step
+bytes_held-requires-clause-in_step c = c.requires.in_step
+
+pub returns-then-not-is_path-clause-follows : goal.returns-then-not-is_path-clause-follows
+returns-then-not-is_path-clause-follows c = held_ok _ _ _ _ _ c.requires.can c.requires.in_step
+
+pub returns-then-not-is_path-clause-sound : goal.returns-then-not-is_path-clause-sound
+returns-then-not-is_path-clause-sound c = c.requires.sound

@@ -1,9 +1,31 @@
+use Rattle.rio_fakes.specs.ListVolumes.{list_kept, list_seen}
 use Rattle.rio_requests.specs.Answers.{rename as rename_of}
 use Rattle.rio_requests.specs.Parts.{NoneDone}
 use Rattle.file_tree.specs.Ends.{SaysDone}
 use Rattle.file_tree.specs.Walks.{ino_numbers}
-use Rattle.file_store_tests.proofs.Played.{held_end}
+use Rattle.file_store_tests.proofs.Played.{held_end, held_ok}
 use Rattle.file_store_tests.proofs.held_calls.rename_held.Goals as goal
 
 pub returns-clause-follows : goal.returns-clause-follows
-returns-clause-follows g c = held_end SaysDone c.args.shape.now (g.V.Blocks.seen c.args.v.now) (g.V.Volume.kept c.args.v.now) (g.V.Blocks.seen c.rename_with-answer.new.v) (g.V.Volume.kept c.rename_with-answer.new.v) c.rename_with-answer.new.memo (λ s. rename_of s c.args.path.now c.args.to.now (ino_numbers c.from-busy.result)) (λ s. NoneDone s) c.rename_with-answer.result c.is_due.result c.requires.can c.rename_with-answer.ensures.leaves c.rename_with-answer.ensures.in_step c.is_due.ensures
+returns-clause-follows c = held_end SaysDone c.args.shape.now (list_seen c.args.v.now) (list_kept c.args.v.now) (list_seen c.rename_with-answer.new.v) (list_kept c.rename_with-answer.new.v) c.rename_with-answer.new.memo (λ s. rename_of s c.args.path.now c.args.to.now (ino_numbers c.from-busy.result)) (λ s. NoneDone s) c.rename_with-answer.result c.done_is_due.result c.requires.can c.rename_with-answer.ensures.leaves c.rename_with-answer.ensures.in_step c.done_is_due.ensures
+
+pub rename_with-answer-requires-clause-can : goal.rename_with-answer-requires-clause-can
+rename_with-answer-requires-clause-can c = c.requires.can
+
+pub rename_with-answer-requires-clause-sound : goal.rename_with-answer-requires-clause-sound
+rename_with-answer-requires-clause-sound c = c.requires.sound
+
+pub rename_with-answer-requires-clause-path : goal.rename_with-answer-requires-clause-path
+rename_with-answer-requires-clause-path c = c.requires.path
+
+pub rename_with-answer-requires-clause-in_step : goal.rename_with-answer-requires-clause-in_step
+rename_with-answer-requires-clause-in_step c = c.requires.in_step
+
+pub returns-clause-sound : goal.returns-clause-sound
+returns-clause-sound c = c.rename_with-answer.ensures.sound
+
+pub returns-then-not-is_path-clause-follows : goal.returns-then-not-is_path-clause-follows
+returns-then-not-is_path-clause-follows c = held_ok _ _ _ _ _ c.requires.can c.requires.in_step
+
+pub returns-then-not-is_path-clause-sound : goal.returns-then-not-is_path-clause-sound
+returns-then-not-is_path-clause-sound c = c.requires.sound
