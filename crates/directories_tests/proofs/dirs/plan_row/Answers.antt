@@ -71,7 +71,7 @@ pub plan_new-requires-clause-ino : goal.plan_new-requires-clause-ino
 plan_new-requires-clause-ino c = c.requires.ino
 
 pub plan_new-requires-clause-room : goal.plan_new-requires-clause-room
-plan_new-requires-clause-room c = 
+plan_new-requires-clause-room c =
     let value = c.in_ok-size.ensures.value in
     let low = c.if-size-gt-ROOMY.false in
     subst (λ (f : BlockWords). (held_of c.args.shape.now f c.args.dir.0).size + 64 ≤ 4292608) (sym c.find_row.ensures.words) (omega (arith, value, low))
