@@ -1,3 +1,4 @@
+use Rattle.std.proofs.Common.{refl}
 use Rattle.file_store_tests.proofs.Played.{follows_ok}
 use Rattle.file_store_tests.proofs.calls.answers_at.Goals as goal
 
@@ -72,3 +73,21 @@ returns-then-not-is_path-clause-follows c = follows_ok _ _ _ _ c.requires.can
 
 pub returns-then-not-is_path-clause-sound : goal.returns-then-not-is_path-clause-sound
 returns-then-not-is_path-clause-sound c = c.requires.sound
+
+pub region_as-requires-clause-path : goal.region_as-requires-clause-path
+region_as-requires-clause-path c = c.if-not-is_path.ensures.0 refl
+
+pub region_of_as-requires-clause-path : goal.region_of_as-requires-clause-path
+region_of_as-requires-clause-path c = c.if-not-is_path.ensures.0 refl
+
+pub write_many_as-requires-clause-path : goal.write_many_as-requires-clause-path
+write_many_as-requires-clause-path c = c.if-not-is_path.ensures.0 refl
+
+pub unlink_as-requires-clause-path : goal.unlink_as-requires-clause-path
+unlink_as-requires-clause-path c = c.if-not-is_path.ensures.0 refl
+
+pub rename_as-requires-clause-path : goal.rename_as-requires-clause-path
+rename_as-requires-clause-path c = c.if-not-is_path.ensures.0 refl
+
+pub bytes_as-requires-clause-path : goal.bytes_as-requires-clause-path
+bytes_as-requires-clause-path c = c.if-not-is_path.ensures.0 refl

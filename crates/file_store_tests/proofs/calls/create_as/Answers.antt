@@ -1,3 +1,4 @@
+use Rattle.std.proofs.Common.{refl}
 use Rattle.rio_fakes.specs.ListVolumes.{list_kept, list_seen}
 use Rattle.rio_requests.specs.Answers.{create as create_of}
 use Rattle.rio_requests.specs.Parts.{NoneDone}
@@ -22,3 +23,6 @@ returns-then-not-is_path-clause-follows c = follows_ok _ _ _ _ c.requires.can
 
 pub returns-then-not-is_path-clause-sound : goal.returns-then-not-is_path-clause-sound
 returns-then-not-is_path-clause-sound c = c.requires.sound
+
+pub create-answer-requires-clause-path : goal.create-answer-requires-clause-path
+create-answer-requires-clause-path c = c.if-not-is_path.ensures.0 refl

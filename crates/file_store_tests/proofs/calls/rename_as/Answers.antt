@@ -1,3 +1,4 @@
+use Rattle.std.proofs.Common.{refl}
 use Rattle.rio_fakes.specs.ListVolumes.{list_kept, list_seen}
 use Rattle.rio_requests.specs.Answers.{rename as rename_of}
 use Rattle.rio_requests.specs.Parts.{NoneDone}
@@ -26,3 +27,6 @@ returns-then-not-is_path-clause-follows c = follows_ok _ _ _ _ c.requires.can
 
 pub returns-then-not-is_path-clause-sound : goal.returns-then-not-is_path-clause-sound
 returns-then-not-is_path-clause-sound c = c.requires.sound
+
+pub rename-answer-requires-clause-to : goal.rename-answer-requires-clause-to
+rename-answer-requires-clause-to c = c.if-not-is_path.ensures.0 refl

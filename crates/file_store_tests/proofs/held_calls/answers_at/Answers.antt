@@ -1,3 +1,4 @@
+use Rattle.std.proofs.Common.{refl}
 use Rattle.file_store_tests.proofs.Played.{held_ok}
 use Rattle.file_store_tests.proofs.held_calls.answers_at.Goals as goal
 
@@ -90,3 +91,21 @@ returns-then-not-is_path-clause-follows c = held_ok _ _ _ _ _ c.requires.can c.r
 
 pub returns-then-not-is_path-clause-sound : goal.returns-then-not-is_path-clause-sound
 returns-then-not-is_path-clause-sound c = c.requires.sound
+
+pub region_held-requires-clause-path : goal.region_held-requires-clause-path
+region_held-requires-clause-path c = c.if-not-is_path.ensures.0 refl
+
+pub region_of_held-requires-clause-path : goal.region_of_held-requires-clause-path
+region_of_held-requires-clause-path c = c.if-not-is_path.ensures.0 refl
+
+pub write_many_held-requires-clause-path : goal.write_many_held-requires-clause-path
+write_many_held-requires-clause-path c = c.if-not-is_path.ensures.0 refl
+
+pub unlink_held-requires-clause-path : goal.unlink_held-requires-clause-path
+unlink_held-requires-clause-path c = c.if-not-is_path.ensures.0 refl
+
+pub rename_held-requires-clause-path : goal.rename_held-requires-clause-path
+rename_held-requires-clause-path c = c.if-not-is_path.ensures.0 refl
+
+pub bytes_held-requires-clause-path : goal.bytes_held-requires-clause-path
+bytes_held-requires-clause-path c = c.if-not-is_path.ensures.0 refl

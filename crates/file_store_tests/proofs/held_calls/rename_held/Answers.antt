@@ -1,3 +1,4 @@
+use Rattle.std.proofs.Common.{refl}
 use Rattle.rio_fakes.specs.ListVolumes.{list_kept, list_seen}
 use Rattle.rio_requests.specs.Answers.{rename as rename_of}
 use Rattle.rio_requests.specs.Parts.{NoneDone}
@@ -29,3 +30,6 @@ returns-then-not-is_path-clause-follows c = held_ok _ _ _ _ _ c.requires.can c.r
 
 pub returns-then-not-is_path-clause-sound : goal.returns-then-not-is_path-clause-sound
 returns-then-not-is_path-clause-sound c = c.requires.sound
+
+pub rename_with-answer-requires-clause-to : goal.rename_with-answer-requires-clause-to
+rename_with-answer-requires-clause-to c = c.if-not-is_path.ensures.0 refl
