@@ -7,12 +7,12 @@ use Rattle.rio_base.specs.Machine.{Contents, Lasts, Running, StepEnds}
 use Rattle.rio_base.proofs.MachineRules.{ends_after, lasts_trans}
 use Rattle.rio_model.specs.Registry.{HasLayout, OneEntry, frames_of}
 use Rattle.registry.specs.Changes.{CanChange, ChangesEntry}
-use Rattle.registry.specs.Entries.{entry_of, with_word}
+use Rattle.registry.specs.Entries.{entry_of, with_entry, with_name, with_word}
 use Rattle.registry.specs.declared.entry.Entry.{Entry}
 use Rattle.registry.proofs.Places.{behind_header, one_word}
 
 -- an entry by its words
-entry_by : ℕ → ℕ → ℕ → ℕ → ℕ → Entry
+abbrev entry_by : ℕ → ℕ → ℕ → ℕ → ℕ → Entry
 entry_by t f i s h = record { tag = t; file = f; index = i; size = s; shadow = h }
 
 one_entry_trans : (k : ℕ) (a b c : List ℕ) → OneEntry k a b → OneEntry k b c → OneEntry k a c
@@ -92,6 +92,39 @@ changes_told k a b r s stop told is tells h = record {
   ends = record { steps = h.ends.steps; told = λ t. h.ends.told is; runs = λ n. absurd (n tells) };
 }
 
+one_same : (k : ℕ) (old new : List ℕ) → new ≡ old → OneEntry k old new
+one_same k old new e = record {
+  count = ap (λ (l : List ℕ). length l) e;
+  before = λ i less. ap (λ (l : List ℕ). slice_index l i) e;
+  behind = λ i more. ap (λ (l : List ℕ). slice_index l i) e;
+}
+
+-- a store that was not made, told by another answer
+pub unchanged : (k : ℕ) (old new : Contents) (old_run new_run : Running) (stop told : Type 0) → CanChange k old old_run → new ≡ old → Lasts old new → stop → told → StepEnds old_run new_run stop → ChangesEntry k old new old_run new_run told
+unchanged k old new old_run new_run stop told can same lasts is tells ends =
+    changed k old new old_run new_run told can
+    (same ∙ ap (λ (l : List ℕ). record old { words = l }) (sym (ap (λ (c : Contents). c.words) same)))
+    (one_same k old.words new.words (ap (λ (c : Contents). c.words) same))
+    lasts (λ e. tells) (record { steps = ends.steps; told = λ t. ends.told is; runs = λ n. absurd (n tells) })
+
+-- ---- the words after a store
+
+pub word_stored : (old new : Contents) (k w v at : ℕ) → at ≡ entry_at k + w → new ≡ record old { words = slice_set old.words at v } → new ≡ record old { words = slice_set old.words (entry_at k + w) v }
+word_stored old new k w v at place stored = stored ∙ ap (λ n. record old { words = slice_set old.words n v }) place
+
+-- file, index and size of an entry, stored one after the other
+pub name_stored : (k : ℕ) (e : Entry) (a b c d : Contents) → b ≡ record a { words = slice_set a.words (entry_at k + 1) e.file } → c ≡ record b { words = slice_set b.words (entry_at k + 2) e.index } → d ≡ record c { words = slice_set c.words (entry_at k + 3) e.size } → d ≡ record a { words = with_name a.words k e }
+name_stored k e a b c d file index size = size
+    ∙ ap (λ (m : Contents). record m { words = slice_set m.words (entry_at k + 3) e.size }) (index
+    ∙ ap (λ (m : Contents). record m { words = slice_set m.words (entry_at k + 2) e.index }) file)
+
+-- then its shadow and its tag
+pub all_stored : (k : ℕ) (e : Entry) (a b c d : Contents) → b ≡ record a { words = with_name a.words k e } → c ≡ record b { words = slice_set b.words (entry_at k + 4) e.shadow } → d ≡ record c { words = slice_set c.words (entry_at k + 0) e.tag } → d ≡ record a { words = with_entry a.words k e }
+all_stored k e a b c d name shadow tag = tag
+    ∙ ap (λ n. record c { words = slice_set c.words n e.tag }) (omega arith)
+    ∙ ap (λ (m : Contents). record m { words = slice_set m.words (entry_at k) e.tag }) (shadow
+    ∙ ap (λ (m : Contents). record m { words = slice_set m.words (entry_at k + 4) e.shadow }) name)
+
 -- ---- the entry after a store
 
 word_with : (words : List ℕ) (p w i v : ℕ) → p + 5 ≤ length words → i < 5 → (w ≡ i) ⊎ (w ≢ i) → slice_index (slice_set words (p + w) v) (p + i) ≡ (if w == i then v else slice_index words (p + i))
@@ -106,7 +139,6 @@ entry_equal : (t f i s h t2 f2 i2 s2 h2 : ℕ) → t ≡ t2 → f ≡ f2 → i �
 entry_equal t f i s h t2 f2 i2 s2 h2 a b c d e = rw (a, b, c, d, e) refl
 
 pub entry_with : (words : List ℕ) (k w v : ℕ) → entry_at k + 5 ≤ length words → entry_of (slice_set words (entry_at k + w) v) k ≡ with_word (entry_of words k) w v
-unfolding entry_by
 entry_with words k w v room =
     entry_equal _ _ _ _ _ _ _ _ _ _
     (first_with words (entry_at k) w v room)
@@ -114,3 +146,17 @@ entry_with words k w v room =
     (word_with words (entry_at k) w 2 v room (omega arith) (cases_eq w 2))
     (word_with words (entry_at k) w 3 v room (omega arith) (cases_eq w 3))
     (word_with words (entry_at k) w 4 v room (omega arith) (cases_eq w 4))
+
+pub entry_stored : (old new : Contents) (k w v at : ℕ) → at ≡ entry_at k + w → entry_at k + 5 ≤ length old.words → new ≡ record old { words = slice_set old.words at v } → entry_of new.words k ≡ with_word (entry_of old.words k) w v
+entry_stored old new k w v at place room stored = ap (λ (c : Contents). entry_of c.words k) (word_stored old new k w v at place stored) ∙ entry_with old.words k w v room
+
+pub entry_named : (k : ℕ) (e : Entry) (a b c d : List ℕ) → entry_of b k ≡ with_word (entry_of a k) 1 e.file → entry_of c k ≡ with_word (entry_of b k) 2 e.index → entry_of d k ≡ with_word (entry_of c k) 3 e.size → entry_of d k ≡ record (entry_of a k) { file = e.file; index = e.index; size = e.size }
+entry_named k e a b c d file index size = size ∙ ap (λ (x : Entry). with_word x 3 e.size) (index ∙ ap (λ (x : Entry). with_word x 2 e.index) file)
+
+pub entry_filled : (k : ℕ) (e : Entry) (a b c d : List ℕ) → entry_of b k ≡ record (entry_of a k) { file = e.file; index = e.index; size = e.size } → entry_of c k ≡ with_word (entry_of b k) 4 e.shadow → entry_of d k ≡ with_word (entry_of c k) 0 e.tag → entry_of d k ≡ e
+entry_filled k e a b c d name shadow tag = tag ∙ ap (λ (x : Entry). with_word x 0 e.tag) (shadow ∙ ap (λ (x : Entry). with_word x 4 e.shadow) name)
+
+-- an entry read word by word
+pub entry_read : (words : List ℕ) (k place t f i s h : ℕ) → place ≡ entry_at k → t ≡ slice_index words place → f ≡ slice_index words (place + 1) → i ≡ slice_index words (place + 2) → s ≡ slice_index words (place + 3) → h ≡ slice_index words (place + 4) → entry_by t f i s h ≡ entry_of words k
+entry_read words k place t f i s h at a b c d e = entry_equal _ _ _ _ _ _ _ _ _ _
+    (a ∙ ap (slice_index words) at) (b ∙ ap (λ p. slice_index words (p + 1)) at) (c ∙ ap (λ p. slice_index words (p + 2)) at) (d ∙ ap (λ p. slice_index words (p + 3)) at) (e ∙ ap (λ p. slice_index words (p + 4)) at)

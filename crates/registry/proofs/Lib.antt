@@ -1,4 +1,5 @@
 pub mod Changes
+pub mod Exits
 pub mod Flags
 pub mod ImageRules
 pub mod PagePlaces

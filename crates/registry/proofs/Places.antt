@@ -31,3 +31,16 @@ one_word words k w v small = record {
   before = λ i less. get_or-set_other words (entry_at k + w) i v 0 (omega (arith, less));
   behind = λ i more. get_or-set_other words (entry_at k + w) i v 0 (omega (arith, more, small));
 }
+
+pub entry_small : (words scratch : List ℕ) (k : ℕ) → HasLayout words scratch → k < frames_of words → k < 8192
+entry_small words scratch k layout h = omega (arith, layout.sizes.most_frames, h)
+
+-- word w of entry k lies in protected memory
+pub word_within : (words scratch : List ℕ) (k place w : ℕ) → HasLayout words scratch → k < frames_of words → place ≡ entry_at k → w < 5 → place + w < length words
+word_within words scratch k place w layout h at small = omega (arith, entry_within words scratch k layout h, at, small)
+
+pub first_within : (words scratch : List ℕ) (k place : ℕ) → HasLayout words scratch → k < frames_of words → place ≡ entry_at k → place < length words
+first_within words scratch k place layout h at = omega (arith, entry_within words scratch k layout h, at)
+
+pub in_memory : (words scratch : List ℕ) (at : ℕ) → at < length words → at < length words + length scratch
+in_memory words scratch at less = omega (arith, less)
