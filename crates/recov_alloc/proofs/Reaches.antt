@@ -136,6 +136,12 @@ from_block l units x n b =
         let at : x + 1 + (n - 1) ≡ x + n = omega (arith, b.some) in
         ap (blocks_from l (x + 1)) count ∙ from_skip l (x + 1) (n - 1) (units - (x + n)) (λ y low high. b.inner y (omega arith) (omega (arith, b.some))) ∙ ap (λ z. blocks_from l z (units - (x + n))) at
 
+-- nothing is listed yet
+pub listed_first : (l : ℕ → ℕ) (pages n : ℕ) (items : List (ℕ × ℕ)) → items ≡ [] → pages ≡ n → blocks_from l 0 (64 * n) ≡ items ++ blocks_from l 0 (64 * pages - 0)
+listed_first l pages n items none same =
+    let count : 64 * n ≡ 64 * pages - 0 = omega (arith, same) in
+    ap (blocks_from l 0) count ∙ ap (λ (bs : List (ℕ × ℕ)). bs ++ blocks_from l 0 (64 * pages - 0)) (sym none)
+
 -- units that start no block are passed over
 pub listed_on : (l : ℕ → ℕ) (word units x j : ℕ) (all items : List (ℕ × ℕ)) → word ≡ l (2 * (x / 64) + 1) → IsZeros word (x % 64) j → x + j ≤ units → all ≡ items ++ blocks_from l x (units - x) → all ≡ items ++ blocks_from l (x + j) (units - (x + j))
 listed_on l word units x j all items is z within listed =

@@ -1,8 +1,12 @@
-use Rattle.std.proofs.Common.{arith, ◌∙◌, ◌*◌, ◌+◌, ◌/◌, ap, sym, subst, le_trans}
+use Rattle.std.proofs.Common.{arith, ◌∙◌, ◌*◌, ◌+◌, ◌/◌, ◌<◌, ap, sym, subst, le_trans, ℕ}
+use Rattle.std.proofs.lemmas.Result.{err_from_is_err_and}
 use Rattle.rio_base.proofs.RegionRules.{stays_trans}
-use Rattle.rio_model.specs.Undo.{IsRegion, live}
-use Rattle.rio_model.specs.Heap.{IsBlock, heap_blocks}
-use Rattle.recov_alloc.proofs.Reaches.{listed_all, listed_more, listed_on, next_starts}
+use Rattle.rio_base.proofs.Rules.{ends_by_after}
+use Rattle.rio_model.specs.Undo.{IsRegion, live, places}
+use Rattle.rio_model.specs.Heap.{IsBlock, OfBlocks, heap_blocks}
+use Rattle.undo_list.proofs.Frames.{region_at}
+use Rattle.recov_alloc.proofs.Outcomes.{ends_listed, ends_memory, ends_read}
+use Rattle.recov_alloc.proofs.Reaches.{listed_all, listed_first, listed_more, listed_on, next_starts}
 use Rattle.recov_alloc.proofs.listing.blocks.Goals as goal
 
 pub returns-in_err-starts-clause-stays : goal.returns-in_err-starts-clause-stays
@@ -77,3 +81,126 @@ returns-clause-value g c =
     let old = g.R.RegionWords.words c.args.r.now in
     let inv = c.loop-next.invariant in
     c.from.ensures ∙ sym (listed_all (live old) (64 * c.in_ok-pages.pages) c.loop-next.next (heap_blocks (live old) (64 * old 2)) c.loop-next.found.items (omega (arith, c.loop-next-test.false)) inv.found)
+
+pub data_pages-requires-clause-ready : goal.data_pages-requires-clause-ready
+data_pages-requires-clause-ready g c = c.requires.ready
+
+pub data_pages-requires-clause-region : goal.data_pages-requires-clause-region
+data_pages-requires-clause-region g c = c.requires.region
+
+pub returns-in_err-pages-clause-value : goal.returns-in_err-pages-clause-value
+returns-in_err-pages-clause-value g c = 
+    let p = err_from_is_err_and c.from_residual.result c.from_residual.ensures.1 in
+    rw (p.1) tt
+
+pub returns-in_err-pages-clause-words : goal.returns-in_err-pages-clause-words
+returns-in_err-pages-clause-words g c = c.data_pages.ensures.words
+
+pub returns-in_err-pages-clause-region : goal.returns-in_err-pages-clause-region
+returns-in_err-pages-clause-region g c = c.data_pages.ensures.region
+
+pub returns-in_err-pages-clause-stays : goal.returns-in_err-pages-clause-stays
+returns-in_err-pages-clause-stays g c = c.data_pages.ensures.stays
+
+pub returns-in_err-pages-clause-ends : goal.returns-in_err-pages-clause-ends
+returns-in_err-pages-clause-ends g c = 
+    let p = err_from_is_err_and c.from_residual.result c.from_residual.ensures.1 in
+    ends_read _ _ c.data_pages.result c.from_residual.result _ _ c.in_err-pages.was p.1 p.2 c.data_pages.ensures.ends
+
+pub loop-next-init : goal.loop-next-init
+loop-next-init g c = 
+    let f = g.R.RegionWords.words c.args.r.now in
+    record {
+      words = c.data_pages.ensures.words;
+      region = c.data_pages.ensures.region;
+      pages = c.in_ok-pages.ensures.value;
+      most = omega arith;
+      found = listed_first (live f) c.in_ok-pages.pages (f 2) _ c.new-found.ensures.items c.in_ok-pages.ensures.value;
+      stays = c.data_pages.ensures.stays;
+      later = c.data_pages.ensures.ends.later;
+      running = c.in_ok-pages.ensures.ends.cause;
+    }
+
+pub word_at-requires-clause-ready : goal.word_at-requires-clause-ready
+word_at-requires-clause-ready g c = c.loop-next.invariant.stays.ready
+
+pub word_at-requires-clause-region : goal.word_at-requires-clause-region
+word_at-requires-clause-region g c = c.loop-next.invariant.region
+
+pub word_at-requires-clause-place : goal.word_at-requires-clause-place
+word_at-requires-clause-place g c = subst (λ (w : ℕ → ℕ). 2 * (c.loop-next.next / 64) + 1 < places w) (sym c.loop-next.invariant.words) (omega (arith, c.loop-next-test.true, c.loop-next.invariant.pages))
+
+pub returns-in_err-starts-clause-value : goal.returns-in_err-starts-clause-value
+returns-in_err-starts-clause-value g c = 
+    let p = err_from_is_err_and c.from_residual-in_err-starts.result c.from_residual-in_err-starts.ensures.1 in
+    rw (p.1) tt
+
+pub returns-in_err-starts-clause-words : goal.returns-in_err-starts-clause-words
+returns-in_err-starts-clause-words g c = c.word_at.ensures.words ∙ c.loop-next.invariant.words
+
+pub returns-in_err-starts-clause-region : goal.returns-in_err-starts-clause-region
+returns-in_err-starts-clause-region g c = c.word_at.ensures.region
+
+pub returns-in_err-starts-clause-ends : goal.returns-in_err-starts-clause-ends
+returns-in_err-starts-clause-ends g c = 
+    let p = err_from_is_err_and c.from_residual-in_err-starts.result c.from_residual-in_err-starts.ensures.1 in
+    ends_by_after _ _ _ _ _ c.loop-next.invariant.later c.loop-next.invariant.running (ends_read _ _ c.word_at.result c.from_residual-in_err-starts.result _ _ c.in_err-starts.was p.1 p.2 c.word_at.ensures.ends)
+
+pub block_units-requires-clause-ready : goal.block_units-requires-clause-ready
+block_units-requires-clause-ready g c = c.word_at.ensures.stays.ready
+
+pub block_units-requires-clause-region : goal.block_units-requires-clause-region
+block_units-requires-clause-region g c = c.word_at.ensures.region
+
+pub block_units-requires-clause-heap : goal.block_units-requires-clause-heap
+block_units-requires-clause-heap g c = subst (λ (w : ℕ → ℕ). OfBlocks (live w) (w 2)) (sym (c.word_at.ensures.words ∙ c.loop-next.invariant.words)) c.requires.heap
+
+pub block_units-requires-clause-pages : goal.block_units-requires-clause-pages
+block_units-requires-clause-pages g c = c.loop-next.invariant.pages ∙ ap (λ (w : ℕ → ℕ). w 2) (sym (c.word_at.ensures.words ∙ c.loop-next.invariant.words))
+
+pub block_units-requires-clause-unit : goal.block_units-requires-clause-unit
+block_units-requires-clause-unit g c = omega (arith, c.loop-next-test.true, c.if-bit-skipped-lt64.true)
+
+pub returns-in_err-units-clause-value : goal.returns-in_err-units-clause-value
+returns-in_err-units-clause-value g c = 
+    let p = err_from_is_err_and c.from_residual-in_err-units.result c.from_residual-in_err-units.ensures.1 in
+    rw (p.1) tt
+
+pub returns-in_err-units-clause-words : goal.returns-in_err-units-clause-words
+returns-in_err-units-clause-words g c = c.block_units.ensures.words ∙ c.word_at.ensures.words ∙ c.loop-next.invariant.words
+
+pub returns-in_err-units-clause-region : goal.returns-in_err-units-clause-region
+returns-in_err-units-clause-region g c = region_at _ _ _ _ c.word_at.ensures.region c.block_units.ensures.stays.count c.block_units.ensures.words
+
+pub returns-in_err-units-clause-ends : goal.returns-in_err-units-clause-ends
+returns-in_err-units-clause-ends g c = 
+    let p = err_from_is_err_and c.from_residual-in_err-units.result c.from_residual-in_err-units.ensures.1 in
+    ends_by_after _ _ _ _ _ (le_trans c.loop-next.invariant.later c.word_at.ensures.ends.later) (c.in_ok-starts.ensures.ends.cause ∙ c.loop-next.invariant.running) (ends_read _ _ c.block_units.result c.from_residual-in_err-units.result _ _ c.in_err-units.was p.1 p.2 c.block_units.ensures.ends)
+
+pub returns-in_err-push-clause-value : goal.returns-in_err-push-clause-value
+returns-in_err-push-clause-value g c = 
+    let p = err_from_is_err_and c.from_residual-in_err-push.result c.from_residual-in_err-push.ensures.1 in
+    rw (p.1) tt
+
+pub returns-in_err-push-clause-words : goal.returns-in_err-push-clause-words
+returns-in_err-push-clause-words g c = c.block_units.ensures.words ∙ c.word_at.ensures.words ∙ c.loop-next.invariant.words
+
+pub returns-in_err-push-clause-region : goal.returns-in_err-push-clause-region
+returns-in_err-push-clause-region g c = region_at _ _ _ _ c.word_at.ensures.region c.block_units.ensures.stays.count c.block_units.ensures.words
+
+pub returns-in_err-push-clause-ends : goal.returns-in_err-push-clause-ends
+returns-in_err-push-clause-ends g c = 
+    let p = err_from_is_err_and c.from_residual-in_err-push.result c.from_residual-in_err-push.ensures.1 in
+    ends_memory _ _ c.from_residual-in_err-push.result _ p.1 p.2 (le_trans c.loop-next.invariant.later (le_trans c.word_at.ensures.ends.later c.block_units.ensures.ends.later)) (c.in_ok-units.ensures.ends.cause ∙ c.in_ok-starts.ensures.ends.cause ∙ c.loop-next.invariant.running)
+
+pub returns-clause-words : goal.returns-clause-words
+returns-clause-words g c = c.loop-next.invariant.words
+
+pub returns-clause-region : goal.returns-clause-region
+returns-clause-region g c = c.loop-next.invariant.region
+
+pub returns-clause-stays : goal.returns-clause-stays
+returns-clause-stays g c = c.loop-next.invariant.stays
+
+pub returns-clause-ends : goal.returns-clause-ends
+returns-clause-ends g c = ends_listed _ _ _ c.loop-next.invariant.later c.loop-next.invariant.running
