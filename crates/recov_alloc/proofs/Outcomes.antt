@@ -1,6 +1,6 @@
 -- What follows at one outcome of a call.
-use Rattle.std.specs.Prelude.{◌≡◌, ◌≤◌, Result, Ok, Err, IsErrOf, OnOk}
-use Rattle.std.proofs.Common.{sym, subst, ap, refl, ◌∙◌}
+use Rattle.std.specs.Prelude.{◌≡◌, ◌≤◌, Result, Ok, Err, IsErrOf, OnOk, ◌⊎◌}
+use Rattle.std.proofs.Common.{inl, inr, sym, subst, ap, refl, ◌∙◌}
 use Rattle.rio_base.specs.declared.failures.RunFail.{RunFail}
 use Rattle.rio_base.specs.declared.failures.RunFail.TheVariants.{Fault, Stopped}
 use Rattle.rio_base.specs.declared.failures.VolFail.{VolFail}
@@ -120,11 +120,24 @@ no_gap_ends s t later same = ends_by_well s t _ _ later same (λ a. cc) (λ a. c
 pub no_block_ends : {U : Type 0} (s t : Health) → s.faults ≤ t.faults → t.stopped ≡ s.stopped → EndsBy s t (IsErrOf {T = U} (Err NotBlock) HeapFault) (IsErrOf {T = U} (Err NotBlock) HeapStopped)
 no_block_ends s t later same = ends_by_well s t _ _ later same (λ a. cc) (λ a. cc)
 
-pub no_gap_alone : {U : Type 0} (d : HeapFail) → (NoGap ≡ d → ⊥) → IsErrOf {T = U} (Err NoGap) d → ⊥
-no_gap_alone d other told = other cc
+pub no_gap_alone : {U : Type 0} → (IsErrOf {T = U} (Err NoGap) UndoFull → ⊥) × (IsErrOf {T = U} (Err NoGap) NotBlock → ⊥)
+no_gap_alone = (λ told. cc, λ told. cc)
 
-pub no_block_alone : {U : Type 0} (d : HeapFail) → (NotBlock ≡ d → ⊥) → IsErrOf {T = U} (Err NotBlock) d → ⊥
-no_block_alone d other told = other cc
+pub no_block_alone : {U : Type 0} → (IsErrOf {T = U} (Err NotBlock) UndoFull → ⊥) × (IsErrOf {T = U} (Err NotBlock) NoGap → ⊥)
+no_block_alone = (λ told. cc, λ told. cc)
+
+-- it refused, and so did the undo list
+pub full_refused : {T U : Type 0} (r : Result T UndoFail) (q : Result U HeapFail) (e : UndoFail) (d : HeapFail) → r ≡ Err e → q ≡ Err d → d ≡ undo_handed e → IsErrOf q NoGap ⊎ IsErrOf q UndoFull → IsErrOf r Full
+full_refused r q e d told is same (inl gap) = absurd (undo_not_full q e d is same gap)
+full_refused r q e d told is same (inr full) = undo_is_full r q e d told is same full
+
+pub block_refused : {T U : Type 0} (r : Result T UndoFail) (q : Result U HeapFail) (e : UndoFail) (d : HeapFail) → r ≡ Err e → q ≡ Err d → d ≡ undo_handed e → IsErrOf q NotBlock ⊎ IsErrOf q UndoFull → IsErrOf r Full
+block_refused r q e d told is same (inl none) = absurd (undo_not_block q e d is same none)
+block_refused r q e d told is same (inr full) = undo_is_full r q e d told is same full
+
+pub none_refused : {U : Type 0} (x : U) (d e : HeapFail) → IsErrOf (Ok x) d ⊎ IsErrOf (Ok x) e → ⊥
+none_refused x d e (inl told) = heap_none x d told
+none_refused x d e (inr told) = heap_none x e told
 
 -- ---- and as one of what is read into a list
 

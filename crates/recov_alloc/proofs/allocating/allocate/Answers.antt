@@ -1,15 +1,15 @@
-use Rattle.std.proofs.Common.{◌∙◌, ◌*◌, ap, sym, subst, ℕ}
+use Rattle.std.proofs.Common.{◌∙◌, ◌+◌, ◌*◌, ◌<◌, ◌≤◌, ap, le_trans, sym, subst, ℕ}
 use Rattle.std.proofs.lemmas.Result.{err_from_is_err_and}
 use Rattle.rio_base.proofs.RegionRules.{stays_trans}
 use Rattle.rio_base.proofs.Rules.{ends_by_after}
 use Rattle.rio_model.proofs.HeapRules.{alone_added, blocks_added}
 use Rattle.rio_model.proofs.UndoRules.{undoes_refl}
-use Rattle.rio_model.specs.Heap.{Allocates, Finds, IsGap, OfBlocks}
-use Rattle.rio_model.specs.Undo.{live, IsRegion, Undoes}
+use Rattle.rio_model.specs.Heap.{Allocates, Finds, IsFirstFit, IsGap, OfBlocks, touched_pages}
+use Rattle.rio_model.specs.Undo.{live, taken, undo_records, undo_words, IsRegion, Undoes}
 use Rattle.undo_list.proofs.Frames.{region_at, undoes_from}
 use Rattle.undo_list.specs.Headers.{IsHeader}
 use Rattle.recov_alloc.proofs.Marks.{allocated}
-use Rattle.recov_alloc.proofs.Outcomes.{ends_heap}
+use Rattle.recov_alloc.proofs.Outcomes.{ends_heap, ends_undo, full_refused, heap_did, heap_none, heap_not_block, heap_not_full, heap_not_undo, no_err, no_gap_alone, no_gap_ends, none_refused, undo_is_full, undo_not_block, undo_not_full}
 use Rattle.recov_alloc.proofs.allocating.allocate.Goals as goal
 
 pub returns-in_err-at-clause-stays : goal.returns-in_err-at-clause-stays
@@ -200,3 +200,111 @@ returns-clause-before g c =
 
 pub returns-clause-region : goal.returns-clause-region
 returns-clause-region g c = subst (λ k. IsRegion k (g.R.RegionWords.words c.change_map.new.r)) (sym c.change_map.ensures.stays.count) c.change_map.ensures.before.region
+
+pub returns-in_err-header-clause-full : goal.returns-in_err-header-clause-full
+returns-in_err-header-clause-full g c = 
+    let p = err_from_is_err_and c.from_residual.result c.from_residual.ensures.1 in
+    λ told. absurd (heap_not_full c.from_residual.result _ p.0 p.1 p.2 told)
+
+pub returns-in_err-header-clause-no_block : goal.returns-in_err-header-clause-no_block
+returns-in_err-header-clause-no_block g c = 
+    let p = err_from_is_err_and c.from_residual.result c.from_residual.ensures.1 in
+    heap_not_block c.from_residual.result _ p.0 p.1 p.2
+
+pub returns-in_err-header-clause-undo_full : goal.returns-in_err-header-clause-undo_full
+returns-in_err-header-clause-undo_full g c = 
+    let p = err_from_is_err_and c.from_residual.result c.from_residual.ensures.1 in
+    λ told. absurd (heap_not_undo c.from_residual.result _ p.0 p.1 p.2 told)
+
+pub returns-in_err-at-clause-full : goal.returns-in_err-at-clause-full
+returns-in_err-at-clause-full g c = 
+    let p = err_from_is_err_and c.from_residual-in_err-at.result c.from_residual-in_err-at.ensures.1 in
+    λ told. absurd (heap_not_full c.from_residual-in_err-at.result _ p.0 p.1 p.2 told)
+
+pub returns-in_err-at-clause-no_block : goal.returns-in_err-at-clause-no_block
+returns-in_err-at-clause-no_block g c = 
+    let p = err_from_is_err_and c.from_residual-in_err-at.result c.from_residual-in_err-at.ensures.1 in
+    heap_not_block c.from_residual-in_err-at.result _ p.0 p.1 p.2
+
+pub returns-in_err-at-clause-undo_full : goal.returns-in_err-at-clause-undo_full
+returns-in_err-at-clause-undo_full g c = 
+    let p = err_from_is_err_and c.from_residual-in_err-at.result c.from_residual-in_err-at.ensures.1 in
+    λ told. absurd (heap_not_undo c.from_residual-in_err-at.result _ p.0 p.1 p.2 told)
+
+pub returns-in_default-clause-ok : goal.returns-in_default-clause-ok
+returns-in_default-clause-ok g c = tt
+
+pub returns-in_default-clause-heap : goal.returns-in_default-clause-heap
+returns-in_default-clause-heap g c = tt
+
+pub returns-in_default-clause-listed : goal.returns-in_default-clause-listed
+returns-in_default-clause-listed g c = tt
+
+pub returns-in_default-clause-room : goal.returns-in_default-clause-room
+returns-in_default-clause-room g c = tt
+
+pub returns-in_default-clause-undo_full : goal.returns-in_default-clause-undo_full
+returns-in_default-clause-undo_full g c = λ told. absurd (no_gap_alone.0 told)
+
+pub returns-in_default-clause-no_block : goal.returns-in_default-clause-no_block
+returns-in_default-clause-no_block g c = no_gap_alone.1
+
+pub returns-in_default-clause-ends : goal.returns-in_default-clause-ends
+returns-in_default-clause-ends g c = no_gap_ends _ _ (le_trans c.read_header.ensures.ends.later c.first_fit.ensures.ends.later) (c.in_ok-at.ensures.ends.cause ∙ c.in_ok-header.ensures.ends.cause)
+
+pub returns-in_err-change_map-clause-full : goal.returns-in_err-change_map-clause-full
+returns-in_err-change_map-clause-full g c = 
+    let p = err_from_is_err_and c.from_residual-in_err-change_map.result c.from_residual-in_err-change_map.ensures.1 in
+    λ told. absurd (undo_not_full c.from_residual-in_err-change_map.result _ p.0 p.1 p.2 told)
+
+pub returns-in_err-change_map-clause-no_block : goal.returns-in_err-change_map-clause-no_block
+returns-in_err-change_map-clause-no_block g c = 
+    let p = err_from_is_err_and c.from_residual-in_err-change_map.result c.from_residual-in_err-change_map.ensures.1 in
+    undo_not_block c.from_residual-in_err-change_map.result _ p.0 p.1 p.2
+
+pub returns-in_err-change_map-clause-undo_full : goal.returns-in_err-change_map-clause-undo_full
+returns-in_err-change_map-clause-undo_full g c = 
+    let here = g.R.RegionWords.words c.read_header.new.r in
+    let fit = subst (λ o. Finds (live here) (64 * here 2) c.args.units o) c.in-Some.is c.in_ok-at.ensures.value in
+    let p = err_from_is_err_and c.from_residual-in_err-change_map.result c.from_residual-in_err-change_map.ensures.1 in
+    λ told. (c.in-Some.at, subst (λ (w : ℕ → ℕ). IsFirstFit (live w) (64 * w 2) c.args.units c.in-Some.at) c.read_header.ensures.words fit, subst (λ (w : ℕ → ℕ). undo_words w < taken (undo_records w) + 3 + 2 * touched_pages c.in-Some.at c.args.units) (c.first_fit.ensures.words ∙ c.read_header.ensures.words) (c.change_map.ensures.full (undo_is_full c.change_map.result c.from_residual-in_err-change_map.result _ p.0 c.in_err-change_map.was p.1 p.2 told)))
+
+pub returns-in_err-change_map-clause-refused : goal.returns-in_err-change_map-clause-refused
+returns-in_err-change_map-clause-refused g c = 
+    let p = err_from_is_err_and c.from_residual-in_err-change_map.result c.from_residual-in_err-change_map.ensures.1 in
+    λ told. c.change_map.ensures.refused (full_refused c.change_map.result c.from_residual-in_err-change_map.result _ p.0 c.in_err-change_map.was p.1 p.2 told) ∙ c.first_fit.ensures.words ∙ c.read_header.ensures.words
+
+pub returns-in_err-change_map-clause-ends : goal.returns-in_err-change_map-clause-ends
+returns-in_err-change_map-clause-ends g c = 
+    let p = err_from_is_err_and c.from_residual-in_err-change_map.result c.from_residual-in_err-change_map.ensures.1 in
+    ends_by_after _ _ _ _ _ (le_trans c.read_header.ensures.ends.later c.first_fit.ensures.ends.later) (c.in_ok-at.ensures.ends.cause ∙ c.in_ok-header.ensures.ends.cause) (ends_undo _ _ c.change_map.result c.from_residual-in_err-change_map.result _ p.0 c.in_err-change_map.was p.1 p.2 c.change_map.ensures.ends)
+
+pub returns-clause-room : goal.returns-clause-room
+returns-clause-room g c = subst (λ (w : ℕ → ℕ). taken (undo_records w) + 3 + 2 * touched_pages c.in-Some.at c.args.units ≤ undo_words w) (c.first_fit.ensures.words ∙ c.read_header.ensures.words) c.in_ok-change_map.ensures.room
+
+pub returns-clause-full : goal.returns-clause-full
+returns-clause-full g c = λ told. absurd (heap_none _ _ told)
+
+pub returns-clause-no_block : goal.returns-clause-no_block
+returns-clause-no_block g c = heap_none _ _
+
+pub first_fit-requires-clause-units : goal.first_fit-requires-clause-units
+first_fit-requires-clause-units g c = c.requires.units
+
+pub change_map-requires-clause-units : goal.change_map-requires-clause-units
+change_map-requires-clause-units g c = c.requires.units
+
+pub returns-clause-undo_full : goal.returns-clause-undo_full
+returns-clause-undo_full g c = λ told. absurd (heap_none _ _ told)
+
+pub returns-clause-refused : goal.returns-clause-refused
+returns-clause-refused g c = λ told. absurd (none_refused _ _ _ told)
+
+pub returns-clause-ends : goal.returns-clause-ends
+returns-clause-ends g c = heap_did _ _ _ (le_trans c.read_header.ensures.ends.later (le_trans c.first_fit.ensures.ends.later c.change_map.ensures.ends.later)) ((c.in_ok-change_map.ensures.ends.runs (no_err tt _)) ∙ c.in_ok-at.ensures.ends.cause ∙ c.in_ok-header.ensures.ends.cause)
+
+pub change_map-requires-clause-within : goal.change_map-requires-clause-within
+change_map-requires-clause-within g c = 
+    let here = g.R.RegionWords.words c.read_header.new.r in
+    let fit : IsFirstFit (live here) (64 * here 2) c.args.units c.in-Some.at = subst (λ o. Finds (live here) (64 * here 2) c.args.units o) c.in-Some.is c.in_ok-at.ensures.value in
+    subst (λ (w : ℕ → ℕ). c.in-Some.at + c.args.units ≤ 64 * w 2) (sym c.first_fit.ensures.words) fit.gap.within
