@@ -103,6 +103,10 @@ gives_next k a b c t u one held bare some others count = record {
   count = count ∙ rw bare refl;
 }
 
+-- it has one
+pub gives_had : (k : ℕ) (words : List ℕ) (t : CacheTables) → shadow_at words k ≢ 0 → GivesShadow k words words t t
+gives_had k words t some = record { some = some; others = λ j ne less. refl; count = rw (ne_eqb _ _ some) refl }
+
 is_touched_at : (words : List ℕ) (b k : ℕ) → gate_of words ≡ 1 → entry_of_block words b ≡ Some k → is_touched words b ≡ not (shadow_at words k == 0)
 is_touched_at words b k is found = rw (eq-eqb _ _ is) (ap (has_shadow words) found)
 

@@ -1,9 +1,12 @@
 use Rattle.cached_pages.proofs.EarlyStates.{loses_refl}
-use Rattle.rio_base.proofs.MachineRules.{ends_err, never}
+use Rattle.rio_base.proofs.MachineRules.{ends_err, ends_told, never}
 use Rattle.cached_pages.proofs.Common.{◌∙◌, ap, sym, coherent_on, Contents, true_false}
 use Rattle.cached_pages.proofs.Fills.{layout_now}
 use Rattle.std.proofs.Common.{refl}
 use Rattle.cached_pages.proofs.Rooms.{filled_home, filled_narrows, filled_sound, filled_tag, read_sound, touches_filled}
+use Rattle.std.proofs.lemmas.Result.{err_from_is_err_and}
+use Rattle.std.specs.Prelude.{Err}
+use Rattle.write_back.proofs.Exits.{fault_told, not_fault, not_ok}
 use Rattle.cached_pages.proofs.fetching.fill_frame.Goals as goal
 use Rattle.cached_pages.proofs.Uses.{stay_filled}
 use Rattle.cached_pages.proofs.Common.{subst, is_valid, tag_at, frames_of, Narrows, ◌<◌}
@@ -13,8 +16,7 @@ use Rattle.cached_pages.proofs.Stills.{still_trans, still_rest}
 use Rattle.cached_pages.proofs.Touched.{touches_words}
 use Rattle.cached_pages.proofs.Uses.{stay_words}
 use Rattle.cached_pages.proofs.Goes.{ends_ok}
-use Rattle.std.specs.Prelude.{IsErrOf}
-use Rattle.cached_pages.proofs.Common.{Stopped, arith}
+use Rattle.cached_pages.proofs.Common.{Stopped}
 use Rattle.cached_pages.proofs.DirtyMarks.{marks_filled, marks_same}
 use Rattle.cached_pages.proofs.Common.{None}
 
@@ -143,8 +145,8 @@ returns-clause-ends g c = ends_ok _ _ _ _ _ _ (never _ Stopped) (λ q. true_fals
 
 pub returns-in_err-fill-clause-ends : goal.returns-in_err-fill-clause-ends
 returns-in_err-fill-clause-ends g c =
-    let stop : IsErrOf c.from_residual-in_err-fill.result Stopped = grind (arith, c.from_residual-in_err-fill.ensures) in
-    ends_err _ _ _ _ _ refl stop c.in_ok-read_home.ensures.ends.steps c.in_err-fill.ensures.ends
+    let p = err_from_is_err_and c.from_residual-in_err-fill.result c.from_residual-in_err-fill.ensures.1 in
+    ends_err _ _ _ _ _ refl (p.1 ∙ ap Err p.2) c.in_ok-read_home.ensures.ends.steps c.in_err-fill.ensures.ends
 
 pub returns-in_err-read_home-clause-marks : goal.returns-in_err-read_home-clause-marks
 returns-in_err-read_home-clause-marks g c = marks_same None _ _ c.read_home.ensures.memory
@@ -154,3 +156,30 @@ returns-in_err-fill-clause-marks g c = marks_filled None (g.M.Machine.contents c
 
 pub returns-clause-marks : goal.returns-clause-marks
 returns-clause-marks g c = marks_filled None (g.M.Machine.contents c.args.m.now) (g.M.Machine.contents c.read_home.new.m) c.args.k _ c.read_home.ensures.memory c.fill.ensures.one_page
+
+pub returns-in_err-read_home-clause-home : goal.returns-in_err-read_home-clause-home
+returns-in_err-read_home-clause-home g c = not_ok _ c.from_residual.result c.from_residual.ensures.0
+
+pub returns-in_err-read_home-clause-fault : goal.returns-in_err-read_home-clause-fault
+returns-in_err-read_home-clause-fault g c = 
+    let p = err_from_is_err_and c.from_residual.result c.from_residual.ensures.1 in
+    fault_told _ _ _ (p.1 ∙ ap Err p.2) c.in_err-read_home.ensures.fault
+
+pub returns-in_err-read_home-clause-ends : goal.returns-in_err-read_home-clause-ends
+returns-in_err-read_home-clause-ends g c = 
+    let p = err_from_is_err_and c.from_residual.result c.from_residual.ensures.1 in
+    ends_told _ _ _ _ _ (p.1 ∙ ap Err p.2) c.in_err-read_home.ensures.ends
+
+pub returns-in_err-fill-clause-home : goal.returns-in_err-fill-clause-home
+returns-in_err-fill-clause-home g c = not_ok _ c.from_residual-in_err-fill.result c.from_residual-in_err-fill.ensures.0
+
+pub returns-in_err-fill-clause-fault : goal.returns-in_err-fill-clause-fault
+returns-in_err-fill-clause-fault g c = 
+    let p = err_from_is_err_and c.from_residual-in_err-fill.result c.from_residual-in_err-fill.ensures.1 in
+    λ e. absurd (not_fault _ (p.1 ∙ ap Err p.2) e)
+
+pub fill-requires-clause-coherent : goal.fill-requires-clause-coherent
+fill-requires-clause-coherent g c = coherent_on _ _ _ c.read_home.ensures.ends.steps.scratch_count (c.read_home.ensures.keeps.coherent _ c.requires.sound.coherent)
+
+pub fill-requires-clause-page : goal.fill-requires-clause-page
+fill-requires-clause-page g c = c.frame_page_of-page.ensures

@@ -1,9 +1,10 @@
 use Rattle.cached_pages.proofs.EarlyStates.{loses_refl}
-use Rattle.cached_pages.proofs.Common.{ap, Contents, Entry, found_is, true_false, sym, arith}
+use Rattle.cached_pages.proofs.Common.{ap, Contents, Entry, found_is, true_false, sym}
 use Rattle.std.proofs.Common.{refl}
 use Rattle.cached_pages.proofs.Stores.{sound_same}
 use Rattle.cached_pages.proofs.Rooms.{frame_bound, narrows_gone}
-use Rattle.cached_pages.proofs.Freed.{cleared_frees, cleared_lost, cleared_sound, frees_same, narrows_same, unpinned_idle}
+use Rattle.cached_pages.proofs.Freed.{can_clear, cleared_frees, cleared_lost, cleared_sound, frees_same, narrows_same, unpinned_idle}
+use Rattle.write_back.proofs.Exits.{at_err, not_ok}
 use Rattle.cached_pages.proofs.freeing.drop_frame.Goals as goal
 use Rattle.cached_pages.proofs.DirtyMarks.{marks_gone, marks_same}
 use Rattle.cached_pages.proofs.Uses.{others_one, others_stay, stay_hit}
@@ -91,7 +92,19 @@ pub returns-clause-ends : goal.returns-clause-ends
 returns-clause-ends g c = c.in_ok-clear.ensures.changes.ends
 
 pub returns-in_err-clear-clause-ends : goal.returns-in_err-clear-clause-ends
-returns-in_err-clear-clause-ends g c = ends_stop (g.M.Machine.run c.args.m.now) (g.M.Machine.run c.clear.new.m) _ _ refl (grind (arith, c.from_residual.ensures)) c.in_err-clear.ensures.changes.ends
+returns-in_err-clear-clause-ends g c = ends_stop (g.M.Machine.run c.args.m.now) (g.M.Machine.run c.clear.new.m) _ _ refl c.from_residual.ensures.0 c.in_err-clear.ensures.changes.ends
 
 pub returns-clause-order : goal.returns-clause-order
 returns-clause-order g c = tt
+
+pub clear-requires-clause-can : goal.clear-requires-clause-can
+clear-requires-clause-can g c = can_clear c.args.b.0 c.args.k _ _ _ c.requires.sound c.requires.found
+
+pub returns-in_err-clear-clause-gone : goal.returns-in_err-clear-clause-gone
+returns-in_err-clear-clause-gone g c = not_ok _ c.from_residual.result c.from_residual.ensures.0
+
+pub returns-in_err-clear-clause-freed : goal.returns-in_err-clear-clause-freed
+returns-in_err-clear-clause-freed g c = not_ok _ c.from_residual.result c.from_residual.ensures.0
+
+pub returns-in_err-clear-clause-order : goal.returns-in_err-clear-clause-order
+returns-in_err-clear-clause-order g c = at_err c.from_residual.result c.from_residual.ensures.0 refl

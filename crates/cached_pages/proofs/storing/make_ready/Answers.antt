@@ -1,6 +1,7 @@
-use Rattle.cached_pages.proofs.Common.{arith, true_false, sym}
+use Rattle.cached_pages.proofs.Common.{true_false, sym}
 use Rattle.cached_pages.proofs.StoreCalls.{named_after, widens_after, widens_cached}
-use Rattle.cached_pages.proofs.Goes.{ends_ok}
+use Rattle.cached_pages.proofs.Goes.{ends_ok, ends_stop}
+use Rattle.write_back.proofs.Exits.{not_ok}
 use Rattle.cached_pages.proofs.storing.make_ready.Goals as goal
 use Rattle.cached_pages.proofs.Common.{◌∙◌, lasts_trans}
 use Rattle.rio_model.proofs.CoverSteps.{keeps_trans}
@@ -18,7 +19,7 @@ returns-in_err-widen-clause-widens g c = widens_after _ c.args.k c.args.name (g.
 
 pub returns-in_err-widen-clause-ends : goal.returns-in_err-widen-clause-ends
 returns-in_err-widen-clause-ends g c =
-    ends_err (g.M.Machine.run c.args.m.now) (g.M.Machine.run c.mark_dirty.new.m) (g.M.Machine.run c.widen.new.m) _ _ refl (grind (arith, c.from_residual-in_err-widen.ensures)) c.mark_dirty.ensures.ends.steps c.in_err-widen.ensures.ends
+    ends_err (g.M.Machine.run c.args.m.now) (g.M.Machine.run c.mark_dirty.new.m) (g.M.Machine.run c.widen.new.m) _ _ refl c.from_residual-in_err-widen.ensures.0 c.mark_dirty.ensures.ends.steps c.in_err-widen.ensures.ends
 
 pub returns-clause-widens : goal.returns-clause-widens
 returns-clause-widens g c = widens_after _ c.args.k c.args.name (g.M.Machine.contents c.args.m.now) (g.M.Machine.contents c.mark_dirty.new.m) (g.M.Machine.contents c.widen.new.m) c.requires.sound.coherent c.requires.valid c.mark_dirty.ensures.cached c.widen.ensures.widens
@@ -100,3 +101,18 @@ returns-in_err-widen-clause-marks g c = marks_trans _ _ _ _ (marks_held c.args.k
 
 pub returns-clause-marks : goal.returns-clause-marks
 returns-clause-marks g c = marks_trans _ _ _ _ (marks_held c.args.k _ _ c.mark_dirty.ensures.cached c.mark_dirty.ensures.one_entry c.mark_dirty.ensures.held) (marks_any _ _ _ c.widen.ensures.marks)
+
+pub returns-in_err-mark_dirty-clause-named : goal.returns-in_err-mark_dirty-clause-named
+returns-in_err-mark_dirty-clause-named g c = not_ok _ c.from_residual.result c.from_residual.ensures.0
+
+pub returns-in_err-mark_dirty-clause-dirty : goal.returns-in_err-mark_dirty-clause-dirty
+returns-in_err-mark_dirty-clause-dirty g c = not_ok _ c.from_residual.result c.from_residual.ensures.0
+
+pub returns-in_err-mark_dirty-clause-ends : goal.returns-in_err-mark_dirty-clause-ends
+returns-in_err-mark_dirty-clause-ends g c = ends_stop (g.M.Machine.run c.args.m.now) (g.M.Machine.run c.mark_dirty.new.m) _ _ refl c.from_residual.ensures.0 c.in_err-mark_dirty.ensures.ends
+
+pub returns-in_err-widen-clause-named : goal.returns-in_err-widen-clause-named
+returns-in_err-widen-clause-named g c = not_ok _ c.from_residual-in_err-widen.result c.from_residual-in_err-widen.ensures.0
+
+pub returns-in_err-widen-clause-dirty : goal.returns-in_err-widen-clause-dirty
+returns-in_err-widen-clause-dirty g c = not_ok _ c.from_residual-in_err-widen.result c.from_residual-in_err-widen.ensures.0
