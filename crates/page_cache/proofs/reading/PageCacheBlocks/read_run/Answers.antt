@@ -1,12 +1,15 @@
-use Rattle.cached_pages.proofs.Common.{ap, arith, found_is, true_false, sym}
+use Rattle.cached_pages.proofs.Common.{◌∙◌, ap, arith, found_is, true_false, sym}
 use Rattle.std.proofs.Common.{length, ℕ, List}
 use Rattle.cached_pages.proofs.Frames.{copied_run, page_count}
 use Rattle.cached_pages.proofs.Rooms.{passes_of}
+use Rattle.std.proofs.lemmas.Result.{err_from_is_err_and}
+use Rattle.std.specs.Prelude.{Err}
+use Rattle.write_back.proofs.Exits.{not_ok}
 use Rattle.page_cache.proofs.reading.PageCacheBlocks.read_run.Goals as goal
 use Rattle.cached_pages.proofs.Rooms.{looks_keeps, caches_adds}
 use Rattle.cached_pages.proofs.Common.{refl}
 use Rattle.rio_base.proofs.MachineRules.{never}
-use Rattle.page_cache.proofs.Failures.{ends_came, ends_handed}
+use Rattle.page_cache.proofs.Failures.{ends_came, ends_handed, unsure}
 
 pub page_of-page-requires-clause-entry : goal.page_of-page-requires-clause-entry
 page_of-page-requires-clause-entry g c = (found_is _ _ _ c.in_ok-k.ensures.found).0.within
@@ -92,4 +95,26 @@ pub returns-clause-ends : goal.returns-clause-ends
 returns-clause-ends g c = ends_came c.in_ok-k.k _ (g.M.Machine.contents c.args.self.now.machine) (g.M.Machine.contents c.fetch.new.m) (g.M.Machine.run c.args.self.now.machine) (g.M.Machine.run c.fetch.new.m) c.fetch.ensures.lasts c.in_ok-k.ensures.ends
 
 pub returns-in_err-k-clause-ends : goal.returns-in_err-k-clause-ends
-returns-in_err-k-clause-ends g c = ends_handed (g.M.Machine.contents c.args.self.now.machine) (g.M.Machine.contents c.fetch.new.m) (g.M.Machine.run c.args.self.now.machine) (g.M.Machine.run c.fetch.new.m) _ _ (grind (arith, c.from_residual.ensures)) c.fetch.ensures.lasts c.in_err-k.ensures.fault c.in_err-k.ensures.ends
+returns-in_err-k-clause-ends g c =
+    let p = err_from_is_err_and c.from_residual.result c.from_residual.ensures.1 in
+    ends_handed (g.M.Machine.contents c.args.self.now.machine) (g.M.Machine.contents c.fetch.new.m) (g.M.Machine.run c.args.self.now.machine) (g.M.Machine.run c.fetch.new.m) _ _ (p.1 ∙ ap Err p.2) c.fetch.ensures.lasts c.in_err-k.ensures.fault c.in_err-k.ensures.ends
+
+pub fetch-requires-clause-name : goal.fetch-requires-clause-name
+fetch-requires-clause-name g c = c.requires.name.in_range
+
+pub returns-in_err-k-clause-words : goal.returns-in_err-k-clause-words
+returns-in_err-k-clause-words g c = not_ok _ c.from_residual.result c.from_residual.ensures.0
+
+pub returns-in_err-k-clause-used : goal.returns-in_err-k-clause-used
+returns-in_err-k-clause-used g c = not_ok _ c.from_residual.result c.from_residual.ensures.0
+
+pub returns-in_err-k-clause-len : goal.returns-in_err-k-clause-len
+returns-in_err-k-clause-len g c = refl
+
+pub returns-clause-len : goal.returns-clause-len
+returns-clause-len g c = c.copy_words.ensures.len
+
+pub returns-in_err-k-clause-sure : goal.returns-in_err-k-clause-sure
+returns-in_err-k-clause-sure g c = 
+    let p = err_from_is_err_and c.from_residual.result c.from_residual.ensures.1 in
+    unsure (g.M.Machine.contents c.args.self.now.machine).words c.args.b.0 _ c.from_residual.result (p.1 ∙ ap Err p.2) c.in_err-k.ensures.sure

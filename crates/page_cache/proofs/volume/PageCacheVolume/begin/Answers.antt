@@ -3,6 +3,7 @@ use Rattle.std.proofs.Common.{refl}
 use Rattle.page_cache.specs.Settled.{gate_shut}
 use Rattle.cached_pages.proofs.Pins.{pins_refl, shut_unpinned}
 use Rattle.cached_pages.proofs.Updates.{begun_of, drops_named, sound_begun, sound_shut}
+use Rattle.write_back.proofs.Exits.{not_ok}
 use Rattle.page_cache.proofs.volume.PageCacheVolume.begin.Goals as goal
 use Rattle.cached_pages.proofs.Freed.{halts_of}
 use Rattle.cached_pages.proofs.Rooms.{looks_keeps}
@@ -61,7 +62,7 @@ pub returns-clause-ends : goal.returns-clause-ends
 returns-clause-ends g c = halts_of (g.M.Machine.contents c.args.self.now.machine) (g.M.Machine.contents c.begin.new.m) (g.M.Machine.run c.args.self.now.machine) (g.M.Machine.run c.begin.new.m) _ c.begin.ensures.lasts c.in_ok-begin.ensures.ends
 
 pub returns-in_err-begin-clause-ends : goal.returns-in_err-begin-clause-ends
-returns-in_err-begin-clause-ends g c = halts_err (g.M.Machine.contents c.args.self.now.machine) (g.M.Machine.contents c.begin.new.m) (g.M.Machine.run c.args.self.now.machine) (g.M.Machine.run c.begin.new.m) _ _ (grind (arith, c.from_residual.ensures)) refl c.begin.ensures.lasts c.in_err-begin.ensures.ends
+returns-in_err-begin-clause-ends g c = halts_err (g.M.Machine.contents c.args.self.now.machine) (g.M.Machine.contents c.begin.new.m) (g.M.Machine.run c.args.self.now.machine) (g.M.Machine.run c.begin.new.m) _ _ c.from_residual.ensures.0 refl c.begin.ensures.lasts c.in_err-begin.ensures.ends
 
 pub returns-in_err-begin-clause-firm : goal.returns-in_err-begin-clause-firm
 returns-in_err-begin-clause-firm g c = firm_loose (g.M.Machine.contents c.args.self.now.machine) (g.M.Machine.contents c.begin.new.m) c.args.self.now.tables c.begin.ensures.firm
@@ -86,3 +87,6 @@ listed-requires-clause-room g c = c.requires.sound.room
 
 pub begin-requires-clause-shut : goal.begin-requires-clause-shut
 begin-requires-clause-shut g c = gate_shut (g.M.Machine.contents c.args.self.now.machine).words c.requires.idle
+
+pub returns-in_err-begin-clause-ok : goal.returns-in_err-begin-clause-ok
+returns-in_err-begin-clause-ok g c = not_ok _ c.from_residual.result c.from_residual.ensures.0

@@ -4,6 +4,7 @@ use Rattle.cached_pages.proofs.Goes.{goes_few}
 use Rattle.cached_pages.proofs.Stills.{few_still, still_rest}
 use Rattle.cached_pages.proofs.Edits.{edited_dirty, edited_stands, gate_entries, names_entries, page_of_frame, same_update, shadows_entries, touched_found}
 use Rattle.cached_pages.proofs.Updates.{drops_named, sound_same}
+use Rattle.write_back.proofs.Exits.{not_ok}
 use Rattle.page_cache.proofs.volume.PageCacheVolume.edit.Goals as goal
 use Rattle.cached_pages.proofs.Freed.{halts_of}
 use Rattle.page_cache.proofs.Outcomes.{coherent_same, entry_bound, firm_loose, firm_same, halts_err, still_open}
@@ -103,10 +104,16 @@ pub returns-in_err-put_edit-clause-goes : goal.returns-in_err-put_edit-clause-go
 returns-in_err-put_edit-clause-goes g c = goes_few c.args.b.0 c.args.self.now.tables _ _ _ _ c.put_edit.ensures.lasts c.put_edit.ensures.ends.steps (header_same _ _ 2 c.put_edit.ensures.entries (omega arith)) (few_still _ _ _ _ (still_rest _ _ c.put_edit.ensures.rest))
 
 pub returns-in_err-put_edit-clause-ends : goal.returns-in_err-put_edit-clause-ends
-returns-in_err-put_edit-clause-ends g c = halts_err (g.M.Machine.contents c.args.self.now.machine) (g.M.Machine.contents c.put_edit.new.m) (g.M.Machine.run c.args.self.now.machine) (g.M.Machine.run c.put_edit.new.m) _ _ (grind (arith, c.from_residual.ensures)) refl c.put_edit.ensures.lasts c.in_err-put_edit.ensures.ends
+returns-in_err-put_edit-clause-ends g c = halts_err (g.M.Machine.contents c.args.self.now.machine) (g.M.Machine.contents c.put_edit.new.m) (g.M.Machine.run c.args.self.now.machine) (g.M.Machine.run c.put_edit.new.m) _ _ c.from_residual.ensures.0 refl c.put_edit.ensures.lasts c.in_err-put_edit.ensures.ends
 
 pub returns-in_err-put_edit-clause-sound : goal.returns-in_err-put_edit-clause-sound
 returns-in_err-put_edit-clause-sound g c = sound_same _ _ (g.M.Machine.contents c.args.self.now.machine) (g.M.Machine.contents c.put_edit.new.m) _ c.requires.sound c.put_edit.ensures.ends.steps.scratch_count (λ s. coherent_same _ (g.M.Machine.contents c.args.self.now.machine) (g.M.Machine.contents c.put_edit.new.m) c.in_err-put_edit.ensures.same s) c.put_edit.ensures.rest c.put_edit.ensures.closed (names_entries _ _ c.put_edit.ensures.entries) (shadows_entries _ _ c.put_edit.ensures.entries) (gate_entries _ _ c.put_edit.ensures.entries)
 
 pub returns-in_err-put_edit-clause-still : goal.returns-in_err-put_edit-clause-still
 returns-in_err-put_edit-clause-still g c = still_rest (g.M.Machine.contents c.args.self.now.machine) (g.M.Machine.contents c.put_edit.new.m) c.put_edit.ensures.rest
+
+pub returns-in_err-put_edit-clause-ok : goal.returns-in_err-put_edit-clause-ok
+returns-in_err-put_edit-clause-ok g c = not_ok _ c.from_residual.result c.from_residual.ensures.0
+
+pub returns-in_err-put_edit-clause-update : goal.returns-in_err-put_edit-clause-update
+returns-in_err-put_edit-clause-update g c = not_ok _ c.from_residual.result c.from_residual.ensures.0

@@ -9,6 +9,10 @@ use Rattle.cached_pages.proofs.Stills.{few_still}
 use Rattle.cached_pages.proofs.Edits.{bound_entry, edited_dirty, gate_entries, names_entries, same_update, touched_found, touched_stands}
 use Rattle.cached_pages.proofs.Settling.{firm_rewrites}
 use Rattle.cached_pages.proofs.Updates.{drops_named}
+use Rattle.std.proofs.Common.{refl}
+use Rattle.cached_pages.proofs.Freed.{halts_of}
+use Rattle.page_cache.proofs.Outcomes.{halts_err}
+use Rattle.write_back.proofs.Exits.{not_ok}
 use Rattle.page_cache.proofs.volume.PageCacheVolume.edit_run.Goals as goal
 
 pub unreachable-requires : goal.unreachable-requires
@@ -74,3 +78,42 @@ returns-clause-entries g c = names_entries _ _ c.put_frame_run.ensures.entries
 
 pub returns-clause-order : goal.returns-clause-order
 returns-clause-order g c = ap (λ (t : CacheTables). order_of t.pool) c.put_frame_run.ensures.tables
+
+pub put_frame_run-requires-clause-sound : goal.put_frame_run-requires-clause-sound
+put_frame_run-requires-clause-sound g c = c.requires.sound
+
+pub put_frame_run-requires-clause-within : goal.put_frame_run-requires-clause-within
+put_frame_run-requires-clause-within g c = c.requires.place.within
+
+pub returns-clause-ok : goal.returns-clause-ok
+returns-clause-ok g c = c.in_ok-put_frame_run.ensures.rewrites.reading
+
+pub returns-clause-count : goal.returns-clause-count
+returns-clause-count g c = c.put_frame_run.ensures.lasts.blocks
+
+pub returns-clause-sound : goal.returns-clause-sound
+returns-clause-sound g c = c.put_frame_run.ensures.sound
+
+pub returns-clause-still : goal.returns-clause-still
+returns-clause-still g c = c.put_frame_run.ensures.still
+
+pub returns-clause-ends : goal.returns-clause-ends
+returns-clause-ends g c = halts_of (g.M.Machine.contents c.args.self.now.machine) (g.M.Machine.contents c.put_frame_run.new.m) (g.M.Machine.run c.args.self.now.machine) (g.M.Machine.run c.put_frame_run.new.m) _ c.put_frame_run.ensures.lasts c.in_ok-put_frame_run.ensures.ends
+
+pub returns-in_err-put_frame_run-clause-ok : goal.returns-in_err-put_frame_run-clause-ok
+returns-in_err-put_frame_run-clause-ok g c = not_ok _ c.from_residual.result c.from_residual.ensures.0
+
+pub returns-in_err-put_frame_run-clause-update : goal.returns-in_err-put_frame_run-clause-update
+returns-in_err-put_frame_run-clause-update g c = not_ok _ c.from_residual.result c.from_residual.ensures.0
+
+pub returns-in_err-put_frame_run-clause-count : goal.returns-in_err-put_frame_run-clause-count
+returns-in_err-put_frame_run-clause-count g c = c.put_frame_run.ensures.lasts.blocks
+
+pub returns-in_err-put_frame_run-clause-sound : goal.returns-in_err-put_frame_run-clause-sound
+returns-in_err-put_frame_run-clause-sound g c = c.put_frame_run.ensures.sound
+
+pub returns-in_err-put_frame_run-clause-still : goal.returns-in_err-put_frame_run-clause-still
+returns-in_err-put_frame_run-clause-still g c = c.put_frame_run.ensures.still
+
+pub returns-in_err-put_frame_run-clause-ends : goal.returns-in_err-put_frame_run-clause-ends
+returns-in_err-put_frame_run-clause-ends g c = halts_err (g.M.Machine.contents c.args.self.now.machine) (g.M.Machine.contents c.put_frame_run.new.m) (g.M.Machine.run c.args.self.now.machine) (g.M.Machine.run c.put_frame_run.new.m) _ _ c.from_residual.ensures.0 refl c.put_frame_run.ensures.lasts c.in_err-put_frame_run.ensures.ends

@@ -1,5 +1,8 @@
 use Rattle.std.proofs.Common.{refl}
 use Rattle.page_cache.proofs.Flushes.{flushed_sound, shut_by}
+use Rattle.std.proofs.lemmas.Result.{err_from_is_err_and}
+use Rattle.std.specs.Prelude.{Err}
+use Rattle.write_back.proofs.Exits.{not_ok}
 use Rattle.page_cache.proofs.volume.PageCacheVolume.flush.Goals as goal
 use Rattle.cached_pages.proofs.Uses.{stay_held}
 use Rattle.cached_pages.proofs.Common.{◌==◌, ◌∙◌, ap, arith, IsErrOf}
@@ -89,4 +92,12 @@ pub returns-clause-flushed : goal.returns-clause-flushed
 returns-clause-flushed g c = c.in_ok-j.ensures.flushed
 
 pub returns-in_err-j-clause-ends : goal.returns-in_err-j-clause-ends
-returns-in_err-j-clause-ends g c = ends_handed (g.M.Machine.contents c.args.self.now.machine) (g.M.Machine.contents c.flush.new.m) (g.M.Machine.run c.args.self.now.machine) (g.M.Machine.run c.flush.new.m) _ _ (grind (arith, c.from_residual.ensures)) c.flush.ensures.lasts c.in_err-j.ensures.fault c.in_err-j.ensures.ends
+returns-in_err-j-clause-ends g c =
+    let p = err_from_is_err_and c.from_residual.result c.from_residual.ensures.1 in
+    ends_handed (g.M.Machine.contents c.args.self.now.machine) (g.M.Machine.contents c.flush.new.m) (g.M.Machine.run c.args.self.now.machine) (g.M.Machine.run c.flush.new.m) _ _ (p.1 ∙ ap Err p.2) c.flush.ensures.lasts c.in_err-j.ensures.fault c.in_err-j.ensures.ends
+
+pub returns-in_err-j-clause-most : goal.returns-in_err-j-clause-most
+returns-in_err-j-clause-most g c = not_ok _ c.from_residual.result c.from_residual.ensures.0
+
+pub returns-in_err-j-clause-flushed : goal.returns-in_err-j-clause-flushed
+returns-in_err-j-clause-flushed g c = not_ok _ c.from_residual.result c.from_residual.ensures.0

@@ -7,6 +7,8 @@ use Rattle.cached_pages.proofs.StoreCalls.{drops_narrows}
 use Rattle.cached_pages.proofs.Freed.{frees_same, halts_of, loose_marked, marked_still, marks_then, narrows_same, never_firm, settled, sound_marked}
 use Rattle.cached_pages.proofs.Stills.{few_still, still_same}
 use Rattle.cached_pages.proofs.Uses.{freed_none, freed_some, marked_order}
+use Rattle.page_cache.proofs.Outcomes.{halts_err, halts_none}
+use Rattle.write_back.proofs.Exits.{not_ok}
 use Rattle.page_cache.proofs.volume.PageCacheVolume.forget.Goals as goal
 use Rattle.cached_pages.proofs.DirtyMarks.{marks_refl}
 use Rattle.cached_pages.proofs.Uses.{others_stay, stay_hit}
@@ -146,3 +148,33 @@ returns-in_err-drop_frame-clause-marks g c = c.drop_frame.ensures.marks
 
 pub returns-clause-marks : goal.returns-clause-marks
 returns-clause-marks g c = c.drop_frame.ensures.marks
+
+pub returns-clause-sound : goal.returns-clause-sound
+returns-clause-sound g c = c.drop_frame.ensures.sound
+
+pub returns-clause-still : goal.returns-clause-still
+returns-clause-still g c = c.drop_frame.ensures.still
+
+pub returns-in_default-clause-count : goal.returns-in_default-clause-count
+returns-in_default-clause-count g c = refl
+
+pub returns-in_default-clause-idle : goal.returns-in_default-clause-idle
+returns-in_default-clause-idle g c = c.requires.idle
+
+pub returns-in_default-clause-ends : goal.returns-in_default-clause-ends
+returns-in_default-clause-ends g c = halts_none tt _
+
+pub returns-in_err-drop_frame-clause-ok : goal.returns-in_err-drop_frame-clause-ok
+returns-in_err-drop_frame-clause-ok g c = not_ok _ c.from_residual.result c.from_residual.ensures.0
+
+pub returns-in_err-drop_frame-clause-freed : goal.returns-in_err-drop_frame-clause-freed
+returns-in_err-drop_frame-clause-freed g c = not_ok _ c.from_residual.result c.from_residual.ensures.0
+
+pub returns-in_err-drop_frame-clause-sound : goal.returns-in_err-drop_frame-clause-sound
+returns-in_err-drop_frame-clause-sound g c = c.drop_frame.ensures.sound
+
+pub returns-in_err-drop_frame-clause-still : goal.returns-in_err-drop_frame-clause-still
+returns-in_err-drop_frame-clause-still g c = c.drop_frame.ensures.still
+
+pub returns-in_err-drop_frame-clause-ends : goal.returns-in_err-drop_frame-clause-ends
+returns-in_err-drop_frame-clause-ends g c = halts_err (g.M.Machine.contents c.args.self.now.machine) (g.M.Machine.contents c.drop_frame.new.m) (g.M.Machine.run c.args.self.now.machine) (g.M.Machine.run c.drop_frame.new.m) _ _ c.from_residual.ensures.0 refl c.drop_frame.ensures.lasts c.in_err-drop_frame.ensures.ends

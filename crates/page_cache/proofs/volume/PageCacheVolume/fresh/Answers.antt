@@ -1,10 +1,14 @@
-use Rattle.cached_pages.proofs.Common.{IsErrOf, Stopped, ◌∙◌, subst, sym, ap, arith, lasts_trans, steps_trans, order_of, true_false}
+use Rattle.cached_pages.proofs.Common.{Stopped, ◌∙◌, subst, sym, ap, lasts_trans, steps_trans, order_of, true_false}
 use Rattle.std.proofs.Common.{◌<◌}
 use Rattle.cached_pages.proofs.Kept.{tables_trans}
 use Rattle.cached_pages.proofs.Rooms.{adds_after, adds_narrows, caches_adds, none_still}
 use Rattle.cached_pages.proofs.StoreCalls.{cached_none}
 use Rattle.cached_pages.proofs.Freed.{loose_none, marks_after, same_marks, settled, sound_marked}
 use Rattle.cached_pages.proofs.Zeros.{cleared_then, frees_after, frees_keeps}
+use Rattle.std.proofs.lemmas.Result.{err_from_is_err_and}
+use Rattle.std.specs.Prelude.{Err}
+use Rattle.page_cache.proofs.Failures.{ends_handed}
+use Rattle.write_back.proofs.Exits.{not_ok}
 use Rattle.page_cache.proofs.volume.PageCacheVolume.fresh.Goals as goal
 use Rattle.cached_pages.proofs.Uses.{leaves_then, used_bound}
 use Rattle.cached_pages.proofs.Goes.{ends_of, ends_ok, ends_stopped}
@@ -113,8 +117,8 @@ returns-clause-sound g c = sound_marked c.args.b.0 _ _ (g.M.Machine.contents c.b
 
 pub returns-in_err-bring_zeros-clause-ends : goal.returns-in_err-bring_zeros-clause-ends
 returns-in_err-bring_zeros-clause-ends g c =
-    let stop : IsErrOf c.from_residual-in_err-bring_zeros.result Stopped = grind (arith, c.from_residual-in_err-bring_zeros.ensures) in
-    ends_stopped (g.M.Machine.contents c.args.self.now.machine) (g.M.Machine.contents c.bring_zeros.new.m) (g.M.Machine.run c.args.self.now.machine) (g.M.Machine.run c.make_room.new.m) (g.M.Machine.run c.bring_zeros.new.m) _ _ c.from_residual-in_err-bring_zeros.result stop (never _ Stopped) refl (lasts_trans (g.M.Machine.contents c.args.self.now.machine) (g.M.Machine.contents c.make_room.new.m) (g.M.Machine.contents c.bring_zeros.new.m) c.make_room.ensures.lasts c.bring_zeros.ensures.lasts) c.in_ok-k.ensures.ends c.in_err-bring_zeros.ensures.ends
+    let p = err_from_is_err_and c.from_residual-in_err-bring_zeros.result c.from_residual-in_err-bring_zeros.ensures.1 in
+    ends_stopped (g.M.Machine.contents c.args.self.now.machine) (g.M.Machine.contents c.bring_zeros.new.m) (g.M.Machine.run c.args.self.now.machine) (g.M.Machine.run c.make_room.new.m) (g.M.Machine.run c.bring_zeros.new.m) _ _ c.from_residual-in_err-bring_zeros.result (p.1 ∙ ap Err p.2) (never _ Stopped) refl (lasts_trans (g.M.Machine.contents c.args.self.now.machine) (g.M.Machine.contents c.make_room.new.m) (g.M.Machine.contents c.bring_zeros.new.m) c.make_room.ensures.lasts c.bring_zeros.ensures.lasts) c.in_ok-k.ensures.ends c.in_err-bring_zeros.ensures.ends
 
 pub returns-clause-ends : goal.returns-clause-ends
 returns-clause-ends g c = ends_of (g.M.Machine.contents c.args.self.now.machine) (g.M.Machine.contents c.bring_zeros.new.m) (g.M.Machine.run c.args.self.now.machine) (g.M.Machine.run c.bring_zeros.new.m) _ (lasts_trans (g.M.Machine.contents c.args.self.now.machine) (g.M.Machine.contents c.make_room.new.m) (g.M.Machine.contents c.bring_zeros.new.m) c.make_room.ensures.lasts c.bring_zeros.ensures.lasts) (λ q. absurd (never _ _ q)) (ends_ok (g.M.Machine.run c.args.self.now.machine) (g.M.Machine.run c.make_room.new.m) (g.M.Machine.run c.bring_zeros.new.m) _ _ _ (never _ Stopped) (λ q. true_false (sym q)) (never _ Stopped) c.in_ok-k.ensures.ends c.in_ok-bring_zeros.ensures.ends)
@@ -145,3 +149,41 @@ returns-in_err-bring_zeros-clause-failed g c q = failed_missed c.args.b.0 _ c.ar
 
 pub returns-clause-failed : goal.returns-clause-failed
 returns-clause-failed g c q = absurd (true_false (sym q))
+
+pub make_room-requires-clause-sound : goal.make_room-requires-clause-sound
+make_room-requires-clause-sound g c = c.requires.sound
+
+pub make_room-requires-clause-block : goal.make_room-requires-clause-block
+make_room-requires-clause-block g c = c.requires.place
+
+pub bring_zeros-requires-clause-sound : goal.bring_zeros-requires-clause-sound
+bring_zeros-requires-clause-sound g c = c.make_room.ensures.sound
+
+pub returns-in_err-k-clause-ok : goal.returns-in_err-k-clause-ok
+returns-in_err-k-clause-ok g c = not_ok _ c.from_residual.result c.from_residual.ensures.0
+
+pub returns-in_err-k-clause-used : goal.returns-in_err-k-clause-used
+returns-in_err-k-clause-used g c = not_ok _ c.from_residual.result c.from_residual.ensures.0
+
+pub returns-in_err-k-clause-sound : goal.returns-in_err-k-clause-sound
+returns-in_err-k-clause-sound g c = c.make_room.ensures.sound
+
+pub returns-in_err-k-clause-writes : goal.returns-in_err-k-clause-writes
+returns-in_err-k-clause-writes g c = c.make_room.ensures.writes
+
+pub returns-in_err-k-clause-leaves : goal.returns-in_err-k-clause-leaves
+returns-in_err-k-clause-leaves g c = c.make_room.ensures.leaves
+
+pub returns-in_err-k-clause-ends : goal.returns-in_err-k-clause-ends
+returns-in_err-k-clause-ends g c = 
+    let p = err_from_is_err_and c.from_residual.result c.from_residual.ensures.1 in
+    ends_handed (g.M.Machine.contents c.args.self.now.machine) (g.M.Machine.contents c.make_room.new.m) (g.M.Machine.run c.args.self.now.machine) (g.M.Machine.run c.make_room.new.m) _ c.from_residual.result (p.1 ∙ ap Err p.2) c.make_room.ensures.lasts c.in_err-k.ensures.fault c.in_err-k.ensures.ends
+
+pub returns-in_err-bring_zeros-clause-ok : goal.returns-in_err-bring_zeros-clause-ok
+returns-in_err-bring_zeros-clause-ok g c = not_ok _ c.from_residual-in_err-bring_zeros.result c.from_residual-in_err-bring_zeros.ensures.0
+
+pub returns-in_err-bring_zeros-clause-used : goal.returns-in_err-bring_zeros-clause-used
+returns-in_err-bring_zeros-clause-used g c = not_ok _ c.from_residual-in_err-bring_zeros.result c.from_residual-in_err-bring_zeros.ensures.0
+
+pub returns-in_err-bring_zeros-clause-sound : goal.returns-in_err-bring_zeros-clause-sound
+returns-in_err-bring_zeros-clause-sound g c = c.bring_zeros.ensures.sound

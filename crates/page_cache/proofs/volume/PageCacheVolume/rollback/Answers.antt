@@ -1,7 +1,8 @@
 use Rattle.std.proofs.Common.{refl}
-use Rattle.cached_pages.proofs.Common.{◌∙◌, arith, sym}
+use Rattle.cached_pages.proofs.Common.{◌∙◌, sym}
 use Rattle.page_cache.specs.Settled.{gate_open, untouched_bare, untouched_stands}
 use Rattle.cached_pages.proofs.Updates.{drops_named, same_loses, shut_zero, sound_same, sound_shut}
+use Rattle.write_back.proofs.Exits.{not_ok}
 use Rattle.page_cache.proofs.volume.PageCacheVolume.rollback.Goals as goal
 use Rattle.cached_pages.proofs.Freed.{halts_of}
 use Rattle.cached_pages.proofs.Rooms.{firm_by_tables}
@@ -60,7 +61,7 @@ pub returns-clause-ends : goal.returns-clause-ends
 returns-clause-ends g c = halts_of (g.M.Machine.contents c.args.self.now.machine) (g.M.Machine.contents c.undo.new.m) (g.M.Machine.run c.args.self.now.machine) (g.M.Machine.run c.undo.new.m) _ c.undo.ensures.lasts c.in_ok-undo.ensures.ends
 
 pub returns-in_err-undo-clause-ends : goal.returns-in_err-undo-clause-ends
-returns-in_err-undo-clause-ends g c = halts_err (g.M.Machine.contents c.args.self.now.machine) (g.M.Machine.contents c.undo.new.m) (g.M.Machine.run c.args.self.now.machine) (g.M.Machine.run c.undo.new.m) _ _ (grind (arith, c.from_residual.ensures)) refl c.undo.ensures.lasts c.in_err-undo.ensures.ends
+returns-in_err-undo-clause-ends g c = halts_err (g.M.Machine.contents c.args.self.now.machine) (g.M.Machine.contents c.undo.new.m) (g.M.Machine.run c.args.self.now.machine) (g.M.Machine.run c.undo.new.m) _ _ c.from_residual.ensures.0 refl c.undo.ensures.lasts c.in_err-undo.ensures.ends
 
 pub returns-in_err-undo-clause-firm : goal.returns-in_err-undo-clause-firm
 returns-in_err-undo-clause-firm g c = firm_loose (g.M.Machine.contents c.args.self.now.machine) (g.M.Machine.contents c.undo.new.m) c.args.self.now.tables c.undo.ensures.firm
@@ -109,3 +110,6 @@ unpin_all-requires-clause-pinned g c = λ k e. (c.requires.sound.pinned k e).1
 
 pub undo-requires-clause-updating : goal.undo-requires-clause-updating
 undo-requires-clause-updating g c = gate_open (g.M.Machine.contents c.args.self.now.machine).words c.requires.in_update
+
+pub returns-in_err-undo-clause-ok : goal.returns-in_err-undo-clause-ok
+returns-in_err-undo-clause-ok g c = not_ok _ c.from_residual.result c.from_residual.ensures.0

@@ -5,6 +5,7 @@ use Rattle.cached_pages.specs.declared.tables.CacheTables.{CacheTables}
 use Rattle.cached_pages.proofs.Goes.{ends_both, ends_fault, ends_stopped, goes_few}
 use Rattle.cached_pages.proofs.StoreCalls.{named_put, stored_put}
 use Rattle.cached_pages.proofs.Settling.{run_front, run_then, same_run, settles, settles_kept, some_length}
+use Rattle.page_cache.proofs.Failures.{ends_halted, ends_still, none_there, run_none}
 use Rattle.page_cache.proofs.volume.PageCacheVolume.store_run.Goals as goal
 use Rattle.cached_pages.proofs.Stills.{few_then, few_still, still_refl}
 use Rattle.cached_pages.proofs.Uses.{leaves_then, order_same, stay_found, used_then, leaves_refl}
@@ -280,3 +281,30 @@ returns-then-is_empty-clause-writes g c = few_still c.args.b.0 c.args.self.now.t
 
 pub returns-then-is_empty-clause-goes : goal.returns-then-is_empty-clause-goes
 returns-then-is_empty-clause-goes g c = goes_few c.args.b.0 c.args.self.now.tables (g.M.Machine.contents c.args.self.now.machine) (g.M.Machine.contents c.args.self.now.machine) (g.M.Machine.run c.args.self.now.machine) (g.M.Machine.run c.args.self.now.machine) (lasts_refl (g.M.Machine.contents c.args.self.now.machine)) (steps_refl (g.M.Machine.run c.args.self.now.machine)) refl (few_still c.args.b.0 c.args.self.now.tables (g.M.Machine.contents c.args.self.now.machine) (g.M.Machine.contents c.args.self.now.machine) (still_refl (g.M.Machine.contents c.args.self.now.machine)))
+
+pub returns-then-is_empty-clause-ok : goal.returns-then-is_empty-clause-ok
+returns-then-is_empty-clause-ok g c = run_none _ c.args.b.0 c.args.w (length c.args.from.now) c.args.from.now (sym c.is_empty.ensures ∙ c.if-is_empty.true)
+
+pub returns-then-is_empty-clause-front : goal.returns-then-is_empty-clause-front
+returns-then-is_empty-clause-front g c = (0, omega arith, put_none _ c.args.b.0 c.args.w c.args.from.now)
+
+pub returns-then-is_empty-clause-standing : goal.returns-then-is_empty-clause-standing
+returns-then-is_empty-clause-standing g c = record { others = λ b w ne. refl }
+
+pub returns-then-is_empty-clause-caches : goal.returns-then-is_empty-clause-caches
+returns-then-is_empty-clause-caches g c = record { others = λ b ne q. (q, refl); named = λ q. inl (q, refl) }
+
+pub returns-then-is_empty-clause-named : goal.returns-then-is_empty-clause-named
+returns-then-is_empty-clause-named g c = λ some q. absurd (none_there _ (sym c.is_empty.ensures ∙ c.if-is_empty.true) some)
+
+pub returns-then-is_empty-clause-ends : goal.returns-then-is_empty-clause-ends
+returns-then-is_empty-clause-ends g c = ends_still tt _
+
+pub returns-then-is_empty-clause-used : goal.returns-then-is_empty-clause-used
+returns-then-is_empty-clause-used g c = λ some. absurd (none_there _ (sym c.is_empty.ensures ∙ c.if-is_empty.true) some)
+
+pub returns-in-Err-Stopped-clause-ends : goal.returns-in-Err-Stopped-clause-ends
+returns-in-Err-Stopped-clause-ends g c = ends_halted _ _ _ _ c.in-Err-Stopped.field-0 c.in-Err-Stopped.field-0-is c.ready.ensures.lasts c.in-Err-Stopped.ensures.ends
+
+pub ready-requires-clause-name : goal.ready-requires-clause-name
+ready-requires-clause-name g c = c.requires.name.in_range

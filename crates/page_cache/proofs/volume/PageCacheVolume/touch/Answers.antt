@@ -1,4 +1,4 @@
-use Rattle.cached_pages.proofs.Common.{IsErrOf, Stopped, ◌∙◌, arith, lasts_trans, steps_trans, found_is, true_false, sym, ◌==◌}
+use Rattle.cached_pages.proofs.Common.{Stopped, ◌∙◌, arith, lasts_trans, steps_trans, found_is, true_false, sym, ◌==◌}
 use Rattle.std.proofs.Common.{refl}
 use Rattle.cached_pages.proofs.Goes.{ends_both, ends_stopped}
 use Rattle.rio_model.proofs.CoverSteps.{keeps_trans}
@@ -6,6 +6,9 @@ use Rattle.page_cache.specs.Settled.{gate_open}
 use Rattle.cached_pages.proofs.Rooms.{caches_adds, firm_keeps}
 use Rattle.cached_pages.proofs.Stills.{few_then}
 use Rattle.cached_pages.proofs.Touches.{adds_pages, firm_forgotten, metadata_of, room_of, touch_goes, touches_after}
+use Rattle.std.proofs.lemmas.Result.{err_from_is_err_and}
+use Rattle.std.specs.Prelude.{Err}
+use Rattle.write_back.proofs.Exits.{not_fault, not_ok}
 use Rattle.page_cache.proofs.volume.PageCacheVolume.touch.Goals as goal
 use Rattle.cached_pages.proofs.Uses.{leaves_then, stay_found, used_then}
 use Rattle.cached_pages.proofs.Rooms.{looks_keeps}
@@ -108,8 +111,8 @@ returns-in_err-shadow_frame-clause-firm g c = firm_forgotten (g.M.Machine.conten
 
 pub returns-in_err-shadow_frame-clause-ends : goal.returns-in_err-shadow_frame-clause-ends
 returns-in_err-shadow_frame-clause-ends g c =
-    let stop : IsErrOf c.from_residual-in_err-shadow_frame.result Stopped = grind (arith, c.from_residual-in_err-shadow_frame.ensures) in
-    ends_stopped (g.M.Machine.contents c.args.self.now.machine) (g.M.Machine.contents c.shadow_frame.new.m) (g.M.Machine.run c.args.self.now.machine) (g.M.Machine.run c.fetch.new.m) (g.M.Machine.run c.shadow_frame.new.m) _ _ c.from_residual-in_err-shadow_frame.result stop (never _ Stopped) refl (lasts_trans (g.M.Machine.contents c.args.self.now.machine) (g.M.Machine.contents c.fetch.new.m) (g.M.Machine.contents c.shadow_frame.new.m) c.fetch.ensures.lasts c.shadow_frame.ensures.lasts) c.in_ok-k.ensures.ends c.in_err-shadow_frame.ensures.ends
+    let p = err_from_is_err_and c.from_residual-in_err-shadow_frame.result c.from_residual-in_err-shadow_frame.ensures.1 in
+    ends_stopped (g.M.Machine.contents c.args.self.now.machine) (g.M.Machine.contents c.shadow_frame.new.m) (g.M.Machine.run c.args.self.now.machine) (g.M.Machine.run c.fetch.new.m) (g.M.Machine.run c.shadow_frame.new.m) _ _ c.from_residual-in_err-shadow_frame.result (p.1 ∙ ap Err p.2) (never _ Stopped) refl (lasts_trans (g.M.Machine.contents c.args.self.now.machine) (g.M.Machine.contents c.fetch.new.m) (g.M.Machine.contents c.shadow_frame.new.m) c.fetch.ensures.lasts c.shadow_frame.ensures.lasts) c.in_ok-k.ensures.ends c.in_err-shadow_frame.ensures.ends
 
 pub returns-clause-ends : goal.returns-clause-ends
 returns-clause-ends g c = ends_both tt (g.M.Machine.contents c.args.self.now.machine) (g.M.Machine.contents c.shadow_frame.new.m) (g.M.Machine.run c.args.self.now.machine) (g.M.Machine.run c.fetch.new.m) (g.M.Machine.run c.shadow_frame.new.m) _ _ (never _ Stopped) (λ q. true_false (sym q)) (lasts_trans (g.M.Machine.contents c.args.self.now.machine) (g.M.Machine.contents c.fetch.new.m) (g.M.Machine.contents c.shadow_frame.new.m) c.fetch.ensures.lasts c.shadow_frame.ensures.lasts) c.in_ok-k.ensures.ends c.in_ok-shadow_frame.ensures.ends
@@ -163,4 +166,23 @@ pub returns-in_err-k-clause-firm : goal.returns-in_err-k-clause-firm
 returns-in_err-k-clause-firm g c = firm_keeps (g.M.Machine.contents c.args.self.now.machine) (g.M.Machine.contents c.fetch.new.m) c.args.self.now.tables c.fetch.new.t c.fetch.ensures.keeps c.fetch.ensures.tables
 
 pub returns-in_err-k-clause-ends : goal.returns-in_err-k-clause-ends
-returns-in_err-k-clause-ends g c = ends_handed (g.M.Machine.contents c.args.self.now.machine) (g.M.Machine.contents c.fetch.new.m) (g.M.Machine.run c.args.self.now.machine) (g.M.Machine.run c.fetch.new.m) _ _ (grind (arith, c.from_residual.ensures)) c.fetch.ensures.lasts c.in_err-k.ensures.fault c.in_err-k.ensures.ends
+returns-in_err-k-clause-ends g c =
+    let p = err_from_is_err_and c.from_residual.result c.from_residual.ensures.1 in
+    ends_handed (g.M.Machine.contents c.args.self.now.machine) (g.M.Machine.contents c.fetch.new.m) (g.M.Machine.run c.args.self.now.machine) (g.M.Machine.run c.fetch.new.m) _ _ (p.1 ∙ ap Err p.2) c.fetch.ensures.lasts c.in_err-k.ensures.fault c.in_err-k.ensures.ends
+
+pub returns-in_err-k-clause-ok : goal.returns-in_err-k-clause-ok
+returns-in_err-k-clause-ok g c = not_ok _ c.from_residual.result c.from_residual.ensures.0
+
+pub returns-in_err-k-clause-used : goal.returns-in_err-k-clause-used
+returns-in_err-k-clause-used g c = not_ok _ c.from_residual.result c.from_residual.ensures.0
+
+pub returns-in_err-shadow_frame-clause-ok : goal.returns-in_err-shadow_frame-clause-ok
+returns-in_err-shadow_frame-clause-ok g c = not_ok _ c.from_residual-in_err-shadow_frame.result c.from_residual-in_err-shadow_frame.ensures.0
+
+pub returns-in_err-shadow_frame-clause-used : goal.returns-in_err-shadow_frame-clause-used
+returns-in_err-shadow_frame-clause-used g c = not_ok _ c.from_residual-in_err-shadow_frame.result c.from_residual-in_err-shadow_frame.ensures.0
+
+pub returns-in_err-shadow_frame-clause-fault : goal.returns-in_err-shadow_frame-clause-fault
+returns-in_err-shadow_frame-clause-fault g c = 
+    let p = err_from_is_err_and c.from_residual-in_err-shadow_frame.result c.from_residual-in_err-shadow_frame.ensures.1 in
+    λ e. absurd (not_fault _ (p.1 ∙ ap Err p.2) e)
