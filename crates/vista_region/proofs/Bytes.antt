@@ -1,6 +1,7 @@
 -- Bytes that words are, read by runs.
-use Rattle.vista_region.proofs.Common.{◌≡◌, ℕ, zero, suc, ◌+◌, ◌-◌, ◌*◌, ◌/◌, ◌%◌, ◌<◌, ◌≤◌, List, [], ◌∷◌, ◌++◌, length, map, take, drop, slice_index, refl, ap, ◌∙◌, arith, length-drop, range_with_len, length-take-le, byte_in, bytes_in}
+use Rattle.vista_region.proofs.Common.{◌≡◌, ℕ, zero, suc, ◌+◌, ◌-◌, ◌*◌, ◌/◌, ◌%◌, ◌<◌, ◌≤◌, List, [], ◌∷◌, ◌++◌, length, map, take, drop, slice_index, refl, ap, sym, ◌∙◌, arith, length-drop, range_with_len, length-take-le, byte_in, bytes_in}
 use Rattle.std.specs.List.{flat_map}
+use Rattle.std.proofs.Common.{append-nil}
 use Rattle.std.proofs.lemmas.List.{append_assoc, get_or-drop, get_or-take}
 use Rattle.std.proofs.lemmas.List.FromFn.{fill_by_all}
 use Rattle.byteorder.specs.Endian.{little_bytes}
@@ -74,6 +75,10 @@ split_map F n (suc k) a =
     let at : a + suc k ≡ (a + 1) + k = omega arith in
     let same : suc (k + n) ≡ suc k + n = omega arith in
     ap (λ b. F a ∷ (map F (range_with_len (a + 1) k) ++ map F (range_with_len b n))) at ∙ ap (λ xs. F a ∷ xs) (split_map F n k (a + 1)) ∙ ap (λ q. map F (range_with_len a q)) same
+
+-- none are read yet
+pub bytes_none : (F : ℕ → ℕ) (off : ℕ) (old : List ℕ) → old ≡ old ++ map F (range_with_len off (off - off))
+bytes_none F off old = let none : off - off ≡ 0 = omega arith in sym (ap (λ k. old ++ map F (range_with_len off k)) none ∙ append-nil old)
 
 -- bytes after those that are there
 pub bytes_next : (F : ℕ → ℕ) (off at to n : ℕ) (old xs ys : List ℕ) → off ≤ at → at ≤ to → xs ≡ old ++ map F (range_with_len off (at - off)) → ys ≡ xs ++ map F (range_with_len at n) → n ≡ to - at → ys ≡ old ++ map F (range_with_len off (to - off))

@@ -1,10 +1,12 @@
-use Rattle.vista_region.proofs.Common.{◌≡◌, ◌+◌, ◌-◌, ◌*◌, ◌/◌, ◌∙◌, ◌++◌, ap, sym, subst, arith, stays_trans, RegionContent, byte_in, bytes_in, IsRegion, live, err_from_is_err_and}
-use Rattle.std.proofs.Common.{le_trans}
-use Rattle.vista_region.proofs.Bytes.{bytes_moved, bytes_next}
+use Rattle.vista_region.proofs.Common.{◌≡◌, ◌≤◌, refl, ◌+◌, ◌-◌, ◌*◌, ◌/◌, ◌∙◌, ◌++◌, ap, sym, subst, arith, stays_trans, RegionContent, byte_in, bytes_in, IsRegion, live, err_from_is_err_and}
+use Rattle.std.proofs.Common.{le_refl, le_trans}
+use Rattle.vista_region.proofs.Bytes.{bytes_moved, bytes_next, bytes_none}
 use Rattle.vista_region.proofs.Outcomes.{ok_apart}
 use Rattle.vista_region.specs.declared.failures.GetFail.TheVariants.{Stopped}
 use Rattle.rio_base.proofs.Rules.{ends_by_after}
 use Rattle.vista_region.proofs.Exits.{ends_read, told_read, read_ends}
+use Rattle.rio_model.specs.Undo.{places}
+use Rattle.undo_list.proofs.Outcomes.{stays_none}
 use Rattle.vista_region.proofs.runs.push_bytes.Goals as goal
 
 pub loop-at-preserved : goal.loop-at-preserved
@@ -68,3 +70,30 @@ push_run-requires-clause-ready g c = c.loop-at.invariant.stays.ready
 
 pub push_run-requires-clause-region : goal.push_run-requires-clause-region
 push_run-requires-clause-region g c = c.loop-at.invariant.region
+
+pub loop-at-init : goal.loop-at-init
+loop-at-init g c = record {
+      low = omega arith;
+      high = c.requires.order;
+      bytes = bytes_none (byte_in (λ w. live (g.R.RegionWords.words c.args.r.now) (c.args.place + w))) c.args.off c.args.out.now.items;
+      words = refl;
+      region = c.requires.region;
+      stays = stays_none c.args.r.now (g.met.R.RegionWords.rest_refl c.args.r.now) c.requires.ready;
+      later = le_refl _;
+      running = refl;
+    }
+
+pub loop-at-smaller : goal.loop-at-smaller
+loop-at-smaller g c = omega (arith, c.min-next.ensures, c.loop-at-test.true)
+
+pub push_run-requires-clause-order : goal.push_run-requires-clause-order
+push_run-requires-clause-order g c = omega (arith, c.min-next.ensures, c.loop-at-test.true)
+
+pub push_run-requires-clause-few : goal.push_run-requires-clause-few
+push_run-requires-clause-few g c = omega (arith, c.min-next.ensures)
+
+pub push_run-requires-clause-place : goal.push_run-requires-clause-place
+push_run-requires-clause-place g c = subst (λ (w : RegionContent). c.args.place + c.loop-at.at / 8 + (c.min-next.result - 8 * (c.loop-at.at / 8) + 7) / 8 ≤ places w) (sym c.loop-at.invariant.words) (omega (arith, c.requires.place, c.min-next.ensures, c.loop-at-test.true))
+
+pub returns-clause-bytes : goal.returns-clause-bytes
+returns-clause-bytes g c = subst (λ k. c.loop-at.out.items ≡ c.args.out.now.items ++ bytes_in (λ w. live (g.R.RegionWords.words c.args.r.now) (c.args.place + w)) c.args.off (k - c.args.off)) (omega (arith, c.loop-at.invariant.high, c.loop-at-test.false)) c.loop-at.invariant.bytes

@@ -1,10 +1,12 @@
-use Rattle.vista_region.proofs.Common.{Err, ◌∙◌, ◌≡◌, ◌≤◌, ◌+◌, ◌-◌, ◌*◌, ◌/◌, sym, subst, arith, length, length-drop, take, drop, FaultAt, RunFail, stays_trans, IsRegion, Puts, words_of}
-use Rattle.std.proofs.Common.{le_trans, length-take}
+use Rattle.vista_region.proofs.Common.{Err, ap, map_pages, refl, ◌∙◌, ◌≡◌, ◌≤◌, ◌+◌, ◌-◌, ◌*◌, ◌/◌, sym, subst, arith, length, length-drop, take, drop, FaultAt, RunFail, stays_trans, IsRegion, Puts, words_of}
+use Rattle.std.proofs.Common.{le_refl, le_trans, length-take}
 use Rattle.vista_region.proofs.Words.{puts_next}
 use Rattle.rio_base.specs.Blocks.{Ends, as_word}
-use Rattle.rio_model.specs.Undo.{Keeps}
+use Rattle.rio_model.specs.Undo.{Keeps, is_covered}
 use Rattle.rio_model.proofs.UndoRules.{keeps_trans}
 use Rattle.rio_base.proofs.BlockRules.{ends_later}
+use Rattle.undo_list.proofs.Frames.{puts_none}
+use Rattle.undo_list.proofs.Outcomes.{stays_none}
 use Rattle.vista_region.proofs.runs.put_bytes.Goals as goal
 
 pub returns-in-Err-Fault-clause-fault : goal.returns-in-Err-Fault-clause-fault
@@ -102,3 +104,44 @@ put_run-requires-clause-region g c = c.loop-done.invariant.region
 
 pub put_run-requires-clause-undo : goal.put_run-requires-clause-undo
 put_run-requires-clause-undo g c = c.requires.undo ∙ sym c.loop-done.invariant.puts.keeps.undoes.sizes.undo
+
+pub loop-done-init : goal.loop-done-init
+loop-done-init g c = record {
+      within = omega arith;
+      region = c.requires.region;
+      puts = puts_none (g.R.RegionWords.count c.args.r.now) (g.R.RegionWords.words c.args.r.now) (g.R.RegionWords.words c.args.r.now) c.args.place (words_of c.args.bytes.now) c.requires.region refl;
+      stays = stays_none c.args.r.now (g.met.R.RegionWords.rest_refl c.args.r.now) c.requires.ready;
+      later = le_refl _;
+      running = refl;
+    }
+
+pub loop-done-smaller : goal.loop-done-smaller
+loop-done-smaller g c = omega (arith, c.min-next.ensures, c.loop-done-test.true)
+
+pub put_run-requires-clause-whole : goal.put_run-requires-clause-whole
+put_run-requires-clause-whole g c = 
+    let next = c.min-next.result in
+    let few = length-take (8 * next - 8 * c.loop-done.done) (drop (8 * c.loop-done.done) c.args.bytes.now) in
+    let rest = length-drop (8 * c.loop-done.done) c.args.bytes.now in
+    omega (arith, few, rest, c.min-next.ensures, c.loop-done-test.true)
+
+pub put_run-requires-clause-few : goal.put_run-requires-clause-few
+put_run-requires-clause-few g c = 
+    let next = c.min-next.result in
+    let few = length-take (8 * next - 8 * c.loop-done.done) (drop (8 * c.loop-done.done) c.args.bytes.now) in
+    let rest = length-drop (8 * c.loop-done.done) c.args.bytes.now in
+    omega (arith, few, c.min-next.ensures)
+
+pub put_run-requires-clause-place : goal.put_run-requires-clause-place
+put_run-requires-clause-place g c = 
+    let next = c.min-next.result in
+    let few = length-take (8 * next - 8 * c.loop-done.done) (drop (8 * c.loop-done.done) c.args.bytes.now) in
+    let rest = length-drop (8 * c.loop-done.done) c.args.bytes.now in
+    subst (λ k. c.args.place + c.loop-done.done + length (take (8 * next - 8 * c.loop-done.done) (drop (8 * c.loop-done.done) c.args.bytes.now)) / 8 ≤ 512 * (map_pages k + k)) (sym c.loop-done.invariant.puts.keeps.undoes.sizes.data_pages) (omega (arith, c.requires.place, few, rest, c.min-next.ensures, c.loop-done-test.true))
+
+pub put_run-requires-clause-covered : goal.put_run-requires-clause-covered
+put_run-requires-clause-covered g c = 
+    let next = c.min-next.result in
+    let few = length-take (8 * next - 8 * c.loop-done.done) (drop (8 * c.loop-done.done) c.args.bytes.now) in
+    let rest = length-drop (8 * c.loop-done.done) c.args.bytes.now in
+    λ q low high. ap (λ rs. is_covered rs q) c.loop-done.invariant.puts.keeps.records ∙ c.requires.covered q (omega (arith, low)) (omega (arith, high, few, rest, c.min-next.ensures, c.loop-done-test.true))
