@@ -6,3 +6,4 @@ pub mod RegionStood
 pub mod RunEnds
 pub mod UsedInodes
 pub mod Views
+pub mod WordsRead

@@ -1,8 +1,9 @@
 -- A run of a region's words, read or stored in parts.
-use Rattle.region_view.proofs.Common.{◌≡◌, ℕ, ◌+◌, ◌-◌, ◌<◌, ◌≤◌, List, length, take, drop, ap, ◌∙◌, arith, nat_tests, put_words}
-use Rattle.std.proofs.Common.{slice_index, length-take, length-drop}
-use Rattle.std.proofs.lemmas.List.{get_or-drop, get_or-take}
-use Rattle.rio_base.specs.Regions.{OldOrPutWords, RegionContent}
+use Rattle.region_view.proofs.Common.{◌≡◌, ℕ, ◌+◌, ◌-◌, ◌*◌, ◌%◌, ◌<◌, ◌≤◌, List, length, take, drop, ap, ◌∙◌, arith, nat_tests, put_words}
+use Rattle.std.proofs.Common.{slice_index, length-append, length-take, length-drop, ◌++◌, ◌⊎◌, inl, inr}
+use Rattle.std.proofs.lemmas.Bool.{cases_lt}
+use Rattle.std.proofs.lemmas.List.{get_or-append_right, get_or_append_left, get_or-drop, get_or-take, length-take-le}
+use Rattle.rio_base.specs.Regions.{AreWords, OldOrPutWords, RegionContent}
 
 -- no word
 none_at : (f : RegionContent) (at : ℕ) (words : List ℕ) (x : ℕ) → f x ≡ put_words f at 0 words x
@@ -66,3 +67,80 @@ rest_told f g h at d n words within e few is = let size = rest_length words d in
 -- all of them
 pub put_all : (f g : RegionContent) (at d : ℕ) (words : List ℕ) → d ≡ length words → g ≡ put_words f at d words → g ≡ put_words f at (length words) words
 put_all f g at d words all is = is ∙ ap (λ n. put_words f at n words) all
+
+-- ---- the words of one page
+
+part_size : (words : List ℕ) (m : ℕ) → m ≤ length words → length (take m words) ≡ m
+part_size words m most = let taken = length-take m words in omega (arith, taken, most)
+
+pub part_some : (words : List ℕ) (m : ℕ) → m ≤ length words → 0 < m → 0 < length (take m words)
+part_some words m most some = let size = part_size words m most in omega (arith, size, some)
+
+pub part_within : (at : ℕ) (words : List ℕ) (m : ℕ) → at % 512 + m ≤ 512 → at % 512 + length (take m words) ≤ 512
+part_within at words m within = let taken = length-take m words in omega (arith, taken, within)
+
+pub part_place : (at : ℕ) (words : List ℕ) (m size : ℕ) → 8 * (at + length words) ≤ size → 8 * (at + length (take m words)) ≤ size
+part_place at words m size most = let taken = length-take m words in omega (arith, taken, most)
+
+-- ---- words read into a part of a list
+
+-- words of a list from d on, written anew
+abbrev pub written_at : List ℕ → ℕ → ℕ → List ℕ → List ℕ
+written_at words d n part = take d words ++ (part ++ drop n (drop d words))
+
+pub written_length : (words part : List ℕ) (d c : ℕ) → d + c ≤ length words → length part ≡ length (take (d + c - d) (drop d words)) → length (written_at words d (d + c - d) part) ≡ length words
+written_length words part d c within same = omega (arith, within, same, length-append (take d words) (part ++ drop (d + c - d) (drop d words)), length-append part (drop (d + c - d) (drop d words)), length-take d words, length-take (d + c - d) (drop d words), length-drop d words, length-drop (d + c - d) (drop d words))
+
+part_long : (words : List ℕ) (d c : ℕ) → d + c ≤ length words → length (take (d + c - d) (drop d words)) ≡ c
+part_long words d c within = omega (arith, within, length-take (d + c - d) (drop d words), length-drop d words)
+
+-- those before it are as they were, and those of it are the part's
+pub words_then : (f : RegionContent) (at d c : ℕ) (words part : List ℕ) → d + c ≤ length words → AreWords f at d words → length part ≡ length (take (d + c - d) (drop d words)) → AreWords f (at + d) (length (take (d + c - d) (drop d words))) part → AreWords f at (d + c) (written_at words d (d + c - d) part)
+words_then f at d c words part within before same now = record { each = λ k less. by k less (cases_lt k d) }
+  where
+    rest : List ℕ
+    rest = drop (d + c - d) (drop d words)
+
+    front : length (take d words) ≡ d
+    front = length-take-le d words (omega (arith, within))
+
+    long : length part ≡ c
+    long = same ∙ part_long words d c within
+
+    by : (k : ℕ) → k < d + c → (k < d) ⊎ (d ≤ k) → slice_index (written_at words d (d + c - d) part) k ≡ f (at + k)
+    by k less (inl low) = get_or_append_left (take d words) (part ++ rest) 0 k (omega (arith, front, low)) ∙ get_or-take d words k 0 low ∙ before.each k low
+    by k less (inr high) =
+        let place : at + d + (k - d) ≡ at + k = omega (arith, high) in
+        get_or-append_right (take d words) (part ++ rest) d k 0 front high
+        ∙ get_or_append_left part rest 0 (k - d) (omega (arith, less, high, long))
+        ∙ now.each (k - d) (omega (arith, less, high, part_long words d c within))
+        ∙ ap f place
+
+-- ---- what is asked of the part
+
+pub read_some : (words : List ℕ) (d c : ℕ) → d < length words → (0 < length words - d → 0 < c) → c ≤ length words - d → 0 < length (take (d + c - d) (drop d words))
+read_some words d c less some most =
+    let long = part_long words d c (omega (arith, less, most)) in
+    let more = some (omega (arith, less)) in
+    omega (arith, long, more)
+
+pub read_within : (at d c : ℕ) (words : List ℕ) → d < length words → c ≤ length words - d → (at + d) % 512 + c ≤ 512 → (at + d) % 512 + length (take (d + c - d) (drop d words)) ≤ 512
+read_within at d c words less most within =
+    let long = part_long words d c (omega (arith, less, most)) in
+    omega (arith, long, within)
+
+pub read_place : (at d c size : ℕ) (words : List ℕ) → d < length words → c ≤ length words - d → 8 * (at + length words) ≤ size → 8 * (at + d + length (take (d + c - d) (drop d words))) ≤ size
+read_place at d c size words less most place =
+    let long = part_long words d c (omega (arith, less, most)) in
+    omega (arith, long, less, most, place)
+
+pub read_end : (d c len : ℕ) → d < len → (0 < len - d → 0 < c) → c ≤ len - d → (d < d + c) × (d + c ≤ len)
+read_end d c len less some most = let more = some (omega (arith, less)) in (omega (arith, more), omega (arith, less, most))
+
+-- ---- what is asked of the words that are left
+
+pub rest_some : (words : List ℕ) (d : ℕ) → d < length words → 0 < length (rest_of words d)
+rest_some words d less = let size = rest_length words d in omega (arith, size, less)
+
+pub rest_place : (words : List ℕ) (at d size now : ℕ) → d ≤ length words → now ≡ size → 8 * (at + length words) ≤ size → 8 * (at + d + length (rest_of words d)) ≤ now
+rest_place words at d size now within same most = let left = rest_length words d in omega (arith, left, within, same, most)

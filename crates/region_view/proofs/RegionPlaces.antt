@@ -1,7 +1,8 @@
 -- A word of a region: the block and the name of its page, and what a call on that block leaves in order.
 use Rattle.region_view.proofs.Common.{◌≡◌, ◌≢◌, ℕ, ◌+◌, ◌-◌, ◌*◌, ◌/◌, ◌%◌, ◌<◌, ◌≤◌, ◌==◌, ◌&&◌, ◌⊎◌, Bool, true, false, cond, List, length, Option, refl, sym, ap, subst, ◌∙◌, arith, inl, inr, nat_lt, cases_eq, nat_tests, PageName, VolumeShape, BlockWords, Caches, CanName, Health, Looks, SamePage, Seen, IsIno, put_words, reserved, Below, CachesStored, Firm, Kept, Passes, put, put_run, widened, Held, held_of, held_ino, Slot, AtPage, Placed, HasSlot, placed_at, Layout, volume_layout, Owns, SameLayout, inode_low, lays_same, lays_self, lies_self, Bears, NamesPage, Ready, IsMapped, run_same_but, Inode, IsInode, firm_on, ready_order}
 use Rattle.std.proofs.Common.{slice_index, None, Some}
-use Rattle.std.specs.Prelude.{not}
+use Rattle.std.specs.Prelude.{Err, IfOk, Ok, Result, not}
+use Rattle.rio_base.specs.declared.places.Block.{Block}
 use Rattle.rio_base.proofs.BlockRules.{shape_beside_stored}
 use Rattle.rio_base.specs.Regions.{OldOrPutWord, OldOrPutWords, put_word}
 use Rattle.rio_base.specs.Volume.{OldOrPut, OldOrRun, SameBut}
@@ -31,6 +32,10 @@ word_page shape f g i at b mapped region less is same = subst (λ e. IsWordPage 
   where
     h : HasHeader shape f i
     h = has_header shape f i mapped region
+
+pub word_pages : {E : Type 0} (r : Result Block E) (shape : VolumeShape) (f g : BlockWords) (i at : ℕ) → IsMapped shape f → (held_of shape f i).kind ≡ 3 → 8 * at < (held_of shape f i).size → g ≡ f → IfOk r (λ b. b.0 ≡ (placed_at f i).block (AtPage (at / 512))) → IfOk r (λ b. IsWordPage shape g i at b.0)
+word_pages (Ok b) shape f g i at mapped region less same is = word_page shape f g i at b.0 mapped region less is same
+word_pages (Err e) shape f g i at mapped region less same is = tt
 
 -- the inode has the number of an early page
 pub direct_page : (shape : VolumeShape) (f : BlockWords) (i at : ℕ) (n : Inode) → IsMapped shape f → (held_of shape f i).kind ≡ 3 → 8 * at < (held_of shape f i).size → IsInode f i n → at / 512 < 24 → IsWordPage shape f i at (slice_index n.direct (at / 512))
@@ -221,3 +226,9 @@ rest_by shape f g y j i at b ready on same but = subst (λ e. RestHeld shape i e
 -- nothing was stored
 pub held_none : (shape : VolumeShape) (f g : BlockWords) (i at : ℕ) (words : List ℕ) → g ≡ f → OldOrPutWords (held_of shape f i).word (held_of shape g i).word at words (length words)
 held_none shape f g i at words same = (0, omega arith, ap (λ e. (held_of shape e i).word) same ∙ put_none (held_of shape f i).word at words)
+
+pub none_held : (shape : VolumeShape) (f g : BlockWords) (i at : ℕ) (words : List ℕ) → g ≡ f → (held_of shape g i).word ≡ put_words (held_of shape f i).word at 0 words
+none_held shape f g i at words same = ap (λ e. (held_of shape e i).word) same ∙ put_none (held_of shape f i).word at words
+
+pub still_word : (shape : VolumeShape) (f g : BlockWords) (i : ℕ) → g ≡ f → (held_of shape g i).word ≡ (held_of shape f i).word
+still_word shape f g i same = ap (λ e. (held_of shape e i).word) same

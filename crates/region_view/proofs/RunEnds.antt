@@ -1,5 +1,6 @@
 -- How a run of stores ends, told from its last part.
 use Rattle.region_view.proofs.Common.{◌≡◌, ℕ, ◌≤◌, subst, Err, Ok, OnOk, Result, Health}
+use Rattle.std.specs.Prelude.{OnErr}
 use Rattle.rio_base.specs.declared.failures.RunFail.{RunFail}
 use Rattle.rio_base.specs.declared.failures.RunFail.TheVariants.{Fault as RunFault, Stopped as RunStopped}
 use Rattle.rio_base.specs.declared.failures.VolFail.TheVariants.{Fault as VolFault, Stopped as VolStopped}
@@ -29,3 +30,12 @@ pub ends_stop : {T U : Type 0} (s t u : Health) (e : RunFail) → e ≡ RunStopp
 ends_stop {T = T} {U = U} s t u e is later same h =
     let k : Ends {T = T} t u (Err VolStopped) = subst (λ (x : RunFail). Ends t u (as_word {T = T} (Err x))) is h in
     ends_later {T = U} s t u (Err VolStopped) later same (record { later = k.later; stays = k.stays; cause = k.cause })
+
+-- it ended well
+pub run_ended : {T U : Type 0} (s t : Health) (v : U) (w : T) → Ends s t (as_word (Ok w)) → Ends s t (as_word (Ok v))
+run_ended s t v w h = record { later = h.later; stays = h.stays; cause = h.cause }
+
+-- of each failure
+pub on_err : {T E : Type 0} (answer : Result T E) (p : Type 0) → p → OnErr answer p
+on_err (Ok x) p h = tt
+on_err (Err e) p h = h

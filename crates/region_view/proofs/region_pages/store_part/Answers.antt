@@ -1,7 +1,38 @@
 use Rattle.region_view.proofs.Common.{length, le_refl, refl, arith, ◌then◌}
-use Rattle.region_view.proofs.RegionPlaces.{held_none, many_front, many_put, many_same_but, page_done, rest_by}
+use Rattle.file_pages.proofs.EndsOn.{ends_told}
+use Rattle.rio_base.proofs.BlockRules.{ends_later}
+use Rattle.rio_model.proofs.RegionMoves.{rest_same}
+use Rattle.region_view.proofs.WordsRead.{first_within, run_span}
+use Rattle.region_view.proofs.RegionPlaces.{can_name, held_none, many_front, many_put, many_same_but, none_held, page_done, rest_by}
 use Rattle.region_view.proofs.RunEnds.{fault_as, ok_as}
 use Rattle.region_view.proofs.region_pages.store_part.Goals as goal
+
+pub page_block-requires-clause-sound : goal.page_block-requires-clause-sound
+page_block-requires-clause-sound g c = c.requires.sound
+
+pub page_block-requires-clause-ready : goal.page_block-requires-clause-ready
+page_block-requires-clause-ready g c = c.requires.ready
+
+pub page_block-requires-clause-region : goal.page_block-requires-clause-region
+page_block-requires-clause-region g c = c.requires.region
+
+pub page_block-requires-clause-inode : goal.page_block-requires-clause-inode
+page_block-requires-clause-inode g c = c.requires.inode
+
+pub page_block-requires-clause-place : goal.page_block-requires-clause-place
+page_block-requires-clause-place g c = first_within c.args.at _ _ c.requires.some c.requires.place
+
+pub store_run-requires-clause-sound : goal.store_run-requires-clause-sound
+store_run-requires-clause-sound g c = c.page_block.ensures.sound
+
+pub store_run-requires-clause-place : goal.store_run-requires-clause-place
+store_run-requires-clause-place g c = run_span c.args.shape.now _ (g.V.Volume.kept c.page_block.new.v) c.args.i.0 c.args.at c.in-Ok.b.0 _ c.page_block.ensures.ready c.in-Ok.ensures.page c.requires.within
+
+pub store_run-requires-clause-name : goal.store_run-requires-clause-name
+store_run-requires-clause-name g c = can_name c.args.shape.now _ (g.V.Volume.kept c.page_block.new.v) c.args.i.0 c.args.at c.in-Ok.b.0 _ c.page_block.ensures.ready c.in-Ok.ensures.page c.page_name.ensures
+
+pub store_run-requires-clause-idle : goal.store_run-requires-clause-idle
+store_run-requires-clause-idle g c = c.page_block.ensures.ready.idle
 
 pub returns-in-Ok-clause-ok : goal.returns-in-Ok-clause-ok
 returns-in-Ok-clause-ok g c = ok_as c.store_run.result _ _ (many_put c.args.shape.now _ _ _ (g.V.Volume.kept c.page_block.new.v) c.args.i.0 c.args.at c.in-Ok.b.0 _ (length c.args.from.now) (length c.args.from.now) c.args.from.now c.page_block.ensures.ready c.in-Ok.ensures.page refl (le_refl (length c.args.from.now)) c.requires.within c.requires.place c.page_block.ensures.words) c.store_run.ensures.ok
@@ -26,3 +57,51 @@ returns-in-Err-Fault-clause-front g c = held_none c.args.shape.now _ _ c.args.i.
 
 pub returns-in-Err-Stopped-clause-front : goal.returns-in-Err-Stopped-clause-front
 returns-in-Err-Stopped-clause-front g c = held_none c.args.shape.now _ _ c.args.i.0 c.args.at c.args.from.now c.page_block.ensures.words
+
+pub returns-in-Ok-clause-ends : goal.returns-in-Ok-clause-ends
+returns-in-Ok-clause-ends g c = ends_later _ _ _ _ c.in-Ok.ensures.ends.later c.in-Ok.ensures.ends.cause c.store_run.ensures.ends
+
+pub returns-in-Ok-clause-sound : goal.returns-in-Ok-clause-sound
+returns-in-Ok-clause-sound g c = c.store_run.ensures.sound
+
+pub returns-in-Err-Fault-clause-ok : goal.returns-in-Err-Fault-clause-ok
+returns-in-Err-Fault-clause-ok g c = tt
+
+pub returns-in-Err-Fault-clause-fault : goal.returns-in-Err-Fault-clause-fault
+returns-in-Err-Fault-clause-fault g c = (c.requires.some, none_held c.args.shape.now _ _ c.args.i.0 c.args.at c.args.from.now c.page_block.ensures.words)
+
+pub returns-in-Err-Fault-clause-rest : goal.returns-in-Err-Fault-clause-rest
+returns-in-Err-Fault-clause-rest g c = rest_same c.args.shape.now c.args.i.0 _ _ c.page_block.ensures.words
+
+pub returns-in-Err-Fault-clause-ready : goal.returns-in-Err-Fault-clause-ready
+returns-in-Err-Fault-clause-ready g c = c.page_block.ensures.ready
+
+pub returns-in-Err-Fault-clause-goes : goal.returns-in-Err-Fault-clause-goes
+returns-in-Err-Fault-clause-goes g c = (g.met.V.Volume.passes_keeps _ _ c.page_block.ensures.passes).goes
+
+pub returns-in-Err-Fault-clause-ends : goal.returns-in-Err-Fault-clause-ends
+returns-in-Err-Fault-clause-ends g c = ends_told _ _ _ _ c.in-Err-Fault.field-0-is c.in-Err-Fault.ensures.ends
+
+pub returns-in-Err-Fault-clause-sound : goal.returns-in-Err-Fault-clause-sound
+returns-in-Err-Fault-clause-sound g c = c.page_block.ensures.sound
+
+pub returns-in-Err-Stopped-clause-ok : goal.returns-in-Err-Stopped-clause-ok
+returns-in-Err-Stopped-clause-ok g c = tt
+
+pub returns-in-Err-Stopped-clause-fault : goal.returns-in-Err-Stopped-clause-fault
+returns-in-Err-Stopped-clause-fault g c = tt
+
+pub returns-in-Err-Stopped-clause-rest : goal.returns-in-Err-Stopped-clause-rest
+returns-in-Err-Stopped-clause-rest g c = rest_same c.args.shape.now c.args.i.0 _ _ c.page_block.ensures.words
+
+pub returns-in-Err-Stopped-clause-ready : goal.returns-in-Err-Stopped-clause-ready
+returns-in-Err-Stopped-clause-ready g c = c.page_block.ensures.ready
+
+pub returns-in-Err-Stopped-clause-goes : goal.returns-in-Err-Stopped-clause-goes
+returns-in-Err-Stopped-clause-goes g c = (g.met.V.Volume.passes_keeps _ _ c.page_block.ensures.passes).goes
+
+pub returns-in-Err-Stopped-clause-ends : goal.returns-in-Err-Stopped-clause-ends
+returns-in-Err-Stopped-clause-ends g c = ends_told _ _ _ _ c.in-Err-Stopped.field-0-is c.in-Err-Stopped.ensures.ends
+
+pub returns-in-Err-Stopped-clause-sound : goal.returns-in-Err-Stopped-clause-sound
+returns-in-Err-Stopped-clause-sound g c = c.page_block.ensures.sound

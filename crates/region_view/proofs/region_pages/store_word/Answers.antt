@@ -1,7 +1,66 @@
-use Rattle.region_view.proofs.Common.{refl, ◌then◌}
-use Rattle.region_view.proofs.RegionPlaces.{one_either, one_put, one_same_but, page_done, rest_by}
+use Rattle.region_view.proofs.Common.{arith, inl, refl, ◌∙◌, ◌then◌, err_from_is_err_and}
+use Rattle.file_pages.proofs.EndsOn.{ends_vol, if_err}
+use Rattle.rio_base.proofs.BlockRules.{ends_later}
+use Rattle.rio_model.proofs.RegionMoves.{rest_same}
+use Rattle.region_view.proofs.RegionPlaces.{can_name, one_either, one_put, one_same_but, page_below, page_done, rest_by, still_word}
 use Rattle.region_view.proofs.RunEnds.{ok_as}
 use Rattle.region_view.proofs.region_pages.store_word.Goals as goal
+
+pub page_block-requires-clause-sound : goal.page_block-requires-clause-sound
+page_block-requires-clause-sound g c = c.requires.sound
+
+pub page_block-requires-clause-ready : goal.page_block-requires-clause-ready
+page_block-requires-clause-ready g c = c.requires.ready
+
+pub page_block-requires-clause-region : goal.page_block-requires-clause-region
+page_block-requires-clause-region g c = c.requires.region
+
+pub page_block-requires-clause-inode : goal.page_block-requires-clause-inode
+page_block-requires-clause-inode g c = c.requires.inode
+
+pub page_block-requires-clause-place : goal.page_block-requires-clause-place
+page_block-requires-clause-place g c = c.requires.place
+
+pub store-requires-clause-sound : goal.store-requires-clause-sound
+store-requires-clause-sound g c = c.page_block.ensures.sound
+
+pub store-requires-clause-place : goal.store-requires-clause-place
+store-requires-clause-place g c = record {
+  block = page_below c.args.shape.now _ (g.V.Volume.kept c.page_block.new.v) c.args.i.0 c.args.at c.in_ok-b.b.0 c.page_block.ensures.ready c.in_ok-b.ensures.page;
+  word = omega arith;
+}
+
+pub store-requires-clause-name : goal.store-requires-clause-name
+store-requires-clause-name g c = can_name c.args.shape.now _ (g.V.Volume.kept c.page_block.new.v) c.args.i.0 c.args.at c.in_ok-b.b.0 _ c.page_block.ensures.ready c.in_ok-b.ensures.page c.page_name.ensures
+
+pub store-requires-clause-idle : goal.store-requires-clause-idle
+store-requires-clause-idle g c = c.page_block.ensures.ready.idle
+
+pub returns-in_err-b-clause-ok : goal.returns-in_err-b-clause-ok
+returns-in_err-b-clause-ok g c = if_err c.from_residual.result _ c.from_residual.ensures.0
+
+pub returns-in_err-b-clause-fault : goal.returns-in_err-b-clause-fault
+returns-in_err-b-clause-fault g c = λ is. still_word c.args.shape.now _ _ c.args.i.0 c.page_block.ensures.words
+
+pub returns-in_err-b-clause-either : goal.returns-in_err-b-clause-either
+returns-in_err-b-clause-either g c = inl (still_word c.args.shape.now _ _ c.args.i.0 c.page_block.ensures.words)
+
+pub returns-in_err-b-clause-rest : goal.returns-in_err-b-clause-rest
+returns-in_err-b-clause-rest g c = rest_same c.args.shape.now c.args.i.0 _ _ c.page_block.ensures.words
+
+pub returns-in_err-b-clause-ready : goal.returns-in_err-b-clause-ready
+returns-in_err-b-clause-ready g c = c.page_block.ensures.ready
+
+pub returns-in_err-b-clause-goes : goal.returns-in_err-b-clause-goes
+returns-in_err-b-clause-goes g c = (g.met.V.Volume.passes_keeps _ _ c.page_block.ensures.passes).goes
+
+pub returns-in_err-b-clause-ends : goal.returns-in_err-b-clause-ends
+returns-in_err-b-clause-ends g c =
+    let p = err_from_is_err_and c.from_residual.result c.from_residual.ensures.1 in
+    ends_vol _ _ c.page_block.result c.from_residual.result _ p.0 c.in_err-b.was p.1 p.2 c.page_block.ensures.ends
+
+pub returns-in_err-b-clause-sound : goal.returns-in_err-b-clause-sound
+returns-in_err-b-clause-sound g c = c.page_block.ensures.sound
 
 pub returns-clause-ok : goal.returns-clause-ok
 returns-clause-ok g c = ok_as c.store.result _ _ (one_put c.args.shape.now _ _ _ (g.V.Volume.kept c.page_block.new.v) c.args.i.0 c.args.at c.in_ok-b.b.0 _ c.args.word c.page_block.ensures.ready c.in_ok-b.ensures.page refl c.page_block.ensures.words) c.store.ensures.ok
@@ -17,3 +76,12 @@ returns-clause-ready g c = (page_done c.args.shape.now (g.V.Blocks.seen c.page_b
 
 pub returns-clause-goes : goal.returns-clause-goes
 returns-clause-goes g c = (g.met.V.Volume.passes_keeps _ _ c.page_block.ensures.passes).goes then c.store.ensures.goes
+
+pub returns-clause-fault : goal.returns-clause-fault
+returns-clause-fault g c = λ is. still_word c.args.shape.now _ _ c.args.i.0 ((c.store.ensures.fault is).0 ∙ c.page_block.ensures.words)
+
+pub returns-clause-ends : goal.returns-clause-ends
+returns-clause-ends g c = ends_later _ _ _ c.store.result c.in_ok-b.ensures.ends.later c.in_ok-b.ensures.ends.cause c.store.ensures.ends
+
+pub returns-clause-sound : goal.returns-clause-sound
+returns-clause-sound g c = c.store.ensures.sound

@@ -1,7 +1,9 @@
-use Rattle.region_view.proofs.Common.{◌≡◌, ℕ, ◌+◌, ◌<◌, ◌∙◌, length, le_trans, arith, subst, sym, put_words, ◌then◌, held_of}
+use Rattle.region_view.proofs.Common.{◌≡◌, ℕ, ◌+◌, ◌<◌, ◌∙◌, length, le_refl, le_trans, arith, refl, subst, sym, put_words, ◌then◌, held_of}
 use Rattle.region_view.proofs.Views.{inode_still}
-use Rattle.rio_model.specs.RegionMoves.{rest_trans}
-use Rattle.region_view.proofs.RegionParts.{front_rest, put_all, put_rest, rest_length, rest_told}
+use Rattle.rio_model.specs.RegionMoves.{rest_refl, rest_trans}
+use Rattle.rio_base.specs.Rules.{goes_refl}
+use Rattle.file_pages.proofs.EndsOn.{ends_vol_ok}
+use Rattle.region_view.proofs.RegionParts.{front_rest, put_all, put_none, put_rest, rest_length, rest_place, rest_some, rest_told}
 use Rattle.region_view.proofs.RunEnds.{ends_fault, ends_stop, fault_told}
 use Rattle.region_view.proofs.region_pages.store_words.Goals as goal
 
@@ -70,3 +72,72 @@ returns-clause-ok g c =
     let within = inv.within in
     let all : c.loop-done.done ≡ length c.args.from.now = (let ended = c.loop-done-test.false in omega (arith, ended, within)) in
     put_all (held_of c.args.shape.now (g.V.Blocks.seen c.args.v.now).words c.args.i.0).word (held_of c.args.shape.now (g.V.Blocks.seen c.loop-done.v).words c.args.i.0).word c.args.at c.loop-done.done c.args.from.now all inv.words
+
+pub loop-done-init : goal.loop-done-init
+loop-done-init g c = record {
+  within = omega arith;
+  words = put_none _ c.args.at c.args.from.now;
+  rest = rest_refl c.args.shape.now c.args.i.0 _;
+  ready = c.requires.ready;
+  goes = goes_refl _ _;
+  later = le_refl _;
+  running = refl;
+  sound = c.requires.sound;
+}
+
+pub store_page-requires-clause-sound : goal.store_page-requires-clause-sound
+store_page-requires-clause-sound g c = c.loop-done.invariant.sound
+
+pub store_page-requires-clause-ready : goal.store_page-requires-clause-ready
+store_page-requires-clause-ready g c = c.loop-done.invariant.ready
+
+pub store_page-requires-clause-region : goal.store_page-requires-clause-region
+store_page-requires-clause-region g c = c.loop-done.invariant.rest.kind ∙ c.requires.region
+
+pub store_page-requires-clause-some : goal.store_page-requires-clause-some
+store_page-requires-clause-some g c = rest_some c.args.from.now c.loop-done.done c.loop-done-test.true
+
+pub store_page-requires-clause-place : goal.store_page-requires-clause-place
+store_page-requires-clause-place g c = rest_place c.args.from.now c.args.at c.loop-done.done _ _ c.loop-done.invariant.within c.loop-done.invariant.rest.size c.requires.place
+
+pub returns-in-Err-Fault-clause-ok : goal.returns-in-Err-Fault-clause-ok
+returns-in-Err-Fault-clause-ok g c = tt
+
+pub returns-in-Err-Fault-clause-ready : goal.returns-in-Err-Fault-clause-ready
+returns-in-Err-Fault-clause-ready g c = c.store_page.ensures.ready
+
+pub returns-in-Err-Fault-clause-sound : goal.returns-in-Err-Fault-clause-sound
+returns-in-Err-Fault-clause-sound g c = c.store_page.ensures.sound
+
+pub returns-in-Err-Stopped-clause-ok : goal.returns-in-Err-Stopped-clause-ok
+returns-in-Err-Stopped-clause-ok g c = tt
+
+pub returns-in-Err-Stopped-clause-fault : goal.returns-in-Err-Stopped-clause-fault
+returns-in-Err-Stopped-clause-fault g c = tt
+
+pub returns-in-Err-Stopped-clause-ready : goal.returns-in-Err-Stopped-clause-ready
+returns-in-Err-Stopped-clause-ready g c = c.store_page.ensures.ready
+
+pub returns-in-Err-Stopped-clause-sound : goal.returns-in-Err-Stopped-clause-sound
+returns-in-Err-Stopped-clause-sound g c = c.store_page.ensures.sound
+
+pub returns-clause-fault : goal.returns-clause-fault
+returns-clause-fault g c = tt
+
+pub returns-clause-front : goal.returns-clause-front
+returns-clause-front g c = (c.loop-done.done, c.loop-done.invariant.within, c.loop-done.invariant.words)
+
+pub returns-clause-rest : goal.returns-clause-rest
+returns-clause-rest g c = c.loop-done.invariant.rest
+
+pub returns-clause-ready : goal.returns-clause-ready
+returns-clause-ready g c = c.loop-done.invariant.ready
+
+pub returns-clause-goes : goal.returns-clause-goes
+returns-clause-goes g c = c.loop-done.invariant.goes
+
+pub returns-clause-ends : goal.returns-clause-ends
+returns-clause-ends g c = ends_vol_ok _ _ _ c.loop-done.invariant.later c.loop-done.invariant.running
+
+pub returns-clause-sound : goal.returns-clause-sound
+returns-clause-sound g c = c.loop-done.invariant.sound
