@@ -1,5 +1,5 @@
 -- The numbers of a range that pass a test: each passes, they rise, and none is left out.
-use Rattle.std.specs.Prelude.{◌≡◌, ◌≢◌, ◌⊎◌, ℕ, zero, suc, ◌+◌, ◌<◌, ◌≤◌, Bool, true, false, List, [], ◌∷◌, ◌++◌, cond, filter, length, refl, slice_index}
+use Rattle.std.specs.Prelude.{◌≡◌, ◌≢◌, ◌⊎◌, ℕ, zero, suc, ◌+◌, ◌<◌, ◌≤◌, Bool, true, false, None, List, [], ◌∷◌, ◌++◌, cond, filter, length, refl, slice_index}
 use Rattle.std.specs.List.{range_with_len}
 use Rattle.std.proofs.Common.{◌∙◌, ap, arith, inl, inr, subst, sym}
 use Rattle.std.proofs.lemmas.Bool.{cases_Bool, cases_eq}
@@ -7,7 +7,15 @@ use Rattle.std.proofs.lemmas.List.{append-nil, map-append, map-id}
 use Rattle.std.proofs.lemmas.List.FromFn.{filter_of_map_range_with_len_more}
 use Rattle.rio_base.specs.declared.places.Ino.{Ino}
 use Rattle.rio_base.specs.declared.places.VolumeShape.{VolumeShape}
-use Rattle.rio_base.specs.Blocks.{BlockWords}
+use Rattle.rio_base.specs.Blocks.{BlockWords, Caches, Seen}
+use Rattle.rio_base.specs.Layout.{IsIno, inode_block, inode_kind}
+use Rattle.rio_base.specs.Shapes.{IsShape}
+use Rattle.rio_base.specs.BlockSets.{CachesBy}
+use Rattle.rio_base.proofs.BlockSets.{caches_by_one}
+use Rattle.rio_model.proofs.PlacedRules.{inode_low}
+use Rattle.inode_table.specs.Inodes.{IsMetadata}
+use Rattle.rio_model.specs.Placed.{volume_layout}
+use Rattle.rio_model.specs.VolumeRules.{KindRule}
 use Rattle.region_recovery.specs.RegionLists.{ino_numbers, is_region, region_inos}
 
 -- the numbers that pass among n + 1 from a on, by whether a does
@@ -102,3 +110,18 @@ listed_without t n inodes e h = h ∙ sym (append-nil (filter t (range_with_len 
 pub listed_all : (shape : VolumeShape) (f : BlockWords) (n : ℕ) (inodes : List Ino) → n ≤ shape.inodes → shape.inodes ≤ n → ino_numbers inodes ≡ filter (is_region shape f) (range_with_len 1 n) → ino_numbers inodes ≡ region_inos shape f
 unfolding region_inos
 listed_all shape f n inodes to from h = h ∙ ap (λ m. filter (is_region shape f) (range_with_len 1 m)) (omega arith)
+
+-- before the first
+pub listed_none : (t : ℕ → Bool) (inodes : List Ino) → inodes ≡ [] → ino_numbers inodes ≡ filter t (range_with_len 1 0)
+listed_none t inodes none = ap (λ is. ino_numbers is) none
+
+-- an inode that is asked for has a kind that there is
+pub nth_ino : (shape : VolumeShape) (n : ℕ) → n < shape.inodes → IsIno shape (n + 1)
+nth_ino shape n less = record { from = omega arith; to = omega (arith, less) }
+
+pub kind_on : (shape : VolumeShape) (f g : BlockWords) (i : ℕ) → KindRule (volume_layout shape f) → IsIno shape i → g ≡ f → inode_kind g i ≤ 3
+kind_on shape f g i kinds ino same = subst (λ h. inode_kind h i ≤ 3) (sym same) (kinds.each i ino)
+
+-- the block of an inode is one of metadata
+pub inode_cached : (shape : VolumeShape) (x y : Seen) (i : ℕ) → IsShape shape → IsIno shape i → Caches x y (inode_block i) None → CachesBy (IsMetadata shape) x y
+inode_cached shape x y i sizes ino caches = caches_by_one _ x y (inode_block i) None caches (inode_low shape i sizes ino, refl)

@@ -65,3 +65,7 @@ none_left shape here there i j k n m e g sizes on beside none =
 -- the volume reads as the state that it read as
 pub reads_turned : (shape : VolumeShape) (i n : ℕ) (f g : BlockWords) → (held_of shape f i).kind ≡ 3 → (held_of shape f i).size ≡ 8 * n → IsMapped shape g → Turned shape i n f g → (s : State) → ReadsAs shape f s → ReadsAs shape g s
 reads_turned shape i n f g kind size mapped t s reads = reads_recovered shape f g s i reads mapped t.rest kind (subst (λ m. Undoes m (held_of shape f i).word (held_of shape g i).word) (omega (arith, size)) t.undoes)
+
+-- no word changed
+pub reads_still : (shape : VolumeShape) (f g : BlockWords) (s : State) → g ≡ f → ReadsAs shape f s → ReadsAs shape g s
+reads_still shape f g s same reads = subst (λ (e : BlockWords). ReadsAs shape e s) (sym same) reads

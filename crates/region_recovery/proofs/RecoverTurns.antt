@@ -128,6 +128,9 @@ nth_region shape f regions n d is less = sym (get_or-map (λ (i : Ino). i.0) reg
 pub no_turn : (shape : VolumeShape) (f : BlockWords) (regions : List Ino) (n : ℕ) → ino_numbers regions ≡ region_inos shape f → region_inos shape f ≡ [] → n < length regions → ⊥
 no_turn shape f regions n is none less = absurd (omega (arith, as_long shape f regions is, ap (λ (l : List ℕ). length l) none, less))
 
+pub no_turns : (shape : VolumeShape) (f : BlockWords) (regions : List Ino) (n : ℕ) → ino_numbers regions ≡ region_inos shape f → region_inos shape f ≡ [] → n ≤ length regions → n ≡ 0
+no_turns shape f regions n is none most = omega (arith, as_long shape f regions is, ap (λ (l : List ℕ). length l) none, most)
+
 -- ---- a turn of a view whose shape is the volume's
 
 -- what is asked of the next region

@@ -4,10 +4,11 @@ use Rattle.rio_base.specs.declared.places.Ino.{Ino}
 use Rattle.rio_base.specs.declared.places.VolumeShape.{VolumeShape}
 use Rattle.rio_base.specs.Rules.{◌then◌}
 use Rattle.rio_base.proofs.BlockRules.{ends_later}
+use Rattle.rio_model.proofs.RegionMoves.{rest_same}
 use Rattle.rio_model.specs.VolumeReady.{Ready}
 use Rattle.region_view.specs.Views.{KeepsInode, OnRegion}
-use Rattle.region_recovery.proofs.EndsAs.{ends_err, ran_ok}
-use Rattle.region_recovery.proofs.OneRegion.{had_records, none_left, reads_turned, stands_on, stood_size, turned}
+use Rattle.region_recovery.proofs.EndsAs.{ends_err, if_err, ran_ok}
+use Rattle.region_recovery.proofs.OneRegion.{had_records, none_left, reads_still, reads_turned, stands_on, stood_size, turned}
 use Rattle.region_recovery.proofs.recovering.recover_region.Goals as goal
 
 pub returns-in_err-point-clause-ends : goal.returns-in_err-point-clause-ends
@@ -80,3 +81,39 @@ returns-clause-ends g c = ends_later _ _ _ c.recover.result c.point.ensures.ends
 
 pub returns-clause-sound : goal.returns-clause-sound
 returns-clause-sound g c = c.recover.ensures.stays.ready.0
+
+pub point-requires-clause-sound : goal.point-requires-clause-sound
+point-requires-clause-sound g c = c.requires.sound
+
+pub point-requires-clause-ready : goal.point-requires-clause-ready
+point-requires-clause-ready g c = c.requires.ready
+
+pub point-requires-clause-ino : goal.point-requires-clause-ino
+point-requires-clause-ino g c = c.requires.ino
+
+pub point-requires-clause-region : goal.point-requires-clause-region
+point-requires-clause-region g c = c.requires.region
+
+pub returns-in_err-point-clause-reads : goal.returns-in_err-point-clause-reads
+returns-in_err-point-clause-reads g c = λ s reads. reads_still c.args.view.now.shape _ _ s c.point.ensures.words reads
+
+pub returns-in_err-point-clause-recovered : goal.returns-in_err-point-clause-recovered
+returns-in_err-point-clause-recovered g c = if_err c.from_residual.result _ c.from_residual.ensures.0
+
+pub returns-in_err-point-clause-held : goal.returns-in_err-point-clause-held
+returns-in_err-point-clause-held g c = if_err c.from_residual.result _ c.from_residual.ensures.0
+
+pub returns-in_err-point-clause-rest : goal.returns-in_err-point-clause-rest
+returns-in_err-point-clause-rest g c = rest_same c.args.view.now.shape c.args.i.0 _ _ c.point.ensures.words
+
+pub returns-in_err-point-clause-ready : goal.returns-in_err-point-clause-ready
+returns-in_err-point-clause-ready g c = subst (λ (sh : VolumeShape). Ready sh (g.V.Blocks.seen c.point.new.self.v) (g.V.Volume.kept c.point.new.self.v)) c.point.ensures.shape c.point.ensures.ready
+
+pub returns-in_err-point-clause-shape : goal.returns-in_err-point-clause-shape
+returns-in_err-point-clause-shape g c = c.point.ensures.shape
+
+pub returns-in_err-point-clause-goes : goal.returns-in_err-point-clause-goes
+returns-in_err-point-clause-goes g c = c.point.ensures.goes
+
+pub returns-in_err-point-clause-sound : goal.returns-in_err-point-clause-sound
+returns-in_err-point-clause-sound g c = c.point.ensures.sound

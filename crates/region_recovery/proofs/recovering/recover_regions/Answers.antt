@@ -1,11 +1,11 @@
-use Rattle.std.proofs.Common.{◌∙◌, arith, le_trans, subst}
+use Rattle.std.proofs.Common.{◌∙◌, arith, le_refl, le_trans, refl, subst, sym}
 use Rattle.std.proofs.lemmas.Result.{err_from_is_err_and}
 use Rattle.rio_base.specs.declared.places.VolumeShape.{VolumeShape}
-use Rattle.rio_base.specs.Rules.{◌then◌}
+use Rattle.rio_base.specs.Rules.{goes_refl, ◌then◌}
 use Rattle.rio_base.proofs.BlockRules.{ends_later}
 use Rattle.rio_model.specs.VolumeReady.{Ready}
-use Rattle.region_recovery.proofs.EndsAs.{ends_err}
-use Rattle.region_recovery.proofs.RecoverTurns.{as_long, asked, few_regions, no_more, nth_region, one_more, recovered_all, some_state, states_turned, turn}
+use Rattle.region_recovery.proofs.EndsAs.{ends_err, if_err, ran_well}
+use Rattle.region_recovery.proofs.RecoverTurns.{as_long, asked, counted_all, few_regions, no_more, no_turn, no_turns, nth_region, one_more, recovered_all, recovered_none, some_state, states_turned, turn}
 use Rattle.region_recovery.proofs.recovering.recover_regions.Goals as goal
 use Rattle.region_recovery.proofs.recovering.recover_regions.Goals.{then-branch, else-branch}
 
@@ -78,3 +78,67 @@ returns-clause-recovered g c =
     let shape = c.args.view.now.shape in
     let f = (g.V.Blocks.seen c.args.view.now.v).words in
     recovered_all shape f (g.V.Blocks.seen c.loop-n.view.v).words c.loop-n.n c.loop-n.undone (omega (arith, c.loop-n-test.false, as_long shape f c.args.regions.now c.requires.regions)) c.loop-n.invariant.walk
+
+pub recover_region-requires-clause-sound : goal.recover_region-requires-clause-sound
+recover_region-requires-clause-sound g c = c.loop-n.invariant.sound
+
+pub recover_region-requires-clause-ready : goal.recover_region-requires-clause-ready
+recover_region-requires-clause-ready g c = subst (λ (sh : VolumeShape). Ready sh (g.V.Blocks.seen c.loop-n.view.v) (g.V.Volume.kept c.loop-n.view.v)) (sym c.loop-n.invariant.shape) c.loop-n.invariant.ready
+
+pub loop-n-init : goal.loop-n-init
+loop-n-init g c = record {
+  walk = recovered_none c.args.view.now.shape _;
+  few = le_refl _;
+  none = λ e. refl;
+  shape = refl;
+  ready = c.requires.ready;
+  sound = c.requires.sound;
+  goes = goes_refl _ _;
+  later = le_refl _;
+  running = refl;
+}
+
+pub returns-in_err-recover_region-clause-recovered : goal.returns-in_err-recover_region-clause-recovered
+returns-in_err-recover_region-clause-recovered g c = if_err c.from_residual.result _ c.from_residual.ensures.0
+
+pub returns-in_err-recover_region-clause-count : goal.returns-in_err-recover_region-clause-count
+returns-in_err-recover_region-clause-count g c = if_err c.from_residual.result _ c.from_residual.ensures.0
+
+pub returns-in_err-recover_region-clause-none : goal.returns-in_err-recover_region-clause-none
+returns-in_err-recover_region-clause-none g c = λ none. absurd (no_turn c.args.view.now.shape _ c.args.regions.now c.loop-n.n c.requires.regions none c.loop-n-test.true)
+
+pub returns-in_err-recover_region-clause-ready : goal.returns-in_err-recover_region-clause-ready
+returns-in_err-recover_region-clause-ready g c = subst (λ (sh : VolumeShape). Ready sh (g.V.Blocks.seen c.recover_region.new.view.v) (g.V.Volume.kept c.recover_region.new.view.v)) c.loop-n.invariant.shape c.recover_region.ensures.ready
+
+pub returns-in_err-recover_region-clause-shape : goal.returns-in_err-recover_region-clause-shape
+returns-in_err-recover_region-clause-shape g c = c.recover_region.ensures.shape ∙ c.loop-n.invariant.shape
+
+pub returns-in_err-recover_region-clause-sound : goal.returns-in_err-recover_region-clause-sound
+returns-in_err-recover_region-clause-sound g c = c.recover_region.ensures.sound
+
+pub returns-clause-reads : goal.returns-clause-reads
+returns-clause-reads g c = c.loop-n.invariant.walk.states
+
+pub returns-clause-count : goal.returns-clause-count
+returns-clause-count g c =
+    let shape = c.args.view.now.shape in
+    let f = (g.V.Blocks.seen c.args.view.now.v).words in
+    counted_all shape f (g.V.Blocks.seen c.loop-n.view.v).words c.loop-n.n c.loop-n.undone (omega (arith, c.loop-n-test.false, as_long shape f c.args.regions.now c.requires.regions)) c.loop-n.invariant.walk
+
+pub returns-clause-none : goal.returns-clause-none
+returns-clause-none g c = λ none. c.loop-n.invariant.none (no_turns c.args.view.now.shape _ c.args.regions.now c.loop-n.n c.requires.regions none c.loop-n.auto.n-end)
+
+pub returns-clause-ready : goal.returns-clause-ready
+returns-clause-ready g c = c.loop-n.invariant.ready
+
+pub returns-clause-shape : goal.returns-clause-shape
+returns-clause-shape g c = c.loop-n.invariant.shape
+
+pub returns-clause-goes : goal.returns-clause-goes
+returns-clause-goes g c = c.loop-n.invariant.goes
+
+pub returns-clause-ends : goal.returns-clause-ends
+returns-clause-ends g c = ran_well _ _ _ c.loop-n.invariant.later c.loop-n.invariant.running
+
+pub returns-clause-sound : goal.returns-clause-sound
+returns-clause-sound g c = c.loop-n.invariant.sound
