@@ -59,12 +59,17 @@ fn drawn_numbers(alloc: Global, draws: &mut Gen, count: u64) -> Result<String, A
 fn drawn_requests(alloc: Global, draws: &mut Gen, count: u64) -> Result<String, AllocError> {
     let mut told = String::new(alloc);
     for _ in 0..count {
-        let request = draws.next_request(alloc)?;
         told.push_str("    ")?;
-        told.push_str(request_text(alloc, &request)?.as_str())?;
+        told.push_str(drawn_text(alloc, draws)?.as_str())?;
         told.push_str("\n")?;
     }
     Ok(told)
+}
+
+/// The next request as text. It is let go here, where nothing else lives.
+fn drawn_text(alloc: Global, draws: &mut Gen) -> Result<String, AllocError> {
+    let request = draws.next_request(alloc)?;
+    request_text(alloc, &request)
 }
 
 /// The ends of so many boots, a line each.
