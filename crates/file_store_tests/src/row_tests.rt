@@ -13,7 +13,8 @@ const OF_64: &[u8] = b"/nnnnnnnnnnnnnnnnnnnnnnnnnnnnnnnnnnnnnnnnnnnnnnnnnnnnnnnn
 /// One that is longer by a byte.
 const OF_65: &[u8] = b"/nnnnnnnnnnnnnnnnnnnnnnnnnnnnnnnnnnnnnnnnnnnnnnnnnnnnnnnn/walked7";
 
-static REQUESTS: [Table; 13] = [
+/// What files hold.
+static DATA: [Table; 4] = [
     (
         "a written file grows over a gap of zeros",
         Size::Usual,
@@ -67,6 +68,10 @@ static REQUESTS: [Table; 13] = [
             (Ask::Read(b"/f", 3998, 10), Want::Bytes(&[0, 0, 0xbb])),
         ],
     ),
+];
+
+/// Names that come, move and go.
+static NAMES: [Table; 3] = [
     (
         "the last inode is taken",
         Size::Usual,
@@ -111,40 +116,46 @@ static REQUESTS: [Table; 13] = [
             (Ask::Free, Want::Number(252)),
         ],
     ),
-    (
-        "refusals come in their order",
-        Size::Usual,
-        &[
-            (Ask::Mkdir(b"/"), Want::Refused(3)),
-            (Ask::Create(b"/"), Want::Refused(3)),
-            (Ask::Mkdir(b"/d"), Want::Number(2)),
-            (Ask::Create(b"/file"), Want::Number(3)),
-            (Ask::Create(b"/d"), Want::Refused(3)),
-            (Ask::Create(b"/x/y"), Want::Refused(2)),
-            (Ask::Create(b"/file/y"), Want::Refused(4)),
-            (Ask::Unlink(b"/"), Want::Refused(9)),
-            (Ask::Unlink(b"/d"), Want::Refused(5)),
-            (Ask::Unlink(b"/none"), Want::Refused(2)),
-            (Ask::Unlink(b"/file/none"), Want::Refused(4)),
-            (Ask::Rmdir(b"/"), Want::Refused(9)),
-            (Ask::Rmdir(b"/file"), Want::Refused(4)),
-            (Ask::Rmdir(b"/none"), Want::Refused(2)),
-            (Ask::Rename(b"/", b"/"), Want::Refused(9)),
-            (Ask::Rename(b"/missing", b"/"), Want::Refused(2)),
-            (Ask::Rename(b"/file", b"/"), Want::Refused(9)),
-            (Ask::Rename(b"/d", b"/d/missing/x"), Want::Refused(2)),
-            (Ask::Rename(b"/file", b"/file/x"), Want::Refused(4)),
-            (Ask::Rename(b"/d", b"/d/e"), Want::Refused(21)),
-            (Ask::Rename(b"/d", b"/file"), Want::Refused(3)),
-            (Ask::Rename(b"/file", b"/d"), Want::Refused(3)),
-            (Ask::Rename(b"/d", b"/dd"), Want::Done),
-            (Ask::Write(b"/", 0, b"a"), Want::Refused(5)),
-            (Ask::Truncate(b"/dd", 0), Want::Refused(5)),
-            (Ask::Read(b"/none", 0, 1), Want::Refused(2)),
-            (Ask::List(b"/file"), Want::Refused(4)),
-            (Ask::List(b"/none"), Want::Refused(2)),
-        ],
-    ),
+];
+
+/// What is refused, and in which order.
+static REFUSALS: [Table; 1] = [(
+    "refusals come in their order",
+    Size::Usual,
+    &[
+        (Ask::Mkdir(b"/"), Want::Refused(3)),
+        (Ask::Create(b"/"), Want::Refused(3)),
+        (Ask::Mkdir(b"/d"), Want::Number(2)),
+        (Ask::Create(b"/file"), Want::Number(3)),
+        (Ask::Create(b"/d"), Want::Refused(3)),
+        (Ask::Create(b"/x/y"), Want::Refused(2)),
+        (Ask::Create(b"/file/y"), Want::Refused(4)),
+        (Ask::Unlink(b"/"), Want::Refused(9)),
+        (Ask::Unlink(b"/d"), Want::Refused(5)),
+        (Ask::Unlink(b"/none"), Want::Refused(2)),
+        (Ask::Unlink(b"/file/none"), Want::Refused(4)),
+        (Ask::Rmdir(b"/"), Want::Refused(9)),
+        (Ask::Rmdir(b"/file"), Want::Refused(4)),
+        (Ask::Rmdir(b"/none"), Want::Refused(2)),
+        (Ask::Rename(b"/", b"/"), Want::Refused(9)),
+        (Ask::Rename(b"/missing", b"/"), Want::Refused(2)),
+        (Ask::Rename(b"/file", b"/"), Want::Refused(9)),
+        (Ask::Rename(b"/d", b"/d/missing/x"), Want::Refused(2)),
+        (Ask::Rename(b"/file", b"/file/x"), Want::Refused(4)),
+        (Ask::Rename(b"/d", b"/d/e"), Want::Refused(21)),
+        (Ask::Rename(b"/d", b"/file"), Want::Refused(3)),
+        (Ask::Rename(b"/file", b"/d"), Want::Refused(3)),
+        (Ask::Rename(b"/d", b"/dd"), Want::Done),
+        (Ask::Write(b"/", 0, b"a"), Want::Refused(5)),
+        (Ask::Truncate(b"/dd", 0), Want::Refused(5)),
+        (Ask::Read(b"/none", 0, 1), Want::Refused(2)),
+        (Ask::List(b"/file"), Want::Refused(4)),
+        (Ask::List(b"/none"), Want::Refused(2)),
+    ],
+)];
+
+/// Directories that are larger than a page.
+static LARGE: [Table; 2] = [
     (
         "a directory grows and shrinks",
         Size::ManyNodes,
@@ -195,41 +206,47 @@ static REQUESTS: [Table; 13] = [
             (Ask::Create(b"/last"), Want::Number(5)),
         ],
     ),
-    (
-        "a path leads elsewhere once a name changed",
-        Size::Usual,
-        &[
-            (Ask::Mkdir(b"/a"), Want::Number(2)),
-            (Ask::Create(b"/a/f"), Want::Number(3)),
-            (Ask::Write(b"/a/f", 0, b"one"), Want::Number(3)),
-            (Ask::Mkdir(b"/b"), Want::Number(4)),
-            (Ask::Create(b"/b/f"), Want::Number(5)),
-            (Ask::Read(b"/a/f", 0, 9), Want::Bytes(b"one")),
-            (Ask::Read(b"/b/f", 0, 9), Want::Bytes(b"")),
-            (Ask::Read(b"/a/f", 0, 9), Want::Bytes(b"one")),
-            (Ask::Rename(b"/a/f", b"/a/g"), Want::Done),
-            (Ask::Read(b"/a/f", 0, 9), Want::Refused(2)),
-            (Ask::Read(b"/a/g", 0, 9), Want::Bytes(b"one")),
-            (Ask::Rename(b"/b/f", b"/a/g"), Want::Done),
-            (Ask::Stat(b"/a/g"), Want::Stat(5, 2, 0)),
-            (Ask::Unlink(b"/a/g"), Want::Done),
-            (Ask::Stat(b"/a/g"), Want::Refused(2)),
-            (Ask::Create(b"/a/g"), Want::Number(3)),
-            (Ask::Stat(b"/a/g"), Want::Stat(3, 2, 0)),
-            (Ask::Rename(b"/a", b"/c"), Want::Done),
-            (Ask::Stat(b"/a/g"), Want::Refused(2)),
-            (Ask::Stat(b"/c/g"), Want::Stat(3, 2, 0)),
-            (Ask::Write(b"/c/g", 10_000, b"a"), Want::Number(1)),
-            (Ask::Truncate(b"/c/g", 9_000), Want::Done),
-            (Ask::Stat(b"/c/g"), Want::Stat(3, 2, 9_000)),
-            (Ask::List(b"/b"), Want::Names(&[])),
-            (Ask::Rmdir(b"/b"), Want::Done),
-            (Ask::List(b"/b"), Want::Refused(2)),
-            (Ask::Region(b"/b", 1, 1), Want::Number(4)),
-            (Ask::RegionOf(b"/b"), Want::Number(4)),
-            (Ask::List(b"/b"), Want::Refused(4)),
-        ],
-    ),
+];
+
+/// Paths that lead elsewhere once a name changed.
+static PATHS: [Table; 1] = [(
+    "a path leads elsewhere once a name changed",
+    Size::Usual,
+    &[
+        (Ask::Mkdir(b"/a"), Want::Number(2)),
+        (Ask::Create(b"/a/f"), Want::Number(3)),
+        (Ask::Write(b"/a/f", 0, b"one"), Want::Number(3)),
+        (Ask::Mkdir(b"/b"), Want::Number(4)),
+        (Ask::Create(b"/b/f"), Want::Number(5)),
+        (Ask::Read(b"/a/f", 0, 9), Want::Bytes(b"one")),
+        (Ask::Read(b"/b/f", 0, 9), Want::Bytes(b"")),
+        (Ask::Read(b"/a/f", 0, 9), Want::Bytes(b"one")),
+        (Ask::Rename(b"/a/f", b"/a/g"), Want::Done),
+        (Ask::Read(b"/a/f", 0, 9), Want::Refused(2)),
+        (Ask::Read(b"/a/g", 0, 9), Want::Bytes(b"one")),
+        (Ask::Rename(b"/b/f", b"/a/g"), Want::Done),
+        (Ask::Stat(b"/a/g"), Want::Stat(5, 2, 0)),
+        (Ask::Unlink(b"/a/g"), Want::Done),
+        (Ask::Stat(b"/a/g"), Want::Refused(2)),
+        (Ask::Create(b"/a/g"), Want::Number(3)),
+        (Ask::Stat(b"/a/g"), Want::Stat(3, 2, 0)),
+        (Ask::Rename(b"/a", b"/c"), Want::Done),
+        (Ask::Stat(b"/a/g"), Want::Refused(2)),
+        (Ask::Stat(b"/c/g"), Want::Stat(3, 2, 0)),
+        (Ask::Write(b"/c/g", 10_000, b"a"), Want::Number(1)),
+        (Ask::Truncate(b"/c/g", 9_000), Want::Done),
+        (Ask::Stat(b"/c/g"), Want::Stat(3, 2, 9_000)),
+        (Ask::List(b"/b"), Want::Names(&[])),
+        (Ask::Rmdir(b"/b"), Want::Done),
+        (Ask::List(b"/b"), Want::Refused(2)),
+        (Ask::Region(b"/b", 1, 1), Want::Number(4)),
+        (Ask::RegionOf(b"/b"), Want::Number(4)),
+        (Ask::List(b"/b"), Want::Refused(4)),
+    ],
+)];
+
+/// Paths as long as one that is held may be, and a volume that is full.
+static EDGES: [Table; 2] = [
     (
         "paths of 64 bytes and more",
         Size::Usual,
@@ -260,8 +277,47 @@ static REQUESTS: [Table; 13] = [
     ),
 ];
 
+fn data() -> &'static [Table] {
+    &DATA
+}
+
+fn names() -> &'static [Table] {
+    &NAMES
+}
+
+fn refusals() -> &'static [Table] {
+    &REFUSALS
+}
+
+fn large() -> &'static [Table] {
+    &LARGE
+}
+
+fn paths() -> &'static [Table] {
+    &PATHS
+}
+
+fn edges() -> &'static [Table] {
+    &EDGES
+}
+
+fn regions() -> &'static [Table] {
+    &REGIONS
+}
+
 #[test]
 fn requests_answer_as_their_rows_say(rt: HostRuntime) {
-    on_each_fresh(&rt, rt.alloc(), &REQUESTS);
-    on_each_fresh(&rt, rt.alloc(), &REGIONS);
+    // A function for each static: what reading a body takes grows with the square of what stands in its statics.
+    let parts = [
+        data(),
+        names(),
+        refusals(),
+        large(),
+        paths(),
+        edges(),
+        regions(),
+    ];
+    for part in 0..parts.len() {
+        on_each_fresh(&rt, rt.alloc(), parts[part]);
+    }
 }
