@@ -1,17 +1,17 @@
 -- What the guard's steps are for the board as a machine.
-use Rattle.std.proofs.Common.{◌≡◌, ℕ, ◌+◌, ◌-◌, ◌*◌, ◌/◌, ◌<◌, ◌≤◌, true, false, ◌⊎◌, List, drop, slice_index, slice_set, Option, Some, None, refl, le_refl, sym, ◌∙◌, ap, subst, inl, inr, arith, get_or-set_other, get_or-set_same, is_some}
+use Rattle.std.proofs.Common.{◌≡◌, ◌≢◌, ℕ, ◌+◌, ◌-◌, ◌*◌, ◌/◌, ◌<◌, ◌≤◌, true, false, ◌⊎◌, List, length, drop, slice_index, slice_set, Option, Some, None, refl, le_refl, sym, ◌∙◌, ap, subst, inl, inr, arith, get_or-set_other, get_or-set_same, is_some}
 use Rattle.std.specs.Option.{option_map}
 use Rattle.std.proofs.lemmas.List.{length-set}
 use Rattle.rio_base.specs.Disks.{raised}
-use Rattle.rio_base.specs.Machine.{Advances, StepEnds, Steps}
+use Rattle.rio_base.specs.Machine.{Advances, Falls, StepEnds, Steps}
 use Rattle.rio_base.proofs.MachineRules.{advances_stop}
 use Rattle.rio_base.specs.Rules.{none_some, true_false}
 use Rattle.rio_base.specs.declared.places.WordAt.{WordAt}
 use Rattle.rio_base.specs.declared.wild.Wild.TheVariants.{Trapped}
 use Rattle.board.specs.declared.guard.Armed.{Armed}
 use Rattle.board.specs.declared.guard.Guard.{Guard}
-use Rattle.board.specs.Boards.{protected_count, running_of, scratch_of}
-use Rattle.board.proofs.Places.{drop_set}
+use Rattle.board.specs.Boards.{protected_count, protected_of, running_of, scratch_of}
+use Rattle.board.proofs.Places.{drop_set, protected_same}
 use Rattle.board.proofs.StepRuns.{clear_one, makes_one, runs_on}
 use Rattle.board.specs.Guards.{FallsBy, FallsWithin, Halted, IsClear, IsDue, IsOver, Lands, Makes, MakesSteps, Proceeds, Traps, armed_place, counted, later, left_of, page_of, value_of}
 
@@ -250,3 +250,96 @@ still_running size old new h = by_fall h.between.1
 
 pub made_ends : (words : List ℕ) (pages size : ℕ) (old new : Guard) (stop : Type 0) → (stop → ⊥) → size ≡ protected_count words pages → ((p : ℕ) → page_of old ≡ Some p → 512 * p + 512 ≤ protected_count words pages) → Proceeds size None old new → StepEnds (running_of words pages old) (running_of words pages new) stop
 made_ends words pages size old new stop none same within h = record { steps = begun_ends words pages size old new same within h; told = λ s. absurd (none s); runs = λ n. still_running size old new h }
+
+-- ---- what a step leaves as it was, and what it lets fall
+
+halted_open : (size : ℕ) (old new : Guard) → Halted size old new → page_of new ≡ page_of old
+halted_open size old new h = from h.by
+  where
+    from : (IsOver old × (new ≡ record old { stopped = true })) ⊎ ((IsOver old → ⊥) × Traps size old new) → page_of new ≡ page_of old
+    from (inl o) = ap page_of o.1
+    from (inr t) = ap page_of t.1.3
+
+over_falls : (words : List ℕ) (pages : ℕ) (old : Guard) → Falls (page_of old) (running_of words pages old) (running_of words pages (record old { stopped = true }))
+over_falls words pages old = record { fell = λ at e none. absurd (none_some at (armed_place old) none e); closed = λ at runs other now. absurd (other now) }
+
+trap_falls : (words : List ℕ) (pages size : ℕ) (old : Guard) (a : Armed) → IsDue old a → Lands old size a.at.0 Trapped → Falls (page_of old) (running_of words pages old) (running_of words pages (record old { stopped = true; armed = None; trapped = Some a.at }))
+trap_falls words pages size old a due lands = record {
+  fell = λ at e none. inr (inr (refl, ap Some (armed_at old a at due e)));
+  closed = λ at runs other now. subst (λ n. page_of old ≢ Some (n / 512)) (some_inj a.at.0 at now) lands.1;
+}
+
+halted_falls : (words : List ℕ) (pages size : ℕ) (old new : Guard) → Halted size old new → Falls (page_of old) (running_of words pages old) (running_of words pages new)
+halted_falls words pages size old new h = from h.by
+  where
+    from : (IsOver old × (new ≡ record old { stopped = true })) ⊎ ((IsOver old → ⊥) × Traps size old new) → Falls (page_of old) (running_of words pages old) (running_of words pages new)
+    from (inl o) = subst (λ (g : Guard). Falls (page_of old) (running_of words pages old) (running_of words pages g)) (sym o.1) (over_falls words pages old)
+    from (inr t) = subst (λ (g : Guard). Falls (page_of old) (running_of words pages old) (running_of words pages g)) (sym t.1.3) (trap_falls words pages size old t.1.0 t.1.1 t.1.2)
+
+-- a step that was not made
+pub record NotBegun (words : List ℕ) (pages : ℕ) (old new : Guard) (stop : Type 0) : Type 0 where
+  pub open_page : page_of new ≡ page_of old
+  pub falls : Falls (page_of old) (running_of words pages old) (running_of words pages new)
+  pub stops : Halted (protected_count words pages) old new
+  pub ends : StepEnds (running_of words pages old) (running_of words pages new) stop
+
+pub not_begun : (words : List ℕ) (pages size : ℕ) (old new : Guard) (stop : Type 0) → stop → size ≡ protected_count words pages → Halted size old new → NotBegun words pages old new stop
+not_begun words pages size old new stop is same h = record {
+  open_page = halted_open size old new h;
+  falls = halted_falls words pages size old new h;
+  stops = subst (λ (s : ℕ). Halted s old new) same h;
+  ends = halted_ends words pages size old new stop is same h;
+}
+
+-- a step that was made: `now` are the words after it
+pub record Begun (words now : List ℕ) (pages : ℕ) (old new : Guard) (stop : Type 0) : Type 0 where
+  pub protected : protected_of now pages ≡ protected_of words pages
+  pub count : length now ≡ length words
+  pub open_page : page_of new ≡ page_of old
+  pub running : old.stopped ≡ false
+  pub falls : Falls (page_of old) (running_of words pages old) (running_of now pages new)
+  pub made : Makes (protected_count words pages) (scratch_of words pages) old (scratch_of now pages) new
+  pub ends : StepEnds (running_of words pages old) (running_of now pages new) stop
+
+same_trapped : (words now : List ℕ) (pages then : ℕ) (old new : Guard) (at : ℕ) → new.trapped ≡ old.trapped → (running_of words pages old).trapped ≢ Some at → (running_of now then new).trapped ≡ Some at → ⊥
+same_trapped words now pages then old new at same other trapped = other (sym (ap (option_map {T = WordAt} (λ b. b.0)) same) ∙ trapped)
+
+pub begun_none : (words : List ℕ) (pages size : ℕ) (old new : Guard) (stop : Type 0) → (stop → ⊥) → size ≡ protected_count words pages → ((p : ℕ) → page_of old ≡ Some p → 512 * p + 512 ≤ protected_count words pages) → Proceeds size None old new → Begun words words pages old new stop
+begun_none words pages size old new stop none same within h = record {
+  protected = refl;
+  count = refl;
+  open_page = opened h.between.1;
+  running = runs_on old h.goes_on;
+  falls = record { fell = λ at e gone. fell at e gone h.between.1; closed = λ at runs other trapped. absurd (same_trapped words words pages pages old new at (trap h.between.1) other trapped) };
+  made = record { made = (None, subst (λ (s : ℕ). Proceeds s None old new) same h, refl) };
+  ends = made_ends words pages size old new stop none same within h;
+}
+  where
+    opened : FallsBy size None old h.between.0 → page_of new ≡ page_of old
+    opened (inl n) = ap page_of (h.between.2 ∙ ap (counted 1) n.1)
+    opened (inr s) = ap page_of (h.between.2 ∙ ap (counted 1) s.3)
+
+    trap : FallsBy size None old h.between.0 → new.trapped ≡ old.trapped
+    trap (inl n) = ap (λ (g : Guard). g.trapped) (h.between.2 ∙ ap (counted 1) n.1)
+    trap (inr s) = ap (λ (g : Guard). g.trapped) (h.between.2 ∙ ap (counted 1) s.3)
+
+    fell : (at : ℕ) → armed_place old ≡ Some at → armed_place new ≡ None → FallsBy size None old h.between.0 → (protected_count words pages ≤ at) ⊎ (page_of old ≡ Some (at / 512)) ⊎ ((new.stopped ≡ true) × ((running_of words pages new).trapped ≡ Some at))
+    fell at e gone (inl n) = absurd (none_some at (armed_place old) (sym (later_place 1 old.armed) ∙ sym (ap armed_place (h.between.2 ∙ ap (counted 1) n.1)) ∙ gone) e)
+    fell at e gone (inr s) = inr (inl (s.2 ∙ ap (λ n. Some (n / 512)) (armed_at old s.0 at s.1 e)))
+
+pub begun_scratch : (words now : List ℕ) (pages size : ℕ) (a : Armed) (old new : Guard) (stop : Type 0) → (stop → ⊥) → now ≡ slice_set words a.at.0 a.value → size ≡ protected_count words pages → Proceeds size (Some a) old new → Begun words now pages old new stop
+begun_scratch words now pages size a old new stop none e same h = subst (λ (ws : List ℕ). Begun words ws pages old new stop) (sym e) (record {
+  protected = protected_same words pages a.at.0 a.value past;
+  count = length-set words a.at.0 a.value;
+  open_page = ap page_of is;
+  running = runs_on old h.goes_on;
+  falls = record { fell = λ at is gone. inl (subst (λ n. protected_count words pages ≤ n) (armed_at old a at h.between.1.0 is) past); closed = λ at runs other trapped. absurd (same_trapped words (slice_set words a.at.0 a.value) pages pages old new at (ap (λ (g : Guard). g.trapped) is) other trapped) };
+  made = scratch_made words pages size a old new same h;
+  ends = record { steps = scratch_ends words pages size a old new same h; told = λ s. absurd (none s); runs = λ n. ap (λ (g : Guard). g.stopped) is };
+})
+  where
+    is : new ≡ counted 1 (record old { armed = None })
+    is = h.between.2 ∙ ap (counted 1) h.between.1.2
+
+    past : protected_count words pages ≤ a.at.0
+    past = subst (λ (s : ℕ). s ≤ a.at.0) same h.between.1.1
