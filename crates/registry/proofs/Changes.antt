@@ -1,11 +1,11 @@
 -- Changes of one entry, one after the other.
-use Rattle.std.specs.Prelude.{◌≡◌, ◌≢◌, ℕ, ◌+◌, ◌*◌, ◌<◌, ◌≤◌, ◌==◌, ◌⊎◌, if◌then◌else◌, Bool, true, List, length, slice_index, slice_set, refl}
+use Rattle.std.specs.Prelude.{◌≡◌, ◌≢◌, ℕ, ◌+◌, ◌*◌, ◌<◌, ◌≤◌, ◌==◌, ◌⊎◌, if◌then◌else◌, Bool, true, List, length, slice_index, slice_set, refl, Result, Ok, Err, IsErr, OnErr, OnOk}
 use Rattle.std.proofs.Common.{◌∙◌, arith, ap, sym, subst, inl, inr, eq-eqb, ne_eqb, get_or-set_same, get_or-set_other}
 use Rattle.std.proofs.lemmas.Bool.{cases_eq}
 use Rattle.rio_base.specs.Image.{entry_at, registry_pages}
 use Rattle.rio_base.specs.Machine.{Contents, Lasts, Running, StepEnds}
 use Rattle.rio_base.proofs.MachineRules.{ends_after, lasts_trans}
-use Rattle.rio_model.specs.Registry.{HasLayout, OneEntry, frames_of}
+use Rattle.rio_model.specs.Registry.{HasLayout, OneEntry, frames_of, tag_at}
 use Rattle.registry.specs.Changes.{CanChange, ChangesEntry}
 use Rattle.registry.specs.Entries.{entry_of, with_entry, with_name, with_word}
 use Rattle.registry.specs.declared.entry.Entry.{Entry}
@@ -54,7 +54,7 @@ changed k old new old_run new_run stop can rest one lasts halted ends = record {
 }
 
 -- a store of word w of entry k is a change of it
-pub changed_word : (k w v at : ℕ) (old new : Contents) (old_run new_run : Running) (stop : Type 0) → CanChange k old old_run → w < 5 → at ≡ entry_at k + w → new ≡ record old { words = slice_set old.words at v } → Lasts old new
+changed_word : (k w v at : ℕ) (old new : Contents) (old_run new_run : Running) (stop : Type 0) → CanChange k old old_run → w < 5 → at ≡ entry_at k + w → new ≡ record old { words = slice_set old.words at v } → Lasts old new
     → (old_run.stopped ≡ true → stop) → StepEnds old_run new_run stop → ChangesEntry k old new old_run new_run stop
 changed_word k w v at old new old_run new_run stop can small place stored lasts halted ends =
     changed k old new old_run new_run stop can
@@ -99,18 +99,38 @@ one_same k old new e = record {
   behind = λ i more. ap (λ (l : List ℕ). slice_index l i) e;
 }
 
--- a store that was not made, told by another answer
-pub unchanged : (k : ℕ) (old new : Contents) (old_run new_run : Running) (stop told : Type 0) → CanChange k old old_run → new ≡ old → Lasts old new → stop → told → StepEnds old_run new_run stop → ChangesEntry k old new old_run new_run told
-unchanged k old new old_run new_run stop told can same lasts is tells ends =
-    changed k old new old_run new_run told can
+-- a store that was not made
+unchanged : (k : ℕ) (old new : Contents) (old_run new_run : Running) (stop : Type 0) → CanChange k old old_run → new ≡ old → Lasts old new → stop → StepEnds old_run new_run stop → ChangesEntry k old new old_run new_run stop
+unchanged k old new old_run new_run stop can same lasts is ends =
+    changed k old new old_run new_run stop can
     (same ∙ ap (λ (l : List ℕ). record old { words = l }) (sym (ap (λ (c : Contents). c.words) same)))
     (one_same k old.words new.words (ap (λ (c : Contents). c.words) same))
-    lasts (λ e. tells) (record { steps = ends.steps; told = λ t. ends.told is; runs = λ n. absurd (n tells) })
+    lasts (λ e. is) ends
+
+-- a store that may not have been made
+pub changed_by : {T E : Type 0} (r : Result T E) (k w v at : ℕ) (old new : Contents) (old_run new_run : Running) → CanChange k old old_run → w < 5 → at ≡ entry_at k + w → OnOk r (new ≡ record old { words = slice_set old.words at v }) → OnErr r (new ≡ old) → Lasts old new
+    → (old_run.stopped ≡ true → IsErr r) → StepEnds old_run new_run (IsErr r) → ChangesEntry k old new old_run new_run (IsErr r)
+changed_by (Ok x) k w v at old new old_run new_run can small place stored same lasts halted ends = changed_word k w v at old new old_run new_run _ can small place stored lasts halted ends
+changed_by (Err e) k w v at old new old_run new_run can small place stored same lasts halted ends = unchanged k old new old_run new_run _ can same lasts refl ends
 
 -- ---- the words after a store
 
 pub word_stored : (old new : Contents) (k w v at : ℕ) → at ≡ entry_at k + w → new ≡ record old { words = slice_set old.words at v } → new ≡ record old { words = slice_set old.words (entry_at k + w) v }
 word_stored old new k w v at place stored = stored ∙ ap (λ n. record old { words = slice_set old.words n v }) place
+
+-- the same, with the word that is stored told otherwise
+pub value_stored : (old new : Contents) (at v u : ℕ) → v ≡ u → new ≡ record old { words = slice_set old.words at v } → new ≡ record old { words = slice_set old.words at u }
+value_stored old new at v u same stored = stored ∙ ap (λ n. record old { words = slice_set old.words at n }) same
+
+pub tag_stored : (old new : Contents) (k v u : ℕ) → v ≡ u → new ≡ record old { words = slice_set old.words (entry_at k + 0) v } → new ≡ record old { words = slice_set old.words (entry_at k) u }
+tag_stored old new k v u same stored = value_stored old new (entry_at k + 0) v u same stored ∙ ap (λ n. record old { words = slice_set old.words n u }) (omega arith)
+
+pub entry_put : (old new : Contents) (k : ℕ) (e f : Entry) → e ≡ f → new ≡ record old { words = with_entry old.words k e } → new ≡ record old { words = with_entry old.words k f }
+entry_put old new k e f same stored = stored ∙ ap (λ (x : Entry). record old { words = with_entry old.words k x }) same
+
+-- where the last store was not made, the tag is as it was
+pub tag_kept : (k t : ℕ) (old new : Contents) → tag_at old.words k ≡ t → new ≡ old → tag_at new.words k ≡ t
+tag_kept k t old new was same = ap (λ (c : Contents). tag_at c.words k) same ∙ was
 
 -- file, index and size of an entry, stored one after the other
 pub name_stored : (k : ℕ) (e : Entry) (a b c d : Contents) → b ≡ record a { words = slice_set a.words (entry_at k + 1) e.file } → c ≡ record b { words = slice_set b.words (entry_at k + 2) e.index } → d ≡ record c { words = slice_set c.words (entry_at k + 3) e.size } → d ≡ record a { words = with_name a.words k e }
@@ -160,3 +180,9 @@ entry_filled k e a b c d name shadow tag = tag ∙ ap (λ (x : Entry). with_word
 pub entry_read : (words : List ℕ) (k place t f i s h : ℕ) → place ≡ entry_at k → t ≡ slice_index words place → f ≡ slice_index words (place + 1) → i ≡ slice_index words (place + 2) → s ≡ slice_index words (place + 3) → h ≡ slice_index words (place + 4) → entry_by t f i s h ≡ entry_of words k
 entry_read words k place t f i s h at a b c d e = entry_equal _ _ _ _ _ _ _ _ _ _
     (a ∙ ap (slice_index words) at) (b ∙ ap (λ p. slice_index words (p + 1)) at) (c ∙ ap (λ p. slice_index words (p + 2)) at) (d ∙ ap (λ p. slice_index words (p + 3)) at) (e ∙ ap (λ p. slice_index words (p + 4)) at)
+
+pub word_told : (e x : Entry) (w v u : ℕ) → v ≡ u → x ≡ with_word e w v → x ≡ with_word e w u
+word_told e x w v u same is = is ∙ ap (with_word e w) same
+
+pub entry_told : (x e f : Entry) → e ≡ f → x ≡ e → x ≡ f
+entry_told x e f same is = is ∙ same

@@ -1,5 +1,5 @@
 -- What is so at the exits of a call: of answers that are errors, and of machines that were only read.
-use Rattle.std.specs.Prelude.{◌≡◌, ℕ, ◌<◌, ◌++◌, true, List, length, take, replicate, slice_index, zero, suc, refl, Option, Some, None, Result, Ok, Err, IfOk, IsErr, IsErrOf, OnOk}
+use Rattle.std.specs.Prelude.{◌≡◌, ℕ, ◌<◌, ◌++◌, true, List, length, take, replicate, slice_index, zero, suc, refl, Option, Some, None, Result, Ok, Err, IfOk, IsErr, IsErrOf, OnErr, OnOk}
 use Rattle.std.proofs.Common.{◌∙◌, ap, sym, subst, le_refl}
 use Rattle.std.proofs.lemmas.Bool.{eqb-true}
 use Rattle.std.proofs.lemmas.List.{take_at}
@@ -24,6 +24,10 @@ not_ok P r e = IfOk-from_err r P e
 pub ok_then : {T E : Type 0} (r : Result T E) (P Q : Type 0) → (P → Q) → OnOk r P → OnOk r Q
 ok_then (Ok x) P Q h p = h p
 ok_then (Err e) P Q h p = tt
+
+pub err_then : {T E : Type 0} (r : Result T E) (P Q : Type 0) → (P → Q) → OnErr r P → OnErr r Q
+err_then (Ok x) P Q h p = tt
+err_then (Err e) P Q h p = h p
 
 -- a failure that is handed on: what was asked of a fault, and how the call ends
 pub fault_back : {T U : Type 0} (r : Result T VolFail) (q : Result U VolFail) (e d : VolFail) → r ≡ Err e → q ≡ Err d → d ≡ e → IsErrOf q Fault → IsErrOf r Fault

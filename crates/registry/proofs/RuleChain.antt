@@ -1,7 +1,7 @@
 -- The rules as they are looked at, one after the other, and the first that fails.
-use Rattle.std.proofs.Common.{◌≡◌, ℕ, ◌≤◌, inl, inr, List, Bool, true, false, arith, ap, subst, sym, refl, ◌∙◌}
+use Rattle.std.proofs.Common.{◌≡◌, ◌≢◌, ◌⊎◌, ℕ, ◌+◌, ◌<◌, ◌≤◌, inl, inr, List, Bool, true, false, arith, ap, subst, sym, refl, ◌∙◌}
 use Rattle.std.specs.Prelude.{◌↔◌, leb, IsTrue, MatchResult, Result, Err}
-use Rattle.std.proofs.lemmas.Bool.{leb-true, leb-false}
+use Rattle.std.proofs.lemmas.Bool.{cases_eq, leb-true, leb-false}
 use Rattle.rio_base.specs.Rules.{true_false}
 use Rattle.rio_model.specs.Registry.{BlockRule, FailsRegistry, GateRule, KeepsRegistry, MetadataRule, NameRule, ShadowRule, ShadowsApart, SizeRule, TagRule, gate_of}
 use Rattle.registry.specs.declared.image_rules.BadImage.{BadImage}
@@ -13,6 +13,20 @@ broken P b is fails p = true_false (sym (is.1 p) ∙ fails)
 -- what a test that did not fail says of it
 pub kept : (P : Type 0) (b : Bool) → (IsTrue b ↔ P) → b ≡ true → P
 kept P b is holds = is.0 holds
+
+-- a rule of each entry, looked at one after the other
+pub keep_next : (P : ℕ → Type 0) (n : ℕ) → ((k : ℕ) → k < n → P k) → P n → (k : ℕ) → k < n + 1 → P k
+keep_next P n before here k less = from (cases_eq k n)
+  where
+    from : (k ≡ n) ⊎ (k ≢ n) → P k
+    from (inl e) = subst P (sym e) here
+    from (inr ne) = before k (omega (arith, less, ne))
+
+pub all_kept : (P : ℕ → Type 0) (n m : ℕ) → m ≤ n → ((k : ℕ) → k < n → P k) → IsTrue true ↔ ((k : ℕ) → k < m → P k)
+all_kept P n m most h = (λ holds k less. h k (omega (arith, less, most)), λ all. refl)
+
+pub one_breaks : (P : ℕ → Type 0) (k m : ℕ) → k < m → (P k → ⊥) → IsTrue false ↔ ((k : ℕ) → k < m → P k)
+one_breaks P k m less breaks = (λ holds. absurd (true_false (sym holds)), λ all. absurd (breaks (all k less)))
 
 pub gate_kept : (words : List ℕ) (n : ℕ) → n ≡ gate_of words → leb n 1 ≡ true → GateRule words
 gate_kept words n is holds = subst (λ (m : ℕ). m ≤ 1) is (leb-true n 1 holds)

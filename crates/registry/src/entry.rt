@@ -37,7 +37,6 @@ pub(crate) fn place_of(k: u32) -> u32
 }
 
 /// Entry `k`, `k` below the number of frames.
-#[tactic(auto, using(crate::proofs::Places::entry_within))]
 pub fn read_entry<M: Machine>(m: &M, k: u32) -> Entry
     requires layout { HasLayout (M.contents m.now).words (M.run m.now).scratch }
     requires entry { k < frames_of (M.contents m.now).words }

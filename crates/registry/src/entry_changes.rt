@@ -12,7 +12,6 @@ use page_protect::put_word;
 use rio_base::{Block, Machine, PAGE_WORDS, Page, PageName, Stopped};
 
 /// Stores word `w` of entry `k`, `w` below 5. `Stopped` changes nothing.
-#[tactic(auto, using(crate::proofs::Places::entry_within, crate::proofs::Places::one_word, crate::proofs::Changes::entry_with))]
 fn put_entry_word<M: Machine>(m: &mut M, k: u32, w: u16, v: u64) -> Result<(), Stopped>
     requires can { CanChange k (M.contents m.old) (M.run m.old) }
     requires within { w < 5 }
@@ -23,8 +22,7 @@ fn put_entry_word<M: Machine>(m: &mut M, k: u32, w: u16, v: u64) -> Result<(), S
 {
     let place = place_of(k) + u32::from(w);
     let page = Page(place / PAGE_WORDS);
-    put_word(m, page, (place % PAGE_WORDS) as u16, v)?;
-    Ok(())
+    put_word(m, page, (place % PAGE_WORDS) as u16, v)
 }
 
 /// Marks entry `k` dirty: its page may differ from the disk's block from now on. `Stopped` changes nothing.
@@ -37,8 +35,7 @@ pub fn set_dirty<M: Machine>(m: &mut M, k: u32) -> Result<(), Stopped>
     ensures changes { ChangesEntry k (M.contents m.old) (M.contents m.new) (M.run m.old) (M.run m.new) (IsErr result) }
 {
     let tag = load_tag(m, k);
-    put_entry_word(m, k, 0, tag.dirtied().0)?;
-    Ok(())
+    put_entry_word(m, k, 0, tag.dirtied().0)
 }
 
 /// Marks entry `k` clean: its page is the disk's block. `Stopped` changes nothing.
@@ -64,8 +61,7 @@ pub fn set_size<M: Machine>(m: &mut M, k: u32, size: u32) -> Result<(), Stopped>
     ensures same { OnErr result (M.contents m.new ≡ M.contents m.old) }
     ensures changes { ChangesEntry k (M.contents m.old) (M.contents m.new) (M.run m.old) (M.run m.new) (IsErr result) }
 {
-    put_entry_word(m, k, 3, u64::from(size))?;
-    Ok(())
+    put_entry_word(m, k, 3, u64::from(size))
 }
 
 /// Gives entry `k` a shadow frame, or none by 0. `Stopped` changes nothing.
@@ -77,8 +73,7 @@ pub fn set_shadow<M: Machine>(m: &mut M, k: u32, shadow: u32) -> Result<(), Stop
     ensures same { OnErr result (M.contents m.new ≡ M.contents m.old) }
     ensures changes { ChangesEntry k (M.contents m.old) (M.contents m.new) (M.run m.old) (M.run m.new) (IsErr result) }
 {
-    put_entry_word(m, k, 4, u64::from(shadow))?;
-    Ok(())
+    put_entry_word(m, k, 4, u64::from(shadow))
 }
 
 /// Makes entry `k` invalid: it has no block any more. `Stopped` changes nothing.
@@ -89,14 +84,12 @@ pub fn clear<M: Machine>(m: &mut M, k: u32) -> Result<(), Stopped>
     ensures same { OnErr result (M.contents m.new ≡ M.contents m.old) }
     ensures changes { ChangesEntry k (M.contents m.old) (M.contents m.new) (M.run m.old) (M.run m.new) (IsErr result) }
 {
-    put_entry_word(m, k, 0, 0)?;
-    Ok(())
+    put_entry_word(m, k, 0, 0)
 }
 
 /// Makes entry `k`, which is not valid, the entry of block `b`, which has none. `name` is that of a page of a file or
 /// region, and `None` for metadata. The tag is stored last: after `Stopped` the entry has the tag that it had, and so
 /// is not valid.
-#[tactic(auto, using(crate::proofs::Places::entry_within))]
 pub fn install<M: Machine>(
     m: &mut M,
     k: u32,
@@ -112,8 +105,7 @@ pub fn install<M: Machine>(
     ensures begun { OnErr result (tag_at (M.contents m.new).words k ≡ tag_at (M.contents m.old).words k) }
     ensures changes { ChangesEntry k (M.contents m.old) (M.contents m.new) (M.run m.old) (M.run m.new) (IsErr result) }
 {
-    put_entry(m, k, &entry_for(b, name, dirty))?;
-    Ok(())
+    put_entry(m, k, &entry_for(b, name, dirty))
 }
 
 /// The entry of a block.
@@ -139,7 +131,6 @@ fn entry_for(b: Block, name: Option<PageName>, dirty: bool) -> Entry
 }
 
 /// Stores the words of an entry that say what its page is of.
-#[tactic(auto, using(crate::proofs::Changes::changes_then, crate::proofs::Changes::can_still))]
 fn put_name<M: Machine>(m: &mut M, k: u32, entry: &Entry) -> Result<(), Stopped>
     requires can { CanChange k (M.contents m.old) (M.run m.old) }
     ensures stored { OnOk result (M.contents m.new ≡ record (M.contents m.old) { words = with_name (M.contents m.old).words k entry.now }) }
@@ -149,12 +140,10 @@ fn put_name<M: Machine>(m: &mut M, k: u32, entry: &Entry) -> Result<(), Stopped>
 {
     put_entry_word(m, k, 1, entry.file)?;
     put_entry_word(m, k, 2, entry.index)?;
-    put_entry_word(m, k, 3, entry.size)?;
-    Ok(())
+    put_entry_word(m, k, 3, entry.size)
 }
 
 /// Stores the words of an entry, the tag last.
-#[tactic(auto, using(crate::proofs::Changes::changes_then, crate::proofs::Changes::can_still))]
 fn put_entry<M: Machine>(m: &mut M, k: u32, entry: &Entry) -> Result<(), Stopped>
     requires can { CanChange k (M.contents m.old) (M.run m.old) }
     ensures stored { OnOk result (M.contents m.new ≡ record (M.contents m.old) { words = with_entry (M.contents m.old).words k entry.now }) }
@@ -164,6 +153,5 @@ fn put_entry<M: Machine>(m: &mut M, k: u32, entry: &Entry) -> Result<(), Stopped
 {
     put_name(m, k, entry)?;
     put_entry_word(m, k, 4, entry.shadow)?;
-    put_entry_word(m, k, 0, entry.tag)?;
-    Ok(())
+    put_entry_word(m, k, 0, entry.tag)
 }

@@ -58,7 +58,6 @@ pub fn shadow_page_of<M: Machine>(m: &M, s: u32) -> Page
 
 /// The page that counts for entry `k`, which is valid: its shadow page, where the gate is 1 and it has one, else its frame.
 /// No valid entry may have a shadow past the 16.
-#[tactic(auto, using(crate::proofs::PagePlaces::counts_frame, crate::proofs::PagePlaces::counts_shadow, crate::proofs::PagePlaces::shadow_small))]
 pub fn counted_page_of<M: Machine>(m: &M, k: u32) -> Page
     requires layout { HasLayout (M.contents m.now).words (M.run m.now).scratch }
     requires shadows { ShadowRule (M.contents m.now).words }

@@ -1,11 +1,11 @@
 use Rattle.std.proofs.Common.{◌∙◌, ap, arith, refl, sym}
+use Rattle.rio_base.proofs.Exits.{on_err}
 use Rattle.rio_base.specs.Machine.{Contents}
 use Rattle.rio_base.specs.Rules.{true_false}
 use Rattle.rio_model.specs.Registry.{tag_at}
 use Rattle.registry.specs.declared.entry.Entry.{Entry}
-use Rattle.registry.proofs.Changes.{can_still, changes_then, changes_told, entry_named, name_stored}
-use Rattle.rio_base.proofs.Exits.{on_err}
-use Rattle.registry.proofs.Exits.{not_ok}
+use Rattle.registry.proofs.Changes.{can_still, changes_then, changes_told, entry_named, name_stored, tag_kept}
+use Rattle.registry.proofs.Exits.{err_then, not_ok, ok_then}
 use Rattle.registry.proofs.entry_changes.put_name.Goals as goal
 
 pub put_entry_word-requires-clause-can : goal.put_entry_word-requires-clause-can
@@ -50,26 +50,14 @@ returns-in_err-put_entry_word-2-clause-begun g c = on_err c.from_residual-in_err
 pub returns-in_err-put_entry_word-2-clause-changes : goal.returns-in_err-put_entry_word-2-clause-changes
 returns-in_err-put_entry_word-2-clause-changes g c = changes_then _ _ _ _ _ _ _ _ _ (λ e. true_false (sym e)) c.in_ok-put_entry_word.ensures.changes (changes_told _ _ _ _ _ _ _ refl c.from_residual-in_err-put_entry_word-2.ensures.0 c.in_err-put_entry_word-2.ensures.changes)
 
-pub returns-in_err-put_entry_word-3-clause-stored : goal.returns-in_err-put_entry_word-3-clause-stored
-returns-in_err-put_entry_word-3-clause-stored g c = not_ok _ c.from_residual-in_err-put_entry_word-3.result c.from_residual-in_err-put_entry_word-3.ensures.0
-
-pub returns-in_err-put_entry_word-3-clause-entry : goal.returns-in_err-put_entry_word-3-clause-entry
-returns-in_err-put_entry_word-3-clause-entry g c = not_ok _ c.from_residual-in_err-put_entry_word-3.result c.from_residual-in_err-put_entry_word-3.ensures.0
-
-pub returns-in_err-put_entry_word-3-clause-begun : goal.returns-in_err-put_entry_word-3-clause-begun
-returns-in_err-put_entry_word-3-clause-begun g c = on_err c.from_residual-in_err-put_entry_word-3.result _ (ap (λ (x : Contents). tag_at x.words c.args.k) c.in_err-put_entry_word-3.ensures.same ∙ ap (λ (x : Entry). x.tag) c.in_ok-put_entry_word-2.ensures.entry ∙ ap (λ (x : Entry). x.tag) c.in_ok-put_entry_word.ensures.entry)
-
-pub returns-in_err-put_entry_word-3-clause-changes : goal.returns-in_err-put_entry_word-3-clause-changes
-returns-in_err-put_entry_word-3-clause-changes g c = changes_then _ _ _ _ _ _ _ _ _ (λ e. true_false (sym e)) (changes_then _ _ _ _ _ _ _ _ _ (λ e. true_false (sym e)) c.in_ok-put_entry_word.ensures.changes c.in_ok-put_entry_word-2.ensures.changes) (changes_told _ _ _ _ _ _ _ refl c.from_residual-in_err-put_entry_word-3.ensures.0 c.in_err-put_entry_word-3.ensures.changes)
-
 pub returns-clause-stored : goal.returns-clause-stored
-returns-clause-stored g c = name_stored c.args.k c.args.entry.now (g.M.Machine.contents c.args.m.now) (g.M.Machine.contents c.put_entry_word.new.m) (g.M.Machine.contents c.put_entry_word-2.new.m) (g.M.Machine.contents c.put_entry_word-3.new.m) c.in_ok-put_entry_word.ensures.stored c.in_ok-put_entry_word-2.ensures.stored c.in_ok-put_entry_word-3.ensures.stored
+returns-clause-stored g c = ok_then c.put_entry_word-3.result _ _ (name_stored c.args.k c.args.entry.now (g.M.Machine.contents c.args.m.now) (g.M.Machine.contents c.put_entry_word.new.m) (g.M.Machine.contents c.put_entry_word-2.new.m) (g.M.Machine.contents c.put_entry_word-3.new.m) c.in_ok-put_entry_word.ensures.stored c.in_ok-put_entry_word-2.ensures.stored) c.put_entry_word-3.ensures.stored
 
 pub returns-clause-entry : goal.returns-clause-entry
-returns-clause-entry g c = entry_named c.args.k c.args.entry.now (g.M.Machine.contents c.args.m.now).words (g.M.Machine.contents c.put_entry_word.new.m).words (g.M.Machine.contents c.put_entry_word-2.new.m).words (g.M.Machine.contents c.put_entry_word-3.new.m).words c.in_ok-put_entry_word.ensures.entry c.in_ok-put_entry_word-2.ensures.entry c.in_ok-put_entry_word-3.ensures.entry
+returns-clause-entry g c = ok_then c.put_entry_word-3.result _ _ (entry_named c.args.k c.args.entry.now (g.M.Machine.contents c.args.m.now).words (g.M.Machine.contents c.put_entry_word.new.m).words (g.M.Machine.contents c.put_entry_word-2.new.m).words (g.M.Machine.contents c.put_entry_word-3.new.m).words c.in_ok-put_entry_word.ensures.entry c.in_ok-put_entry_word-2.ensures.entry) c.put_entry_word-3.ensures.entry
 
 pub returns-clause-begun : goal.returns-clause-begun
-returns-clause-begun g c = tt
+returns-clause-begun g c = err_then c.put_entry_word-3.result _ _ (tag_kept c.args.k _ (g.M.Machine.contents c.put_entry_word-2.new.m) (g.M.Machine.contents c.put_entry_word-3.new.m) (ap (λ (x : Entry). x.tag) c.in_ok-put_entry_word-2.ensures.entry ∙ ap (λ (x : Entry). x.tag) c.in_ok-put_entry_word.ensures.entry)) c.put_entry_word-3.ensures.same
 
 pub returns-clause-changes : goal.returns-clause-changes
-returns-clause-changes g c = changes_then _ _ _ _ _ _ _ _ _ (λ e. true_false (sym e)) (changes_then _ _ _ _ _ _ _ _ _ (λ e. true_false (sym e)) c.in_ok-put_entry_word.ensures.changes c.in_ok-put_entry_word-2.ensures.changes) c.in_ok-put_entry_word-3.ensures.changes
+returns-clause-changes g c = changes_then _ _ _ _ _ _ _ _ _ (λ e. true_false (sym e)) (changes_then _ _ _ _ _ _ _ _ _ (λ e. true_false (sym e)) c.in_ok-put_entry_word.ensures.changes c.in_ok-put_entry_word-2.ensures.changes) c.put_entry_word-3.ensures.changes
