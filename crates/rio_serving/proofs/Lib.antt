@@ -1,3 +1,4 @@
+pub mod Leaving
 pub mod Running
 pub mod Turns
 pub mod Waits
