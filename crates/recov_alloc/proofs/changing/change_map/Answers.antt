@@ -163,3 +163,9 @@ returns-clause-stays g c = stays_trans g.met.R.RegionWords.rest_trans c.save_map
 
 pub returns-clause-ends : goal.returns-clause-ends
 returns-clause-ends g c = ends_did _ _ tt (le_trans c.save_map.ensures.ends.later c.mark_block.ensures.ends.later) (c.in_ok-mark_block.ensures.ends.cause ∙ (c.in_ok-save_map.ensures.ends.runs (no_err tt _)))
+
+pub change_page-requires-clause-page : goal.change_page-requires-clause-page
+change_page-requires-clause-page g c = c.if-at-units-le64.true
+
+pub mark_block-requires-clause-units : goal.mark_block-requires-clause-units
+mark_block-requires-clause-units g c = c.requires.units

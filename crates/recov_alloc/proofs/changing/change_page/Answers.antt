@@ -188,3 +188,9 @@ returns-clause-stays g c = stays_trans g.met.R.RegionWords.rest_trans c.read_pla
 pub returns-clause-ends : goal.returns-clause-ends
 returns-clause-ends g c =
     ends_did _ _ tt (le_trans c.read_places_with.ensures.ends.later (le_trans c.set_pair_with.ensures.ends.later c.mark_words.ensures.ends.later)) (c.in_ok-mark_words.ensures.ends.cause ∙ (c.in_ok-set_pair_with.ensures.ends.runs (no_err tt _)) ∙ c.in_ok-read_places_with.ensures.ends.cause)
+
+pub mark_words-requires-clause-page : goal.mark_words-requires-clause-page
+mark_words-requires-clause-page g c = c.requires.page
+
+pub mark_words-requires-clause-units : goal.mark_words-requires-clause-units
+mark_words-requires-clause-units g c = c.requires.units

@@ -1,4 +1,4 @@
-use Rattle.std.proofs.Common.{arith, ◌∙◌, ◌≡◌, ◌*◌, ◌+◌, ◌/◌, sym, subst, le_trans, length}
+use Rattle.std.proofs.Common.{arith, ◌∙◌, ◌≡◌, ◌*◌, ◌+◌, ◌/◌, sym, subst, le_refl, le_trans, length, refl}
 use Rattle.std.proofs.lemmas.Result.{err_from_is_err_and}
 use Rattle.rio_base.specs.Regions.{AreWords}
 use Rattle.rio_base.proofs.BlockRules.{ends_later}
@@ -6,6 +6,7 @@ use Rattle.rio_base.proofs.RegionRules.{stays_trans}
 use Rattle.rio_model.specs.Undo.{IsRegion, live}
 use Rattle.recov_alloc.proofs.Outcomes.{ends_err}
 use Rattle.recov_alloc.proofs.Reaches.{block_by, stops_at, within_more}
+use Rattle.undo_list.proofs.Outcomes.{stays_none}
 use Rattle.recov_alloc.proofs.extents.units_from.Goals as goal
 
 pub returns-in_err-read_places-clause-stays : goal.returns-in_err-read_places-clause-stays
@@ -79,3 +80,14 @@ returns-clause-stays g c = c.loop-next.invariant.stays
 
 pub returns-clause-ends : goal.returns-clause-ends
 returns-clause-ends g c = record { later = c.loop-next.invariant.later; stays = λ stopped. c.loop-next.invariant.running ∙ stopped; cause = c.loop-next.invariant.running }
+
+pub loop-next-init : goal.loop-next-init
+loop-next-init g c = record { words = refl; region = c.requires.region; low = c.requires.low; most = c.requires.most; inside = c.requires.inside; stays = stays_none c.args.r.now (g.met.R.RegionWords.rest_refl c.args.r.now) c.requires.ready; later = le_refl _; running = refl }
+
+pub returns-then-bit-run-lt64-clause-words : goal.returns-then-bit-run-lt64-clause-words
+returns-then-bit-run-lt64-clause-words g c = c.read_places.ensures.words ∙ c.loop-next.invariant.words
+
+pub returns-then-bit-run-lt64-clause-ends : goal.returns-then-bit-run-lt64-clause-ends
+returns-then-bit-run-lt64-clause-ends g c = 
+    let running = c.in_ok-read_places.ensures.ends.cause ∙ c.loop-next.invariant.running in
+    record { later = le_trans c.loop-next.invariant.later c.read_places.ensures.ends.later; stays = λ stopped. running ∙ stopped; cause = running }

@@ -1,10 +1,11 @@
-use Rattle.std.proofs.Common.{arith, ◌∙◌, ◌+◌, ◌*◌, ℕ, ap, sym, subst, le_trans}
+use Rattle.std.proofs.Common.{arith, ◌∙◌, ◌+◌, ◌*◌, ℕ, ap, sym, subst, le_refl, le_trans, refl}
 use Rattle.std.proofs.lemmas.Result.{err_from_is_err_and}
 use Rattle.rio_base.proofs.BlockRules.{ends_later}
 use Rattle.rio_base.proofs.RegionRules.{stays_trans}
 use Rattle.rio_model.specs.Undo.{IsRegion, live}
 use Rattle.recov_alloc.proofs.Outcomes.{ends_err}
 use Rattle.recov_alloc.specs.Scans.{Before, ScanEnds}
+use Rattle.undo_list.proofs.Outcomes.{stays_none}
 use Rattle.recov_alloc.proofs.fitting.fit_from.Goals as goal
 
 pub look_in_pages-requires-clause-undo : goal.look_in_pages-requires-clause-undo
@@ -76,3 +77,9 @@ returns-clause-stays g c = c.loop-page.invariant.stays
 
 pub returns-clause-ends : goal.returns-clause-ends
 returns-clause-ends g c = record { later = c.loop-page.invariant.later; stays = λ stopped. c.loop-page.invariant.running ∙ stopped; cause = c.loop-page.invariant.running }
+
+pub loop-page-init : goal.loop-page-init
+loop-page-init g c = record { words = refl; region = c.requires.region; seen = c.requires.before; pages = c.requires.header.data_pages; within = c.requires.from; stays = stays_none c.args.r.now (g.met.R.RegionWords.rest_refl c.args.r.now) c.requires.ready; later = le_refl _; running = refl }
+
+pub loop-page-smaller : goal.loop-page-smaller
+loop-page-smaller g c = omega (arith, c.min-count.ensures, c.loop-page-test.true)
