@@ -1,12 +1,12 @@
 -- What the machine's rules are for the volume.
-use Rattle.cached_pages.proofs.Common.{◌≡◌, ℕ, ◌*◌, ◌/◌, ◌≤◌, not, Bool, true, false, ◌⊎◌, length, Some, refl, ◌∙◌, ap, sym, inl, inr, arith, Stopped, Contents, Lasts, Running, StepEnds, Steps, true_false, Goes, frames_of}
+use Rattle.cached_pages.proofs.Common.{◌≡◌, ℕ, ◌*◌, ◌/◌, ◌≤◌, not, Bool, true, false, ◌⊎◌, length, Some, refl, ◌∙◌, ap, subst, sym, inl, inr, arith, Stopped, Contents, Lasts, Running, StepEnds, Steps, true_false, Goes, frames_of}
 use Rattle.std.specs.Prelude.{nat_lt, Result, Ok, Err, IsErrOf}
 use Rattle.std.proofs.lemmas.Bool.{ltb-false, lt-ltb}
 use Rattle.rio_base.specs.declared.failures.VolFail.{VolFail}
 use Rattle.rio_base.specs.declared.failures.VolFail.TheVariants.{Fault}
 use Rattle.rio_base.specs.Blocks.{Ends}
 use Rattle.rio_base.specs.Counts.{Rose}
-use Rattle.rio_base.proofs.MachineRules.{ends_as, ends_err, never}
+use Rattle.rio_base.proofs.MachineRules.{ends_as, ends_err, ends_none, never}
 use Rattle.rio_base.specs.Machine.{FaultCause, StopReason}
 use Rattle.rio_base.specs.Volume.{Quiet, Runs, StopCause}
 use Rattle.rio_model.specs.Cover.{causes_of}
@@ -104,3 +104,7 @@ ends_quiet a b none stop n o h = record { steps = h.steps; told = λ q. absurd (
 -- a call that was stopped, and so says what stands for it
 pub ends_stop : (a b : Running) (stop told : Type 0) → stop → told → StepEnds a b stop → StepEnds a b told
 ends_stop a b stop told is tells h = record { steps = h.steps; told = λ q. h.told is; runs = λ n. absurd (n tells) }
+
+-- nothing ran, and the answer does not say that it was stopped
+pub ends_same : (r s : Running) (stop : Type 0) → s ≡ r → (stop → ⊥) → StepEnds r s stop
+ends_same r s stop same n = subst (λ x. StepEnds r x stop) (sym same) (ends_none r stop n)

@@ -70,8 +70,7 @@ pub(crate) fn fill<M: Machine>(m: &mut M, k: u32, p: Page, from: &[u64]) -> Resu
     ensures lasts { Lasts (M.contents m.old) (M.contents m.new) }
     ensures ends { StepEnds (M.run m.old) (M.run m.new) (IsErr result) }
 {
-    store_page(m, p, from)?;
-    Ok(())
+    store_page(m, p, from)
 }
 
 /// Makes entry `k`, whose frame is the disk's block `b`, the entry of this block.

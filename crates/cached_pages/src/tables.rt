@@ -39,10 +39,10 @@ impl CacheTables {
         requires most { frames ≤ 8192 }
         ensures fresh { IfOk result (IsFresh frames blocks) }
     {
-        let pool = FramePool::new(alloc, frames, blocks)?;
         let forgotten = vec![in alloc; false; blocks as usize]?;
-        let early = EarlyWrites::new(alloc, blocks, blocks <= frames)?;
         let buffer = vec![in alloc; 0; BLOCK_WORDS]?;
+        let pool = FramePool::new(alloc, frames, blocks)?;
+        let early = EarlyWrites::new(alloc, blocks, blocks <= frames)?;
         Ok(CacheTables {
             pool,
             forgotten,

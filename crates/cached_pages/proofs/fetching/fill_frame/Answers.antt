@@ -182,4 +182,7 @@ pub fill-requires-clause-coherent : goal.fill-requires-clause-coherent
 fill-requires-clause-coherent g c = coherent_on _ _ _ c.read_home.ensures.ends.steps.scratch_count (c.read_home.ensures.keeps.coherent _ c.requires.sound.coherent)
 
 pub fill-requires-clause-page : goal.fill-requires-clause-page
-fill-requires-clause-page g c = c.frame_page_of-page.ensures
+fill-requires-clause-page g c = c.frame_page_of-page.ensures.page
+
+pub fill-requires-clause-within : goal.fill-requires-clause-within
+fill-requires-clause-within g c = c.frame_page_of-page.ensures.within

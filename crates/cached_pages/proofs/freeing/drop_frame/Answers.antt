@@ -1,5 +1,5 @@
 use Rattle.cached_pages.proofs.EarlyStates.{loses_refl}
-use Rattle.cached_pages.proofs.Common.{ap, Contents, Entry, found_is, true_false, sym}
+use Rattle.cached_pages.proofs.Common.{◌<◌, ap, subst, Contents, Entry, found_is, true_false, sym}
 use Rattle.std.proofs.Common.{refl}
 use Rattle.cached_pages.proofs.Stores.{sound_same}
 use Rattle.cached_pages.proofs.Rooms.{frame_bound, narrows_gone}
@@ -97,8 +97,8 @@ returns-in_err-clear-clause-ends g c = ends_stop (g.M.Machine.run c.args.m.now) 
 pub returns-clause-order : goal.returns-clause-order
 returns-clause-order g c = tt
 
-pub clear-requires-clause-can : goal.clear-requires-clause-can
-clear-requires-clause-can g c = can_clear c.args.b.0 c.args.k _ _ _ c.requires.sound c.requires.found
+pub clear-requires : goal.clear-requires
+clear-requires g c = record { can = can_clear c.args.b.0 c.args.k _ _ _ c.requires.sound c.requires.found }
 
 pub returns-in_err-clear-clause-gone : goal.returns-in_err-clear-clause-gone
 returns-in_err-clear-clause-gone g c = not_ok _ c.from_residual.result c.from_residual.ensures.0
@@ -108,3 +108,6 @@ returns-in_err-clear-clause-freed g c = not_ok _ c.from_residual.result c.from_r
 
 pub returns-in_err-clear-clause-order : goal.returns-in_err-clear-clause-order
 returns-in_err-clear-clause-order g c = at_err c.from_residual.result c.from_residual.ensures.0 refl
+
+pub unbind-requires-clause-within : goal.unbind-requires-clause-within
+unbind-requires-clause-within g c = subst (λ f. c.args.k < f) (sym c.requires.sound.frames) (found_is _ _ _ c.requires.found).0.within

@@ -2,13 +2,14 @@ use Rattle.cached_pages.proofs.Common.{ap, arith, subst, sym, InRange, size_at, 
 use Rattle.std.proofs.Common.{◌<◌, refl}
 use Rattle.cached_pages.specs.Stores.{Widens}
 use Rattle.cached_pages.proofs.Widths.{larger_keeps, larger_sound, larger_widens, widens_same}
+use Rattle.write_back.proofs.Exits.{not_ok}
 use Rattle.cached_pages.proofs.storing.widen.Goals as goal
 use Rattle.cached_pages.proofs.DirtyMarks.{marks_begun, marks_same}
 use Rattle.cached_pages.proofs.Common.{None, Contents}
 use Rattle.cached_pages.proofs.DirtyMarks.{marks_refl}
 use Rattle.cached_pages.proofs.Goes.{ends_stop}
 use Rattle.cached_pages.proofs.Stills.{still_rest, still_refl}
-use Rattle.cached_pages.proofs.Stores.{sound_same}
+use Rattle.cached_pages.proofs.Stores.{can_change, layout_of, sound_same}
 use Rattle.rio_base.proofs.MachineRules.{ends_none, lasts_refl}
 use Rattle.rio_model.proofs.CoverSteps.{keeps_refl}
 
@@ -135,3 +136,18 @@ returns-then-from-read_entry-clause-ends g c = ends_none (g.M.Machine.run c.args
 
 pub returns-then-from-read_entry-clause-widens : goal.returns-then-from-read_entry-clause-widens
 returns-then-from-read_entry-clause-widens g c = widens_same c.args.k c.args.name (g.M.Machine.contents c.args.m.now).words (g.M.Machine.contents c.args.m.now).words refl
+
+pub read_entry-requires-clause-layout : goal.read_entry-requires-clause-layout
+read_entry-requires-clause-layout g c = layout_of _ (g.M.Machine.run c.args.m.now) _ c.requires.sound
+
+pub read_entry-requires-clause-entry : goal.read_entry-requires-clause-entry
+read_entry-requires-clause-entry g c = c.requires.valid.within
+
+pub set_size-requires-clause-can : goal.set_size-requires-clause-can
+set_size-requires-clause-can g c = can_change c.args.k _ _ _ c.requires.sound c.requires.valid.within
+
+pub set_size-requires-clause-valid : goal.set_size-requires-clause-valid
+set_size-requires-clause-valid g c = c.requires.valid.valid
+
+pub returns-in_err-set_size-clause-named : goal.returns-in_err-set_size-clause-named
+returns-in_err-set_size-clause-named g c = not_ok _ c.from_residual.result c.from_residual.ensures.0
