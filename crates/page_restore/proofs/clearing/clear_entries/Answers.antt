@@ -1,10 +1,11 @@
 use Rattle.std.proofs.Common.{◌∙◌, ◌<◌, Err, ap, arith, subst, sym}
 use Rattle.std.proofs.lemmas.Result.{err_from_is_err_and}
 use Rattle.rio_base.proofs.MachineRules.{never}
-use Rattle.rio_base.specs.declared.failures.VolFail.TheVariants.{Stopped}
+use Rattle.rio_base.specs.declared.failures.VolFail.TheVariants.{Fault, Stopped}
 use Rattle.rio_model.specs.Standing.{stale_block}
 use Rattle.page_restore.proofs.ClearTurns.{Clears, cleared_all, cleared_cut, cleared_next, cleared_none, home_then, synced_then}
-use Rattle.page_restore.proofs.Steps.{image_next, phase_told}
+use Rattle.page_restore.proofs.Steps.{image_next, layout_now, phase_as, phase_told}
+use Rattle.page_restore.proofs.Exits.{not_ok}
 use Rattle.page_restore.proofs.clearing.clear_entries.Goals as goal
 
 pub loop-k-init : goal.loop-k-init
@@ -44,3 +45,18 @@ loop-k-preserved g c =
 
 pub returns-clause-gone : goal.returns-clause-gone
 returns-clause-gone g c = cleared_all c.args.marks.now c.loop-k.k _ _ _ _ (omega (arith, c.loop-k.auto.k-end, c.loop-k-test.false, c.frame_count-frames.ensures)) c.loop-k.invariant
+
+pub frame_count-frames-requires : goal.frame_count-frames-requires
+frame_count-frames-requires g c = record { layout = layout_now _ _ c.requires.image }
+
+pub returns-in_err-clear_entry-clause-gone : goal.returns-in_err-clear_entry-clause-gone
+returns-in_err-clear_entry-clause-gone g c = not_ok _ c.from_residual.result c.from_residual.ensures.0
+
+pub returns-clause-endures : goal.returns-clause-endures
+returns-clause-endures g c = c.loop-k.invariant.endures
+
+pub returns-clause-rest : goal.returns-clause-rest
+returns-clause-rest g c = c.loop-k.invariant.rest
+
+pub returns-clause-ends : goal.returns-clause-ends
+returns-clause-ends g c = phase_as _ _ _ _ ⊥ ⊥ _ _ (λ x. x) (never _ Fault) (never _ Stopped) c.loop-k.invariant.ends

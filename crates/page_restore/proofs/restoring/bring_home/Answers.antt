@@ -9,6 +9,7 @@ use Rattle.page_restore.proofs.Restores.{all_home, counts_pages, of_data_settled
 use Rattle.page_restore.proofs.Steps.{image_next, layout_now, phase_as, phase_then, phase_told}
 use Rattle.page_restore.specs.Phases.{due_count}
 use Rattle.page_restore.specs.declared.kinds.PageKind.TheVariants.{Metadata, Stale, Wanted}
+use Rattle.page_restore.proofs.Exits.{not_ok}
 use Rattle.page_restore.proofs.restoring.bring_home.Goals as goal
 
 -- ---- the second phase, after the clean entries were settled
@@ -89,3 +90,68 @@ returns-clause-counts g c = λ l are.
 
 pub returns-clause-ends : goal.returns-clause-ends
 returns-clause-ends g c = phase_as _ _ _ _ _ _ _ _ (never _ Stopped) (never _ Fault) (never _ Stopped) (phase_then _ _ _ _ _ _ _ _ _ _ (never _ Stopped) (phase_then _ _ _ _ _ _ _ _ _ _ (never _ Stopped) c.in_ok-settle.ensures.ends c.in_ok-meta.ensures.ends) c.in_ok-pages.ensures.ends)
+
+pub settle-requires-clause-image : goal.settle-requires-clause-image
+settle-requires-clause-image g c = c.requires.image
+
+pub settle-requires-clause-closed : goal.settle-requires-clause-closed
+settle-requires-clause-closed g c = c.requires.closed
+
+pub settle-requires-clause-room : goal.settle-requires-clause-room
+settle-requires-clause-room g c = c.requires.room
+
+pub bring-requires-clause-closed : goal.bring-requires-clause-closed
+bring-requires-clause-closed g c = c.settle.ensures.ends.closed
+
+pub bring-requires-2-clause-closed : goal.bring-requires-2-clause-closed
+bring-requires-2-clause-closed g c = c.bring.ensures.ends.closed
+
+pub returns-in_err-settle-clause-brings : goal.returns-in_err-settle-clause-brings
+returns-in_err-settle-clause-brings g c = c.settle.ensures.brings
+
+pub returns-in_err-settle-clause-ends : goal.returns-in_err-settle-clause-ends
+returns-in_err-settle-clause-ends g c = 
+    let p = err_from_is_err_and c.from_residual.result c.from_residual.ensures.1 in
+    phase_told _ _ _ _ _ _ (p.1 ∙ ap Err p.2) c.in_err-settle.ensures.ends
+
+pub returns-in_err-settle-clause-home : goal.returns-in_err-settle-clause-home
+returns-in_err-settle-clause-home g c = not_ok _ c.from_residual.result c.from_residual.ensures.0
+
+pub returns-in_err-settle-clause-synced : goal.returns-in_err-settle-clause-synced
+returns-in_err-settle-clause-synced g c = not_ok _ c.from_residual.result c.from_residual.ensures.0
+
+pub returns-in_err-settle-clause-counts : goal.returns-in_err-settle-clause-counts
+returns-in_err-settle-clause-counts g c = not_ok _ c.from_residual.result c.from_residual.ensures.0
+
+pub returns-in_err-settle-clause-running : goal.returns-in_err-settle-clause-running
+returns-in_err-settle-clause-running g c = not_ok _ c.from_residual.result c.from_residual.ensures.0
+
+pub returns-in_err-meta-clause-home : goal.returns-in_err-meta-clause-home
+returns-in_err-meta-clause-home g c = not_ok _ c.from_residual-in_err-meta.result c.from_residual-in_err-meta.ensures.0
+
+pub returns-in_err-meta-clause-synced : goal.returns-in_err-meta-clause-synced
+returns-in_err-meta-clause-synced g c = not_ok _ c.from_residual-in_err-meta.result c.from_residual-in_err-meta.ensures.0
+
+pub returns-in_err-meta-clause-counts : goal.returns-in_err-meta-clause-counts
+returns-in_err-meta-clause-counts g c = not_ok _ c.from_residual-in_err-meta.result c.from_residual-in_err-meta.ensures.0
+
+pub returns-in_err-meta-clause-running : goal.returns-in_err-meta-clause-running
+returns-in_err-meta-clause-running g c = not_ok _ c.from_residual-in_err-meta.result c.from_residual-in_err-meta.ensures.0
+
+pub returns-in_err-pages-clause-home : goal.returns-in_err-pages-clause-home
+returns-in_err-pages-clause-home g c = not_ok _ c.from_residual-in_err-pages.result c.from_residual-in_err-pages.ensures.0
+
+pub returns-in_err-pages-clause-synced : goal.returns-in_err-pages-clause-synced
+returns-in_err-pages-clause-synced g c = not_ok _ c.from_residual-in_err-pages.result c.from_residual-in_err-pages.ensures.0
+
+pub returns-in_err-pages-clause-counts : goal.returns-in_err-pages-clause-counts
+returns-in_err-pages-clause-counts g c = not_ok _ c.from_residual-in_err-pages.result c.from_residual-in_err-pages.ensures.0
+
+pub returns-in_err-pages-clause-running : goal.returns-in_err-pages-clause-running
+returns-in_err-pages-clause-running g c = not_ok _ c.from_residual-in_err-pages.result c.from_residual-in_err-pages.ensures.0
+
+pub returns-clause-synced : goal.returns-clause-synced
+returns-clause-synced g c = c.in_ok-pages.ensures.synced
+
+pub returns-clause-running : goal.returns-clause-running
+returns-clause-running g c = c.in_ok-pages.ensures.running

@@ -1,10 +1,11 @@
 use Rattle.std.proofs.Common.{◌∙◌, ◌<◌, Err, ap, arith, subst, sym}
 use Rattle.std.proofs.lemmas.Result.{err_from_is_err_and}
 use Rattle.rio_base.proofs.MachineRules.{never}
-use Rattle.rio_base.specs.declared.failures.VolFail.TheVariants.{Stopped}
+use Rattle.rio_base.specs.declared.failures.VolFail.TheVariants.{Fault, Stopped}
 use Rattle.rio_model.specs.Standing.{none_apart}
 use Rattle.page_restore.proofs.SettleTurns.{Settles, settled_all, settled_brings, settled_cut, settled_next, settled_none}
-use Rattle.page_restore.proofs.Steps.{image_next, phase_told}
+use Rattle.page_restore.proofs.Steps.{image_next, layout_now, phase_as, phase_told}
+use Rattle.page_restore.proofs.Exits.{not_ok}
 use Rattle.page_restore.proofs.settling.settle.Goals as goal
 
 pub loop-k-init : goal.loop-k-init
@@ -56,3 +57,33 @@ returns-clause-brings g c = settled_brings c.loop-k.k _ _ _ _ c.loop-k.invariant
 
 pub returns-clause-settled : goal.returns-clause-settled
 returns-clause-settled g c = settled_all c.loop-k.k _ _ _ _ (omega (arith, c.loop-k.auto.k-end, c.loop-k-test.false, c.frame_count-frames.ensures)) c.loop-k.invariant.walk
+
+pub frame_count-frames-requires : goal.frame_count-frames-requires
+frame_count-frames-requires g c = record { layout = layout_now _ _ c.requires.image }
+
+pub settle_entry-requires-clause-room : goal.settle_entry-requires-clause-room
+settle_entry-requires-clause-room g c = c.loop-k.invariant.room
+
+pub returns-in_err-settle_entry-clause-room : goal.returns-in_err-settle_entry-clause-room
+returns-in_err-settle_entry-clause-room g c = c.settle_entry.ensures.room
+
+pub returns-in_err-settle_entry-clause-settled : goal.returns-in_err-settle_entry-clause-settled
+returns-in_err-settle_entry-clause-settled g c = not_ok _ c.from_residual.result c.from_residual.ensures.0
+
+pub returns-in_err-settle_entry-clause-disk : goal.returns-in_err-settle_entry-clause-disk
+returns-in_err-settle_entry-clause-disk g c = c.settle_entry.ensures.disk ∙ c.loop-k.invariant.walk.disk
+
+pub returns-clause-room : goal.returns-clause-room
+returns-clause-room g c = c.loop-k.invariant.room
+
+pub returns-clause-marked : goal.returns-clause-marked
+returns-clause-marked g c = c.loop-k.invariant.walk.marked
+
+pub returns-clause-frames : goal.returns-clause-frames
+returns-clause-frames g c = c.loop-k.invariant.walk.frames
+
+pub returns-clause-disk : goal.returns-clause-disk
+returns-clause-disk g c = c.loop-k.invariant.walk.disk
+
+pub returns-clause-ends : goal.returns-clause-ends
+returns-clause-ends g c = phase_as _ _ _ _ ⊥ ⊥ _ _ (λ x. x) (never _ Fault) (never _ Stopped) c.loop-k.invariant.walk.ends

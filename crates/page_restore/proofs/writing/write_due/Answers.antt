@@ -1,13 +1,14 @@
 use Rattle.std.proofs.Common.{◌∙◌, ◌<◌, ◌+◌, ◌≡◌, Err, List, ap, arith, subst, sym, ℕ}
 use Rattle.std.proofs.lemmas.Result.{err_from_is_err_and}
 use Rattle.rio_base.proofs.MachineRules.{never}
-use Rattle.rio_base.specs.declared.failures.VolFail.TheVariants.{Stopped}
+use Rattle.rio_base.specs.declared.failures.VolFail.TheVariants.{Fault, Stopped}
 use Rattle.rio_model.specs.Registry.{frames_of}
 use Rattle.rio_model.specs.Standing.{none_apart}
 use Rattle.page_restore.specs.Phases.{due_before, is_due}
 use Rattle.page_restore.proofs.Due.{byte_small, due_more, due_none, due_small}
-use Rattle.page_restore.proofs.Steps.{image_next, phase_told}
+use Rattle.page_restore.proofs.Steps.{image_next, layout_now, phase_as, phase_told}
 use Rattle.page_restore.proofs.WriteTurns.{Writes, all_brought, wrote_cut, wrote_next, wrote_none}
+use Rattle.page_restore.proofs.Exits.{not_ok}
 use Rattle.page_restore.proofs.writing.write_due.Goals as goal
 
 pub loop-k-init : goal.loop-k-init
@@ -70,3 +71,24 @@ pub returns-clause-count : goal.returns-clause-count
 returns-clause-count g c =
     let all : c.loop-k.k ≡ c.frame_count-frames.result = omega (arith, c.loop-k.auto.k-end, c.loop-k-test.false) in
     c.loop-k.invariant.counted ∙ ap (due_before c.args.kind c.args.marks.now (g.M.Machine.contents c.args.m.now).words) (all ∙ c.frame_count-frames.ensures)
+
+pub frame_count-frames-requires : goal.frame_count-frames-requires
+frame_count-frames-requires g c = record { layout = layout_now _ _ c.requires.image }
+
+pub returns-in_err-due-clause-brought : goal.returns-in_err-due-clause-brought
+returns-in_err-due-clause-brought g c = not_ok _ c.from_residual.result c.from_residual.ensures.0
+
+pub returns-in_err-due-clause-count : goal.returns-in_err-due-clause-count
+returns-in_err-due-clause-count g c = not_ok _ c.from_residual.result c.from_residual.ensures.0
+
+pub returns-clause-endures : goal.returns-clause-endures
+returns-clause-endures g c = c.loop-k.invariant.walk.endures
+
+pub returns-clause-words : goal.returns-clause-words
+returns-clause-words g c = c.loop-k.invariant.walk.words
+
+pub returns-clause-writes : goal.returns-clause-writes
+returns-clause-writes g c = c.loop-k.invariant.walk.writes
+
+pub returns-clause-ends : goal.returns-clause-ends
+returns-clause-ends g c = phase_as _ _ _ _ ⊥ ⊥ _ _ (λ x. x) (never _ Fault) (never _ Stopped) c.loop-k.invariant.walk.ends

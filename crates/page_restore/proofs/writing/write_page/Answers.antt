@@ -1,6 +1,11 @@
-use Rattle.std.proofs.Common.{◌<◌, ◌∙◌, subst, sym, ap, arith, length}
+use Rattle.std.proofs.Common.{Err, ◌<◌, ◌∙◌, subst, sym, ap, arith, length}
 use Rattle.rio_model.specs.Registry.{tag_block}
 use Rattle.rio_model.proofs.RebootSteps.{endures_written, home_written}
+use Rattle.std.proofs.lemmas.Result.{err_from_is_err_and}
+use Rattle.rio_base.proofs.MachineRules.{never}
+use Rattle.rio_base.specs.declared.failures.DiskFail.TheVariants.{Stopped}
+use Rattle.page_restore.proofs.Exits.{not_ok, phase_step}
+use Rattle.page_restore.proofs.ReadEnds.{step_failed}
 use Rattle.page_restore.proofs.writing.write_page.Goals as goal
 
 pub returns-in_err-write_block-clause-endures : goal.returns-in_err-write_block-clause-endures
@@ -25,3 +30,20 @@ pub returns-clause-home : goal.returns-clause-home
 returns-clause-home g c =
     let old = g.M.Machine.contents c.args.m.now in
     home_written old _ c.args.k _ c.counted_page_of-page.result.0 c.write_block.ensures.writes_block.words (c.block-block.ensures ∙ ap tag_block c.load_tag.ensures) c.counted_page_of-page.ensures.page (c.in_ok-write_block.ensures.protected (omega (arith, c.counted_page_of-page.ensures.within)))
+
+pub returns-in_err-write_block-clause-words : goal.returns-in_err-write_block-clause-words
+returns-in_err-write_block-clause-words g c = c.write_block.ensures.writes_block.words
+
+pub returns-in_err-write_block-clause-home : goal.returns-in_err-write_block-clause-home
+returns-in_err-write_block-clause-home g c = not_ok _ c.from_residual.result c.from_residual.ensures.0
+
+pub returns-in_err-write_block-clause-ends : goal.returns-in_err-write_block-clause-ends
+returns-in_err-write_block-clause-ends g c = 
+    let p = err_from_is_err_and c.from_residual.result c.from_residual.ensures.1 in
+    step_failed _ _ _ _ _ _ (p.1 ∙ ap Err p.2) c.requires.closed c.write_block.ensures.writes_block.open_page c.write_block.ensures.lasts c.in_err-write_block.ensures.fault c.in_err-write_block.ensures.ends
+
+pub returns-clause-words : goal.returns-clause-words
+returns-clause-words g c = c.write_block.ensures.writes_block.words
+
+pub returns-clause-ends : goal.returns-clause-ends
+returns-clause-ends g c = phase_step _ _ _ _ _ _ (never _ Stopped) (c.write_block.ensures.writes_block.open_page ∙ c.requires.closed) c.write_block.ensures.lasts c.in_ok-write_block.ensures.ends
