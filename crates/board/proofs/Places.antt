@@ -1,12 +1,13 @@
 -- Words of protected pages and of scratch, and blocks that are written.
-use Rattle.std.proofs.Common.{◌≡◌, ℕ, ◌+◌, ◌-◌, ◌*◌, ◌<◌, ◌≤◌, ◌%◌, List, length, [], take, drop, slice_set, refl, le_refl, sym, ◌∙◌, ap, subst, arith, get_or-set_same, length-drop}
+use Rattle.std.proofs.Common.{◌≡◌, ◌≢◌, ◌⊎◌, inl, inr, ℕ, ◌+◌, ◌-◌, ◌*◌, ◌<◌, ◌≤◌, ◌%◌, List, length, [], take, drop, slice_set, refl, le_refl, sym, ◌∙◌, ap, subst, arith, get_or-set_same, length-drop}
+use Rattle.std.proofs.lemmas.Bool.{cases_order}
 use Rattle.std.proofs.lemmas.List.{drop-set-add, drop-set-lt, drop-take, length-set, length-take, take-set-le, take-take}
 use Rattle.std.proofs.Math.Seq.{take-set-lt}
 use Rattle.rio_base.specs.Disks.{DiskContents, FaultCount, block_at, with_written}
 use Rattle.rio_base.specs.Machine.{Contents, Lasts, after_wild}
 use Rattle.rio_base.proofs.MachineRules.{lasts_refl}
 use Rattle.rio_base.specs.declared.wild.Wild.TheVariants.{Changed}
-use Rattle.rio_base.specs.Memory.{page_at}
+use Rattle.rio_base.specs.Memory.{AreApart, page_at}
 use Rattle.board.specs.declared.guard.Guard.{Guard}
 use Rattle.board.specs.Boards.{contents_of, protected_count, protected_of, running_of, scratch_of}
 use Rattle.board.specs.BoardLaws.{count_all, count_protected}
@@ -61,6 +62,15 @@ page_lent words now pages then p block same whole h e = subst (λ (ws : List ℕ
 
 pub page_in_memory : (words : List ℕ) (pages p : ℕ) → length words % 512 ≡ 0 → 512 * p < length (protected_of words pages) + length (scratch_of words pages) → 512 * p + 512 ≤ length words
 page_in_memory words pages p whole h = omega (arith, whole, h, count_all words pages)
+
+-- words of two pages, from the same place on
+pub pages_apart : (from to k n : ℕ) → from ≢ to → k + n ≤ 512 → AreApart (512 * from + k) (512 * to + k) n
+pages_apart from to k n two small = by (cases_order from to)
+  where
+    by : (from ≡ to) ⊎ ((from < to) ⊎ (to < from)) → AreApart (512 * from + k) (512 * to + k) n
+    by (inl e) = absurd (two e)
+    by (inr (inl less)) = inl (omega (arith, less, small))
+    by (inr (inr more)) = inr (omega (arith, more, small))
 
 -- ---- a block is written
 

@@ -12,7 +12,7 @@ use Rattle.board.specs.declared.guard.Armed.{Armed}
 use Rattle.board.specs.declared.guard.Guard.{Guard}
 use Rattle.board.specs.Boards.{protected_count, protected_of, running_of, scratch_of}
 use Rattle.board.proofs.Places.{drop_set, protected_same}
-use Rattle.board.proofs.StepRuns.{clear_one, makes_one, runs_on}
+use Rattle.board.proofs.StepRuns.{clear_one, later_some, makes_one, runs_on}
 use Rattle.board.specs.Guards.{FallsBy, FallsWithin, Halted, IsClear, IsDue, IsOver, Lands, Makes, MakesSteps, Proceeds, Traps, armed_place, counted, later, left_of, page_of, value_of}
 
 -- ---- how many steps are made, whatever the words
@@ -343,3 +343,15 @@ begun_scratch words now pages size a old new stop none e same h = subst (λ (ws 
 
     past : protected_count words pages ≤ a.at.0
     past = subst (λ (s : ℕ). s ≤ a.at.0) same h.between.1.1
+
+-- steps before which nothing falls
+pub passed_falls : (o : Option ℕ) (words : List ℕ) (pages n : ℕ) (old new : Guard) → new ≡ counted n old → Falls o (running_of words pages old) (running_of words pages new)
+passed_falls o words pages n old new is = record {
+  fell = λ at e gone. absurd (none_some at (armed_place old) (sym (later_place n old.armed) ∙ sym (ap armed_place is) ∙ gone) e);
+  closed = λ at runs other trapped. absurd (same_trapped words words pages pages old new at (ap (λ (g : Guard). g.trapped) is) other trapped);
+}
+
+pub passed_within : (n : ℕ) (old new : Guard) (size : ℕ) → new ≡ counted n old → ((a : Armed) → old.armed ≡ Some a → a.at.0 < size) → (a : Armed) → new.armed ≡ Some a → a.at.0 < size
+passed_within n old new size is within a e =
+    let l = later_some n old.armed a (sym (ap (λ (g : Guard). g.armed) is) ∙ e) in
+    subst (λ (b : Armed). b.at.0 < size) (sym l.2) (within l.0 l.1)

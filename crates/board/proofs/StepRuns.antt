@@ -22,7 +22,7 @@ later_more k n (Some a) = ap (λ (left : ℕ). Some (record a { left = left })) 
 counted_more : (k n : ℕ) (g : Guard) → counted n (counted k g) ≡ counted (k + n) g
 counted_more k n g = ap (λ (steps : ℕ). record g { steps = steps; armed = later n (later k g.armed) }) (raised_more g.steps k n) ∙ ap (λ (o : Option Armed). record g { steps = raised g.steps (k + n); armed = o }) (later_more k n g.armed)
 
-later_some : (n : ℕ) (o : Option Armed) (a : Armed) → later n o ≡ Some a → (b : Armed) × (o ≡ Some b) × (a ≡ record b { left = b.left - n })
+pub later_some : (n : ℕ) (o : Option Armed) (a : Armed) → later n o ≡ Some a → (b : Armed) × (o ≡ Some b) × (a ≡ record b { left = b.left - n })
 later_some n None a e = absurd (cc)
 later_some n (Some b) a e = (b, refl, cc)
 

@@ -47,17 +47,17 @@ pub returns-in_default-clause-unmoved : goal.returns-in_default-clause-unmoved
 returns-in_default-clause-unmoved g c = tt
 
 pub returns-in_default-clause-open_page : goal.returns-in_default-clause-open_page
-returns-in_default-clause-open_page g c = 
+returns-in_default-clause-open_page g c =
     let step : Proceeds c.protected_words-size.result None c.args.self.now.guard c.begin.new.self = rw c.in_default.is at c.in_ok-fallen.ensures.ok in
     (begun_none (g.F.MemWords.words c.args.self.now.mem) c.args.self.now.scratch c.protected_words-size.result c.args.self.now.guard c.begin.new.self _ (λ s. true_false (sym s)) c.protected_words-size.ensures c.args.self.now.open_within step).open_page
 
 pub returns-in_default-clause-running : goal.returns-in_default-clause-running
-returns-in_default-clause-running g c = 
+returns-in_default-clause-running g c =
     let step : Proceeds c.protected_words-size.result None c.args.self.now.guard c.begin.new.self = rw c.in_default.is at c.in_ok-fallen.ensures.ok in
     (begun_none (g.F.MemWords.words c.args.self.now.mem) c.args.self.now.scratch c.protected_words-size.result c.args.self.now.guard c.begin.new.self _ (λ s. true_false (sym s)) c.protected_words-size.ensures c.args.self.now.open_within step).running
 
 pub returns-in_default-clause-falls : goal.returns-in_default-clause-falls
-returns-in_default-clause-falls g c = 
+returns-in_default-clause-falls g c =
     let step : Proceeds c.protected_words-size.result None c.args.self.now.guard c.begin.new.self = rw c.in_default.is at c.in_ok-fallen.ensures.ok in
     (begun_none (g.F.MemWords.words c.args.self.now.mem) c.args.self.now.scratch c.protected_words-size.result c.args.self.now.guard c.begin.new.self _ (λ s. true_false (sym s)) c.protected_words-size.ensures c.args.self.now.open_within step).falls
 
@@ -65,7 +65,7 @@ pub returns-in_default-clause-halts : goal.returns-in_default-clause-halts
 returns-in_default-clause-halts g c = (λ e. absurd (true_false (sym e)), λ h. absurd (true_false (sym (c.in_ok-fallen.ensures.halts.1 (subst (λ s. Halts c.args.self.now.guard s) (sym c.protected_words-size.ensures) h)))))
 
 pub returns-in_default-clause-made : goal.returns-in_default-clause-made
-returns-in_default-clause-made g c = 
+returns-in_default-clause-made g c =
     let step : Proceeds c.protected_words-size.result None c.args.self.now.guard c.begin.new.self = rw c.in_default.is at c.in_ok-fallen.ensures.ok in
     (begun_none (g.F.MemWords.words c.args.self.now.mem) c.args.self.now.scratch c.protected_words-size.result c.args.self.now.guard c.begin.new.self _ (λ s. true_false (sym s)) c.protected_words-size.ensures c.args.self.now.open_within step).made
 
@@ -73,17 +73,17 @@ pub returns-in_default-clause-stops : goal.returns-in_default-clause-stops
 returns-in_default-clause-stops g c = tt
 
 pub returns-in_default-clause-ends : goal.returns-in_default-clause-ends
-returns-in_default-clause-ends g c = 
+returns-in_default-clause-ends g c =
     let step : Proceeds c.protected_words-size.result None c.args.self.now.guard c.begin.new.self = rw c.in_default.is at c.in_ok-fallen.ensures.ok in
     (begun_none (g.F.MemWords.words c.args.self.now.mem) c.args.self.now.scratch c.protected_words-size.result c.args.self.now.guard c.begin.new.self _ (λ s. true_false (sym s)) c.protected_words-size.ensures c.args.self.now.open_within step).ends
 
 pub returns-in-Some-clause-protected : goal.returns-in-Some-clause-protected
-returns-in-Some-clause-protected g c = 
+returns-in-Some-clause-protected g c =
     let step : Proceeds c.protected_words-size.result (Some c.in-Some.fallen) c.args.self.now.guard c.begin.new.self = rw c.in-Some.is at c.in_ok-fallen.ensures.ok in
     (begun_scratch (g.F.MemWords.words c.args.self.now.mem) (g.F.MemWords.words c.store.new.self) c.args.self.now.scratch c.protected_words-size.result c.in-Some.fallen c.args.self.now.guard c.begin.new.self _ (λ s. true_false (sym s)) c.store.ensures c.protected_words-size.ensures step).protected
 
 pub returns-in-Some-clause-count : goal.returns-in-Some-clause-count
-returns-in-Some-clause-count g c = 
+returns-in-Some-clause-count g c =
     let step : Proceeds c.protected_words-size.result (Some c.in-Some.fallen) c.args.self.now.guard c.begin.new.self = rw c.in-Some.is at c.in_ok-fallen.ensures.ok in
     (begun_scratch (g.F.MemWords.words c.args.self.now.mem) (g.F.MemWords.words c.store.new.self) c.args.self.now.scratch c.protected_words-size.result c.in-Some.fallen c.args.self.now.guard c.begin.new.self _ (λ s. true_false (sym s)) c.store.ensures c.protected_words-size.ensures step).count
 
@@ -91,17 +91,17 @@ pub returns-in-Some-clause-unmoved : goal.returns-in-Some-clause-unmoved
 returns-in-Some-clause-unmoved g c = tt
 
 pub returns-in-Some-clause-open_page : goal.returns-in-Some-clause-open_page
-returns-in-Some-clause-open_page g c = 
+returns-in-Some-clause-open_page g c =
     let step : Proceeds c.protected_words-size.result (Some c.in-Some.fallen) c.args.self.now.guard c.begin.new.self = rw c.in-Some.is at c.in_ok-fallen.ensures.ok in
     (begun_scratch (g.F.MemWords.words c.args.self.now.mem) (g.F.MemWords.words c.store.new.self) c.args.self.now.scratch c.protected_words-size.result c.in-Some.fallen c.args.self.now.guard c.begin.new.self _ (λ s. true_false (sym s)) c.store.ensures c.protected_words-size.ensures step).open_page
 
 pub returns-in-Some-clause-running : goal.returns-in-Some-clause-running
-returns-in-Some-clause-running g c = 
+returns-in-Some-clause-running g c =
     let step : Proceeds c.protected_words-size.result (Some c.in-Some.fallen) c.args.self.now.guard c.begin.new.self = rw c.in-Some.is at c.in_ok-fallen.ensures.ok in
     (begun_scratch (g.F.MemWords.words c.args.self.now.mem) (g.F.MemWords.words c.store.new.self) c.args.self.now.scratch c.protected_words-size.result c.in-Some.fallen c.args.self.now.guard c.begin.new.self _ (λ s. true_false (sym s)) c.store.ensures c.protected_words-size.ensures step).running
 
 pub returns-in-Some-clause-falls : goal.returns-in-Some-clause-falls
-returns-in-Some-clause-falls g c = 
+returns-in-Some-clause-falls g c =
     let step : Proceeds c.protected_words-size.result (Some c.in-Some.fallen) c.args.self.now.guard c.begin.new.self = rw c.in-Some.is at c.in_ok-fallen.ensures.ok in
     (begun_scratch (g.F.MemWords.words c.args.self.now.mem) (g.F.MemWords.words c.store.new.self) c.args.self.now.scratch c.protected_words-size.result c.in-Some.fallen c.args.self.now.guard c.begin.new.self _ (λ s. true_false (sym s)) c.store.ensures c.protected_words-size.ensures step).falls
 
@@ -109,7 +109,7 @@ pub returns-in-Some-clause-halts : goal.returns-in-Some-clause-halts
 returns-in-Some-clause-halts g c = (λ e. absurd (true_false (sym e)), λ h. absurd (true_false (sym (c.in_ok-fallen.ensures.halts.1 (subst (λ s. Halts c.args.self.now.guard s) (sym c.protected_words-size.ensures) h)))))
 
 pub returns-in-Some-clause-made : goal.returns-in-Some-clause-made
-returns-in-Some-clause-made g c = 
+returns-in-Some-clause-made g c =
     let step : Proceeds c.protected_words-size.result (Some c.in-Some.fallen) c.args.self.now.guard c.begin.new.self = rw c.in-Some.is at c.in_ok-fallen.ensures.ok in
     (begun_scratch (g.F.MemWords.words c.args.self.now.mem) (g.F.MemWords.words c.store.new.self) c.args.self.now.scratch c.protected_words-size.result c.in-Some.fallen c.args.self.now.guard c.begin.new.self _ (λ s. true_false (sym s)) c.store.ensures c.protected_words-size.ensures step).made
 
@@ -117,6 +117,6 @@ pub returns-in-Some-clause-stops : goal.returns-in-Some-clause-stops
 returns-in-Some-clause-stops g c = tt
 
 pub returns-in-Some-clause-ends : goal.returns-in-Some-clause-ends
-returns-in-Some-clause-ends g c = 
+returns-in-Some-clause-ends g c =
     let step : Proceeds c.protected_words-size.result (Some c.in-Some.fallen) c.args.self.now.guard c.begin.new.self = rw c.in-Some.is at c.in_ok-fallen.ensures.ok in
     (begun_scratch (g.F.MemWords.words c.args.self.now.mem) (g.F.MemWords.words c.store.new.self) c.args.self.now.scratch c.protected_words-size.result c.in-Some.fallen c.args.self.now.guard c.begin.new.self _ (λ s. true_false (sym s)) c.store.ensures c.protected_words-size.ensures step).ends

@@ -1,12 +1,15 @@
 use Rattle.std.proofs.Common.{◌≡◌, ◌∙◌, false, ap, refl, sym, arith}
 use Rattle.rio_base.specs.Machine.{Steps}
-use Rattle.rio_base.proofs.MachineRules.{steps_trans}
+use Rattle.rio_base.proofs.MachineRules.{steps_trans, falls_trans}
 use Rattle.rio_base.specs.Rules.{true_false}
 use Rattle.board.specs.declared.guard.Guard.{Guard}
-use Rattle.board.specs.Guards.{HaltsWithin}
+use Rattle.board.specs.Guards.{HaltsWithin, page_of}
 use Rattle.board.specs.Boards.{protected_count, running_of, scratch_of}
-use Rattle.board.proofs.Runs.{passed_ends}
+use Rattle.board.proofs.Runs.{passed_ends, passed_falls, passed_within}
 use Rattle.board.proofs.StepRuns.{begun_fits, clear_behind, halts_within, makes_clear, makes_more, makes_one, sooner_begun, sooner_clear, sooner_more}
+use Rattle.std.proofs.lemmas.Result.{IfOk-from_err}
+use Rattle.rio_base.proofs.Exits.{on_err}
+use Rattle.board.proofs.DiskSteps.{ends_by}
 use Rattle.board.proofs.board.Board.begin_run.Goals as goal
 
 pub returns-clause-sooner : goal.returns-clause-sooner
@@ -58,4 +61,100 @@ returns-in_err-begin-clause-halts g c =
     let old = c.args.self.now in
     let size = protected_count (g.F.MemWords.words old.mem) old.scratch in
     let halts : HaltsWithin old.guard c.args.most size = halts_within old.guard c.args.most size c.requires (c.in_err-begin.ensures.halts.0 refl) in
-    grind (arith, halts)
+    on_err c.from_residual.result _ halts
+
+pub returns-in_err-begin-clause-at_first : goal.returns-in_err-begin-clause-at_first
+returns-in_err-begin-clause-at_first g c = IfOk-from_err c.from_residual.result _ c.from_residual.ensures.0
+
+pub returns-in_err-begin-clause-some : goal.returns-in_err-begin-clause-some
+returns-in_err-begin-clause-some g c = IfOk-from_err c.from_residual.result _ c.from_residual.ensures.0
+
+pub returns-in_err-begin-clause-made : goal.returns-in_err-begin-clause-made
+returns-in_err-begin-clause-made g c = IfOk-from_err c.from_residual.result _ c.from_residual.ensures.0
+
+pub returns-in_err-begin-clause-sooner : goal.returns-in_err-begin-clause-sooner
+returns-in_err-begin-clause-sooner g c = IfOk-from_err c.from_residual.result _ c.from_residual.ensures.0
+
+pub returns-in_err-begin-clause-running : goal.returns-in_err-begin-clause-running
+returns-in_err-begin-clause-running g c = IfOk-from_err c.from_residual.result _ c.from_residual.ensures.0
+
+pub returns-in_err-begin-clause-count : goal.returns-in_err-begin-clause-count
+returns-in_err-begin-clause-count g c = c.in_err-begin.ensures.count
+
+pub returns-in_err-begin-clause-disk : goal.returns-in_err-begin-clause-disk
+returns-in_err-begin-clause-disk g c = c.in_err-begin.ensures.disk
+
+pub returns-in_err-begin-clause-scratch : goal.returns-in_err-begin-clause-scratch
+returns-in_err-begin-clause-scratch g c = c.in_err-begin.ensures.scratch
+
+pub returns-in_err-begin-clause-protected : goal.returns-in_err-begin-clause-protected
+returns-in_err-begin-clause-protected g c = c.in_err-begin.ensures.protected
+
+pub returns-in_err-begin-clause-open_page : goal.returns-in_err-begin-clause-open_page
+returns-in_err-begin-clause-open_page g c = c.in_err-begin.ensures.open_page
+
+pub returns-in_err-begin-clause-falls : goal.returns-in_err-begin-clause-falls
+returns-in_err-begin-clause-falls g c = c.in_err-begin.ensures.falls
+
+pub returns-in_err-begin-clause-stops : goal.returns-in_err-begin-clause-stops
+returns-in_err-begin-clause-stops g c = on_err c.from_residual.result _ c.in_err-begin.ensures.stops
+
+pub returns-in_err-begin-clause-unmoved : goal.returns-in_err-begin-clause-unmoved
+returns-in_err-begin-clause-unmoved g c = on_err c.from_residual.result _ c.in_err-begin.ensures.unmoved
+
+pub returns-in_err-begin-clause-ends : goal.returns-in_err-begin-clause-ends
+returns-in_err-begin-clause-ends g c = ends_by _ _ _ _ (λ s. refl) (λ w. c.from_residual.ensures.0) c.in_err-begin.ensures.ends
+
+pub returns-clause-count : goal.returns-clause-count
+returns-clause-count g c = c.in_ok-begin.ensures.count
+
+pub returns-clause-disk : goal.returns-clause-disk
+returns-clause-disk g c = c.in_ok-begin.ensures.disk
+
+pub returns-clause-scratch : goal.returns-clause-scratch
+returns-clause-scratch g c = c.in_ok-begin.ensures.scratch
+
+pub returns-clause-protected : goal.returns-clause-protected
+returns-clause-protected g c = c.in_ok-begin.ensures.protected
+
+pub returns-clause-halts : goal.returns-clause-halts
+returns-clause-halts g c = tt
+
+pub returns-clause-stops : goal.returns-clause-stops
+returns-clause-stops g c = tt
+
+pub returns-clause-unmoved : goal.returns-clause-unmoved
+returns-clause-unmoved g c = tt
+
+pub returns-clause-open_page : goal.returns-clause-open_page
+returns-clause-open_page g c = ap page_of c.pass-further.ensures.counted ∙ c.in_ok-begin.ensures.open_page
+
+pub returns-clause-running : goal.returns-clause-running
+returns-clause-running g c = (c.in_ok-begin.ensures.running, ap (λ (k : Guard). k.stopped) c.pass-further.ensures.counted ∙ c.in_ok-begin.ensures.ends.runs (λ e. true_false (sym e)) ∙ c.in_ok-begin.ensures.running)
+
+pub returns-clause-some : goal.returns-clause-some
+returns-clause-some g c = (omega arith, omega (arith, c.pass-further.ensures.most, c.requires))
+
+pub returns-clause-falls : goal.returns-clause-falls
+returns-clause-falls g c =
+    let mid = c.begin.new.self in
+    let words = g.F.MemWords.words mid.mem in
+    let runs : mid.guard.stopped ≡ false = c.in_ok-begin.ensures.ends.runs (λ e. true_false (sym e)) ∙ c.in_ok-begin.ensures.running in
+    falls_trans (page_of c.args.self.now.guard) _ _ _ c.in_ok-begin.ensures.ends.steps (passed_ends words mid.scratch c.pass-further.result mid.guard c.pass-further.new.self runs c.pass-further.ensures.clear c.pass-further.ensures.counted) c.in_ok-begin.ensures.falls
+    (passed_falls _ words mid.scratch c.pass-further.result mid.guard c.pass-further.new.self c.pass-further.ensures.counted)
+
+pub overflow_sub-most : goal.overflow_sub-most
+overflow_sub-most g c = omega (arith, c.requires)
+
+pub overflow_add-result : goal.overflow_add-result
+overflow_add-result g c = omega (arith, c.pass-further.ensures.most, c.ranges.most.fits)
+
+pub invariant_of-self : goal.invariant_of-self
+invariant_of-self g c =
+    let mid = c.begin.new.self in
+    record {
+      whole = mid.whole;
+      room = mid.room;
+      open_within = λ p e. mid.open_within p (sym (ap page_of c.pass-further.ensures.counted) ∙ e);
+      armed_within = passed_within c.pass-further.result mid.guard c.pass-further.new.self _ c.pass-further.ensures.counted mid.armed_within;
+    }

@@ -7,13 +7,14 @@ use Rattle.rio_base.specs.Rules.{true_false}
 use Rattle.board.specs.BoardLaws.{count_protected, pages_protected}
 use Rattle.board.specs.Boards.{protected_count, protected_of, running_of, scratch_of}
 use Rattle.board.specs.Guards.{HaltsWithin, MakesSteps, StopsAfter, page_of}
-use Rattle.board.proofs.Places.{page_in_memory}
+use Rattle.board.proofs.Places.{page_in_memory, pages_apart}
 use Rattle.board.proofs.DiskSteps.{disk_contents}
 use Rattle.board.proofs.Ran.{Ran, lasts_rest, ran_more, ran_stops, ran_stored, same_rest}
 use Rattle.board.proofs.Runs.{advances_halted, steps_advance}
 use Rattle.board.proofs.StepRuns.{makes_none, never_at_once, sooner_none}
 use Rattle.board.proofs.ScratchWords.{falls_first, run_scratch, scratch_more, scratch_none}
 use Rattle.board.proofs.WordRuns.{copied_front, copied_more, protected_front, run_value}
+use Rattle.rio_base.proofs.Exits.{on_err}
 use Rattle.board.proofs.board.BoardMachine.copy_page.Goals as goal
 
 pub returns-in_err-n-clause-lasts : goal.returns-in_err-n-clause-lasts
@@ -37,7 +38,7 @@ returns-in_err-n-clause-stops g c =
     let size = protected_count (g.F.MemWords.words old.mem) old.scratch in
     let halts = subst (λ s. HaltsWithin c.loop-done.self.guard (512 - k) s) i.steps.protected c.in_err-n.ensures.halts in
     let all : k + (512 - k) ≡ 512 = omega (arith, i.within) in
-    (λ e. subst (λ n. HaltsWithin old.guard n size) all ((i.sooner (512 - k)).0 halts), λ h. grind (arith, c.from_residual.ensures))
+    (λ e. subst (λ n. HaltsWithin old.guard n size) all ((i.sooner (512 - k)).0 halts), λ h. c.from_residual.ensures.0)
 
 pub invariant_of-self : goal.invariant_of-self
 invariant_of-self g c =
@@ -169,7 +170,7 @@ returns-in_err-n-clause-front g c =
       subst (λ (ws : List _). CopiedScratch c.args.from.0 c.args.to.0 k first ws) (sym b.protected) i.scratch,
       steps,
     ) in
-    grind (arith, front)
+    on_err c.from_residual.result _ front
 
 pub returns-in_err-n-clause-cut : goal.returns-in_err-n-clause-cut
 returns-in_err-n-clause-cut g c =
@@ -193,7 +194,7 @@ returns-in_err-n-clause-cut g c =
       subst (λ (ws : List _). CopiedScratch c.args.from.0 c.args.to.0 k first ws) (sym b.protected) i.scratch,
       ran_stops k (words old.mem) old.scratch (disk old.disk) old.guard (words mid.mem) mid.scratch (disk mid.disk) mid.guard (words end.mem) end.scratch end.guard ran b.unmoved b.scratch b.stops,
     ) in
-    grind (arith, cut)
+    on_err c.from_residual.result _ cut
 
 pub returns-in_err-n-clause-ends : goal.returns-in_err-n-clause-ends
 returns-in_err-n-clause-ends g c =
@@ -201,7 +202,7 @@ returns-in_err-n-clause-ends g c =
     record {
       steps = steps_trans _ _ _ c.loop-done.invariant.steps b.ends.steps;
       told = λ s. b.ends.told refl;
-      runs = λ n. absurd (n (grind (arith, c.from_residual.ensures)));
+      runs = λ n. absurd (n (c.from_residual.ensures.0));
     }
 
 pub returns-in_err-n-clause-begun : goal.returns-in_err-n-clause-begun
@@ -315,3 +316,42 @@ loop-done-init g c =
       sooner = sooner_none (protected_count (words old.mem) old.scratch) old.guard;
       made = makes_none (protected_count (words old.mem) old.scratch) (scratch_of (words old.mem) old.scratch) old.guard;
     }
+
+pub begin_run-requires : goal.begin_run-requires
+begin_run-requires g c = omega (arith, c.loop-done-test.true)
+
+pub loop-done-smaller : goal.loop-done-smaller
+loop-done-smaller g c = omega (arith, c.loop-done-test.true, c.in_ok-n.ensures.some.0)
+
+pub overflow_sub-done : goal.overflow_sub-done
+overflow_sub-done g c = omega (arith, c.loop-done-test.true)
+
+pub overflow_mul-at : goal.overflow_mul-at
+overflow_mul-at g c = omega (arith, page_in_memory (g.F.MemWords.words c.args.self.now.mem) c.args.self.now.scratch c.args.from.0 c.args.self.now.whole c.requires.from, g.met.F.MemWords.small c.args.self.now.mem)
+
+pub overflow_add-at : goal.overflow_add-at
+overflow_add-at g c = omega (arith, page_in_memory (g.F.MemWords.words c.args.self.now.mem) c.args.self.now.scratch c.args.from.0 c.args.self.now.whole c.requires.from, g.met.F.MemWords.small c.args.self.now.mem, c.loop-done-test.true)
+
+pub overflow_mul-to : goal.overflow_mul-to
+overflow_mul-to g c = omega (arith, c.args.self.now.open_within c.args.to.0 c.requires.to, g.met.F.MemWords.small c.args.self.now.mem)
+
+pub overflow_add-to : goal.overflow_add-to
+overflow_add-to g c = omega (arith, c.args.self.now.open_within c.args.to.0 c.requires.to, g.met.F.MemWords.small c.args.self.now.mem, c.loop-done-test.true)
+
+pub overflow_add-done : goal.overflow_add-done
+overflow_add-done g c = omega (arith, c.in_ok-n.ensures.some.1, c.loop-done-test.true)
+
+pub copy_words-requires-clause-from : goal.copy_words-requires-clause-from
+copy_words-requires-clause-from g c = omega (arith, page_in_memory (g.F.MemWords.words c.args.self.now.mem) c.args.self.now.scratch c.args.from.0 c.args.self.now.whole c.requires.from, c.in_ok-n.ensures.count, c.loop-done.invariant.count, c.in_ok-n.ensures.some.1, c.loop-done-test.true)
+
+pub copy_words-requires-clause-to : goal.copy_words-requires-clause-to
+copy_words-requires-clause-to g c = omega (arith, c.args.self.now.open_within c.args.to.0 c.requires.to, c.in_ok-n.ensures.count, c.loop-done.invariant.count, c.in_ok-n.ensures.some.1, c.loop-done-test.true)
+
+pub returns-clause-cut : goal.returns-clause-cut
+returns-clause-cut g c = tt
+
+pub returns-clause-front : goal.returns-clause-front
+returns-clause-front g c = tt
+
+pub copy_words-requires-clause-apart : goal.copy_words-requires-clause-apart
+copy_words-requires-clause-apart g c = pages_apart c.args.from.0 c.args.to.0 c.loop-done.done c.in_ok-n.n c.requires.two (omega (arith, c.in_ok-n.ensures.some.1, c.loop-done-test.true))

@@ -11,6 +11,7 @@ use Rattle.board.proofs.Ran.{Ran, lasts_rest, ran_more, ran_stops, ran_stored, s
 use Rattle.board.proofs.Runs.{advances_halted, steps_advance}
 use Rattle.board.proofs.StepRuns.{makes_none, never_at_once, sooner_none}
 use Rattle.board.proofs.WordRuns.{front_more, protected_front, run_part}
+use Rattle.rio_base.proofs.Exits.{on_err}
 use Rattle.board.proofs.board.BoardMachine.store_run.Goals as goal
 
 pub returns-in_err-n-clause-lasts : goal.returns-in_err-n-clause-lasts
@@ -34,7 +35,7 @@ returns-in_err-n-clause-stops g c =
     let size = protected_count (g.F.MemWords.words old.mem) old.scratch in
     let halts = subst (λ s. HaltsWithin c.loop-done.self.guard (length c.args.from.now - k) s) i.steps.protected c.in_err-n.ensures.halts in
     let all : k + (length c.args.from.now - k) ≡ length c.args.from.now = omega (arith, i.within) in
-    (λ e. subst (λ n. HaltsWithin old.guard n size) all ((i.sooner (length c.args.from.now - k)).0 halts), λ h. grind (arith, c.from_residual.ensures))
+    (λ e. subst (λ n. HaltsWithin old.guard n size) all ((i.sooner (length c.args.from.now - k)).0 halts), λ h. c.from_residual.ensures.0)
 
 pub loop-done-preserved : goal.loop-done-preserved
 loop-done-preserved g c =
@@ -134,7 +135,7 @@ returns-in_err-n-clause-front g c =
       subst (λ (ws : List _). FrontStored c.args.at.0 k c.args.from.now before ws) (sym b.protected) i.stored,
       steps,
     ) in
-    grind (arith, front)
+    on_err c.from_residual.result _ front
 
 pub returns-in_err-n-clause-cut : goal.returns-in_err-n-clause-cut
 returns-in_err-n-clause-cut g c =
@@ -156,7 +157,7 @@ returns-in_err-n-clause-cut g c =
       subst (λ (ws : List _). FrontStored c.args.at.0 k c.args.from.now before ws) (sym b.protected) i.stored,
       ran_stops k (words old.mem) old.scratch (disk old.disk) old.guard (words mid.mem) mid.scratch (disk mid.disk) mid.guard (words end.mem) end.scratch end.guard ran b.unmoved b.scratch b.stops,
     ) in
-    grind (arith, cut)
+    on_err c.from_residual.result _ cut
 
 pub returns-in_err-n-clause-ends : goal.returns-in_err-n-clause-ends
 returns-in_err-n-clause-ends g c =
@@ -164,7 +165,7 @@ returns-in_err-n-clause-ends g c =
     record {
       steps = steps_trans _ _ _ c.loop-done.invariant.steps b.ends.steps;
       told = λ s. b.ends.told refl;
-      runs = λ n. absurd (n (grind (arith, c.from_residual.ensures)));
+      runs = λ n. absurd (n (c.from_residual.ensures.0));
     }
 
 pub returns-in_err-n-clause-begun : goal.returns-in_err-n-clause-begun
@@ -263,3 +264,30 @@ loop-done-init g c =
       sooner = sooner_none (protected_count (words old.mem) old.scratch) old.guard;
       made = makes_none (protected_count (words old.mem) old.scratch) (scratch_of (words old.mem) old.scratch) old.guard;
     }
+
+pub begin_run-requires : goal.begin_run-requires
+begin_run-requires g c = omega (arith, c.loop-done-test.true)
+
+pub loop-done-smaller : goal.loop-done-smaller
+loop-done-smaller g c = omega (arith, c.loop-done-test.true, c.in_ok-n.ensures.some.0)
+
+pub overflow_sub-from : goal.overflow_sub-from
+overflow_sub-from g c = omega (arith, c.loop-done-test.true)
+
+pub overflow_cast-from : goal.overflow_cast-from
+overflow_cast-from g c = omega (arith, c.requires.within)
+
+pub overflow_cast-done : goal.overflow_cast-done
+overflow_cast-done g c = omega (arith, c.loop-done-test.true, c.requires.within)
+
+pub overflow_add-next : goal.overflow_add-next
+overflow_add-next g c = omega (arith, c.loop-done-test.true, c.in_ok-n.ensures.some.1, c.requires.within)
+
+pub overflow_add-at : goal.overflow_add-at
+overflow_add-at g c = omega (arith, c.args.self.now.open_within (c.args.at.0 / 512) c.requires.page, g.met.F.MemWords.small c.args.self.now.mem, c.loop-done-test.true, c.requires.within)
+
+pub returns-clause-cut : goal.returns-clause-cut
+returns-clause-cut g c = tt
+
+pub returns-clause-front : goal.returns-clause-front
+returns-clause-front g c = tt
