@@ -1,8 +1,9 @@
 -- What no two entries share: looked for entry by entry, among those before it.
 use Rattle.std.proofs.Common.{◌≡◌, ◌≢◌, ℕ, zero, suc, ◌+◌, ◌*◌, ◌/◌, ◌%◌, ◌^◌, ◌<◌, ◌≤◌, ◌==◌, ◌⊎◌, inl, inr, if◌then◌else◌, Bool, true, false, List, length, slice_index, slice_set, replicate, bit_and, refl, arith, ap, sym, subst, ◌∙◌, get_or-set_same, get_or-set_other}
+use Rattle.std.specs.Prelude.{◌↔◌, IsTrue}
 use Rattle.std.specs.Int.{bit_at, w64}
 use Rattle.std.specs.Int.RustNames.{bit_or}
-use Rattle.std.proofs.lemmas.Bool.{cases_Bool, cases_eq, cases_order, eq-eqb, ne_eqb}
+use Rattle.std.proofs.lemmas.Bool.{cases_Bool, cases_eq, cases_order, eq-eqb, eqb-true, ne_eqb}
 use Rattle.std.proofs.lemmas.List.{length-replicate}
 use Rattle.std.proofs.lemmas.Nat.Bits.{bit_at-zero, bit_at_set_other, bit_at_set_same, shr_and_one}
 use Rattle.rio_base.specs.Rules.{true_false}
@@ -128,3 +129,20 @@ marks_take words n most x old new within h size valid block marks = marks_next w
     by : (b : ℕ) → (b ≡ x) ⊎ (b ≢ x) → (if b == x then 1 else block_mark old b) ≡ (if holds words b n then 1 else block_mark old b)
     by b (inl e) = ap (λ (t : Bool). if t then 1 else block_mark old b) (eq-eqb b x e) ∙ sym (ap (λ (t : Bool). if t then 1 else block_mark old b) (holds_is words b n (record { within = within; valid = valid }) (sym block ∙ sym e)))
     by b (inr ne) = ap (λ (t : Bool). if t then 1 else block_mark old b) (ne_eqb b x ne) ∙ sym (ap (λ (t : Bool). if t then 1 else block_mark old b) (held_not words b n (inr (λ e. ne (sym e ∙ sym block)))))
+
+-- ---- whether an entry takes a block
+
+pub takes_none : (words : List ℕ) (k : ℕ) (P : Type 0) → is_valid (tag_at words k) ≡ false → IsTrue true ↔ (IsValid words k → P)
+takes_none words k P invalid = (λ t v. absurd (true_false (sym v.valid ∙ invalid)), λ f. refl)
+
+pub takes_as : (words : List ℕ) (k x : ℕ) (r : Bool) → k < frames_of words → is_valid (tag_at words k) ≡ true → x ≡ tag_block (tag_at words k) → (IsTrue r ↔ IsFreeBefore words k x) → IsTrue r ↔ (IsValid words k → IsFreeBefore words k (tag_block (tag_at words k)))
+takes_as words k x r within valid block h = (
+  λ t v. subst (IsFreeBefore words k) block (h.0 t),
+  λ f. h.1 (subst (IsFreeBefore words k) (sym block) (f (record { within = within; valid = valid }))),
+)
+
+pub marked_taken : (words : List ℕ) (k most x : ℕ) (marks : List ℕ) → MarksBefore words k most marks → x < most → true ≡ (block_mark marks x == 1) → IsTrue false ↔ IsFreeBefore words k x
+marked_taken words k most x marks h less is = (λ t. absurd (true_false (sym t)), λ free. absurd (h.marked x less (eqb-true _ _ (sym is)) free))
+
+pub unmarked_free : (words : List ℕ) (k most x : ℕ) (marks : List ℕ) → MarksBefore words k most marks → x < most → false ≡ (block_mark marks x == 1) → IsTrue true ↔ IsFreeBefore words k x
+unmarked_free words k most x marks h less is = (λ t. h.unmarked x less (λ e. true_false (sym (eq-eqb (block_mark marks x) 1 e) ∙ sym is)), λ free. refl)

@@ -225,7 +225,6 @@ fn note_entries<M: Machine>(m: &M, entries: &mut [u32])
 }
 
 /// Notes entry `k`, if it is valid, for its block, if the table has it.
-#[tactic(auto, using(crate::proofs::Views::noted_here, crate::proofs::Views::noted_nowhere))]
 fn note_entry<M: Machine>(m: &M, k: u32, entries: &mut [u32])
     requires layout { HasLayout (M.contents m.now).words (M.run m.now).scratch }
     requires entry { k < frames_of (M.contents m.now).words }
