@@ -59,7 +59,7 @@ entry_within words b k e = (found_is words b k e).0.within
 -- ---- blocks in their places
 
 -- a slice of 512 words is replaced
-pub block_stored : (xs ys from : List ℕ) (a k b : ℕ) → ys ≡ from → a ≡ 512 * b → k ≡ 512 → length from ≡ 512 → 512 * b + 512 ≤ length xs → FrontStored (512 * b) 512 from xs (put_mid a k xs ys)
+block_stored : (xs ys from : List ℕ) (a k b : ℕ) → ys ≡ from → a ≡ 512 * b → k ≡ 512 → length from ≡ 512 → 512 * b + 512 ≤ length xs → FrontStored (512 * b) 512 from xs (put_mid a k xs ys)
 block_stored xs ys from a k b same place size len fits =
     subst (λ (zs : List ℕ). FrontStored (512 * b) 512 from xs (put_mid a k xs zs)) (sym same) (subst (λ (c : ℕ). FrontStored (512 * b) 512 from xs (put_mid c k xs from)) (sym place) (subst (λ (m : ℕ). FrontStored (512 * b) 512 from xs (put_mid (512 * b) m xs from)) (sym size) (stored xs from (512 * b) 512 (sym len) fits)))
   where
@@ -72,6 +72,10 @@ block_stored xs ys from a k b same place size len fits =
           below = λ i less. get_or_append_left (take at xs) (from ++ drop n (drop at xs)) 0 i (omega arith) ∙ get_or-take at xs i 0 less;
           above = λ i more. get_or-append_right (take at xs) (from ++ drop n (drop at xs)) at i 0 front (omega arith) ∙ get_or-append_right from (drop n (drop at xs)) n (i - at) 0 (sym len) (omega arith) ∙ get_or-drop n (drop at xs) (i - at - n) 0 ∙ get_or-drop at xs (n + (i - at - n)) 0 ∙ ap (λ j. slice_index_or xs j 0) (omega arith);
         }
+
+-- the words of a block are put in their place
+pub block_put : (to new from : List ℕ) (b : ℕ) → new ≡ from → length from ≡ 512 → 512 * b + 512 ≤ length to → FrontStored (512 * b) 512 from to (put_mid (512 * b) ((512 * b + 512) - 512 * b) to new)
+block_put to new from b same len fits = block_stored to new from (512 * b) ((512 * b + 512) - 512 * b) b same refl (omega arith) len fits
 
 -- the slice of a page's words
 pub page_taken : (p : ℕ) (words : List ℕ) → take (512 * p + 512 - 512 * p) (drop (512 * p) words) ≡ page_at words p

@@ -20,7 +20,6 @@ pub fn zeros(alloc: Global, count: usize) -> Result<Vec<u64>, AllocError>
 }
 
 /// Puts the words of a block in their place.
-#[tactic(auto, using(crate::proofs::Reading::block_stored))]
 pub fn put_block(to: &mut [u64], b: Block, from: &[u64])
     requires room { 512 * b.0 + 512 ≤ length to.old }
     requires words { length from.now ≡ 512 }

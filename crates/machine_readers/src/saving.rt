@@ -8,7 +8,6 @@ ghost use Rattle.rio_base.specs.Memory.{page_at};
 use rio_base::{Block, DiskFail, Machine, Page, WordAt};
 
 /// Stores a word at the front of a page, brings the page to a block, and reads the block back.
-#[tactic(auto, using(rio_base::proofs::MachineRules::lasts_trans, rio_base::proofs::MachineRules::steps_trans, rio_base::proofs::MachineRules::ends_after))]
 pub fn save<M: Machine>(
     m: &mut M,
     p: Page,
