@@ -1,10 +1,11 @@
 -- The rules of the header, of bytes and of their words.
-use Rattle.std.proofs.Common.{◌≡◌, ◌≢◌, ◌<◌, ◌≤◌, ℕ, ◌*◌, ◌^◌, All, List, length, take, drop, ◌-◌, slice_index, refl, sym, ap, ◌∙◌, subst, arith}
+use Rattle.std.proofs.Common.{◌≡◌, ◌≢◌, ◌<◌, ◌≤◌, ℕ, ◌*◌, ◌^◌, Bool, true, false, All, List, length, take, drop, ◌-◌, slice_index, refl, sym, ap, ◌∙◌, subst, arith}
 use Rattle.byteorder.specs.Endian.{little_number}
 use Rattle.std.proofs.lemmas.List.{take_rest}
 use Rattle.std.proofs.lemmas.List.Elements.{recursion_from_All}
 use Rattle.rio_base.proofs.Bytes.{length-bytes_of, word_at-bytes_of}
 use Rattle.rio_base.specs.Image.{image_magic}
+use Rattle.rio_base.specs.Rules.{true_false}
 use Rattle.rio_base.specs.Bytes.{bytes_of, word_at}
 use Rattle.image_codec.specs.Image.{FailsFirst, HasGeometry, IsImage, IsImageLength, KeepsRules}
 use Rattle.image_codec.specs.declared.fault.ImageFault.{ImageFault}
@@ -30,6 +31,27 @@ keeps bytes magic version frames scratch long r0 e0 r1 e1 r2 r3 geometry =
     let w2 : frames ≡ word_at bytes 2 = read_from bytes 16 frames r2 in
     let w3 : scratch ≡ word_at bytes 3 = read_from bytes 24 scratch r3 in
     record { long = long; magic = sym r0 ∙ e0; version = sym w1 ∙ e1; geometry = subst (λ (s : ℕ). HasGeometry (word_at bytes 2) s (length bytes)) w3 (subst (λ (f : ℕ). HasGeometry f scratch (length bytes)) w2 geometry) }
+
+-- ---- the first rule that fails, of what was read of the header
+
+pub fails_length : (bytes : List ℕ) (is : Bool) → (IsImageLength (length bytes) → is ≡ true) → is ≡ false → (BadLength ≢ Memory) × FailsFirst bytes BadLength
+fails_length bytes is told fails = (λ e. cc, λ long. true_false (sym (told long) ∙ fails))
+
+pub fails_magic : (bytes : List ℕ) (magic : ℕ) → IsImageLength (length bytes) → magic ≡ word_at bytes 0 → magic ≢ image_magic → (BadMagic ≢ Memory) × FailsFirst bytes BadMagic
+fails_magic bytes magic long r0 other = (λ e. cc, (long, λ is. other (r0 ∙ is)))
+
+pub fails_version : (bytes : List ℕ) (magic version : ℕ) → IsImageLength (length bytes) → magic ≡ word_at bytes 0 → magic ≡ image_magic → version ≡ little_number 8 (take (length bytes - 8) (drop 8 bytes)) → version ≢ 1 → (BadVersion ≢ Memory) × FailsFirst bytes BadVersion
+fails_version bytes magic version long r0 e0 r1 other =
+    let w1 : version ≡ word_at bytes 1 = read_from bytes 8 version r1 in
+    (λ e. cc, (long, sym r0 ∙ e0, λ is. other (w1 ∙ is)))
+
+pub fails_geometry : (bytes : List ℕ) (magic version frames scratch : ℕ) (is : Bool) → IsImageLength (length bytes) → magic ≡ word_at bytes 0 → magic ≡ image_magic → version ≡ little_number 8 (take (length bytes - 8) (drop 8 bytes)) → version ≡ 1
+    → frames ≡ little_number 8 (take (length bytes - 16) (drop 16 bytes)) → scratch ≡ little_number 8 (take (length bytes - 24) (drop 24 bytes)) → (HasGeometry frames scratch (length bytes) → is ≡ true) → is ≡ false → (BadGeometry ≢ Memory) × FailsFirst bytes BadGeometry
+fails_geometry bytes magic version frames scratch is long r0 e0 r1 e1 r2 r3 told fails =
+    let w1 : version ≡ word_at bytes 1 = read_from bytes 8 version r1 in
+    let w2 : frames ≡ word_at bytes 2 = read_from bytes 16 frames r2 in
+    let w3 : scratch ≡ word_at bytes 3 = read_from bytes 24 scratch r3 in
+    (λ e. cc, (long, sym r0 ∙ e0, sym w1 ∙ e1, λ has. true_false (sym (told (subst (λ (s : ℕ). HasGeometry frames s (length bytes)) (sym w3) (subst (λ (f : ℕ). HasGeometry f (word_at bytes 3) (length bytes)) (sym w2) has))) ∙ fails)))
 
 -- the rules hold of the words where they hold of the bytes
 pub image_from : (bytes words : List ℕ) → length bytes ≡ 8 * length words → ((k : ℕ) → k < length words → slice_index words k ≡ word_at bytes k) → KeepsRules bytes → IsImage words
