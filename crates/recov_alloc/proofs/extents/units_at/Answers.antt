@@ -112,3 +112,12 @@ returns-clause-ends g c =
 
 pub returns-clause-value : goal.returns-clause-value
 returns-clause-value g c = subst (λ (w : ℕ → ℕ). IsBlock (live w) (units_of w) c.args.unit c.in_ok-units.units) c.read_places_with.ensures.words c.in_ok-units.ensures.value
+
+pub read_places_with-requires-clause-place : goal.read_places_with-requires-clause-place
+read_places_with-requires-clause-place g c = omega (arith, c.requires.unit, c.requires.pages)
+
+pub units_from-requires-clause-low : goal.units_from-requires-clause-low
+units_from-requires-clause-low g c = c.reach_in_page-end.ensures.low
+
+pub units_from-requires-clause-most : goal.units_from-requires-clause-most
+units_from-requires-clause-most g c = omega (arith, c.reach_in_page-end.ensures.most, c.requires.unit)

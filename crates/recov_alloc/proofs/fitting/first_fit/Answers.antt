@@ -1,4 +1,4 @@
-use Rattle.std.proofs.Common.{subst, sym, ℕ, ◌∙◌}
+use Rattle.std.proofs.Common.{arith, subst, sym, ℕ, ◌∙◌}
 use Rattle.std.proofs.lemmas.Result.{err_from_is_err_and}
 use Rattle.rio_base.proofs.BlockRules.{ends_later}
 use Rattle.rio_base.proofs.RegionRules.{stays_trans}
@@ -67,3 +67,15 @@ returns-clause-stays g c = stays_trans g.met.R.RegionWords.rest_trans c.look_in_
 
 pub returns-clause-ends : goal.returns-clause-ends
 returns-clause-ends g c = ends_later _ _ _ _ c.look_in_pages.ensures.ends.later c.in_ok-at.ensures.ends.cause c.fit_from.ensures.ends
+
+pub look_in_pages-requires-clause-before : goal.look_in_pages-requires-clause-before
+look_in_pages-requires-clause-before g c = omega (arith, c.requires.units)
+
+pub look_in_pages-requires-clause-within : goal.look_in_pages-requires-clause-within
+look_in_pages-requires-clause-within g c = omega arith
+
+pub look_in_pages-requires-clause-page : goal.look_in_pages-requires-clause-page
+look_in_pages-requires-clause-page g c = omega (arith, c.min-count.ensures, c.requires.header.data_pages)
+
+pub fit_from-requires-clause-from : goal.fit_from-requires-clause-from
+fit_from-requires-clause-from g c = omega (arith, c.min-count.ensures)

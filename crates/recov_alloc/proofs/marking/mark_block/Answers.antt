@@ -72,3 +72,12 @@ returns-clause-ends g c = record { later = c.loop-next.invariant.later; stays = 
 
 pub returns-clause-keeps : goal.returns-clause-keeps
 returns-clause-keeps g c = c.loop-next.invariant.keeps
+
+pub mark_page-requires-clause-page : goal.mark_page-requires-clause-page
+mark_page-requires-clause-page g c = omega (arith, c.min-run.ensures)
+
+pub mark_page-requires-clause-units : goal.mark_page-requires-clause-units
+mark_page-requires-clause-units g c = omega (arith, c.min-run.ensures, c.loop-next-test.true)
+
+pub loop-next-smaller : goal.loop-next-smaller
+loop-next-smaller g c = omega (arith, c.min-run.ensures, c.loop-next-test.true)

@@ -68,3 +68,9 @@ returns-clause-ends g c = ends_later _ _ _ _ c.read_places_with.ensures.ends.lat
 pub returns-clause-keeps : goal.returns-clause-keeps
 returns-clause-keeps g c =
     subst (λ n. Keeps n (g.R.RegionWords.words c.args.r.now) (g.R.RegionWords.words c.mark_words.new.r)) c.read_places_with.ensures.stays.count (subst (λ w. Keeps (g.R.RegionWords.count c.read_places_with.new.r) w (g.R.RegionWords.words c.mark_words.new.r)) c.read_places_with.ensures.words c.mark_words.ensures.keeps)
+
+pub mark_words-requires-clause-page : goal.mark_words-requires-clause-page
+mark_words-requires-clause-page g c = c.requires.page
+
+pub mark_words-requires-clause-units : goal.mark_words-requires-clause-units
+mark_words-requires-clause-units g c = c.requires.units
