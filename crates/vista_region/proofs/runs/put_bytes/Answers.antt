@@ -145,3 +145,9 @@ put_run-requires-clause-covered g c =
     let few = length-take (8 * next - 8 * c.loop-done.done) (drop (8 * c.loop-done.done) c.args.bytes.now) in
     let rest = length-drop (8 * c.loop-done.done) c.args.bytes.now in
     λ q low high. ap (λ rs. is_covered rs q) c.loop-done.invariant.puts.keeps.records ∙ c.requires.covered q (omega (arith, low)) (omega (arith, high, few, rest, c.min-next.ensures, c.loop-done-test.true))
+
+pub overflow_cast-done : goal.overflow_cast-done
+overflow_cast-done g c = omega (arith, g.met.R.RegionWords.small c.args.r.now c.requires.ready, c.requires.region.size, c.requires.place, c.loop-done.invariant.within, c.loop-done-test.true)
+
+pub overflow_add-place : goal.overflow_add-place
+overflow_add-place g c = omega (arith, g.met.R.RegionWords.small c.args.r.now c.requires.ready, c.requires.region.size, c.requires.place, c.loop-done.invariant.within, c.loop-done-test.true)
