@@ -6,6 +6,7 @@ use Rattle.rio_base.proofs.MachineRules.{never}
 use Rattle.rio_base.specs.declared.failures.DiskFail.TheVariants.{Stopped}
 use Rattle.page_restore.proofs.Exits.{not_ok, phase_step}
 use Rattle.page_restore.proofs.ReadEnds.{step_failed}
+use Rattle.page_restore.proofs.Steps.{layout_now}
 use Rattle.page_restore.proofs.writing.write_page.Goals as goal
 
 pub returns-in_err-write_block-clause-endures : goal.returns-in_err-write_block-clause-endures
@@ -47,3 +48,24 @@ returns-clause-words g c = c.write_block.ensures.writes_block.words
 
 pub returns-clause-ends : goal.returns-clause-ends
 returns-clause-ends g c = phase_step _ _ _ _ _ _ (never _ Stopped) (c.write_block.ensures.writes_block.open_page ∙ c.requires.closed) c.write_block.ensures.lasts c.in_ok-write_block.ensures.ends
+
+pub load_tag-requires-clause-layout : goal.load_tag-requires-clause-layout
+load_tag-requires-clause-layout g c = layout_now _ _ c.requires.image
+
+pub load_tag-requires-clause-entry : goal.load_tag-requires-clause-entry
+load_tag-requires-clause-entry g c = c.requires.valid.within
+
+pub counted_page_of-page-requires-clause-layout : goal.counted_page_of-page-requires-clause-layout
+counted_page_of-page-requires-clause-layout g c = layout_now _ _ c.requires.image
+
+pub counted_page_of-page-requires-clause-valid : goal.counted_page_of-page-requires-clause-valid
+counted_page_of-page-requires-clause-valid g c = c.requires.valid
+
+pub write_block-requires-clause-closed : goal.write_block-requires-clause-closed
+write_block-requires-clause-closed g c = c.requires.closed
+
+pub write_block-requires-clause-block : goal.write_block-requires-clause-block
+write_block-requires-clause-block g c = subst (λ b. b < length (g.M.Machine.contents c.args.m.now).disk) (sym (c.block-block.ensures ∙ ap tag_block c.load_tag.ensures)) (c.requires.image.on_disk c.args.k c.requires.valid)
+
+pub write_block-requires-clause-from : goal.write_block-requires-clause-from
+write_block-requires-clause-from g c = omega (arith, c.counted_page_of-page.ensures.within)
