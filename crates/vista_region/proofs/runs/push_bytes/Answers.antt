@@ -97,3 +97,9 @@ push_run-requires-clause-place g c = subst (λ (w : RegionContent). c.args.place
 
 pub returns-clause-bytes : goal.returns-clause-bytes
 returns-clause-bytes g c = subst (λ k. c.loop-at.out.items ≡ c.args.out.now.items ++ bytes_in (λ w. live (g.R.RegionWords.words c.args.r.now) (c.args.place + w)) c.args.off (k - c.args.off)) (omega (arith, c.loop-at.invariant.high, c.loop-at-test.false)) c.loop-at.invariant.bytes
+
+pub overflow_cast-first : goal.overflow_cast-first
+overflow_cast-first g c = omega (arith, g.met.R.RegionWords.small c.args.r.now c.requires.ready, c.requires.region.size, c.requires.place, c.loop-at-test.true)
+
+pub overflow_add-place : goal.overflow_add-place
+overflow_add-place g c = omega (arith, g.met.R.RegionWords.small c.args.r.now c.requires.ready, c.requires.region.size, c.requires.place, c.loop-at-test.true)
