@@ -116,6 +116,7 @@ pub record MakesNone (r : Request) : Type 0 where
   pub write : (path : List ℕ) (off : ℕ) (bytes : List ℕ) → r ≡ Write path off bytes → ⊥
   pub read : (path : List ℕ) (off : ℕ) (len : ℕ) → r ≡ Read path off len → ⊥
   pub truncate : (path : List ℕ) (len : ℕ) → r ≡ Truncate path len → ⊥
+  pub stat : (path : List ℕ) → r ≡ StatOf path → ⊥
 
 pub left_by_name : (r : Request) → MakesNone r → OnFiles r → ByName r
 left_by_name (Mkdir path) none on = absurd (none.mkdir path refl)
@@ -124,10 +125,10 @@ left_by_name (MakeRegion path pages undo) none on = absurd (none.region path pag
 left_by_name (Write path off bytes) none on = absurd (none.write path off bytes refl)
 left_by_name (Read path off len) none on = absurd (none.read path off len refl)
 left_by_name (Truncate path len) none on = absurd (none.truncate path len refl)
+left_by_name (StatOf path) none on = absurd (none.stat path refl)
 left_by_name (Unlink path) none on = tt
 left_by_name (Rmdir path) none on = tt
 left_by_name (Rename path to) none on = tt
-left_by_name (StatOf path) none on = tt
 left_by_name (ListOf path) none on = tt
 left_by_name _ none on = on
 
@@ -135,13 +136,11 @@ pub record NamesNone (r : Request) : Type 0 where
   pub unlink : (path : List ℕ) → r ≡ Unlink path → ⊥
   pub rmdir : (path : List ℕ) → r ≡ Rmdir path → ⊥
   pub rename : (path : List ℕ) (to : List ℕ) → r ≡ Rename path to → ⊥
-  pub stat : (path : List ℕ) → r ≡ StatOf path → ⊥
   pub list : (path : List ℕ) → r ≡ ListOf path → ⊥
 
 pub none_by_name : (r : Request) → NamesNone r → ByName r → ⊥
 none_by_name (Unlink path) none on = none.unlink path refl
 none_by_name (Rmdir path) none on = none.rmdir path refl
 none_by_name (Rename path to) none on = none.rename path to refl
-none_by_name (StatOf path) none on = none.stat path refl
 none_by_name (ListOf path) none on = none.list path refl
 none_by_name _ none on = on

@@ -1,19 +1,22 @@
 -- Wild stores over a running core: made now, or armed.
 use Rattle.rio_core.proofs.Common.{◌≡◌, ℕ, ◌*◌, ◌/◌, Bool, true, false, refl, sym, ap, subst, ◌∙◌, inl, inr, arith, [], ◌∷◌, Some, IsErr, VolumeShape, Seen, Kept, Settled, Reply, State, answer_of, crashed, Stands, Marks}
 use Rattle.std.proofs.Common.{le_refl}
-use Rattle.std.specs.Prelude.{◌+◌, ◌-◌, ◌<◌, ◌≤◌, nat_lt, cond, None, Ok, Err}
+use Rattle.std.specs.Prelude.{◌+◌, ◌-◌, ◌<◌, ◌≤◌, nat_lt, cond, None, Result, Ok, Err}
 use Rattle.std.proofs.lemmas.Bool.{le-leb, lt-leb, lt-ltb, ltb-false, ltb-true}
 use Rattle.std.proofs.lemmas.Bool.Decides.{nat_tests}
 use Rattle.rio_base.specs.declared.failures.Stopped.{Stopped as MachineStopped}
 use Rattle.rio_base.specs.Blocks.{EndsBy, Health}
-use Rattle.rio_base.specs.Rules.{limit_refl}
-use Rattle.rio_base.specs.Volume.{Below}
+use Rattle.rio_base.specs.Machine.{Running, after_wild}
+use Rattle.rio_base.specs.Rules.{limit_refl, true_false}
+use Rattle.rio_base.proofs.Rules.{ends_by_well}
+use Rattle.rio_base.specs.Volume.{Below, Quiet}
 use Rattle.rio_base.specs.declared.wild.Wild.{Wild as WildEnd}
 use Rattle.rio_base.specs.declared.wild.Wild.TheVariants.{Changed, Trapped, Spared}
 use Rattle.page_cache.specs.Wilds.{Arms, Strikes}
 use Rattle.rio_requests.specs.Answer.{answered, refused}
 use Rattle.rio_requests.specs.Parts.{IsPart}
 use Rattle.rio_requests.specs.Went.{StoppedOn, Went}
+use Rattle.rio_requests.proofs.WentRules.{quiet_refl}
 use Rattle.rio_requests.specs.declared.reply.Reply.TheVariants.{Ok as Done, Err as RefusedBy}
 use Rattle.rio_requests.specs.declared.request.Request.TheVariants.{Wild, Arm}
 use Rattle.rio_core.specs.Serving.{Answering, Holds, Serves, TellsFault}
@@ -157,3 +160,26 @@ protects at n less = lt-ltb (512 * (at / 512)) n (omega (arith, less))
 -- how many words of memory there are, by the pages that the machine tells
 pub memory_words : (a b : Below) (p q n : ℕ) → a ≡ b → b.memory.protected ≡ p → b.memory.scratch ≡ q → 512 * n ≡ p + q → 512 * n ≡ a.memory.protected + a.memory.scratch
 memory_words a b p q n same protected scratch all = all ∙ ap (λ x. x + q) (sym protected) ∙ ap (λ x. b.memory.protected + x) (sym scratch) ∙ ap (λ (d : Below). d.memory.protected + d.memory.scratch) (sym same)
+
+-- what the machine has run through, where it is known what the store met and where it fell
+pub wild_ran : (r s : Running) (w met : WildEnd) (i at value : ℕ) → s ≡ after_wild w i value r → w ≡ met → i ≡ at → s ≡ after_wild met at value r
+wild_ran r s w met i at value ran is place = ran ∙ ap (λ x. after_wild x i value r) is ∙ ap (λ n. after_wild met n value r) place
+
+-- ---- how a store now ends
+
+pub refused_done : (p : Result Reply MachineStopped) → p ≡ Ok (RefusedBy 19) → p ≡ Ok Done → ⊥
+refused_done p refused done = cc
+
+pub stopped_reply : (p : Result Reply MachineStopped) (e : MachineStopped) (reply : Reply) → p ≡ Err e → p ≡ Ok reply → ⊥
+stopped_reply p e reply stopped replied = cc
+
+-- nothing is written by it
+pub trap_quiet : (b c : Below) (at : ℕ) → c ≡ record b { causes = record b.causes { trapped = Some at } } → Quiet b c
+trap_quiet b c at below = subst (λ (d : Below). Quiet b d) (sym below) (record { home = λ r. refl; writes = λ r. refl })
+
+pub wild_quiet : (b c : Below) → c ≡ b → Quiet b c
+wild_quiet b c below = subst (λ (d : Below). Quiet b d) (sym below) (quiet_refl b)
+
+-- a reply that tells no fault
+pub reply_well : (s t : Health) (reply : Reply) → t ≡ s → (TellsFault (Ok reply) → ⊥) → EndsBy s t (TellsFault (Ok reply)) (IsErr {E = MachineStopped} (Ok reply))
+reply_well s t reply same none = subst (λ (u : Health). EndsBy s u (TellsFault (Ok reply)) (IsErr {E = MachineStopped} (Ok reply))) (sym same) (ends_by_well s s (TellsFault (Ok reply)) (IsErr {E = MachineStopped} (Ok reply)) (le_refl s.faults) refl none (λ p. true_false (sym p)))

@@ -1,13 +1,12 @@
 -- Requests by what they touch.
 use Rattle.rio_requests.specs.declared.request.Request.{Request}
-use Rattle.rio_requests.specs.declared.request.Request.TheVariants.{Unlink, Rmdir, Rename, Stat as StatOf, List as ListOf, Put, Get, Alloc, Free}
+use Rattle.rio_requests.specs.declared.request.Request.TheVariants.{Unlink, Rmdir, Rename, List as ListOf, Put, Get, Alloc, Free}
 
--- a name goes or moves, or what it leads to is told
+-- a name goes or moves, or names are listed
 abbrev pub ByName : Request → Type 0
 ByName (Unlink path) = Unit {0}
 ByName (Rmdir path) = Unit {0}
 ByName (Rename path to) = Unit {0}
-ByName (StatOf path) = Unit {0}
 ByName (ListOf path) = Unit {0}
 ByName _ = ⊥
 

@@ -76,12 +76,13 @@ fn answer_on<V: Volume>(
             *data_pages,
             *undo_pages,
         )),
+        Request::Stat { path } => stat_reply(stat_with(alloc, v, shape, memo, path.as_slice())),
         _ => answer_by_name(alloc, v, shape, memo, table, request),
     }
 }
 
-/// Answers a request that takes a name away, moves it or tells what it leads to. What is held in memory is in step afterwards,
-/// unless the machine is stopped.
+/// Answers a request that takes a name away, moves it or lists names. What is held in memory is in step afterwards, unless the
+/// machine is stopped.
 fn answer_by_name<V: Volume>(
     alloc: Global,
     v: &mut V,
@@ -119,7 +120,6 @@ fn answer_by_name<V: Volume>(
             )),
             Err(_) => Ok(Reply::Err(NO_MEMORY)),
         },
-        Request::Stat { path } => stat_reply(stat_with(alloc, v, shape, memo, path.as_slice())),
         Request::List { path } => names_reply(list_with(alloc, v, shape, memo, path.as_slice())),
         // Not reached: other requests are answered elsewhere.
         _ => Ok(Reply::Err(BAD_REQUEST)),

@@ -1,13 +1,17 @@
-use Rattle.rio_core.proofs.Common.{◌≡◌, ◌∙◌, Ok, sym, ap, subst, crashed}
+use Rattle.rio_core.proofs.Common.{◌≡◌, ◌∙◌, Ok, refl, sym, ap, subst, crashed}
 use Rattle.rio_requests.specs.declared.reply.Reply.TheVariants.{Err as RefusedBy}
-use Rattle.rio_requests.specs.declared.request.Request.TheVariants.{Unlink, Rmdir, Rename, Stat as StatOf, List as ListOf}
+use Rattle.rio_requests.specs.declared.request.Request.TheVariants.{Unlink, Rmdir, Rename, List as ListOf}
 use Rattle.rio_requests.specs.Answers.{rename, unlink}
 use Rattle.rio_requests.specs.Parts.{NoneDone}
-use Rattle.file_tree.specs.Ends.{FileEnds, SaysDone, SaysNames, SaysStat}
+use Rattle.file_tree.specs.Ends.{FileEnds, SaysDone, SaysNames}
+use Rattle.rio_base.specs.Rules.{goes_refl}
+use Rattle.rio_model.specs.Paths.{IsPath}
+use Rattle.rio_requests.specs.Requests.{IsRequest}
 use Rattle.rio_core.specs.Serving.{RequestEnds}
+use Rattle.rio_core.proofs.WildStores.{reply_well}
 use Rattle.rio_core.proofs.FileRequests.{lacks_memory, none_by_name, request_ends}
 use Rattle.rio_core.proofs.Lookups.{rows_open}
-use Rattle.rio_core.proofs.ReplyEnds.{not_stopped, no_done, no_names, no_stat, reply_ends}
+use Rattle.rio_core.proofs.ReplyEnds.{not_stopped, no_done, no_names, reply_ends}
 use Rattle.rio_core.proofs.Standing.{serves_can}
 use Rattle.rio_core.proofs.answering.answer_by_name.Goals as goal
 
@@ -19,9 +23,6 @@ rmdir_with-requires-clause-can g c = serves_can c.args.shape.now (g.V.Blocks.see
 
 pub rename_with-requires-clause-can : goal.rename_with-requires-clause-can
 rename_with-requires-clause-can g c = serves_can c.args.shape.now (g.V.Blocks.seen c.args.v.now) (g.V.Volume.kept c.args.v.now) c.args.table.now c.requires.serves.0 c.requires.serves.1
-
-pub stat_with-requires-clause-can : goal.stat_with-requires-clause-can
-stat_with-requires-clause-can g c = serves_can c.args.shape.now (g.V.Blocks.seen c.args.v.now) (g.V.Volume.kept c.args.v.now) c.args.table.now c.requires.serves.0 c.requires.serves.1
 
 pub list_with-requires-clause-can : goal.list_with-requires-clause-can
 list_with-requires-clause-can g c = serves_can c.args.shape.now (g.V.Blocks.seen c.args.v.now) (g.V.Volume.kept c.args.v.now) c.args.table.now c.requires.serves.0 c.requires.serves.1
@@ -86,21 +87,6 @@ returns-in-Err-open_list-clause-answered g c =
     let k = g.V.Volume.kept c.args.v.now in
     λ s serves. subst (λ a. RequestEnds shape x k c.args.table.now s a (Ok (RefusedBy 31))) (sym c.in-Rename.is) (lacks_memory shape x k c.args.table.now s (Rename c.in-Rename.path c.in-Rename.to) tt serves)
 
-pub returns-in-Stat-clause-answered : goal.returns-in-Stat-clause-answered
-returns-in-Stat-clause-answered g c =
-    let shape = c.args.shape.now in
-    let x = g.V.Blocks.seen c.args.v.now in
-    let k = g.V.Volume.kept c.args.v.now in
-    let y = g.V.Blocks.seen c.stat_with.new.v in
-    let j = g.V.Volume.kept c.stat_with.new.v in
-    let p = c.as_slice-in-Stat.result.now in
-    let r = StatOf p in
-    let is : c.args.request.now ≡ r = c.in-Stat.is ∙ ap StatOf (sym c.as_slice-in-Stat.ensures) in
-    λ s serves. subst (λ a. RequestEnds shape y j c.args.table.now s a c.stat_reply.result) (sym is) (request_ends SaysStat shape x k y j c.args.table.now s r c.stat_with.result c.stat_reply.result (λ v a b h i. h ∙ sym i) tt tt serves (c.stat_with.ensures.leaves (crashed s) serves.reads) c.stat_reply.ensures)
-
-pub returns-in-Stat-clause-ends : goal.returns-in-Stat-clause-ends
-returns-in-Stat-clause-ends g c = reply_ends SaysStat _ _ c.stat_with.result c.stat_reply.result (λ v n h. no_stat h) c.stat_reply.ensures c.stat_with.ensures.ends
-
 pub returns-in-List-clause-answered : goal.returns-in-List-clause-answered
 returns-in-List-clause-answered g c =
     let shape = c.args.shape.now in
@@ -119,7 +105,7 @@ returns-in-List-clause-ends g c = reply_ends SaysNames _ _ c.list_with.result c.
 pub returns-in_default : goal.returns-in_default
 returns-in_default g c =
     let d = c.in_default in
-    absurd (none_by_name c.args.request.now (record { unlink = d.not-Unlink; rmdir = d.not-Rmdir; rename = d.not-Rename; stat = d.not-Stat; list = d.not-List }) c.requires.by_name)
+    absurd (none_by_name c.args.request.now (record { unlink = d.not-Unlink; rmdir = d.not-Rmdir; rename = d.not-Rename; list = d.not-List }) c.requires.by_name)
 
 pub returns-in-Ok-clause-in_step : goal.returns-in-Ok-clause-in_step
 returns-in-Ok-clause-in_step g c = λ on. c.unlink_with.ensures.in_step (not_stopped {T = Unit {0}} SaysDone c.unlink_with.result c.done_reply.result c.done_reply.ensures on)
@@ -130,8 +116,92 @@ returns-in-Rmdir-clause-in_step g c = λ on. c.rmdir_with.ensures.in_step (not_s
 pub returns-in-Ok-open_list-clause-in_step : goal.returns-in-Ok-open_list-clause-in_step
 returns-in-Ok-open_list-clause-in_step g c = λ on. c.rename_with.ensures.in_step (not_stopped {T = Unit {0}} SaysDone c.rename_with.result c.done_reply-in-Ok-open_list.result c.done_reply-in-Ok-open_list.ensures on)
 
-pub returns-in-Stat-clause-in_step : goal.returns-in-Stat-clause-in_step
-returns-in-Stat-clause-in_step g c = λ on. c.stat_with.ensures.in_step (not_stopped SaysStat c.stat_with.result c.stat_reply.result c.stat_reply.ensures on)
-
 pub returns-in-List-clause-in_step : goal.returns-in-List-clause-in_step
 returns-in-List-clause-in_step g c = λ on. c.list_with.ensures.in_step (not_stopped SaysNames c.list_with.result c.names_reply.result c.names_reply.ensures on)
+
+pub unlink_with-requires-clause-sound : goal.unlink_with-requires-clause-sound
+unlink_with-requires-clause-sound g c = c.requires.sound
+
+pub unlink_with-requires-clause-in_step : goal.unlink_with-requires-clause-in_step
+unlink_with-requires-clause-in_step g c = c.requires.in_step
+
+pub unlink_with-requires-clause-path : goal.unlink_with-requires-clause-path
+unlink_with-requires-clause-path g c = subst IsPath (sym c.as_slice.ensures) (subst IsRequest c.in-Unlink.is c.requires.request)
+
+pub returns-in-Ok-clause-goes : goal.returns-in-Ok-clause-goes
+returns-in-Ok-clause-goes g c = c.unlink_with.ensures.goes
+
+pub returns-in-Ok-clause-sound : goal.returns-in-Ok-clause-sound
+returns-in-Ok-clause-sound g c = c.unlink_with.ensures.sound
+
+pub rmdir_with-requires-clause-sound : goal.rmdir_with-requires-clause-sound
+rmdir_with-requires-clause-sound g c = c.requires.sound
+
+pub rmdir_with-requires-clause-in_step : goal.rmdir_with-requires-clause-in_step
+rmdir_with-requires-clause-in_step g c = c.requires.in_step
+
+pub rmdir_with-requires-clause-path : goal.rmdir_with-requires-clause-path
+rmdir_with-requires-clause-path g c = subst IsPath (sym c.as_slice-in-Rmdir.ensures) (subst IsRequest c.in-Rmdir.is c.requires.request)
+
+pub returns-in-Rmdir-clause-goes : goal.returns-in-Rmdir-clause-goes
+returns-in-Rmdir-clause-goes g c = c.rmdir_with.ensures.goes
+
+pub returns-in-Rmdir-clause-sound : goal.returns-in-Rmdir-clause-sound
+returns-in-Rmdir-clause-sound g c = c.rmdir_with.ensures.sound
+
+pub rename_with-requires-clause-sound : goal.rename_with-requires-clause-sound
+rename_with-requires-clause-sound g c = c.requires.sound
+
+pub rename_with-requires-clause-in_step : goal.rename_with-requires-clause-in_step
+rename_with-requires-clause-in_step g c = c.requires.in_step
+
+pub rename_with-requires-clause-path : goal.rename_with-requires-clause-path
+rename_with-requires-clause-path g c = subst IsPath (sym c.as_slice-in-Ok-open_list.ensures) (subst IsRequest c.in-Rename.is c.requires.request).0
+
+pub returns-in-Ok-open_list-clause-goes : goal.returns-in-Ok-open_list-clause-goes
+returns-in-Ok-open_list-clause-goes g c = c.rename_with.ensures.goes
+
+pub returns-in-Ok-open_list-clause-sound : goal.returns-in-Ok-open_list-clause-sound
+returns-in-Ok-open_list-clause-sound g c = c.rename_with.ensures.sound
+
+pub list_with-requires-clause-sound : goal.list_with-requires-clause-sound
+list_with-requires-clause-sound g c = c.requires.sound
+
+pub list_with-requires-clause-in_step : goal.list_with-requires-clause-in_step
+list_with-requires-clause-in_step g c = c.requires.in_step
+
+pub list_with-requires-clause-path : goal.list_with-requires-clause-path
+list_with-requires-clause-path g c = subst IsPath (sym c.as_slice-in-List.ensures) (subst IsRequest c.in-List.is c.requires.request)
+
+pub returns-in-List-clause-goes : goal.returns-in-List-clause-goes
+returns-in-List-clause-goes g c = c.list_with.ensures.goes
+
+pub returns-in-List-clause-sound : goal.returns-in-List-clause-sound
+returns-in-List-clause-sound g c = c.list_with.ensures.sound
+
+pub rename_with-requires-clause-to : goal.rename_with-requires-clause-to
+rename_with-requires-clause-to g c = subst IsPath (sym c.as_slice-in-Ok-open_list-2.ensures) (subst IsRequest c.in-Rename.is c.requires.request).1
+
+pub returns-in-Err-clause-in_step : goal.returns-in-Err-clause-in_step
+returns-in-Err-clause-in_step g c = λ on. c.requires.in_step
+
+pub returns-in-Err-clause-goes : goal.returns-in-Err-clause-goes
+returns-in-Err-clause-goes g c = goes_refl _ _
+
+pub returns-in-Err-clause-ends : goal.returns-in-Err-clause-ends
+returns-in-Err-clause-ends g c = reply_well _ _ (RefusedBy 31) refl (λ f. f)
+
+pub returns-in-Err-clause-sound : goal.returns-in-Err-clause-sound
+returns-in-Err-clause-sound g c = c.requires.sound
+
+pub returns-in-Err-open_list-clause-in_step : goal.returns-in-Err-open_list-clause-in_step
+returns-in-Err-open_list-clause-in_step g c = λ on. c.requires.in_step
+
+pub returns-in-Err-open_list-clause-goes : goal.returns-in-Err-open_list-clause-goes
+returns-in-Err-open_list-clause-goes g c = goes_refl _ _
+
+pub returns-in-Err-open_list-clause-ends : goal.returns-in-Err-open_list-clause-ends
+returns-in-Err-open_list-clause-ends g c = reply_well _ _ (RefusedBy 31) refl (λ f. f)
+
+pub returns-in-Err-open_list-clause-sound : goal.returns-in-Err-open_list-clause-sound
+returns-in-Err-open_list-clause-sound g c = c.requires.sound

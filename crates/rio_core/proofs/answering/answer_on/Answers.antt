@@ -1,9 +1,11 @@
 use Rattle.rio_core.proofs.Common.{◌≡◌, ◌∙◌, sym, ap, subst, crashed}
-use Rattle.rio_requests.specs.declared.request.Request.TheVariants.{Mkdir, Create, Region as MakeRegion, Write, Read, Truncate}
-use Rattle.file_tree.specs.Ends.{SaysBytes, SaysCount, SaysDone, SaysIno}
+use Rattle.rio_requests.specs.declared.request.Request.TheVariants.{Mkdir, Create, Region as MakeRegion, Write, Read, Truncate, Stat as StatOf}
+use Rattle.file_tree.specs.Ends.{SaysBytes, SaysCount, SaysDone, SaysIno, SaysStat}
+use Rattle.rio_model.specs.Paths.{IsPath}
+use Rattle.rio_requests.specs.Requests.{IsRequest}
 use Rattle.rio_core.specs.Serving.{RequestEnds}
 use Rattle.rio_core.proofs.FileRequests.{left_by_name, request_ends}
-use Rattle.rio_core.proofs.ReplyEnds.{not_stopped, no_bytes, no_done, no_number, reply_ends}
+use Rattle.rio_core.proofs.ReplyEnds.{not_stopped, no_bytes, no_done, no_number, no_stat, reply_ends}
 use Rattle.rio_core.proofs.Standing.{serves_can}
 use Rattle.rio_core.proofs.answering.answer_on.Goals as goal
 
@@ -24,6 +26,9 @@ truncate_with-requires-clause-can g c = serves_can c.args.shape.now (g.V.Blocks.
 
 pub make_region_with-requires-clause-can : goal.make_region_with-requires-clause-can
 make_region_with-requires-clause-can g c = serves_can c.args.shape.now (g.V.Blocks.seen c.args.v.now) (g.V.Volume.kept c.args.v.now) c.args.table.now c.requires.serves.0 c.requires.serves.1
+
+pub stat_with-requires-clause-can : goal.stat_with-requires-clause-can
+stat_with-requires-clause-can g c = serves_can c.args.shape.now (g.V.Blocks.seen c.args.v.now) (g.V.Volume.kept c.args.v.now) c.args.table.now c.requires.serves.0 c.requires.serves.1
 
 pub returns-in-Mkdir-clause-answered : goal.returns-in-Mkdir-clause-answered
 returns-in-Mkdir-clause-answered g c =
@@ -116,6 +121,21 @@ returns-in-Region-clause-answered g c =
 pub returns-in-Region-clause-ends : goal.returns-in-Region-clause-ends
 returns-in-Region-clause-ends g c = reply_ends SaysIno _ _ c.make_region_with.result c.ino_reply-in-Region.result (λ v n h. no_number h) c.ino_reply-in-Region.ensures c.make_region_with.ensures.ends
 
+pub returns-in-Stat-clause-answered : goal.returns-in-Stat-clause-answered
+returns-in-Stat-clause-answered g c =
+    let shape = c.args.shape.now in
+    let x = g.V.Blocks.seen c.args.v.now in
+    let k = g.V.Volume.kept c.args.v.now in
+    let y = g.V.Blocks.seen c.stat_with.new.v in
+    let j = g.V.Volume.kept c.stat_with.new.v in
+    let p = c.as_slice-in-Stat.result.now in
+    let r = StatOf p in
+    let is : c.args.request.now ≡ r = c.in-Stat.is ∙ ap StatOf (sym c.as_slice-in-Stat.ensures) in
+    λ s serves. subst (λ a. RequestEnds shape y j c.args.table.now s a c.stat_reply.result) (sym is) (request_ends SaysStat shape x k y j c.args.table.now s r c.stat_with.result c.stat_reply.result (λ v a b h i. h ∙ sym i) tt tt serves (c.stat_with.ensures.leaves (crashed s) serves.reads) c.stat_reply.ensures)
+
+pub returns-in-Stat-clause-ends : goal.returns-in-Stat-clause-ends
+returns-in-Stat-clause-ends g c = reply_ends SaysStat _ _ c.stat_with.result c.stat_reply.result (λ v n h. no_stat h) c.stat_reply.ensures c.stat_with.ensures.ends
+
 pub returns-in-Mkdir-clause-in_step : goal.returns-in-Mkdir-clause-in_step
 returns-in-Mkdir-clause-in_step g c = λ on. c.mkdir_with.ensures.in_step (not_stopped SaysIno c.mkdir_with.result c.ino_reply.result c.ino_reply.ensures on)
 
@@ -134,10 +154,13 @@ returns-in-Truncate-clause-in_step g c = λ on. c.truncate_with.ensures.in_step 
 pub returns-in-Region-clause-in_step : goal.returns-in-Region-clause-in_step
 returns-in-Region-clause-in_step g c = λ on. c.make_region_with.ensures.in_step (not_stopped SaysIno c.make_region_with.result c.ino_reply-in-Region.result c.ino_reply-in-Region.ensures on)
 
+pub returns-in-Stat-clause-in_step : goal.returns-in-Stat-clause-in_step
+returns-in-Stat-clause-in_step g c = λ on. c.stat_with.ensures.in_step (not_stopped SaysStat c.stat_with.result c.stat_reply.result c.stat_reply.ensures on)
+
 pub answer_by_name-requires-clause-by_name : goal.answer_by_name-requires-clause-by_name
 answer_by_name-requires-clause-by_name g c =
     let d = c.in_default in
-    left_by_name c.args.request.now (record { mkdir = d.not-Mkdir; create = d.not-Create; region = d.not-Region; write = d.not-Write; read = d.not-Read; truncate = d.not-Truncate }) c.requires.files
+    left_by_name c.args.request.now (record { mkdir = d.not-Mkdir; create = d.not-Create; region = d.not-Region; write = d.not-Write; read = d.not-Read; truncate = d.not-Truncate; stat = d.not-Stat }) c.requires.files
 
 pub answer_by_name-requires-clause-serves : goal.answer_by_name-requires-clause-serves
 answer_by_name-requires-clause-serves g c = c.requires.serves
@@ -153,3 +176,126 @@ returns-in_default-clause-goes g c = c.answer_by_name.ensures.goes
 
 pub returns-in_default-clause-ends : goal.returns-in_default-clause-ends
 returns-in_default-clause-ends g c = c.answer_by_name.ensures.ends
+
+pub mkdir_with-requires-clause-sound : goal.mkdir_with-requires-clause-sound
+mkdir_with-requires-clause-sound g c = c.requires.sound
+
+pub mkdir_with-requires-clause-in_step : goal.mkdir_with-requires-clause-in_step
+mkdir_with-requires-clause-in_step g c = c.requires.in_step
+
+pub mkdir_with-requires-clause-path : goal.mkdir_with-requires-clause-path
+mkdir_with-requires-clause-path g c = subst IsPath (sym c.as_slice.ensures) (subst IsRequest c.in-Mkdir.is c.requires.request)
+
+pub returns-in-Mkdir-clause-goes : goal.returns-in-Mkdir-clause-goes
+returns-in-Mkdir-clause-goes g c = c.mkdir_with.ensures.goes
+
+pub returns-in-Mkdir-clause-sound : goal.returns-in-Mkdir-clause-sound
+returns-in-Mkdir-clause-sound g c = c.mkdir_with.ensures.sound
+
+pub create_with-requires-clause-sound : goal.create_with-requires-clause-sound
+create_with-requires-clause-sound g c = c.requires.sound
+
+pub create_with-requires-clause-in_step : goal.create_with-requires-clause-in_step
+create_with-requires-clause-in_step g c = c.requires.in_step
+
+pub create_with-requires-clause-path : goal.create_with-requires-clause-path
+create_with-requires-clause-path g c = subst IsPath (sym c.as_slice-in-Create.ensures) (subst IsRequest c.in-Create.is c.requires.request)
+
+pub returns-in-Create-clause-goes : goal.returns-in-Create-clause-goes
+returns-in-Create-clause-goes g c = c.create_with.ensures.goes
+
+pub returns-in-Create-clause-sound : goal.returns-in-Create-clause-sound
+returns-in-Create-clause-sound g c = c.create_with.ensures.sound
+
+pub write_with-requires-clause-sound : goal.write_with-requires-clause-sound
+write_with-requires-clause-sound g c = c.requires.sound
+
+pub write_with-requires-clause-in_step : goal.write_with-requires-clause-in_step
+write_with-requires-clause-in_step g c = c.requires.in_step
+
+pub write_with-requires-clause-path : goal.write_with-requires-clause-path
+write_with-requires-clause-path g c = subst IsPath (sym c.as_slice-in-Write.ensures) (subst IsRequest c.in-Write.is c.requires.request).0
+
+pub returns-in-Write-clause-goes : goal.returns-in-Write-clause-goes
+returns-in-Write-clause-goes g c = c.write_with.ensures.goes
+
+pub returns-in-Write-clause-sound : goal.returns-in-Write-clause-sound
+returns-in-Write-clause-sound g c = c.write_with.ensures.sound
+
+pub read_with-requires-clause-sound : goal.read_with-requires-clause-sound
+read_with-requires-clause-sound g c = c.requires.sound
+
+pub read_with-requires-clause-in_step : goal.read_with-requires-clause-in_step
+read_with-requires-clause-in_step g c = c.requires.in_step
+
+pub read_with-requires-clause-path : goal.read_with-requires-clause-path
+read_with-requires-clause-path g c = subst IsPath (sym c.as_slice-in-Read.ensures) (subst IsRequest c.in-Read.is c.requires.request).0
+
+pub returns-in-Read-clause-goes : goal.returns-in-Read-clause-goes
+returns-in-Read-clause-goes g c = c.read_with.ensures.goes
+
+pub returns-in-Read-clause-sound : goal.returns-in-Read-clause-sound
+returns-in-Read-clause-sound g c = c.read_with.ensures.sound
+
+pub truncate_with-requires-clause-sound : goal.truncate_with-requires-clause-sound
+truncate_with-requires-clause-sound g c = c.requires.sound
+
+pub truncate_with-requires-clause-in_step : goal.truncate_with-requires-clause-in_step
+truncate_with-requires-clause-in_step g c = c.requires.in_step
+
+pub truncate_with-requires-clause-path : goal.truncate_with-requires-clause-path
+truncate_with-requires-clause-path g c = subst IsPath (sym c.as_slice-in-Truncate.ensures) (subst IsRequest c.in-Truncate.is c.requires.request)
+
+pub returns-in-Truncate-clause-goes : goal.returns-in-Truncate-clause-goes
+returns-in-Truncate-clause-goes g c = c.truncate_with.ensures.goes
+
+pub returns-in-Truncate-clause-sound : goal.returns-in-Truncate-clause-sound
+returns-in-Truncate-clause-sound g c = c.truncate_with.ensures.sound
+
+pub make_region_with-requires-clause-sound : goal.make_region_with-requires-clause-sound
+make_region_with-requires-clause-sound g c = c.requires.sound
+
+pub make_region_with-requires-clause-in_step : goal.make_region_with-requires-clause-in_step
+make_region_with-requires-clause-in_step g c = c.requires.in_step
+
+pub make_region_with-requires-clause-path : goal.make_region_with-requires-clause-path
+make_region_with-requires-clause-path g c = subst IsPath (sym c.as_slice-in-Region.ensures) (subst IsRequest c.in-Region.is c.requires.request).0
+
+pub returns-in-Region-clause-goes : goal.returns-in-Region-clause-goes
+returns-in-Region-clause-goes g c = c.make_region_with.ensures.goes
+
+pub returns-in-Region-clause-sound : goal.returns-in-Region-clause-sound
+returns-in-Region-clause-sound g c = c.make_region_with.ensures.sound
+
+pub stat_with-requires-clause-sound : goal.stat_with-requires-clause-sound
+stat_with-requires-clause-sound g c = c.requires.sound
+
+pub stat_with-requires-clause-in_step : goal.stat_with-requires-clause-in_step
+stat_with-requires-clause-in_step g c = c.requires.in_step
+
+pub stat_with-requires-clause-path : goal.stat_with-requires-clause-path
+stat_with-requires-clause-path g c = subst IsPath (sym c.as_slice-in-Stat.ensures) (subst IsRequest c.in-Stat.is c.requires.request)
+
+pub returns-in-Stat-clause-goes : goal.returns-in-Stat-clause-goes
+returns-in-Stat-clause-goes g c = c.stat_with.ensures.goes
+
+pub returns-in-Stat-clause-sound : goal.returns-in-Stat-clause-sound
+returns-in-Stat-clause-sound g c = c.stat_with.ensures.sound
+
+pub make_region_with-requires-clause-pages : goal.make_region_with-requires-clause-pages
+make_region_with-requires-clause-pages g c = (subst IsRequest c.in-Region.is c.requires.request).1
+
+pub make_region_with-requires-clause-undo : goal.make_region_with-requires-clause-undo
+make_region_with-requires-clause-undo g c = (subst IsRequest c.in-Region.is c.requires.request).2
+
+pub answer_by_name-requires-clause-sound : goal.answer_by_name-requires-clause-sound
+answer_by_name-requires-clause-sound g c = c.requires.sound
+
+pub answer_by_name-requires-clause-in_step : goal.answer_by_name-requires-clause-in_step
+answer_by_name-requires-clause-in_step g c = c.requires.in_step
+
+pub answer_by_name-requires-clause-request : goal.answer_by_name-requires-clause-request
+answer_by_name-requires-clause-request g c = c.requires.request
+
+pub returns-in_default-clause-sound : goal.returns-in_default-clause-sound
+returns-in_default-clause-sound g c = c.answer_by_name.ensures.sound
