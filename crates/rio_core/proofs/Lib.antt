@@ -15,6 +15,7 @@ pub mod RegionRequests
 pub mod RegionSteps
 pub mod RegionsLaws
 pub mod ReplyEnds
+pub mod RequestForms
 pub mod RowRules
 pub mod Served
 pub mod ServerRules

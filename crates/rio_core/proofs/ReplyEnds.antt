@@ -1,5 +1,5 @@
 -- A reply tells a fault, or there is none for a stop, just where the call on files says so.
-use Rattle.rio_core.proofs.Common.{◌≡◌, ℕ, List, refl, subst, IsErr, IsErrOf, Ino, Reply, Bytes, FileFail, Refused, Fault, Memory}
+use Rattle.rio_core.proofs.Common.{◌≡◌, ◌∙◌, ℕ, List, refl, ap, subst, IsErr, IsErrOf, Ino, Reply, Bytes, FileFail, Refused, Fault, Memory}
 use Rattle.std.specs.Prelude.{Result, Ok, Err}
 use Rattle.rio_base.specs.declared.failures.Stopped.{Stopped as MachineStopped}
 use Rattle.rio_base.specs.Blocks.{EndsBy, Health}
@@ -75,3 +75,11 @@ reply_ends {T = T} says s t q p never told ends = ends_by_as s t (FileFaulted q)
 -- a reply comes only where the call was not stopped
 pub not_stopped : {T : Type 0} (says : T → Reply → Type 0) (q : Result T FileFail) (p : Result Reply MachineStopped) → Replies says q p → (IsErr p → ⊥) → IsErrOf q Stopped → ⊥
 not_stopped {T = T} says q p told on stop = on (told_stop T says q p told stop)
+
+-- ---- a failure that is told
+
+told_as : {T : Type 0} (r : Result T FileFail) (fail : FileFail) → r ≡ Err fail → FileFaulted {T = ℕ} (Err fail) → FileFaulted r
+told_as r fail is (n, faulted) = (n, let told : fail ≡ Fault n = cc faulted in is ∙ ap Err told)
+
+pub fail_ends : {T : Type 0} (s t : Health) (r : Result T FileFail) (fail : FileFail) (p : Result Reply MachineStopped) → r ≡ Err fail → (TellsFault p → FileFaulted {T = ℕ} (Err fail)) → (IsErr p → fail ≡ Stopped) → (fail ≡ Stopped → IsErr p) → EndsBy s t (FileFaulted r) (IsErrOf r Stopped) → EndsBy s t (TellsFault p) (IsErr p)
+fail_ends s t r fail p is fault stop stopped ends = ends_by_as s t (FileFaulted r) (IsErrOf r Stopped) (TellsFault p) (IsErr p) (λ f. told_as r fail is (fault f)) (λ e. is ∙ ap Err (stop e)) (λ e. stopped (let told : fail ≡ Stopped = cc (is, e) in told)) ends

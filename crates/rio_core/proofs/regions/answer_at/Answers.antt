@@ -1,10 +1,12 @@
-use Rattle.rio_core.proofs.Common.{◌≡◌, ◌∙◌, Ok, sym, ap, subst, IsErr, IsErrOf, Begin, Range, Commit, Abort, IsFault, Stopped}
+use Rattle.rio_core.proofs.Common.{◌≡◌, ◌∙◌, Ok, refl, sym, ap, subst, IsErr, IsErrOf, Begin, Range, Commit, Abort, IsFault, Stopped}
 use Rattle.rio_base.proofs.Rules.{ends_by_as}
+use Rattle.rio_base.specs.Rules.{goes_refl}
 use Rattle.rio_model.specs.RegionMoves.{rest_refl}
 use Rattle.rio_core.specs.CallEnds.{IsAt}
 use Rattle.rio_core.specs.Serving.{RequestEnds, TellsFault}
 use Rattle.rio_core.proofs.Lookups.{left_within}
 use Rattle.rio_core.proofs.RegionReplies.{abort_replied, begin_replied, commit_replied, range_replied}
+use Rattle.rio_core.proofs.WildStores.{reply_well}
 use Rattle.rio_core.proofs.regions.answer_at.Goals as goal
 
 pub returns-in-Begin-clause-answered : goal.returns-in-Begin-clause-answered
@@ -82,3 +84,84 @@ returns-in_default-clause-rest g c = c.answer_within.ensures.rest
 
 pub returns-in_default-clause-ends : goal.returns-in_default-clause-ends
 returns-in_default-clause-ends g c = c.answer_within.ensures.ends
+
+pub set_range-requires-clause-ready : goal.set_range-requires-clause-ready
+set_range-requires-clause-ready g c = (c.requires.sound, c.requires.on, c.requires.inode)
+
+pub set_range-requires-clause-fits : goal.set_range-requires-clause-fits
+set_range-requires-clause-fits g c = c.requires.fits
+
+pub returns-in-Range-clause-shape : goal.returns-in-Range-clause-shape
+returns-in-Range-clause-shape g c = c.set_range.ensures.stays.rest.shape
+
+pub returns-in-Range-clause-goes : goal.returns-in-Range-clause-goes
+returns-in-Range-clause-goes g c = c.set_range.ensures.stays.goes
+
+pub returns-in-Range-clause-sound : goal.returns-in-Range-clause-sound
+returns-in-Range-clause-sound g c = c.set_range.ensures.stays.ready.0
+
+pub commit-requires-clause-ready : goal.commit-requires-clause-ready
+commit-requires-clause-ready g c = (c.requires.sound, c.requires.on, c.requires.inode)
+
+pub commit-requires-clause-fits : goal.commit-requires-clause-fits
+commit-requires-clause-fits g c = c.requires.fits
+
+pub returns-in-Commit-clause-shape : goal.returns-in-Commit-clause-shape
+returns-in-Commit-clause-shape g c = c.commit.ensures.stays.rest.shape
+
+pub returns-in-Commit-clause-goes : goal.returns-in-Commit-clause-goes
+returns-in-Commit-clause-goes g c = c.commit.ensures.stays.goes
+
+pub returns-in-Commit-clause-sound : goal.returns-in-Commit-clause-sound
+returns-in-Commit-clause-sound g c = c.commit.ensures.stays.ready.0
+
+pub abort-requires-clause-ready : goal.abort-requires-clause-ready
+abort-requires-clause-ready g c = (c.requires.sound, c.requires.on, c.requires.inode)
+
+pub abort-requires-clause-fits : goal.abort-requires-clause-fits
+abort-requires-clause-fits g c = c.requires.fits
+
+pub returns-in-Abort-clause-shape : goal.returns-in-Abort-clause-shape
+returns-in-Abort-clause-shape g c = c.abort.ensures.stays.rest.shape
+
+pub returns-in-Abort-clause-goes : goal.returns-in-Abort-clause-goes
+returns-in-Abort-clause-goes g c = c.abort.ensures.stays.goes
+
+pub returns-in-Abort-clause-sound : goal.returns-in-Abort-clause-sound
+returns-in-Abort-clause-sound g c = c.abort.ensures.stays.ready.0
+
+pub returns-in-Begin-clause-shape : goal.returns-in-Begin-clause-shape
+returns-in-Begin-clause-shape g c = refl
+
+pub returns-in-Begin-clause-goes : goal.returns-in-Begin-clause-goes
+returns-in-Begin-clause-goes g c = goes_refl _ _
+
+pub returns-in-Begin-clause-sound : goal.returns-in-Begin-clause-sound
+returns-in-Begin-clause-sound g c = c.requires.sound
+
+pub returns-in-Begin-clause-ends : goal.returns-in-Begin-clause-ends
+returns-in-Begin-clause-ends g c = reply_well _ _ c.begin_reply.result refl c.begin_reply.ensures.fault
+
+pub answer_within-requires-clause-sound : goal.answer_within-requires-clause-sound
+answer_within-requires-clause-sound g c = c.requires.sound
+
+pub answer_within-requires-clause-on : goal.answer_within-requires-clause-on
+answer_within-requires-clause-on g c = c.requires.on
+
+pub answer_within-requires-clause-inode : goal.answer_within-requires-clause-inode
+answer_within-requires-clause-inode g c = c.requires.inode
+
+pub answer_within-requires-clause-fits : goal.answer_within-requires-clause-fits
+answer_within-requires-clause-fits g c = c.requires.fits
+
+pub answer_within-requires-clause-request : goal.answer_within-requires-clause-request
+answer_within-requires-clause-request g c = c.requires.request
+
+pub returns-in_default-clause-shape : goal.returns-in_default-clause-shape
+returns-in_default-clause-shape g c = c.answer_within.ensures.shape
+
+pub returns-in_default-clause-goes : goal.returns-in_default-clause-goes
+returns-in_default-clause-goes g c = c.answer_within.ensures.goes
+
+pub returns-in_default-clause-sound : goal.returns-in_default-clause-sound
+returns-in_default-clause-sound g c = c.answer_within.ensures.sound
