@@ -74,6 +74,10 @@ pub long_enough : (told : Option Files) (name : List ℕ) (size n : ℕ) → Has
 long_enough None name size n is less = tt
 long_enough (Some files) name size n is less = let own = sized files name size is in (own.0, own.1, omega (arith, own.2, less))
 
+pub long_less : (told : Option Files) (name : List ℕ) (n m : ℕ) → IsLong told name m → n ≤ m → IsLong told name n
+long_less None name n m long less = tt
+long_less (Some files) name n m (whole, at, long) less = (whole, at, omega (arith, long, less))
+
 -- a file that has so many bytes doesn't end before, so that whoever finds it to end there was told nothing
 pub short_read : (told : Option Files) (name : List ℕ) (n end : ℕ) → IsLong told name n → end < n → EndsBy told name end → (size : ℕ) × HasSize told name (Some size) × (IsDiskLength size → ⊥)
 short_read None name n end long less ends = (0, tt, λ (d : IsDiskLength 0). absurd (omega (arith, d.least)))

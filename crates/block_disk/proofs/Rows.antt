@@ -1,7 +1,7 @@
 -- The words of blocks, where a list of them changes.
-use Rattle.std.proofs.Common.{◌≡◌, ◌<◌, ℕ, List, [], ◌∷◌, ◌++◌, Vec, length, get_or, set, replicate, take, drop, suc, zero, refl, ap, ◌∙◌, arith, length-append, length-drop}
+use Rattle.std.proofs.Common.{◌≡◌, ◌<◌, ℕ, List, [], ◌∷◌, ◌++◌, ◌+◌, Vec, length, get_or, set, replicate, take, drop, suc, zero, refl, ap, ◌∙◌, arith, length-append, length-drop}
 use Rattle.std.specs.declared.alloc.Global.{Global}
-use Rattle.std.proofs.lemmas.List.{map-set, map-append, length-map, length-take-le}
+use Rattle.std.proofs.lemmas.List.{map-set, map-append, length-map, length-take-le, replicate_more}
 use Rattle.rio_base.specs.Disks.{block_at}
 use Rattle.block_disk.specs.BlockLists.{rows, torn_words}
 
@@ -18,6 +18,14 @@ row_at (v ∷ all) (suc b) d h = row_at all b d (omega (arith, h))
 
 pub rows_push : (all : List (Vec ℕ Global)) (v : Vec ℕ Global) → rows (all ++ v ∷ []) ≡ rows all ++ v.items ∷ []
 rows_push all v = map-append (λ (w : Vec ℕ Global). w.items) all (v ∷ [])
+
+-- one block of zeros more
+pub zeros_more : (n : ℕ) (all : List (Vec ℕ Global)) (v : Vec ℕ Global) → rows all ≡ replicate n (replicate 512 0) → v.items ≡ replicate 512 0 → rows (all ++ v ∷ []) ≡ replicate (n + 1) (replicate 512 0)
+zeros_more n all v before zeros =
+    rows_push all v
+    ∙ ap (λ (front : List (List ℕ)). front ++ v.items ∷ []) before
+    ∙ ap (λ (last : List ℕ). replicate n (replicate 512 0) ++ last ∷ []) zeros
+    ∙ replicate_more n (replicate 512 0)
 
 -- the words of a block that was read from the list
 pub row_read : (all : List (Vec ℕ Global)) (b : ℕ) (v : Vec ℕ Global) → b < length (rows all) → v ≡ get_or all b v → v.items ≡ block_at (rows all) b
