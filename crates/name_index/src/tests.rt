@@ -29,18 +29,50 @@ fn said(index: &NameIndex, name: &str) -> (u32, u32) {
     }
 }
 
+/// What is done with the names of the directory.
+#[derive(Clone, Copy)]
+enum Step {
+    Nothing,
+    Hold,
+    Remove(&'static str),
+    Rename(&'static str, &'static str, u32),
+    Put(&'static str, u32),
+}
+
+/// Does it.
+fn make(rt: &impl Abort, alloc: Global, index: &mut NameIndex, step: Step) {
+    match step {
+        Step::Nothing => {}
+        Step::Hold => hold(rt, alloc, index),
+        Step::Remove(name) => index.remove(DIR, name.as_bytes()),
+        Step::Rename(name, to, ino) => {
+            index.rename(DIR, name.as_bytes(), DIR, to.as_bytes(), Ino(ino));
+        }
+        Step::Put(name, ino) => index.put(DIR, name.as_bytes(), Ino(ino)),
+    }
+}
+
+/// What is done, and what is said of a name after it.
+static ROWS: [(Step, &str, (u32, u32)); 7] = [
+    (Step::Nothing, "a", (0, 1)),
+    (Step::Hold, "b", (11, 1)),
+    (Step::Nothing, "e", (0, 0)),
+    (Step::Remove("b"), "b", (0, 0)),
+    (Step::Nothing, "d", (13, 1)),
+    (Step::Rename("a", "e", 10), "e", (10, 0)),
+    (Step::Put("f", 14), "f", (14, 3)),
+];
+
+/// Goes over the rows.
+fn go_over(rt: &impl Abort, alloc: Global, index: &mut NameIndex) {
+    for (step, name, due) in ROWS.iter() {
+        make(rt, alloc, index, *step);
+        assert_eq!(rt; said(index, name), *due);
+    }
+}
+
 #[test]
 fn names_keep_the_slots_of_their_entries(rt: HostRuntime) {
     let mut index = NameIndex::new(rt.alloc());
-    assert_eq!(rt; said(&index, "a"), (0, 1));
-    hold(&rt, rt.alloc(), &mut index);
-    assert_eq!(rt; said(&index, "b"), (11, 1));
-    assert_eq!(rt; said(&index, "e"), (0, 0));
-    index.remove(DIR, b"b");
-    assert_eq!(rt; said(&index, "b"), (0, 0));
-    assert_eq!(rt; said(&index, "d"), (13, 1));
-    index.rename(DIR, b"a", DIR, b"e", Ino(10));
-    assert_eq!(rt; said(&index, "e"), (10, 0));
-    index.put(DIR, b"f", Ino(14));
-    assert_eq!(rt; said(&index, "f"), (14, 3));
+    go_over(&rt, rt.alloc(), &mut index);
 }
