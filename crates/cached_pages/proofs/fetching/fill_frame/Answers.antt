@@ -161,12 +161,12 @@ pub returns-in_err-read_home-clause-home : goal.returns-in_err-read_home-clause-
 returns-in_err-read_home-clause-home g c = not_ok _ c.from_residual.result c.from_residual.ensures.0
 
 pub returns-in_err-read_home-clause-fault : goal.returns-in_err-read_home-clause-fault
-returns-in_err-read_home-clause-fault g c = 
+returns-in_err-read_home-clause-fault g c =
     let p = err_from_is_err_and c.from_residual.result c.from_residual.ensures.1 in
     fault_told _ _ _ (p.1 ∙ ap Err p.2) c.in_err-read_home.ensures.fault
 
 pub returns-in_err-read_home-clause-ends : goal.returns-in_err-read_home-clause-ends
-returns-in_err-read_home-clause-ends g c = 
+returns-in_err-read_home-clause-ends g c =
     let p = err_from_is_err_and c.from_residual.result c.from_residual.ensures.1 in
     ends_told _ _ _ _ _ (p.1 ∙ ap Err p.2) c.in_err-read_home.ensures.ends
 
@@ -174,7 +174,7 @@ pub returns-in_err-fill-clause-home : goal.returns-in_err-fill-clause-home
 returns-in_err-fill-clause-home g c = not_ok _ c.from_residual-in_err-fill.result c.from_residual-in_err-fill.ensures.0
 
 pub returns-in_err-fill-clause-fault : goal.returns-in_err-fill-clause-fault
-returns-in_err-fill-clause-fault g c = 
+returns-in_err-fill-clause-fault g c =
     let p = err_from_is_err_and c.from_residual-in_err-fill.result c.from_residual-in_err-fill.ensures.1 in
     λ e. absurd (not_fault _ (p.1 ∙ ap Err p.2) e)
 

@@ -202,32 +202,32 @@ pub returns-clause-region : goal.returns-clause-region
 returns-clause-region g c = subst (λ k. IsRegion k (g.R.RegionWords.words c.change_map.new.r)) (sym c.change_map.ensures.stays.count) c.change_map.ensures.before.region
 
 pub returns-in_err-header-clause-full : goal.returns-in_err-header-clause-full
-returns-in_err-header-clause-full g c = 
+returns-in_err-header-clause-full g c =
     let p = err_from_is_err_and c.from_residual.result c.from_residual.ensures.1 in
     λ told. absurd (heap_not_full c.from_residual.result _ p.0 p.1 p.2 told)
 
 pub returns-in_err-header-clause-no_block : goal.returns-in_err-header-clause-no_block
-returns-in_err-header-clause-no_block g c = 
+returns-in_err-header-clause-no_block g c =
     let p = err_from_is_err_and c.from_residual.result c.from_residual.ensures.1 in
     heap_not_block c.from_residual.result _ p.0 p.1 p.2
 
 pub returns-in_err-header-clause-undo_full : goal.returns-in_err-header-clause-undo_full
-returns-in_err-header-clause-undo_full g c = 
+returns-in_err-header-clause-undo_full g c =
     let p = err_from_is_err_and c.from_residual.result c.from_residual.ensures.1 in
     λ told. absurd (heap_not_undo c.from_residual.result _ p.0 p.1 p.2 told)
 
 pub returns-in_err-at-clause-full : goal.returns-in_err-at-clause-full
-returns-in_err-at-clause-full g c = 
+returns-in_err-at-clause-full g c =
     let p = err_from_is_err_and c.from_residual-in_err-at.result c.from_residual-in_err-at.ensures.1 in
     λ told. absurd (heap_not_full c.from_residual-in_err-at.result _ p.0 p.1 p.2 told)
 
 pub returns-in_err-at-clause-no_block : goal.returns-in_err-at-clause-no_block
-returns-in_err-at-clause-no_block g c = 
+returns-in_err-at-clause-no_block g c =
     let p = err_from_is_err_and c.from_residual-in_err-at.result c.from_residual-in_err-at.ensures.1 in
     heap_not_block c.from_residual-in_err-at.result _ p.0 p.1 p.2
 
 pub returns-in_err-at-clause-undo_full : goal.returns-in_err-at-clause-undo_full
-returns-in_err-at-clause-undo_full g c = 
+returns-in_err-at-clause-undo_full g c =
     let p = err_from_is_err_and c.from_residual-in_err-at.result c.from_residual-in_err-at.ensures.1 in
     λ told. absurd (heap_not_undo c.from_residual-in_err-at.result _ p.0 p.1 p.2 told)
 
@@ -253,29 +253,29 @@ pub returns-in_default-clause-ends : goal.returns-in_default-clause-ends
 returns-in_default-clause-ends g c = no_gap_ends _ _ (le_trans c.read_header.ensures.ends.later c.first_fit.ensures.ends.later) (c.in_ok-at.ensures.ends.cause ∙ c.in_ok-header.ensures.ends.cause)
 
 pub returns-in_err-change_map-clause-full : goal.returns-in_err-change_map-clause-full
-returns-in_err-change_map-clause-full g c = 
+returns-in_err-change_map-clause-full g c =
     let p = err_from_is_err_and c.from_residual-in_err-change_map.result c.from_residual-in_err-change_map.ensures.1 in
     λ told. absurd (undo_not_full c.from_residual-in_err-change_map.result _ p.0 p.1 p.2 told)
 
 pub returns-in_err-change_map-clause-no_block : goal.returns-in_err-change_map-clause-no_block
-returns-in_err-change_map-clause-no_block g c = 
+returns-in_err-change_map-clause-no_block g c =
     let p = err_from_is_err_and c.from_residual-in_err-change_map.result c.from_residual-in_err-change_map.ensures.1 in
     undo_not_block c.from_residual-in_err-change_map.result _ p.0 p.1 p.2
 
 pub returns-in_err-change_map-clause-undo_full : goal.returns-in_err-change_map-clause-undo_full
-returns-in_err-change_map-clause-undo_full g c = 
+returns-in_err-change_map-clause-undo_full g c =
     let here = g.R.RegionWords.words c.read_header.new.r in
     let fit = subst (λ o. Finds (live here) (64 * here 2) c.args.units o) c.in-Some.is c.in_ok-at.ensures.value in
     let p = err_from_is_err_and c.from_residual-in_err-change_map.result c.from_residual-in_err-change_map.ensures.1 in
     λ told. (c.in-Some.at, subst (λ (w : ℕ → ℕ). IsFirstFit (live w) (64 * w 2) c.args.units c.in-Some.at) c.read_header.ensures.words fit, subst (λ (w : ℕ → ℕ). undo_words w < taken (undo_records w) + 3 + 2 * touched_pages c.in-Some.at c.args.units) (c.first_fit.ensures.words ∙ c.read_header.ensures.words) (c.change_map.ensures.full (undo_is_full c.change_map.result c.from_residual-in_err-change_map.result _ p.0 c.in_err-change_map.was p.1 p.2 told)))
 
 pub returns-in_err-change_map-clause-refused : goal.returns-in_err-change_map-clause-refused
-returns-in_err-change_map-clause-refused g c = 
+returns-in_err-change_map-clause-refused g c =
     let p = err_from_is_err_and c.from_residual-in_err-change_map.result c.from_residual-in_err-change_map.ensures.1 in
     λ told. c.change_map.ensures.refused (full_refused c.change_map.result c.from_residual-in_err-change_map.result _ p.0 c.in_err-change_map.was p.1 p.2 told) ∙ c.first_fit.ensures.words ∙ c.read_header.ensures.words
 
 pub returns-in_err-change_map-clause-ends : goal.returns-in_err-change_map-clause-ends
-returns-in_err-change_map-clause-ends g c = 
+returns-in_err-change_map-clause-ends g c =
     let p = err_from_is_err_and c.from_residual-in_err-change_map.result c.from_residual-in_err-change_map.ensures.1 in
     ends_by_after _ _ _ _ _ (le_trans c.read_header.ensures.ends.later c.first_fit.ensures.ends.later) (c.in_ok-at.ensures.ends.cause ∙ c.in_ok-header.ensures.ends.cause) (ends_undo _ _ c.change_map.result c.from_residual-in_err-change_map.result _ p.0 c.in_err-change_map.was p.1 p.2 c.change_map.ensures.ends)
 
@@ -304,7 +304,7 @@ pub returns-clause-ends : goal.returns-clause-ends
 returns-clause-ends g c = heap_did _ _ _ (le_trans c.read_header.ensures.ends.later (le_trans c.first_fit.ensures.ends.later c.change_map.ensures.ends.later)) ((c.in_ok-change_map.ensures.ends.runs (no_err tt _)) ∙ c.in_ok-at.ensures.ends.cause ∙ c.in_ok-header.ensures.ends.cause)
 
 pub change_map-requires-clause-within : goal.change_map-requires-clause-within
-change_map-requires-clause-within g c = 
+change_map-requires-clause-within g c =
     let here = g.R.RegionWords.words c.read_header.new.r in
     let fit : IsFirstFit (live here) (64 * here 2) c.args.units c.in-Some.at = subst (λ o. Finds (live here) (64 * here 2) c.args.units o) c.in-Some.is c.in_ok-at.ensures.value in
     subst (λ (w : ℕ → ℕ). c.in-Some.at + c.args.units ≤ 64 * w 2) (sym c.first_fit.ensures.words) fit.gap.within

@@ -191,32 +191,32 @@ pub returns-clause-region : goal.returns-clause-region
 returns-clause-region g c = subst (λ k. IsRegion k (g.R.RegionWords.words c.change_map.new.r)) (sym c.change_map.ensures.stays.count) c.change_map.ensures.before.region
 
 pub returns-in_err-header-clause-not_block : goal.returns-in_err-header-clause-not_block
-returns-in_err-header-clause-not_block g c = 
+returns-in_err-header-clause-not_block g c =
     let p = err_from_is_err_and c.from_residual.result c.from_residual.ensures.1 in
     λ told. absurd (heap_not_block c.from_residual.result _ p.0 p.1 p.2 told)
 
 pub returns-in_err-header-clause-full : goal.returns-in_err-header-clause-full
-returns-in_err-header-clause-full g c = 
+returns-in_err-header-clause-full g c =
     let p = err_from_is_err_and c.from_residual.result c.from_residual.ensures.1 in
     heap_not_full c.from_residual.result _ p.0 p.1 p.2
 
 pub returns-in_err-header-clause-undo_full : goal.returns-in_err-header-clause-undo_full
-returns-in_err-header-clause-undo_full g c = 
+returns-in_err-header-clause-undo_full g c =
     let p = err_from_is_err_and c.from_residual.result c.from_residual.ensures.1 in
     λ told. absurd (heap_not_undo c.from_residual.result _ p.0 p.1 p.2 told)
 
 pub returns-in_err-units-clause-not_block : goal.returns-in_err-units-clause-not_block
-returns-in_err-units-clause-not_block g c = 
+returns-in_err-units-clause-not_block g c =
     let p = err_from_is_err_and c.from_residual-in_err-units.result c.from_residual-in_err-units.ensures.1 in
     λ told. absurd (heap_not_block c.from_residual-in_err-units.result _ p.0 p.1 p.2 told)
 
 pub returns-in_err-units-clause-full : goal.returns-in_err-units-clause-full
-returns-in_err-units-clause-full g c = 
+returns-in_err-units-clause-full g c =
     let p = err_from_is_err_and c.from_residual-in_err-units.result c.from_residual-in_err-units.ensures.1 in
     heap_not_full c.from_residual-in_err-units.result _ p.0 p.1 p.2
 
 pub returns-in_err-units-clause-undo_full : goal.returns-in_err-units-clause-undo_full
-returns-in_err-units-clause-undo_full g c = 
+returns-in_err-units-clause-undo_full g c =
     let p = err_from_is_err_and c.from_residual-in_err-units.result c.from_residual-in_err-units.ensures.1 in
     λ told. absurd (heap_not_undo c.from_residual-in_err-units.result _ p.0 p.1 p.2 told)
 
@@ -239,29 +239,29 @@ pub returns-in_default-clause-ends : goal.returns-in_default-clause-ends
 returns-in_default-clause-ends g c = no_block_ends _ _ (le_trans c.read_header.ensures.ends.later c.block_at.ensures.ends.later) (c.in_ok-units.ensures.ends.cause ∙ c.in_ok-header.ensures.ends.cause)
 
 pub returns-in_err-change_map-clause-not_block : goal.returns-in_err-change_map-clause-not_block
-returns-in_err-change_map-clause-not_block g c = 
+returns-in_err-change_map-clause-not_block g c =
     let p = err_from_is_err_and c.from_residual-in_err-change_map.result c.from_residual-in_err-change_map.ensures.1 in
     λ told. absurd (undo_not_block c.from_residual-in_err-change_map.result _ p.0 p.1 p.2 told)
 
 pub returns-in_err-change_map-clause-full : goal.returns-in_err-change_map-clause-full
-returns-in_err-change_map-clause-full g c = 
+returns-in_err-change_map-clause-full g c =
     let p = err_from_is_err_and c.from_residual-in_err-change_map.result c.from_residual-in_err-change_map.ensures.1 in
     undo_not_full c.from_residual-in_err-change_map.result _ p.0 p.1 p.2
 
 pub returns-in_err-change_map-clause-undo_full : goal.returns-in_err-change_map-clause-undo_full
-returns-in_err-change_map-clause-undo_full g c = 
+returns-in_err-change_map-clause-undo_full g c =
     let here = g.R.RegionWords.words c.read_header.new.r in
     let fit = subst (λ o. BlockAt (live here) (64 * here 2) c.args.unit o) c.in-Some.is c.in_ok-units.ensures.value in
     let p = err_from_is_err_and c.from_residual-in_err-change_map.result c.from_residual-in_err-change_map.ensures.1 in
     λ told. (c.in-Some.units, subst (λ (w : ℕ → ℕ). IsBlock (live w) (64 * w 2) c.args.unit c.in-Some.units) c.read_header.ensures.words fit, subst (λ (w : ℕ → ℕ). undo_words w < taken (undo_records w) + 3 + 2 * touched_pages c.args.unit c.in-Some.units) (c.block_at.ensures.words ∙ c.read_header.ensures.words) (c.change_map.ensures.full (undo_is_full c.change_map.result c.from_residual-in_err-change_map.result _ p.0 c.in_err-change_map.was p.1 p.2 told)))
 
 pub returns-in_err-change_map-clause-refused : goal.returns-in_err-change_map-clause-refused
-returns-in_err-change_map-clause-refused g c = 
+returns-in_err-change_map-clause-refused g c =
     let p = err_from_is_err_and c.from_residual-in_err-change_map.result c.from_residual-in_err-change_map.ensures.1 in
     λ told. c.change_map.ensures.refused (block_refused c.change_map.result c.from_residual-in_err-change_map.result _ p.0 c.in_err-change_map.was p.1 p.2 told) ∙ c.block_at.ensures.words ∙ c.read_header.ensures.words
 
 pub returns-in_err-change_map-clause-ends : goal.returns-in_err-change_map-clause-ends
-returns-in_err-change_map-clause-ends g c = 
+returns-in_err-change_map-clause-ends g c =
     let p = err_from_is_err_and c.from_residual-in_err-change_map.result c.from_residual-in_err-change_map.ensures.1 in
     ends_by_after _ _ _ _ _ (le_trans c.read_header.ensures.ends.later c.block_at.ensures.ends.later) (c.in_ok-units.ensures.ends.cause ∙ c.in_ok-header.ensures.ends.cause) (ends_undo _ _ c.change_map.result c.from_residual-in_err-change_map.result _ p.0 c.in_err-change_map.was p.1 p.2 c.change_map.ensures.ends)
 
@@ -275,7 +275,7 @@ pub block_at-requires-clause-heap : goal.block_at-requires-clause-heap
 block_at-requires-clause-heap g c = subst (λ (w : ℕ → ℕ). OfBlocks (live w) (w 2)) (sym c.read_header.ensures.words) c.requires.heap
 
 pub change_map-requires-clause-units : goal.change_map-requires-clause-units
-change_map-requires-clause-units g c = 
+change_map-requires-clause-units g c =
     let here = g.R.RegionWords.words c.read_header.new.r in
     let fit : IsBlock (live here) (64 * here 2) c.args.unit c.in-Some.units = subst (λ o. BlockAt (live here) (64 * here 2) c.args.unit o) c.in-Some.is c.in_ok-units.ensures.value in
     fit.some
@@ -290,7 +290,7 @@ pub returns-clause-ends : goal.returns-clause-ends
 returns-clause-ends g c = heap_did _ _ _ (le_trans c.read_header.ensures.ends.later (le_trans c.block_at.ensures.ends.later c.change_map.ensures.ends.later)) ((c.in_ok-change_map.ensures.ends.runs (no_err tt _)) ∙ c.in_ok-units.ensures.ends.cause ∙ c.in_ok-header.ensures.ends.cause)
 
 pub change_map-requires-clause-within : goal.change_map-requires-clause-within
-change_map-requires-clause-within g c = 
+change_map-requires-clause-within g c =
     let here = g.R.RegionWords.words c.read_header.new.r in
     let fit : IsBlock (live here) (64 * here 2) c.args.unit c.in-Some.units = subst (λ o. BlockAt (live here) (64 * here 2) c.args.unit o) c.in-Some.is c.in_ok-units.ensures.value in
     subst (λ (w : ℕ → ℕ). c.args.unit + c.in-Some.units ≤ 64 * w 2) (sym c.block_at.ensures.words) fit.within

@@ -88,6 +88,6 @@ pub returns-then-bit-run-lt64-clause-words : goal.returns-then-bit-run-lt64-clau
 returns-then-bit-run-lt64-clause-words g c = c.read_places.ensures.words ∙ c.loop-next.invariant.words
 
 pub returns-then-bit-run-lt64-clause-ends : goal.returns-then-bit-run-lt64-clause-ends
-returns-then-bit-run-lt64-clause-ends g c = 
+returns-then-bit-run-lt64-clause-ends g c =
     let running = c.in_ok-read_places.ensures.ends.cause ∙ c.loop-next.invariant.running in
     record { later = le_trans c.loop-next.invariant.later c.read_places.ensures.ends.later; stays = λ stopped. running ∙ stopped; cause = running }

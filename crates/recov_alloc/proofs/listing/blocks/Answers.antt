@@ -89,7 +89,7 @@ pub data_pages-requires-clause-region : goal.data_pages-requires-clause-region
 data_pages-requires-clause-region g c = c.requires.region
 
 pub returns-in_err-pages-clause-value : goal.returns-in_err-pages-clause-value
-returns-in_err-pages-clause-value g c = 
+returns-in_err-pages-clause-value g c =
     let p = err_from_is_err_and c.from_residual.result c.from_residual.ensures.1 in
     rw (p.1) tt
 
@@ -103,12 +103,12 @@ pub returns-in_err-pages-clause-stays : goal.returns-in_err-pages-clause-stays
 returns-in_err-pages-clause-stays g c = c.data_pages.ensures.stays
 
 pub returns-in_err-pages-clause-ends : goal.returns-in_err-pages-clause-ends
-returns-in_err-pages-clause-ends g c = 
+returns-in_err-pages-clause-ends g c =
     let p = err_from_is_err_and c.from_residual.result c.from_residual.ensures.1 in
     ends_read _ _ c.data_pages.result c.from_residual.result _ _ c.in_err-pages.was p.1 p.2 c.data_pages.ensures.ends
 
 pub loop-next-init : goal.loop-next-init
-loop-next-init g c = 
+loop-next-init g c =
     let f = g.R.RegionWords.words c.args.r.now in
     record {
       words = c.data_pages.ensures.words;
@@ -131,7 +131,7 @@ pub word_at-requires-clause-place : goal.word_at-requires-clause-place
 word_at-requires-clause-place g c = subst (λ (w : ℕ → ℕ). 2 * (c.loop-next.next / 64) + 1 < places w) (sym c.loop-next.invariant.words) (omega (arith, c.loop-next-test.true, c.loop-next.invariant.pages))
 
 pub returns-in_err-starts-clause-value : goal.returns-in_err-starts-clause-value
-returns-in_err-starts-clause-value g c = 
+returns-in_err-starts-clause-value g c =
     let p = err_from_is_err_and c.from_residual-in_err-starts.result c.from_residual-in_err-starts.ensures.1 in
     rw (p.1) tt
 
@@ -142,7 +142,7 @@ pub returns-in_err-starts-clause-region : goal.returns-in_err-starts-clause-regi
 returns-in_err-starts-clause-region g c = c.word_at.ensures.region
 
 pub returns-in_err-starts-clause-ends : goal.returns-in_err-starts-clause-ends
-returns-in_err-starts-clause-ends g c = 
+returns-in_err-starts-clause-ends g c =
     let p = err_from_is_err_and c.from_residual-in_err-starts.result c.from_residual-in_err-starts.ensures.1 in
     ends_by_after _ _ _ _ _ c.loop-next.invariant.later c.loop-next.invariant.running (ends_read _ _ c.word_at.result c.from_residual-in_err-starts.result _ _ c.in_err-starts.was p.1 p.2 c.word_at.ensures.ends)
 
@@ -162,7 +162,7 @@ pub block_units-requires-clause-unit : goal.block_units-requires-clause-unit
 block_units-requires-clause-unit g c = omega (arith, c.loop-next-test.true, c.if-bit-skipped-lt64.true)
 
 pub returns-in_err-units-clause-value : goal.returns-in_err-units-clause-value
-returns-in_err-units-clause-value g c = 
+returns-in_err-units-clause-value g c =
     let p = err_from_is_err_and c.from_residual-in_err-units.result c.from_residual-in_err-units.ensures.1 in
     rw (p.1) tt
 
@@ -173,12 +173,12 @@ pub returns-in_err-units-clause-region : goal.returns-in_err-units-clause-region
 returns-in_err-units-clause-region g c = region_at _ _ _ _ c.word_at.ensures.region c.block_units.ensures.stays.count c.block_units.ensures.words
 
 pub returns-in_err-units-clause-ends : goal.returns-in_err-units-clause-ends
-returns-in_err-units-clause-ends g c = 
+returns-in_err-units-clause-ends g c =
     let p = err_from_is_err_and c.from_residual-in_err-units.result c.from_residual-in_err-units.ensures.1 in
     ends_by_after _ _ _ _ _ (le_trans c.loop-next.invariant.later c.word_at.ensures.ends.later) (c.in_ok-starts.ensures.ends.cause ∙ c.loop-next.invariant.running) (ends_read _ _ c.block_units.result c.from_residual-in_err-units.result _ _ c.in_err-units.was p.1 p.2 c.block_units.ensures.ends)
 
 pub returns-in_err-push-clause-value : goal.returns-in_err-push-clause-value
-returns-in_err-push-clause-value g c = 
+returns-in_err-push-clause-value g c =
     let p = err_from_is_err_and c.from_residual-in_err-push.result c.from_residual-in_err-push.ensures.1 in
     rw (p.1) tt
 
@@ -189,7 +189,7 @@ pub returns-in_err-push-clause-region : goal.returns-in_err-push-clause-region
 returns-in_err-push-clause-region g c = region_at _ _ _ _ c.word_at.ensures.region c.block_units.ensures.stays.count c.block_units.ensures.words
 
 pub returns-in_err-push-clause-ends : goal.returns-in_err-push-clause-ends
-returns-in_err-push-clause-ends g c = 
+returns-in_err-push-clause-ends g c =
     let p = err_from_is_err_and c.from_residual-in_err-push.result c.from_residual-in_err-push.ensures.1 in
     ends_memory _ _ c.from_residual-in_err-push.result _ p.1 p.2 (le_trans c.loop-next.invariant.later (le_trans c.word_at.ensures.ends.later c.block_units.ensures.ends.later)) (c.in_ok-units.ensures.ends.cause ∙ c.in_ok-starts.ensures.ends.cause ∙ c.loop-next.invariant.running)
 
