@@ -27,7 +27,7 @@ pub returns-in_err-put_word-clause-shut : goal.returns-in_err-put_word-clause-sh
 returns-in_err-put_word-clause-shut g c = not_ok _ c.from_residual.result c.from_residual.ensures.0
 
 pub returns-in_err-put_word-clause-ends : goal.returns-in_err-put_word-clause-ends
-returns-in_err-put_word-clause-ends g c = 
+returns-in_err-put_word-clause-ends g c =
     let p = err_from_is_err_and c.from_residual.result c.from_residual.ensures.1 in
     phase_stop _ _ _ _ _ _ refl (p.1 ∙ ap Err p.2) (ap (λ (m : Contents). m.open_page) c.in_err-put_word.ensures.same ∙ c.requires.closed) c.put_word.ensures.lasts c.in_err-put_word.ensures.ends
 

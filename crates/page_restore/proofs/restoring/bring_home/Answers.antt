@@ -110,7 +110,7 @@ pub returns-in_err-settle-clause-brings : goal.returns-in_err-settle-clause-brin
 returns-in_err-settle-clause-brings g c = c.settle.ensures.brings
 
 pub returns-in_err-settle-clause-ends : goal.returns-in_err-settle-clause-ends
-returns-in_err-settle-clause-ends g c = 
+returns-in_err-settle-clause-ends g c =
     let p = err_from_is_err_and c.from_residual.result c.from_residual.ensures.1 in
     phase_told _ _ _ _ _ _ (p.1 ∙ ap Err p.2) c.in_err-settle.ensures.ends
 

@@ -72,6 +72,6 @@ pub returns-in_err-clear_entries-clause-shut : goal.returns-in_err-clear_entries
 returns-in_err-clear_entries-clause-shut g c = not_ok _ c.from_residual.result c.from_residual.ensures.0
 
 pub returns-in_err-clear_entries-clause-ends : goal.returns-in_err-clear_entries-clause-ends
-returns-in_err-clear_entries-clause-ends g c = 
+returns-in_err-clear_entries-clause-ends g c =
     let p = err_from_is_err_and c.from_residual.result c.from_residual.ensures.1 in
     phase_told _ _ _ _ _ _ (p.1 ∙ ap Err p.2) c.in_err-clear_entries.ensures.ends

@@ -85,7 +85,7 @@ pub returns-in_err-counts-clause-dropped : goal.returns-in_err-counts-clause-dro
 returns-in_err-counts-clause-dropped g c = c.bring_home.ensures.dropped
 
 pub returns-in_err-counts-clause-ends : goal.returns-in_err-counts-clause-ends
-returns-in_err-counts-clause-ends g c = 
+returns-in_err-counts-clause-ends g c =
     let p = err_from_is_err_and c.from_residual.result c.from_residual.ensures.1 in
     phase_told _ _ _ _ _ _ (p.1 ∙ ap Err p.2) c.in_err-counts.ensures.ends
 

@@ -54,7 +54,7 @@ pub returns-in_err-count-clause-writes : goal.returns-in_err-count-clause-writes
 returns-in_err-count-clause-writes g c = c.write_due.ensures.writes
 
 pub returns-in_err-count-clause-ends : goal.returns-in_err-count-clause-ends
-returns-in_err-count-clause-ends g c = 
+returns-in_err-count-clause-ends g c =
     let p = err_from_is_err_and c.from_residual.result c.from_residual.ensures.1 in
     phase_told _ _ _ _ _ _ (p.1 ∙ ap Err p.2) c.in_err-count.ensures.ends
 

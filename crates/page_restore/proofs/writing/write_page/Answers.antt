@@ -39,7 +39,7 @@ pub returns-in_err-write_block-clause-home : goal.returns-in_err-write_block-cla
 returns-in_err-write_block-clause-home g c = not_ok _ c.from_residual.result c.from_residual.ensures.0
 
 pub returns-in_err-write_block-clause-ends : goal.returns-in_err-write_block-clause-ends
-returns-in_err-write_block-clause-ends g c = 
+returns-in_err-write_block-clause-ends g c =
     let p = err_from_is_err_and c.from_residual.result c.from_residual.ensures.1 in
     step_failed _ _ _ _ _ _ (p.1 ∙ ap Err p.2) c.requires.closed c.write_block.ensures.writes_block.open_page c.write_block.ensures.lasts c.in_err-write_block.ensures.fault c.in_err-write_block.ensures.ends
 

@@ -73,15 +73,15 @@ push_run-requires-clause-region g c = c.loop-at.invariant.region
 
 pub loop-at-init : goal.loop-at-init
 loop-at-init g c = record {
-      low = omega arith;
-      high = c.requires.order;
-      bytes = bytes_none (byte_in (λ w. live (g.R.RegionWords.words c.args.r.now) (c.args.place + w))) c.args.off c.args.out.now.items;
-      words = refl;
-      region = c.requires.region;
-      stays = stays_none c.args.r.now (g.met.R.RegionWords.rest_refl c.args.r.now) c.requires.ready;
-      later = le_refl _;
-      running = refl;
-    }
+  low = omega arith;
+  high = c.requires.order;
+  bytes = bytes_none (byte_in (λ w. live (g.R.RegionWords.words c.args.r.now) (c.args.place + w))) c.args.off c.args.out.now.items;
+  words = refl;
+  region = c.requires.region;
+  stays = stays_none c.args.r.now (g.met.R.RegionWords.rest_refl c.args.r.now) c.requires.ready;
+  later = le_refl _;
+  running = refl;
+}
 
 pub loop-at-smaller : goal.loop-at-smaller
 loop-at-smaller g c = omega (arith, c.min-next.ensures, c.loop-at-test.true)

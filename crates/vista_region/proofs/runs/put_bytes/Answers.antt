@@ -107,40 +107,40 @@ put_run-requires-clause-undo g c = c.requires.undo ∙ sym c.loop-done.invariant
 
 pub loop-done-init : goal.loop-done-init
 loop-done-init g c = record {
-      within = omega arith;
-      region = c.requires.region;
-      puts = puts_none (g.R.RegionWords.count c.args.r.now) (g.R.RegionWords.words c.args.r.now) (g.R.RegionWords.words c.args.r.now) c.args.place (words_of c.args.bytes.now) c.requires.region refl;
-      stays = stays_none c.args.r.now (g.met.R.RegionWords.rest_refl c.args.r.now) c.requires.ready;
-      later = le_refl _;
-      running = refl;
-    }
+  within = omega arith;
+  region = c.requires.region;
+  puts = puts_none (g.R.RegionWords.count c.args.r.now) (g.R.RegionWords.words c.args.r.now) (g.R.RegionWords.words c.args.r.now) c.args.place (words_of c.args.bytes.now) c.requires.region refl;
+  stays = stays_none c.args.r.now (g.met.R.RegionWords.rest_refl c.args.r.now) c.requires.ready;
+  later = le_refl _;
+  running = refl;
+}
 
 pub loop-done-smaller : goal.loop-done-smaller
 loop-done-smaller g c = omega (arith, c.min-next.ensures, c.loop-done-test.true)
 
 pub put_run-requires-clause-whole : goal.put_run-requires-clause-whole
-put_run-requires-clause-whole g c = 
+put_run-requires-clause-whole g c =
     let next = c.min-next.result in
     let few = length-take (8 * next - 8 * c.loop-done.done) (drop (8 * c.loop-done.done) c.args.bytes.now) in
     let rest = length-drop (8 * c.loop-done.done) c.args.bytes.now in
     omega (arith, few, rest, c.min-next.ensures, c.loop-done-test.true)
 
 pub put_run-requires-clause-few : goal.put_run-requires-clause-few
-put_run-requires-clause-few g c = 
+put_run-requires-clause-few g c =
     let next = c.min-next.result in
     let few = length-take (8 * next - 8 * c.loop-done.done) (drop (8 * c.loop-done.done) c.args.bytes.now) in
     let rest = length-drop (8 * c.loop-done.done) c.args.bytes.now in
     omega (arith, few, c.min-next.ensures)
 
 pub put_run-requires-clause-place : goal.put_run-requires-clause-place
-put_run-requires-clause-place g c = 
+put_run-requires-clause-place g c =
     let next = c.min-next.result in
     let few = length-take (8 * next - 8 * c.loop-done.done) (drop (8 * c.loop-done.done) c.args.bytes.now) in
     let rest = length-drop (8 * c.loop-done.done) c.args.bytes.now in
     subst (λ k. c.args.place + c.loop-done.done + length (take (8 * next - 8 * c.loop-done.done) (drop (8 * c.loop-done.done) c.args.bytes.now)) / 8 ≤ 512 * (map_pages k + k)) (sym c.loop-done.invariant.puts.keeps.undoes.sizes.data_pages) (omega (arith, c.requires.place, few, rest, c.min-next.ensures, c.loop-done-test.true))
 
 pub put_run-requires-clause-covered : goal.put_run-requires-clause-covered
-put_run-requires-clause-covered g c = 
+put_run-requires-clause-covered g c =
     let next = c.min-next.result in
     let few = length-take (8 * next - 8 * c.loop-done.done) (drop (8 * c.loop-done.done) c.args.bytes.now) in
     let rest = length-drop (8 * c.loop-done.done) c.args.bytes.now in

@@ -108,6 +108,6 @@ pub returns-in_err-k-clause-used : goal.returns-in_err-k-clause-used
 returns-in_err-k-clause-used g c = not_ok _ c.from_residual.result c.from_residual.ensures.0
 
 pub returns-in_err-k-clause-sure : goal.returns-in_err-k-clause-sure
-returns-in_err-k-clause-sure g c = 
+returns-in_err-k-clause-sure g c =
     let p = err_from_is_err_and c.from_residual.result c.from_residual.ensures.1 in
     unsure (g.M.Machine.contents c.args.self.now.machine).words c.args.b.0 _ c.from_residual.result (p.1 ∙ ap Err p.2) c.in_err-k.ensures.sure

@@ -175,7 +175,7 @@ pub returns-in_err-k-clause-leaves : goal.returns-in_err-k-clause-leaves
 returns-in_err-k-clause-leaves g c = c.make_room.ensures.leaves
 
 pub returns-in_err-k-clause-ends : goal.returns-in_err-k-clause-ends
-returns-in_err-k-clause-ends g c = 
+returns-in_err-k-clause-ends g c =
     let p = err_from_is_err_and c.from_residual.result c.from_residual.ensures.1 in
     ends_handed (g.M.Machine.contents c.args.self.now.machine) (g.M.Machine.contents c.make_room.new.m) (g.M.Machine.run c.args.self.now.machine) (g.M.Machine.run c.make_room.new.m) _ c.from_residual.result (p.1 ∙ ap Err p.2) c.make_room.ensures.lasts c.in_err-k.ensures.fault c.in_err-k.ensures.ends
 

@@ -183,6 +183,6 @@ pub returns-in_err-shadow_frame-clause-used : goal.returns-in_err-shadow_frame-c
 returns-in_err-shadow_frame-clause-used g c = not_ok _ c.from_residual-in_err-shadow_frame.result c.from_residual-in_err-shadow_frame.ensures.0
 
 pub returns-in_err-shadow_frame-clause-fault : goal.returns-in_err-shadow_frame-clause-fault
-returns-in_err-shadow_frame-clause-fault g c = 
+returns-in_err-shadow_frame-clause-fault g c =
     let p = err_from_is_err_and c.from_residual-in_err-shadow_frame.result c.from_residual-in_err-shadow_frame.ensures.1 in
     λ e. absurd (not_fault _ (p.1 ∙ ap Err p.2) e)
