@@ -1,11 +1,14 @@
 -- What is so at the exits of a call: of answers that are errors, and where words are as they were.
 use Rattle.std.specs.Prelude.{◌≡◌, ℕ, ◌≤◌, ◌&&◌, Bool, true, false, List, length, slice_index, Result, Err, IfOk, IsErr, IsErrOf, OnErr}
-use Rattle.std.proofs.Common.{◌∙◌, ap, sym, subst, arith}
+use Rattle.std.proofs.Common.{◌∙◌, ap, sym, subst, arith, refl}
 use Rattle.std.proofs.lemmas.Result.{IfOk-from_err, MatchResult-from_err}
 use Rattle.rio_base.proofs.Rules.{rose_later}
 use Rattle.rio_base.specs.Counts.{Rose}
 use Rattle.rio_base.specs.Disks.{raised}
-use Rattle.rio_base.specs.Machine.{Contents}
+use Rattle.rio_base.specs.Failures.{vol_fail}
+use Rattle.rio_base.specs.Machine.{Contents, Running, StepEnds}
+use Rattle.rio_base.specs.declared.failures.DiskFail.{DiskFail}
+use Rattle.rio_base.specs.declared.failures.DiskFail.TheVariants.{Fault as DiskFault, Stopped as DiskStopped}
 use Rattle.rio_base.specs.declared.failures.VolFail.{VolFail}
 use Rattle.rio_base.specs.declared.failures.VolFail.TheVariants.{Fault, Stopped}
 use Rattle.rio_model.specs.Cover.{HeldEntry, IsCleaned, Narrows, OnDisk}
@@ -28,9 +31,29 @@ told_back e stop answer same is = cc
 pub not_fault : {T : Type 0} (r : Result T VolFail) → r ≡ Err Stopped → IsErrOf r Fault → ⊥
 not_fault r same is = cc
 
+not_stopped : {T : Type 0} (r : Result T VolFail) → r ≡ Err Fault → IsErrOf r Stopped → ⊥
+not_stopped r same is = cc
+
 -- the fault of a call, told by another answer
 pub fault_told : {T U : Type 0} (cause : Type 0) (e : VolFail) (answer : Result U VolFail) → answer ≡ Err e → (IsErrOf {T = T} (Err e) Fault → cause) → IsErrOf answer Fault → cause
 fault_told cause e answer same h is = h (told_back e Fault answer same is)
+
+-- what the disk answered, told by another answer
+pub disk_fault : {T U : Type 0} (cause : Type 0) (fail : DiskFail) (answer : Result U VolFail) → answer ≡ Err (vol_fail fail) → (IsErrOf {T = T} (Err fail) DiskFault → cause) → IsErrOf answer Fault → cause
+disk_fault cause DiskFault answer same h is = h refl
+disk_fault cause DiskStopped answer same h is = absurd (not_fault answer same is)
+
+pub disk_ends : {T U : Type 0} (a b : Running) (fail : DiskFail) (answer : Result U VolFail) → answer ≡ Err (vol_fail fail) → StepEnds a b (IsErrOf {T = T} (Err fail) DiskStopped) → StepEnds a b (IsErrOf answer Stopped)
+disk_ends a b DiskStopped answer same h = record { steps = h.steps; told = λ q. h.told refl; runs = λ n. absurd (n same) }
+disk_ends a b DiskFault answer same h = record { steps = h.steps; told = λ q. absurd (not_stopped answer same q); runs = λ n. h.runs (λ q. cc) }
+
+-- a step that was not stopped, nor does what stands for it say so
+pub step_well : (a b : Running) (none stop : Type 0) → (none → ⊥) → (stop → ⊥) → StepEnds a b none → StepEnds a b stop
+step_well a b none stop n o h = record { steps = h.steps; told = λ q. absurd (o q); runs = λ q. h.runs n }
+
+-- a step that was stopped, and so says what stands for it
+pub step_stopped : (a b : Running) (stop told : Type 0) → stop → told → StepEnds a b stop → StepEnds a b told
+step_stopped a b stop told is tells h = record { steps = h.steps; told = λ q. h.told is; runs = λ n. absurd (n tells) }
 
 -- behind calls of which some may have failed
 pub fault_on : (a b c : ℕ) (fault : Type 0) → a ≤ b → (fault → Rose b c) → fault → Rose a c

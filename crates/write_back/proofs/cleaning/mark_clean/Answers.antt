@@ -1,6 +1,57 @@
 use Rattle.registry.proofs.Retags.{retagged}
+use Rattle.rio_model.proofs.CoverSteps.{keeps_refl}
+use Rattle.rio_model.proofs.HeldEntries.{held_same}
 use Rattle.write_back.proofs.Settled.{keeps_settled}
+use Rattle.std.proofs.Common.{ap, refl, subst, sym}
+use Rattle.rio_base.specs.Machine.{Contents}
+use Rattle.rio_model.specs.Cover.{Keeps}
+use Rattle.write_back.proofs.Exits.{at_err, not_ok, step_stopped}
 use Rattle.write_back.proofs.cleaning.mark_clean.Goals as goal
 
 pub returns-clause-keeps : goal.returns-clause-keeps
 returns-clause-keeps g c = keeps_settled c.args.k _ _ (c.in_ok-set_clean.ensures.changes.rest) c.requires.valid c.requires.bare c.requires.written c.requires.synced (retagged c.args.k _ _ _ c.in_ok-set_clean.ensures.changes.one_entry c.in_ok-set_clean.ensures.entry)
+
+pub returns-clause-rest : goal.returns-clause-rest
+returns-clause-rest g c = c.set_clean.ensures.changes.rest
+
+pub returns-clause-one_entry : goal.returns-clause-one_entry
+returns-clause-one_entry g c = c.set_clean.ensures.changes.one_entry
+
+pub returns-clause-closed : goal.returns-clause-closed
+returns-clause-closed g c = c.set_clean.ensures.changes.closed
+
+pub returns-clause-lasts : goal.returns-clause-lasts
+returns-clause-lasts g c = c.set_clean.ensures.changes.lasts
+
+pub returns-in_err-set_clean-clause-rest : goal.returns-in_err-set_clean-clause-rest
+returns-in_err-set_clean-clause-rest g c = c.set_clean.ensures.changes.rest
+
+pub returns-in_err-set_clean-clause-one_entry : goal.returns-in_err-set_clean-clause-one_entry
+returns-in_err-set_clean-clause-one_entry g c = c.set_clean.ensures.changes.one_entry
+
+pub returns-in_err-set_clean-clause-closed : goal.returns-in_err-set_clean-clause-closed
+returns-in_err-set_clean-clause-closed g c = c.set_clean.ensures.changes.closed
+
+pub returns-in_err-set_clean-clause-lasts : goal.returns-in_err-set_clean-clause-lasts
+returns-in_err-set_clean-clause-lasts g c = c.set_clean.ensures.changes.lasts
+
+pub returns-clause-same : goal.returns-clause-same
+returns-clause-same g c = tt
+
+pub returns-clause-ends : goal.returns-clause-ends
+returns-clause-ends g c = c.in_ok-set_clean.ensures.changes.ends
+
+pub returns-in_err-set_clean-clause-keeps : goal.returns-in_err-set_clean-clause-keeps
+returns-in_err-set_clean-clause-keeps g c = subst (λ m. Keeps (g.M.Machine.contents c.args.m.now) m) (sym c.in_err-set_clean.ensures.same) (keeps_refl (g.M.Machine.contents c.args.m.now))
+
+pub returns-in_err-set_clean-clause-same : goal.returns-in_err-set_clean-clause-same
+returns-in_err-set_clean-clause-same g c = at_err c.from_residual.result c.from_residual.ensures.0 (ap (λ (m : Contents). m.words) c.in_err-set_clean.ensures.same)
+
+pub returns-in_err-set_clean-clause-ends : goal.returns-in_err-set_clean-clause-ends
+returns-in_err-set_clean-clause-ends g c = step_stopped (g.M.Machine.run c.args.m.now) (g.M.Machine.run c.set_clean.new.m) _ _ refl c.from_residual.ensures.0 c.in_err-set_clean.ensures.changes.ends
+
+pub returns-in_err-set_clean-clause-cleaned : goal.returns-in_err-set_clean-clause-cleaned
+returns-in_err-set_clean-clause-cleaned g c = not_ok _ c.from_residual.result c.from_residual.ensures.0
+
+pub returns-in_err-set_clean-clause-held : goal.returns-in_err-set_clean-clause-held
+returns-in_err-set_clean-clause-held g c = held_same c.args.k _ _ (ap (λ (m : Contents). m.words) c.in_err-set_clean.ensures.same)

@@ -2,7 +2,12 @@ use Rattle.std.proofs.Common.{◌<◌, ◌∙◌, subst, sym, ap, arith, length}
 use Rattle.rio_model.specs.Registry.{tag_block}
 use Rattle.rio_model.proofs.CoverSteps.{keeps_write}
 use Rattle.write_back.proofs.Steps.{frame_begins, on_disk, stays_pending, stays_on_disk}
-use Rattle.write_back.proofs.Exits.{not_ok}
+use Rattle.write_back.proofs.Exits.{disk_ends, disk_fault, not_ok, step_well}
+use Rattle.std.proofs.lemmas.Result.{err_from_is_err_and}
+use Rattle.std.specs.Prelude.{Err}
+use Rattle.rio_base.proofs.MachineRules.{never}
+use Rattle.rio_base.specs.declared.failures.DiskFail.TheVariants.{Stopped as DiskStopped}
+use Rattle.rio_base.specs.declared.failures.VolFail.TheVariants.{Stopped}
 use Rattle.write_back.proofs.cleaning.write_entry.Goals as goal
 
 pub write_block-requires-clause-block : goal.write_block-requires-clause-block
@@ -70,3 +75,19 @@ returns-clause-closed g c = c.write_block.ensures.writes_block.open_page ∙ c.r
 
 pub returns-clause-lasts : goal.returns-clause-lasts
 returns-clause-lasts g c = c.write_block.ensures.lasts
+
+pub returns-clause-fault : goal.returns-clause-fault
+returns-clause-fault g c = λ q. absurd (never _ _ q)
+
+pub returns-clause-ends : goal.returns-clause-ends
+returns-clause-ends g c = step_well _ _ _ _ (never _ DiskStopped) (never _ Stopped) c.in_ok-write_block.ensures.ends
+
+pub returns-in_err-write_block-clause-fault : goal.returns-in_err-write_block-clause-fault
+returns-in_err-write_block-clause-fault g c =
+    let p = err_from_is_err_and c.from_residual.result c.from_residual.ensures.1 in
+    disk_fault _ _ _ (p.1 ∙ ap Err p.2) c.in_err-write_block.ensures.fault
+
+pub returns-in_err-write_block-clause-ends : goal.returns-in_err-write_block-clause-ends
+returns-in_err-write_block-clause-ends g c =
+    let p = err_from_is_err_and c.from_residual.result c.from_residual.ensures.1 in
+    disk_ends _ _ _ _ (p.1 ∙ ap Err p.2) c.in_err-write_block.ensures.ends
