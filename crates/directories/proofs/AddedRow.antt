@@ -100,6 +100,9 @@ space_said shape x y d inode P can is same h =
 pub room_left : (shape : VolumeShape) (x : Seen) (d : ℕ) (inode : Inode) → CanReadDir shape x d → IsInode x.words d inode → (held_of shape x.words d).size + 64 ≤ largest_size → inode.size + 64 ≤ largest_size
 room_left shape x d inode can is room = let same = held_size shape x d inode can is in omega (arith, room, same)
 
+pub no_larger : (n most : ℕ) → n ≤ most → most < n → ⊥
+no_larger n most fits large = omega (arith, fits, large)
+
 -- ---- the volume while the directory is read
 
 pub looked_twice : (shape : VolumeShape) (a b c : Health) (m n o : Below) (x y z : Seen) (k j i : Kept) → Ready shape x k → LooksUp shape x y → Passes a m k b n j → LooksUp shape y z → Passes b n j c o i → LeavesInUse (volume_layout shape x.words) x k z i

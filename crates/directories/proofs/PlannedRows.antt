@@ -132,6 +132,21 @@ has_room shape x k d slot inode ready entries has is =
     let within = slot_in shape x d slot inode.size can size has in
     record { some = omega (arith, size, whole, within); few = omega (arith, size, most); less = omega arith; whole = omega (arith, size, whole); within = within }
 
+-- it has whole entries
+pub whole_size : (size slot : ℕ) → HasRoom size slot → size % 64 ≡ 0
+whole_size size slot room =
+    let some = room.some in
+    let whole = room.whole in
+    omega (arith, some, whole)
+
+-- where a slot lies in what is left without the last one
+pub gap_room : (shape : VolumeShape) (x : Seen) (d slot : ℕ) (inode : Inode) → CanReadDir shape x d → IsInode x.words d inode → 64 * slot < inode.size - 64 → HasRoom inode.size slot
+gap_room shape x d slot inode can is before =
+    let size = is.size in
+    let whole = dir_size shape x d can in
+    let most = (can.mapped.laid.sizes.each d can.ino (let one = can.dir in omega (arith, one))).most in
+    record { some = omega (arith, before); few = omega (arith, size, most); less = omega arith; whole = omega (arith, size, whole, before); within = omega (arith, before) }
+
 -- a slot before the last one lies in what is left without that
 pub room_before : (size slot last : ℕ) → HasRoom size slot → last + 1 ≡ size / 64 → slot ≢ last → 64 * slot < size - 64
 room_before size slot last room end apart =

@@ -1,5 +1,5 @@
 -- Edits of entries, pushed one after the other.
-use Rattle.directories.proofs.Common.{◌≡◌, ℕ, zero, suc, ◌+◌, ◌<◌, ◌++◌, List, [], ◌∷◌, length, map, take, slice_index_or, refl, sym, ap, ◌∙◌, arith, Contains, append-nil, word_edit, Edit, run_edits}
+use Rattle.directories.proofs.Common.{◌≡◌, ℕ, zero, suc, ◌+◌, ◌<◌, ◌≤◌, ◌++◌, List, [], ◌∷◌, length, map, take, slice_index_or, refl, subst, sym, ap, ◌∙◌, arith, Contains, append-nil, word_edit, Edit, run_edits}
 use Rattle.std.proofs.lemmas.List.{append_assoc, get_or_default, map-append}
 use Rattle.std.proofs.lemmas.List.FromFn.{map-range_with_len_more}
 use Rattle.rio_model.specs.Updates.{WordEdit}
@@ -28,3 +28,13 @@ entry_pushed old es k d xs ys few so more = more ∙ ap (λ zs. zs ++ entry_edit
 
 pub entry_in : (es : List EntryWords) (k : ℕ) (d : EntryWords) → k < length es → Contains es (slice_index_or es k d)
 entry_in es k d few = (k, few, get_or_default es k (slice_index_or es k d) d few)
+
+-- of one entry or two that lie within their pages, each does
+pub one_within : (a : EntryWords) → a.first + 8 ≤ 512 → (e : EntryWords) → Contains (a ∷ []) e → e.first + 8 ≤ 512
+one_within a fits e (zero, few, is) = subst (λ (x : EntryWords). x.first + 8 ≤ 512) is fits
+one_within a fits e (suc k, few, is) = absurd (omega (arith, few))
+
+pub two_within : (a b : EntryWords) → a.first + 8 ≤ 512 → b.first + 8 ≤ 512 → (e : EntryWords) → Contains (a ∷ b ∷ []) e → e.first + 8 ≤ 512
+two_within a b fits other e (zero, few, is) = subst (λ (x : EntryWords). x.first + 8 ≤ 512) is fits
+two_within a b fits other e (suc zero, few, is) = subst (λ (x : EntryWords). x.first + 8 ≤ 512) is other
+two_within a b fits other e (suc (suc k), few, is) = absurd (omega (arith, few))

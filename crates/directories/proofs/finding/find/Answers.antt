@@ -4,6 +4,7 @@ use Rattle.rio_base.proofs.Rules.{looks_trans}
 use Rattle.directories.specs.Rows.{Finds}
 use Rattle.directories.proofs.CanRead.{can_read}
 use Rattle.directories.proofs.EndsAs.{ends_err}
+use Rattle.file_pages.proofs.EndsOn.{if_err}
 use Rattle.directories.proofs.finding.find.Goals as goal
 
 pub dir_inode-requires-clause-can : goal.dir_inode-requires-clause-can
@@ -73,3 +74,6 @@ returns-clause-shape g c = c.find_with.ensures.shape
 
 pub returns-clause-sound : goal.returns-clause-sound
 returns-clause-sound g c = c.find_with.ensures.sound
+
+pub returns-in_err-inode-clause-value : goal.returns-in_err-inode-clause-value
+returns-in_err-inode-clause-value g c = if_err c.from_residual.result _ c.from_residual.ensures.0

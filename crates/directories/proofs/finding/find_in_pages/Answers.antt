@@ -6,6 +6,7 @@ use Rattle.directories.specs.Entries.{FindsInPage}
 use Rattle.directories.proofs.CanRead.{can_look, dir_held}
 use Rattle.directories.proofs.EndsAs.{ends_err, ends_ok}
 use Rattle.directories.proofs.Found.{none_next, sized}
+use Rattle.file_pages.proofs.EndsOn.{if_err}
 use Rattle.directories.proofs.finding.find_in_pages.Goals as goal
 
 pub returns-in_err-i-clause-looks : goal.returns-in_err-i-clause-looks
@@ -123,3 +124,6 @@ returns-clause-value g c = λ i row.
     let is = c.requires.inode.size in
     let within = row.1.within in
     c.loop-p.invariant.none row.0 within (omega (arith, within, size, is, c.loop-p-test.false, c.div_ceil-pages.ensures)) row.1.named
+
+pub returns-in_err-i-clause-value : goal.returns-in_err-i-clause-value
+returns-in_err-i-clause-value g c = if_err c.from_residual.result _ c.from_residual.ensures.0

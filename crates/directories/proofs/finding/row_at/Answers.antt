@@ -1,6 +1,7 @@
 use Rattle.rio_base.proofs.Rules.{looks_refl}
 use Rattle.directories.proofs.Common.{arith, err_from_is_err_and, named_on, refl, held_of}
 use Rattle.std.proofs.Common.{rules, le_refl}
+use Rattle.file_pages.proofs.EndsOn.{if_err}
 use Rattle.directories.proofs.CanRead.{can_read}
 use Rattle.directories.proofs.EndsAs.{ends_err, ends_ok}
 use Rattle.directories.proofs.EntryRead.{slot_named, slot_other, slot_read, entry_sized}
@@ -158,3 +159,9 @@ returns-then-slot-inode-clause-value g c = tt
 
 pub returns-then-name-gt-NAME_BYTES-clause-none : goal.returns-then-name-gt-NAME_BYTES-clause-none
 returns-then-name-gt-NAME_BYTES-clause-none g c = λ none i row. let sized = entry_sized (held_of c.args.shape.now (g.V.Blocks.seen c.args.v.now).words) c.args.dir.0 c.args.slot i c.args.name.now c.requires.entries c.requires.dir row in omega (arith, sized.1)
+
+pub returns-in_err-entry-clause-value : goal.returns-in_err-entry-clause-value
+returns-in_err-entry-clause-value g c = if_err c.from_residual.result _ c.from_residual.ensures.0
+
+pub returns-in_err-entry-clause-none : goal.returns-in_err-entry-clause-none
+returns-in_err-entry-clause-none g c = if_err c.from_residual.result _ c.from_residual.ensures.0

@@ -4,6 +4,7 @@ use Rattle.std.proofs.Common.{le_trans}
 use Rattle.std.specs.FinMap.{empty}
 use Rattle.file_pages.proofs.LookingUpRules.{look_refl}
 use Rattle.directories.specs.Holding.{HoldsRows}
+use Rattle.file_pages.proofs.EndsOn.{if_err}
 use Rattle.directories.proofs.CanRead.{can_look, can_read, dir_held, dir_size}
 use Rattle.directories.proofs.EndsAs.{ends_memory, ends_vol_read}
 use Rattle.directories.proofs.EntryRead.{IsSlot, slot_read}
@@ -138,3 +139,9 @@ returns-clause-shape g c = c.loop-slot.invariant.can.has_shape
 
 pub returns-clause-ends : goal.returns-clause-ends
 returns-clause-ends g c = ends_by_well _ _ _ _ c.loop-slot.invariant.later c.loop-slot.invariant.running (λ a. cc) (λ a. cc)
+
+pub returns-in_err-entry-clause-value : goal.returns-in_err-entry-clause-value
+returns-in_err-entry-clause-value g c = if_err c.from_residual.result _ c.from_residual.ensures.0
+
+pub returns-in_err-put_entry-clause-value : goal.returns-in_err-put_entry-clause-value
+returns-in_err-put_entry-clause-value g c = if_err c.from_residual-in_err-put_entry.result _ c.from_residual-in_err-put_entry.ensures.0

@@ -3,6 +3,7 @@ use Rattle.directories.proofs.EntryRead.{words_read}
 use Rattle.directories.proofs.EndsAs.{ends_err, ends_ok}
 use Rattle.directories.proofs.Common.{◌/◌, look_trans, err_from_is_err_and}
 use Rattle.directories.proofs.CanRead.{block_on, can_stays, has_slot, looked_page, page_on, can_page, page_below}
+use Rattle.file_pages.proofs.EndsOn.{if_err}
 use Rattle.directories.proofs.pages.read_entry.Goals as goal
 
 pub returns-in_err-read_run-clause-looks : goal.returns-in_err-read_run-clause-looks
@@ -101,3 +102,9 @@ returns-clause-ends g c = ends_later _ _ _ _ c.in_ok-b.ensures.ends.later c.in_o
 
 pub returns-clause-words : goal.returns-clause-words
 returns-clause-words g c = words_read (g.V.Blocks.seen c.args.v.now).words _ c.in_ok-b.b.0 _ c.first_word.result _ c.read_run.new.into c.in_ok-b.ensures.looks.looks.words c.in_ok-b.ensures.value c.first_word.ensures.is c.in_ok-read_run.ensures.words
+
+pub returns-in_err-b-clause-words : goal.returns-in_err-b-clause-words
+returns-in_err-b-clause-words g c = if_err c.from_residual.result _ c.from_residual.ensures.0
+
+pub returns-in_err-read_run-clause-words : goal.returns-in_err-read_run-clause-words
+returns-in_err-read_run-clause-words g c = if_err c.from_residual-in_err-read_run.result _ c.from_residual-in_err-read_run.ensures.0

@@ -1,14 +1,16 @@
 use Rattle.std.proofs.Common.{le_refl}
-use Rattle.directories.proofs.PlannedSizes.{dir_fits, plans_dir_inode}
+use Rattle.directories.proofs.PushedEdits.{one_within}
+use Rattle.directories.proofs.PlannedSizes.{dir_fits, none_skipped, none_twice, plans_dir_inode}
+use Rattle.file_pages.proofs.EndsOn.{if_err}
 use Rattle.directories.proofs.Common.{◌≡◌, ◌+◌, ◌/◌, ◌<◌, ◌≤◌, [], length, sym, ap, subst, ◌∙◌, arith, err_from_is_err_and, BlockWords, ◌then◌, ends_by_after, numbers, PlansSize, free_beside, wanted_blocks, leaves_looked, leaves_trans, ready_left, IsInode, held_of, AtPage, placed_at, refl}
 use Rattle.std.specs.Prelude.{slice_index}
 use Rattle.rio_base.specs.declared.places.Block.{Block}
-use Rattle.file_pages.specs.declared.failures.SizeFail.TheVariants.{NoSpace}
+use Rattle.file_pages.specs.declared.failures.SizeFail.TheVariants.{NoSpace, TooLarge}
 use Rattle.file_pages.proofs.Listed.{as_many}
 use Rattle.file_pages.proofs.Ends.{err_handed, size_err, ends_vol_size, ends_well_memory, ends_well_ok, size_then, unrefused_memory, unrefused_vol}
 use Rattle.directories.specs.Rows.{HasRow}
 use Rattle.directories.specs.declared.storing.EntryWords.{EntryWords}
-use Rattle.directories.proofs.AddedRow.{IsNext, looked_twice, planned_before, room_left, row_planned, space_said, takes_page}
+use Rattle.directories.proofs.AddedRow.{IsNext, looked_twice, no_larger, planned_before, room_left, row_planned, space_said, takes_page}
 use Rattle.directories.proofs.CanRead.{can_read, dir_size}
 use Rattle.directories.proofs.planning.plan_add.Goals as goal
 
@@ -387,3 +389,65 @@ plan_size-requires-clause-inode g c =
 
 pub plan_size-requires-clause-ino : goal.plan_size-requires-clause-ino
 plan_size-requires-clause-ino g c = c.in_ok-inode.ensures.can.ino
+
+pub returns-in_err-inode-clause-ok : goal.returns-in_err-inode-clause-ok
+returns-in_err-inode-clause-ok g c = if_err c.from_residual.result _ c.from_residual.ensures.0
+
+pub returns-in_err-inode-clause-space : goal.returns-in_err-inode-clause-space
+returns-in_err-inode-clause-space g c = if_err c.from_residual.result _ c.from_residual.ensures.0
+
+pub returns-in_err-last-clause-ok : goal.returns-in_err-last-clause-ok
+returns-in_err-last-clause-ok g c = if_err c.from_residual-in_err-last.result _ c.from_residual-in_err-last.ensures.0
+
+pub returns-in_err-last-clause-space : goal.returns-in_err-last-clause-space
+returns-in_err-last-clause-space g c = if_err c.from_residual-in_err-last.result _ c.from_residual-in_err-last.ensures.0
+
+pub returns-in_err-change-clause-ok : goal.returns-in_err-change-clause-ok
+returns-in_err-change-clause-ok g c = if_err c.from_residual-in_err-change.result _ c.from_residual-in_err-change.ensures.0
+
+pub returns-in_err-change-clause-space : goal.returns-in_err-change-clause-space
+returns-in_err-change-clause-space g c = if_err c.from_residual-in_err-change.result _ c.from_residual-in_err-change.ensures.0
+
+pub returns-in_err-with_entries-clause-ok : goal.returns-in_err-with_entries-clause-ok
+returns-in_err-with_entries-clause-ok g c = if_err c.from_residual-in_err-with_entries.result _ c.from_residual-in_err-with_entries.ensures.0
+
+pub returns-in_err-with_entries-clause-space : goal.returns-in_err-with_entries-clause-space
+returns-in_err-with_entries-clause-space g c = if_err c.from_residual-in_err-with_entries.result _ c.from_residual-in_err-with_entries.ensures.0
+
+pub plan_size-requires-clause-skip : goal.plan_size-requires-clause-skip
+plan_size-requires-clause-skip g c = none_skipped _ _ (c.from-skip.ensures ∙ c.new.ensures.items)
+
+pub plan_size-requires-clause-once : goal.plan_size-requires-clause-once
+plan_size-requires-clause-once g c = none_twice _ (ap numbers (c.from-skip.ensures ∙ c.new.ensures.items))
+
+pub returns-in_err-change-clause-fits : goal.returns-in_err-change-clause-fits
+returns-in_err-change-clause-fits g c =
+    let ready = c.requires.ready in
+    let d = c.args.dir.0 in
+    let x = g.V.Blocks.seen c.args.v.now in
+    let can = can_read c.args.shape.now x d ready.order.has_shape ready.order.mapped ready.order.named c.requires.entries c.requires.dir in
+    let p = err_from_is_err_and c.from_residual-in_err-change.result c.from_residual-in_err-change.ensures.1 in
+    λ is. no_larger _ _ (room_left c.args.shape.now x d c.in_ok-inode.inode can c.in_ok-inode.ensures.value c.requires.room) (c.plan_size.ensures.too_large (err_handed TooLarge c.plan_size.result c.from_residual-in_err-change.result _ p.0 c.in_err-change.was p.1 p.2 is))
+
+pub with_entries-requires-clause-within : goal.with_entries-requires-clause-within
+with_entries-requires-clause-within g c = one_within _ c.first_word.ensures.within
+
+pub with_entries-requires-clause-few : goal.with_entries-requires-clause-few
+with_entries-requires-clause-few g c = omega arith
+
+pub entry_words-requires : goal.entry_words-requires
+entry_words-requires g c = c.requires.is_name.few
+
+pub overflow_add-inode : goal.overflow_add-inode
+overflow_add-inode g c =
+    let ready = c.requires.ready in
+    let x = g.V.Blocks.seen c.args.v.now in
+    let can = can_read c.args.shape.now x c.args.dir.0 ready.order.has_shape ready.order.mapped ready.order.named c.requires.entries c.requires.dir in
+    omega (arith, room_left c.args.shape.now x c.args.dir.0 c.in_ok-inode.inode can c.in_ok-inode.ensures.value c.requires.room)
+
+pub overflow_cast-inode : goal.overflow_cast-inode
+overflow_cast-inode g c =
+    let ready = c.requires.ready in
+    let x = g.V.Blocks.seen c.args.v.now in
+    let can = can_read c.args.shape.now x c.args.dir.0 ready.order.has_shape ready.order.mapped ready.order.named c.requires.entries c.requires.dir in
+    omega (arith, room_left c.args.shape.now x c.args.dir.0 c.in_ok-inode.inode can c.in_ok-inode.ensures.value c.requires.room)

@@ -3,6 +3,7 @@ use Rattle.file_pages.proofs.Ends.{ends_read}
 use Rattle.directories.proofs.EndsAs.{ends_memory}
 use Rattle.directories.proofs.Common.{err_from_is_err_and}
 use Rattle.directories.proofs.PlannedRows.{entries_planned}
+use Rattle.file_pages.proofs.EndsOn.{if_err}
 use Rattle.directories.proofs.planning.plan_entries.Goals as goal
 
 pub returns-clause-ok : goal.returns-clause-ok
@@ -72,3 +73,9 @@ returns-in_err-with_entries-clause-ends g c =
 
 pub returns-clause-ends : goal.returns-clause-ends
 returns-clause-ends g c = ends_by_well _ _ _ _ c.in_ok-change.ensures.ends.later (c.in_ok-change.ensures.ends.runs (λ stop. cc)) (λ a. cc) (λ a. cc)
+
+pub returns-in_err-change-clause-ok : goal.returns-in_err-change-clause-ok
+returns-in_err-change-clause-ok g c = if_err c.from_residual.result _ c.from_residual.ensures.0
+
+pub returns-in_err-with_entries-clause-ok : goal.returns-in_err-with_entries-clause-ok
+returns-in_err-with_entries-clause-ok g c = if_err c.from_residual-in_err-with_entries.result _ c.from_residual-in_err-with_entries.ensures.0

@@ -1,9 +1,11 @@
-use Rattle.directories.proofs.Common.{◌≡◌, err_from_is_err_and, ◌then◌, ends_by_after, if_ok_map, leaves_looked, BlockWords, IsInode, subst, sym}
+use Rattle.directories.proofs.Common.{◌≡◌, arith, err_from_is_err_and, ◌then◌, ends_by_after, if_ok_map, leaves_looked, BlockWords, IsInode, subst, sym}
 use Rattle.std.specs.Prelude.{[], ◌∷◌, slice_index}
 use Rattle.directories.specs.Contents.{sized_to, with_entry}
+use Rattle.file_pages.proofs.EndsOn.{if_err}
 use Rattle.directories.specs.Plans.{PlansDir}
 use Rattle.directories.proofs.EndsAs.{ends_vol_read}
 use Rattle.directories.proofs.PlannedOn.{leaves_on, ready_on}
+use Rattle.directories.proofs.PushedEdits.{one_within}
 use Rattle.directories.proofs.PlannedRows.{PlansEntries, one_planned, plans_back}
 use Rattle.directories.proofs.planning.plan_entry.Goals as goal
 
@@ -74,3 +76,12 @@ returns-in_err-stored-clause-sound g c = c.words_for_slot.ensures.sound
 
 pub returns-clause-sound : goal.returns-clause-sound
 returns-clause-sound g c = c.plan_entries.ensures.sound
+
+pub returns-in_err-stored-clause-ok : goal.returns-in_err-stored-clause-ok
+returns-in_err-stored-clause-ok g c = if_err c.from_residual.result _ c.from_residual.ensures.0
+
+pub plan_entries-requires-clause-within : goal.plan_entries-requires-clause-within
+plan_entries-requires-clause-within g c = one_within _ c.in_ok-stored.ensures.within
+
+pub plan_entries-requires-clause-few : goal.plan_entries-requires-clause-few
+plan_entries-requires-clause-few g c = omega arith

@@ -7,7 +7,8 @@ use Rattle.directories.specs.RowChanges.{SetsRow}
 use Rattle.directories.proofs.EndsAs.{ends_vol_read}
 use Rattle.directories.proofs.CanRead.{can_read}
 use Rattle.directories.proofs.PlannedOn.{leaves_on, ready_on}
-use Rattle.directories.proofs.PlannedRows.{dir_back, set_planned, slot_in}
+use Rattle.directories.proofs.PlannedRows.{has_room, whole_size, dir_back, set_planned, slot_in}
+use Rattle.file_pages.proofs.EndsOn.{if_err}
 use Rattle.directories.proofs.planning.plan_set.Goals as goal
 
 pub returns-in_err-inode-clause-leaves : goal.returns-in_err-inode-clause-leaves
@@ -74,3 +75,15 @@ plan_entry-requires-clause-less g c = le_refl _
 
 pub returns-clause-sound : goal.returns-clause-sound
 returns-clause-sound g c = c.plan_entry.ensures.sound
+
+pub returns-in_err-inode-clause-ok : goal.returns-in_err-inode-clause-ok
+returns-in_err-inode-clause-ok g c = if_err c.from_residual.result _ c.from_residual.ensures.0
+
+pub entry_words-words-requires : goal.entry_words-words-requires
+entry_words-words-requires g c = c.requires.is_name.few
+
+pub plan_entry-requires-clause-slot : goal.plan_entry-requires-clause-slot
+plan_entry-requires-clause-slot g c = (has_room _ _ _ _ _ _ c.requires.ready c.requires.entries c.requires.slot c.in_ok-inode.ensures.value).within
+
+pub plan_entry-requires-clause-whole : goal.plan_entry-requires-clause-whole
+plan_entry-requires-clause-whole g c = whole_size _ _ (has_room _ _ _ _ _ _ c.requires.ready c.requires.entries c.requires.slot c.in_ok-inode.ensures.value)

@@ -4,7 +4,9 @@ use Rattle.directories.specs.Contents.{sized_to, with_entry}
 use Rattle.directories.specs.Plans.{PlansDir}
 use Rattle.directories.proofs.EndsAs.{ends_vol_read}
 use Rattle.directories.proofs.PlannedOn.{into_back, leaves_on, moved_back, ready_on}
-use Rattle.directories.proofs.PlannedRows.{PlansEntries, plans_back, two_planned}
+use Rattle.file_pages.proofs.EndsOn.{if_err}
+use Rattle.directories.proofs.PushedEdits.{two_within}
+use Rattle.directories.proofs.PlannedRows.{PlansEntries, gap_room, last_in, plans_back, two_planned}
 use Rattle.directories.proofs.removing.plan_filled.Goals as goal
 
 pub returns-in_err-stored-clause-leaves : goal.returns-in_err-stored-clause-leaves
@@ -114,3 +116,30 @@ words_for_slot-requires-clause-slot g c =
 
 pub plan_entries-requires-clause-inode : goal.plan_entries-requires-clause-inode
 plan_entries-requires-clause-inode g c = subst (λ (f : BlockWords). IsInode f c.args.dir.0 c.args.inode.now) (sym (c.moved_words.ensures.looks.looks.words ∙ c.words_for_slot.ensures.looks.looks.words)) c.requires.inode
+
+pub returns-in_err-stored-clause-ok : goal.returns-in_err-stored-clause-ok
+returns-in_err-stored-clause-ok g c = if_err c.from_residual.result _ c.from_residual.ensures.0
+
+pub returns-in_err-moved-clause-ok : goal.returns-in_err-moved-clause-ok
+returns-in_err-moved-clause-ok g c = if_err c.from_residual-in_err-moved.result _ c.from_residual-in_err-moved.ensures.0
+
+pub last_slot-requires-clause-some : goal.last_slot-requires-clause-some
+last_slot-requires-clause-some g c = (gap_room c.args.shape.now _ c.args.dir.0 c.args.gap c.args.inode.now c.requires.can c.requires.inode c.requires.gap).some
+
+pub last_slot-requires-clause-few : goal.last_slot-requires-clause-few
+last_slot-requires-clause-few g c = (gap_room c.args.shape.now _ c.args.dir.0 c.args.gap c.args.inode.now c.requires.can c.requires.inode c.requires.gap).few
+
+pub moved_words-requires-clause-from : goal.moved_words-requires-clause-from
+moved_words-requires-clause-from g c = last_in _ c.args.gap _ (gap_room c.args.shape.now _ c.args.dir.0 c.args.gap c.args.inode.now c.requires.can c.requires.inode c.requires.gap) c.last_slot.ensures
+
+pub plan_entries-requires-clause-less : goal.plan_entries-requires-clause-less
+plan_entries-requires-clause-less g c = (gap_room c.args.shape.now _ c.args.dir.0 c.args.gap c.args.inode.now c.requires.can c.requires.inode c.requires.gap).less
+
+pub plan_entries-requires-clause-whole : goal.plan_entries-requires-clause-whole
+plan_entries-requires-clause-whole g c = (gap_room c.args.shape.now _ c.args.dir.0 c.args.gap c.args.inode.now c.requires.can c.requires.inode c.requires.gap).whole
+
+pub plan_entries-requires-clause-within : goal.plan_entries-requires-clause-within
+plan_entries-requires-clause-within g c = two_within _ _ c.in_ok-stored.ensures.within c.in_ok-moved.ensures.within
+
+pub plan_entries-requires-clause-few : goal.plan_entries-requires-clause-few
+plan_entries-requires-clause-few g c = omega arith

@@ -1,4 +1,6 @@
-use Rattle.directories.proofs.Common.{sym, subst, IfOk, BlockWords, IsInode, placed_at, err_from_is_err_and, look_trans}
+use Rattle.std.proofs.lemmas.Result.{IfOk-weaker}
+use Rattle.file_pages.proofs.EndsOn.{if_err}
+use Rattle.directories.proofs.Common.{ap, slice_index, ◌∙◌, sym, subst, IfOk, BlockWords, IsInode, placed_at, err_from_is_err_and, look_trans}
 use Rattle.rio_base.proofs.BlockRules.{ends_later}
 use Rattle.directories.specs.Contents.{GoesInto}
 use Rattle.directories.proofs.EndsAs.{ends_err}
@@ -65,3 +67,15 @@ returns-in_err-words-clause-can g c = c.read_entry.ensures.can
 
 pub returns-clause-within : goal.returns-clause-within
 returns-clause-within g c = c.words_for_slot.ensures.within
+
+pub returns-in_err-words-clause-into : goal.returns-in_err-words-clause-into
+returns-in_err-words-clause-into g c = if_err c.from_residual.result _ c.from_residual.ensures.0
+
+pub returns-in_err-words-clause-words : goal.returns-in_err-words-clause-words
+returns-in_err-words-clause-words g c = if_err c.from_residual.result _ c.from_residual.ensures.0
+
+pub returns-in_err-words-clause-within : goal.returns-in_err-words-clause-within
+returns-in_err-words-clause-within g c = if_err c.from_residual.result _ c.from_residual.ensures.0
+
+pub returns-clause-words : goal.returns-clause-words
+returns-clause-words g c = IfOk-weaker c.words_for_slot.result _ _ (λ e same t few. ap (λ ws. slice_index ws t) same ∙ c.in_ok-words.ensures.words t few) c.words_for_slot.ensures.words
