@@ -2,24 +2,22 @@
 //! printed under each line.
 #![tactic(auto)]
 
+mod calls;
 mod session;
 
-use crate::session::Session;
-use std::io::{self, BufRead, BufReader, BufWriter, Write};
+use crate::session::tell_script;
+use std::io::{self, Read, Write};
 
 fn main(rt: HostRuntime) -> io::Result<()> {
-    let alloc = rt.alloc();
-    let mut session = Session::begin(&&rt)?;
-    let mut out = BufWriter::new(alloc, rt.stdout())?;
-    for line in BufReader::new(alloc, rt.stdin())?.lines(alloc) {
-        let line = line?;
-        if line.is_empty() || line.starts_with('#') {
-            continue;
-        }
-        if line.starts_with("== ") {
-            session = Session::begin(&&rt)?;
-        }
-        out.write_all(session.step(line.as_str())?.as_slice())?;
-    }
-    out.flush()
+    let mut out = Vec::new(rt.alloc());
+    let outcome = tell_input(rt, &mut out);
+    rt.stdout().write_all(out.as_slice())?;
+    outcome
+}
+
+/// Tells what the script comes to that is the input.
+fn tell_input(rt: HostRuntime, out: &mut Vec<u8>) -> io::Result<()> {
+    let mut script = String::new(rt.alloc());
+    rt.stdin().read_to_string(&mut script)?;
+    Ok(tell_script(rt, script.as_str(), out)?)
 }

@@ -1,108 +1,85 @@
 //! A session: lines of a script make a file, open it as a disk, call that, and ask what came.
 
+use crate::calls::call;
 use block_disk::{HostDisk, HostDiskFail};
-use rio_base::{Block, DiskBlocks, Host};
+use rio_base::{DiskBlocks, Host};
 use rio_os::OsHost;
-use std::alloc::Global;
-use std::os::unix::fs::symlink;
+use std::alloc::{AllocError, Global};
+use std::fs;
+use std::io::{self, Read};
 use std::rt::Files;
-use std::{fs, io};
 use test_scripts::{first_word, number, tell_line, tell_shown};
-
-/// The words of a block.
-const BLOCK_WORDS: usize = 512;
 
 /// The one file of a session.
 const FILE: &str = "disk";
 
-/// The disk that is open, if one is.
-#[derive(Drop)]
-pub struct Session<R: Files + AllocGlobal + Clone + Drop>
-where
-    OsHost<R>: Host,
-{
-    rt: R,
-    alloc: Global,
-    disk: Option<HostDisk<OsHost<R>>>,
+/// Tells what the lines of a script come to. There is no file and no disk at first. An empty line and one that begins with `#` say
+/// nothing.
+pub fn tell_script<F: Files + Copy + Drop>(
+    files: F,
+    script: &str,
+    out: &mut Vec<u8>,
+) -> Result<(), AllocError> {
+    let mut disk = None;
+    remove(&files);
+    tell_lines(files, &mut disk, script, out)
 }
 
-impl<R: Files + AllocGlobal + Clone + Drop> Session<R>
-where
-    OsHost<R>: Host,
-{
-    /// No file, and no disk.
-    pub fn begin(rt: &R) -> io::Result<Session<R>> {
-        remove(rt);
-        Ok(Session {
-            rt: rt.clone()?,
-            alloc: rt.alloc(),
-            disk: None,
-        })
-    }
-
-    /// Does what a line of the script says. Answers the line, and behind it what it came to.
-    pub fn step(&mut self, line: &str) -> io::Result<Vec<u8>> {
-        let mut out = Vec::from_slice(self.alloc, line.as_bytes())?;
-        out.push(b'\n')?;
-        let (word, rest) = first_word(line);
-        match word {
-            "==" => {}
-            "file" => self.make_file(number(rest)?)?,
-            "folder" => {
-                remove(&self.rt);
-                fs::create_dir(&self.rt, FILE)?;
-            }
-            "link" => symlink(&self.rt, rest, FILE)?,
-            "gone" => remove(&self.rt),
-            "bytes" => self.tell_bytes(&mut out)?,
-            "open" => self.open(&mut out)?,
-            _ => self.call(word, rest, &mut out)?,
-        }
-        Ok(out)
-    }
-
-    /// Makes the file anew, with so many bytes, each an `a`. One that is there becomes this.
-    fn make_file(&self, size: u64) -> io::Result<()> {
-        let bytes = vec![in self.alloc; b'a'; size as usize]?;
-        fs::write(&self.rt, FILE, bytes.as_slice())
-    }
-
-    /// Tells what the file has.
-    fn tell_bytes(&self, out: &mut Vec<u8>) -> io::Result<()> {
-        match fs::read(&self.rt, FILE) {
-            Ok(bytes) => Ok(tell_line(out, bytes.as_slice())?),
-            Err(_) => Ok(tell_line(out, b"no file")?),
+fn tell_lines<F: Files + Copy + Drop>(
+    files: F,
+    disk: &mut Option<HostDisk<OsHost<F>>>,
+    script: &str,
+    out: &mut Vec<u8>,
+) -> Result<(), AllocError> {
+    for line in script.lines() {
+        if !line.is_empty() && !line.starts_with('#') {
+            step(files, disk, line, out)?;
         }
     }
+    Ok(())
+}
 
-    /// Opens the file as a disk. Tells how many blocks it has, or why it is none.
-    fn open(&mut self, out: &mut Vec<u8>) -> io::Result<()> {
-        let host = OsHost::new(self.alloc, self.rt.clone()?);
-        let name = String::from_str(self.alloc, FILE)?;
-        match opened(self.alloc, host, name) {
-            Ok(disk) => {
-                let count = disk.count();
-                self.disk = Some(disk);
-                tell_shown(out, &count)?;
-            }
-            Err(fail) => tell_shown(out, &fail)?,
-        }
-        Ok(())
+/// Does what a line of the script says. Tells the line, and behind it what it came to.
+fn step<F: Files + Copy + Drop>(
+    files: F,
+    disk: &mut Option<HostDisk<OsHost<F>>>,
+    line: &str,
+    out: &mut Vec<u8>,
+) -> Result<(), AllocError> {
+    out.extend_from_slice(line.as_bytes())?;
+    out.push(b'\n')?;
+    let (word, rest) = first_word(line);
+    match word {
+        "open" => open(files, disk, out),
+        _ => act(&files, disk, word, rest, out),
     }
+}
 
-    /// Makes a call of the disk, and tells what it answered.
-    fn call(&mut self, word: &str, rest: &str, out: &mut Vec<u8>) -> io::Result<()> {
-        let Some(disk) = &mut self.disk else {
-            return Ok(tell_line(out, b"no disk")?);
-        };
-        match word {
-            "sync" => tell_shown(out, &disk.sync())?,
-            "faults" => tell_shown(out, &disk.faults())?,
-            "read" => read(self.alloc, disk, rest, out)?,
-            "write" => write(self.alloc, disk, rest, out)?,
-            _ => tell_line(out, b"no such word")?,
+/// Opens the file as a disk. Tells how many blocks it has, or why it is none.
+fn open<F: Files + Drop>(
+    files: F,
+    disk: &mut Option<HostDisk<OsHost<F>>>,
+    out: &mut Vec<u8>,
+) -> Result<(), AllocError> {
+    let alloc = *out.allocator();
+    let name = String::from_str(alloc, FILE)?;
+    open_over(OsHost::new(alloc, files), name, disk, out)
+}
+
+/// Opens the file of a host as a disk. Where it is none, the one that is open stays.
+fn open_over<H: Host + Drop>(
+    host: H,
+    name: String,
+    disk: &mut Option<HostDisk<H>>,
+    out: &mut Vec<u8>,
+) -> Result<(), AllocError> {
+    match opened(*out.allocator(), host, name) {
+        Ok(opened) => {
+            let count = opened.count();
+            *disk = Some(opened);
+            tell_shown(out, &count)
         }
-        Ok(())
+        Err(fail) => tell_shown(out, &fail),
     }
 }
 
@@ -121,48 +98,72 @@ fn opened<H: Host + Drop>(
     }
 }
 
+/// Does what a word says of the file, or tells what it has. Another word is that of a call of the disk.
+fn act<F: Files, H: Host + Drop>(
+    files: &F,
+    disk: &mut Option<HostDisk<H>>,
+    word: &str,
+    rest: &str,
+    out: &mut Vec<u8>,
+) -> Result<(), AllocError> {
+    match word {
+        "==" => {
+            remove(files);
+            *disk = None;
+            Ok(())
+        }
+        "file" => make_file(files, *out.allocator(), rest),
+        "folder" => make_folder(files),
+        "link" => done(files.symlink(rest, FILE)),
+        "gone" => {
+            remove(files);
+            Ok(())
+        }
+        "bytes" => tell_bytes(files, out),
+        _ => call(disk, word, rest, out),
+    }
+}
+
+/// That a call of the system fails that makes what a session needs is an error in the script, and ends the program as want of
+/// memory does.
+fn done(outcome: io::Result<()>) -> Result<(), AllocError> {
+    match outcome {
+        Ok(()) => Ok(()),
+        Err(_) => Err(AllocError),
+    }
+}
+
+/// Makes the file anew, with so many bytes, each an `a`. One that is there becomes this.
+fn make_file<F: Files>(files: &F, alloc: Global, size: &str) -> Result<(), AllocError> {
+    let bytes = vec![in alloc; b'a'; number(size)? as usize]?;
+    done(fs::write(files, FILE, bytes.as_slice()))
+}
+
+/// Makes a folder in place of the file.
+fn make_folder<F: Files>(files: &F) -> Result<(), AllocError> {
+    remove(files);
+    done(files.create_dir(FILE))
+}
+
+/// Tells what the file has.
+fn tell_bytes<F: Files>(files: &F, out: &mut Vec<u8>) -> Result<(), AllocError> {
+    match fs::open(files, FILE) {
+        Ok(mut file) => tell_all_of(&mut file, out),
+        Err(_) => tell_line(out, b"no file"),
+    }
+}
+
+/// Tells what is read to the end.
+fn tell_all_of<R: Read>(file: &mut R, out: &mut Vec<u8>) -> Result<(), AllocError> {
+    let mut bytes = Vec::new(*out.allocator());
+    match file.read_to_end(&mut bytes) {
+        Ok(_) => tell_line(out, bytes.as_slice()),
+        Err(_) => tell_line(out, b"no file"),
+    }
+}
+
 /// Takes away what stands under the name of the file.
-fn remove<R: Files>(rt: &R) {
-    let _ = fs::remove_file(rt, FILE);
-    let _ = fs::remove_dir(rt, FILE);
-}
-
-/// The number of a block. Of a larger one it is one that no disk has.
-fn block_number(text: &str) -> io::Result<u32> {
-    Ok(u32::try_from(number(text)?).unwrap_or(u32::MAX))
-}
-
-/// Reads a block. Tells its first and its last word.
-fn read<D: DiskBlocks>(
-    alloc: Global,
-    disk: &mut D,
-    rest: &str,
-    out: &mut Vec<u8>,
-) -> io::Result<()> {
-    let b = block_number(rest)?;
-    if disk.count() <= b {
-        return Ok(tell_line(out, b"no such block")?);
-    }
-    let mut words = vec![in alloc; 0u64; BLOCK_WORDS]?;
-    let answer = disk.read(Block(b), &mut words);
-    let told = format!(in alloc; "{answer:?} {:x} {:x}", words[0], words[BLOCK_WORDS - 1])?;
-    Ok(tell_line(out, told.as_bytes())?)
-}
-
-/// Writes a block whose bytes are all the character behind its number.
-fn write<D: DiskBlocks>(
-    alloc: Global,
-    disk: &mut D,
-    rest: &str,
-    out: &mut Vec<u8>,
-) -> io::Result<()> {
-    let (b, text) = first_word(rest);
-    let b = block_number(b)?;
-    if disk.count() <= b {
-        return Ok(tell_line(out, b"no such block")?);
-    }
-    let byte = text.as_bytes().first().copied().unwrap_or(b' ');
-    let word = u64::from_le_bytes([byte; 8]);
-    let words = vec![in alloc; word; BLOCK_WORDS]?;
-    Ok(tell_shown(out, &disk.write(Block(b), &words))?)
+fn remove<F: Files>(files: &F) {
+    let _ = files.remove_file(FILE);
+    let _ = files.remove_dir(FILE);
 }
