@@ -77,7 +77,7 @@ impl<M: Machine> Core<M> {
             table: _,
             memo: _,
         } = self;
-        view.into_volume().into_machine()
+        view.v.into_machine()
     }
 }
 
