@@ -1,16 +1,16 @@
 -- The free blocks, word by word of the bitmap.
 use Rattle.std.proofs.Common.{◌≡◌, ◌≢◌, ℕ, zero, suc, ◌+◌, ◌-◌, ◌*◌, ◌%◌, ◌^◌, ◌<◌, ◌≤◌, min, Bool, true, false, cond, List, [], ◌∷◌, ◌++◌, length, length-append, length-take, append_assoc, take, refl, sym, ap, subst, ◌∙◌, arith, ◌==◌, nat_lt, ◌&&◌, bit_and}
-use Rattle.std.specs.Prelude.{count_ones}
+use Rattle.std.specs.Prelude.{count_ones, Result, Ok, Err, OnOk}
 use Rattle.std.specs.Int.{bit_at, w64, bit_not, trailing_zeros}
 use Rattle.std.specs.List.{filter, range_with_len}
 use Rattle.std.proofs.lemmas.Bool.Decides.{nat_tests}
-use Rattle.std.proofs.lemmas.List.{append-nil, take-append-le, map-append, length-map}
+use Rattle.std.proofs.lemmas.List.{append-nil, get_or_append_left, take-append-le, map-append, length-map}
 use Rattle.std.proofs.Math.Seq.{take-nil}
 use Rattle.rio_base.specs.declared.places.Block.{Block}
 use Rattle.std.proofs.lemmas.Nat.{ones-le}
 use Rattle.std.proofs.lemmas.Nat.Bits.{bit_at-zero, bit_at-trailing_zeros, bit_at_clear_same, bit_at_clear_other}
 use Rattle.rio_base.specs.declared.places.VolumeShape.{VolumeShape}
-use Rattle.rio_base.specs.Blocks.{BlockWords}
+use Rattle.rio_base.specs.Blocks.{BlockWords, IsRun}
 use Rattle.rio_base.specs.Bitmap.{is_free, free_blocks}
 use Rattle.block_alloc.specs.Bitmap.{numbers}
 use Rattle.block_alloc.specs.Words.{counts, FreeBits, HoldsRun, set_bits}
@@ -196,3 +196,13 @@ pub run_on : (shape : VolumeShape) (words now : BlockWords) (w : ℕ) (run : Lis
 run_on shape words now w run on same held = record {
   each = λ x in_run within. (subst (λ (f : BlockWords). HoldsRun shape f w run) same held).each x (omega arith) within;
 }
+
+-- a run that begins with word w was read: its words lie in front of what the room held before
+pub run_read : {T E : Type 0} (r : Result T E) (shape : VolumeShape) (words : BlockWords) (w n : ℕ) (into rest : List ℕ) → w % 64 ≡ 0 → length into ≡ n → ((i : ℕ) → i < 64 → 64 * (w + i) < shape.blocks → i < n) → OnOk r (IsRun words 1 w n into) → OnOk r (HoldsRun shape words w (into ++ rest))
+run_read (Ok x) shape words w n into rest begins long most run = record {
+  each = λ x in_run within.
+      let place : x ≡ w + x % 64 = omega (arith, begins, in_run) in
+      let less : x % 64 < n = most (x % 64) (omega arith) (omega (arith, place, within)) in
+      get_or_append_left into rest 0 (x % 64) (omega (arith, less, long)) ∙ run.each (x % 64) less ∙ ap (words 1) (sym place);
+}
+run_read (Err e) shape words w n into rest begins long most run = tt

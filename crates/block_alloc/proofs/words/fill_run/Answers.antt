@@ -1,0 +1,47 @@
+use Rattle.std.proofs.Common.{arith}
+use Rattle.rio_base.proofs.BlockRules.{metadata, still_unnamed}
+use Rattle.std.proofs.Common.{◌≡◌, length, length-take}
+use Rattle.block_alloc.proofs.Free.{run_read}
+use Rattle.block_alloc.proofs.words.fill_run.Goals as goal
+
+pub read_run-requires-clause-sound : goal.read_run-requires-clause-sound
+read_run-requires-clause-sound g c = c.requires.sound
+
+pub read_run-requires-clause-name : goal.read_run-requires-clause-name
+read_run-requires-clause-name g c = metadata c.args.shape.now _ 1 c.requires.shape (omega arith)
+
+pub returns-clause-shape : goal.returns-clause-shape
+returns-clause-shape g c = still_unnamed c.args.shape.now _ _ 1 c.requires.shape c.read_run.ensures.looks.count c.read_run.ensures.caches
+
+pub returns-clause-looks : goal.returns-clause-looks
+returns-clause-looks g c = c.read_run.ensures.looks
+
+pub returns-clause-caches : goal.returns-clause-caches
+returns-clause-caches g c = c.read_run.ensures.caches
+
+pub returns-clause-passes : goal.returns-clause-passes
+returns-clause-passes g c = c.read_run.ensures.passes
+
+pub returns-clause-ends : goal.returns-clause-ends
+returns-clause-ends g c = c.read_run.ensures.ends
+
+pub returns-clause-sound : goal.returns-clause-sound
+returns-clause-sound g c = c.read_run.ensures.sound
+
+pub returns-clause-run : goal.returns-clause-run
+returns-clause-run g c =
+    let long : length c.args.run.now ≡ 64 = c.told-run in
+    run_read c.read_run.result c.args.shape.now (g.V.Blocks.seen c.args.v.now).words c.args.w _ c.read_run.new.into _ c.requires.begins (c.read_run.ensures.len)
+    (λ i most less. omega (arith, length-take c.min-count.result c.args.run.now, long, c.min-count.ensures, c.div_ceil.ensures, most, less)) c.read_run.ensures.words
+
+pub read_run-requires-clause-place : goal.read_run-requires-clause-place
+read_run-requires-clause-place g c = record {
+  block = omega (arith, c.requires.shape.count, c.requires.shape.sizes.blocks_from);
+  within = omega (arith, length-take c.min-count.result c.args.run.now, c.min-count.ensures, c.requires.begins, c.requires.within, c.requires.shape.sizes.blocks_to);
+}
+
+pub overflow_sub-div_ceil : goal.overflow_sub-div_ceil
+overflow_sub-div_ceil g c = omega (arith, c.div_ceil.ensures, c.requires.within)
+
+pub overflow_cast-w : goal.overflow_cast-w
+overflow_cast-w g c = omega (arith, c.requires.within, c.requires.shape.sizes.blocks_to)
