@@ -1,9 +1,9 @@
 -- Hexadecimal digits of a list, piece after piece.
-use Rattle.std.proofs.Common.{◌≡◌, ℕ, ◌+◌, ◌-◌, ◌/◌, ◌%◌, ◌≤◌, ◌*◌, List, [], ◌∷◌, ◌++◌, length, slice_index, take, drop, Option, refl, sym, ap, ◌∙◌, arith, subst, length-drop}
-use Rattle.std.proofs.lemmas.List.{take-append-drop, length-take-le}
+use Rattle.std.proofs.Common.{◌≡◌, ℕ, ◌+◌, ◌-◌, ◌/◌, ◌%◌, ◌≤◌, ◌*◌, List, [], ◌∷◌, ◌++◌, length, slice_index, take, drop, Option, Ok, refl, sym, ap, ◌∙◌, arith, subst, length-drop}
+use Rattle.std.proofs.lemmas.List.{take-append-drop, take_all, length-take-le}
 use Rattle.std.proofs.Math.Seq.{take-add}
 use Rattle.hex.specs.Hex.{encode_with, encode_lower, lower_digits}
-use Rattle.request_codec.specs.Sending.{Sent, IsCutOff}
+use Rattle.request_codec.specs.Sending.{Sent, IsCutOff, Puts}
 use Rattle.request_codec.proofs.Sendings.{sent_none, held_more, sent_sent, sent_cut, cut_more}
 
 pub encode_append : (t xs ys : List ℕ) → encode_with t (xs ++ ys) ≡ encode_with t xs ++ encode_with t ys
@@ -29,6 +29,13 @@ encoded_more {a} {f} {h} {b} {f1} {h1} {c} {f2} {h2} bytes i j m room up within 
     let whole : encode_lower (take i bytes) ++ ([] ++ encode_lower piece) ≡ encode_lower (take j bytes) = sym (encode_append lower_digits (take i bytes) piece) ∙ ap encode_lower (sym (take_in_two i j bytes up)) in
     let P : List ℕ → Type 0 = λ text. Sent a f h text c f2 (take (m + 2 * (j - i)) room) in
     subst P whole (sent_sent s (held_more (encode_lower piece) t held))
+
+-- all digits are sent, and so many bytes are held
+pub encoded_done : {E : Type 0} (bytes : List ℕ) (i n : ℕ) (room : List ℕ) {a : Option (List ℕ)} {f : ℕ} {h : List ℕ} {b : Option (List ℕ)} {f1 : ℕ} → length bytes ≤ i → n ≤ length room → Sent a f h (encode_lower (take i bytes)) b f1 (take n room) → Puts {E = E} (Ok n) a f h (encode_lower bytes) b f1 room
+encoded_done bytes i n room {a} {f} {h} {b} {f1} all fits sent = record {
+  ok = record { fits = fits; sent = subst (λ (xs : List ℕ). Sent a f h (encode_lower xs) b f1 (take n room)) (take_all i bytes all) sent };
+  err = tt;
+}
 
 -- the digits that were to follow are cut off
 pub encoded_cut : {a : Option (List ℕ)} {f : ℕ} {h : List ℕ} {b : Option (List ℕ)} {f1 : ℕ} {h1 : List ℕ} {c : Option (List ℕ)} {f2 : ℕ} (bytes : List ℕ) (i : ℕ) → Sent a f h (encode_lower (take i bytes)) b f1 h1 → IsCutOff b f1 h1 [] c f2 → IsCutOff a f h (encode_lower bytes) c f2

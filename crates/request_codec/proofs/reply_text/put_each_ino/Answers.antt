@@ -1,7 +1,7 @@
 use Rattle.std.proofs.Common.{ℕ, ap, arith, decimal, ◌∷◌}
 use Rattle.request_codec.specs.Text.{listed_ino}
 use Rattle.request_codec.proofs.Sendings.{puts_cut}
-use Rattle.request_codec.proofs.Texts.{each_cut, each_more}
+use Rattle.request_codec.proofs.Texts.{each_cut, each_done, each_more, each_none}
 use Rattle.request_codec.proofs.reply_text.put_each_ino.Goals as goal
 
 pub returns-in_err-held : goal.returns-in_err-held
@@ -17,3 +17,9 @@ inodes-preserved g c =
       fits = c.in_ok-held.ensures.ok.fits;
       sent = each_more listed_ino _ _ _ c.inodes-test.true is c.inodes.invariant.sent c.in_ok-held.ensures.ok.sent;
     }
+
+pub inodes-init : goal.inodes-init
+inodes-init g c = record { few = omega arith; fits = c.requires; sent = each_none listed_ino c.args.inos.now }
+
+pub returns : goal.returns
+returns g c = each_done listed_ino c.args.inos.now _ _ _ (omega (arith, c.inodes-test.false)) c.inodes.invariant.fits c.inodes.invariant.sent

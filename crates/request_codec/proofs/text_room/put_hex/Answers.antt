@@ -1,5 +1,5 @@
-use Rattle.std.proofs.Common.{arith}
-use Rattle.request_codec.proofs.EncodedParts.{encoded_cut, encoded_more, encoded_none}
+use Rattle.std.proofs.Common.{◌≤◌, arith, subst, sym}
+use Rattle.request_codec.proofs.EncodedParts.{encoded_cut, encoded_done, encoded_more, encoded_none}
 use Rattle.request_codec.proofs.Sendings.{puts_cut}
 use Rattle.request_codec.proofs.text_room.put_hex.Goals as goal
 
@@ -15,3 +15,12 @@ chunks-preserved g c = record {
   fits = omega (arith, c.in_ok-held.ensures.room);
   sent = encoded_more c.args.bytes.now _ _ _ _ (omega arith) (omega arith) c.chunks.invariant.sent c.in_ok-held.ensures.puts.ok.sent c.hold_hex.ensures;
 }
+
+pub returns : goal.returns
+returns g c = encoded_done c.args.bytes.now _ _ _ (omega (arith, c.chunks-test.false)) c.chunks.invariant.fits c.chunks.invariant.sent
+
+pub make_room-requires-clause-fits : goal.make_room-requires-clause-fits
+make_room-requires-clause-fits g c = c.chunks.invariant.fits
+
+pub make_room-requires-clause-enough : goal.make_room-requires-clause-enough
+make_room-requires-clause-enough g c = subst (λ n. 2 ≤ n) (sym c.chunks.auto.room) c.requires.enough
