@@ -70,3 +70,9 @@ returns-clause-region g c = c.put_covered_run_with.ensures.region
 
 pub returns-clause-stays : goal.returns-clause-stays
 returns-clause-stays g c = stays_trans g.met.R.RegionWords.rest_trans c.word.ensures.stays c.put_covered_run_with.ensures.stays
+
+pub overflow_cast-undo : goal.overflow_cast-undo
+overflow_cast-undo g c = omega (arith, g.met.R.RegionWords.small c.args.r.now c.requires.ready, c.requires.region.size, c.in-Ok.ensures.value)
+
+pub word-requires-clause-ready : goal.word-requires-clause-ready
+word-requires-clause-ready g c = c.requires.ready

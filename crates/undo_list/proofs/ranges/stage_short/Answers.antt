@@ -1,4 +1,4 @@
-use Rattle.std.proofs.Common.{arith, ◌∙◌, ◌+◌}
+use Rattle.std.proofs.Common.{arith, subst, sym, ◌∙◌, ◌+◌, ◌≤◌}
 use Rattle.std.proofs.lemmas.List.{length-take-le}
 use Rattle.std.proofs.lemmas.Result.{err_from_is_err_and}
 use Rattle.rio_base.proofs.BlockRules.{ends_later}
@@ -38,3 +38,12 @@ returns-clause-stays g c = stays_trans g.met.R.RegionWords.rest_trans c.read_run
 
 pub returns-clause-ends : goal.returns-clause-ends
 returns-clause-ends g c = ends_later _ _ _ _ c.read_run.ensures.ends.later c.in_ok-read_run.ensures.ends.cause (word_ends _ _ c.set_run.result c.uncounted.result c.uncounted.ensures c.set_run.ensures.ends)
+
+pub read_run-requires-clause-ready : goal.read_run-requires-clause-ready
+read_run-requires-clause-ready g c = c.requires.ready
+
+pub overflow_add-at : goal.overflow_add-at
+overflow_add-at g c = omega (arith, g.met.R.RegionWords.small c.args.r.now c.requires.ready, c.requires.behind, c.requires.source)
+
+pub read_run-requires-clause-place : goal.read_run-requires-clause-place
+read_run-requires-clause-place g c = subst (λ n. c.args.from + n ≤ g.R.RegionWords.count c.args.r.now) (sym (length-take-le _ _ (omega (arith, c.requires.few)))) (omega (arith, c.requires.source))
