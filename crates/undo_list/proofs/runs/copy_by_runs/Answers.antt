@@ -50,3 +50,18 @@ returns-clause-stays g c = c.loop-done.invariant.stays
 
 pub returns-clause-ends : goal.returns-clause-ends
 returns-clause-ends g c = record { later = c.loop-done.invariant.later; stays = λ stopped. c.loop-done.invariant.running ∙ stopped; cause = c.loop-done.invariant.running }
+
+pub loop-done-smaller : goal.loop-done-smaller
+loop-done-smaller g c = omega (arith, c.min-count.ensures, c.loop-done-test.true)
+
+pub overflow_add-from : goal.overflow_add-from
+overflow_add-from g c = omega (arith, g.met.R.RegionWords.small c.args.r.now c.requires.ready, c.requires.source, c.loop-done-test.true)
+
+pub overflow_add-to : goal.overflow_add-to
+overflow_add-to g c = omega (arith, g.met.R.RegionWords.small c.args.r.now c.requires.ready, c.requires.target, c.loop-done-test.true)
+
+pub copy_run-requires-clause-source : goal.copy_run-requires-clause-source
+copy_run-requires-clause-source g c = omega (arith, length-take c.min-count.result c.loop-done.run, c.min-count.ensures, c.requires.source, c.loop-done.invariant.stays.count, c.loop-done-test.true)
+
+pub copy_run-requires-clause-target : goal.copy_run-requires-clause-target
+copy_run-requires-clause-target g c = omega (arith, length-take c.min-count.result c.loop-done.run, c.min-count.ensures, c.requires.target, c.loop-done.invariant.stays.count, c.loop-done-test.true)
