@@ -1,11 +1,15 @@
-use Rattle.std.proofs.Common.{◌∙◌, Err, ◌<◌, ap, subst}
+use Rattle.std.proofs.Common.{◌∙◌, Err, ◌<◌, ap, arith, subst, sym}
 use Rattle.std.proofs.lemmas.Result.{err_from_is_err_and}
-use Rattle.rio_base.proofs.MachineRules.{ends_after, ends_told, lasts_trans}
+use Rattle.rio_base.proofs.MachineRules.{ends_after, ends_told, lasts_trans, never}
 use Rattle.rio_model.proofs.CoverSteps.{keeps_trans}
-use Rattle.write_back.proofs.Steps.{coherent_then}
+use Rattle.write_back.proofs.Steps.{coherent_then, layout_now}
 use Rattle.rio_model.proofs.HeldEntries.{held_each, held_then}
 use Rattle.write_back.proofs.Marks.{Marks, marked_next, marked_none, marked_on_disk}
 use Rattle.write_back.proofs.Exits.{not_ok, rest_then, told_back}
+use Rattle.rio_base.specs.Disks.{is_pending}
+use Rattle.rio_base.specs.Machine.{Contents}
+use Rattle.rio_base.specs.declared.failures.VolFail.TheVariants.{Stopped}
+use Rattle.write_back.specs.Flushing.{CleanedFirst}
 use Rattle.write_back.proofs.flushing.mark_first.Goals as goal
 
 pub loop-k-init : goal.loop-k-init
@@ -60,3 +64,63 @@ returns-in_err-dirty-clause-lasts g c = lasts_trans _ _ _ c.loop-k.invariant.las
 
 pub returns-in_err-dirty-clause-fault : goal.returns-in_err-dirty-clause-fault
 returns-in_err-dirty-clause-fault g c = let p = err_from_is_err_and c.from_residual.result c.from_residual.ensures.1 in λ e. c.in_err-dirty.ensures.fault (told_back _ _ _ (p.1 ∙ ap Err p.2) e)
+
+pub frame_count-frames-requires : goal.frame_count-frames-requires
+frame_count-frames-requires g c = record { layout = layout_now _ _ c.requires.coherent }
+
+pub mark_if_dirty-requires-clause-closed : goal.mark_if_dirty-requires-clause-closed
+mark_if_dirty-requires-clause-closed g c = ap (λ (m : Contents). m.open_page) c.loop-k.invariant.rest ∙ c.requires.closed
+
+pub mark_if_dirty-requires-clause-entry : goal.mark_if_dirty-requires-clause-entry
+mark_if_dirty-requires-clause-entry g c = subst (λ f. c.loop-k.k < f) (c.frame_count-frames.ensures ∙ sym c.loop-k.invariant.frames) c.loop-k-test.true
+
+pub mark_if_dirty-requires-clause-shut : goal.mark_if_dirty-requires-clause-shut
+mark_if_dirty-requires-clause-shut g c = λ shut. c.requires.shut (sym (c.loop-k.invariant.keeps.header 4 (omega arith)) ∙ shut)
+
+pub mark_if_dirty-requires-clause-synced : goal.mark_if_dirty-requires-clause-synced
+mark_if_dirty-requires-clause-synced g c = λ b. ap (λ (m : Contents). is_pending m.pending b) c.loop-k.invariant.rest ∙ c.requires.synced b
+
+pub returns-then-marked-count-clause-keeps : goal.returns-then-marked-count-clause-keeps
+returns-then-marked-count-clause-keeps g c = c.loop-k.invariant.keeps
+
+pub returns-then-marked-count-clause-rest : goal.returns-then-marked-count-clause-rest
+returns-then-marked-count-clause-rest g c = c.loop-k.invariant.rest
+
+pub returns-then-marked-count-clause-held : goal.returns-then-marked-count-clause-held
+returns-then-marked-count-clause-held g c = c.loop-k.invariant.held
+
+pub returns-then-marked-count-clause-closed : goal.returns-then-marked-count-clause-closed
+returns-then-marked-count-clause-closed g c = ap (λ (m : Contents). m.open_page) c.loop-k.invariant.rest ∙ c.requires.closed
+
+pub returns-then-marked-count-clause-lasts : goal.returns-then-marked-count-clause-lasts
+returns-then-marked-count-clause-lasts g c = c.loop-k.invariant.lasts
+
+pub returns-then-marked-count-clause-fault : goal.returns-then-marked-count-clause-fault
+returns-then-marked-count-clause-fault g c = never _ _
+
+pub returns-then-marked-count-clause-ends : goal.returns-then-marked-count-clause-ends
+returns-then-marked-count-clause-ends g c = record { steps = c.loop-k.invariant.steps; told = λ q. absurd (never _ Stopped q); runs = λ q. c.loop-k.invariant.runs }
+
+pub returns-clause-keeps : goal.returns-clause-keeps
+returns-clause-keeps g c = c.loop-k.invariant.keeps
+
+pub returns-clause-rest : goal.returns-clause-rest
+returns-clause-rest g c = c.loop-k.invariant.rest
+
+pub returns-clause-held : goal.returns-clause-held
+returns-clause-held g c = c.loop-k.invariant.held
+
+pub returns-clause-closed : goal.returns-clause-closed
+returns-clause-closed g c = ap (λ (m : Contents). m.open_page) c.loop-k.invariant.rest ∙ c.requires.closed
+
+pub returns-clause-lasts : goal.returns-clause-lasts
+returns-clause-lasts g c = c.loop-k.invariant.lasts
+
+pub returns-clause-fault : goal.returns-clause-fault
+returns-clause-fault g c = never _ _
+
+pub returns-clause-ends : goal.returns-clause-ends
+returns-clause-ends g c = record { steps = c.loop-k.invariant.steps; told = λ q. absurd (never _ Stopped q); runs = λ q. c.loop-k.invariant.runs }
+
+pub returns-then-marked-count-clause-cleaned : goal.returns-then-marked-count-clause-cleaned
+returns-then-marked-count-clause-cleaned g c = subst (λ w. CleanedFirst w (g.M.Machine.contents c.args.m.now).words (g.M.Machine.contents c.loop-k.m).words) c.if-marked-count.true c.loop-k.invariant.entries

@@ -1,10 +1,12 @@
-use Rattle.std.proofs.Common.{◌∙◌, ◌<◌, ◌≤◌, arith, inl, subst, sym, Err, ap}
-use Rattle.rio_base.proofs.MachineRules.{ends_after, ends_told, lasts_trans}
+use Rattle.std.proofs.Common.{◌∙◌, ◌<◌, ◌≤◌, List, arith, inl, subst, sym, Err, ap, ℕ}
+use Rattle.rio_base.proofs.MachineRules.{ends_after, ends_told, lasts_trans, never}
 use Rattle.rio_model.proofs.CoverSteps.{keeps_trans}
-use Rattle.write_back.proofs.Steps.{coherent_then, frame_next}
+use Rattle.write_back.proofs.Steps.{coherent_then, frame_next, layout_now}
 use Rattle.write_back.proofs.Walks.{Writes, counts_small, once_small, wrote_by, wrote_first, wrote_next, wrote_none}
 use Rattle.std.proofs.lemmas.Result.{err_from_is_err_and}
 use Rattle.write_back.proofs.Exits.{fault_on, fault_told, not_ok}
+use Rattle.rio_base.specs.declared.failures.VolFail.TheVariants.{Stopped}
+use Rattle.rio_model.specs.Registry.{frames_of}
 use Rattle.write_back.proofs.flushing.write_first.Goals as goal
 
 pub loop-k-init : goal.loop-k-init
@@ -61,3 +63,51 @@ returns-in_err-dirty-clause-fault g c = let p = err_from_is_err_and c.from_resid
 
 pub returns-in_err-dirty-clause-ends : goal.returns-in_err-dirty-clause-ends
 returns-in_err-dirty-clause-ends g c = let p = err_from_is_err_and c.from_residual.result c.from_residual.ensures.1 in ends_after _ _ _ _ c.loop-k.invariant.steps c.loop-k.invariant.runs (ends_told _ _ _ _ _ (p.1 ∙ ap Err p.2) c.in_err-dirty.ensures.ends)
+
+pub frame_count-frames-requires : goal.frame_count-frames-requires
+frame_count-frames-requires g c = record { layout = layout_now _ _ c.requires.coherent }
+
+pub frame_page_of-first-requires-clause-layout : goal.frame_page_of-first-requires-clause-layout
+frame_page_of-first-requires-clause-layout g c = layout_now _ _ c.requires.coherent
+
+pub write_if_dirty-requires-clause-closed : goal.write_if_dirty-requires-clause-closed
+write_if_dirty-requires-clause-closed g c = c.loop-k.invariant.closed
+
+pub write_if_dirty-requires-clause-entry : goal.write_if_dirty-requires-clause-entry
+write_if_dirty-requires-clause-entry g c = subst (λ f. c.loop-k.k < f) (c.frame_count-frames.ensures ∙ ap (λ (ws : List ℕ). frames_of ws) (sym c.loop-k.invariant.words)) c.loop-k-test.true
+
+pub returns-then-from-n-clause-keeps : goal.returns-then-from-n-clause-keeps
+returns-then-from-n-clause-keeps g c = c.loop-k.invariant.keeps
+
+pub returns-then-from-n-clause-words : goal.returns-then-from-n-clause-words
+returns-then-from-n-clause-words g c = c.loop-k.invariant.words
+
+pub returns-then-from-n-clause-closed : goal.returns-then-from-n-clause-closed
+returns-then-from-n-clause-closed g c = c.loop-k.invariant.closed
+
+pub returns-then-from-n-clause-lasts : goal.returns-then-from-n-clause-lasts
+returns-then-from-n-clause-lasts g c = c.loop-k.invariant.lasts
+
+pub returns-then-from-n-clause-fault : goal.returns-then-from-n-clause-fault
+returns-then-from-n-clause-fault g c = λ q. absurd (never _ _ q)
+
+pub returns-then-from-n-clause-ends : goal.returns-then-from-n-clause-ends
+returns-then-from-n-clause-ends g c = record { steps = c.loop-k.invariant.steps; told = λ q. absurd (never _ Stopped q); runs = λ q. c.loop-k.invariant.runs }
+
+pub returns-clause-keeps : goal.returns-clause-keeps
+returns-clause-keeps g c = c.loop-k.invariant.keeps
+
+pub returns-clause-words : goal.returns-clause-words
+returns-clause-words g c = c.loop-k.invariant.words
+
+pub returns-clause-closed : goal.returns-clause-closed
+returns-clause-closed g c = c.loop-k.invariant.closed
+
+pub returns-clause-lasts : goal.returns-clause-lasts
+returns-clause-lasts g c = c.loop-k.invariant.lasts
+
+pub returns-clause-fault : goal.returns-clause-fault
+returns-clause-fault g c = λ q. absurd (never _ _ q)
+
+pub returns-clause-ends : goal.returns-clause-ends
+returns-clause-ends g c = record { steps = c.loop-k.invariant.steps; told = λ q. absurd (never _ Stopped q); runs = λ q. c.loop-k.invariant.runs }
