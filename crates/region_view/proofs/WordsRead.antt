@@ -1,9 +1,9 @@
 -- What reads of a region's words owe at their exits.
-use Rattle.region_view.proofs.Common.{◌≡◌, ℕ, ◌+◌, ◌*◌, ◌/◌, ◌%◌, ◌<◌, ◌≤◌, List, cond, sym, ap, subst, ◌∙◌, arith, Err, Ok, OnOk, Result, VolumeShape, BlockWords, Seen, Kept, Held, held_of, held_ino, counts_of, AtPage, placed_at, volume_layout, Owns, Ready}
+use Rattle.region_view.proofs.Common.{◌≡◌, ℕ, ◌+◌, ◌*◌, ◌/◌, ◌%◌, ◌<◌, ◌≤◌, List, cond, sym, ap, subst, ◌∙◌, arith, Err, Ok, OnOk, Result, VolumeShape, BlockWords, Seen, Held, held_of, held_ino, counts_of, AtPage, placed_at, volume_layout, Owns}
 use Rattle.std.specs.Prelude.{IfOk}
 use Rattle.rio_base.specs.Blocks.{IsRun, IsSpan}
 use Rattle.rio_base.specs.Regions.{AreWords, RegionContent}
-use Rattle.region_view.specs.Views.{IsWordPage}
+use Rattle.region_view.specs.Views.{CanRead, IsWordPage}
 use Rattle.region_view.proofs.RegionHeader.{used_size}
 use Rattle.region_view.proofs.RegionPlaces.{page_below}
 
@@ -41,8 +41,8 @@ words_read (Ok x) shape f y i at b n words on same within most run = run_words s
 words_read (Err e) shape f y i at b n words on same within most run = tt
 
 -- a run lies in its block
-pub run_span : (shape : VolumeShape) (y : Seen) (j : Kept) (i at b n : ℕ) → Ready shape y j → IsWordPage shape y.words i at b → at % 512 + n ≤ 512 → IsSpan y b (at % 512) n
-run_span shape y j i at b n ready on within = record { block = page_below shape y j i at b ready on; within = within }
+pub run_span : (shape : VolumeShape) (y : Seen) (i at b n : ℕ) → CanRead shape y → IsWordPage shape y.words i at b → at % 512 + n ≤ 512 → IsSpan y b (at % 512) n
+run_span shape y i at b n can on within = record { block = page_below shape y i at b can on; within = within }
 
 -- its first word is one of the region's
 pub first_within : (at n size : ℕ) → 0 < n → 8 * (at + n) ≤ size → 8 * at < size

@@ -7,14 +7,22 @@ use Rattle.rio_base.specs.declared.places.PageName.{PageName}
 use Rattle.rio_base.specs.declared.places.VolumeShape.{VolumeShape}
 use Rattle.rio_base.specs.Blocks.{BlockWords, Seen}
 use Rattle.rio_base.specs.Layout.{IsIno}
+use Rattle.rio_base.specs.Shapes.{HasShape}
 use Rattle.rio_base.specs.Volume.{Kept}
 use Rattle.rio_model.specs.Held.{Held, held, held_of}
 use Rattle.rio_model.specs.HeldRules.{held_ino}
 use Rattle.rio_model.specs.Placed.{AtPage, Owns, placed_at, volume_layout}
 use Rattle.rio_model.specs.RegionMoves.{RestHeld, rest_refl, rest_trans}
-use Rattle.rio_model.specs.VolumeReady.{Ready}
+use Rattle.rio_model.specs.VolumeReady.{AllNamed, Ready}
+use Rattle.rio_model.specs.VolumeRules.{IsMapped}
 use Rattle.inode_table.specs.declared.inode.Inode.{Inode}
 use Rattle.inode_table.specs.Inodes.{IsInode}
+
+-- the words of regions can be read: the blocks keep the rules of a volume, and cached pages bear their names
+pub record CanRead (shape : VolumeShape) (x : Seen) : Type 0 where
+  pub has_shape : HasShape shape x
+  pub mapped : IsMapped shape x.words
+  pub named : AllNamed (volume_layout shape x.words) x
 
 -- inode i is a region of so many words, and the volume is ready for a call that changes it
 pub record OnRegion (shape : VolumeShape) (x : Seen) (k : Kept) (i words : ℕ) : Type 0 where

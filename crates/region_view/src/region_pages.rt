@@ -10,13 +10,13 @@ ghost use Rattle.rio_model.specs.Held.{held_of};
 ghost use Rattle.rio_model.specs.Placed.{volume_layout};
 ghost use Rattle.rio_model.specs.VolumeReady.{LeavesInUse, Ready};
 ghost use Rattle.inode_table.specs.Inodes.{IsInode};
-ghost use Rattle.region_view.specs.Views.{IsWordName, IsWordPage};
+ghost use Rattle.region_view.specs.Views.{CanRead, IsWordName, IsWordPage};
 ghost use Rattle.rio_model.specs.RegionMoves.{RestHeld};
 
 use file_pages::block_of;
 use inode_table::{DIRECT_PAGES, Inode, read_inode};
 use rio_base::{
-    Block, Ino, PAGE_BYTES, PAGE_WORDS, PageName, RunFail, VolFail, Volume, VolumeShape,
+    Block, Blocks, Ino, PAGE_BYTES, PAGE_WORDS, PageName, RunFail, VolFail, Volume, VolumeShape,
 };
 
 /// Bytes of a word.
@@ -59,7 +59,7 @@ fn page_name(i: Ino, at: u32) -> PageName
 }
 
 /// The block of that page, by the inode of the region where that numbers it.
-fn page_block<V: Volume>(
+fn page_block<V: Blocks>(
     v: &mut V,
     shape: &VolumeShape,
     i: Ino,
@@ -67,13 +67,13 @@ fn page_block<V: Volume>(
     at: u32,
 ) -> Result<Block, VolFail>
     requires sound { V.sound v.old }
-    requires ready { Ready shape.now (V.seen v.old) (V.kept v.old) }
+    requires can { CanRead shape.now (V.seen v.old) }
     requires region { (held_of shape.now (V.seen v.old).words i.0).kind ≡ 3 }
     requires inode { IsInode (V.seen v.old).words i.0 inode.now }
     requires place { 8 * at < (held_of shape.now (V.seen v.old).words i.0).size }
     ensures page { IfOk result (λ b. IsWordPage shape.now (V.seen v.new).words i.0 at b.0) }
     ensures words { (V.seen v.new).words ≡ (V.seen v.old).words }
-    ensures ready { Ready shape.now (V.seen v.new) (V.kept v.new) }
+    ensures can { CanRead shape.now (V.seen v.new) }
     ensures passes { V.passes v.old v.new }
     ensures ends { Ends (V.health v.old) (V.health v.new) result }
     ensures sound { V.sound v.new }
@@ -120,7 +120,7 @@ pub fn read_word<V: Volume>(
 
 /// Reads words of one page of region `i`, from word `at` of the region on, as many as `into` has. After a failure `into` may
 /// hold anything.
-fn read_part<V: Volume>(
+fn read_part<V: Blocks>(
     v: &mut V,
     shape: &VolumeShape,
     i: Ino,
@@ -129,7 +129,7 @@ fn read_part<V: Volume>(
     into: &mut [u64],
 ) -> Result<(), VolFail>
     requires sound { V.sound v.old }
-    requires ready { Ready shape.now (V.seen v.old) (V.kept v.old) }
+    requires can { CanRead shape.now (V.seen v.old) }
     requires region { (held_of shape.now (V.seen v.old).words i.0).kind ≡ 3 }
     requires inode { IsInode (V.seen v.old).words i.0 inode.now }
     requires some { 0 < length into.old }
@@ -138,7 +138,7 @@ fn read_part<V: Volume>(
     ensures value { OnOk result (AreWords (held_of shape.now (V.seen v.old).words i.0).word at (length into.old) into.new) }
     ensures len { length into.new ≡ length into.old }
     ensures words { (V.seen v.new).words ≡ (V.seen v.old).words }
-    ensures ready { Ready shape.now (V.seen v.new) (V.kept v.new) }
+    ensures can { CanRead shape.now (V.seen v.new) }
     ensures passes { V.passes v.old v.new }
     ensures ends { Ends (V.health v.old) (V.health v.new) result }
     ensures sound { V.sound v.new }
@@ -149,7 +149,7 @@ fn read_part<V: Volume>(
 
 /// Reads one part of a run of words of region `i`, which begins at word `at`: `done` of them are read, and the next is
 /// read together with those of its page. Says how many are read then.
-fn read_more<V: Volume>(
+fn read_more<V: Blocks>(
     v: &mut V,
     shape: &VolumeShape,
     i: Ino,
@@ -159,7 +159,7 @@ fn read_more<V: Volume>(
     into: &mut [u64],
 ) -> Result<usize, VolFail>
     requires sound { V.sound v.old }
-    requires ready { Ready shape.now (V.seen v.old) (V.kept v.old) }
+    requires can { CanRead shape.now (V.seen v.old) }
     requires region { (held_of shape.now (V.seen v.old).words i.0).kind ≡ 3 }
     requires inode { IsInode (V.seen v.old).words i.0 inode.now }
     requires some { done < length into.old }
@@ -169,7 +169,7 @@ fn read_more<V: Volume>(
     ensures more { IfOk result (λ n. (done < n) × (n ≤ length into.old) × AreWords (held_of shape.now (V.seen v.old).words i.0).word at n into.new) }
     ensures len { length into.new ≡ length into.old }
     ensures words { (V.seen v.new).words ≡ (V.seen v.old).words }
-    ensures ready { Ready shape.now (V.seen v.new) (V.kept v.new) }
+    ensures can { CanRead shape.now (V.seen v.new) }
     ensures passes { V.passes v.old v.new }
     ensures ends { Ends (V.health v.old) (V.health v.new) result }
     ensures sound { V.sound v.new }
@@ -178,6 +178,36 @@ fn read_more<V: Volume>(
     let end = done + in_page(first, into.len() - done);
     read_part(v, shape, i, inode, first, &mut into[done..end])?;
     Ok(end)
+}
+
+/// Reads a run of words of region `i`, part by part. After a failure `into` may hold anything.
+fn read_run<V: Blocks>(
+    v: &mut V,
+    shape: &VolumeShape,
+    i: Ino,
+    inode: &Inode,
+    at: u32,
+    into: &mut [u64],
+) -> Result<(), VolFail>
+    requires sound { V.sound v.old }
+    requires can { CanRead shape.now (V.seen v.old) }
+    requires region { (held_of shape.now (V.seen v.old).words i.0).kind ≡ 3 }
+    requires inode { IsInode (V.seen v.old).words i.0 inode.now }
+    requires few { at + length into.old < 2 ^ 32 }
+    requires place { 8 * (at + length into.old) ≤ (held_of shape.now (V.seen v.old).words i.0).size }
+    ensures value { OnOk result (AreWords (held_of shape.now (V.seen v.old).words i.0).word at (length into.old) into.new) }
+    ensures len { length into.new ≡ length into.old }
+    ensures words { (V.seen v.new).words ≡ (V.seen v.old).words }
+    ensures can { CanRead shape.now (V.seen v.new) }
+    ensures passes { V.passes v.old v.new }
+    ensures ends { Ends (V.health v.old) (V.health v.new) result }
+    ensures sound { V.sound v.new }
+{
+    let mut done = 0;
+    while done < into.len() {
+        done = read_more(v, shape, i, inode, at, done, into)?;
+    }
+    Ok(())
 }
 
 /// Reads words of region `i`, from word `at` on, as many as `into` has. After a failure `into` may hold anything.
@@ -203,11 +233,7 @@ pub fn read_words<V: Volume>(
     ensures ends { Ends (V.health v.old) (V.health v.new) result }
     ensures sound { V.sound v.new }
 {
-    let mut done = 0;
-    while done < into.len() {
-        done = read_more(v, shape, i, inode, at, done, into)?;
-    }
-    Ok(())
+    read_run(v, shape, i, inode, at, into)
 }
 
 /// Stores word `at` of region `i`. `Fault` changes nothing; `Stopped` leaves the old or the new word.

@@ -6,8 +6,8 @@ use Rattle.region_view.proofs.region_pages.read_more.Goals as goal
 pub read_part-requires-clause-sound : goal.read_part-requires-clause-sound
 read_part-requires-clause-sound g c = c.requires.sound
 
-pub read_part-requires-clause-ready : goal.read_part-requires-clause-ready
-read_part-requires-clause-ready g c = c.requires.ready
+pub read_part-requires-clause-can : goal.read_part-requires-clause-can
+read_part-requires-clause-can g c = c.requires.can
 
 pub read_part-requires-clause-region : goal.read_part-requires-clause-region
 read_part-requires-clause-region g c = c.requires.region
@@ -33,8 +33,8 @@ returns-in_err-read_part-clause-len g c = written_length c.args.into.now _ c.arg
 pub returns-in_err-read_part-clause-words : goal.returns-in_err-read_part-clause-words
 returns-in_err-read_part-clause-words g c = c.read_part.ensures.words
 
-pub returns-in_err-read_part-clause-ready : goal.returns-in_err-read_part-clause-ready
-returns-in_err-read_part-clause-ready g c = c.read_part.ensures.ready
+pub returns-in_err-read_part-clause-can : goal.returns-in_err-read_part-clause-can
+returns-in_err-read_part-clause-can g c = c.read_part.ensures.can
 
 pub returns-in_err-read_part-clause-passes : goal.returns-in_err-read_part-clause-passes
 returns-in_err-read_part-clause-passes g c = c.read_part.ensures.passes
@@ -58,8 +58,8 @@ returns-clause-len g c = written_length c.args.into.now _ c.args.done c.in_page.
 pub returns-clause-words : goal.returns-clause-words
 returns-clause-words g c = c.read_part.ensures.words
 
-pub returns-clause-ready : goal.returns-clause-ready
-returns-clause-ready g c = c.read_part.ensures.ready
+pub returns-clause-can : goal.returns-clause-can
+returns-clause-can g c = c.read_part.ensures.can
 
 pub returns-clause-passes : goal.returns-clause-passes
 returns-clause-passes g c = c.read_part.ensures.passes

@@ -2,14 +2,14 @@ use Rattle.region_view.proofs.Common.{refl, ◌∙◌, err_from_is_err_and}
 use Rattle.file_pages.proofs.EndsOn.{ends_vol, if_err}
 use Rattle.rio_base.proofs.BlockRules.{ends_later}
 use Rattle.region_view.proofs.WordsRead.{first_within, run_span, words_read}
-use Rattle.region_view.proofs.RegionPlaces.{can_name, page_looked}
+use Rattle.region_view.proofs.RegionPlaces.{can_name, can_page}
 use Rattle.region_view.proofs.region_pages.read_part.Goals as goal
 
 pub page_block-requires-clause-sound : goal.page_block-requires-clause-sound
 page_block-requires-clause-sound g c = c.requires.sound
 
-pub page_block-requires-clause-ready : goal.page_block-requires-clause-ready
-page_block-requires-clause-ready g c = c.requires.ready
+pub page_block-requires-clause-can : goal.page_block-requires-clause-can
+page_block-requires-clause-can g c = c.requires.can
 
 pub page_block-requires-clause-region : goal.page_block-requires-clause-region
 page_block-requires-clause-region g c = c.requires.region
@@ -24,10 +24,10 @@ pub read_run-requires-clause-sound : goal.read_run-requires-clause-sound
 read_run-requires-clause-sound g c = c.page_block.ensures.sound
 
 pub read_run-requires-clause-place : goal.read_run-requires-clause-place
-read_run-requires-clause-place g c = run_span c.args.shape.now _ (g.V.Volume.kept c.page_block.new.v) c.args.i.0 c.args.at c.in_ok-b.b.0 _ c.page_block.ensures.ready c.in_ok-b.ensures.page c.requires.within
+read_run-requires-clause-place g c = run_span c.args.shape.now _ c.args.i.0 c.args.at c.in_ok-b.b.0 _ c.page_block.ensures.can c.in_ok-b.ensures.page c.requires.within
 
 pub read_run-requires-clause-name : goal.read_run-requires-clause-name
-read_run-requires-clause-name g c = can_name c.args.shape.now _ (g.V.Volume.kept c.page_block.new.v) c.args.i.0 c.args.at c.in_ok-b.b.0 _ c.page_block.ensures.ready c.in_ok-b.ensures.page c.page_name.ensures
+read_run-requires-clause-name g c = can_name c.args.shape.now _ c.args.i.0 c.args.at c.in_ok-b.b.0 _ c.page_block.ensures.can c.in_ok-b.ensures.page c.page_name.ensures
 
 pub returns-in_err-b-clause-value : goal.returns-in_err-b-clause-value
 returns-in_err-b-clause-value g c = if_err c.from_residual.result _ c.from_residual.ensures.0
@@ -38,8 +38,8 @@ returns-in_err-b-clause-len g c = refl
 pub returns-in_err-b-clause-words : goal.returns-in_err-b-clause-words
 returns-in_err-b-clause-words g c = c.page_block.ensures.words
 
-pub returns-in_err-b-clause-ready : goal.returns-in_err-b-clause-ready
-returns-in_err-b-clause-ready g c = c.page_block.ensures.ready
+pub returns-in_err-b-clause-can : goal.returns-in_err-b-clause-can
+returns-in_err-b-clause-can g c = c.page_block.ensures.can
 
 pub returns-in_err-b-clause-passes : goal.returns-in_err-b-clause-passes
 returns-in_err-b-clause-passes g c = c.page_block.ensures.passes
@@ -61,9 +61,6 @@ returns-clause-len g c = c.read_run.ensures.len
 pub returns-clause-words : goal.returns-clause-words
 returns-clause-words g c = c.read_run.ensures.looks.words ∙ c.page_block.ensures.words
 
-pub returns-clause-ready : goal.returns-clause-ready
-returns-clause-ready g c = page_looked c.args.shape.now _ _ _ _ _ (g.V.Volume.kept c.page_block.new.v) _ _ c.args.i.0 c.args.at c.in_ok-b.b.0 _ c.page_block.ensures.ready c.in_ok-b.ensures.page c.page_name.ensures c.read_run.ensures.looks c.read_run.ensures.caches (g.met.V.Volume.passes_keeps _ _ c.read_run.ensures.passes)
-
 pub returns-clause-passes : goal.returns-clause-passes
 returns-clause-passes g c = g.met.V.Blocks.passes_trans _ _ _ c.page_block.ensures.passes c.read_run.ensures.passes
 
@@ -72,3 +69,6 @@ returns-clause-ends g c = ends_later _ _ _ c.read_run.result c.in_ok-b.ensures.e
 
 pub returns-clause-sound : goal.returns-clause-sound
 returns-clause-sound g c = c.read_run.ensures.sound
+
+pub returns-clause-can : goal.returns-clause-can
+returns-clause-can g c = can_page c.args.shape.now (g.V.Blocks.seen c.page_block.new.v) _ c.args.i.0 c.args.at c.in_ok-b.b.0 _ c.page_block.ensures.can c.in_ok-b.ensures.page c.page_name.ensures c.read_run.ensures.looks c.read_run.ensures.caches

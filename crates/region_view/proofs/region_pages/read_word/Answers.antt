@@ -2,14 +2,11 @@ use Rattle.region_view.proofs.Common.{arith, ◌∙◌, err_from_is_err_and}
 use Rattle.file_pages.proofs.EndsOn.{ends_vol, if_err}
 use Rattle.rio_base.proofs.BlockRules.{ends_later}
 use Rattle.region_view.proofs.WordsRead.{value_as, word_at}
-use Rattle.region_view.proofs.RegionPlaces.{can_name, page_below, page_looked}
+use Rattle.region_view.proofs.RegionPlaces.{can_name, can_page, page_below, reads_ready, ready_read}
 use Rattle.region_view.proofs.region_pages.read_word.Goals as goal
 
 pub page_block-requires-clause-sound : goal.page_block-requires-clause-sound
 page_block-requires-clause-sound g c = c.requires.sound
-
-pub page_block-requires-clause-ready : goal.page_block-requires-clause-ready
-page_block-requires-clause-ready g c = c.requires.ready
 
 pub page_block-requires-clause-region : goal.page_block-requires-clause-region
 page_block-requires-clause-region g c = c.requires.region
@@ -25,21 +22,18 @@ word-requires-clause-sound g c = c.page_block.ensures.sound
 
 pub word-requires-clause-place : goal.word-requires-clause-place
 word-requires-clause-place g c = record {
-  block = page_below c.args.shape.now _ (g.V.Volume.kept c.page_block.new.v) c.args.i.0 c.args.at c.in_ok-b.b.0 c.page_block.ensures.ready c.in_ok-b.ensures.page;
+  block = page_below c.args.shape.now _ c.args.i.0 c.args.at c.in_ok-b.b.0 c.page_block.ensures.can c.in_ok-b.ensures.page;
   word = omega arith;
 }
 
 pub word-requires-clause-name : goal.word-requires-clause-name
-word-requires-clause-name g c = can_name c.args.shape.now _ (g.V.Volume.kept c.page_block.new.v) c.args.i.0 c.args.at c.in_ok-b.b.0 _ c.page_block.ensures.ready c.in_ok-b.ensures.page c.page_name.ensures
+word-requires-clause-name g c = can_name c.args.shape.now _ c.args.i.0 c.args.at c.in_ok-b.b.0 _ c.page_block.ensures.can c.in_ok-b.ensures.page c.page_name.ensures
 
 pub returns-in_err-b-clause-value : goal.returns-in_err-b-clause-value
 returns-in_err-b-clause-value g c = if_err c.from_residual.result _ c.from_residual.ensures.0
 
 pub returns-in_err-b-clause-words : goal.returns-in_err-b-clause-words
 returns-in_err-b-clause-words g c = c.page_block.ensures.words
-
-pub returns-in_err-b-clause-ready : goal.returns-in_err-b-clause-ready
-returns-in_err-b-clause-ready g c = c.page_block.ensures.ready
 
 pub returns-in_err-b-clause-passes : goal.returns-in_err-b-clause-passes
 returns-in_err-b-clause-passes g c = c.page_block.ensures.passes
@@ -58,9 +52,6 @@ returns-clause-value g c = value_as c.word.result _ _ (word_at c.args.shape.now 
 pub returns-clause-words : goal.returns-clause-words
 returns-clause-words g c = c.word.ensures.looks.words ∙ c.page_block.ensures.words
 
-pub returns-clause-ready : goal.returns-clause-ready
-returns-clause-ready g c = page_looked c.args.shape.now _ _ _ _ _ (g.V.Volume.kept c.page_block.new.v) _ _ c.args.i.0 c.args.at c.in_ok-b.b.0 _ c.page_block.ensures.ready c.in_ok-b.ensures.page c.page_name.ensures c.word.ensures.looks c.word.ensures.caches (g.met.V.Volume.passes_keeps _ _ c.word.ensures.passes)
-
 pub returns-clause-passes : goal.returns-clause-passes
 returns-clause-passes g c = g.met.V.Blocks.passes_trans _ _ _ c.page_block.ensures.passes c.word.ensures.passes
 
@@ -69,3 +60,14 @@ returns-clause-ends g c = ends_later _ _ _ c.word.result c.in_ok-b.ensures.ends.
 
 pub returns-clause-sound : goal.returns-clause-sound
 returns-clause-sound g c = c.word.ensures.sound
+
+pub page_block-requires-clause-can : goal.page_block-requires-clause-can
+page_block-requires-clause-can g c = reads_ready c.args.shape.now _ _ c.requires.ready
+
+pub returns-in_err-b-clause-ready : goal.returns-in_err-b-clause-ready
+returns-in_err-b-clause-ready g c = ready_read c.args.shape.now _ _ _ _ _ _ _ _ c.requires.ready c.page_block.ensures.can c.page_block.ensures.words (g.met.V.Volume.passes_keeps _ _ c.page_block.ensures.passes)
+
+pub returns-clause-ready : goal.returns-clause-ready
+returns-clause-ready g c =
+    let can = can_page c.args.shape.now (g.V.Blocks.seen c.page_block.new.v) _ c.args.i.0 c.args.at c.in_ok-b.b.0 _ c.page_block.ensures.can c.in_ok-b.ensures.page c.page_name.ensures c.word.ensures.looks c.word.ensures.caches in
+    ready_read c.args.shape.now _ _ _ _ _ _ _ _ c.requires.ready can (c.word.ensures.looks.words ∙ c.page_block.ensures.words) (g.met.V.Volume.passes_keeps _ _ (g.met.V.Blocks.passes_trans _ _ _ c.page_block.ensures.passes c.word.ensures.passes))

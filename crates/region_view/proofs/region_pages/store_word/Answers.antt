@@ -2,15 +2,12 @@ use Rattle.region_view.proofs.Common.{arith, inl, refl, ◌∙◌, ◌then◌, e
 use Rattle.file_pages.proofs.EndsOn.{ends_vol, if_err}
 use Rattle.rio_base.proofs.BlockRules.{ends_later}
 use Rattle.rio_model.proofs.RegionMoves.{rest_same}
-use Rattle.region_view.proofs.RegionPlaces.{can_name, one_either, one_put, one_same_but, page_below, page_done, rest_by, still_word}
+use Rattle.region_view.proofs.RegionPlaces.{can_name, ready_read, reads_ready, one_either, one_put, one_same_but, page_below, page_done, rest_by, still_word}
 use Rattle.region_view.proofs.RunEnds.{ok_as}
 use Rattle.region_view.proofs.region_pages.store_word.Goals as goal
 
 pub page_block-requires-clause-sound : goal.page_block-requires-clause-sound
 page_block-requires-clause-sound g c = c.requires.sound
-
-pub page_block-requires-clause-ready : goal.page_block-requires-clause-ready
-page_block-requires-clause-ready g c = c.requires.ready
 
 pub page_block-requires-clause-region : goal.page_block-requires-clause-region
 page_block-requires-clause-region g c = c.requires.region
@@ -26,15 +23,15 @@ store-requires-clause-sound g c = c.page_block.ensures.sound
 
 pub store-requires-clause-place : goal.store-requires-clause-place
 store-requires-clause-place g c = record {
-  block = page_below c.args.shape.now _ (g.V.Volume.kept c.page_block.new.v) c.args.i.0 c.args.at c.in_ok-b.b.0 c.page_block.ensures.ready c.in_ok-b.ensures.page;
+  block = page_below c.args.shape.now _ c.args.i.0 c.args.at c.in_ok-b.b.0 c.page_block.ensures.can c.in_ok-b.ensures.page;
   word = omega arith;
 }
 
 pub store-requires-clause-name : goal.store-requires-clause-name
-store-requires-clause-name g c = can_name c.args.shape.now _ (g.V.Volume.kept c.page_block.new.v) c.args.i.0 c.args.at c.in_ok-b.b.0 _ c.page_block.ensures.ready c.in_ok-b.ensures.page c.page_name.ensures
+store-requires-clause-name g c = can_name c.args.shape.now _ c.args.i.0 c.args.at c.in_ok-b.b.0 _ c.page_block.ensures.can c.in_ok-b.ensures.page c.page_name.ensures
 
 pub store-requires-clause-idle : goal.store-requires-clause-idle
-store-requires-clause-idle g c = c.page_block.ensures.ready.idle
+store-requires-clause-idle g c = (ready_read c.args.shape.now _ _ _ _ _ _ _ _ c.requires.ready c.page_block.ensures.can c.page_block.ensures.words (g.met.V.Volume.passes_keeps _ _ c.page_block.ensures.passes)).idle
 
 pub returns-in_err-b-clause-ok : goal.returns-in_err-b-clause-ok
 returns-in_err-b-clause-ok g c = if_err c.from_residual.result _ c.from_residual.ensures.0
@@ -48,9 +45,6 @@ returns-in_err-b-clause-either g c = inl (still_word c.args.shape.now _ _ c.args
 pub returns-in_err-b-clause-rest : goal.returns-in_err-b-clause-rest
 returns-in_err-b-clause-rest g c = rest_same c.args.shape.now c.args.i.0 _ _ c.page_block.ensures.words
 
-pub returns-in_err-b-clause-ready : goal.returns-in_err-b-clause-ready
-returns-in_err-b-clause-ready g c = c.page_block.ensures.ready
-
 pub returns-in_err-b-clause-goes : goal.returns-in_err-b-clause-goes
 returns-in_err-b-clause-goes g c = (g.met.V.Volume.passes_keeps _ _ c.page_block.ensures.passes).goes
 
@@ -63,16 +57,16 @@ pub returns-in_err-b-clause-sound : goal.returns-in_err-b-clause-sound
 returns-in_err-b-clause-sound g c = c.page_block.ensures.sound
 
 pub returns-clause-ok : goal.returns-clause-ok
-returns-clause-ok g c = ok_as c.store.result _ _ (one_put c.args.shape.now _ _ _ (g.V.Volume.kept c.page_block.new.v) c.args.i.0 c.args.at c.in_ok-b.b.0 _ c.args.word c.page_block.ensures.ready c.in_ok-b.ensures.page refl c.page_block.ensures.words) c.store.ensures.ok
+returns-clause-ok g c = ok_as c.store.result _ _ (one_put c.args.shape.now _ _ _ c.args.i.0 c.args.at c.in_ok-b.b.0 _ c.args.word c.page_block.ensures.can c.in_ok-b.ensures.page refl c.page_block.ensures.words) c.store.ensures.ok
 
 pub returns-clause-either : goal.returns-clause-either
-returns-clause-either g c = one_either c.args.shape.now _ _ _ (g.V.Volume.kept c.page_block.new.v) c.args.i.0 c.args.at c.in_ok-b.b.0 _ c.args.word c.page_block.ensures.ready c.in_ok-b.ensures.page refl c.page_block.ensures.words c.store.ensures.either
+returns-clause-either g c = one_either c.args.shape.now _ _ _ c.args.i.0 c.args.at c.in_ok-b.b.0 _ c.args.word c.page_block.ensures.can c.in_ok-b.ensures.page refl c.page_block.ensures.words c.store.ensures.either
 
 pub returns-clause-rest : goal.returns-clause-rest
-returns-clause-rest g c = rest_by c.args.shape.now _ _ _ (g.V.Volume.kept c.page_block.new.v) c.args.i.0 c.args.at c.in_ok-b.b.0 c.page_block.ensures.ready c.in_ok-b.ensures.page c.page_block.ensures.words (one_same_but _ _ c.in_ok-b.b.0 _ c.args.word c.store.ensures.either)
+returns-clause-rest g c = rest_by c.args.shape.now _ _ _ c.args.i.0 c.args.at c.in_ok-b.b.0 c.page_block.ensures.can c.in_ok-b.ensures.page c.page_block.ensures.words (one_same_but _ _ c.in_ok-b.b.0 _ c.args.word c.store.ensures.either)
 
 pub returns-clause-ready : goal.returns-clause-ready
-returns-clause-ready g c = (page_done c.args.shape.now (g.V.Blocks.seen c.page_block.new.v) (g.V.Volume.kept c.page_block.new.v) _ _ c.args.i.0 c.args.at c.in_ok-b.b.0 _ c.page_block.ensures.ready c.in_ok-b.ensures.page c.page_name.ensures c.store.ensures.count (one_same_but _ _ c.in_ok-b.b.0 _ c.args.word c.store.ensures.either) c.store.ensures.firm c.store.ensures.caches c.store.ensures.idle).ready
+returns-clause-ready g c = (page_done c.args.shape.now (g.V.Blocks.seen c.page_block.new.v) (g.V.Volume.kept c.page_block.new.v) _ _ c.args.i.0 c.args.at c.in_ok-b.b.0 _ (ready_read c.args.shape.now _ _ _ _ _ _ _ _ c.requires.ready c.page_block.ensures.can c.page_block.ensures.words (g.met.V.Volume.passes_keeps _ _ c.page_block.ensures.passes)) c.in_ok-b.ensures.page c.page_name.ensures c.store.ensures.count (one_same_but _ _ c.in_ok-b.b.0 _ c.args.word c.store.ensures.either) c.store.ensures.firm c.store.ensures.caches c.store.ensures.idle).ready
 
 pub returns-clause-goes : goal.returns-clause-goes
 returns-clause-goes g c = (g.met.V.Volume.passes_keeps _ _ c.page_block.ensures.passes).goes then c.store.ensures.goes
@@ -85,3 +79,9 @@ returns-clause-ends g c = ends_later _ _ _ c.store.result c.in_ok-b.ensures.ends
 
 pub returns-clause-sound : goal.returns-clause-sound
 returns-clause-sound g c = c.store.ensures.sound
+
+pub returns-in_err-b-clause-ready : goal.returns-in_err-b-clause-ready
+returns-in_err-b-clause-ready g c = ready_read c.args.shape.now _ _ _ _ _ _ _ _ c.requires.ready c.page_block.ensures.can c.page_block.ensures.words (g.met.V.Volume.passes_keeps _ _ c.page_block.ensures.passes)
+
+pub page_block-requires-clause-can : goal.page_block-requires-clause-can
+page_block-requires-clause-can g c = reads_ready c.args.shape.now _ _ c.requires.ready
