@@ -9,8 +9,9 @@ use Rattle.std.proofs.lemmas.Nat.Bits.{bit_at-zero, bit_at_ones, bit_at_ones_abo
 use Rattle.rio_fakes.specs.declared.list_volume.ListVolume.{ListVolume}
 use Rattle.rio_base.specs.declared.places.VolumeShape.{VolumeShape}
 use Rattle.rio_base.proofs.Bitmap.{first_bitmap}
+use Rattle.rio_base.proofs.BlockRules.{metadata}
 use Rattle.rio_base.specs.Bitmap.{used_bit}
-use Rattle.rio_base.specs.Blocks.{BlockWords, Seen}
+use Rattle.rio_base.specs.Blocks.{BlockWords, CanName, Seen}
 use Rattle.rio_base.specs.Layout.{inode_block, inode_place, volume_magic}
 use Rattle.rio_fakes.specs.ListVolumes.{IsNew, IsRestarted, flat, list_kept, list_seen, mark_of}
 use Rattle.rio_base.specs.Rules.{true_false}
@@ -214,7 +215,24 @@ meta_stored shape s t b low h count k = record {
     at c within cached (inr away) = let before = k.others c away cached in before.1 ∙ h.unnamed c within before.0
     at c within cached (inl same) = subst (λ x. t.cached x ≡ true → t.names x ≡ None) (sym same) (λ on. here on (k.named on)) cached
 
+pub one_stored : (shape : VolumeShape) (s t : Seen) → IsTestShape shape → HasShape shape s → t.count ≡ s.count → CachesStored s t 0 None → HasShape shape t
+one_stored shape s t test h ct kt = let low = root_low shape test in meta_stored shape s t 0 (omega (arith, low)) h ct kt
+
+pub two_stored : (shape : VolumeShape) (s t u : Seen) → IsTestShape shape → HasShape shape s → t.count ≡ s.count → CachesStored s t 0 None → u.count ≡ t.count → CachesStored t u 1 None → HasShape shape u
+two_stored shape s t u test h ct kt cu ku = let low = root_low shape test in meta_stored shape t u 1 (omega (arith, low)) (one_stored shape s t test h ct kt) cu ku
+
 pub three_stored : (shape : VolumeShape) (s t u w : Seen) → IsTestShape shape → HasShape shape s → t.count ≡ s.count → CachesStored s t 0 None → u.count ≡ t.count → CachesStored t u 1 None → w.count ≡ u.count → CachesStored u w 2 None → HasShape shape w
-three_stored shape s t u w test h ct kt cu ku cw kw =
-    let low = root_low shape test in
-    meta_stored shape u w 2 low (meta_stored shape t u 1 (omega (arith, low)) (meta_stored shape s t 0 (omega (arith, low)) h ct kt) cu ku) cw kw
+three_stored shape s t u w test h ct kt cu ku cw kw = meta_stored shape u w 2 (root_low shape test) (two_stored shape s t u test h ct kt cu ku) cw kw
+
+-- the first, second and third block of metadata may be named so
+pub first_named : (shape : VolumeShape) (s : Seen) (b : ℕ) → IsTestShape shape → HasShape shape s → b ≤ 2 → CanName s b None
+first_named shape s b test h few = let low = root_low shape test in metadata shape s b h (omega (arith, low, few))
+
+pub first_block : (shape : VolumeShape) (s : Seen) (b : ℕ) → IsTestShape shape → HasShape shape s → b ≤ 2 → b < s.count
+first_block shape s b test h few = subst (λ n. b < n) (sym h.count) (let from = test.from in omega (arith, from, few))
+
+-- what is stored by the three calls is a fresh volume
+pub three_words : (shape : VolumeShape) (f g h k : BlockWords) (marks : ℕ) → marks ≡ marks_of shape → g ≡ put_run f 0 0 4 (volume_magic ∷ 1 ∷ shape.blocks ∷ shape.inodes ∷ []) → h ≡ put g 1 0 marks → k ≡ put h 2 0 1 → k ≡ fresh_words shape f
+three_words shape f g h k marks are first second third =
+    let stored : h ≡ put (put_run f 0 0 4 (volume_magic ∷ 1 ∷ shape.blocks ∷ shape.inodes ∷ [])) 1 0 (marks_of shape) = second ∙ (ap (λ x. put x 1 0 marks) first ∙ ap (λ n. put (put_run f 0 0 4 (volume_magic ∷ 1 ∷ shape.blocks ∷ shape.inodes ∷ [])) 1 0 n) are) in
+    third ∙ ap (λ x. put x 2 0 1) stored
