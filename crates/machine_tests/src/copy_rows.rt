@@ -5,8 +5,8 @@ use crate::machines::Mishap;
 use crate::rig::{Call, Came, Memory};
 use rio_base::{Wild, WordAt};
 
-/// Copies of pages, runs of words, and pages that are lent.
-pub(crate) static COPIES: [Case; 22] = [
+/// Copies of pages.
+pub(crate) static COPIES: [Case; 8] = [
     // a page is copied word by word
     (
         "a whole page",
@@ -111,6 +111,10 @@ pub(crate) static COPIES: [Case; 22] = [
             (Call::Trapped, Came::Place(Some(WordAt(0)))),
         ],
     ),
+];
+
+/// Copies of a page of scratch.
+pub(crate) static SCRATCH_COPIES: [Case; 6] = [
     // a page of scratch is copied as it is when its words are read
     (
         "a whole page of scratch",
@@ -183,6 +187,10 @@ pub(crate) static COPIES: [Case; 22] = [
             (Call::Word(42_084), Came::Number(9)),
         ],
     ),
+];
+
+/// Runs of words, and pages that are lent.
+pub(crate) static RUNS: [Case; 8] = [
     // a run at the end of a page is whole or stopped
     (
         "after no step",
