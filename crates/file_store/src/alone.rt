@@ -17,14 +17,15 @@ ghost use Rattle.file_tree.specs.Failures.{Faulted};
 ghost use Rattle.file_pages.specs.Forgetting.{Forgets};
 ghost use Rattle.file_tree.specs.Walks.{ino_numbers};
 ghost use Rattle.rio_base.specs.Layout.{IsIno};
-ghost use Rattle.file_tree.specs.NewRegions.{FindsRegion};
+ghost use Rattle.node_making.specs.NewRegions.{FindsRegion};
 
 use crate::data::{read_with, truncate_with, write_with};
-use file_tree::{
-    FileFail, Memo, create_with, list_with, make_region_with, mkdir_with, region_of_with,
-    rename_with, rmdir_with, stand_at_with, stat_with, unlink_with,
-};
+use file_tree::{FileFail, Memo};
 use name_list::NameList;
+use node_making::{
+    create_with, list_with, make_region_with, mkdir_with, region_of_with, stand_at_with, stat_with,
+};
+use node_moving::{rename_with, rmdir_with, unlink_with};
 use region_view::RegionView;
 use rio_base::{Ino, InoList, Octets, Volume, VolumeShape};
 use std::alloc::Global;

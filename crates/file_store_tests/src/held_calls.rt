@@ -12,10 +12,11 @@ use crate::answers::{
 use crate::asks::{Ask, Row, Want, numbered, path_of};
 use crate::calls::{block_as, free_as};
 use file_store::{read_with, truncate_with, write_with};
-use file_tree::{
-    Memo, create_with, list_with, make_region_with, mkdir_with, region_of_with, rename_with,
-    rmdir_with, stat_with, unlink_with,
+use file_tree::Memo;
+use node_making::{
+    create_with, list_with, make_region_with, mkdir_with, region_of_with, stat_with,
 };
+use node_moving::{rename_with, rmdir_with, unlink_with};
 use request_codec::is_path;
 use rio_base::{InoList, Stopped, VolumeShape};
 use rio_fakes::ListVolume;

@@ -1,26 +1,23 @@
 -- Requests on a file or a directory at a path: how they end, by how the walk there and the call at its end do.
-use Rattle.file_tree.proofs.Common.{◌≡◌, ℕ, ◌+◌, ◌<◌, ◌≤◌, ◌⊎◌, List, arith, refl, sym, ap, subst, ◌∙◌, inl, inr, Result, Ok, Err, OnOk, IsErrOf, get, Ino, VolumeShape, free_blocks, BlockWords, Seen, Kept, Settled, Answered, Reply, State, answered, at_inode, on_file, refused, names_in, resized, held_of, names_of, walk, walk_to_dir, volume_layout, largest_size, ReadsAs, LeavesInUse, Ready, wanted_blocks, SetsBoth, file_bytes, SizeFail, ListsNames, truncate_in, NoneDone, WriteDone}
+use Rattle.file_tree.proofs.Common.{◌≡◌, ℕ, ◌+◌, ◌<◌, ◌≤◌, ◌⊎◌, List, refl, sym, ap, subst, ◌∙◌, inl, inr, Result, Ok, Err, OnOk, IsErrOf, get, Ino, VolumeShape, free_blocks, BlockWords, Seen, Kept, Settled, Answered, Reply, State, answered, at_inode, on_file, refused, resized, held_of, names_of, walk, volume_layout, largest_size, ReadsAs, LeavesInUse, Ready, wanted_blocks, SetsBoth, file_bytes, SizeFail, truncate_in, NoneDone, WriteDone}
 use Rattle.std.specs.Prelude.{IfOk, length, take, drop}
 use Rattle.rio_base.specs.declared.failures.ReadFail.{ReadFail}
 use Rattle.rio_base.specs.declared.failures.ReadFail.TheVariants.{Fault as ReadFault, Stopped as ReadStopped, Memory as ReadMemory}
-use Rattle.rio_requests.specs.declared.reply.Reply.TheVariants.{Bytes, Names as NamesOf}
+use Rattle.rio_requests.specs.declared.reply.Reply.TheVariants.{Bytes}
 use Rattle.rio_model.specs.FileParts.{written}
 use Rattle.file_pages.specs.Files.{FaultsAfter, HasSpace, HasSpaceFor, ResizeStops, StopsAs}
 use Rattle.file_pages.specs.Writing.{WriteStops}
 use Rattle.file_pages.specs.declared.failures.SizeFail.TheVariants.{NoSpace as SizeNoSpace, TooLarge as SizeTooLarge, Fault as SizeFault, Stopped as SizeStopped, Memory as SizeMemory}
 use Rattle.file_pages.specs.declared.failures.WriteFail.{WriteFail}
 use Rattle.file_pages.specs.declared.failures.WriteFail.TheVariants.{NoSpace as WriteNoSpace, TooLarge as WriteTooLarge, Fault as WriteFault, Stopped as WriteStopped, Memory as WriteMemory}
-use Rattle.rio_requests.specs.Answers.{list, read, read_in, truncate, write, write_in}
+use Rattle.rio_requests.specs.Answers.{read, read_in, truncate, write, write_in}
 use Rattle.file_tree.specs.Ends.{FileEnds, Left, SaysCount, SaysDone}
 use Rattle.file_tree.specs.declared.failures.FileFail.{FileFail}
 use Rattle.file_tree.specs.declared.failures.FileFail.TheVariants.{Refused, Fault, Stopped, Memory}
 use Rattle.file_tree.specs.Failures.{Unrefused, fail_of_read, fail_of_size, fail_of_write}
-use Rattle.file_tree.proofs.NamesListed.{names_listed}
-use Rattle.file_tree.proofs.ReadTrees.{dir_whole}
 use Rattle.file_tree.specs.Walks.{Comes, FileComes}
 use Rattle.file_tree.proofs.FileData.{ends_resized, file_read}
 use Rattle.file_tree.proofs.FileEnded.{ends_written, resize_fault, resize_no_space, resize_stopped, resize_too_large, write_fault, write_no_space, write_stopped, write_too_large}
-use Rattle.region_view.proofs.UsedInodes.{used_ino}
 use Rattle.file_tree.proofs.Unchanged.{ends_failed, ends_halted, ends_looked, leaves_then}
 
 -- ---- calls that only looked
@@ -101,11 +98,6 @@ read_answer shape f s path off len i bytes reads at file is =
     ap (λ (w : Result ℕ ℕ). at_inode s w (read_in s off len)) at
     ∙ ap (λ n. on_file s n (λ old. answered s (Bytes (take len (drop off old))))) (file_read shape f s i reads file)
     ∙ ap (λ b. answered s (Bytes b)) (sym is)
-
-pub list_answer : (shape : VolumeShape) (f : BlockWords) (s : State) (path : List ℕ) (d : ℕ) (names : List (List ℕ)) → ReadsAs shape f s → walk_to_dir s (names_of path) ≡ Ok d → (held_of shape f d).kind ≡ 1 → ListsNames (held_of shape f d) names → list s path ≡ answered s (NamesOf names)
-list_answer shape f s path d names reads at dir lists =
-    ap (λ (w : Result ℕ ℕ). at_inode s w (λ n. answered s (NamesOf (names_in s n)))) at
-    ∙ ap (λ ns. answered s (NamesOf ns)) (sym (names_listed (held_of shape f) s d names reads.reads reads.apart dir (dir_whole shape f s d reads (used_ino shape f d (subst (λ n. 0 < n) (sym dir) (omega arith))) dir) lists))
 
 -- answered, and nothing is changed
 pub ends_answered : {T : Type 0} (says : T → Reply → Type 0) (value : T) (shape : VolumeShape) (x : Seen) (k : Kept) (y : Seen) (j : Kept) (s : State) (a : Answered) (reply : Reply) (leads : ℕ → State → Type 0) → Ready shape x k → LeavesInUse (volume_layout shape x.words) x k y j → ReadsAs shape x.words s → a ≡ answered s reply → says value reply → FileEnds says shape x k y j s a leads (Ok value)

@@ -1,13 +1,12 @@
 -- The names of the crates below that the proofs of this crate cite again and again, passed on from one place. Declares nothing.
-pub use Rattle.std.proofs.Common.{Bool, List, Option, [], ap, append-nil, append_assoc, arith, cond, drop, false, get_or, inl, inr, le_refl, le_trans, length, map, refl, slice_index_or, subst, suc, sym, take, true, zero, ℕ, ◌%◌, ◌&&◌, ◌*◌, ◌++◌, ◌+◌, ◌-◌, ◌/◌, ◌<◌, ◌==◌, ◌||◌, ◌∙◌, ◌∷◌, ◌≡◌, ◌≢◌, ◌≤◌, ◌⊎◌}
+pub use Rattle.std.proofs.Common.{Bool, List, Option, [], ap, append-nil, append_assoc, arith, cond, drop, false, get_or, inl, inr, le_refl, le_trans, length, map, refl, slice_index_or, subst, suc, sym, take, true, zero, ℕ, ◌%◌, ◌&&◌, ◌*◌, ◌++◌, ◌+◌, ◌-◌, ◌/◌, ◌<◌, ◌==◌, ◌∙◌, ◌∷◌, ◌≡◌, ◌≢◌, ◌≤◌, ◌⊎◌}
 pub use Rattle.std.proofs.lemmas.Bool.{cases_Bool, cases_eq}
 pub use Rattle.std.proofs.lemmas.Bool.Decides.{Decides-eqb, nat_tests}
 pub use Rattle.std.proofs.lemmas.List.{drop_more, length-append, take-append-drop}
 pub use Rattle.std.proofs.lemmas.List.FromFn.{get_or-map-range_with_len, length-map-range_with_len}
 pub use Rattle.std.proofs.lemmas.Option.{none-some}
 pub use Rattle.std.proofs.lemmas.Result.{err_from_is_err_and}
-pub use Rattle.std.specs.FinMap.{get, insert, remove}
-pub use Rattle.std.specs.Int.{bit_at}
+pub use Rattle.std.specs.FinMap.{get, insert}
 pub use Rattle.std.specs.List.{AllByRecursion, Contains, list_any, range_with_len}
 pub use Rattle.std.specs.Ordering.{eq_by_cmp, is_eq}
 pub use Rattle.std.specs.Prelude.{All, Err, IsErrOf, None, Ok, OnOk, Result, Some, is_some, nat_le, nat_lt, slice_index}
@@ -18,8 +17,7 @@ pub use Rattle.directories.proofs.MakingOrder.{plan_edits}
 pub use Rattle.directories.proofs.MakingRules.{plan_change}
 pub use Rattle.directories.specs.Making.{MayBeMade}
 pub use Rattle.directories.specs.Plans.{InThreeBlocks, PlansDir, dir_update}
-pub use Rattle.directories.specs.RowChanges.{AddsRow, RemovesRow, ReplacesRow, SetsRow}
-pub use Rattle.directories.specs.Rows.{Finds, HasRow, IsEntry, ListsNames}
+pub use Rattle.directories.specs.Rows.{Finds, HasRow, IsEntry}
 pub use Rattle.directories.specs.declared.changes.DirChange.{DirChange}
 pub use Rattle.file_pages.proofs.Listed.{as_many, number_at}
 pub use Rattle.file_pages.proofs.LookingUpRules.{can_look_up}
@@ -28,7 +26,7 @@ pub use Rattle.file_pages.specs.Changes.{wanted_blocks}
 pub use Rattle.file_pages.specs.Files.{SetsBoth, file_bytes}
 pub use Rattle.file_pages.specs.Forgetting.{Forgets}
 pub use Rattle.file_pages.specs.LookingUp.{node_blocks}
-pub use Rattle.rio_model.specs.VolumeReady.{AllNamed, Bears, InOrder, LeavesInUse, NamedNode, NamesPage, Ready}
+pub use Rattle.rio_model.specs.VolumeReady.{AllNamed, Bears, InOrder, LeavesInUse, NamedNode, Ready}
 pub use Rattle.file_pages.specs.Updating.{IsEdited}
 pub use Rattle.file_pages.specs.declared.changes.Edit.{Edit}
 pub use Rattle.file_pages.specs.declared.failures.SizeFail.{SizeFail}
@@ -39,24 +37,24 @@ pub use Rattle.rio_base.proofs.BlockSets.{caches_by_trans, firm_outside_trans}
 pub use Rattle.rio_base.proofs.Rules.{ends_by_well, looks_trans}
 pub use Rattle.rio_base.specs.Bitmap.{free_blocks, used_bit}
 pub use Rattle.rio_base.specs.BlockSets.{CachesBy, FirmOutside, SameOutside}
-pub use Rattle.rio_base.specs.Blocks.{BlockWords, Caches, CanName, Drops, EndsBy, Health, Looks, SamePage, Seen}
+pub use Rattle.rio_base.specs.Blocks.{BlockWords, Caches, Drops, EndsBy, Health, Looks, Seen}
 pub use Rattle.rio_base.specs.Layout.{IsIno, inode_block, inode_kind}
 pub use Rattle.rio_base.specs.Pieces.{pieces}
 pub use Rattle.rio_base.specs.Rules.{firm_trans, goes_refl, goes_trans, true_false, ◌then◌}
 pub use Rattle.rio_base.specs.Shapes.{HasShape, reserved}
-pub use Rattle.rio_base.specs.Volume.{Below, CachesStored, Firm, Goes, Kept, Passes, Settled, put_run, widened}
+pub use Rattle.rio_base.specs.Volume.{Below, Firm, Goes, Kept, Passes, Settled}
 pub use Rattle.rio_base.specs.declared.failures.VolFail.{VolFail}
 pub use Rattle.rio_base.specs.declared.places.Block.{Block}
 pub use Rattle.rio_base.specs.declared.places.Ino.{Ino}
 pub use Rattle.rio_base.specs.declared.places.PageName.{PageName}
 pub use Rattle.rio_base.specs.declared.places.VolumeShape.{VolumeShape}
 pub use Rattle.rio_model.proofs.FreeByState.{free_by_state}
-pub use Rattle.rio_model.proofs.HeldRules.{counts_of, same_held}
+pub use Rattle.rio_model.proofs.HeldRules.{same_held}
 pub use Rattle.rio_model.proofs.NameOrder.{name_get_other, name_get_same}
-pub use Rattle.rio_model.proofs.PlacedRules.{SameLayout, cases_lt, has_same, inode_low, lays_agree, lays_same, lays_self, lies_self, node_fits, owned_below, owned_on}
+pub use Rattle.rio_model.proofs.PlacedRules.{SameLayout, has_same, inode_low, lays_agree, lays_same, lays_self, lies_self, node_fits, owned_below, owned_on}
 pub use Rattle.rio_model.proofs.StateSteps.{get_here, get_there}
 pub use Rattle.rio_model.proofs.VolumeReadRules.{held_of_agree, reads_agree, reads_dir, reads_file, reads_none, reads_region}
-pub use Rattle.rio_model.proofs.WordRules.{differs, itself, run_same_but}
+pub use Rattle.rio_model.proofs.WordRules.{differs}
 pub use Rattle.rio_model.specs.FileParts.{resized}
 pub use Rattle.rio_model.specs.Heap.{IsSoundRegion}
 pub use Rattle.rio_model.specs.Held.{HasEntry, Held, entry_ino, entry_name, held, held_bytes, held_of, nothing}
@@ -66,9 +64,8 @@ pub use Rattle.rio_model.specs.NodeChanges.{Available, Change}
 pub use Rattle.rio_model.specs.Paths.{IsName, IsPath, from_found, is_dir, names_of, slashed, walk, walk_to_dir}
 pub use Rattle.rio_model.specs.Placed.{Agrees, AtPage, AtTable, HasSlot, IsFree, Layout, Owned, Owns, Placed, Slot, placed_at, volume_layout}
 pub use Rattle.rio_model.specs.PlacedRules.{SamePlaced}
-pub use Rattle.rio_model.specs.Sizes.{blocks_for, data_pages, free_count, largest_size, pages}
-pub use Rattle.rio_model.specs.States.{front_of, last_of, least_free, names_in, with_new, with_node}
-pub use Rattle.rio_model.specs.Undo.{region_words}
+pub use Rattle.rio_model.specs.Sizes.{blocks_for, free_count, largest_size, pages}
+pub use Rattle.rio_model.specs.States.{front_of, last_of, names_in, with_new, with_node}
 pub use Rattle.rio_model.specs.Updates.{Applied}
 pub use Rattle.rio_model.specs.VolumeReads.{Reads, ReadsAs, node_in, region_in}
 pub use Rattle.rio_model.specs.VolumeRules.{EntryRule, IsMapped, NamesApartRule, NodeFits, TreeRule, bitmap_bits}
@@ -76,7 +73,7 @@ pub use Rattle.rio_model.specs.declared.node.Node.{Node}
 pub use Rattle.rio_model.specs.declared.node.Node.TheVariants.{File, Region}
 pub use Rattle.rio_model.specs.declared.state.State.{State}
 pub use Rattle.rio_requests.specs.Answer.{answered, at_inode, on_file, refused}
-pub use Rattle.rio_requests.specs.Answers.{at_row, empty_node, found, is_below, is_open, make_new, moved, new_region, replaced, row_wanted, truncate_in, with_room, with_size, without}
+pub use Rattle.rio_requests.specs.Answers.{found, is_below, make_new, row_wanted, truncate_in, with_room, with_size}
 pub use Rattle.rio_requests.specs.Parts.{NoneDone, WriteDone}
 pub use Rattle.rio_requests.specs.declared.answered.Answered.{Answered}
 pub use Rattle.rio_requests.specs.declared.reply.Reply.{Reply}

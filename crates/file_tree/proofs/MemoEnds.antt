@@ -1,8 +1,7 @@
 -- What is held in memory is in step with the blocks after a request, however it ends, unless the machine is stopped.
-use Rattle.file_tree.proofs.Common.{◌≡◌, ◌≢◌, ℕ, ◌==◌, ◌||◌, Bool, true, false, cond, List, refl, sym, ap, ◌∙◌, Result, Ok, Err, Some, None, IsErrOf, none-some, nat_lt, Decides-eqb, true_false, get, VolumeShape, BlockWords, Seen, Kept, NameKey, Node, State, Answered, Reply, answered, refused, with_room, with_new, moved, replaced, make_new, is_dir, is_open, ReadsAs, reads_agree, free_count, Number}
+use Rattle.file_tree.proofs.Common.{◌≡◌, ℕ, Bool, true, false, cond, List, refl, sym, ap, ◌∙◌, Result, Ok, Err, Some, IsErrOf, nat_lt, true_false, get, VolumeShape, BlockWords, Seen, Kept, Node, State, Answered, Reply, answered, refused, with_room, with_new, make_new, ReadsAs, reads_agree, free_count, Number}
 use Rattle.std.specs.Prelude.{is_err}
-use Rattle.rio_requests.specs.declared.reply.Reply.TheVariants.{Ok as Done, Err as RefusedBy}
-use Rattle.rio_requests.specs.Answers.{move_row, replace_row}
+use Rattle.rio_requests.specs.declared.reply.Reply.TheVariants.{Err as RefusedBy}
 use Rattle.file_tree.specs.Ends.{FileEnds}
 use Rattle.file_tree.specs.Memos.{InStep, StayThere}
 use Rattle.file_tree.specs.declared.failures.FileFail.{FileFail}
@@ -61,56 +60,12 @@ was_done {T = T} says shape x k y j s a leads r ok ends = done_as T says shape x
 number_refused : (i c : ℕ) (reply : Reply) → reply ≡ Number i → Some (RefusedBy c) ≡ Some reply → ⊥
 number_refused i c reply is e = cc
 
-done_refused : (c : ℕ) (reply : Reply) → reply ≡ Done → Some (RefusedBy c) ≡ Some reply → ⊥
-done_refused c reply is e = cc
-
 room_by : (s : State) (a : Answered) (reply : Reply) (b : Bool) → (cond b (refused s 11) a).reply ≡ Some reply → (Some (RefusedBy 11) ≡ Some reply → ⊥) → (cond b (refused s 11) a).next ≡ a.next
 room_by s a reply true told other = absurd (other told)
 room_by s a reply false told other = refl
 
-room_next : (s : State) (wants : ℕ) (a : Answered) (reply : Reply) → (with_room s wants a).reply ≡ Some reply → (Some (RefusedBy 11) ≡ Some reply → ⊥) → (with_room s wants a).next ≡ a.next
+pub room_next : (s : State) (wants : ℕ) (a : Answered) (reply : Reply) → (with_room s wants a).reply ≡ Some reply → (Some (RefusedBy 11) ≡ Some reply → ⊥) → (with_room s wants a).next ≡ a.next
 room_next s wants a reply told other = room_by s a reply (nat_lt (free_count s) wants) told other
 
 pub new_next : (s : State) (dir : ℕ) (name : List ℕ) (i : ℕ) (n : Node) (reply : Reply) → (make_new s dir name n (Some i)).reply ≡ Some reply → reply ≡ Number i → (make_new s dir name n (Some i)).next ≡ with_new s dir name i n
 new_next s dir name i n reply told said = room_next s _ (answered (with_new s dir name i n) (Number i)) reply told (number_refused i 11 reply said)
-
-pub move_next : (s : State) (dir : ℕ) (name : List ℕ) (to_dir : ℕ) (to : List ℕ) (i : ℕ) (reply : Reply) → (move_row s dir name to_dir to i).reply ≡ Some reply → reply ≡ Done → (move_row s dir name to_dir to i).next ≡ moved s dir name to_dir to i
-move_next s dir name to_dir to i reply told said = room_next s _ (answered (moved s dir name to_dir to i) Done) reply told (done_refused 11 reply said)
-
--- over a row of another node, the two being no directories and the other one no open region
-abbrev over : State → State → Bool → Bool → Bool → Answered
-over s t same dirs busy = cond same (answered s Done) (cond dirs (refused s 3) (cond busy (refused s 13) (answered t Done)))
-
-over_next : (s t : State) (reply : Reply) (dirs busy : Bool) → (over s t false dirs busy).reply ≡ Some reply → reply ≡ Done → (over s t false dirs busy).next ≡ t
-over_next s t reply true busy told said = absurd (done_refused 3 reply said told)
-over_next s t reply false true told said = absurd (done_refused 13 reply said told)
-over_next s t reply false false told said = refl
-
-apart_test : (i j : ℕ) (b : Bool) → (i == j) ≡ b → i ≢ j → b ≡ false
-apart_test i j true is apart = absurd (apart ((Decides-eqb i j).0 is))
-apart_test i j false is apart = refl
-
-pub replace_next : (s : State) (busy : List ℕ) (dir : ℕ) (name : List ℕ) (to_dir : ℕ) (to : List ℕ) (i j : ℕ) (reply : Reply) → i ≢ j → (replace_row s busy dir name to_dir to i j).reply ≡ Some reply → reply ≡ Done → (replace_row s busy dir name to_dir to i j).next ≡ replaced s dir name to_dir to i j
-replace_next s busy dir name to_dir to i j reply apart told said =
-    let t = replaced s dir name to_dir to i j in
-    let dirs = is_dir (get s.nodes i) || is_dir (get s.nodes j) in
-    let held = is_open busy j (get s.nodes j) in
-    let other : (i == j) ≡ false = apart_test i j (i == j) refl apart in
-    ap (λ b. (over s t b dirs held).next) other ∙ over_next s t reply dirs held (sym (ap (λ b. (over s t b dirs held).reply) other) ∙ told) said
-
--- over itself
-pub replace_same : (s : State) (busy : List ℕ) (dir : ℕ) (name : List ℕ) (to_dir : ℕ) (to : List ℕ) (i j : ℕ) → i ≡ j → (replace_row s busy dir name to_dir to i j).next ≡ s
-replace_same s busy dir name to_dir to i j same = ap (λ b. (over s (replaced s dir name to_dir to i j) b (is_dir (get s.nodes i) || is_dir (get s.nodes j)) (is_open busy j (get s.nodes j))).next) ((Decides-eqb i j).1 same)
-
--- ---- two names
-
--- a name that there is and one that there is not
-pub two_free : (s : State) (k q : NameKey) (i : ℕ) → get s.names k ≡ Some i → get s.names q ≡ None → q ≢ k
-two_free s k q i there free same = none-some i (sym free ∙ ap (get s.names) same ∙ there)
-
--- names of two nodes
-pub two_nodes : (s : State) (k q : NameKey) (i j : ℕ) → get s.names k ≡ Some i → get s.names q ≡ Some j → i ≢ j → q ≢ k
-two_nodes s k q i j first second apart same = apart (some_one i j (sym first ∙ ap (get s.names) (sym same) ∙ second))
-  where
-    some_one : (a b : ℕ) → Some a ≡ Some b → a ≡ b
-    some_one a b e = cc

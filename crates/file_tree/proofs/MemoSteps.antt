@@ -1,5 +1,5 @@
 -- What is held in memory stays in step with the blocks, while they change.
-use Rattle.file_tree.proofs.Common.{◌≡◌, ◌≢◌, ℕ, ◌*◌, ◌<◌, ◌⊎◌, List, Option, refl, sym, ap, subst, ◌∙◌, arith, inl, inr, None, Some, none-some, get, insert, cases_eq, VolumeShape, BlockWords, IsIno, inode_kind, State, NameKey, Names, Node, HasEntry, Held, entry_ino, entry_name, held_of, reads_none, ReadsAs, HasRow, true_false, get_here, get_there, replaced, with_new, with_node, without}
+use Rattle.file_tree.proofs.Common.{◌≡◌, ◌≢◌, ℕ, ◌*◌, ◌<◌, ◌⊎◌, List, Option, refl, sym, ap, subst, ◌∙◌, arith, inl, inr, None, Some, none-some, get, insert, cases_eq, VolumeShape, BlockWords, IsIno, inode_kind, State, NameKey, Names, Node, HasEntry, Held, entry_ino, entry_name, held_of, reads_none, ReadsAs, HasRow, true_false, get_here, get_there, with_new, with_node}
 use Rattle.std.specs.Prelude.{is_none}
 use Rattle.rio_model.specs.RegionMoves.{RestHeld}
 use Rattle.rio_model.specs.VolumeReads.{Reads}
@@ -14,7 +14,6 @@ use Rattle.file_tree.specs.declared.last_path.LastPath.{LastPath}
 use Rattle.file_tree.specs.declared.memo.Memo.{Memo}
 use Rattle.file_tree.proofs.FreeFound.{free_held, used_node}
 use Rattle.file_tree.proofs.LookedAt.{row_read}
-use Rattle.file_tree.proofs.NameSteps.{gone_there}
 use Rattle.region_view.proofs.UsedInodes.{kind_held}
 use Rattle.file_tree.proofs.WalksHeld.{leads_on}
 
@@ -93,12 +92,6 @@ stay_with s i n = λ j none. by j none (cases_eq j i)
 
 pub stay_new : (s : State) (dir : ℕ) (name : List ℕ) (i : ℕ) (n : Node) → StayThere s (with_new s dir name i n)
 stay_new s dir name i n = stay_with s i n
-
-pub stay_without : (s : State) (dir : ℕ) (name : List ℕ) (i : ℕ) → StayBut i s (without s dir name i)
-stay_without s dir name i = λ j away none. sym (gone_there s.nodes i j away) ∙ none
-
-pub stay_replaced : (s : State) (dir : ℕ) (name : List ℕ) (to_dir : ℕ) (to_name : List ℕ) (i over : ℕ) → StayBut over s (replaced s dir name to_dir to_name i over)
-stay_replaced s dir name to_dir to_name i over = λ j away none. sym (gone_there s.nodes over j away) ∙ none
 
 -- ---- a directory whose rows are held
 

@@ -1,5 +1,5 @@
 -- The names of a path, by its bytes.
-use Rattle.file_tree.proofs.Common.{◌≡◌, ◌≢◌, ◌==◌, ℕ, suc, ◌+◌, ◌-◌, ◌<◌, ◌≤◌, ◌⊎◌, true, List, [], ◌∷◌, ◌++◌, length, take, drop, get_or, Option, refl, sym, ap, subst, ◌∙◌, arith, inl, inr, append-nil, append_assoc, All, slice_index, Decides-eqb, drop_more, length-append, take-append-drop, pieces, front_of, last_of, IsName, IsPath, names_of, slashed, differs}
+use Rattle.file_tree.proofs.Common.{◌≡◌, ◌≢◌, ◌==◌, ℕ, suc, ◌+◌, ◌-◌, ◌<◌, ◌≤◌, ◌⊎◌, true, List, [], ◌∷◌, ◌++◌, length, take, drop, get_or, Option, refl, sym, ap, subst, ◌∙◌, arith, inl, inr, append-nil, append_assoc, All, slice_index, Decides-eqb, drop_more, length-append, take-append-drop, pieces, front_of, last_of, IsName, IsPath, names_of, slashed, differs, found}
 use Rattle.std.proofs.Common.{Some, None}
 use Rattle.std.specs.Option.{unwrap_or}
 use Rattle.std.proofs.Math.Seq.{drop-append-add, take-append_seam, get_or-append_seam}
@@ -10,7 +10,6 @@ use Rattle.memchr.specs.Find.{IsFirstByte, IsLastByte, is_byte}
 use Rattle.rio_base.specs.Pieces.{Lacks}
 use Rattle.rio_model.specs.Paths.{AreNames}
 use Rattle.rio_model.proofs.PathPieces.{pieces_first, pieces_whole}
-use Rattle.file_tree.proofs.WalkRules.{split_last}
 
 -- ---- bytes without a slash
 
@@ -103,6 +102,13 @@ named_all path (inr (names, are, some, few)) = subst (All IsName) (sym (names_ar
 pub slashed_append : (a b : List (List ℕ)) → slashed (a ++ b) ≡ slashed a ++ slashed b
 slashed_append [] b = refl
 slashed_append (n ∷ a) b = ap (λ xs. 47 ∷ (n ++ xs)) (slashed_append a b) ∙ ap (λ xs. 47 ∷ xs) (sym (append_assoc n (slashed a) (slashed b)))
+
+-- names, up to the last one
+pub split_last : (q : List (List ℕ)) → 0 < length q → q ≡ front_of q ++ last_of q ∷ []
+split_last q some =
+    sym (take-append-drop (length q - 1) q)
+    ∙ ap (λ x. front_of q ++ x) (drop_more q (length q - 1) [] (omega (arith, some)))
+    ∙ ap (λ x. front_of q ++ last_of q ∷ x) (drop_all (length q - 1 + 1) q (omega (arith, some)))
 
 -- a path, cut before its last name
 pub path_cut : (path : List ℕ) → IsPath path → 0 < length (names_of path) → path ≡ slashed (front_of (names_of path)) ++ 47 ∷ last_of (names_of path)

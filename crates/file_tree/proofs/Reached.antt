@@ -1,25 +1,17 @@
--- The state that is read once the changes of a request are made, for each list of changes that a request makes.
-use Rattle.file_tree.proofs.Common.{◌≡◌, ◌≢◌, ℕ, ◌<◌, ◌≤◌, ◌⊎◌, true, List, [], ◌∷◌, map, refl, sym, ap, subst, ◌∙◌, arith, inl, inr, None, nat_lt, get, cases_eq, nat_tests, Block, PageName, VolumeShape, BlockWords, Seen, IsIno, Kept, numbers, State, with_new, Held, held_of, held_ino, IsName, is_dir, Placed, placed_at, volume_layout, SamePlaced, Applied, held_of_agree, reads_dir, reads_none, ReadsAs, LeavesInUse, Ready, IsMapped, TreeRule, node_blocks, ready_left, InOrder, PlansDir, AddsRow, RemovesRow, ReplacesRow, SetsRow, IsEntry, DirChange, empty_node, moved, without}
+-- What the changes of a request suppose once all is prepared and its blocks are touched, and what is reached by them.
+use Rattle.file_tree.proofs.Common.{◌≡◌, ◌≢◌, ℕ, ◌⊎◌, List, map, ap, ◌∙◌, inl, inr, None, PageName, VolumeShape, BlockWords, Seen, Kept, State, Held, held_of, volume_layout, held_of_agree, ReadsAs, LeavesInUse, Ready, IsMapped, ready_left, InOrder}
 use Rattle.region_view.proofs.UsedInodes.{kind_held}
-use Rattle.std.specs.Prelude.{Option, cond}
+use Rattle.std.specs.Prelude.{Option}
 use Rattle.rio_model.proofs.LowestBlocks.{bits_agree}
 use Rattle.rio_model.proofs.PlacedRules.{root_ino}
 use Rattle.rio_model.specs.NodeChanges.{UsesLowest}
-use Rattle.file_tree.specs.Changes.{AllApplied, IsGone, IsMade, IsTouchedBy, change_update, of_dir}
+use Rattle.file_tree.specs.Changes.{AllApplied, IsTouchedBy, change_update}
 use Rattle.file_tree.specs.Committing.{Touched}
-use Rattle.file_tree.proofs.EmptyHeld.{empty_held}
-use Rattle.file_tree.proofs.ReadSteps.{DropsRow, MakesRow, RenamesRow, gone_as, made_as, renamed_as}
-use Rattle.file_tree.proofs.ReadTrees.{rows_fit}
-use Rattle.file_tree.proofs.TreeRules.{RowsFit, tree_new}
 use Rattle.file_tree.specs.declared.changes.NodeChange.{NodeChange}
-use Rattle.file_tree.proofs.Blocks.{still_all, still_own}
 use Rattle.file_tree.proofs.Ended.{Reaches}
 use Rattle.file_tree.proofs.Fitting.{AllFit, freed_above, freed_out, may_touch}
 use Rattle.file_tree.proofs.LowestTaken.{TakesLowest, uses_lowest}
-use Rattle.file_tree.proofs.Steps.{Steps, gone_step, made_step, order_start}
-use Rattle.file_tree.proofs.Stood.{Stood, stood_step}
-
--- ---- what all of them suppose
+use Rattle.file_tree.proofs.Steps.{order_start}
 
 -- x and k are before the request, y and j are the volume once all is prepared, and z once the update has touched its blocks
 pub record Prepared (shape : VolumeShape) (x : Seen) (k : Kept) (y : Seen) (j : Kept) (z : Seen) (changes : List NodeChange) : Type 0 where
@@ -48,22 +40,8 @@ unnamed_touch changes b name t = t.1
 pub lowest_now : (shape : VolumeShape) (x : Seen) (k : Kept) (y : Seen) (j : Kept) (z : Seen) (changes : List NodeChange) (g : BlockWords) → Prepared shape x k y j z changes → AllApplied shape (map change_update changes) y.words g → UsesLowest shape x.words g
 lowest_now shape x k y j z changes g p applied = uses_lowest shape x.words y.words g changes p.ready.order.mapped.laid.shape_fits (bits_agree shape x.words y.words p.ready.order.mapped.laid.shape_fits p.leaves.words.low) p.fits p.lowest applied
 
--- kinds that differ
-pub apart_kinds : (shape : VolumeShape) (f : BlockWords) (i d a b : ℕ) → (held_of shape f i).kind ≡ a → (held_of shape f d).kind ≡ b → a ≢ b → i ≢ d
-apart_kinds shape f i d a b ki kd other same = other (sym ki ∙ ap (λ n. (held_of shape f n).kind) same ∙ kd)
-
 pub root_held : (shape : VolumeShape) (f : BlockWords) → IsMapped shape f → (held_of shape f 1).kind ≡ 1
 root_held shape f mapped = kind_held shape f 1 (root_ino shape mapped.laid.shape_fits) ∙ mapped.laid.kinds.root
-
--- a directory of the state, and an unused inode
-dir_read : (shape : VolumeShape) (f : BlockWords) (s : State) (d : ℕ) → ReadsAs shape f s → (held_of shape f d).kind ≡ 1 → is_dir (get s.nodes d) ≡ true
-dir_read shape f s d reads dir = ap is_dir (reads.reads.nodes d ∙ reads_dir (held_of shape f d) dir)
-
-pub unused_read : (shape : VolumeShape) (f : BlockWords) (s : State) (i : ℕ) → ReadsAs shape f s → (held_of shape f i).kind ≡ 0 → get s.nodes i ≡ None
-unused_read shape f s i reads free = reads.reads.nodes i ∙ reads_none (held_of shape f i) free
-
-pub fit_read : (shape : VolumeShape) (f : BlockWords) (s : State) → ReadsAs shape f s → RowsFit s
-fit_read shape f s reads = rows_fit _ s reads.reads reads.entries
 
 -- what is reached, once its parts are known
 pub reached : (shape : VolumeShape) (x : Seen) (k : Kept) (y : Seen) (j : Kept) (z : Seen) (changes : List NodeChange) (g : BlockWords) (t : State) → Prepared shape x k y j z changes → AllApplied shape (map change_update changes) y.words g → InOrder shape g z j → ReadsAs shape g t → ((n : ℕ) → (held_of shape g n ≡ held_of shape x.words n) ⊎ ((held_of shape g n).kind ≢ 3)) → Reaches shape x.words z j changes g t
@@ -75,156 +53,3 @@ reached shape x k y j z changes g t p applied order reads stays = record {
   out = freed_out shape y.words g changes (mapped_now shape x k y j z changes p) order.mapped p.fits applied;
   above = freed_above shape y.words changes (mapped_now shape x k y j z changes p) p.fits;
 }
-
--- ---- a row and a node made
-
-pub reaches_made : (shape : VolumeShape) (x : Seen) (k : Kept) (y : Seen) (j : Kept) (z : Seen) (s : State) (d : ℕ) (name : List ℕ) (i kind : ℕ) (c : DirChange) (m : NodeChange) (g : BlockWords) → Prepared shape x k y j z (of_dir c ∷ m ∷ []) → ReadsAs shape x.words s → Stood shape x y j d (AddsRow name i) c → IsMade i kind m → IsIno shape d → IsIno shape i → (held_of shape x.words d).kind ≡ 1 → (held_of shape x.words i).kind ≡ 0 → (kind ≡ 1) ⊎ (kind ≡ 2) → IsName name → get s.names (d, name) ≡ None → AllApplied shape (map change_update (of_dir c ∷ m ∷ [])) y.words g → Reaches shape x.words z j (of_dir c ∷ m ∷ []) g (with_new s d name i (empty_node kind))
-reaches_made shape x k y j z s d name i kind c m g p reads plan made dno ino dir free which named absent (h, a1, (h2, a2, e)) =
-    reached shape x k y j z changes g _ p (h, a1, (h2, a2, e)) order
-    (made_as shape x.words g s d name i kind reads order.mapped (tree_new s d name i (empty_node kind) (fit_read shape x.words s reads) reads.tree (dir_read shape x.words s d reads dir) absent (unused_read shape x.words s i reads free)) absent named makes)
-    stays
-  where
-    changes : List NodeChange
-    changes = of_dir c ∷ m ∷ []
-
-    away : i ≢ d
-    away = apart_kinds shape x.words i d 0 1 free dir (λ e. (let f : 0 ≡ 1 = e in omega (arith, f)))
-
-    few : kind ≤ 2
-    few = elim which [ inl one ↦ omega (arith, one) | inr two ↦ omega (arith, two) ]
-
-    first : Steps shape y.words h d z j × AddsRow name i (held_of shape x.words d) (held_of shape h d)
-    first = stood_step shape x y j d (AddsRow name i) c (IsTouchedBy changes) z y.words h plan (unnamed_touch changes) p.touched.caches (order_now shape x k y j z changes p) (held_now shape x k y j z changes p d) plan.may a1
-
-    free_now : (placed_at h i).kind ≡ 0
-    free_now = sym (kind_held shape h i ino) ∙ ap (λ (n : Held). n.kind) (first.0.others i away ∙ held_now shape x k y j z changes p i) ∙ free
-
-    second : Steps shape h h2 i z j × (held_of shape h2 i ≡ empty_held kind)
-    second = made_step shape h h2 i kind m z j first.0.order made ino (apart_kinds shape x.words i 1 0 1 free (root_held shape x.words p.ready.order.mapped) (λ e. (let f : 0 ≡ 1 = e in omega (arith, f)))) free_now few a2
-
-    order : InOrder shape g z j
-    order = subst (λ f. InOrder shape f z j) (sym e) second.0.order
-
-    others : (n : ℕ) → n ≢ d → n ≢ i → held_of shape h2 n ≡ held_of shape x.words n
-    others n off_d off_i = second.0.others n off_i ∙ first.0.others n off_d ∙ held_now shape x k y j z changes p n
-
-    makes : MakesRow (held_of shape x.words) (held_of shape g) d name i kind
-    makes = subst (λ f. MakesRow (held_of shape x.words) (held_of shape f) d name i kind) (sym e) (record {
-      dir = dir;
-      free = free;
-      dir_or_file = which;
-      row = subst (AddsRow name i (held_of shape x.words d)) (sym (second.0.others d (λ same. away (sym same)))) first.1;
-      made = second.1;
-      others = others;
-    })
-
-    stays : (n : ℕ) → (held_of shape g n ≡ held_of shape x.words n) ⊎ ((held_of shape g n).kind ≢ 3)
-    stays n = subst (λ f. (held_of shape f n ≡ held_of shape x.words n) ⊎ ((held_of shape f n).kind ≢ 3)) (sym e) (by (cases_eq n d) (cases_eq n i))
-      where
-        by : (n ≡ d) ⊎ (n ≢ d) → (n ≡ i) ⊎ (n ≢ i) → (held_of shape h2 n ≡ held_of shape x.words n) ⊎ ((held_of shape h2 n).kind ≢ 3)
-        by (inl on) _ = inr (λ three. (let one : (held_of shape h2 n).kind ≡ 1 = ap (λ q. (held_of shape h2 q).kind) on ∙ ap (λ (q : Held). q.kind) (second.0.others d (λ same. away (sym same))) ∙ first.1.dir in omega (arith, one, three)))
-        by (inr off) (inl on) = inr (λ three. (let low : (held_of shape h2 n).kind ≡ kind = ap (λ q. (held_of shape h2 q).kind) on ∙ ap (λ (q : Held). q.kind) second.1 in omega (arith, low, three, few)))
-        by (inr off) (inr off_i) = inl (others n off off_i)
-
--- ---- a row less, and its node
-
--- a directory's size once a plan is made
-plan_size : (shape : VolumeShape) (f : BlockWords) (y : Seen) (j : Kept) (d : ℕ) (becomes : Held → Held → Type 0) (c : DirChange) (p : PlansDir shape f y j d becomes c) → IsIno shape d → p.holds.size ≤ (held_of shape f d).size → p.node.size ≤ (placed_at f d).size
-plan_size shape f y j d becomes c p ino less =
-    let made = ap (λ (h : Held). h.size) (p.made y.words (λ s has w. refl)) in
-    let now : p.node.size ≡ p.holds.size = sym (counted p.node p.is_dir) ∙ made in
-    let was : (held_of shape f d).size ≡ (placed_at f d).size = ap (λ (h : Held). h.size) (held_ino (volume_layout shape f) f d ino) ∙ counted (placed_at f d) p.was_dir in
-    omega (arith, now, was, less)
-  where
-    counted : (n : Placed) → n.kind ≡ 1 → cond (nat_lt 0 n.kind) n.size 0 ≡ n.size
-    counted n dir = let test : nat_lt 0 n.kind ≡ true = grind (arith, nat_tests, dir) in ap (λ b. cond b n.size 0) test
-
-pub less_removed : (shape : VolumeShape) (x y : Seen) (j : Kept) (d slot : ℕ) (c : DirChange) (h : Stood shape x y j d (RemovesRow slot) c) → IsIno shape d → h.plan.node.size ≤ (placed_at h.was d).size
-less_removed shape x y j d slot c h ino = plan_size shape h.was h.seen h.kept d (RemovesRow slot) c h.plan ino (let e = h.plan.does.sized in omega (arith, e))
-
-pub less_set : (shape : VolumeShape) (x y : Seen) (j : Kept) (d slot : ℕ) (name : List ℕ) (i : ℕ) (c : DirChange) (h : Stood shape x y j d (SetsRow slot name i) c) → IsIno shape d → h.plan.node.size ≤ (placed_at h.was d).size
-less_set shape x y j d slot name i c h ino = plan_size shape h.was h.seen h.kept d (SetsRow slot name i) c h.plan ino (let e = h.plan.does.sized in omega (arith, e))
-
-pub less_replaced : (shape : VolumeShape) (x y : Seen) (j : Kept) (d slot i last : ℕ) (c : DirChange) (h : Stood shape x y j d (ReplacesRow slot i last) c) → IsIno shape d → h.plan.node.size ≤ (placed_at h.was d).size
-less_replaced shape x y j d slot i last c h ino = plan_size shape h.was h.seen h.kept d (ReplacesRow slot i last) c h.plan ino (let e = h.plan.does.sized in omega (arith, e))
-
--- a node goes after rows of directory d changed
-pub gone_after : (shape : VolumeShape) (x : Seen) (k : Kept) (y : Seen) (j : Kept) (z : Seen) (changes : List NodeChange) (i : ℕ) (blocks : List Block) (m : NodeChange) (h h2 : BlockWords) → Prepared shape x k y j z changes → InOrder shape h z j → SamePlaced (placed_at y.words i) (placed_at h i) → IsGone i blocks m → IsIno shape i → i ≢ 1 → 0 < (held_of shape x.words i).kind → numbers blocks ≡ node_blocks (placed_at y.words i) → Applied shape (change_update m) h h2 → Steps shape h h2 i z j × (held_of shape h2 i ≡ empty_held 0)
-gone_after shape x k y j z changes i blocks m h h2 p order lies gone ino other used is a =
-    gone_step shape h h2 i blocks m z j order gone ino other (still_all (placed_at y.words i) (placed_at h i) blocks is lies)
-    (still_own (placed_at y.words i) (placed_at h i) blocks is lies (let k = sym (kind_held shape y.words i ino) ∙ ap (λ (n : Held). n.kind) (held_now shape x k y j z changes p i) in omega (arith, k, used))) a
-
-pub reaches_gone : (shape : VolumeShape) (x : Seen) (k : Kept) (y : Seen) (j : Kept) (z : Seen) (s : State) (d slot : ℕ) (name : List ℕ) (i : ℕ) (blocks : List Block) (c : DirChange) (m : NodeChange) (g : BlockWords) → Prepared shape x k y j z (of_dir c ∷ m ∷ []) → ReadsAs shape x.words s → Stood shape x y j d (RemovesRow slot) c → IsGone i blocks m → numbers blocks ≡ node_blocks (placed_at y.words i) → IsIno shape d → IsIno shape i → (held_of shape x.words d).kind ≡ 1 → IsEntry (held_of shape x.words d) slot name i → 0 < (held_of shape x.words i).kind → ((held_of shape x.words i).kind ≡ 1 → (held_of shape x.words i).size ≡ 0) → TreeRule (without s d name i) → i ≢ 1 → i ≢ d → AllApplied shape (map change_update (of_dir c ∷ m ∷ [])) y.words g → Reaches shape x.words z j (of_dir c ∷ m ∷ []) g (without s d name i)
-reaches_gone shape x k y j z s d slot name i blocks c m g p reads plan gone is dno ino dir entry used bare tree other away (h, a1, (h2, a2, e)) =
-    reached shape x k y j z changes g _ p (h, a1, (h2, a2, e)) order (gone_as shape x.words g s d slot name i reads order.mapped tree drops) stays
-  where
-    changes : List NodeChange
-    changes = of_dir c ∷ m ∷ []
-
-    first : Steps shape y.words h d z j × RemovesRow slot (held_of shape x.words d) (held_of shape h d)
-    first = stood_step shape x y j d (RemovesRow slot) c (IsTouchedBy changes) z y.words h plan (unnamed_touch changes) p.touched.caches (order_now shape x k y j z changes p) (held_now shape x k y j z changes p d) plan.may a1
-
-    second : Steps shape h h2 i z j × (held_of shape h2 i ≡ empty_held 0)
-    second = gone_after shape x k y j z changes i blocks m h h2 p first.0.order (first.0.lies i ino away) gone ino other used is a2
-
-    order : InOrder shape g z j
-    order = subst (λ f. InOrder shape f z j) (sym e) second.0.order
-
-    others : (n : ℕ) → n ≢ d → n ≢ i → held_of shape h2 n ≡ held_of shape x.words n
-    others n off_d off_i = second.0.others n off_i ∙ first.0.others n off_d ∙ held_now shape x k y j z changes p n
-
-    drops : DropsRow (held_of shape x.words) (held_of shape g) d slot name i
-    drops = subst (λ f. DropsRow (held_of shape x.words) (held_of shape f) d slot name i) (sym e) (record {
-      dir = dir;
-      entry = entry;
-      bare = bare;
-      row = subst (RemovesRow slot (held_of shape x.words d)) (sym (second.0.others d (λ same. away (sym same)))) first.1;
-      gone = second.1;
-      others = others;
-    })
-
-    stays : (n : ℕ) → (held_of shape g n ≡ held_of shape x.words n) ⊎ ((held_of shape g n).kind ≢ 3)
-    stays n = subst (λ f. (held_of shape f n ≡ held_of shape x.words n) ⊎ ((held_of shape f n).kind ≢ 3)) (sym e) (by (cases_eq n d) (cases_eq n i))
-      where
-        by : (n ≡ d) ⊎ (n ≢ d) → (n ≡ i) ⊎ (n ≢ i) → (held_of shape h2 n ≡ held_of shape x.words n) ⊎ ((held_of shape h2 n).kind ≢ 3)
-        by (inl on) _ = inr (λ three. (let one : (held_of shape h2 n).kind ≡ 1 = ap (λ q. (held_of shape h2 q).kind) on ∙ ap (λ (q : Held). q.kind) (second.0.others d (λ same. away (sym same))) ∙ first.1.dir in omega (arith, one, three)))
-        by (inr off) (inl on) = inr (λ three. (let low : (held_of shape h2 n).kind ≡ 0 = ap (λ q. (held_of shape h2 q).kind) on ∙ ap (λ (q : Held). q.kind) second.1 in omega (arith, low, three)))
-        by (inr off) (inr off_i) = inl (others n off off_i)
-
--- ---- a row of another name in its slot
-
--- names of cached pages are right once it is made, whatever the names come to
-pub order_renamed : (shape : VolumeShape) (x : Seen) (k : Kept) (y : Seen) (j : Kept) (z : Seen) (d slot : ℕ) (b : List ℕ) (i : ℕ) (c : DirChange) (g : BlockWords) → Prepared shape x k y j z (of_dir c ∷ []) → Stood shape x y j d (SetsRow slot b i) c → AllApplied shape (map change_update (of_dir c ∷ [])) y.words g → InOrder shape g z j
-order_renamed shape x k y j z d slot b i c g p plan (h, a1, e) = subst (λ f. InOrder shape f z j) (sym e) first.0.order
-  where
-    changes : List NodeChange
-    changes = of_dir c ∷ []
-
-    first : Steps shape y.words h d z j × SetsRow slot b i (held_of shape x.words d) (held_of shape h d)
-    first = stood_step shape x y j d (SetsRow slot b i) c (IsTouchedBy changes) z y.words h plan (unnamed_touch changes) p.touched.caches (order_now shape x k y j z changes p) (held_now shape x k y j z changes p d) plan.may a1
-
-pub reaches_renamed : (shape : VolumeShape) (x : Seen) (k : Kept) (y : Seen) (j : Kept) (z : Seen) (s : State) (d slot : ℕ) (a b : List ℕ) (i : ℕ) (c : DirChange) (g : BlockWords) → Prepared shape x k y j z (of_dir c ∷ []) → ReadsAs shape x.words s → Stood shape x y j d (SetsRow slot b i) c → (held_of shape x.words d).kind ≡ 1 → IsEntry (held_of shape x.words d) slot a i → IsName b → get s.names (d, b) ≡ None → TreeRule (moved s d a d b i) → AllApplied shape (map change_update (of_dir c ∷ [])) y.words g → Reaches shape x.words z j (of_dir c ∷ []) g (moved s d a d b i)
-reaches_renamed shape x k y j z s d slot a b i c g p reads plan dir entry named absent tree (h, a1, e) =
-    reached shape x k y j z changes g _ p (h, a1, e) order (renamed_as shape x.words g s d slot a b i reads order.mapped tree absent named renames) stays
-  where
-    changes : List NodeChange
-    changes = of_dir c ∷ []
-
-    first : Steps shape y.words h d z j × SetsRow slot b i (held_of shape x.words d) (held_of shape h d)
-    first = stood_step shape x y j d (SetsRow slot b i) c (IsTouchedBy changes) z y.words h plan (unnamed_touch changes) p.touched.caches (order_now shape x k y j z changes p) (held_now shape x k y j z changes p d) plan.may a1
-
-    order : InOrder shape g z j
-    order = subst (λ f. InOrder shape f z j) (sym e) first.0.order
-
-    others : (n : ℕ) → n ≢ d → held_of shape h n ≡ held_of shape x.words n
-    others n off = first.0.others n off ∙ held_now shape x k y j z changes p n
-
-    renames : RenamesRow (held_of shape x.words) (held_of shape g) d slot a b i
-    renames = subst (λ f. RenamesRow (held_of shape x.words) (held_of shape f) d slot a b i) (sym e) (record { dir = dir; entry = entry; row = first.1; others = others })
-
-    stays : (n : ℕ) → (held_of shape g n ≡ held_of shape x.words n) ⊎ ((held_of shape g n).kind ≢ 3)
-    stays n = subst (λ f. (held_of shape f n ≡ held_of shape x.words n) ⊎ ((held_of shape f n).kind ≢ 3)) (sym e) (by (cases_eq n d))
-      where
-        by : (n ≡ d) ⊎ (n ≢ d) → (held_of shape h n ≡ held_of shape x.words n) ⊎ ((held_of shape h n).kind ≢ 3)
-        by (inl on) = inr (λ three. (let one : (held_of shape h n).kind ≡ 1 = ap (λ q. (held_of shape h q).kind) on ∙ first.1.dir in omega (arith, one, three)))
-        by (inr off) = inl (others n off)

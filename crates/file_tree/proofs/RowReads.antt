@@ -1,5 +1,5 @@
 -- Rows that are held, and the names of a state: one directory at a time, and what follows of the whole.
-use Rattle.file_tree.proofs.Common.{◌≡◌, ◌≢◌, ◌==◌, ℕ, ◌/◌, ◌<◌, ◌⊎◌, Bool, true, false, cond, List, [], Option, refl, sym, ap, subst, ◌∙◌, arith, inl, inr, get, cases_eq, none-some, true_false, Ino, VolumeShape, BlockWords, Node, File, Region, State, IsSoundRegion, Held, held_of, held_bytes, entry_ino, entry_name, HasEntry, Names, IsName, is_dir, node_in, region_in, Reads, ReadsAs, reads_none, reads_dir, EntryRule, IsMapped, NamesApartRule, TreeRule, differs, Finds, HasRow, IsEntry}
+use Rattle.file_tree.proofs.Common.{◌≡◌, ◌≢◌, ◌==◌, ℕ, ◌/◌, ◌<◌, ◌⊎◌, Bool, true, false, cond, List, [], Option, refl, sym, ap, subst, ◌∙◌, arith, inl, inr, get, cases_eq, none-some, true_false, Ino, VolumeShape, BlockWords, Node, File, Region, State, IsSoundRegion, Held, held_of, held_bytes, entry_ino, entry_name, HasEntry, Names, IsName, is_dir, node_in, region_in, Reads, ReadsAs, reads_none, reads_dir, EntryRule, IsMapped, NamesApartRule, TreeRule, differs, Finds, HasRow, IsEntry, is_some, found}
 use Rattle.std.proofs.Common.{Some, None}
 use Rattle.std.proofs.lemmas.Option.{same_Some}
 use Rattle.rio_model.specs.declared.node.Node.TheVariants.{Dir}
@@ -199,3 +199,12 @@ reads_as shape f g s t r mapped sizes tree regions sound = record {
   };
   reads = sound.reads;
 }
+
+-- no row of a name that is not found
+pub none_found : (h : Held) (name : List ℕ) (o : Option (Ino × ℕ)) → Finds h name o → is_some o ≡ false → (n : ℕ) → HasRow h name n → ⊥
+none_found h name None finds e = finds
+none_found h name (Some found) finds e = absurd (true_false e)
+
+-- a directory is no region
+pub dir_not_3 : {kind : ℕ} → kind ≡ 1 → kind ≢ 3
+dir_not_3 dir is = omega (arith, dir, is)

@@ -3,8 +3,5 @@ pub mod Committing
 pub mod Ends
 pub mod Failures
 pub mod Memos
-pub mod NewNodes
-pub mod NewRegions
 pub mod Planned
-pub mod WalkRules
 pub mod Walks

@@ -1,5 +1,5 @@
-//! Requests on the tree of names over any volume: paths are walked, and nodes made, looked at, renamed and removed. A call whose
-//! name ends in `_with` is given what is held in memory of the volume, a [`Memo`].
+//! The tree of names over any volume: paths are walked by what is held in memory of it, a [`Memo`], and the changes of nodes that a
+//! request comes to are committed in one update.
 #![tactic(auto)]
 
 mod changes;
@@ -7,25 +7,19 @@ mod committing;
 mod failures;
 mod finding;
 mod last_path;
-mod looking;
-mod making;
 mod memo;
-mod moving;
-mod new_nodes;
 mod paths;
-mod regions;
-mod removing;
-mod renaming;
-mod standing;
 mod walking;
 
-pub use changes::{DIRECTORY, REGION};
-pub use failures::{FileFail, IS_A_DIRECTORY, IS_A_REGION};
-pub use looking::{list_with, stat_with};
-pub use making::{create_with, mkdir_with};
+pub use changes::{
+    DIRECTORY, FILE, NodeChange, REGION, empty_inode, node_gone, node_made, node_sized,
+};
+pub use committing::commit_planned;
+pub use failures::{
+    BUSY, EXISTS, FileFail, INSIDE_ITSELF, IS_A_DIRECTORY, IS_A_REGION, IS_ROOT, NO_INODE,
+    NOT_A_DIRECTORY, NOT_A_REGION, NOT_EMPTY, TOO_LARGE,
+};
+pub use finding::look_up_in;
 pub use memo::Memo;
-pub use regions::{make_region_with, region_of_with};
-pub use removing::{rmdir_with, unlink_with};
-pub use renaming::rename_with;
-pub use standing::stand_at_with;
-pub use walking::{inode_of, walk};
+pub use paths::{cut_last, is_below, is_root};
+pub use walking::{Row, dir_without, inode_of, node_inode, walk, walk_to_dir, walk_to_row};

@@ -23,7 +23,7 @@ pub struct Memo {
     /// Names of directories.
     pub(crate) names: NameIndex,
     /// Blocks of inodes that are full.
-    pub(crate) full: FullBlocks,
+    pub full: FullBlocks,
     /// The path that was walked last.
     pub(crate) path: LastPath,
 }
@@ -61,7 +61,7 @@ impl Memo {
     }
 
     /// Is told that a node was made under a name of a directory.
-    pub(crate) fn made(&mut self, dir: Ino, name: &[u8], i: Ino)
+    pub fn made(&mut self, dir: Ino, name: &[u8], i: Ino)
         ensures { (shape : ShapeOf) (f g : BlockWords) (s t : State) → InStep shape f self.old → ReadsAs shape f s → ReadsAs shape g t → t.names ≡ insert s.names (dir.0, name.now) i.0 → StayThere s t → InStep shape g self.new }
     {
         self.path.let_go();
@@ -69,7 +69,7 @@ impl Memo {
     }
 
     /// Is told that a name of a directory went, and the node that it named.
-    pub(crate) fn gone(&mut self, dir: Ino, name: &[u8], i: Ino)
+    pub fn gone(&mut self, dir: Ino, name: &[u8], i: Ino)
         ensures { (shape : ShapeOf) (f g : BlockWords) (s t : State) → InStep shape f self.old → ReadsAs shape f s → ReadsAs shape g t → t.names ≡ remove s.names (dir.0, name.now) → StayBut i.0 s t → InStep shape g self.new }
     {
         self.path.let_go();
@@ -79,7 +79,7 @@ impl Memo {
     }
 
     /// Is told that a name of a directory gave way to another one, which no node had.
-    pub(crate) fn moved(&mut self, dir: Ino, name: &[u8], to_dir: Ino, to: &[u8], i: Ino)
+    pub fn moved(&mut self, dir: Ino, name: &[u8], to_dir: Ino, to: &[u8], i: Ino)
         ensures { (shape : ShapeOf) (f g : BlockWords) (s t : State) → InStep shape f self.old → ReadsAs shape f s → ReadsAs shape g t → AreTwo (to_dir.0, to.now) (dir.0, name.now) → t.names ≡ insert (remove s.names (dir.0, name.now)) (to_dir.0, to.now) i.0 → StayThere s t → InStep shape g self.new }
     {
         self.path.let_go();
@@ -87,15 +87,7 @@ impl Memo {
     }
 
     /// Is told that a name of a directory gave way to another one, whose node `over` went.
-    pub(crate) fn replaced(
-        &mut self,
-        dir: Ino,
-        name: &[u8],
-        to_dir: Ino,
-        to: &[u8],
-        i: Ino,
-        over: Ino,
-    )
+    pub fn replaced(&mut self, dir: Ino, name: &[u8], to_dir: Ino, to: &[u8], i: Ino, over: Ino)
         ensures { (shape : ShapeOf) (f g : BlockWords) (s t : State) → InStep shape f self.old → ReadsAs shape f s → ReadsAs shape g t → AreTwo (to_dir.0, to.now) (dir.0, name.now) → t.names ≡ insert (remove s.names (dir.0, name.now)) (to_dir.0, to.now) i.0 → StayBut over.0 s t → InStep shape g self.new }
     {
         self.path.let_go();

@@ -15,10 +15,9 @@ use crate::replies::{
     stat_reply,
 };
 use file_store::{read_with, truncate_with, write_with};
-use file_tree::{
-    Memo, create_with, list_with, make_region_with, mkdir_with, rename_with, rmdir_with, stat_with,
-    unlink_with,
-};
+use file_tree::Memo;
+use node_making::{create_with, list_with, make_region_with, mkdir_with, stat_with};
+use node_moving::{rename_with, rmdir_with, unlink_with};
 use rio_base::{Stopped, Volume, VolumeShape};
 use rio_requests::{Reply, Request};
 use std::alloc::Global;

@@ -16,7 +16,8 @@ ghost use Rattle.rio_core.specs.Groups.{Within};
 ghost use Rattle.rio_core.specs.Serving.{RequestEnds, Serves, TellsFault};
 
 use crate::replies::{BAD_REQUEST, begin_reply, fail_reply, get_reply, number_reply, txn_reply};
-use file_tree::{Memo, stand_at_with};
+use file_tree::Memo;
+use node_making::stand_at_with;
 use region_view::RegionView;
 use rio_base::{Stopped, Volume};
 use rio_requests::{Reply, Request};

@@ -1,0 +1,13 @@
+pub mod LeastFree
+pub mod NamesListed
+pub mod NewRegionWords
+pub mod NewRows
+pub mod ReachedMade
+pub mod ReadMade
+pub mod RegionFound
+pub mod RegionPlanned
+pub mod RegionRead
+pub mod RegionRoom
+pub mod RegionRows
+pub mod RowsMade
+pub mod StatAnswered

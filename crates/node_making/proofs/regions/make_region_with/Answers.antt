@@ -1,0 +1,177 @@
+use Rattle.file_tree.proofs.UpdateEnds.{never_ok}
+use Rattle.file_tree.proofs.Common.{◌≡◌, ℕ, le_refl, refl, sym, ap, subst, None, OnOk, Some, err_from_is_err_and, ◌then◌, ends_by_well, Region, held_of, names_of, volume_layout, ReadsAs, HasRow, Forgets, leaves_refl, NoneDone, goes_refl}
+use Rattle.rio_model.specs.States.{least_free as least_of}
+use Rattle.rio_requests.specs.Answers.{make_new as make_new_of, region_at, new_region}
+use Rattle.file_tree.specs.Ends.{SaysIno}
+use Rattle.node_making.specs.NewRegions.{SizesRegion}
+use Rattle.file_tree.specs.declared.failures.FileFail.TheVariants.{Refused}
+use Rattle.file_tree.proofs.AnsweredAt.{ends_after, ends_look}
+use Rattle.file_tree.proofs.CallEnds.{after_well, ends_on, ends_refused, well}
+use Rattle.node_making.proofs.RowsMade.{fails_region, region_large, region_new}
+use Rattle.file_tree.proofs.MemoSteps.{same_step}
+use Rattle.file_tree.proofs.Requested.{ends_as}
+use Rattle.node_making.proofs.regions.make_region_with.Goals as goal
+
+pub returns-then-is_root-clause-leaves : goal.returns-then-is_root-clause-leaves
+returns-then-is_root-clause-leaves g c =
+    let shape = c.args.shape.now in
+    let x = g.V.Blocks.seen c.args.v.now in
+    let k = g.V.Volume.kept c.args.v.now in
+    let names = names_of c.args.path.now in
+    λ s reads. ends_look SaysIno shape x k x k s (region_at s names c.args.data_pages c.args.undo_pages) (NoneDone s) _ (Refused 3) (Refused 3) refl refl c.requires.can.ready (g.met.V.Volume.settled _ c.requires.sound) (leaves_refl shape x k c.requires.can.ready) reads (refl, refl) (ap (λ ns. region_at s ns c.args.data_pages c.args.undo_pages) (c.is_root.ensures.root c.if-is_root.true))
+
+pub returns-then-is_root-clause-ends : goal.returns-then-is_root-clause-ends
+returns-then-is_root-clause-ends g c = ends_refused _ _ 3 (ends_by_well _ _ _ _ (le_refl _) refl (λ a. a) (λ a. a))
+
+pub cut_last-requires-clause-some : goal.cut_last-requires-clause-some
+cut_last-requires-clause-some g c = c.is_root.ensures.not c.if-is_root.false
+
+pub returns-in_err-dir-clause-leaves : goal.returns-in_err-dir-clause-leaves
+returns-in_err-dir-clause-leaves g c =
+    let shape = c.args.shape.now in
+    let x = g.V.Blocks.seen c.args.v.now in
+    let k = g.V.Volume.kept c.args.v.now in
+    let names = names_of c.args.path.now in
+    let front = names_of c.cut_last.result.0.now in
+    let name = c.cut_last.result.1.now in
+    let m = g.V.Blocks.seen c.dir_without.new.v in
+    let l = g.V.Volume.kept c.dir_without.new.v in
+    let some = c.is_root.ensures.not c.if-is_root.false in
+    let p = err_from_is_err_and c.from_residual.result c.from_residual.ensures.1 in
+    λ s reads. ends_look SaysIno shape x k m l s (region_at s names c.args.data_pages c.args.undo_pages) (NoneDone s) c.from_residual.result _ p.0 p.1 p.2 c.requires.can.ready (g.met.V.Volume.settled _ c.requires.sound) c.dir_without.ensures.leaves reads (refl, refl)
+    (fails_region s names front name c.args.data_pages c.args.undo_pages c.dir_without.result _ some c.cut_last.ensures.front c.cut_last.ensures.last c.in_err-dir.was (c.dir_without.ensures.value s reads))
+
+pub returns-in_err-dir-clause-ends : goal.returns-in_err-dir-clause-ends
+returns-in_err-dir-clause-ends g c =
+    let p = err_from_is_err_and c.from_residual.result c.from_residual.ensures.1 in
+    ends_on _ _ c.dir_without.result c.from_residual.result _ p.0 c.in_err-dir.was p.1 p.2 c.dir_without.ensures.ends
+
+pub returns-in_default-clause-leaves : goal.returns-in_default-clause-leaves
+returns-in_default-clause-leaves g c =
+    let shape = c.args.shape.now in
+    let x = g.V.Blocks.seen c.args.v.now in
+    let k = g.V.Volume.kept c.args.v.now in
+    let names = names_of c.args.path.now in
+    let front = names_of c.cut_last.result.0.now in
+    let name = c.cut_last.result.1.now in
+    let m = g.V.Blocks.seen c.dir_without.new.v in
+    let l = g.V.Volume.kept c.dir_without.new.v in
+    let some = c.is_root.ensures.not c.if-is_root.false in
+    let large : SizesRegion c.args.undo_pages c.args.data_pages None = rw c.in_default.is at c.region_sizes.ensures in
+    λ s reads. ends_look SaysIno shape x k m l s (region_at s names c.args.data_pages c.args.undo_pages) (NoneDone s) _ (Refused 10) (Refused 10) refl refl c.requires.can.ready (g.met.V.Volume.settled _ c.requires.sound) c.dir_without.ensures.leaves reads (refl, refl)
+    (region_large s names front name c.args.data_pages c.args.undo_pages c.in_ok-dir.dir some c.cut_last.ensures.front c.cut_last.ensures.last (c.in_ok-dir.ensures.value s reads) large)
+
+pub returns-in_default-clause-ends : goal.returns-in_default-clause-ends
+returns-in_default-clause-ends g c = ends_refused _ _ 10 (well _ _ c.dir_without.result _ c.in_ok-dir.was c.dir_without.ensures.ends)
+
+pub make_new-requires-clause-can : goal.make_new-requires-clause-can
+make_new-requires-clause-can g c = c.dir_without.ensures.can
+
+pub make_new-requires-clause-dir : goal.make_new-requires-clause-dir
+make_new-requires-clause-dir g c = subst (λ f. (held_of c.args.shape.now f c.in_ok-dir.dir.0).kind ≡ 1) (sym c.dir_without.ensures.words) c.in_ok-dir.ensures.dir
+
+pub make_new-requires-clause-is_name : goal.make_new-requires-clause-is_name
+make_new-requires-clause-is_name g c = c.cut_last.ensures.name
+
+pub make_new-requires-clause-absent : goal.make_new-requires-clause-absent
+make_new-requires-clause-absent g c = subst (λ f. (n : ℕ) → HasRow (held_of c.args.shape.now f c.in_ok-dir.dir.0) c.cut_last.result.1.now n → ⊥) (sym c.dir_without.ensures.words) c.in_ok-dir.ensures.absent
+
+pub make_new-requires-clause-node : goal.make_new-requires-clause-node
+make_new-requires-clause-node g c =
+    let sized : SizesRegion c.args.undo_pages c.args.data_pages (Some c.in-Some.sizes) = rw c.in-Some.is at c.region_sizes.ensures in
+    sized.2
+
+pub returns-clause-leaves : goal.returns-clause-leaves
+returns-clause-leaves g c =
+    let shape = c.args.shape.now in
+    let x = g.V.Blocks.seen c.args.v.now in
+    let k = g.V.Volume.kept c.args.v.now in
+    let names = names_of c.args.path.now in
+    let front = names_of c.cut_last.result.0.now in
+    let name = c.cut_last.result.1.now in
+    let m = g.V.Blocks.seen c.dir_without.new.v in
+    let l = g.V.Volume.kept c.dir_without.new.v in
+    let some = c.is_root.ensures.not c.if-is_root.false in
+    let sizes = c.in-Some.sizes in
+    let sized : SizesRegion c.args.undo_pages c.args.data_pages (Some sizes) = rw c.in-Some.is at c.region_sizes.ensures in
+    let y = g.V.Blocks.seen c.make_new.new.v in
+    let j = g.V.Volume.kept c.make_new.new.v in
+    λ s reads. ends_after SaysIno shape x k m l y j s (region_at s names c.args.data_pages c.args.undo_pages) (NoneDone s) c.make_new.result c.dir_without.ensures.leaves c.dir_without.ensures.words
+    (ends_as SaysIno shape m l y j s (region_at s names c.args.data_pages c.args.undo_pages) (make_new_of s c.in_ok-dir.dir.0 name (Region (new_region sizes.data_pages sizes.undo_pages)) (least_of s)) (NoneDone s) c.make_new.result
+    (region_new s names front name c.args.data_pages c.args.undo_pages c.in_ok-dir.dir sizes some c.cut_last.ensures.front c.cut_last.ensures.last (c.in_ok-dir.ensures.value s reads) sized)
+    (c.make_new.ensures.leaves s (subst (λ f. ReadsAs shape f s) (sym c.dir_without.ensures.words) reads)))
+
+pub returns-clause-forgets : goal.returns-clause-forgets
+returns-clause-forgets g c =
+    let shape = c.args.shape.now in
+    let z = g.V.Blocks.seen c.make_new.new.v in
+    subst (λ f. OnOk c.make_new.result (Forgets (volume_layout shape f) (volume_layout shape z.words) z)) c.dir_without.ensures.words c.make_new.ensures.forgets
+
+pub returns-clause-goes : goal.returns-clause-goes
+returns-clause-goes g c = c.dir_without.ensures.goes then c.make_new.ensures.goes
+
+pub returns-clause-ends : goal.returns-clause-ends
+returns-clause-ends g c = after_well _ _ _ _ _ (well _ _ c.dir_without.result _ c.in_ok-dir.was c.dir_without.ensures.ends) c.make_new.ensures.ends
+
+pub returns-in_err-dir-clause-in_step : goal.returns-in_err-dir-clause-in_step
+returns-in_err-dir-clause-in_step g c = λ on. same_step c.args.shape.now _ _ _ (c.dir_without.ensures.words) c.dir_without.ensures.in_step
+
+pub returns-in_default-clause-in_step : goal.returns-in_default-clause-in_step
+returns-in_default-clause-in_step g c = λ on. same_step c.args.shape.now _ _ _ (c.dir_without.ensures.words) c.dir_without.ensures.in_step
+
+pub make_new-requires-clause-in_step : goal.make_new-requires-clause-in_step
+make_new-requires-clause-in_step g c = same_step c.args.shape.now _ _ _ (c.dir_without.ensures.words) c.dir_without.ensures.in_step
+
+pub returns-then-is_root-clause-forgets : goal.returns-then-is_root-clause-forgets
+returns-then-is_root-clause-forgets g c = tt
+
+pub returns-then-is_root-clause-in_step : goal.returns-then-is_root-clause-in_step
+returns-then-is_root-clause-in_step g c = λ on. c.requires.in_step
+
+pub returns-then-is_root-clause-goes : goal.returns-then-is_root-clause-goes
+returns-then-is_root-clause-goes g c = goes_refl _ _
+
+pub returns-then-is_root-clause-sound : goal.returns-then-is_root-clause-sound
+returns-then-is_root-clause-sound g c = c.requires.sound
+
+pub returns-in_err-dir-clause-sound : goal.returns-in_err-dir-clause-sound
+returns-in_err-dir-clause-sound g c = c.dir_without.ensures.sound
+
+pub returns-in_err-dir-clause-forgets : goal.returns-in_err-dir-clause-forgets
+returns-in_err-dir-clause-forgets g c = let p = err_from_is_err_and c.from_residual.result c.from_residual.ensures.1 in never_ok _ _ p.0 p.1
+
+pub returns-in_err-dir-clause-goes : goal.returns-in_err-dir-clause-goes
+returns-in_err-dir-clause-goes g c = c.dir_without.ensures.goes
+
+pub returns-in_default-clause-sound : goal.returns-in_default-clause-sound
+returns-in_default-clause-sound g c = c.dir_without.ensures.sound
+
+pub returns-in_default-clause-forgets : goal.returns-in_default-clause-forgets
+returns-in_default-clause-forgets g c = tt
+
+pub returns-in_default-clause-goes : goal.returns-in_default-clause-goes
+returns-in_default-clause-goes g c = c.dir_without.ensures.goes
+
+pub returns-clause-in_step : goal.returns-clause-in_step
+returns-clause-in_step g c = c.make_new.ensures.in_step
+
+pub returns-clause-sound : goal.returns-clause-sound
+returns-clause-sound g c = c.make_new.ensures.sound
+
+pub dir_without-requires-clause-sound : goal.dir_without-requires-clause-sound
+dir_without-requires-clause-sound g c = c.requires.sound
+
+pub dir_without-requires-clause-can : goal.dir_without-requires-clause-can
+dir_without-requires-clause-can g c = c.requires.can
+
+pub dir_without-requires-clause-in_step : goal.dir_without-requires-clause-in_step
+dir_without-requires-clause-in_step g c = c.requires.in_step
+
+pub make_new-requires-clause-sound : goal.make_new-requires-clause-sound
+make_new-requires-clause-sound g c = c.dir_without.ensures.sound
+
+pub region_sizes-requires-clause-pages : goal.region_sizes-requires-clause-pages
+region_sizes-requires-clause-pages g c = c.requires.pages
+
+pub region_sizes-requires-clause-undo : goal.region_sizes-requires-clause-undo
+region_sizes-requires-clause-undo g c = c.requires.undo

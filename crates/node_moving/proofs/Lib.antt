@@ -1,0 +1,13 @@
+pub mod AmongInodes
+pub mod AnsweredRows
+pub mod MemoMoves
+pub mod NameMoves
+pub mod ReachedGone
+pub mod ReachedMoves
+pub mod ReadSteps
+pub mod RenamedAs
+pub mod RenamedRows
+pub mod RowsGone
+pub mod StoodAfter
+pub mod TreeMoves
+pub mod WalkRules
