@@ -19,7 +19,7 @@ ghost use Rattle.file_tree.specs.Walks.{ino_numbers};
 ghost use Rattle.rio_base.specs.Layout.{IsIno};
 ghost use Rattle.node_making.specs.NewRegions.{FindsRegion};
 
-use crate::data::{read_with, truncate_with, write_with};
+use file_data::{read_with, truncate_with, write_with};
 use file_tree::{FileFail, Memo};
 use name_list::NameList;
 use node_making::{

@@ -11,7 +11,7 @@ use crate::answers::{
 };
 use crate::asks::{Ask, Row, Want, numbered, path_of};
 use crate::calls::{block_as, free_as};
-use file_store::{read_with, truncate_with, write_with};
+use file_data::{read_with, truncate_with, write_with};
 use file_tree::Memo;
 use node_making::{
     create_with, list_with, make_region_with, mkdir_with, region_of_with, stat_with,

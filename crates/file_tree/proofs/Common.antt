@@ -9,7 +9,7 @@ pub use Rattle.std.proofs.lemmas.Result.{err_from_is_err_and}
 pub use Rattle.std.specs.FinMap.{get, insert}
 pub use Rattle.std.specs.List.{AllByRecursion, Contains, list_any, range_with_len}
 pub use Rattle.std.specs.Ordering.{eq_by_cmp, is_eq}
-pub use Rattle.std.specs.Prelude.{All, Err, IsErrOf, None, Ok, OnOk, Result, Some, is_some, nat_le, nat_lt, slice_index}
+pub use Rattle.std.specs.Prelude.{All, Err, IsErrOf, None, Ok, Result, Some, is_some, nat_le, nat_lt, slice_index}
 pub use Rattle.std.specs.declared.cmp.Ordering.{Ordering}
 pub use Rattle.std.specs.declared.cmp.Ordering.TheVariants.{Equal, Greater, Less}
 pub use Rattle.block_alloc.specs.Bitmap.{numbers}
@@ -23,7 +23,6 @@ pub use Rattle.file_pages.proofs.Listed.{as_many, number_at}
 pub use Rattle.file_pages.proofs.LookingUpRules.{can_look_up}
 pub use Rattle.file_pages.proofs.OrderRules.{firm_on, leaves_looked, leaves_refl, leaves_trans, ready_left, ready_order}
 pub use Rattle.file_pages.specs.Changes.{wanted_blocks}
-pub use Rattle.file_pages.specs.Files.{SetsBoth, file_bytes}
 pub use Rattle.file_pages.specs.Forgetting.{Forgets}
 pub use Rattle.file_pages.specs.LookingUp.{node_blocks}
 pub use Rattle.rio_model.specs.VolumeReady.{AllNamed, Bears, InOrder, LeavesInUse, NamedNode, Ready}
@@ -55,7 +54,6 @@ pub use Rattle.rio_model.proofs.PlacedRules.{SameLayout, has_same, inode_low, la
 pub use Rattle.rio_model.proofs.StateSteps.{get_here, get_there}
 pub use Rattle.rio_model.proofs.VolumeReadRules.{held_of_agree, reads_agree, reads_dir, reads_file, reads_none, reads_region}
 pub use Rattle.rio_model.proofs.WordRules.{differs}
-pub use Rattle.rio_model.specs.FileParts.{resized}
 pub use Rattle.rio_model.specs.Heap.{IsSoundRegion}
 pub use Rattle.rio_model.specs.Held.{HasEntry, Held, entry_ino, entry_name, held, held_bytes, held_of, nothing}
 pub use Rattle.rio_model.specs.HeldRules.{held_ino}
@@ -72,9 +70,9 @@ pub use Rattle.rio_model.specs.VolumeRules.{EntryRule, IsMapped, NamesApartRule,
 pub use Rattle.rio_model.specs.declared.node.Node.{Node}
 pub use Rattle.rio_model.specs.declared.node.Node.TheVariants.{File, Region}
 pub use Rattle.rio_model.specs.declared.state.State.{State}
-pub use Rattle.rio_requests.specs.Answer.{answered, at_inode, on_file, refused}
-pub use Rattle.rio_requests.specs.Answers.{found, is_below, make_new, row_wanted, truncate_in, with_room, with_size}
-pub use Rattle.rio_requests.specs.Parts.{NoneDone, WriteDone}
+pub use Rattle.rio_requests.specs.Answer.{answered, at_inode, refused}
+pub use Rattle.rio_requests.specs.Answers.{found, is_below, make_new, row_wanted, with_room}
+pub use Rattle.rio_requests.specs.Parts.{NoneDone}
 pub use Rattle.rio_requests.specs.declared.answered.Answered.{Answered}
 pub use Rattle.rio_requests.specs.declared.reply.Reply.{Reply}
 pub use Rattle.rio_requests.specs.declared.reply.Reply.TheVariants.{Number}

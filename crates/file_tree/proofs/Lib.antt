@@ -6,8 +6,6 @@ pub mod Common
 pub mod EmptyHeld
 pub mod EndRules
 pub mod Ended
-pub mod FileData
-pub mod FileEnded
 pub mod Fitting
 pub mod Forgotten
 pub mod FreeFound

@@ -14,7 +14,7 @@ use crate::replies::{
     BAD_REQUEST, NO_MEMORY, bytes_reply, count_reply, done_reply, ino_reply, names_reply,
     stat_reply,
 };
-use file_store::{read_with, truncate_with, write_with};
+use file_data::{read_with, truncate_with, write_with};
 use file_tree::Memo;
 use node_making::{create_with, list_with, make_region_with, mkdir_with, stat_with};
 use node_moving::{rename_with, rmdir_with, unlink_with};

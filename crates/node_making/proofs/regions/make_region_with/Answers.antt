@@ -1,5 +1,6 @@
 use Rattle.file_tree.proofs.UpdateEnds.{never_ok}
-use Rattle.file_tree.proofs.Common.{◌≡◌, ℕ, le_refl, refl, sym, ap, subst, None, OnOk, Some, err_from_is_err_and, ◌then◌, ends_by_well, Region, held_of, names_of, volume_layout, ReadsAs, HasRow, Forgets, leaves_refl, NoneDone, goes_refl}
+use Rattle.file_tree.proofs.Common.{◌≡◌, ℕ, le_refl, refl, sym, ap, subst, None, Some, err_from_is_err_and, ◌then◌, ends_by_well, Region, held_of, names_of, volume_layout, ReadsAs, HasRow, Forgets, leaves_refl, NoneDone, goes_refl}
+use Rattle.std.specs.Prelude.{OnOk}
 use Rattle.rio_model.specs.States.{least_free as least_of}
 use Rattle.rio_requests.specs.Answers.{make_new as make_new_of, region_at, new_region}
 use Rattle.file_tree.specs.Ends.{SaysIno}

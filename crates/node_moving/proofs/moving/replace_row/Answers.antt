@@ -1,5 +1,6 @@
 use Rattle.file_tree.proofs.UpdateEnds.{never_ok}
-use Rattle.file_tree.proofs.Common.{◌≢◌, inl, inr, ◌∙◌, refl, sym, subst, OnOk, err_from_is_err_and, ◌then◌, answered, held_of, volume_layout, ReadsAs, IsInode, leaves_refl, NoneDone, Forgets, le_refl, ends_by_well, goes_refl, ◌<◌}
+use Rattle.file_tree.proofs.Common.{◌≢◌, inl, inr, ◌∙◌, refl, sym, subst, err_from_is_err_and, ◌then◌, answered, held_of, volume_layout, ReadsAs, IsInode, leaves_refl, NoneDone, Forgets, le_refl, ends_by_well, goes_refl, ◌<◌}
+use Rattle.std.specs.Prelude.{OnOk}
 use Rattle.rio_requests.specs.declared.reply.Reply.TheVariants.{Ok as Done}
 use Rattle.rio_requests.specs.Answers.{replace_row as replace_row_of, replaced}
 use Rattle.file_tree.specs.Ends.{SaysDone}

@@ -1,5 +1,6 @@
 use Rattle.file_tree.proofs.UpdateEnds.{never_ok}
-use Rattle.file_tree.proofs.Common.{◌≡◌, ◌<◌, ℕ, refl, sym, ap, subst, None, OnOk, Some, get, err_from_is_err_and, ◌then◌, held_of, volume_layout, ReadsAs, LeavesInUse, Finds, HasRow, IsEntry, NoneDone, Forgets}
+use Rattle.file_tree.proofs.Common.{◌≡◌, ◌<◌, ℕ, refl, sym, ap, subst, None, Some, get, err_from_is_err_and, ◌then◌, held_of, volume_layout, ReadsAs, LeavesInUse, Finds, HasRow, IsEntry, NoneDone, Forgets}
+use Rattle.std.specs.Prelude.{OnOk}
 use Rattle.rio_requests.specs.Answers.{rename_row as rename_row_of}
 use Rattle.file_tree.specs.Ends.{SaysDone}
 use Rattle.file_tree.specs.Walks.{IsRow, ino_numbers}

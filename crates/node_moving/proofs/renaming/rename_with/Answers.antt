@@ -1,5 +1,6 @@
 use Rattle.file_tree.proofs.UpdateEnds.{never_ok}
-use Rattle.file_tree.proofs.Common.{◌≡◌, ◌<◌, ◌∙◌, refl, sym, ap, subst, OnOk, get, err_from_is_err_and, ◌then◌, last_of, held_of, names_of, volume_layout, ReadsAs, LeavesInUse, NoneDone, Forgets}
+use Rattle.file_tree.proofs.Common.{◌≡◌, ◌<◌, ◌∙◌, refl, sym, ap, subst, get, err_from_is_err_and, ◌then◌, last_of, held_of, names_of, volume_layout, ReadsAs, LeavesInUse, NoneDone, Forgets}
+use Rattle.std.specs.Prelude.{OnOk}
 use Rattle.rio_model.specs.Paths.{walk_to_dir as walk_to_dir_of}
 use Rattle.rio_requests.specs.Answers.{rename as rename_of, rename_row as rename_row_of}
 use Rattle.file_tree.specs.Ends.{FileEnds, SaysDone}

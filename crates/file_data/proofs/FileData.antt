@@ -1,13 +1,15 @@
 -- The bytes of a file written or resized, as the answer of the state.
-use Rattle.file_tree.proofs.Common.{◌≡◌, ◌≢◌, ℕ, ◌<◌, ◌≤◌, ◌⊎◌, true, false, cond, List, refl, sym, ap, subst, ◌∙◌, arith, inl, inr, Ok, Some, nat_lt, get, insert, cases_eq, nat_tests, VolumeShape, free_blocks, BlockWords, Seen, Kept, Node, File, Answered, State, answered, on_file, refused, with_node, resized, held_of, free_count, largest_size, reads_file, ReadsAs, Ready, free_by_state, get_here, get_there, wanted_blocks, SetsBoth, file_bytes, truncate_in, with_room, with_size, NoneDone}
+use Rattle.file_tree.proofs.Common.{◌≡◌, ◌≢◌, ℕ, ◌<◌, ◌≤◌, ◌⊎◌, true, false, cond, List, refl, sym, ap, subst, ◌∙◌, arith, inl, inr, Ok, Some, nat_lt, get, insert, cases_eq, nat_tests, VolumeShape, free_blocks, BlockWords, Seen, Kept, Node, File, Answered, State, answered, refused, with_node, held_of, free_count, largest_size, reads_file, ReadsAs, Ready, free_by_state, get_here, get_there, wanted_blocks, with_room, NoneDone}
+use Rattle.rio_model.specs.FileParts.{resized}
+use Rattle.rio_requests.specs.Answer.{on_file}
 use Rattle.std.specs.Prelude.{length}
 use Rattle.rio_requests.specs.declared.reply.Reply.TheVariants.{Ok as Done}
 use Rattle.rio_model.specs.NodeChanges.{SetsFile}
 use Rattle.rio_model.specs.VolumeReady.{StandsReady}
 use Rattle.rio_model.proofs.NodeOrder.{same_nodes}
 use Rattle.rio_model.proofs.StateSteps.{file_set}
-use Rattle.file_pages.specs.Files.{HasSpace}
-use Rattle.rio_requests.specs.Answers.{wanted}
+use Rattle.file_pages.specs.Files.{HasSpace, SetsBoth, file_bytes}
+use Rattle.rio_requests.specs.Answers.{wanted, truncate_in, with_size}
 use Rattle.file_tree.specs.Ends.{FileEnds, Left, SaysDone, Stands}
 
 -- file i of a state

@@ -3,7 +3,7 @@ use Rattle.file_tree.proofs.CallEnds.{after_well, ends_ok, ends_on, ends_refused
 use Rattle.file_tree.proofs.LookedAt.{file_dir, file_inode, file_left, file_region, file_walk, inode_kind_held}
 use Rattle.file_tree.proofs.Unchanged.{leaves_then}
 use Rattle.file_tree.specs.Walks.{ino_in}
-use Rattle.file_store.proofs.data.walk_to_file.Goals as goal
+use Rattle.file_data.proofs.data.walk_to_file.Goals as goal
 
 pub returns-in_err-i-clause-value : goal.returns-in_err-i-clause-value
 returns-in_err-i-clause-value g c =

@@ -1,10 +1,12 @@
 -- Bytes written and files resized change no name, and take no node away.
-use Rattle.file_tree.proofs.Common.{ℕ, ◌+◌, Bool, true, false, cond, List, [], ◌∷◌, length, refl, sym, subst, inl, inr, Result, Ok, Err, get, nat_lt, Node, File, Region, State, Answered, answered, at_inode, on_file, refused, with_node, with_room, with_size, largest_size, free_count, resized, names_of, walk, Number, WriteDone, truncate_in}
+use Rattle.file_tree.proofs.Common.{ℕ, ◌+◌, Bool, true, false, cond, List, [], ◌∷◌, length, refl, sym, subst, inl, inr, Result, Ok, Err, get, nat_lt, Node, File, Region, State, Answered, answered, at_inode, refused, with_node, with_room, largest_size, free_count, names_of, walk, Number}
+use Rattle.rio_requests.specs.Parts.{WriteDone}
+use Rattle.rio_requests.specs.Answer.{on_file}
 use Rattle.std.specs.Prelude.{Option, Some, None}
-use Rattle.rio_model.specs.FileParts.{written}
+use Rattle.rio_model.specs.FileParts.{written, resized}
 use Rattle.rio_model.specs.declared.node.Node.TheVariants.{Dir}
 use Rattle.rio_requests.specs.declared.reply.Reply.TheVariants.{Ok as Done}
-use Rattle.rio_requests.specs.Answers.{truncate, wanted, write, write_in}
+use Rattle.rio_requests.specs.Answers.{truncate, wanted, write, write_in, with_size, truncate_in}
 use Rattle.file_tree.proofs.MemoEnds.{SameUse, use_same}
 use Rattle.file_tree.proofs.MemoSteps.{stay_with}
 

@@ -1,0 +1,4 @@
+pub mod BytesAnswered
+pub mod FileData
+pub mod FileEnded
+pub mod MemoData
