@@ -1,5 +1,6 @@
 -- The exits of a shrink: its bytes, and the blocks that it frees.
-use Rattle.file_pages.proofs.Common.{◌≡◌, ℕ, ◌<◌, ◌≤◌, List, length, refl, sym, ap, subst, ◌∙◌, arith, inr, Result, Err, slice_index, Contains, Block, VolumeShape, BlockWords, Seen, IsIno, Kept, Settled, numbers, Inode, IsInode, page_old, ResizePart, resized, Held, held, held_bytes, held_of, held_ino, Change, Placed, HasSlot, placed_at, volume_layout, IsFree, Turns, LeavesInUse, Ready, IsMapped, SizeFits}
+use Rattle.file_pages.proofs.Common.{◌≡◌, ℕ, ◌<◌, ◌≤◌, List, length, refl, sym, ap, subst, ◌∙◌, arith, inr, Result, Ok, Err, IsErrOf, slice_index, Contains, Block, VolumeShape, BlockWords, Seen, IsIno, Kept, Settled, numbers, Inode, IsInode, page_old, ResizePart, resized, Held, held, held_bytes, held_of, held_ino, Change, Placed, HasSlot, placed_at, volume_layout, IsFree, Turns, LeavesInUse, Ready, IsMapped, SizeFits}
+use Rattle.std.specs.Prelude.{IsErr}
 use Rattle.file_pages.specs.Changes.{given_node, planned_node, size_update}
 use Rattle.file_pages.specs.Files.{SetsBoth, file_bytes}
 use Rattle.file_pages.proofs.OrderRules.{ready_left}
@@ -31,9 +32,6 @@ freed_free shape f g k i m c b e mapped change turns on =
 pub dropped_ok : (shape : VolumeShape) (x : Seen) (k : Kept) (z : Seen) (l : Kept) (y : Seen) (j : Kept) (i len : ℕ) (bytes : List ℕ) → bytes ≡ resized (file_bytes shape x.words i) len → SetsBoth shape x.words z l i bytes → Ready shape z l → Settled z l → LeavesInUse (volume_layout shape z.words) z l y j → SetsBoth shape x.words y j i (resized (file_bytes shape x.words i) len) × Ready shape y j
 dropped_ok shape x k z l y j i len bytes is set ready settled leaves = (subst (SetsBoth shape x.words y j i) is (both_on shape x.words z l y j i bytes ready settled set.reads leaves), ready_left shape z l y j ready leaves)
 
-pub dropped_stopped : {T : Type 0} (shape : VolumeShape) (x : Seen) (k : Kept) (z : Seen) (l : Kept) (y : Seen) (j : Kept) (i len : ℕ) (bytes : List ℕ) (q : Result T SizeFail) (d : SizeFail) → q ≡ Err d → d ≡ Stopped → bytes ≡ resized (file_bytes shape x.words i) len → SetsBoth shape x.words z l i bytes → Ready shape z l → Settled z l → LeavesInUse (volume_layout shape z.words) z l y j → SizeLeaves shape x k y j i len q
-dropped_stopped shape x k z l y j i len bytes q d qd de is set ready settled leaves = subst (λ r. SizeLeaves shape x k y j i len r) (sym (qd ∙ ap Err de)) (stops_on shape x.words z l y j i bytes (ResizePart (file_bytes shape x.words i) len) ready settled set.reads leaves (inr is))
-
 pub file_fits : (shape : VolumeShape) (f : BlockWords) (i : ℕ) (n : Inode) (len : ℕ) → IsMapped shape f → IsIno shape i → IsInode f i n → n.kind ≡ 2 → len ≤ n.size → SizeFits n.kind len
 file_fits shape f i n len h ino own kind less = record {
   most = (let most = (h.laid.sizes.each i ino (let k = own.kind in omega (arith, k, kind))).most in let s = own.size in omega (arith, most, s, less));
@@ -44,3 +42,8 @@ file_fits shape f i n len h ino own kind less = record {
 
 pub freed_place : (shape : VolumeShape) (c : SizeChange) (y : Seen) (bs : List Block) (t count : ℕ) → bs ≡ c.freed → CanChange shape y c → count ≡ shape.blocks → t < length bs → slice_index (numbers bs) t < count
 freed_place shape c y bs t count same can is few = subst (λ (n : ℕ). slice_index (numbers bs) t < n) (sym is) (can.makes.freed _ (subst (λ us. Contains (numbers us) (slice_index (numbers bs) t)) same (listed (numbers bs) t (subst (λ (n : ℕ). t < n) (sym (as_many bs)) few))))
+
+-- by how the call ends that drops them
+pub dropped_all : {T : Type 0} (shape : VolumeShape) (x : Seen) (k : Kept) (z : Seen) (l : Kept) (y : Seen) (j : Kept) (i len : ℕ) (bytes : List ℕ) (q : Result T SizeFail) → (IsErr q → IsErrOf q Stopped) → bytes ≡ resized (file_bytes shape x.words i) len → SetsBoth shape x.words z l i bytes → Ready shape z l → Settled z l → LeavesInUse (volume_layout shape z.words) z l y j → SizeLeaves shape x k y j i len q
+dropped_all shape x k z l y j i len bytes (Ok v) stops is set ready settled leaves = dropped_ok shape x k z l y j i len bytes is set ready settled leaves
+dropped_all {T = T} shape x k z l y j i len bytes (Err e) stops is set ready settled leaves = subst (λ (r : Result T SizeFail). SizeLeaves shape x k y j i len r) (sym (stops refl)) (stops_on shape x.words z l y j i bytes (ResizePart (file_bytes shape x.words i) len) ready settled set.reads leaves (inr is))

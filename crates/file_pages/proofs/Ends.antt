@@ -1,5 +1,6 @@
 -- How a call ends, told by another type of failure.
 use Rattle.file_pages.proofs.Common.{◌≡◌, ◌≤◌, arith, refl, sym, ap, subst, ◌∙◌, Result, Ok, Err, IsErrOf, VolFail, EndsBy, Health, ends_by_after, ends_by_as}
+use Rattle.std.specs.Prelude.{IsErr}
 use Rattle.rio_base.specs.declared.failures.VolFail.TheVariants.{Fault as VolFault, Stopped as VolStopped}
 use Rattle.rio_base.specs.Blocks.{Ends, Halts}
 use Rattle.rio_base.specs.Failures.{read_fail}
@@ -129,6 +130,18 @@ size_halted {T = T} {U = U} {E = E} s t r q e d re qd de h = subst (λ x. EndsSi
     by : Halts {T = T} {E = E} s t (Err e) → EndsSize {T = U} s t (Err SizeStopped)
     by k = record { later = k.later; stays = k.stays; cause = λ f. cc; told = λ p. k.cause; runs = λ n. absurd (n refl) }
 
+-- ---- a call whose one failure is the stop, told as a change of size
+
+pub well_err : {T : Type 0} (v : T) → IsErr {E = SizeFail} (Ok v) → ⊥
+well_err v is = cc
+
+size_stop : {T : Type 0} (s t : Health) (e : SizeFail) → IsErrOf {T = T} (Err e) SizeStopped → Halts {T = T} {E = SizeFail} s t (Err e) → EndsSize {T = T} s t (Err e)
+size_stop {T = T} s t e is h = subst (λ (r : Result T SizeFail). EndsSize s t r) (sym is) (record { later = h.later; stays = h.stays; cause = λ f. cc; told = λ p. h.cause; runs = λ n. absurd (n refl) })
+
+pub size_halts : {T : Type 0} (s t : Health) (q : Result T SizeFail) → (IsErr q → IsErrOf q SizeStopped) → Halts s t q → EndsSize s t q
+size_halts s t (Ok v) stops h = ends_well_ok s t v h.later h.cause
+size_halts s t (Err e) stops h = size_stop s t e (stops refl) h
+
 -- ---- calls that were not refused for the size
 
 handed_other : {T : Type 0} (e : VolFail) → Unrefused {T = T} (Err (size_handed e))
@@ -161,6 +174,13 @@ stop_other = ((λ a. cc), (λ a. cc))
 pub unrefused_stop : {T : Type 0} (q : Result T SizeFail) (d : SizeFail) → q ≡ Err d → d ≡ SizeStopped → Unrefused q
 unrefused_stop q d qd de = unrefused_of q d SizeStopped qd de stop_other
 
+pub unrefused_ok : {T : Type 0} (v : T) → Unrefused (Ok v)
+unrefused_ok v = ((λ a. cc), (λ a. cc))
+
+pub unrefused_stops : {T : Type 0} (q : Result T SizeFail) → (IsErr q → IsErrOf q SizeStopped) → Unrefused q
+unrefused_stops (Ok v) stops = unrefused_ok v
+unrefused_stops (Err e) stops = subst (λ r. Unrefused r) (sym (stops refl)) stop_other
+
 err_other : {T U : Type 0} (e : SizeFail) → Unrefused {T = T} (Err e) → Unrefused {T = U} (Err e)
 err_other NoSpace h = absurd (h.0 refl)
 err_other TooLarge h = absurd (h.1 refl)
@@ -170,9 +190,6 @@ err_other SizeMemory h = ((λ a. cc), (λ a. cc))
 
 pub unrefused_err : {T U : Type 0} (r : Result U SizeFail) (q : Result T SizeFail) (e d : SizeFail) → r ≡ Err e → q ≡ Err d → d ≡ e → Unrefused r → Unrefused q
 unrefused_err r q e d re qd de h = unrefused_of q d e qd de (err_other e (subst (λ x. Unrefused x) re h))
-
-pub unrefused_ok : {T : Type 0} (v : T) → Unrefused (Ok v)
-unrefused_ok v = ((λ a. cc), (λ a. cc))
 
 -- the same failure handed on
 pub err_handed : {T U : Type 0} (w : SizeFail) (r : Result U SizeFail) (q : Result T SizeFail) (e d : SizeFail) → r ≡ Err e → q ≡ Err d → d ≡ e → IsErrOf q w → IsErrOf r w

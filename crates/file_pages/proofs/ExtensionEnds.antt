@@ -1,11 +1,11 @@
 -- The exits of a write past a file's end.
-use Rattle.file_pages.proofs.Common.{◌≡◌, ℕ, List, length, refl, sym, ap, subst, ◌∙◌, arith, inl, inr, Result, Err, Ok, IsErrOf, VolFail, VolumeShape, BlockWords, Seen, Kept, Settled, IsLead, held, held_bytes, held_of, Placed, placed_at, volume_layout, LeavesInUse, Ready}
+use Rattle.file_pages.proofs.Common.{◌≡◌, ℕ, List, length, refl, sym, ap, subst, ◌∙◌, arith, inl, inr, Result, Err, Ok, IsErrOf, VolFail, VolumeShape, BlockWords, Seen, Kept, Settled, IsLead, held, held_bytes, held_of, Placed, placed_at, volume_layout, LeavesInUse, Ready, written}
 use Rattle.rio_base.specs.declared.failures.VolFail.TheVariants.{Fault as VolFault, Stopped as VolStopped}
-use Rattle.file_pages.specs.Extending.{HoldsWritten, failed_after}
-use Rattle.file_pages.specs.Failures.{write_handed, write_of_bytes, write_of_size}
+use Rattle.file_pages.specs.Extending.{failed_after, told_after}
+use Rattle.file_pages.specs.Failures.{Unrefused, write_handed, write_of_bytes, write_of_size}
 use Rattle.file_pages.specs.Files.{FaultsAfter, HasSpaceFor, SetsBoth, file_bytes}
 use Rattle.file_pages.proofs.OrderRules.{ready_left}
-use Rattle.file_pages.specs.Preparing.{Committed}
+use Rattle.file_pages.specs.Preparing.{Committed, Prepared}
 use Rattle.file_pages.specs.Writing.{WriteLeaves, WriteStops}
 use Rattle.file_pages.specs.declared.changes.SizeChange.{SizeChange}
 use Rattle.file_pages.specs.declared.failures.BytesFail.{BytesFail}
@@ -13,6 +13,7 @@ use Rattle.file_pages.specs.declared.failures.BytesFail.TheVariants.{Fault as By
 use Rattle.file_pages.specs.declared.failures.SizeFail.{SizeFail}
 use Rattle.file_pages.specs.declared.failures.SizeFail.TheVariants.{NoSpace, TooLarge, Fault, Stopped, Memory}
 use Rattle.file_pages.specs.declared.failures.WriteFail.{WriteFail}
+use Rattle.file_pages.specs.declared.failures.WriteFail.TheVariants.{NoSpace as NoWrite, TooLarge as LargeWrite}
 use Rattle.file_pages.proofs.FileBytes.{put_none}
 use Rattle.file_pages.proofs.GrowEnds.{stored_stops}
 use Rattle.file_pages.proofs.Left.{both_left, stops_left}
@@ -56,6 +57,13 @@ parts_err {T = T} shape x k w h i off bytes r e q d re qd de ready settled space
 
 -- ---- all of them are there, and the update was made, refused or stopped
 
+-- the bytes of a write are stored in the pages of the file as it will be, m, and the first `done` of them count already
+pub record HoldsWritten (shape : VolumeShape) (f : BlockWords) (y : Seen) (j : Kept) (i off : ℕ) (bytes : List ℕ) (done : ℕ) (m : Placed) (c : SizeChange) : Type 0 where
+  pub prepared : Prepared shape f y j i m c
+  pub all : held_bytes (held y.words m) ≡ written (file_bytes shape f i) off bytes
+  pub lead : IsLead (file_bytes shape f i) off bytes done (held_bytes (held y.words (placed_at f i)))
+  pub space : HasSpaceFor shape f (length (file_bytes shape f i)) off bytes
+
 made_as : (T U : Type 0) (shape : VolumeShape) (x : Seen) (k : Kept) (y : Seen) (j : Kept) (z : Seen) (l : Kept) (i off : ℕ) (bytes : List ℕ) (done : ℕ) (m : Placed) (c : SizeChange) (e : SizeFail) → HoldsWritten shape x.words y j i off bytes done m c → Committed {T = U} shape x.words y m z l i (Err e) → WriteLeaves {T = T} shape x k z l i off bytes (Err (failed_after done e))
 made_as T U shape x k y j z l i off bytes done m c NoSpace h made = absurd made
 made_as T U shape x k y j z l i off bytes done m c TooLarge h made = absurd made
@@ -71,11 +79,28 @@ made_as T U shape x k y j z l i off bytes done m c Stopped h made = record {
   ready = made.ready;
 }
 
-pub made_write : (T : Type 0) {U : Type 0} (shape : VolumeShape) (x : Seen) (k : Kept) (y : Seen) (j : Kept) (z : Seen) (l : Kept) (i off : ℕ) (bytes : List ℕ) (done : ℕ) (m : Placed) (c : SizeChange) (r : Result U SizeFail) (e : SizeFail) (d : WriteFail) → r ≡ Err e → d ≡ failed_after done e → HoldsWritten shape x.words y j i off bytes done m c → Committed shape x.words y m z l i r → WriteLeaves {T = T} shape x k z l i off bytes (Err d)
-made_write T {U = U} shape x k y j z l i off bytes done m c r e d re de h made = subst (λ p. WriteLeaves {T = T} shape x k z l i off bytes (Err p)) (sym de) (made_as T U shape x k y j z l i off bytes done m c e h (subst (λ p. Committed shape x.words y m z l i p) re made))
-
 -- the update was made
-pub made_whole : (T : Type 0) {U : Type 0} (shape : VolumeShape) (x : Seen) (k : Kept) (y : Seen) (j : Kept) (z : Seen) (l : Kept) (i off : ℕ) (bytes : List ℕ) (done : ℕ) (m : Placed) (c : SizeChange) (r : Result U SizeFail) (u : U) (t : T) → r ≡ Ok u → HoldsWritten shape x.words y j i off bytes done m c → Committed shape x.words y m z l i r → WriteLeaves {T = T} shape x k z l i off bytes (Ok t)
+made_whole : (T : Type 0) {U : Type 0} (shape : VolumeShape) (x : Seen) (k : Kept) (y : Seen) (j : Kept) (z : Seen) (l : Kept) (i off : ℕ) (bytes : List ℕ) (done : ℕ) (m : Placed) (c : SizeChange) (r : Result U SizeFail) (u : U) (t : T) → r ≡ Ok u → HoldsWritten shape x.words y j i off bytes done m c → Committed shape x.words y m z l i r → WriteLeaves {T = T} shape x k z l i off bytes (Ok t)
 made_whole T {U = U} shape x k y j z l i off bytes done m c r u t re h made =
     let whole = subst (λ p. Committed {T = U} shape x.words y m z l i p) re made in
     (subst (λ (b : List ℕ). SetsBoth shape x.words z l i b) h.all whole.0, whole.1)
+
+-- by how the update ended
+pub made_told : (shape : VolumeShape) (x : Seen) (k : Kept) (y : Seen) (j : Kept) (z : Seen) (l : Kept) (i off : ℕ) (bytes : List ℕ) (done : ℕ) (m : Placed) (c : SizeChange) (r : Result (Unit {0}) SizeFail) (q : Result (Unit {0}) WriteFail) → q ≡ told_after done r → HoldsWritten shape x.words y j i off bytes done m c → Committed shape x.words y m z l i r → WriteLeaves shape x k z l i off bytes q
+made_told shape x k y j z l i off bytes done m c r q is h made = subst (λ p. WriteLeaves shape x k z l i off bytes p) (sym is) (by r made)
+  where
+    by : (r : Result (Unit {0}) SizeFail) → Committed shape x.words y m z l i r → WriteLeaves shape x k z l i off bytes (told_after done r)
+    by (Ok u) made = made_whole (Unit {0}) shape x k y j z l i off bytes done m c (Ok u) u u refl h made
+    by (Err e) made = made_as (Unit {0}) (Unit {0}) shape x k y j z l i off bytes done m c e h made
+
+-- and the update was not refused
+pub told_unrefused : (done : ℕ) (r : Result (Unit {0}) SizeFail) (q : Result (Unit {0}) WriteFail) → q ≡ told_after done r → Unrefused r → (IsErrOf q NoWrite → ⊥) × (IsErrOf q LargeWrite → ⊥)
+told_unrefused done r q is h = subst (λ (p : Result (Unit {0}) WriteFail). (IsErrOf p NoWrite → ⊥) × (IsErrOf p LargeWrite → ⊥)) (sym is) (by r h)
+  where
+    by : (r : Result (Unit {0}) SizeFail) → Unrefused r → (IsErrOf (told_after done r) NoWrite → ⊥) × (IsErrOf (told_after done r) LargeWrite → ⊥)
+    by (Ok u) h = ((λ a. cc), (λ a. cc))
+    by (Err NoSpace) h = absurd (h.0 refl)
+    by (Err TooLarge) h = absurd (h.1 refl)
+    by (Err Fault) h = ((λ a. cc), (λ a. cc))
+    by (Err Stopped) h = ((λ a. cc), (λ a. cc))
+    by (Err Memory) h = ((λ a. cc), (λ a. cc))

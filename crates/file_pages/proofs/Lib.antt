@@ -26,6 +26,7 @@ pub mod LookingUpRules
 pub mod OrderRules
 pub mod PageRead
 pub mod Planned
+pub mod PlannedGrowth
 pub mod PlannedSize
 pub mod Prepared
 pub mod PutPieces

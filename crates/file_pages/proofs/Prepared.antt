@@ -157,6 +157,13 @@ committed_as T shape f y j i m c z l VolStopped fault stopped has_shape caches f
 pub committed_err : {T U : Type 0} (shape : VolumeShape) (f : BlockWords) (y : Seen) (j : Kept) (i : ℕ) (m : Placed) (c : SizeChange) (z : Seen) (l : Kept) (r : Result U VolFail) (e : VolFail) (q : Result T SizeFail) (d : SizeFail) → r ≡ Err e → q ≡ Err d → d ≡ size_handed e → (IsErrOf r VolFault → (l.updating ≡ false) × (z.words ≡ y.words) × (l.standing ≡ j.standing)) → (l.standing ≡ j.standing) ⊎ Applied shape (size_update i c) y.words l.standing → HasShape shape z → CachesBy (IsUpdated i c.edits) y z → Firm j l → Prepared shape f y j i m c → Committed shape f y m z l i q
 committed_err {T = T} shape f y j i m c z l r e q d re qd de fault stopped has_shape caches firm h = subst (λ x. Committed shape f y m z l i x) (sym (qd ∙ ap Err de)) (committed_as T shape f y j i m c z l e (λ is. fault (subst (λ x. IsErrOf x VolFault) (sym (re ∙ ap Err is)) refl)) stopped has_shape caches firm h)
 
+-- a call whose one failure is the stop
+pub committed_stop : {T : Type 0} (shape : VolumeShape) (f : BlockWords) (y : Seen) (j : Kept) (i : ℕ) (m : Placed) (c : SizeChange) (z : Seen) (l : Kept) (q : Result T SizeFail) (d : SizeFail) → q ≡ Err d → d ≡ Stopped → (l.standing ≡ j.standing) ⊎ Applied shape (size_update i c) y.words l.standing → HasShape shape z → CachesBy (IsUpdated i c.edits) y z → Firm j l → Prepared shape f y j i m c → Committed shape f y m z l i q
+committed_stop {T = T} shape f y j i m c z l q d qd de stopped has_shape caches firm h = subst (λ x. Committed shape f y m z l i x) (sym (qd ∙ ap Err de)) (committed_as T shape f y j i m c z l VolStopped (λ is. absurd (no_fault is)) stopped has_shape caches firm h)
+  where
+    no_fault : VolStopped ≡ VolFault → ⊥
+    no_fault is = cc
+
 -- ---- a call on a file, by how it ends
 
 leaves_as : (T : Type 0) (shape : VolumeShape) (x : Seen) (k : Kept) (y : Seen) (j : Kept) (i len : ℕ) (e : SizeFail) → Ready shape x k → Settled x k → (held_of shape x.words i).kind ≡ 2 → LeavesInUse (volume_layout shape x.words) x k y j → SizeLeaves {T = T} shape x k y j i len (Err e)

@@ -1,13 +1,16 @@
 -- Bytes stored in a block by a run of words.
-use Rattle.file_pages.proofs.Common.{◌≡◌, ℕ, ◌+◌, ◌-◌, ◌*◌, ◌/◌, ◌%◌, ◌<◌, ◌≤◌, ◌⊎◌, List, length, sym, ap, subst, ◌∙◌, arith, inl, inr, Err, IsErrOf, BlockWords, put_run}
+use Rattle.file_pages.proofs.Common.{◌≡◌, ℕ, ◌+◌, ◌-◌, ◌*◌, ◌/◌, ◌%◌, ◌<◌, ◌≤◌, ◌⊎◌, List, length, sym, ap, subst, ◌∙◌, arith, cases_lt, inl, inr, Result, Err, IsErrOf, BlockWords, VolFail, put_run}
 use Rattle.rio_base.specs.Blocks.{FaultAt}
 use Rattle.rio_base.specs.declared.failures.RunFail.{RunFail}
 use Rattle.rio_base.specs.declared.failures.RunFail.TheVariants.{Fault as RunFault}
+use Rattle.rio_base.specs.declared.failures.VolFail.TheVariants.{Fault as VolFault, Stopped as VolStopped}
 use Rattle.rio_base.specs.Volume.{OldOrRun}
 use Rattle.rio_model.specs.Held.{byte_of}
-use Rattle.file_pages.specs.declared.failures.BytesFail.TheVariants.{Fault as BytesFault}
+use Rattle.file_pages.specs.Failures.{bytes_handed}
+use Rattle.file_pages.specs.declared.failures.BytesFail.{BytesFail}
+use Rattle.file_pages.specs.declared.failures.BytesFail.TheVariants.{Fault as BytesFault, Stopped as BytesStopped}
 use Rattle.file_pages.specs.PageBytes.{EndsHave, PutsBytes, block_byte, list_byte, bytes_stored, over}
-use Rattle.file_pages.proofs.ByteRuns.{run_puts}
+use Rattle.file_pages.proofs.ByteRuns.{over_out, run_puts}
 
 -- the words that bytes at a place make over those of a block
 pub record Makes (f : BlockWords) (b at : ℕ) (bytes words : List ℕ) : Type 0 where
@@ -57,7 +60,31 @@ PutsFront f g b at bytes = (k : ℕ) × (k ≤ length bytes) × PutsBytes f g b 
 pub puts_front : (f g h : BlockWords) (b at n : ℕ) (bytes words : List ℕ) → 0 < length bytes → Makes f b at bytes words → h ≡ f → OldOrRun h g b (at / 8) words n → n ≡ length words → PutsFront f g b at bytes
 puts_front f g h b at n bytes words some made same (m, few, is) all = (bytes_stored at (length bytes) m, omega arith, puts_run f g h b at m bytes words some made same is (omega (arith, few, all)))
 
+-- none of them
+pub puts_none : (f g : BlockWords) (b at : ℕ) (bytes : List ℕ) → g ≡ f → PutsBytes f g b at bytes 0
+puts_none f g b at bytes same = record {
+  others = record { others = λ c w away. ap (λ (h : BlockWords). h c w) same };
+  each = λ y low. ap (λ (h : BlockWords). block_byte h b y) same ∙ sym (over_out (block_byte f b) at bytes 0 y (elim (cases_lt y at) [ inl under ↦ inl under | inr from ↦ inr (omega (arith, from)) ]));
+}
+
+none_told : {T : Type 0} (d : VolFail) (k : ℕ) → IsErrOf {T = T} (Err (bytes_handed d)) (BytesFault k) → 0 ≡ k
+none_told VolFault k is = cc
+none_told VolStopped k is = cc
+
+-- a failure before any was stored
+pub puts_before : {T : Type 0} (f g : BlockWords) (b at : ℕ) (bytes : List ℕ) (q : Result T BytesFail) (e : VolFail) (d : BytesFail) → q ≡ Err d → d ≡ bytes_handed e → g ≡ f → (k : ℕ) → IsErrOf q (BytesFault k) → (k ≤ length bytes) × PutsBytes f g b at bytes k
+puts_before {T = T} f g b at bytes q e d qd de same k is =
+    let none : 0 ≡ k = none_told {T = T} e k (subst (λ x. IsErrOf x (BytesFault k)) (qd ∙ ap Err de) is) in
+    (omega (arith, none), subst (PutsBytes f g b at bytes) none (puts_none f g b at bytes same))
+
 -- ---- where a fault tells how many
+
+-- it tells fewer words than there are
+pub told_few : (T : Type 0) (w n : ℕ) (P : ℕ → Type 0) (e : RunFail) → FaultAt {T = T} (Err e) (λ n. (n < w) × P n) → e ≡ RunFault n → n < w
+told_few T w n P e fault is = (subst (λ x. FaultAt {T = T} (Err x) (λ n. (n < w) × P n)) is fault).0
+
+pub stop_untold : {T : Type 0} (k : ℕ) → IsErrOf {T = T} (Err BytesStopped) (BytesFault k) → ⊥
+stop_untold k is = cc
 
 told : {T : Type 0} (n k : ℕ) → IsErrOf {T = T} (Err (BytesFault n)) (BytesFault k) → n ≡ k
 told n k is = cc

@@ -1,8 +1,8 @@
 -- What a change of a file's size leaves, clause by clause.
-use Rattle.file_pages.proofs.Common.{◌≡◌, ℕ, ◌≤◌, ◌⊎◌, ◌&&◌, Bool, true, false, cond, length, refl, sym, ap, subst, ◌∙◌, arith, inl, inr, Result, Ok, Err, OnOk, IsErrOf, nat_le, nat_tests, length-map-range_with_len, VolumeShape, BlockWords, Seen, IsIno, Kept, Settled, ResizePart, resized, Held, byte_in, held, held_of, word_in, held_ino, placed_at, volume_layout, largest_size, LeavesInUse, Ready}
+use Rattle.file_pages.proofs.Common.{◌≡◌, ℕ, ◌≤◌, ◌⊎◌, ◌&&◌, Bool, true, false, cond, length, refl, sym, ap, ◌∙◌, arith, inl, inr, Result, Ok, Err, OnOk, IsErrOf, nat_le, nat_tests, length-map-range_with_len, VolumeShape, BlockWords, Seen, IsIno, Kept, Settled, resized, Held, byte_in, held, held_of, word_in, held_ino, placed_at, volume_layout, largest_size, LeavesInUse, Ready}
 use Rattle.rio_model.specs.Held.{nothing}
 use Rattle.file_pages.specs.Files.{HasSpace, ResizeStops, SetsBoth, StopsAs, file_bytes}
-use Rattle.file_pages.proofs.OrderRules.{leaves_trans, ready_left}
+use Rattle.file_pages.proofs.OrderRules.{ready_left}
 use Rattle.file_pages.specs.Preparing.{SizeLeaves}
 use Rattle.file_pages.specs.declared.failures.SizeFail.{SizeFail}
 use Rattle.file_pages.specs.declared.failures.SizeFail.TheVariants.{NoSpace, TooLarge, Fault, Stopped, Memory}
@@ -26,16 +26,6 @@ held_file shape f i ino kind = ap (λ (h : Held). h.kind) (held_ino (volume_layo
 
 pub file_size : (shape : VolumeShape) (f : BlockWords) (i : ℕ) → IsIno shape i → (placed_at f i).kind ≡ 2 → length (file_bytes shape f i) ≡ (placed_at f i).size
 file_size shape f i ino kind = ap length (file_node shape f i ino ∙ bytes_sized f (placed_at f i) (omega (arith, kind))) ∙ length-map-range_with_len (byte_in (word_in f (placed_at f i))) 0 (placed_at f i).size
-
--- ---- after a look-up
-
-pub size_after : {T : Type 0} (shape : VolumeShape) (x : Seen) (k : Kept) (z : Seen) (l : Kept) (y : Seen) (j : Kept) (i len : ℕ) (r : Result T SizeFail) → Ready shape x k → z.words ≡ x.words → LeavesInUse (volume_layout shape x.words) x k z l → SizeLeaves shape z l y j i len r → SizeLeaves shape x k y j i len r
-size_after shape x k z l y j i len (Ok v) h same leaves s = (subst (λ f. SetsBoth shape f y j i (resized (file_bytes shape f i) len)) same s.0, s.1)
-size_after shape x k z l y j i len (Err Fault) h same leaves s = (subst (λ f. SetsBoth shape f y j i (file_bytes shape f i)) same s.0, s.1)
-size_after shape x k z l y j i len (Err Stopped) h same leaves s = subst (λ f. StopsAs shape f y j i (ResizePart (file_bytes shape f i) len)) same s
-size_after shape x k z l y j i len (Err NoSpace) h same leaves s = leaves_trans shape x k z l y j h leaves s
-size_after shape x k z l y j i len (Err TooLarge) h same leaves s = leaves_trans shape x k z l y j h leaves s
-size_after shape x k z l y j i len (Err Memory) h same leaves s = leaves_trans shape x k z l y j h leaves s
 
 -- ---- the clauses
 

@@ -1,5 +1,5 @@
 -- A page of a file stored to leaves the volume in order.
-use Rattle.file_pages.proofs.Common.{◌≡◌, ◌≢◌, ℕ, ◌+◌, ◌-◌, ◌*◌, ◌/◌, ◌%◌, ◌<◌, ◌≤◌, ◌⊎◌, true, false, List, refl, sym, ap, subst, ◌∙◌, arith, inl, inr, max, Option, None, Some, Result, Ok, Err, OnOk, cases_eq, cases_lt, PageName, VolumeShape, BlockWords, Caches, Health, Looks, Seen, IsIno, reserved, Below, Firm, Kept, Passes, SameBut, byte_in, held, held_bytes, word_in, Slot, AtPage, Placed, HasSlot, placed_at, Layout, volume_layout, Owns, IsFree, AgreesBeside, SameLayout, lays_same, lays_self, page_page, pages, Bears, BearsOwn, NamedNode, NamesPage, Ready, IsLaid, beside_agrees, lays_beside, mapped_beside, run_same_but, same_map}
+use Rattle.file_pages.proofs.Common.{◌≡◌, ◌≢◌, ℕ, ◌+◌, ◌-◌, ◌*◌, ◌/◌, ◌%◌, ◌<◌, ◌≤◌, ◌⊎◌, true, false, List, refl, sym, ap, subst, ◌∙◌, arith, inl, inr, max, Option, None, Some, Result, Ok, Err, OnOk, cases_eq, cases_lt, PageName, VolumeShape, BlockWords, Caches, Health, Looks, Seen, IsIno, reserved, Below, Firm, Kept, Passes, SameBut, byte_in, held, held_bytes, word_in, Slot, AtPage, Placed, HasSlot, placed_at, Layout, volume_layout, Owns, IsFree, AgreesBeside, SameLayout, lays_same, lays_self, page_page, pages, Bears, BearsOwn, NamedNode, NamesPage, Ready, IsLaid, beside_agrees, lays_beside, mapped_beside, run_same_but, same_map, CanName, SamePage}
 use Rattle.std.specs.Prelude.{min}
 use Rattle.rio_base.proofs.BlockRules.{shape_beside_stored, stored_trans}
 use Rattle.rio_base.specs.Volume.{CachesStored, OldOrRun, widened}
@@ -35,6 +35,20 @@ bears_as i n p name kind (own, is, h) = subst (Bears i n (AtPage p)) (sym is) ((
 pub as_bears : (i : ℕ) (n : Placed) (p : ℕ) (name : Option PageName) → n.kind ≡ 2 → Bears i n (AtPage p) name → NamedAs i n.size p name
 as_bears i n p None kind h = absurd (omega (arith, kind, h))
 as_bears i n p (Some own) kind h = (own, refl, h.1)
+
+-- ---- a page asked for under its name
+
+pub page_low : (shape : VolumeShape) (x : Seen) (k : Kept) (i p : ℕ) → Ready shape x k → Owns (volume_layout shape x.words) i (AtPage p) → p ≤ 1047
+page_low shape x k i p h own = let most = (h.order.mapped.laid.sizes.each i own.ino own.slot.used).most in let within = own.slot.within in omega (arith, most, within)
+
+pub page_can : (shape : VolumeShape) (x : Seen) (k : Kept) (i p b : ℕ) (given : PageName) → Ready shape x k → Owns (volume_layout shape x.words) i (AtPage p) → b ≡ (placed_at x.words i).block (AtPage p) → (placed_at x.words i).kind ≡ 2 → given.file.0 ≡ i → given.index ≡ p → given.size ≤ 4096 → CanName x b (Some given)
+page_can shape x k i p b given h own at kind file index small = record {
+  in_range = record { file_from = (let from = own.ino.from in omega (arith, file, from)); file_to = (let to = own.ino.to in let most = h.order.has_shape.sizes.inodes_to in omega (arith, file, to, most)); index = (let low = page_low shape x k i p h own in omega (arith, index, low)); size = small };
+  agrees = λ on. same (x.names b) (as_bears i (placed_at x.words i) p (x.names b) kind (subst (λ c. Bears i (placed_at x.words i) (AtPage p) (x.names c)) (sym at) (h.order.named.each i own.ino (AtPage p) own.slot (subst (λ c. x.cached c ≡ true) at on))));
+}
+  where
+    same : (name : Option PageName) → NamedAs i (placed_at x.words i).size p name → SamePage name (Some given)
+    same name (o, is, n) = subst (λ z. SamePage z (Some given)) (sym is) (ap (λ (m : ℕ). record { 0 = m }) (n.file ∙ sym file), n.index ∙ sym index)
 
 -- ---- a page stored to
 

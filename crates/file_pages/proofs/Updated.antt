@@ -1,8 +1,8 @@
 -- Calls of one update, one after the other, and what the whole of it does.
-use Rattle.file_pages.proofs.Common.{◌≡◌, ◌≢◌, ℕ, zero, suc, ◌+◌, ◌-◌, ◌/◌, ◌%◌, ◌<◌, ◌≤◌, ◌==◌, ◌||◌, Bool, inl, inr, true, false, List, [], ◌∷◌, length, map, drop, take, refl, get_or-drop, get_or-take, length-drop, length-take-le, map-append, put_run, take-append-drop, take_rest, sym, ap, subst, ◌∙◌, arith, slice_index_or, slice_index, Option, None, OnOk, AllByRecursion, Contains, cases_eq, cases_lt, nat_tests, Block, PageName, VolumeShape, used_bit, CachesBy, caches_by_one, BlockWords, Caches, CanName, SamePage, Seen, IsIno, inode_block, HasShape, reserved, Kept, SameUpdate, numbers, inode_low, Applied, WordEdit, edited, Inode}
+use Rattle.file_pages.proofs.Common.{◌≡◌, ◌≢◌, ℕ, zero, suc, ◌+◌, ◌-◌, ◌/◌, ◌%◌, ◌<◌, ◌≤◌, ◌==◌, ◌||◌, Bool, inl, inr, true, false, List, [], ◌∷◌, length, map, drop, set, take, refl, get_or-drop, get_or-take, length-drop, length-take-le, map-append, put_run, take-append-drop, take_rest, sym, ap, subst, ◌∙◌, arith, slice_index_or, slice_index, Option, None, OnOk, AllByRecursion, Contains, cases_eq, cases_lt, nat_tests, Block, PageName, VolumeShape, used_bit, CachesBy, caches_by_one, BlockWords, Caches, CanName, SamePage, Seen, IsIno, inode_block, HasShape, reserved, Kept, SameUpdate, numbers, inode_low, Applied, WordEdit, edited, Inode}
 use Rattle.std.specs.Int.{bit_at}
 use Rattle.std.proofs.Common.{Result}
-use Rattle.std.proofs.lemmas.List.{get_or_default, take_more}
+use Rattle.std.proofs.lemmas.List.{get_or-set_other, get_or-set_same, get_or_default, take_more}
 use Rattle.rio_base.specs.Bitmap.{bitmap_block}
 use Rattle.rio_base.proofs.Bitmap.{first_bitmap}
 use Rattle.rio_base.specs.Blocks.{IsSpan}
@@ -46,6 +46,29 @@ run_edited es vs (suc n) d f few h =
     let made : edited f (map word_edit (take (n + 1) es)) ≡ put (edited f (map word_edit (take n es))) e.block.0 e.word e.value = ap (λ xs. edited f (map word_edit xs)) (take_more es n d within) ∙ ap (λ xs. edited f xs) (map-append word_edit (take n es) (e ∷ [])) ∙ edited_on (map word_edit (take n es)) (word_edit e ∷ []) f in
     let one : put_run f b w (n + 1) vs ≡ put (put_run f b w n vs) e.block.0 e.word e.value = sym (put_next f b w n e.value vs (h.value n d less)) ∙ (λ t. put (put_run f b w n vs) (sym (h.block n d less) t) (sym (h.word n d less) t) e.value) in
     ap (λ m. put_run f b w m vs) (sym next) ∙ one ∙ ap (λ (g : BlockWords). put g e.block.0 e.word e.value) before ∙ sym made ∙ ap (λ m. edited f (map word_edit (take m es))) next
+
+-- one edit more that follows makes a run longer
+pub run_more : (es : List Edit) (vs : List ℕ) (n : ℕ) (a b : Edit) → IsEditRun es vs n → n < length es → n < length vs → ((slice_index_or es n a).block.0 ≡ (slice_index_or es 0 b).block.0) × ((slice_index_or es n a).word ≡ (slice_index_or es 0 b).word + n) → IsEditRun es (set vs n (slice_index_or es n a).value) (n + 1)
+run_more es vs n a b h few room follows = record {
+  block = λ t d less. elim (cases_eq t n) [
+    | inl here ↦ ap (λ k. (slice_index_or es k d).block.0) here ∙ ap (λ (e : Edit). e.block.0) (get_or_default es n d a few) ∙ follows.0 ∙ ap (λ (e : Edit). e.block.0) (get_or_default es 0 b d some)
+    | inr away ↦ h.block t d (omega (arith, less, away))
+  ];
+  word = λ t d less. elim (cases_eq t n) [
+    | inl here ↦ ap (λ k. (slice_index_or es k d).word) here ∙ ap (λ (e : Edit). e.word) (get_or_default es n d a few) ∙ follows.1 ∙ ap (λ (e : Edit). e.word + n) (get_or_default es 0 b d some) ∙ ap (λ k. (slice_index_or es 0 d).word + k) (sym here)
+    | inr away ↦ h.word t d (omega (arith, less, away))
+  ];
+  value = λ t d less. elim (cases_eq t n) [
+    | inl here ↦ ap (λ k. (slice_index_or es k d).value) here ∙ ap (λ (e : Edit). e.value) (get_or_default es n d a few) ∙ sym (get_or-set_same vs n v 0 room) ∙ ap (slice_index (set vs n v)) (sym here)
+    | inr away ↦ h.value t d (omega (arith, less, away)) ∙ sym (get_or-set_other vs n t v 0 away)
+  ];
+}
+  where
+    v : ℕ
+    v = (slice_index_or es n a).value
+
+    some : 0 < length es
+    some = omega (arith, few)
 
 -- the words of a run that is made in one call
 pub run_made : (es : List Edit) (vs : List ℕ) (n : ℕ) (d : Edit) (f g : BlockWords) → n ≤ length es → n ≤ length vs → IsEditRun es vs n → g ≡ put_run f (slice_index_or es 0 d).block.0 (slice_index_or es 0 d).word (length (take n vs)) (take n vs) → g ≡ edited f (map word_edit (take n es))
@@ -148,6 +171,35 @@ applied shape i inode edits taken freed f m p q g fits ino from apart em ep mark
     bit_word b within = ap (λ (h : BlockWords). h (bitmap_block shape b) (b % 32768 / 64)) ep ∙ inode_elsewhere m i (inode_words inode) _ _ (bitmap_away shape i b fits ino within) ∙ ap (λ (h : BlockWords). h (bitmap_block shape b) (b % 32768 / 64)) em
         ∙ edited_out (map word_edit edits) f _ _ (edits_out edits (bitmap_block shape b) (λ e on same. let above = from e on in let low = bits_low shape b within in omega (arith, above, low, same)))
 
+-- blocks marked and unmarked after an update that does neither
+pub applied_marked : (shape : VolumeShape) (i : ℕ) (inode : Inode) (edits : List Edit) (taken freed : List Block) (f p q g : BlockWords) → ((b : ℕ) → Contains (numbers taken) b → Contains (numbers freed) b → ⊥) → Applied shape (node_update i inode edits [] []) f p → SetsBits shape p q (numbers taken) (length (numbers taken)) 1 → SetsBits shape q g (numbers freed) (length (numbers freed)) 0 → Applied shape (node_update i inode edits taken freed) f g
+applied_marked shape i inode edits taken freed f p q g apart made marks clears = record {
+  words = λ b w off. clears.elsewhere b w (λ e. off (inl e)) ∙ marks.elsewhere b w (λ e. off (inl e)) ∙ made.words b w off;
+  taken = λ b on. clears.others b (not_listed (numbers freed) b _ refl (λ z. apart b on z)) ∙ set_of p q (numbers taken) 1 b marks on;
+  freed = λ b on. set_of q g (numbers freed) 0 b clears on;
+  others = λ b within out off. clears.others b (not_listed (numbers freed) b _ refl off) ∙ marks.others b (not_listed (numbers taken) b _ refl out) ∙ made.others b within (in_none b) (in_none b);
+}
+  where
+    set_of : (f g : BlockWords) (bs : List ℕ) (bit b : ℕ) → SetsBits shape f g bs (length bs) bit → Contains bs b → used_bit shape g b ≡ bit
+    set_of f g bs bit b h on = let at = place_of bs b on in subst (λ x. used_bit shape g x ≡ bit) at.2 (h.set at.0 at.1)
+
+    in_none : (b : ℕ) → Contains (numbers []) b → ⊥
+    in_none b (k, few, is) = omega (arith, few)
+
+-- what can be updated can be without the blocks
+pub can_words : (shape : VolumeShape) (edits : List Edit) (gained lost : List ℕ) → CanUpdate shape edits gained lost → CanUpdate shape edits (numbers []) (numbers [])
+can_words shape edits gained lost can = record {
+  words = can.words;
+  from = can.from;
+  to = can.to;
+  taken = λ b on. absurd (in_none b on);
+  freed = λ b on. absurd (in_none b on);
+  apart = λ b on off. in_none b on;
+}
+  where
+    in_none : (b : ℕ) → Contains (numbers []) b → ⊥
+    in_none b (k, few, is) = omega (arith, few)
+
 -- ---- an update whose lists the code has as slices
 
 pub can_update : (shape : VolumeShape) (es us : List Edit) (ts ps fs qs : List Block) → es ≡ us → ts ≡ ps → fs ≡ qs → CanUpdate shape us (numbers ps) (numbers qs) → CanUpdate shape es (numbers ts) (numbers fs)
@@ -179,8 +231,8 @@ first_place es n count d some within is = subst (λ (m : ℕ). (slice_index_or e
 pub first_touched : (es : List Edit) (d e : Edit) (k l : Kept) → 0 < length es → ((a b : Edit) → Contains es a → Contains es b → a.block.0 ≡ b.block.0) → Touches (slice_index_or es 0 d).block.0 k l → Contains es e → l.touched e.block.0 ≡ true
 first_touched es d e k l some one h on = subst (λ b. l.touched b ≡ true) (one _ e (edit_in es 0 d some) on) (touched_now _ k l h)
 
-pub first_edited : (es : List Edit) (d : Edit) → 0 < length es → IsEdited es (slice_index_or es 0 d).block.0
-first_edited es d some = (slice_index_or es 0 d, edit_in es 0 d some, refl)
+pub first_edited : (es us : List Edit) (d : Edit) → es ≡ us → 0 < length es → IsEdited us (slice_index_or es 0 d).block.0
+first_edited es us d same some = (slice_index_or es 0 d, subst (λ xs. Contains xs (slice_index_or es 0 d)) same (edit_in es 0 d some), refl)
 
 pub first_unnamed : (es : List Edit) (d : Edit) (y : Seen) → 0 < length es → ((e : Edit) → Contains es e → y.cached e.block.0 ≡ true → y.names e.block.0 ≡ None) → CanName y (slice_index_or es 0 d).block.0 None
 first_unnamed es d y some none = can_touch y _ (none _ (edit_in es 0 d some))

@@ -1,5 +1,5 @@
 -- Bytes written over pages of a file: they are its bytes, and the volume stays in order.
-use Rattle.file_pages.proofs.Common.{◌≡◌, ℕ, ◌+◌, ◌-◌, ◌*◌, ◌/◌, ◌%◌, ◌<◌, ◌≤◌, ◌⊎◌, true, false, List, length, take, refl, sym, ap, subst, ◌∙◌, arith, inl, inr, slice_index, Result, Err, IsErrOf, Contains, cases_lt, get_or-map-range_with_len, length-map-range_with_len, VolumeShape, BlockWords, Health, Seen, IsIno, reserved, Below, Firm, Kept, Passes, Settled, IsLead, put_at, written, byte_in, word_in, Slot, AtPage, AtTable, Placed, HasSlot, placed_at, Layout, volume_layout, Owns, IsFree, AgreesBeside, SameLayout, lays_same, lays_self, page_page, table_page, pages, Bears, NamedNode, Ready, IsLaid, IsMapped, lays_beside, mapped_beside}
+use Rattle.file_pages.proofs.Common.{◌≡◌, ℕ, ◌+◌, ◌-◌, ◌*◌, ◌/◌, ◌%◌, ◌<◌, ◌≤◌, ◌⊎◌, true, false, List, length, take, refl, sym, ap, subst, ◌∙◌, arith, inl, inr, slice_index, Result, Err, IsErrOf, Contains, cases_lt, get_or-map-range_with_len, length-map-range_with_len, Block, VolumeShape, BlockWords, Health, Seen, IsIno, numbers, reserved, Below, Firm, Kept, Passes, Settled, IsLead, put_at, written, byte_in, word_in, Slot, AtPage, AtTable, Placed, HasSlot, placed_at, Layout, volume_layout, Owns, IsFree, AgreesBeside, SameLayout, lays_same, lays_self, page_page, table_page, pages, Bears, NamedNode, Ready, IsLaid, IsMapped, lays_beside, mapped_beside}
 use Rattle.std.specs.Int.{div_ceil}
 use Rattle.rio_model.specs.Held.{byte_of}
 use Rattle.file_pages.specs.Changes.{Apart}
@@ -21,7 +21,7 @@ use Rattle.file_pages.proofs.ByteRuns.{over_out}
 use Rattle.file_pages.proofs.FileBytes.{bytes_put, over_same, put_written}
 use Rattle.file_pages.proofs.GrowEnds.{stored_both, stored_stops}
 use Rattle.file_pages.proofs.Left.{file_node}
-use Rattle.file_pages.proofs.Listed.{place_of}
+use Rattle.file_pages.proofs.Listed.{as_many, place_of}
 use Rattle.file_pages.proofs.Resized.{file_size, space_less}
 use Rattle.file_pages.proofs.Stored.{as_bears, bears_as, stores_after}
 
@@ -41,6 +41,14 @@ pages_of l i first count blocks ino used within same = subst (λ bs. IsPages l i
   where
     long : length (page_blocks (l.node i) first count) ≡ count
     long = length-map-range_with_len (λ p. (l.node i).block (AtPage p)) first count
+
+-- those of as many pages as there are blocks, after a look-up
+pub looked_blocks : (f g : BlockWords) (i first count : ℕ) (blocks : List Block) → g ≡ f → numbers blocks ≡ page_blocks (placed_at f i) first count → numbers blocks ≡ page_blocks (placed_at g i) first (length blocks)
+looked_blocks f g i first count blocks same is =
+    is ∙ ap (λ n. page_blocks (placed_at f i) first n) (sym long) ∙ ap (λ (h : BlockWords). page_blocks (placed_at h i) first (length blocks)) (sym same)
+  where
+    long : length blocks ≡ count
+    long = sym (as_many blocks) ∙ ap (λ (xs : List ℕ). length xs) is ∙ length-map-range_with_len (λ p. (placed_at f i).block (AtPage p)) first count
 
 -- they reach as far as bytes within the size
 pub pages_over : (l : Layout) (i off len size end : ℕ) (blocks : List ℕ) → IsIno l.shape i → (l.node i).kind ≡ 2 → size ≡ (l.node i).size → 0 < len → off + len ≤ size → end ≡ div_ceil (off + len) 4096 → blocks ≡ page_blocks (l.node i) (off / 4096) (end - off / 4096) → IsPages l i (off / 4096) blocks × (off + len ≤ 4096 * (off / 4096 + length blocks)) × (off / 4096 + length blocks ≤ pages size)

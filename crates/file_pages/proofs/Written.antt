@@ -3,10 +3,13 @@ use Rattle.file_pages.proofs.Common.{◌≤◌, ◌≡◌, ◌==◌, ℕ, true, 
 use Rattle.rio_base.specs.declared.failures.ReadFail.{ReadFail}
 use Rattle.rio_base.specs.declared.failures.ReadFail.TheVariants.{Fault as ReadFault, Stopped as ReadStopped, Memory as ReadMemory}
 use Rattle.rio_base.specs.declared.failures.VolFail.TheVariants.{Fault as VolFault, Stopped as VolStopped}
-use Rattle.rio_base.specs.Blocks.{Ends}
+use Rattle.rio_base.specs.declared.failures.RunFail.{RunFail}
+use Rattle.rio_base.specs.declared.failures.RunFail.TheVariants.{Fault as RunFault, Stopped as RunStopped}
+use Rattle.rio_base.specs.Blocks.{Ends, as_word}
 use Rattle.rio_base.proofs.Rules.{ends_by, ends_by_well}
 use Rattle.rio_model.proofs.WordRules.{beside_refl}
-use Rattle.file_pages.specs.Failures.{write_handed, write_of_bytes, write_of_read, write_of_size}
+use Rattle.file_pages.specs.Extending.{told_after}
+use Rattle.file_pages.specs.Failures.{bytes_handed, write_handed, write_of_bytes, write_of_read, write_of_size}
 use Rattle.file_pages.specs.declared.failures.SizeFail.{SizeFail}
 use Rattle.file_pages.specs.declared.failures.SizeFail.TheVariants.{NoSpace as SizeNoSpace, TooLarge as SizeTooLarge, Fault as SizeFault, Stopped as SizeStopped, Memory as SizeMemory}
 use Rattle.file_pages.proofs.Ends.{EndsRead, EndsSize}
@@ -108,6 +111,9 @@ EndsWrite s t r = EndsBy s t ((k : ℕ) × IsErrOf r (Fault k)) (IsErrOf r Stopp
 not_fault : {T : Type 0} (k : ℕ) → IsErrOf {T = T} (Err Stopped) (Fault k) → ⊥
 not_fault k is = cc
 
+stop_told : {T : Type 0} (k : ℕ) → IsErrOf {T = T} (Err BytesStopped) (BytesFault k) → ⊥
+stop_told k is = cc
+
 write_as : {T U : Type 0} (s t : Health) (e : BytesFail) → EndsBytes {T = T} s t (Err e) → EndsWrite {T = U} s t (Err (write_of_bytes e))
 write_as s t (BytesFault done) h = ends_by_as s t _ _ _ _ (λ a. (done, refl)) (λ a. cc) (λ a. cc) h
 write_as {T = T} {U = U} s t BytesStopped h = ends_by_as s t _ _ _ _ (λ a. absurd (not_fault {T = U} a.0 a.1)) (λ a. refl) (λ a. refl) h
@@ -135,6 +141,21 @@ size_as {T = T} {U = U} s t SizeMemory h = ends_by_as s t _ _ _ _ (λ a. absurd 
 
 pub ends_write_size : {T U : Type 0} (s t : Health) (r : Result T SizeFail) (q : Result U WriteFail) (e : SizeFail) (d : WriteFail) → r ≡ Err e → q ≡ Err d → d ≡ write_of_size e → EndsSize s t r → EndsWrite s t q
 ends_write_size {T = T} {U = U} s t r q e d re qd de h = subst (λ (v : Result U WriteFail). EndsWrite s t v) (sym (qd ∙ ap Err de)) (size_as s t e (subst (λ (v : Result T SizeFail). EndsSize s t v) re h))
+
+-- an update's end, told once so many bytes count
+told_well : (u : Unit {0}) (k : ℕ) → IsErrOf {T = Unit {0}} (Ok u) (Fault k) → ⊥
+told_well u k is = cc
+
+pub ends_told_after : (s t : Health) (done : ℕ) (r : Result (Unit {0}) SizeFail) (q : Result (Unit {0}) WriteFail) → q ≡ told_after done r → EndsSize s t r → EndsWrite s t q
+ends_told_after s t done r q is h = subst (λ (v : Result (Unit {0}) WriteFail). EndsWrite s t v) (sym is) (by r h)
+  where
+    by : (r : Result (Unit {0}) SizeFail) → EndsSize s t r → EndsWrite s t (told_after done r)
+    by (Ok u) h = ends_by_well s t _ _ h.later (h.runs (λ a. cc)) (λ a. told_well u a.0 a.1) (λ a. cc)
+    by (Err SizeNoSpace) h = size_as s t SizeNoSpace h
+    by (Err SizeTooLarge) h = size_as s t SizeTooLarge h
+    by (Err SizeFault) h = ends_by_as s t _ _ _ _ (λ a. refl) (λ a. cc) (λ a. cc) h
+    by (Err SizeStopped) h = size_as s t SizeStopped h
+    by (Err SizeMemory) h = size_as s t SizeMemory h
 
 -- it was refused as that was
 size_space : {T U : Type 0} (e : SizeFail) → IsErrOf {T = U} (Err (write_of_size e)) NoSpace → IsErrOf {T = T} (Err e) SizeNoSpace
@@ -211,6 +232,21 @@ bytes_as s t BytesStopped h = bytes_stop s t BytesStopped refl h
 
 pub ends_bytes : {T U : Type 0} (s t : Health) (r : Result T BytesFail) (q : Result U BytesFail) (e d : BytesFail) → r ≡ Err e → q ≡ Err d → d ≡ e → EndsBytes s t r → EndsBytes s t q
 ends_bytes {T = T} {U = U} s t r q e d re qd de h = subst (λ (v : Result U BytesFail). EndsBytes s t v) (sym (qd ∙ ap Err de)) (bytes_as s t e (subst (λ (v : Result T BytesFail). EndsBytes s t v) re h))
+
+-- a call of the volume that failed before bytes were stored
+bytes_of_vol : {T U : Type 0} (s t : Health) (e : VolFail) → Ends {T = T} s t (Err e) → EndsBytes {T = U} s t (Err (bytes_handed e))
+bytes_of_vol s t VolFault h = ends_by_as s t _ _ _ _ (λ a. refl) (λ a. cc) (λ a. cc) (ends_by s t (Err VolFault) h)
+bytes_of_vol {T = T} {U = U} s t VolStopped h = ends_by_as s t _ _ _ _ (λ a. absurd (stop_told {T = U} a.0 a.1)) (λ a. refl) (λ a. refl) (ends_by s t (Err VolStopped) h)
+
+pub ends_bytes_vol : {T U : Type 0} (s t : Health) (r : Result T VolFail) (q : Result U BytesFail) (e : VolFail) (d : BytesFail) → r ≡ Err e → q ≡ Err d → d ≡ bytes_handed e → Ends s t r → EndsBytes s t q
+ends_bytes_vol {T = T} {U = U} s t r q e d re qd de h = subst (λ (v : Result U BytesFail). EndsBytes s t v) (sym (qd ∙ ap Err de)) (bytes_of_vol s t e (subst (λ (v : Result T VolFail). Ends s t v) re h))
+
+-- a run of words of which not all were stored
+pub run_fault : {T U : Type 0} (s t : Health) (e : RunFail) (n m : ℕ) → e ≡ RunFault n → Ends s t (as_word {T = T} (Err e)) → EndsBytes {T = U} s t (Err (BytesFault m))
+run_fault {T = T} s t e n m is h = ends_by_as s t _ _ _ _ (λ a. refl) (λ a. cc) (λ a. cc) (ends_by s t (Err VolFault) (subst (λ x. Ends s t (as_word {T = T} (Err x))) is h))
+
+pub run_stop : {T U : Type 0} (s t : Health) (e : RunFail) → e ≡ RunStopped → Ends s t (as_word {T = T} (Err e)) → EndsBytes {T = U} s t (Err BytesStopped)
+run_stop {T = T} {U = U} s t e is h = ends_by_as s t _ _ _ _ (λ a. absurd (stop_told {T = U} a.0 a.1)) (λ a. refl) (λ a. refl) (ends_by s t (Err VolStopped) (subst (λ x. Ends s t (as_word {T = T} (Err x))) is h))
 
 pub bytes_well : {T : Type 0} (v : T) (k : ℕ) → IsErrOf (Ok v) (BytesFault k) → ⊥
 bytes_well v k is = cc

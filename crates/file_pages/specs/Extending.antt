@@ -1,19 +1,14 @@
 -- A write past a file's end: what is prepared for it, and how its update ends.
-use Rattle.std.specs.Prelude.{◌≡◌, ℕ, ◌-◌, List, length}
+use Rattle.std.specs.Prelude.{◌≡◌, ℕ, ◌-◌, List, Result, Ok, Err}
 use Rattle.rio_base.specs.declared.places.VolumeShape.{VolumeShape}
 use Rattle.rio_base.specs.Blocks.{BlockWords, Seen}
 use Rattle.rio_base.specs.Volume.{Kept}
 use Rattle.block_alloc.specs.Bitmap.{numbers}
 use Rattle.inode_table.specs.declared.inode.Inode.{Inode}
-use Rattle.rio_model.specs.FileParts.{IsLead, written}
-use Rattle.rio_model.specs.Held.{held, held_bytes}
 use Rattle.rio_model.specs.NodeChanges.{AreLowest}
-use Rattle.rio_model.specs.Placed.{Placed, placed_at}
 use Rattle.rio_model.specs.Sizes.{pages}
 use Rattle.file_pages.specs.Changes.{Grows, planned_node}
-use Rattle.file_pages.specs.Files.{HasSpaceFor, file_bytes}
 use Rattle.file_pages.specs.LookingUp.{page_blocks}
-use Rattle.file_pages.specs.Preparing.{Prepared}
 use Rattle.file_pages.specs.declared.changes.SizeChange.{SizeChange}
 use Rattle.file_pages.specs.declared.failures.SizeFail.{SizeFail}
 use Rattle.file_pages.specs.declared.failures.SizeFail.TheVariants.{NoSpace, TooLarge, Fault, Stopped, Memory}
@@ -27,13 +22,6 @@ pub record Extends (shape : VolumeShape) (f : BlockWords) (y : Seen) (j : Kept) 
   pub span : blocks ≡ page_blocks (planned_node f i given len c) first (pages len - first)
   pub lowest : AreLowest shape f (numbers c.taken)
 
--- the bytes of a write are stored in the pages of the file as it will be, m, and the first `done` of them count already
-pub record HoldsWritten (shape : VolumeShape) (f : BlockWords) (y : Seen) (j : Kept) (i off : ℕ) (bytes : List ℕ) (done : ℕ) (m : Placed) (c : SizeChange) : Type 0 where
-  pub prepared : Prepared shape f y j i m c
-  pub all : held_bytes (held y.words m) ≡ written (file_bytes shape f i) off bytes
-  pub lead : IsLead (file_bytes shape f i) off bytes done (held_bytes (held y.words (placed_at f i)))
-  pub space : HasSpaceFor shape f (length (file_bytes shape f i)) off bytes
-
 -- a failure of the update, once so many bytes count
 abbrev pub failed_after : ℕ → SizeFail → WriteFail
 failed_after done NoSpace = WriteNoSpace
@@ -41,3 +29,8 @@ failed_after done TooLarge = WriteTooLarge
 failed_after done Fault = WriteFault done
 failed_after done Stopped = WriteStopped
 failed_after done Memory = WriteMemory
+
+-- how a write ends whose update ended so, once so many bytes count
+abbrev pub told_after : ℕ → Result (Unit {0}) SizeFail → Result (Unit {0}) WriteFail
+told_after done (Ok u) = Ok u
+told_after done (Err e) = Err (failed_after done e)

@@ -1,25 +1,22 @@
 //! One update that makes a prepared change of size stand.
 
-ghost use Rattle.std.specs.Prelude.{◌≡◌, ◌⊎◌, true, false, None, OnOk, IsErrOf};
+ghost use Rattle.std.specs.Prelude.{◌≡◌, true, false, OnOk, IsErrOf};
 ghost use Rattle.rio_base.specs.BlockSets.{CachesBy};
-ghost use Rattle.rio_base.specs.Blocks.{BlockWords, Ends, EndsBy, Halts};
+ghost use Rattle.rio_base.specs.Blocks.{BlockWords, Ends, EndsBy};
 ghost use Rattle.rio_base.specs.Layout.{IsIno};
 ghost use Rattle.rio_base.specs.Shapes.{HasShape};
 ghost use Rattle.rio_base.specs.Volume.{Firm, Goes};
 ghost use Rattle.rio_model.specs.NodeChanges.{Change};
 ghost use Rattle.rio_model.specs.Placed.{Placed, volume_layout};
-ghost use Rattle.rio_model.specs.Updates.{Applied};
-ghost use Rattle.block_alloc.specs.Bitmap.{numbers};
-ghost use Rattle.file_pages.specs.Changes.{size_update};
 ghost use Rattle.file_pages.specs.Preparing.{Committed, Prepared};
 ghost use Rattle.file_pages.specs.Touching.{ChangeTouched};
-ghost use Rattle.file_pages.specs.Updating.{CanChange, CanUpdate, IsUpdated};
+ghost use Rattle.file_pages.specs.Updating.{CanChange, IsUpdated};
 ghost use Rattle.file_pages.specs.Failures.{Unrefused};
 
 use crate::changes::SizeChange;
 use crate::failures::SizeFail;
 use crate::updating::{apply, touch_change};
-use rio_base::{Ino, Stopped, VolFail, Volume, VolumeShape};
+use rio_base::{Ino, VolFail, Volume, VolumeShape};
 
 /// Opens an update and touches the blocks of a change of node `i`. After `Fault` no update is open, and nothing reads or
 /// stands otherwise.
@@ -55,61 +52,8 @@ fn open_change<V: Volume>(
     }
 }
 
-/// Makes a change whose blocks are touched, and makes the update stand.
-fn close_change<V: Volume>(
-    v: &mut V,
-    shape: &VolumeShape,
-    i: Ino,
-    change: &SizeChange,
-) -> Result<(), Stopped>
-    requires sound { V.sound v.old }
-    requires shape { HasShape shape.now (V.seen v.old) }
-    requires in_update { (V.kept v.old).updating ≡ true }
-    requires ino { IsIno shape.now i.0 }
-    requires can { CanUpdate shape.now change.now.edits (numbers change.now.taken) (numbers change.now.freed) }
-    requires touched { ChangeTouched (V.kept v.old) i.0 change.now }
-    ensures ok { OnOk result (Applied shape.now (size_update i.0 change.now) (V.seen v.old).words (V.seen v.new).words × ((V.kept v.new).standing ≡ (V.seen v.new).words) × ((V.kept v.new).updating ≡ false)) }
-    ensures stopped { ((V.kept v.new).standing ≡ (V.kept v.old).standing) ⊎ Applied shape.now (size_update i.0 change.now) (V.seen v.old).words (V.kept v.new).standing }
-    ensures shape { HasShape shape.now (V.seen v.new) }
-    ensures firm { Firm (V.kept v.old) (V.kept v.new) }
-    ensures caches { CachesBy (IsUpdated i.0 change.now.edits) (V.seen v.old) (V.seen v.new) }
-    ensures goes { Goes (V.health v.old) (V.below v.old) (V.health v.new) (V.below v.new) }
-    ensures ends { Halts (V.health v.old) (V.health v.new) result }
-    ensures sound { V.sound v.new }
-{
-    apply(v, shape, i, change)?;
-    v.commit()
-}
-
-/// Makes a prepared change of node `i` in one update. `Fault` leaves everything as it was; `Stopped` leaves all of the
+/// Makes a prepared change of file `i` in one update. `Fault` leaves everything as it was; `Stopped` leaves all of the
 /// change standing, or nothing of it.
-pub fn change_node<V: Volume>(
-    v: &mut V,
-    shape: &VolumeShape,
-    i: Ino,
-    change: &SizeChange,
-) -> Result<(), VolFail>
-    requires sound { V.sound v.old }
-    requires shape { HasShape shape.now (V.seen v.old) }
-    requires idle { (V.kept v.old).updating ≡ false }
-    requires ino { IsIno shape.now i.0 }
-    requires can { CanChange shape.now (V.seen v.old) change.now }
-    ensures ok { OnOk result (Applied shape.now (size_update i.0 change.now) (V.seen v.old).words (V.seen v.new).words × ((V.kept v.new).standing ≡ (V.seen v.new).words) × ((V.kept v.new).updating ≡ false)) }
-    ensures fault { IsErrOf result VolFail.Fault → ((V.kept v.new).updating ≡ false) × ((V.seen v.new).words ≡ (V.seen v.old).words) × ((V.kept v.new).standing ≡ (V.kept v.old).standing) }
-    ensures stopped { ((V.kept v.new).standing ≡ (V.kept v.old).standing) ⊎ Applied shape.now (size_update i.0 change.now) (V.seen v.old).words (V.kept v.new).standing }
-    ensures shape { HasShape shape.now (V.seen v.new) }
-    ensures firm { Firm (V.kept v.old) (V.kept v.new) }
-    ensures caches { CachesBy (IsUpdated i.0 change.now.edits) (V.seen v.old) (V.seen v.new) }
-    ensures goes { Goes (V.health v.old) (V.below v.old) (V.health v.new) (V.below v.new) }
-    ensures ends { Ends (V.health v.old) (V.health v.new) result }
-    ensures sound { V.sound v.new }
-{
-    open_change(v, shape, i, change)?;
-    close_change(v, shape, i, change)?;
-    Ok(())
-}
-
-/// The same, of a file's change that is prepared.
 pub fn commit_change<V: Volume>(
     v: &mut V,
     shape: &VolumeShape,
@@ -128,6 +72,8 @@ pub fn commit_change<V: Volume>(
     ensures ends { EndsBy (V.health v.old) (V.health v.new) (IsErrOf result SizeFail.Fault) (IsErrOf result SizeFail.Stopped) }
     ensures sound { V.sound v.new }
 {
-    change_node(v, shape, i, change)?;
+    open_change(v, shape, i, change)?;
+    apply(v, shape, i, change)?;
+    v.commit()?;
     Ok(())
 }

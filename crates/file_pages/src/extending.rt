@@ -1,11 +1,10 @@
 //! Bytes written past the end of a file.
 
-ghost use Rattle.std.specs.Prelude.{◌≡◌, ◌+◌, ◌-◌, ◌<◌, ◌≤◌, ◌++◌, false, ℕ, List, length, slice_index, IfOk, OnOk, IsErrOf};
+ghost use Rattle.std.specs.Prelude.{◌≡◌, ◌+◌, ◌-◌, ◌<◌, ◌≤◌, ◌++◌, ℕ, length, slice_index, IfOk, OnOk, IsErrOf};
 ghost use Rattle.rio_base.specs.Bitmap.{free_blocks};
-ghost use Rattle.rio_base.specs.Blocks.{EndsBy, Seen};
+ghost use Rattle.rio_base.specs.Blocks.{EndsBy};
 ghost use Rattle.rio_base.specs.Layout.{IsIno};
-ghost use Rattle.rio_base.specs.Shapes.{HasShape};
-ghost use Rattle.rio_base.specs.Volume.{Goes, Kept};
+ghost use Rattle.rio_base.specs.Volume.{Goes};
 ghost use Rattle.rio_model.specs.NodeChanges.{grown};
 ghost use Rattle.rio_model.specs.Placed.{AtPage, Placed, volume_layout};
 ghost use Rattle.rio_model.specs.Sizes.{largest_size, pages};
@@ -13,10 +12,9 @@ ghost use Rattle.rio_model.specs.VolumeReady.{LeavesInUse, Ready};
 ghost use Rattle.block_alloc.specs.Bitmap.{numbers};
 ghost use Rattle.inode_table.specs.Inodes.{IsInode};
 ghost use Rattle.file_pages.specs.Changes.{PlansFor, given_node, wanted_blocks};
-ghost use Rattle.file_pages.specs.Extending.{Extends, HoldsWritten, failed_after};
+ghost use Rattle.file_pages.specs.Extending.{Extends, failed_after, told_after};
 ghost use Rattle.file_pages.specs.Files.{HasSpace};
 ghost use Rattle.file_pages.specs.LookingUp.{CanLookUp, LooksUp, page_blocks};
-ghost use Rattle.file_pages.specs.Updating.{CanChange};
 ghost use Rattle.file_pages.specs.Writing.{WriteLeaves};
 
 use crate::changes::SizeChange;
@@ -29,7 +27,7 @@ use crate::sizes::{page_count, wanted_count};
 use crate::spans::store_parts;
 use crate::taking::take_lowest;
 use inode_table::Inode;
-use rio_base::{Block, Ino, PAGE_BYTES, ReadFail, Volume, VolumeShape};
+use rio_base::{Block, Blocks, Ino, PAGE_BYTES, ReadFail, Volume, VolumeShape};
 use std::alloc::{AllocError, Global};
 
 /// Adds the blocks of pages `first` to `end` of a node that takes these behind its first `have` pages.
@@ -53,7 +51,7 @@ fn push_taken(
 
 /// The blocks of pages `first` to `end` of node `i` once it has these new ones behind its own.
 #[tactic(auto, using(crate::proofs::Given::given_most))]
-fn span_blocks<V: Volume>(
+fn span_blocks<V: Blocks>(
     alloc: Global,
     v: &mut V,
     shape: &VolumeShape,
@@ -82,8 +80,8 @@ fn span_blocks<V: Volume>(
     Ok(blocks)
 }
 
-/// Prepares the growth of file `i` to `len` bytes: its new blocks are made zero and named, and the blocks of its pages from
-/// `first` on are looked up. Nothing that is in use changes.
+/// Prepares the growth of file `i` to `len` bytes: the blocks of its pages from `first` on are looked up, and its new ones
+/// made zero and named. Nothing that is in use changes.
 fn plan_extension<V: Volume>(
     alloc: Global,
     v: &mut V,
@@ -112,9 +110,17 @@ fn plan_extension<V: Volume>(
 {
     let wanted = wanted_count(inode.size, len);
     let taken = take_lowest(alloc, v, shape, wanted)?;
+    let blocks = span_blocks(
+        alloc,
+        v,
+        shape,
+        i,
+        inode,
+        taken.as_slice(),
+        first,
+        page_count(len),
+    )?;
     let change = plan_growth(alloc, v, shape, i, inode, len, taken)?;
-    let new = change.taken.as_slice();
-    let blocks = span_blocks(alloc, v, shape, i, inode, new, first, page_count(len))?;
     Ok((change, blocks))
 }
 
@@ -131,27 +137,11 @@ fn failed_after(fail: SizeFail, done: u64) -> WriteFail
     }
 }
 
-/// Makes the change of size of a file in whose pages a write is stored. The first `done` of its bytes count already.
-fn commit_written<V: Volume>(
-    v: &mut V,
-    shape: &VolumeShape,
-    i: Ino,
-    change: &SizeChange,
-    done: u64,
-) -> Result<(), WriteFail>
-    requires sound { V.sound v.old }
-    requires shape { HasShape shape.now (V.seen v.old) }
-    requires idle { (V.kept v.old).updating ≡ false }
-    requires ino { IsIno shape.now i.0 }
-    requires can { CanChange shape.now (V.seen v.old) change.now }
-    ensures leaves { (x : Seen) (k : Kept) (off : ℕ) (bytes : List ℕ) (m : Placed) → HoldsWritten shape.now x.words (V.seen v.old) (V.kept v.old) i.0 off bytes done m change.now → WriteLeaves shape.now x k (V.seen v.new) (V.kept v.new) i.0 off bytes result }
-    ensures spacious { IsErrOf result WriteFail.NoSpace → ⊥ }
-    ensures small { IsErrOf result WriteFail.TooLarge → ⊥ }
-    ensures goes { Goes (V.health v.old) (V.below v.old) (V.health v.new) (V.below v.new) }
-    ensures ends { EndsBy (V.health v.old) (V.health v.new) ((k : ℕ) × IsErrOf result (WriteFail.Fault k)) (IsErrOf result WriteFail.Stopped) }
-    ensures sound { V.sound v.new }
+/// How a write ends whose update ended so, once so many of its bytes count.
+fn told_after(made: Result<(), SizeFail>, done: u64) -> Result<(), WriteFail>
+    ensures { result ≡ told_after done made }
 {
-    match commit_change(v, shape, i, change) {
+    match made {
         Ok(()) => Ok(()),
         Err(fail) => Err(failed_after(fail, done)),
     }
@@ -186,9 +176,9 @@ pub fn write_past<V: Volume>(
 {
     let len = off + bytes.len() as u64;
     let first = (off / PAGE_BYTES) as u32;
-    let (change, blocks) = plan_extension(alloc, v, shape, i, inode, len, first)?;
+    let planned = plan_extension(alloc, v, shape, i, inode, len, first)?;
     clear_tail(v, shape, i, inode.size, len)?;
-    store_parts(v, i, inode.size, len, &blocks, first, off, bytes)?;
+    store_parts(v, i, inode.size, len, &planned.1, first, off, bytes)?;
     let within = inode.size.saturating_sub(off).min(bytes.len() as u64);
-    commit_written(v, shape, i, &change, within)
+    told_after(commit_change(v, shape, i, &planned.0), within)
 }

@@ -4,9 +4,12 @@ ghost use Rattle.std.specs.Prelude.{◌≡◌, ◌+◌, ◌*◌, ◌/◌, ◌<�
 ghost use Rattle.rio_base.specs.Blocks.{EndsBy};
 ghost use Rattle.rio_base.specs.Layout.{IsIno};
 ghost use Rattle.rio_base.specs.Volume.{Goes};
-ghost use Rattle.rio_model.specs.Placed.{AtPage, placed_at};
+ghost use Rattle.rio_model.specs.Placed.{placed_at};
+ghost use Rattle.rio_model.specs.Sizes.{pages};
 ghost use Rattle.rio_model.specs.VolumeReady.{Ready};
+ghost use Rattle.block_alloc.specs.Bitmap.{numbers};
 ghost use Rattle.inode_table.specs.Inodes.{IsInode};
+ghost use Rattle.file_pages.specs.LookingUp.{page_blocks};
 ghost use Rattle.file_pages.specs.Writing.{WriteLeaves};
 
 use crate::failures::WriteFail;
@@ -16,14 +19,15 @@ use inode_table::Inode;
 use rio_base::{Block, Ino, PAGE_BYTES, Volume, VolumeShape};
 use std::alloc::Global;
 
-/// Writes bytes of file `i`, which has `size` bytes, that lie within page `p` of it, which is block `b`.
-fn write_in_page<V: Volume>(
+/// Writes bytes of file `i`, which has `size` bytes, in rising order. These blocks are its pages from page `first` on, the one
+/// with byte `off`, and the bytes lie within them.
+fn write_pages<V: Volume>(
     v: &mut V,
     shape: &VolumeShape,
     i: Ino,
     size: u64,
-    p: u32,
-    b: Block,
+    first: u32,
+    blocks: &[Block],
     off: u64,
     bytes: &[u8],
 ) -> Result<(), WriteFail>
@@ -34,9 +38,11 @@ fn write_in_page<V: Volume>(
     requires size { size ≡ (placed_at (V.seen v.old).words i.0).size }
     requires some { 0 < length bytes.now }
     requires within { off + length bytes.now ≤ size }
-    requires page { p ≡ off / 4096 }
-    requires to { off + length bytes.now ≤ 4096 * (p + 1) }
-    requires block { b.0 ≡ (placed_at (V.seen v.old).words i.0).block (AtPage p) }
+    requires page { first ≡ off / 4096 }
+    requires to { off + length bytes.now ≤ 4096 * (first + length blocks.now) }
+    requires few { first + length blocks.now ≤ 1048 }
+    requires pages { first + length blocks.now ≤ pages size }
+    requires blocks { numbers blocks.now ≡ page_blocks (placed_at (V.seen v.old).words i.0) first (length blocks.now) }
     ensures leaves { WriteLeaves shape.now (V.seen v.old) (V.kept v.old) (V.seen v.new) (V.kept v.new) i.0 off bytes.now result }
     ensures spacious { IsErrOf result WriteFail.NoSpace → ⊥ }
     ensures small { IsErrOf result WriteFail.TooLarge → ⊥ }
@@ -44,7 +50,7 @@ fn write_in_page<V: Volume>(
     ensures ends { EndsBy (V.health v.old) (V.health v.new) ((k : ℕ) × IsErrOf result (WriteFail.Fault k)) (IsErrOf result WriteFail.Stopped) }
     ensures sound { V.sound v.new }
 {
-    store_span(v, i, size, &[b], p, off, bytes)?;
+    store_span(v, i, size, blocks, first, off, bytes)?;
     Ok(())
 }
 
@@ -75,9 +81,8 @@ pub fn write_within<V: Volume>(
     let first = (off / PAGE_BYTES) as u32;
     let end = (off + bytes.len() as u64).div_ceil(PAGE_BYTES) as u32;
     if let Some(b) = only_direct(inode, first, end) {
-        return write_in_page(v, shape, i, inode.size, first, b, off, bytes);
+        return write_pages(v, shape, i, inode.size, first, &[b], off, bytes);
     }
     let blocks = page_blocks(alloc, v, shape, i, inode, first, end)?;
-    store_span(v, i, inode.size, &blocks, first, off, bytes)?;
-    Ok(())
+    write_pages(v, shape, i, inode.size, first, &blocks, off, bytes)
 }

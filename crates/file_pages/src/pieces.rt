@@ -8,7 +8,7 @@ ghost use Rattle.file_pages.specs.PageBytes.{EndsHave, PutsBytes, bytes_stored, 
 
 use crate::failures::BytesFail;
 use byteorder::{ByteOrder, LittleEndian};
-use rio_base::{Block, PageName, RunFail, VolFail, Volume};
+use rio_base::{Block, Blocks, PageName, RunFail, VolFail, Volume};
 
 /// Words that 1 KiB takes at any place. For these a small room is cleared, and no whole page.
 const FEW_WORDS: usize = 129;
@@ -72,7 +72,7 @@ fn keeps_first(at: usize, len: usize) -> bool
 
 /// A word of a block, read only where it is needed.
 #[tactic(auto, using(rio_base::proofs::BlockRules::caches_refl, rio_base::proofs::Rules::looks_refl))]
-fn own_word<V: Volume>(
+fn own_word<V: Blocks>(
     v: &mut V,
     b: Block,
     name: PageName,
@@ -97,7 +97,7 @@ fn own_word<V: Volume>(
 
 /// The words in which `len` bytes from byte `at` of a block on begin and end. Either is read where the bytes leave some of
 /// it.
-fn end_words<V: Volume>(
+fn end_words<V: Blocks>(
     v: &mut V,
     b: Block,
     name: PageName,

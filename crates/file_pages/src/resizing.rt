@@ -54,8 +54,7 @@ fn shrink<V: Volume>(
 {
     let change = plan_shrink(alloc, v, shape, i, inode, len)?;
     commit_change(v, shape, i, &change)?;
-    forget_all(v, change.freed.as_slice())?;
-    Ok(())
+    forget_all(v, change.freed.as_slice())
 }
 
 /// Makes a file larger. Its new blocks are prepared and its last page is cleared before the one update that makes them
@@ -124,36 +123,6 @@ fn size_at<V: Volume>(
     }
 }
 
-/// The same of a file whose inode is not read yet, and of any size.
-#[tactic(auto, using(crate::proofs::LookingUpRules::can_look_up))]
-fn change_size<V: Volume>(
-    alloc: Global,
-    v: &mut V,
-    shape: &VolumeShape,
-    i: Ino,
-    len: u64,
-) -> Result<(), SizeFail>
-    requires sound { V.sound v.old }
-    requires ready { Ready shape.now (V.seen v.old) (V.kept v.old) }
-    requires ino { IsIno shape.now i.0 }
-    requires file { (placed_at (V.seen v.old).words i.0).kind ≡ 2 }
-    ensures leaves { SizeLeaves shape.now (V.seen v.old) (V.kept v.old) (V.seen v.new) (V.kept v.new) i.0 len result }
-    ensures space { HasSpace shape.now (V.seen v.old).words (placed_at (V.seen v.old).words i.0).size len ⊎ LeavesInUse (volume_layout shape.now (V.seen v.old).words) (V.seen v.old) (V.kept v.old) (V.seen v.new) (V.kept v.new) }
-    ensures room { OnOk result (HasSpace shape.now (V.seen v.old).words (placed_at (V.seen v.old).words i.0).size len) }
-    ensures no_space { IsErrOf result SizeFail.NoSpace → (len ≤ largest_size) × (length (free_blocks shape.now (V.seen v.old).words) < wanted_blocks (placed_at (V.seen v.old).words i.0).size len) }
-    ensures large { IsErrOf result SizeFail.TooLarge → largest_size < len }
-    ensures forgets { OnOk result (Forgets (volume_layout shape.now (V.seen v.old).words) (volume_layout shape.now (V.seen v.new).words) (V.seen v.new)) }
-    ensures goes { Goes (V.health v.old) (V.below v.old) (V.health v.new) (V.below v.new) }
-    ensures ends { EndsBy (V.health v.old) (V.health v.new) (IsErrOf result SizeFail.Fault) (IsErrOf result SizeFail.Stopped) }
-    ensures sound { V.sound v.new }
-{
-    if len > LARGEST_SIZE {
-        return Err(SizeFail::TooLarge);
-    }
-    let inode = look_inode(v, shape, i)?;
-    size_at(alloc, v, shape, i, &inode, len)
-}
-
 /// Gives file `i`, which has this inode, the size `len`: bytes past it are cut off, and zeros fill what is new.
 ///
 /// `NoSpace` comes exactly where fewer blocks are free than the file would take, and blocks that it frees itself are not
@@ -214,5 +183,9 @@ pub fn resize<V: Volume>(
     ensures ends { EndsBy (V.health v.old) (V.health v.new) (IsErrOf result SizeFail.Fault) (IsErrOf result SizeFail.Stopped) }
     ensures sound { V.sound v.new }
 {
-    change_size(alloc, v, shape, i, len)
+    if len > LARGEST_SIZE {
+        return Err(SizeFail::TooLarge);
+    }
+    let inode = look_inode(v, shape, i)?;
+    resize_with(alloc, v, shape, i, &inode, len)
 }

@@ -10,27 +10,6 @@ ghost use Rattle.file_pages.specs.Staging.{Beside, Zeroed, taken_name};
 
 use rio_base::{Block, Ino, PAGE_BYTES, PageName, VolFail, Volume};
 
-/// Makes a block zero under this name, whether it is cached or not. It must not be in use.
-#[tactic(auto, using(crate::proofs::Staged::beside_trans, crate::proofs::Staged::beside_drops, crate::proofs::Staged::beside_caches, crate::proofs::Staged::beside_refl, crate::proofs::Staged::cleared_here))]
-fn stage_block<V: Volume>(v: &mut V, b: Block, name: Option<PageName>) -> Result<(), VolFail>
-    requires sound { V.sound v.old }
-    requires place { b.0 < (V.seen v.old).count }
-    requires name { InRange name }
-    requires idle { (V.kept v.old).updating ≡ false }
-    ensures zeros { OnOk result ((w : ℕ) → (V.seen v.new).words b.0 w ≡ 0) }
-    ensures firm { OnOk result ((V.kept v.new).loose b.0 ≡ false) }
-    ensures named { OnOk result ((V.seen v.new).cached b.0 ≡ true → (V.seen v.new).names b.0 ≡ name) }
-    ensures beside { Beside (λ c. c ≡ b.0) (V.seen v.old) (V.kept v.old) (V.seen v.new) (V.kept v.new) }
-    ensures idle { (V.kept v.new).updating ≡ false }
-    ensures goes { Goes (V.health v.old) (V.below v.old) (V.health v.new) (V.below v.new) }
-    ensures ends { Ends (V.health v.old) (V.health v.new) result }
-    ensures sound { V.sound v.new }
-{
-    v.forget(b)?;
-    v.fresh(b, name)?;
-    Ok(())
-}
-
 /// Bytes of page `index` that a node of `len` bytes uses.
 pub fn bytes_in_page(len: u64, index: u32) -> u32
     requires { index ≤ 1048 }
@@ -57,7 +36,7 @@ fn name_of(file: Ino, kind: u8, first: u32, count: u32, len: u64, t: u32) -> Opt
     Some(PageName { file, index, size })
 }
 
-/// Makes the `t`-th block that a node takes zero under its name.
+/// Makes the `t`-th block that a node takes zero under its name, whether it is cached or not. It must not be in use.
 fn stage_taken<V: Volume>(
     v: &mut V,
     b: Block,
@@ -84,7 +63,8 @@ fn stage_taken<V: Volume>(
     ensures sound { V.sound v.new }
 {
     let name = name_of(file, kind, first, count, len, t);
-    stage_block(v, b, name)
+    v.forget(b)?;
+    v.fresh(b, name)
 }
 
 /// Makes blocks zero that are not in use: pages of a node from `first` on, and perhaps a table behind them.

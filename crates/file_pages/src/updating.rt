@@ -13,7 +13,7 @@ ghost use Rattle.block_alloc.specs.Bitmap.{numbers};
 ghost use Rattle.block_alloc.specs.Words.{bit_of};
 ghost use Rattle.file_pages.specs.Changes.{node_update, size_update, word_edit};
 ghost use Rattle.file_pages.specs.Touching.{BitmapTouched, ChangeTouched, KeepsBlocks};
-ghost use Rattle.file_pages.specs.Updating.{CanChange, CanUpdate, InOneBlock, IsEditRun, IsEdited, IsTouched, IsUpdated, SetsBits};
+ghost use Rattle.file_pages.specs.Updating.{CanChange, CanUpdate, IsEditRun, IsTouched, IsUpdated, SetsBits};
 ghost use Rattle.file_pages.specs.declared.changes.Edit.{Edit};
 
 use crate::changes::{Edit, SizeChange};
@@ -23,33 +23,6 @@ use rio_base::{Block, Ino, Stopped, VolFail, Volume, VolumeShape};
 
 /// The most words that one call edits: those of a directory's row.
 const RUN_WORDS: usize = 8;
-
-/// Touches the block of edits, which are all in one.
-#[tactic(auto, using(rio_base::proofs::BlockSets::caches_by_refl, rio_base::proofs::Rules::looks_refl, rio_base::specs::Rules::firm_refl, rio_base::specs::Rules::goes_refl))]
-fn touch_table<V: Volume>(v: &mut V, shape: &VolumeShape, edits: &[Edit]) -> Result<(), VolFail>
-    requires sound { V.sound v.old }
-    requires shape { HasShape shape.now (V.seen v.old) }
-    requires in_update { (V.kept v.old).updating ≡ true }
-    requires room { (V.kept v.old).touches ≤ 2 }
-    requires within { (e : Edit) → Contains edits.now e → e.block.0 < shape.now.blocks }
-    requires one { InOneBlock edits.now }
-    requires unnamed { (e : Edit) → Contains edits.now e → (V.seen v.old).cached e.block.0 ≡ true → (V.seen v.old).names e.block.0 ≡ None }
-    ensures ok { OnOk result ((e : Edit) → Contains edits.now e → (V.kept v.new).touched e.block.0 ≡ true) }
-    ensures more { OnOk result ((b : ℕ) → (V.kept v.old).touched b ≡ true → (V.kept v.new).touched b ≡ true) }
-    ensures looks { Looks (V.seen v.old) (V.seen v.new) }
-    ensures standing { (V.kept v.new).standing ≡ (V.kept v.old).standing }
-    ensures firm { Firm (V.kept v.old) (V.kept v.new) }
-    ensures caches { CachesBy (λ b name. IsEdited edits.now b × (name ≡ None)) (V.seen v.old) (V.seen v.new) }
-    ensures in_update { (V.kept v.new).updating ≡ true }
-    ensures goes { Goes (V.health v.old) (V.below v.old) (V.health v.new) (V.below v.new) }
-    ensures ends { Ends (V.health v.old) (V.health v.new) result }
-    ensures sound { V.sound v.new }
-{
-    if edits.is_empty() {
-        return Ok(());
-    }
-    v.touch(edits[0].block)
-}
 
 /// Whether a change takes no block and frees none.
 #[tactic(auto, using(crate::proofs::Touched::no_blocks, crate::proofs::Touched::some_blocks))]
@@ -117,7 +90,11 @@ pub fn touch_change<V: Volume>(
 {
     touch_bitmap(v, shape, change)?;
     v.touch(inode_block(shape, i))?;
-    touch_table(v, shape, change.edits.as_slice())
+    let edits = change.edits.as_slice();
+    if edits.is_empty() {
+        return Ok(());
+    }
+    v.touch(edits[0].block)
 }
 
 /// Whether an edit is of the same block as the first one, at the word so many behind its own.
@@ -296,8 +273,7 @@ pub fn make_update<V: Volume>(
     ensures ends { Halts (V.health v.old) (V.health v.new) result }
     ensures sound { V.sound v.new }
 {
-    make_edits(v, edits)?;
-    edit_inode(v, shape, i, inode)?;
+    make_words(v, shape, i, inode, edits)?;
     mark_all(v, shape, taken, true)?;
     mark_all(v, shape, freed, false)
 }

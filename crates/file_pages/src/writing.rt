@@ -55,34 +55,6 @@ fn write_at<V: Volume>(
     }
 }
 
-/// The same to a file whose inode is not read yet.
-#[tactic(auto, using(crate::proofs::LookingUpRules::can_look_up))]
-fn write_some<V: Volume>(
-    alloc: Global,
-    v: &mut V,
-    shape: &VolumeShape,
-    i: Ino,
-    off: u64,
-    bytes: &[u8],
-) -> Result<(), WriteFail>
-    requires sound { V.sound v.old }
-    requires ready { Ready shape.now (V.seen v.old) (V.kept v.old) }
-    requires ino { IsIno shape.now i.0 }
-    requires file { (placed_at (V.seen v.old).words i.0).kind ≡ 2 }
-    requires some { 0 < length bytes.now }
-    requires most { off + length bytes.now ≤ largest_size }
-    ensures leaves { WriteLeaves shape.now (V.seen v.old) (V.kept v.old) (V.seen v.new) (V.kept v.new) i.0 off bytes.now result }
-    ensures room { OnOk result (HasSpace shape.now (V.seen v.old).words (placed_at (V.seen v.old).words i.0).size (off + length bytes.now)) }
-    ensures no_space { IsErrOf result WriteFail.NoSpace → length (free_blocks shape.now (V.seen v.old).words) < wanted_blocks (placed_at (V.seen v.old).words i.0).size (off + length bytes.now) }
-    ensures small { IsErrOf result WriteFail.TooLarge → ⊥ }
-    ensures goes { Goes (V.health v.old) (V.below v.old) (V.health v.new) (V.below v.new) }
-    ensures ends { EndsBy (V.health v.old) (V.health v.new) ((k : ℕ) × IsErrOf result (WriteFail.Fault k)) (IsErrOf result WriteFail.Stopped) }
-    ensures sound { V.sound v.new }
-{
-    let inode = look_inode(v, shape, i)?;
-    write_at(alloc, v, shape, i, &inode, off, bytes)
-}
-
 /// Writes `bytes` to file `i`, which has this inode, from byte `off` on, and says how many they were. Where the file is shorter, zeros fill it up to
 /// `off`. No bytes change nothing.
 ///
@@ -158,6 +130,6 @@ pub fn write<V: Volume>(
     if off > LARGEST_SIZE || count > LARGEST_SIZE - off {
         return Err(WriteFail::TooLarge);
     }
-    write_some(alloc, v, shape, i, off, bytes)?;
-    Ok(count)
+    let inode = look_inode(v, shape, i)?;
+    write_with(alloc, v, shape, i, &inode, off, bytes)
 }

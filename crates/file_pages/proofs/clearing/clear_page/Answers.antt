@@ -1,7 +1,7 @@
-use Rattle.rio_base.proofs.BlockRules.{ends_later}
+use Rattle.rio_base.proofs.BlockRules.{can_name_on, ends_later}
 use Rattle.file_pages.proofs.EndsOn.{ends_vol, if_err, run_told}
-use Rattle.file_pages.proofs.Common.{◌/◌, ◌∙◌, refl, sym, ap, subst, arith, ◌then◌, err_from_is_err_and}
-use Rattle.file_pages.proofs.Stored.{names_grown, stores_page, stores_run, stored_read}
+use Rattle.file_pages.proofs.Common.{◌/◌, ◌∙◌, refl, sym, ap, subst, arith, ◌then◌, err_from_is_err_and, AtPage}
+use Rattle.file_pages.proofs.Stored.{names_grown, page_can, page_low, stores_page, stores_run, stored_read}
 use Rattle.file_pages.specs.Storing.{KeepsFront}
 use Rattle.file_pages.proofs.Tails.{clears_run, run_front, run_whole, run_zeros}
 use Rattle.file_pages.specs.PageBytes.{block_byte}
@@ -118,3 +118,15 @@ returns-in-Err-Fault-clause-ends g c = ends_later _ _ _ _ c.word.ensures.ends.la
 
 pub returns-in-Err-Stopped-clause-ends : goal.returns-in-Err-Stopped-clause-ends
 returns-in-Err-Stopped-clause-ends g c = ends_later _ _ _ _ c.word.ensures.ends.later c.in_ok-word.ensures.ends.cause (run_told _ _ _ _ c.in-Err-Stopped.field-0-is c.in-Err-Stopped.ensures.ends)
+
+pub word-requires-clause-place : goal.word-requires-clause-place
+word-requires-clause-place g c = let count = c.requires.ready.order.has_shape.count in let at = c.requires.block in let to = c.requires.ready.order.mapped.laid.numbers.to c.args.i.0 (AtPage c.args.page) c.requires.owns in record { block = omega (arith, count, at, to); word = omega (arith, c.requires.place) }
+
+pub word-requires-clause-name : goal.word-requires-clause-name
+word-requires-clause-name g c = page_can c.args.shape.now _ _ c.args.i.0 c.args.page c.args.b.0 _ c.requires.ready c.requires.owns c.requires.block c.requires.file refl refl (omega (arith, c.bytes_in_page-size.ensures.size))
+
+pub store_run-requires-clause-name : goal.store_run-requires-clause-name
+store_run-requires-clause-name g c = can_name_on _ _ _ _ (page_can c.args.shape.now _ _ c.args.i.0 c.args.page c.args.b.0 _ c.requires.ready c.requires.owns c.requires.block c.requires.file refl refl (omega (arith, c.bytes_in_page-size.ensures.size))) c.word.ensures.caches
+
+pub bytes_in_page-size-requires : goal.bytes_in_page-size-requires
+bytes_in_page-size-requires g c = let low = page_low c.args.shape.now _ _ c.args.i.0 c.args.page c.requires.ready c.requires.owns in omega (arith, low)

@@ -1,5 +1,6 @@
+use Rattle.file_pages.proofs.Ends.{well_err}
 use Rattle.file_pages.proofs.EndsOn.{halts_later, halts_ok, halts_on, if_err}
-use Rattle.file_pages.proofs.Common.{◌≡◌, ◌<◌, ◌≤◌, false, length, sym, subst, ◌∙◌, le_trans, arith, Contains, goes_trans, numbers, err_from_is_err_and}
+use Rattle.file_pages.proofs.Common.{◌≡◌, ◌<◌, ◌≤◌, Err, false, length, ap, sym, subst, ◌∙◌, le_trans, arith, Contains, goes_trans, numbers, err_from_is_err_and}
 use Rattle.file_pages.proofs.Forgotten.{forgotten_all, forgotten_more}
 use Rattle.file_pages.proofs.Listed.{as_many, block_place, number_at, listed}
 use Rattle.file_pages.proofs.Staged.{beside_drops, beside_trans, beside_wider}
@@ -76,3 +77,9 @@ returns-in_err-forget-clause-goes g c = goes_trans _ _ _ _ _ _ c.loop-t.invarian
 
 pub returns-in_err-forget-clause-ends : goal.returns-in_err-forget-clause-ends
 returns-in_err-forget-clause-ends g c = let p = err_from_is_err_and c.from_residual.result c.from_residual.ensures.1 in halts_later _ _ _ _ c.loop-t.invariant.later c.loop-t.invariant.running (halts_on _ _ c.forget.result c.from_residual.result _ p.0 c.in_err-forget.was p.1 c.forget.ensures.ends)
+
+pub returns-in_err-forget-clause-stops : goal.returns-in_err-forget-clause-stops
+returns-in_err-forget-clause-stops g c = let p = err_from_is_err_and c.from_residual.result c.from_residual.ensures.1 in λ is. p.1 ∙ ap Err p.2
+
+pub returns-clause-stops : goal.returns-clause-stops
+returns-clause-stops g c = λ is. absurd (well_err {T = Unit {0}} tt is)

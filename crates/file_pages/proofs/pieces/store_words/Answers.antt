@@ -1,5 +1,7 @@
-use Rattle.file_pages.proofs.Common.{refl, ◌then◌, SameBut, ap, firm_trans, subst, ◌∙◌}
-use Rattle.file_pages.proofs.PutPieces.{makes, puts_all, puts_front, puts_told}
+use Rattle.file_pages.proofs.Common.{refl, ◌then◌, ◌<◌, SameBut, ap, arith, ends_by_after, err_from_is_err_and, firm_trans, le_trans, subst, sym, ◌∙◌}
+use Rattle.file_pages.proofs.PutPieces.{makes, puts_all, puts_before, puts_front, puts_none, puts_told, stop_untold, told_few}
+use Rattle.file_pages.proofs.EndsOn.{if_err}
+use Rattle.file_pages.proofs.Written.{bytes_ok, bytes_well, ends_bytes_vol, run_fault, run_stop}
 use Rattle.rio_base.proofs.BlockRules.{can_name_on, stored_trans}
 use Rattle.file_pages.proofs.Stored.{stored_read}
 use Rattle.file_pages.proofs.pieces.store_words.Goals as goal
@@ -44,7 +46,7 @@ pub returns-in_err-first-clause-sound : goal.returns-in_err-first-clause-sound
 returns-in_err-first-clause-sound g c = c.end_words.ensures.sound
 
 pub returns-in-Ok-clause-fault : goal.returns-in-Ok-clause-fault
-returns-in-Ok-clause-fault g c = λ k is. absurd cc
+returns-in-Ok-clause-fault g c = λ k is. absurd (bytes_well _ k is)
 
 pub returns-in-Ok-clause-firm : goal.returns-in-Ok-clause-firm
 returns-in-Ok-clause-firm g c = firm_trans _ _ _ (g.met.V.Volume.passes_keeps _ _ c.end_words.ensures.passes).firm c.store_run.ensures.firm
@@ -77,7 +79,7 @@ pub returns-in-Err-Stopped-clause-ok : goal.returns-in-Err-Stopped-clause-ok
 returns-in-Err-Stopped-clause-ok g c = tt
 
 pub returns-in-Err-Stopped-clause-fault : goal.returns-in-Err-Stopped-clause-fault
-returns-in-Err-Stopped-clause-fault g c = λ k is. absurd cc
+returns-in-Err-Stopped-clause-fault g c = λ k is. absurd (stop_untold k is)
 
 pub returns-in-Err-Stopped-clause-firm : goal.returns-in-Err-Stopped-clause-firm
 returns-in-Err-Stopped-clause-firm g c = firm_trans _ _ _ (g.met.V.Volume.passes_keeps _ _ c.end_words.ensures.passes).firm c.store_run.ensures.firm
@@ -138,3 +140,42 @@ returns-in-Err-Stopped-clause-standing g c = subst (λ f. SameBut c.args.b.0 f (
 
 pub returns-in_err-first-clause-standing : goal.returns-in_err-first-clause-standing
 returns-in_err-first-clause-standing g c = record { others = λ b w away. ap (λ f. f b w) (g.met.V.Volume.passes_keeps _ _ c.end_words.ensures.passes).standing }
+
+pub returns-in_err-first-clause-ok : goal.returns-in_err-first-clause-ok
+returns-in_err-first-clause-ok g c = if_err c.from_residual.result _ c.from_residual.ensures.0
+
+pub returns-in_err-first-clause-fault : goal.returns-in_err-first-clause-fault
+returns-in_err-first-clause-fault g c = let p = err_from_is_err_and c.from_residual.result c.from_residual.ensures.1 in puts_before _ _ c.args.b.0 c.args.at c.args.bytes.now c.from_residual.result _ p.0 p.1 p.2 c.end_words.ensures.looks.words
+
+pub returns-in_err-first-clause-front : goal.returns-in_err-first-clause-front
+returns-in_err-first-clause-front g c = (0, omega arith, puts_none _ _ c.args.b.0 c.args.at c.args.bytes.now c.end_words.ensures.looks.words)
+
+pub returns-in_err-first-clause-ends : goal.returns-in_err-first-clause-ends
+returns-in_err-first-clause-ends g c = let p = err_from_is_err_and c.from_residual.result c.from_residual.ensures.1 in ends_bytes_vol _ _ c.end_words.result c.from_residual.result _ p.0 c.in_err-first.was p.1 p.2 c.end_words.ensures.ends
+
+pub returns-in-Ok-clause-ends : goal.returns-in-Ok-clause-ends
+returns-in-Ok-clause-ends g c = bytes_ok _ _ _ (le_trans c.end_words.ensures.ends.later c.in-Ok.ensures.ends.later) (c.in-Ok.ensures.ends.cause ∙ c.in_ok-first.ensures.ends.cause)
+
+pub returns-in-Err-Fault-clause-ends : goal.returns-in-Err-Fault-clause-ends
+returns-in-Err-Fault-clause-ends g c = ends_by_after _ _ _ _ _ c.end_words.ensures.ends.later c.in_ok-first.ensures.ends.cause (run_fault _ _ _ _ _ c.in-Err-Fault.field-0-is c.in-Err-Fault.ensures.ends)
+
+pub returns-in-Err-Stopped-clause-ends : goal.returns-in-Err-Stopped-clause-ends
+returns-in-Err-Stopped-clause-ends g c = ends_by_after _ _ _ _ _ c.end_words.ensures.ends.later c.in_ok-first.ensures.ends.cause (run_stop _ _ _ c.in-Err-Stopped.field-0-is c.in-Err-Stopped.ensures.ends)
+
+pub fill_words-requires-clause-some : goal.fill_words-requires-clause-some
+fill_words-requires-clause-some g c = c.requires.some
+
+pub fill_words-requires-clause-within : goal.fill_words-requires-clause-within
+fill_words-requires-clause-within g c = c.requires.within
+
+pub fill_words-requires-clause-room : goal.fill_words-requires-clause-room
+fill_words-requires-clause-room g c = c.requires.room
+
+pub store_run-requires-clause-place : goal.store_run-requires-clause-place
+store_run-requires-clause-place g c = record { block = subst (λ n. c.args.b.0 < n) (sym c.end_words.ensures.looks.count) c.requires.block; within = omega (arith, c.requires.some, c.requires.within, c.requires.room, c.fill_words.ensures.len) }
+
+pub stored_bytes-requires-clause-within : goal.stored_bytes-requires-clause-within
+stored_bytes-requires-clause-within g c = c.requires.within
+
+pub stored_bytes-requires-clause-few : goal.stored_bytes-requires-clause-few
+stored_bytes-requires-clause-few g c = let few = told_few (Unit {0}) _ _ _ _ c.in-Err-Fault.ensures.fault c.in-Err-Fault.field-0-is in omega (arith, few, c.requires.some, c.requires.within, c.requires.room, c.fill_words.ensures.len)

@@ -1,16 +1,11 @@
 use Rattle.file_pages.proofs.EndsOn.{if_err}
-use Rattle.file_pages.proofs.Common.{◌≡◌, ◌<◌, ◌-◌, ◌+◌, ℕ, length, refl, ap, sym, subst, ◌∙◌, arith, le_trans, slice_index, err_from_is_err_and, ◌then◌, ends_by_after, numbers, most_tables, one_table, Takes, grown, Placed, volume_layout, pages, tables}
-use Rattle.file_pages.specs.Changes.{given_node, Apart}
-use Rattle.file_pages.proofs.GrowingLaws.{end_word, first_word}
-use Rattle.file_pages.specs.Growing.{new_word}
+use Rattle.file_pages.proofs.Common.{length, ap, sym, subst, ◌∙◌, arith, le_trans, err_from_is_err_and, ◌then◌, ends_by_after, numbers}
+use Rattle.file_pages.specs.Changes.{Apart}
 use Rattle.file_pages.proofs.LookingUpRules.{can_look_up}
 use Rattle.file_pages.proofs.OrderRules.{leaves_looked}
-use Rattle.file_pages.specs.declared.changes.SizeChange.{SizeChange}
 use Rattle.file_pages.proofs.Ends.{ends_vol_size, ends_well_memory, ends_well_ok, unrefused_memory, unrefused_ok, unrefused_vol}
-use Rattle.file_pages.proofs.Given.{given_of}
-use Rattle.file_pages.proofs.Grown.{Made, made_grows, made_table}
-use Rattle.file_pages.proofs.Listed.{as_many}
-use Rattle.file_pages.proofs.Planned.{free_place, direct_as, edits_as, edits_table, staged_leaves, staged_of, taken_most, taken_reach, wanted_count, zeroed_as}
+use Rattle.file_pages.proofs.Planned.{free_place, staged_leaves, taken_most, taken_reach}
+use Rattle.file_pages.proofs.PlannedGrowth.{planned_growth}
 use Rattle.file_pages.proofs.PlannedSize.{keeps_looked, keeps_staged}
 use Rattle.file_pages.proofs.planning.plan_growth.Goals as goal
 
@@ -67,63 +62,14 @@ returns-clause-ends g c = ends_well_ok _ _ _ (le_trans c.last_number.ensures.end
 
 pub returns-clause-ok : goal.returns-clause-ok
 returns-clause-ok g c =
-    let shape = c.args.shape.now in
-    let f = (g.V.Blocks.seen c.args.v.now).words in
-    let y = g.V.Blocks.seen c.stage_blocks.new.v in
-    let j = g.V.Volume.kept c.stage_blocks.new.v in
-    let i = c.args.i.0 in
-    let len = c.args.len in
-    let given = c.args.inode.now in
-    let n : Placed = given_node f i given in
-    let all = given_of f i given c.requires.inode in
-    let bs = c.as_slice-blocks.result.now in
-    let cs = c.args.taken in
-    let have = c.page_count-have.result in
-    let want = c.page_count-want.result in
-    let have_is : have ≡ pages given.size = c.page_count-have.ensures.pages in
-    let want_is : want ≡ pages len = c.page_count-want.ensures.pages in
-    let same : bs ≡ cs = c.as_slice-blocks.ensures in
-    let many : length (numbers cs) ≡ (pages len - pages given.size) + (tables len - tables given.size) = as_many cs ∙ c.requires.count ∙ wanted_count given.size len c.requires.grows in
-    let long : length bs ≡ (pages len - pages given.size) + (tables len - tables given.size) = ap length same ∙ sym (as_many cs) ∙ many in
-    let takes : Takes (volume_layout shape f) n len (numbers cs) = record {
-      grows = c.requires.grows;
-      most = c.requires.fits.most;
-      count = many;
-      free = λ t few. c.requires.free t (subst (λ (m : ℕ). t < m) (as_many cs) few);
-      apart = c.requires.apart;
-    } in
-    let made : SizeChange = record { inode = c.grown_inode-inode.result; edits = c.in_ok-edits.edits; taken = cs; freed = c.from.result } in
-    let table = c.grown_table-table.result in
-    let more = most_tables len in
-    let parts : Made shape f i given len c.in_ok-last.last table made = record {
-      laid = c.requires.ready.order.mapped.laid;
-      ino = c.requires.ino;
-      plans = c.requires.inode;
-      fits = c.requires.fits;
-      takes = takes;
-      last_is = c.in_ok-last.ensures.value;
-      last_fits = omega arith;
-      new_table = λ one. c.grown_table-table.ensures.new (omega (arith, one, long, have_is, want_is)) ∙ (λ p. slice_index (numbers (same p)) ((want_is p) - (have_is p)));
-      old_table = λ none. c.grown_table-table.ensures.old (omega (arith, none, long, have_is, want_is));
-      kind = c.grown_inode-inode.ensures.kind;
-      size = c.grown_inode-inode.ensures.size;
-      direct = λ p few. c.grown_inode-inode.ensures.direct p few ∙ direct_as given.direct have (pages given.size) want (pages len) p (numbers bs) (numbers cs) have_is want_is (ap numbers same);
-      indirect = c.grown_inode-inode.ensures.indirect;
-      edits = c.in_ok-edits.ensures ∙ edits_as table c.in_ok-last.last have (pages given.size) want (pages len) _ (first_word (pages given.size)) _ (end_word (pages len) - first_word (pages given.size)) (numbers bs) (numbers cs) have_is want_is (let m = c.max.ensures in omega (arith, have_is, m)) (let m = c.max.ensures in let o = c.max-2.ensures in omega (arith, have_is, want_is, m, o)) (ap numbers same);
-      freed = ap numbers (c.from.ensures ∙ c.new.ensures.items);
-    } in
-    let staged = zeroed_as y j (numbers bs) (numbers cs) i given.kind have (pages given.size) (want - have) (pages len - pages given.size) len (length bs) (length (numbers cs)) (ap numbers same) have_is (λ p. (want_is p) - (have_is p)) (ap length same ∙ sym (as_many cs)) c.in_ok-stage_blocks.ensures.zeroed in
-    let within = c.requires.fits.most in
-    record {
-      turns = made_grows shape f i given len c.in_ok-last.last table made parts;
-      taken = refl;
-      takes = takes;
-      tables = edits_table (grown n len (numbers cs)) table (first_word (pages given.size)) (new_word c.in_ok-last.last (pages given.size) (pages len) (numbers cs)) (end_word (pages len) - first_word (pages given.size)) made.edits parts.edits
-          (λ some. record { used = all.used; within = subst (λ (x : ℕ). 0 < x) (sym (one_table len (omega (arith, some)))) (omega arith) })
-          (λ has. made_table shape f i given len c.in_ok-last.last table made parts 0 has)
-          (omega (arith, within));
-      staged = staged_of (volume_layout shape f) i n len (numbers cs) y j (λ s has. record { node = i; slot = s; owns = record { ino = c.requires.ino; slot = all.back s has }; is = refl }) takes staged;
-    }
+    let have_is = c.page_count-have.ensures.pages in
+    let want_is = c.page_count-want.ensures.pages in
+    let m = c.max.ensures in
+    let o = c.max-2.ensures in
+    planned_growth c.args.shape.now (g.V.Blocks.seen c.args.v.now).words (g.V.Blocks.seen c.stage_blocks.new.v) (g.V.Volume.kept c.stage_blocks.new.v) c.args.i.0 c.args.inode.now c.args.len c.in_ok-last.last c.grown_table-table.result c.page_count-have.result c.page_count-want.result c.as_slice-blocks.result.now c.args.taken c.grown_inode-inode.result c.in_ok-edits.edits c.from.result _ _
+    c.requires.ready.order.mapped.laid c.requires.ino c.requires.inode c.requires.grows c.requires.fits c.requires.count c.requires.free c.requires.apart have_is want_is c.as_slice-blocks.ensures c.in_ok-last.ensures.value (omega arith)
+    c.grown_table-table.ensures.new c.grown_table-table.ensures.old c.grown_inode-inode.ensures.kind c.grown_inode-inode.ensures.size c.grown_inode-inode.ensures.direct c.grown_inode-inode.ensures.indirect
+    c.in_ok-edits.ensures (omega (arith, have_is, m)) (omega (arith, have_is, want_is, m, o)) (ap numbers (c.from.ensures ∙ c.new.ensures.items)) c.in_ok-stage_blocks.ensures.zeroed
 
 pub returns-in_err-last-clause-other : goal.returns-in_err-last-clause-other
 returns-in_err-last-clause-other g c =

@@ -1,111 +1,191 @@
-use Rattle.file_pages.proofs.Common.{◌≡◌, ◌<◌, ◌≤◌, ◌⊎◌, length, sym, subst, IsErrOf, OnOk, free_blocks, IsIno, placed_at, volume_layout, largest_size, LeavesInUse}
+use Rattle.rio_base.specs.Rules.{goes_refl}
+use Rattle.file_pages.proofs.Ends.{ends_vol_size, refused_still, unrefused_vol}
+use Rattle.file_pages.proofs.EndsOn.{if_err}
+use Rattle.file_pages.proofs.LookingUpRules.{can_look_up}
+use Rattle.file_pages.proofs.OrderRules.{leaves_looked, leaves_refl, leaves_trans, ready_left}
+use Rattle.file_pages.proofs.Prepared.{leaves_err}
+use Rattle.file_pages.proofs.Common.{◌≡◌, ◌<◌, ◌≤◌, length, sym, subst, arith, inr, OnOk, err_from_is_err_and, free_blocks, ◌then◌, ends_by_after, IsInode, held_of, largest_size, resized, volume_layout, LeavesInUse}
 use Rattle.file_pages.specs.Changes.{wanted_blocks}
-use Rattle.file_pages.specs.Files.{HasSpace, file_bytes}
-use Rattle.file_pages.specs.declared.failures.SizeFail.TheVariants.{NoSpace}
-use Rattle.file_pages.proofs.Resized.{file_ino, file_placed, file_size, size_fault, size_ok, size_ready, size_refused, size_stopped}
+use Rattle.file_pages.specs.Files.{HasSpace, ResizeStops, SetsBoth, StopsAs, file_bytes}
+use Rattle.file_pages.specs.Forgetting.{Forgets}
+use Rattle.file_pages.proofs.Resized.{file_ino, size_fault, size_stopped}
 use Rattle.file_pages.proofs.resizing.resize.Goals as goal
 
-pub change_size-requires-clause-ino : goal.change_size-requires-clause-ino
-change_size-requires-clause-ino g c =
-    file_ino c.args.shape.now (g.V.Blocks.seen c.args.v.now).words c.args.i.0 c.requires.file
+pub returns-then-len-gt-LARGEST_SIZE-clause-ok : goal.returns-then-len-gt-LARGEST_SIZE-clause-ok
+returns-then-len-gt-LARGEST_SIZE-clause-ok g c = tt
 
-pub change_size-requires-clause-file : goal.change_size-requires-clause-file
-change_size-requires-clause-file g c =
-    file_placed c.args.shape.now (g.V.Blocks.seen c.args.v.now).words c.args.i.0 (file_ino c.args.shape.now (g.V.Blocks.seen c.args.v.now).words c.args.i.0 c.requires.file) c.requires.file
+pub returns-then-len-gt-LARGEST_SIZE-clause-space : goal.returns-then-len-gt-LARGEST_SIZE-clause-space
+returns-then-len-gt-LARGEST_SIZE-clause-space g c = tt
+
+pub returns-then-len-gt-LARGEST_SIZE-clause-forgets : goal.returns-then-len-gt-LARGEST_SIZE-clause-forgets
+returns-then-len-gt-LARGEST_SIZE-clause-forgets g c = tt
+
+pub returns-then-len-gt-LARGEST_SIZE-clause-too_large : goal.returns-then-len-gt-LARGEST_SIZE-clause-too_large
+returns-then-len-gt-LARGEST_SIZE-clause-too_large g c = λ is. omega (arith, c.if-len-gt-LARGEST_SIZE.true)
+
+pub returns-then-len-gt-LARGEST_SIZE-clause-no_space : goal.returns-then-len-gt-LARGEST_SIZE-clause-no_space
+returns-then-len-gt-LARGEST_SIZE-clause-no_space g c = λ is. absurd cc
+
+pub returns-then-len-gt-LARGEST_SIZE-clause-refused : goal.returns-then-len-gt-LARGEST_SIZE-clause-refused
+returns-then-len-gt-LARGEST_SIZE-clause-refused g c = λ is. leaves_refl c.args.shape.now _ _ c.requires.ready
+
+pub returns-then-len-gt-LARGEST_SIZE-clause-fault : goal.returns-then-len-gt-LARGEST_SIZE-clause-fault
+returns-then-len-gt-LARGEST_SIZE-clause-fault g c = λ is. absurd cc
+
+pub returns-then-len-gt-LARGEST_SIZE-clause-stopped : goal.returns-then-len-gt-LARGEST_SIZE-clause-stopped
+returns-then-len-gt-LARGEST_SIZE-clause-stopped g c = λ is. absurd cc
+
+pub returns-then-len-gt-LARGEST_SIZE-clause-ready : goal.returns-then-len-gt-LARGEST_SIZE-clause-ready
+returns-then-len-gt-LARGEST_SIZE-clause-ready g c = inr c.requires.ready
+
+pub returns-then-len-gt-LARGEST_SIZE-clause-goes : goal.returns-then-len-gt-LARGEST_SIZE-clause-goes
+returns-then-len-gt-LARGEST_SIZE-clause-goes g c = goes_refl _ _
+
+pub returns-then-len-gt-LARGEST_SIZE-clause-ends : goal.returns-then-len-gt-LARGEST_SIZE-clause-ends
+returns-then-len-gt-LARGEST_SIZE-clause-ends g c = refused_still _
+
+pub returns-then-len-gt-LARGEST_SIZE-clause-sound : goal.returns-then-len-gt-LARGEST_SIZE-clause-sound
+returns-then-len-gt-LARGEST_SIZE-clause-sound g c = c.requires.sound
+
+pub look_inode-requires-clause-sound : goal.look_inode-requires-clause-sound
+look_inode-requires-clause-sound g c = c.requires.sound
+
+pub look_inode-requires-clause-ino : goal.look_inode-requires-clause-ino
+look_inode-requires-clause-ino g c = file_ino c.args.shape.now (g.V.Blocks.seen c.args.v.now).words c.args.i.0 c.requires.file
+
+pub look_inode-requires-clause-can : goal.look_inode-requires-clause-can
+look_inode-requires-clause-can g c = can_look_up c.args.shape.now _ c.requires.ready.order.has_shape c.requires.ready.order.mapped c.requires.ready.order.named
+
+pub resize_with-requires-clause-sound : goal.resize_with-requires-clause-sound
+resize_with-requires-clause-sound g c = c.look_inode.ensures.sound
+
+pub resize_with-requires-clause-ready : goal.resize_with-requires-clause-ready
+resize_with-requires-clause-ready g c =
+    let shape = c.args.shape.now in
+    let x = g.V.Blocks.seen c.args.v.now in
+    let k = g.V.Volume.kept c.args.v.now in
+    let z = g.V.Blocks.seen c.look_inode.new.v in
+    let l = g.V.Volume.kept c.look_inode.new.v in
+    let looked : LeavesInUse (volume_layout shape x.words) x k z l = leaves_looked shape _ _ _ _ x z k l c.requires.ready c.look_inode.ensures.looks (g.met.V.Volume.passes_keeps _ _ c.look_inode.ensures.passes) in
+    ready_left shape x k z l c.requires.ready looked
+
+pub resize_with-requires-clause-inode : goal.resize_with-requires-clause-inode
+resize_with-requires-clause-inode g c = subst (λ f. IsInode f c.args.i.0 c.in_ok-inode.inode) (sym c.look_inode.ensures.looks.looks.words) c.in_ok-inode.ensures.value
+
+pub resize_with-requires-clause-file : goal.resize_with-requires-clause-file
+resize_with-requires-clause-file g c = subst (λ f. (held_of c.args.shape.now f c.args.i.0).kind ≡ 2) (sym c.look_inode.ensures.looks.looks.words) c.requires.file
+
+pub returns-in_err-inode-clause-ok : goal.returns-in_err-inode-clause-ok
+returns-in_err-inode-clause-ok g c = if_err c.from_residual.result _ c.from_residual.ensures.0
+
+pub returns-in_err-inode-clause-space : goal.returns-in_err-inode-clause-space
+returns-in_err-inode-clause-space g c = if_err c.from_residual.result _ c.from_residual.ensures.0
+
+pub returns-in_err-inode-clause-forgets : goal.returns-in_err-inode-clause-forgets
+returns-in_err-inode-clause-forgets g c = if_err c.from_residual.result _ c.from_residual.ensures.0
+
+pub returns-in_err-inode-clause-too_large : goal.returns-in_err-inode-clause-too_large
+returns-in_err-inode-clause-too_large g c = let p = err_from_is_err_and c.from_residual.result c.from_residual.ensures.1 in λ is. absurd ((unrefused_vol c.from_residual.result _ p.0 p.1 p.2).1 is)
+
+pub returns-in_err-inode-clause-no_space : goal.returns-in_err-inode-clause-no_space
+returns-in_err-inode-clause-no_space g c = let p = err_from_is_err_and c.from_residual.result c.from_residual.ensures.1 in λ is. absurd ((unrefused_vol c.from_residual.result _ p.0 p.1 p.2).0 is)
+
+pub returns-in_err-inode-clause-refused : goal.returns-in_err-inode-clause-refused
+returns-in_err-inode-clause-refused g c =
+    let shape = c.args.shape.now in
+    let x = g.V.Blocks.seen c.args.v.now in
+    let k = g.V.Volume.kept c.args.v.now in
+    let z = g.V.Blocks.seen c.look_inode.new.v in
+    let l = g.V.Volume.kept c.look_inode.new.v in
+    let looked : LeavesInUse (volume_layout shape x.words) x k z l = leaves_looked shape _ _ _ _ x z k l c.requires.ready c.look_inode.ensures.looks (g.met.V.Volume.passes_keeps _ _ c.look_inode.ensures.passes) in
+    λ is. looked
+
+pub returns-in_err-inode-clause-fault : goal.returns-in_err-inode-clause-fault
+returns-in_err-inode-clause-fault g c =
+    let shape = c.args.shape.now in
+    let x = g.V.Blocks.seen c.args.v.now in
+    let k = g.V.Volume.kept c.args.v.now in
+    let z = g.V.Blocks.seen c.look_inode.new.v in
+    let l = g.V.Volume.kept c.look_inode.new.v in
+    let looked : LeavesInUse (volume_layout shape x.words) x k z l = leaves_looked shape _ _ _ _ x z k l c.requires.ready c.look_inode.ensures.looks (g.met.V.Volume.passes_keeps _ _ c.look_inode.ensures.passes) in
+    let p = err_from_is_err_and c.from_residual.result c.from_residual.ensures.1 in
+    let i = c.args.i.0 in
+    let len = c.args.len in
+    let left = leaves_err shape x k z l i len c.from_residual.result p.0 p.1 c.requires.ready (g.met.V.Volume.settled _ c.requires.sound) c.requires.file looked in
+    size_fault shape x k z l i len c.from_residual.result left
+
+pub returns-in_err-inode-clause-stopped : goal.returns-in_err-inode-clause-stopped
+returns-in_err-inode-clause-stopped g c =
+    let shape = c.args.shape.now in
+    let x = g.V.Blocks.seen c.args.v.now in
+    let k = g.V.Volume.kept c.args.v.now in
+    let z = g.V.Blocks.seen c.look_inode.new.v in
+    let l = g.V.Volume.kept c.look_inode.new.v in
+    let looked : LeavesInUse (volume_layout shape x.words) x k z l = leaves_looked shape _ _ _ _ x z k l c.requires.ready c.look_inode.ensures.looks (g.met.V.Volume.passes_keeps _ _ c.look_inode.ensures.passes) in
+    let p = err_from_is_err_and c.from_residual.result c.from_residual.ensures.1 in
+    let i = c.args.i.0 in
+    let len = c.args.len in
+    let left = leaves_err shape x k z l i len c.from_residual.result p.0 p.1 c.requires.ready (g.met.V.Volume.settled _ c.requires.sound) c.requires.file looked in
+    size_stopped shape x k z l i len c.from_residual.result c.requires.ready (g.met.V.Volume.settled _ c.requires.sound) c.requires.file (inr looked) left
+
+pub returns-in_err-inode-clause-ready : goal.returns-in_err-inode-clause-ready
+returns-in_err-inode-clause-ready g c =
+    let shape = c.args.shape.now in
+    let x = g.V.Blocks.seen c.args.v.now in
+    let k = g.V.Volume.kept c.args.v.now in
+    let z = g.V.Blocks.seen c.look_inode.new.v in
+    let l = g.V.Volume.kept c.look_inode.new.v in
+    let looked : LeavesInUse (volume_layout shape x.words) x k z l = leaves_looked shape _ _ _ _ x z k l c.requires.ready c.look_inode.ensures.looks (g.met.V.Volume.passes_keeps _ _ c.look_inode.ensures.passes) in
+    inr (ready_left shape x k z l c.requires.ready looked)
+
+pub returns-in_err-inode-clause-goes : goal.returns-in_err-inode-clause-goes
+returns-in_err-inode-clause-goes g c = (g.met.V.Volume.passes_keeps _ _ c.look_inode.ensures.passes).goes
+
+pub returns-in_err-inode-clause-ends : goal.returns-in_err-inode-clause-ends
+returns-in_err-inode-clause-ends g c = let p = err_from_is_err_and c.from_residual.result c.from_residual.ensures.1 in ends_vol_size _ _ _ c.from_residual.result _ p.0 c.in_err-inode.was p.1 p.2 c.look_inode.ensures.ends
+
+pub returns-in_err-inode-clause-sound : goal.returns-in_err-inode-clause-sound
+returns-in_err-inode-clause-sound g c = c.look_inode.ensures.sound
 
 pub returns-clause-ok : goal.returns-clause-ok
-returns-clause-ok g c =
-    let shape = c.args.shape.now in
-    let x = g.V.Blocks.seen c.args.v.now in
-    let k = g.V.Volume.kept c.args.v.now in
-    let y = g.V.Blocks.seen c.change_size.new.v in
-    let j = g.V.Volume.kept c.change_size.new.v in
-    let i = c.args.i.0 in
-    let len = c.args.len in
-    let r = c.change_size.result in
-    let call = c.change_size.ensures in
-    size_ok shape x k y j i len r call.leaves
+returns-clause-ok g c = subst (λ f. OnOk c.resize_with.result (SetsBoth c.args.shape.now f (g.V.Blocks.seen c.resize_with.new.v) (g.V.Volume.kept c.resize_with.new.v) c.args.i.0 (resized (file_bytes c.args.shape.now f c.args.i.0) c.args.len))) c.look_inode.ensures.looks.looks.words c.resize_with.ensures.ok
 
 pub returns-clause-space : goal.returns-clause-space
-returns-clause-space g c =
-    let shape = c.args.shape.now in
-    let x = g.V.Blocks.seen c.args.v.now in
-    let k = g.V.Volume.kept c.args.v.now in
-    let y = g.V.Blocks.seen c.change_size.new.v in
-    let j = g.V.Volume.kept c.change_size.new.v in
-    let i = c.args.i.0 in
-    let len = c.args.len in
-    let r = c.change_size.result in
-    let call = c.change_size.ensures in
-    let ino : IsIno shape i = file_ino shape x.words i c.requires.file in
-    let size : length (file_bytes shape x.words i) ≡ (placed_at x.words i).size = file_size shape x.words i ino (file_placed shape x.words i ino c.requires.file) in
-    subst (λ s. OnOk r (HasSpace shape x.words s len)) (sym size) call.room
+returns-clause-space g c = subst (λ f. OnOk c.resize_with.result (HasSpace c.args.shape.now f (length (file_bytes c.args.shape.now f c.args.i.0)) c.args.len)) c.look_inode.ensures.looks.looks.words c.resize_with.ensures.space
+
+pub returns-clause-too_large : goal.returns-clause-too_large
+returns-clause-too_large g c = c.resize_with.ensures.too_large
 
 pub returns-clause-no_space : goal.returns-clause-no_space
-returns-clause-no_space g c =
-    let shape = c.args.shape.now in
-    let x = g.V.Blocks.seen c.args.v.now in
-    let k = g.V.Volume.kept c.args.v.now in
-    let y = g.V.Blocks.seen c.change_size.new.v in
-    let j = g.V.Volume.kept c.change_size.new.v in
-    let i = c.args.i.0 in
-    let len = c.args.len in
-    let r = c.change_size.result in
-    let call = c.change_size.ensures in
-    let ino : IsIno shape i = file_ino shape x.words i c.requires.file in
-    let size : length (file_bytes shape x.words i) ≡ (placed_at x.words i).size = file_size shape x.words i ino (file_placed shape x.words i ino c.requires.file) in
-    subst (λ s. IsErrOf r NoSpace → (len ≤ largest_size) × (length (free_blocks shape x.words) < wanted_blocks s len)) (sym size) call.no_space
+returns-clause-no_space g c = λ is. subst (λ f. (c.args.len ≤ largest_size) × (length (free_blocks c.args.shape.now f) < wanted_blocks (length (file_bytes c.args.shape.now f c.args.i.0)) c.args.len)) c.look_inode.ensures.looks.looks.words (c.resize_with.ensures.no_space is)
 
 pub returns-clause-refused : goal.returns-clause-refused
 returns-clause-refused g c =
     let shape = c.args.shape.now in
     let x = g.V.Blocks.seen c.args.v.now in
     let k = g.V.Volume.kept c.args.v.now in
-    let y = g.V.Blocks.seen c.change_size.new.v in
-    let j = g.V.Volume.kept c.change_size.new.v in
-    let i = c.args.i.0 in
-    let len = c.args.len in
-    let r = c.change_size.result in
-    let call = c.change_size.ensures in
-    size_refused shape x k y j i len r call.leaves
+    let z = g.V.Blocks.seen c.look_inode.new.v in
+    let l = g.V.Volume.kept c.look_inode.new.v in
+    let looked : LeavesInUse (volume_layout shape x.words) x k z l = leaves_looked shape _ _ _ _ x z k l c.requires.ready c.look_inode.ensures.looks (g.met.V.Volume.passes_keeps _ _ c.look_inode.ensures.passes) in
+    λ is. leaves_trans shape x k z l (g.V.Blocks.seen c.resize_with.new.v) (g.V.Volume.kept c.resize_with.new.v) c.requires.ready looked (c.resize_with.ensures.refused is)
 
 pub returns-clause-fault : goal.returns-clause-fault
-returns-clause-fault g c =
-    let shape = c.args.shape.now in
-    let x = g.V.Blocks.seen c.args.v.now in
-    let k = g.V.Volume.kept c.args.v.now in
-    let y = g.V.Blocks.seen c.change_size.new.v in
-    let j = g.V.Volume.kept c.change_size.new.v in
-    let i = c.args.i.0 in
-    let len = c.args.len in
-    let r = c.change_size.result in
-    let call = c.change_size.ensures in
-    size_fault shape x k y j i len r call.leaves
+returns-clause-fault g c = λ is. subst (λ f. SetsBoth c.args.shape.now f (g.V.Blocks.seen c.resize_with.new.v) (g.V.Volume.kept c.resize_with.new.v) c.args.i.0 (file_bytes c.args.shape.now f c.args.i.0)) c.look_inode.ensures.looks.looks.words (c.resize_with.ensures.fault is)
 
 pub returns-clause-stopped : goal.returns-clause-stopped
-returns-clause-stopped g c =
-    let shape = c.args.shape.now in
-    let x = g.V.Blocks.seen c.args.v.now in
-    let k = g.V.Volume.kept c.args.v.now in
-    let y = g.V.Blocks.seen c.change_size.new.v in
-    let j = g.V.Volume.kept c.change_size.new.v in
-    let i = c.args.i.0 in
-    let len = c.args.len in
-    let r = c.change_size.result in
-    let call = c.change_size.ensures in
-    let ino : IsIno shape i = file_ino shape x.words i c.requires.file in
-    let size : length (file_bytes shape x.words i) ≡ (placed_at x.words i).size = file_size shape x.words i ino (file_placed shape x.words i ino c.requires.file) in
-    size_stopped shape x k y j i len r c.requires.ready (g.met.V.Volume.settled _ c.requires.sound) c.requires.file (subst (λ s. HasSpace shape x.words s len ⊎ LeavesInUse (volume_layout shape x.words) x k y j) (sym size) call.space) call.leaves
+returns-clause-stopped g c = λ is. subst (λ f. StopsAs c.args.shape.now f (g.V.Blocks.seen c.resize_with.new.v) (g.V.Volume.kept c.resize_with.new.v) c.args.i.0 (ResizeStops c.args.shape.now f c.args.i.0 c.args.len)) c.look_inode.ensures.looks.looks.words (c.resize_with.ensures.stopped is)
 
 pub returns-clause-ready : goal.returns-clause-ready
-returns-clause-ready g c =
-    let shape = c.args.shape.now in
-    let x = g.V.Blocks.seen c.args.v.now in
-    let k = g.V.Volume.kept c.args.v.now in
-    let y = g.V.Blocks.seen c.change_size.new.v in
-    let j = g.V.Volume.kept c.change_size.new.v in
-    let i = c.args.i.0 in
-    let len = c.args.len in
-    let r = c.change_size.result in
-    let call = c.change_size.ensures in
-    size_ready shape x k y j i len r c.requires.ready call.leaves
+returns-clause-ready g c = c.resize_with.ensures.ready
+
+pub returns-clause-forgets : goal.returns-clause-forgets
+returns-clause-forgets g c = subst (λ f. OnOk c.resize_with.result (Forgets (volume_layout c.args.shape.now f) (volume_layout c.args.shape.now (g.V.Blocks.seen c.resize_with.new.v).words) (g.V.Blocks.seen c.resize_with.new.v))) c.look_inode.ensures.looks.looks.words c.resize_with.ensures.forgets
+
+pub returns-clause-goes : goal.returns-clause-goes
+returns-clause-goes g c = (g.met.V.Volume.passes_keeps _ _ c.look_inode.ensures.passes).goes then c.resize_with.ensures.goes
+
+pub returns-clause-ends : goal.returns-clause-ends
+returns-clause-ends g c = ends_by_after _ _ _ _ _ c.look_inode.ensures.ends.later c.in_ok-inode.ensures.ends.cause c.resize_with.ensures.ends
+
+pub returns-clause-sound : goal.returns-clause-sound
+returns-clause-sound g c = c.resize_with.ensures.sound

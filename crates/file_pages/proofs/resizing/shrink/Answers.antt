@@ -1,12 +1,12 @@
-use Rattle.file_pages.proofs.EndsOn.{if_err}
+use Rattle.file_pages.proofs.EndsOn.{if_err, on_ok}
 use Rattle.file_pages.proofs.Common.{◌∙◌, ℕ, sym, subst, arith, inl, Contains, err_from_is_err_and, ◌then◌, numbers, volume_layout, LeavesInUse}
 use Rattle.file_pages.specs.Changes.{planned_node}
 use Rattle.file_pages.specs.Forgetting.{Uncached}
 use Rattle.file_pages.proofs.OrderRules.{leaves_beside, leaves_looked, ready_left}
 use Rattle.file_pages.proofs.LookingUpRules.{can_look_up}
 use Rattle.file_pages.specs.Preparing.{Prepared}
-use Rattle.file_pages.proofs.Dropped.{dropped_ok, dropped_stopped, file_fits, file_kind, freed_free, freed_place, new_bytes, old_bytes}
-use Rattle.file_pages.proofs.Ends.{ends_well_ok, size_err, size_halted, size_then, unrefused_err, unrefused_ok, unrefused_stop}
+use Rattle.file_pages.proofs.Dropped.{dropped_all, file_fits, file_kind, freed_free, freed_place, new_bytes, old_bytes}
+use Rattle.file_pages.proofs.Ends.{size_err, size_halts, size_then, unrefused_err, unrefused_stops}
 use Rattle.file_pages.proofs.Extended.{layout_left}
 use Rattle.file_pages.proofs.Forgotten.{prepared_forgets}
 use Rattle.file_pages.proofs.Prepared.{leaves_err, made_err, made_ok, prepared_can, shrink_prepared}
@@ -128,32 +128,6 @@ forget_all-requires-clause-idle g c =
     let done = made_ok shape x.words y m z l i c.commit_change.result _ c.in_ok-commit_change.was (c.commit_change.ensures.leaves x.words m prepared) in
     done.1.idle
 
-pub returns-in_err-forget_all-clause-leaves : goal.returns-in_err-forget_all-clause-leaves
-returns-in_err-forget_all-clause-leaves g c =
-    let p = err_from_is_err_and c.from_residual-in_err-forget_all.result c.from_residual-in_err-forget_all.ensures.1 in
-    let shape = c.args.shape.now in
-    let x = g.V.Blocks.seen c.args.v.now in
-    let k = g.V.Volume.kept c.args.v.now in
-    let y = g.V.Blocks.seen c.plan_shrink.new.v in
-    let j = g.V.Volume.kept c.plan_shrink.new.v in
-    let z = g.V.Blocks.seen c.commit_change.new.v in
-    let l = g.V.Volume.kept c.commit_change.new.v in
-    let i = c.args.i.0 in
-    let len = c.args.len in
-    let given = c.args.inode.now in
-    let change = c.in_ok-change.change in
-    let call = c.plan_shrink.ensures in
-    let leaves : LeavesInUse (volume_layout shape x.words) x k y j = leaves_looked shape _ _ _ _ x y k j c.requires.ready call.looks (g.met.V.Volume.passes_keeps _ _ call.passes) in
-    let m = planned_node x.words i given len change in
-    let prepared : Prepared shape x.words y j i m change = shrink_prepared shape x k y j i given len change c.requires.ino c.requires.ready (g.met.V.Volume.settled _ call.sound) leaves (inl (c.requires.inode, omega (arith, c.requires.file))) (sym c.requires.inode.kind ∙ c.requires.file) c.requires.file c.requires.inode.size c.requires.less c.in_ok-change.ensures.ok in
-    let done = made_ok shape x.words y m z l i c.commit_change.result _ c.in_ok-commit_change.was (c.commit_change.ensures.leaves x.words m prepared) in
-    let freed = numbers c.as_slice.result.now in
-    let free = λ (b : ℕ) (on : Contains freed b). freed_free shape x.words y.words z.words i m change b call.looks.looks.words (ready_left shape x k y j c.requires.ready leaves).order.mapped (c.in_ok-commit_change.ensures.change x.words m prepared) c.in_ok-change.ensures.ok.turns (subst (λ bs. Contains (numbers bs) b) c.as_slice.ensures on) in
-    let dropped = leaves_beside shape (Contains freed) z l (g.V.Blocks.seen c.forget_all.new.v) (g.V.Volume.kept c.forget_all.new.v) done.1 free c.forget_all.ensures.beside c.forget_all.ensures.idle in
-    let bytes = new_bytes shape x.words y.words i given len change c.requires.ino call.looks.looks.words c.requires.inode c.requires.file c.requires.less in
-    let settled = g.met.V.Volume.settled _ c.commit_change.ensures.sound in
-    dropped_stopped shape x k z l _ _ i len _ c.from_residual-in_err-forget_all.result p.0 p.1 p.2 bytes done.0 done.1 settled dropped
-
 pub returns-clause-leaves : goal.returns-clause-leaves
 returns-clause-leaves g c =
     let shape = c.args.shape.now in
@@ -177,7 +151,7 @@ returns-clause-leaves g c =
     let dropped = leaves_beside shape (Contains freed) z l (g.V.Blocks.seen c.forget_all.new.v) (g.V.Volume.kept c.forget_all.new.v) done.1 free c.forget_all.ensures.beside c.forget_all.ensures.idle in
     let bytes = new_bytes shape x.words y.words i given len change c.requires.ino call.looks.looks.words c.requires.inode c.requires.file c.requires.less in
     let settled = g.met.V.Volume.settled _ c.commit_change.ensures.sound in
-    dropped_ok shape x k z l _ _ i len _ bytes done.0 done.1 settled dropped
+    dropped_all shape x k z l _ _ i len _ c.forget_all.result c.forget_all.ensures.stops bytes done.0 done.1 settled dropped
 
 pub returns-clause-forgets : goal.returns-clause-forgets
 returns-clause-forgets g c =
@@ -201,21 +175,13 @@ returns-clause-forgets g c =
     let free = λ (b : ℕ) (on : Contains freed b). freed_free shape x.words y.words z.words i m change b call.looks.looks.words (ready_left shape x k y j c.requires.ready leaves).order.mapped (c.in_ok-commit_change.ensures.change x.words m prepared) c.in_ok-change.ensures.ok.turns (subst (λ bs. Contains (numbers bs) b) c.as_slice.ensures on) in
     let dropped = leaves_beside shape (Contains freed) z l (g.V.Blocks.seen c.forget_all.new.v) (g.V.Volume.kept c.forget_all.new.v) done.1 free c.forget_all.ensures.beside c.forget_all.ensures.idle in
     let w = g.V.Blocks.seen c.forget_all.new.v in
-    prepared_forgets shape x.words y j i m change z.words w prepared (c.in_ok-commit_change.ensures.change x.words m prepared) (layout_left shape z l w _ done.1 dropped) (subst (λ bs. Uncached (Contains (numbers bs)) w) c.as_slice.ensures c.in_ok-forget_all.ensures.forgotten)
-
-pub returns-in_err-forget_all-clause-goes : goal.returns-in_err-forget_all-clause-goes
-returns-in_err-forget_all-clause-goes g c = (g.met.V.Volume.passes_keeps _ _ c.plan_shrink.ensures.passes).goes then c.commit_change.ensures.goes then c.forget_all.ensures.goes
+    on_ok c.forget_all.result _ _ (λ gone. prepared_forgets shape x.words y j i m change z.words w prepared (c.in_ok-commit_change.ensures.change x.words m prepared) (layout_left shape z l w _ done.1 dropped) (subst (λ bs. Uncached (Contains (numbers bs)) w) c.as_slice.ensures gone)) c.forget_all.ensures.forgotten
 
 pub returns-clause-goes : goal.returns-clause-goes
 returns-clause-goes g c = (g.met.V.Volume.passes_keeps _ _ c.plan_shrink.ensures.passes).goes then c.commit_change.ensures.goes then c.forget_all.ensures.goes
 
-pub returns-in_err-forget_all-clause-ends : goal.returns-in_err-forget_all-clause-ends
-returns-in_err-forget_all-clause-ends g c =
-    let p = err_from_is_err_and c.from_residual-in_err-forget_all.result c.from_residual-in_err-forget_all.ensures.1 in
-    size_then _ _ _ c.plan_shrink.result _ c.from_residual-in_err-forget_all.result c.in_ok-change.was c.plan_shrink.ensures.ends (size_then _ _ _ c.commit_change.result _ c.from_residual-in_err-forget_all.result c.in_ok-commit_change.was c.commit_change.ensures.ends (size_halted _ _ c.forget_all.result c.from_residual-in_err-forget_all.result _ p.0 c.in_err-forget_all.was p.1 p.2 c.forget_all.ensures.ends))
-
 pub returns-clause-ends : goal.returns-clause-ends
-returns-clause-ends g c = size_then _ _ _ c.plan_shrink.result _ _ c.in_ok-change.was c.plan_shrink.ensures.ends (size_then _ _ _ c.commit_change.result _ _ c.in_ok-commit_change.was c.commit_change.ensures.ends (ends_well_ok _ _ _ c.forget_all.ensures.ends.later c.in_ok-forget_all.ensures.ends.cause))
+returns-clause-ends g c = size_then _ _ _ c.plan_shrink.result _ _ c.in_ok-change.was c.plan_shrink.ensures.ends (size_then _ _ _ c.commit_change.result _ _ c.in_ok-commit_change.was c.commit_change.ensures.ends (size_halts _ _ c.forget_all.result c.forget_all.ensures.stops c.forget_all.ensures.ends))
 
 pub returns-in_err-change-clause-other : goal.returns-in_err-change-clause-other
 returns-in_err-change-clause-other g c =
@@ -227,13 +193,8 @@ returns-in_err-commit_change-clause-other g c =
     let p = err_from_is_err_and c.from_residual-in_err-commit_change.result c.from_residual-in_err-commit_change.ensures.1 in
     unrefused_err _ c.from_residual-in_err-commit_change.result _ p.0 c.in_err-commit_change.was p.1 p.2 c.commit_change.ensures.other
 
-pub returns-in_err-forget_all-clause-other : goal.returns-in_err-forget_all-clause-other
-returns-in_err-forget_all-clause-other g c =
-    let p = err_from_is_err_and c.from_residual-in_err-forget_all.result c.from_residual-in_err-forget_all.ensures.1 in
-    unrefused_stop c.from_residual-in_err-forget_all.result p.0 p.1 p.2
-
 pub returns-clause-other : goal.returns-clause-other
-returns-clause-other g c = unrefused_ok _
+returns-clause-other g c = unrefused_stops c.forget_all.result c.forget_all.ensures.stops
 
 pub returns-in_err-change-clause-forgets : goal.returns-in_err-change-clause-forgets
 returns-in_err-change-clause-forgets g c = if_err c.from_residual.result _ c.from_residual.ensures.0
@@ -246,12 +207,6 @@ returns-in_err-commit_change-clause-forgets g c = if_err c.from_residual-in_err-
 
 pub returns-in_err-commit_change-clause-sound : goal.returns-in_err-commit_change-clause-sound
 returns-in_err-commit_change-clause-sound g c = c.commit_change.ensures.sound
-
-pub returns-in_err-forget_all-clause-forgets : goal.returns-in_err-forget_all-clause-forgets
-returns-in_err-forget_all-clause-forgets g c = if_err c.from_residual-in_err-forget_all.result _ c.from_residual-in_err-forget_all.ensures.0
-
-pub returns-in_err-forget_all-clause-sound : goal.returns-in_err-forget_all-clause-sound
-returns-in_err-forget_all-clause-sound g c = c.forget_all.ensures.sound
 
 pub returns-clause-sound : goal.returns-clause-sound
 returns-clause-sound g c = c.forget_all.ensures.sound

@@ -1,12 +1,12 @@
-use Rattle.file_pages.proofs.Common.{◌≡◌, ◌+◌, ◌<◌, ◌∙◌, length, sym, subst, arith, err_from_is_err_and, free_blocks, IsIno, placed_at, inr, refl}
+use Rattle.file_pages.proofs.Common.{◌≡◌, ◌+◌, ◌<◌, ◌≤◌, ◌∙◌, length, sym, subst, arith, err_from_is_err_and, free_blocks, ◌then◌, ends_by_after, inr, IsInode, OnOk, held_of, largest_size, written, volume_layout, LeavesInUse}
 use Rattle.file_pages.specs.Changes.{wanted_blocks}
-use Rattle.file_pages.specs.Files.{HasSpace, file_bytes}
-use Rattle.file_pages.specs.declared.failures.WriteFail.TheVariants.{NoSpace, TooLarge}
-use Rattle.file_pages.proofs.Resized.{file_ino, file_placed, file_size}
-use Rattle.file_pages.proofs.Updated.{some_length}
-use Rattle.file_pages.proofs.Written.{ends_same, ends_write_ok, leaves_same, no_length, none_both, was_err, write_fault, write_ready, write_refused, write_stopped, large_fault, large_space, large_still, large_stopped, well_fault, well_refused, well_stopped, write_still, write_unrefused}
+use Rattle.file_pages.specs.Files.{FaultsAfter, HasSpaceFor, SetsBoth, StopsAs, file_bytes}
+use Rattle.file_pages.specs.Writing.{WriteStops}
+use Rattle.file_pages.proofs.Resized.{file_ino}
+use Rattle.file_pages.proofs.Written.{ends_write_vol, no_length, none_both, none_vol, vol_unrefused, write_fault, write_stopped, large_fault, large_space, large_still, large_stopped, well_fault, well_refused, well_stopped, write_still, write_unrefused}
 use Rattle.file_pages.proofs.EndsOn.{if_err}
-use Rattle.file_pages.proofs.OrderRules.{leaves_refl}
+use Rattle.file_pages.proofs.LookingUpRules.{can_look_up}
+use Rattle.file_pages.proofs.OrderRules.{leaves_looked, leaves_refl, leaves_trans, ready_left}
 use Rattle.rio_base.specs.Rules.{goes_refl}
 use Rattle.file_pages.proofs.writing.write.Goals as goal
 
@@ -14,100 +14,8 @@ pub returns-then-is_empty-clause-ok : goal.returns-then-is_empty-clause-ok
 returns-then-is_empty-clause-ok g c =
     none_both c.args.shape.now (g.V.Blocks.seen c.args.v.now) (g.V.Volume.kept c.args.v.now) c.args.i.0 c.args.off c.args.bytes.now c.requires.ready (g.met.V.Volume.settled _ c.requires.sound) c.requires.file (no_length _ (sym c.is_empty.ensures ∙ c.if-is_empty.true))
 
-pub write_some-requires-clause-ino : goal.write_some-requires-clause-ino
-write_some-requires-clause-ino g c = file_ino c.args.shape.now (g.V.Blocks.seen c.args.v.now).words c.args.i.0 c.requires.file
-
-pub write_some-requires-clause-file : goal.write_some-requires-clause-file
-write_some-requires-clause-file g c =
-    file_placed c.args.shape.now (g.V.Blocks.seen c.args.v.now).words c.args.i.0 (file_ino c.args.shape.now (g.V.Blocks.seen c.args.v.now).words c.args.i.0 c.requires.file) c.requires.file
-
-pub returns-in_err-write_some-clause-no_space : goal.returns-in_err-write_some-clause-no_space
-returns-in_err-write_some-clause-no_space g c =
-    let shape = c.args.shape.now in
-    let x = g.V.Blocks.seen c.args.v.now in
-    let i = c.args.i.0 in
-    let len = c.args.off + length c.args.bytes.now in
-    let ino : IsIno shape i = file_ino shape x.words i c.requires.file in
-    let size : length (file_bytes shape x.words i) ≡ (placed_at x.words i).size = file_size shape x.words i ino (file_placed shape x.words i ino c.requires.file) in
-    let p = err_from_is_err_and c.from_residual.result c.from_residual.ensures.1 in
-    λ is. (
-      some_length _ (sym c.is_empty.ensures ∙ c.if-is_empty.false),
-      omega (arith, c.if-off-gt-LARGEST_SIZE.false, c.if-count-off.false),
-      subst (λ n. length (free_blocks shape x.words) < wanted_blocks n len) (sym size) (c.write_some.ensures.no_space (was_err c.write_some.result c.from_residual.result _ _ NoSpace c.in_err-write_some.was p.1 p.2 is)),
-    )
-
-pub returns-in_err-write_some-clause-refused : goal.returns-in_err-write_some-clause-refused
-returns-in_err-write_some-clause-refused g c =
-    let p = err_from_is_err_and c.from_residual.result c.from_residual.ensures.1 in
-    write_refused c.args.shape.now _ _ _ _ c.args.i.0 c.args.off c.args.bytes.now c.from_residual.result (leaves_same c.args.shape.now _ _ _ _ c.args.i.0 c.args.off c.args.bytes.now c.write_some.result c.from_residual.result _ _ c.in_err-write_some.was p.1 p.2 c.write_some.ensures.leaves)
-
-pub returns-in_err-write_some-clause-fault : goal.returns-in_err-write_some-clause-fault
-returns-in_err-write_some-clause-fault g c =
-    let p = err_from_is_err_and c.from_residual.result c.from_residual.ensures.1 in
-    write_fault c.args.shape.now _ _ _ _ c.args.i.0 c.args.off c.args.bytes.now c.from_residual.result (leaves_same c.args.shape.now _ _ _ _ c.args.i.0 c.args.off c.args.bytes.now c.write_some.result c.from_residual.result _ _ c.in_err-write_some.was p.1 p.2 c.write_some.ensures.leaves)
-
-pub returns-in_err-write_some-clause-stopped : goal.returns-in_err-write_some-clause-stopped
-returns-in_err-write_some-clause-stopped g c =
-    let p = err_from_is_err_and c.from_residual.result c.from_residual.ensures.1 in
-    write_stopped c.args.shape.now _ _ _ _ c.args.i.0 c.args.off c.args.bytes.now c.from_residual.result (leaves_same c.args.shape.now _ _ _ _ c.args.i.0 c.args.off c.args.bytes.now c.write_some.result c.from_residual.result _ _ c.in_err-write_some.was p.1 p.2 c.write_some.ensures.leaves)
-
-pub returns-in_err-write_some-clause-ready : goal.returns-in_err-write_some-clause-ready
-returns-in_err-write_some-clause-ready g c =
-    let p = err_from_is_err_and c.from_residual.result c.from_residual.ensures.1 in
-    write_ready c.args.shape.now _ _ _ _ c.args.i.0 c.args.off c.args.bytes.now c.from_residual.result c.requires.ready (leaves_same c.args.shape.now _ _ _ _ c.args.i.0 c.args.off c.args.bytes.now c.write_some.result c.from_residual.result _ _ c.in_err-write_some.was p.1 p.2 c.write_some.ensures.leaves)
-
-pub returns-in_err-write_some-clause-ends : goal.returns-in_err-write_some-clause-ends
-returns-in_err-write_some-clause-ends g c =
-    let p = err_from_is_err_and c.from_residual.result c.from_residual.ensures.1 in
-    ends_same _ _ c.write_some.result c.from_residual.result _ _ c.in_err-write_some.was p.1 p.2 c.write_some.ensures.ends
-
-pub returns-clause-space : goal.returns-clause-space
-returns-clause-space g c =
-    let shape = c.args.shape.now in
-    let x = g.V.Blocks.seen c.args.v.now in
-    let i = c.args.i.0 in
-    let ino : IsIno shape i = file_ino shape x.words i c.requires.file in
-    let size : length (file_bytes shape x.words i) ≡ (placed_at x.words i).size = file_size shape x.words i ino (file_placed shape x.words i ino c.requires.file) in
-    λ some. subst (λ n. HasSpace shape x.words n (c.args.off + length c.args.bytes.now)) (sym size) c.in_ok-write_some.ensures.room
-
-pub returns-clause-ends : goal.returns-clause-ends
-returns-clause-ends g c = ends_write_ok _ _ c.write_some.result _ _ c.in_ok-write_some.was c.write_some.ensures.ends
-
-pub returns-in_err-write_some-clause-goes : goal.returns-in_err-write_some-clause-goes
-returns-in_err-write_some-clause-goes g c = c.write_some.ensures.goes
-
-pub returns-in_err-write_some-clause-sound : goal.returns-in_err-write_some-clause-sound
-returns-in_err-write_some-clause-sound g c = c.write_some.ensures.sound
-
-pub returns-clause-goes : goal.returns-clause-goes
-returns-clause-goes g c = c.write_some.ensures.goes
-
-pub returns-clause-sound : goal.returns-clause-sound
-returns-clause-sound g c = c.write_some.ensures.sound
-
-pub write_some-requires-clause-sound : goal.write_some-requires-clause-sound
-write_some-requires-clause-sound g c = c.requires.sound
-
-pub write_some-requires-clause-ready : goal.write_some-requires-clause-ready
-write_some-requires-clause-ready g c = c.requires.ready
-
 pub returns-then-is_empty-clause-sound : goal.returns-then-is_empty-clause-sound
 returns-then-is_empty-clause-sound g c = c.requires.sound
-
-pub returns-clause-too_large : goal.returns-clause-too_large
-returns-clause-too_large g c = λ is. absurd ((write_unrefused _).1 is)
-
-pub returns-clause-no_space : goal.returns-clause-no_space
-returns-clause-no_space g c = λ is. absurd ((write_unrefused _).0 is)
-
-pub returns-clause-stopped : goal.returns-clause-stopped
-returns-clause-stopped g c = λ is. absurd (well_stopped _ is)
-
-pub returns-clause-fault : goal.returns-clause-fault
-returns-clause-fault g c = λ k is. absurd (well_fault _ k is)
-
-pub returns-in_err-write_some-clause-too_large : goal.returns-in_err-write_some-clause-too_large
-returns-in_err-write_some-clause-too_large g c = let p = err_from_is_err_and c.from_residual.result c.from_residual.ensures.1 in λ is. absurd (c.write_some.ensures.small (was_err c.write_some.result c.from_residual.result _ _ TooLarge c.in_err-write_some.was p.1 p.2 is))
 
 pub returns-then-is_empty-clause-ends : goal.returns-then-is_empty-clause-ends
 returns-then-is_empty-clause-ends g c = write_still _ _
@@ -172,29 +80,141 @@ returns-then-off-gt-LARGEST_SIZE-clause-value g c = tt
 pub returns-then-off-gt-LARGEST_SIZE-clause-refused : goal.returns-then-off-gt-LARGEST_SIZE-clause-refused
 returns-then-off-gt-LARGEST_SIZE-clause-refused g c = λ is. leaves_refl c.args.shape.now _ _ c.requires.ready
 
-pub returns-clause-ok : goal.returns-clause-ok
-returns-clause-ok g c = c.in_ok-write_some.ensures.leaves.0
+pub look_inode-requires-clause-sound : goal.look_inode-requires-clause-sound
+look_inode-requires-clause-sound g c = c.requires.sound
 
-pub returns-clause-ready : goal.returns-clause-ready
-returns-clause-ready g c = inr c.in_ok-write_some.ensures.leaves.1
+pub look_inode-requires-clause-ino : goal.look_inode-requires-clause-ino
+look_inode-requires-clause-ino g c = file_ino c.args.shape.now (g.V.Blocks.seen c.args.v.now).words c.args.i.0 c.requires.file
 
-pub returns-clause-refused : goal.returns-clause-refused
-returns-clause-refused g c = λ is. absurd (well_refused _ is)
+pub look_inode-requires-clause-can : goal.look_inode-requires-clause-can
+look_inode-requires-clause-can g c = can_look_up c.args.shape.now _ c.requires.ready.order.has_shape c.requires.ready.order.mapped c.requires.ready.order.named
+
+pub write_with-requires-clause-sound : goal.write_with-requires-clause-sound
+write_with-requires-clause-sound g c = c.look_inode.ensures.sound
+
+pub write_with-requires-clause-ready : goal.write_with-requires-clause-ready
+write_with-requires-clause-ready g c =
+    let shape = c.args.shape.now in
+    let x = g.V.Blocks.seen c.args.v.now in
+    let k = g.V.Volume.kept c.args.v.now in
+    let z = g.V.Blocks.seen c.look_inode.new.v in
+    let l = g.V.Volume.kept c.look_inode.new.v in
+    let looked : LeavesInUse (volume_layout shape x.words) x k z l = leaves_looked shape _ _ _ _ x z k l c.requires.ready c.look_inode.ensures.looks (g.met.V.Volume.passes_keeps _ _ c.look_inode.ensures.passes) in
+    ready_left shape x k z l c.requires.ready looked
+
+pub write_with-requires-clause-inode : goal.write_with-requires-clause-inode
+write_with-requires-clause-inode g c = subst (λ f. IsInode f c.args.i.0 c.in_ok-inode.inode) (sym c.look_inode.ensures.looks.looks.words) c.in_ok-inode.ensures.value
+
+pub write_with-requires-clause-file : goal.write_with-requires-clause-file
+write_with-requires-clause-file g c = subst (λ f. (held_of c.args.shape.now f c.args.i.0).kind ≡ 2) (sym c.look_inode.ensures.looks.looks.words) c.requires.file
+
+pub returns-in_err-inode-clause-ok : goal.returns-in_err-inode-clause-ok
+returns-in_err-inode-clause-ok g c = if_err c.from_residual.result _ c.from_residual.ensures.0
+
+pub returns-in_err-inode-clause-space : goal.returns-in_err-inode-clause-space
+returns-in_err-inode-clause-space g c = if_err c.from_residual.result _ c.from_residual.ensures.0
+
+pub returns-in_err-inode-clause-value : goal.returns-in_err-inode-clause-value
+returns-in_err-inode-clause-value g c = if_err c.from_residual.result _ c.from_residual.ensures.0
+
+pub returns-in_err-inode-clause-too_large : goal.returns-in_err-inode-clause-too_large
+returns-in_err-inode-clause-too_large g c = let p = err_from_is_err_and c.from_residual.result c.from_residual.ensures.1 in λ is. absurd ((vol_unrefused c.from_residual.result _ _ p.1 p.2).1 is)
+
+pub returns-in_err-inode-clause-no_space : goal.returns-in_err-inode-clause-no_space
+returns-in_err-inode-clause-no_space g c = let p = err_from_is_err_and c.from_residual.result c.from_residual.ensures.1 in λ is. absurd ((vol_unrefused c.from_residual.result _ _ p.1 p.2).0 is)
+
+pub returns-in_err-inode-clause-refused : goal.returns-in_err-inode-clause-refused
+returns-in_err-inode-clause-refused g c =
+    let shape = c.args.shape.now in
+    let x = g.V.Blocks.seen c.args.v.now in
+    let k = g.V.Volume.kept c.args.v.now in
+    let z = g.V.Blocks.seen c.look_inode.new.v in
+    let l = g.V.Volume.kept c.look_inode.new.v in
+    let looked : LeavesInUse (volume_layout shape x.words) x k z l = leaves_looked shape _ _ _ _ x z k l c.requires.ready c.look_inode.ensures.looks (g.met.V.Volume.passes_keeps _ _ c.look_inode.ensures.passes) in
+    λ is. looked
+
+pub returns-in_err-inode-clause-fault : goal.returns-in_err-inode-clause-fault
+returns-in_err-inode-clause-fault g c =
+    let shape = c.args.shape.now in
+    let x = g.V.Blocks.seen c.args.v.now in
+    let k = g.V.Volume.kept c.args.v.now in
+    let z = g.V.Blocks.seen c.look_inode.new.v in
+    let l = g.V.Volume.kept c.look_inode.new.v in
+    let looked : LeavesInUse (volume_layout shape x.words) x k z l = leaves_looked shape _ _ _ _ x z k l c.requires.ready c.look_inode.ensures.looks (g.met.V.Volume.passes_keeps _ _ c.look_inode.ensures.passes) in
+    let p = err_from_is_err_and c.from_residual.result c.from_residual.ensures.1 in
+    let left = none_vol shape x k z l c.args.i.0 c.args.off c.args.bytes.now c.from_residual.result _ p.0 p.1 p.2 c.requires.ready (g.met.V.Volume.settled _ c.requires.sound) c.requires.file looked in
+    write_fault shape x k z l c.args.i.0 c.args.off c.args.bytes.now c.from_residual.result left
+
+pub returns-in_err-inode-clause-stopped : goal.returns-in_err-inode-clause-stopped
+returns-in_err-inode-clause-stopped g c =
+    let shape = c.args.shape.now in
+    let x = g.V.Blocks.seen c.args.v.now in
+    let k = g.V.Volume.kept c.args.v.now in
+    let z = g.V.Blocks.seen c.look_inode.new.v in
+    let l = g.V.Volume.kept c.look_inode.new.v in
+    let looked : LeavesInUse (volume_layout shape x.words) x k z l = leaves_looked shape _ _ _ _ x z k l c.requires.ready c.look_inode.ensures.looks (g.met.V.Volume.passes_keeps _ _ c.look_inode.ensures.passes) in
+    let p = err_from_is_err_and c.from_residual.result c.from_residual.ensures.1 in
+    let left = none_vol shape x k z l c.args.i.0 c.args.off c.args.bytes.now c.from_residual.result _ p.0 p.1 p.2 c.requires.ready (g.met.V.Volume.settled _ c.requires.sound) c.requires.file looked in
+    write_stopped shape x k z l c.args.i.0 c.args.off c.args.bytes.now c.from_residual.result left
+
+pub returns-in_err-inode-clause-ready : goal.returns-in_err-inode-clause-ready
+returns-in_err-inode-clause-ready g c =
+    let shape = c.args.shape.now in
+    let x = g.V.Blocks.seen c.args.v.now in
+    let k = g.V.Volume.kept c.args.v.now in
+    let z = g.V.Blocks.seen c.look_inode.new.v in
+    let l = g.V.Volume.kept c.look_inode.new.v in
+    let looked : LeavesInUse (volume_layout shape x.words) x k z l = leaves_looked shape _ _ _ _ x z k l c.requires.ready c.look_inode.ensures.looks (g.met.V.Volume.passes_keeps _ _ c.look_inode.ensures.passes) in
+    inr (ready_left shape x k z l c.requires.ready looked)
+
+pub returns-in_err-inode-clause-goes : goal.returns-in_err-inode-clause-goes
+returns-in_err-inode-clause-goes g c = (g.met.V.Volume.passes_keeps _ _ c.look_inode.ensures.passes).goes
+
+pub returns-in_err-inode-clause-ends : goal.returns-in_err-inode-clause-ends
+returns-in_err-inode-clause-ends g c = let p = err_from_is_err_and c.from_residual.result c.from_residual.ensures.1 in ends_write_vol _ _ _ c.from_residual.result _ p.0 c.in_err-inode.was p.1 p.2 c.look_inode.ensures.ends
+
+pub returns-in_err-inode-clause-sound : goal.returns-in_err-inode-clause-sound
+returns-in_err-inode-clause-sound g c = c.look_inode.ensures.sound
 
 pub returns-clause-value : goal.returns-clause-value
-returns-clause-value g c = refl
+returns-clause-value g c = c.write_with.ensures.value
 
-pub returns-in_err-write_some-clause-ok : goal.returns-in_err-write_some-clause-ok
-returns-in_err-write_some-clause-ok g c = if_err c.from_residual.result _ c.from_residual.ensures.0
+pub returns-clause-ok : goal.returns-clause-ok
+returns-clause-ok g c = subst (λ f. OnOk c.write_with.result (SetsBoth c.args.shape.now f (g.V.Blocks.seen c.write_with.new.v) (g.V.Volume.kept c.write_with.new.v) c.args.i.0 (written (file_bytes c.args.shape.now f c.args.i.0) c.args.off c.args.bytes.now))) c.look_inode.ensures.looks.looks.words c.write_with.ensures.ok
 
-pub returns-in_err-write_some-clause-space : goal.returns-in_err-write_some-clause-space
-returns-in_err-write_some-clause-space g c = if_err c.from_residual.result _ c.from_residual.ensures.0
+pub returns-clause-space : goal.returns-clause-space
+returns-clause-space g c = subst (λ f. OnOk c.write_with.result (HasSpaceFor c.args.shape.now f (length (file_bytes c.args.shape.now f c.args.i.0)) c.args.off c.args.bytes.now)) c.look_inode.ensures.looks.looks.words c.write_with.ensures.space
 
-pub returns-in_err-write_some-clause-value : goal.returns-in_err-write_some-clause-value
-returns-in_err-write_some-clause-value g c = if_err c.from_residual.result _ c.from_residual.ensures.0
+pub returns-clause-too_large : goal.returns-clause-too_large
+returns-clause-too_large g c = c.write_with.ensures.too_large
 
-pub write_some-requires-clause-some : goal.write_some-requires-clause-some
-write_some-requires-clause-some g c = some_length _ (sym c.is_empty.ensures ∙ c.if-is_empty.false)
+pub returns-clause-no_space : goal.returns-clause-no_space
+returns-clause-no_space g c = λ is. subst (λ f. (0 < length c.args.bytes.now) × (c.args.off + length c.args.bytes.now ≤ largest_size) × (length (free_blocks c.args.shape.now f) < wanted_blocks (length (file_bytes c.args.shape.now f c.args.i.0)) (c.args.off + length c.args.bytes.now))) c.look_inode.ensures.looks.looks.words (c.write_with.ensures.no_space is)
 
-pub write_some-requires-clause-most : goal.write_some-requires-clause-most
-write_some-requires-clause-most g c = omega (arith, c.if-off-gt-LARGEST_SIZE.false, c.if-count-off.false)
+pub returns-clause-refused : goal.returns-clause-refused
+returns-clause-refused g c =
+    let shape = c.args.shape.now in
+    let x = g.V.Blocks.seen c.args.v.now in
+    let k = g.V.Volume.kept c.args.v.now in
+    let z = g.V.Blocks.seen c.look_inode.new.v in
+    let l = g.V.Volume.kept c.look_inode.new.v in
+    let looked : LeavesInUse (volume_layout shape x.words) x k z l = leaves_looked shape _ _ _ _ x z k l c.requires.ready c.look_inode.ensures.looks (g.met.V.Volume.passes_keeps _ _ c.look_inode.ensures.passes) in
+    λ is. leaves_trans shape x k z l (g.V.Blocks.seen c.write_with.new.v) (g.V.Volume.kept c.write_with.new.v) c.requires.ready looked (c.write_with.ensures.refused is)
+
+pub returns-clause-fault : goal.returns-clause-fault
+returns-clause-fault g c = λ n is. subst (λ f. FaultsAfter c.args.shape.now f (g.V.Blocks.seen c.write_with.new.v) (g.V.Volume.kept c.write_with.new.v) c.args.i.0 c.args.off c.args.bytes.now n) c.look_inode.ensures.looks.looks.words (c.write_with.ensures.fault n is)
+
+pub returns-clause-stopped : goal.returns-clause-stopped
+returns-clause-stopped g c = λ is. subst (λ f. StopsAs c.args.shape.now f (g.V.Blocks.seen c.write_with.new.v) (g.V.Volume.kept c.write_with.new.v) c.args.i.0 (WriteStops c.args.shape.now f c.args.i.0 c.args.off c.args.bytes.now)) c.look_inode.ensures.looks.looks.words (c.write_with.ensures.stopped is)
+
+pub returns-clause-ready : goal.returns-clause-ready
+returns-clause-ready g c = c.write_with.ensures.ready
+
+pub returns-clause-goes : goal.returns-clause-goes
+returns-clause-goes g c = (g.met.V.Volume.passes_keeps _ _ c.look_inode.ensures.passes).goes then c.write_with.ensures.goes
+
+pub returns-clause-ends : goal.returns-clause-ends
+returns-clause-ends g c = ends_by_after _ _ _ _ _ c.look_inode.ensures.ends.later c.in_ok-inode.ensures.ends.cause c.write_with.ensures.ends
+
+pub returns-clause-sound : goal.returns-clause-sound
+returns-clause-sound g c = c.write_with.ensures.sound
