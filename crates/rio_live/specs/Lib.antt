@@ -1,4 +1,5 @@
 pub mod Boots
+pub mod Copies
 pub mod Cores
 pub mod FreshParts
 pub mod Legal

@@ -1,105 +1,99 @@
 //! Copies of requests.
 
 ghost use Rattle.std.specs.Prelude.{◌≡◌, IfOk};
+ghost use Rattle.rio_live.specs.Copies.{with_lists};
 
 use rio_base::Octets;
 use rio_requests::Request;
-use std::alloc::AllocError;
+use std::alloc::{AllocError, Global};
 
 /// A request that is equal to this one. The error means that there was no room for its paths and bytes.
-pub(crate) fn copy_request(request: &Request) -> Result<Request, AllocError>
+pub(crate) fn copy_request(alloc: Global, request: &Request) -> Result<Request, AllocError>
     ensures { IfOk result (λ copy. copy ≡ request.now) }
 {
+    let none = Octets::from(Vec::new(alloc));
+    let (path, other) = lists_of(request, &none);
+    let path = copy_octets(path)?;
+    let other = copy_octets(other)?;
+    Ok(request_of(request, path, other))
+}
+
+/// The path of a request, and its other path or its bytes. One that it does not have is `none`.
+fn lists_of<'a>(request: &'a Request, none: &'a Octets) -> (&'a Octets, &'a Octets)
+    ensures { with_lists result.0.now result.1.now request.now ≡ request.now }
+{
     match request {
-        Request::Mkdir { path } => Ok(Request::Mkdir {
-            path: copy_octets(path)?,
-        }),
-        Request::Create { path } => Ok(Request::Create {
-            path: copy_octets(path)?,
-        }),
+        Request::Mkdir { path }
+        | Request::Create { path }
+        | Request::Region { path, .. }
+        | Request::Read { path, .. }
+        | Request::Truncate { path, .. }
+        | Request::Unlink { path }
+        | Request::Rmdir { path }
+        | Request::Stat { path }
+        | Request::List { path }
+        | Request::Begin { path }
+        | Request::Range { path, .. }
+        | Request::Get { path, .. }
+        | Request::Alloc { path, .. }
+        | Request::Free { path, .. }
+        | Request::Commit { path }
+        | Request::Abort { path } => (path, none),
+        Request::Write { path, bytes, .. } | Request::Put { path, bytes, .. } => (path, bytes),
+        Request::Rename { path, to } => (path, to),
+        Request::Sync
+        | Request::Txns
+        | Request::Flush { .. }
+        | Request::Wild { .. }
+        | Request::Arm { .. } => (none, none),
+    }
+}
+
+/// The request with these lists in place of its own.
+fn request_of(request: &Request, path: Octets, other: Octets) -> Request
+    ensures { result ≡ with_lists path other request.now }
+{
+    match *request {
+        Request::Mkdir { .. } => Request::Mkdir { path },
+        Request::Create { .. } => Request::Create { path },
         Request::Region {
+            data_pages,
+            undo_pages,
+            ..
+        } => Request::Region {
             path,
             data_pages,
             undo_pages,
-        } => Ok(Request::Region {
-            path: copy_octets(path)?,
-            data_pages: *data_pages,
-            undo_pages: *undo_pages,
-        }),
-        Request::Write { path, off, bytes } => Ok(Request::Write {
-            path: copy_octets(path)?,
-            off: *off,
-            bytes: copy_octets(bytes)?,
-        }),
-        Request::Read { path, off, len } => Ok(Request::Read {
-            path: copy_octets(path)?,
-            off: *off,
-            len: *len,
-        }),
-        Request::Truncate { path, len } => Ok(Request::Truncate {
-            path: copy_octets(path)?,
-            len: *len,
-        }),
-        Request::Unlink { path } => Ok(Request::Unlink {
-            path: copy_octets(path)?,
-        }),
-        Request::Rmdir { path } => Ok(Request::Rmdir {
-            path: copy_octets(path)?,
-        }),
-        Request::Rename { path, to } => Ok(Request::Rename {
-            path: copy_octets(path)?,
-            to: copy_octets(to)?,
-        }),
-        Request::Stat { path } => Ok(Request::Stat {
-            path: copy_octets(path)?,
-        }),
-        Request::List { path } => Ok(Request::List {
-            path: copy_octets(path)?,
-        }),
-        Request::Sync => Ok(Request::Sync),
-        Request::Begin { path } => Ok(Request::Begin {
-            path: copy_octets(path)?,
-        }),
-        Request::Range { path, off, len } => Ok(Request::Range {
-            path: copy_octets(path)?,
-            off: *off,
-            len: *len,
-        }),
-        Request::Put { path, off, bytes } => Ok(Request::Put {
-            path: copy_octets(path)?,
-            off: *off,
-            bytes: copy_octets(bytes)?,
-        }),
-        Request::Get { path, off, len } => Ok(Request::Get {
-            path: copy_octets(path)?,
-            off: *off,
-            len: *len,
-        }),
-        Request::Alloc { path, units } => Ok(Request::Alloc {
-            path: copy_octets(path)?,
-            units: *units,
-        }),
-        Request::Free { path, at } => Ok(Request::Free {
-            path: copy_octets(path)?,
-            at: *at,
-        }),
-        Request::Commit { path } => Ok(Request::Commit {
-            path: copy_octets(path)?,
-        }),
-        Request::Abort { path } => Ok(Request::Abort {
-            path: copy_octets(path)?,
-        }),
-        Request::Txns => Ok(Request::Txns),
-        Request::Flush { count } => Ok(Request::Flush { count: *count }),
-        Request::Wild { at, value } => Ok(Request::Wild {
-            at: *at,
-            value: *value,
-        }),
-        Request::Arm { step, at, value } => Ok(Request::Arm {
-            step: *step,
-            at: *at,
-            value: *value,
-        }),
+        },
+        Request::Write { off, .. } => Request::Write {
+            path,
+            off,
+            bytes: other,
+        },
+        Request::Read { off, len, .. } => Request::Read { path, off, len },
+        Request::Truncate { len, .. } => Request::Truncate { path, len },
+        Request::Unlink { .. } => Request::Unlink { path },
+        Request::Rmdir { .. } => Request::Rmdir { path },
+        Request::Rename { .. } => Request::Rename { path, to: other },
+        Request::Stat { .. } => Request::Stat { path },
+        Request::List { .. } => Request::List { path },
+        Request::Sync => Request::Sync,
+        Request::Begin { .. } => Request::Begin { path },
+        Request::Range { off, len, .. } => Request::Range { path, off, len },
+        Request::Put { off, .. } => Request::Put {
+            path,
+            off,
+            bytes: other,
+        },
+        Request::Get { off, len, .. } => Request::Get { path, off, len },
+        Request::Alloc { units, .. } => Request::Alloc { path, units },
+        Request::Free { at, .. } => Request::Free { path, at },
+        Request::Commit { .. } => Request::Commit { path },
+        Request::Abort { .. } => Request::Abort { path },
+        Request::Txns => Request::Txns,
+        Request::Flush { count } => Request::Flush { count },
+        Request::Wild { at, value } => Request::Wild { at, value },
+        Request::Arm { step, at, value } => Request::Arm { step, at, value },
     }
 }
 

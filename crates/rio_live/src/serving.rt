@@ -143,7 +143,7 @@ fn answer_all<M: Machine>(
 {
     let mut answered = Vec::new(alloc);
     for request in requests {
-        let asked = copy_request(request)?;
+        let asked = copy_request(alloc, request)?;
         match answer_one(alloc, core, request) {
             Ok(reply) => answered.push((asked, reply))?,
             Err(_) => return Ok((answered, Some(asked))),
