@@ -1,5 +1,5 @@
 -- What a disk that is a file keeps: the file has each block that isn't marked as unwritten.
-use Rattle.std.proofs.Common.{◌≡◌, ◌≢◌, ◌<◌, ◌≤◌, ℕ, ◌+◌, ◌-◌, ◌*◌, ◌/◌, ◌^◌, Bool, true, false, List, [], length, take, drop, set, replicate, slice_index, Option, Some, None, is_some, unwrap_or, Ok, ◌⊎◌, inl, inr, refl, sym, ap, subst, ◌∙◌, arith, le_refl, length-drop, get_or-take, get_or-drop, get_or-set_same, get_or-set_other}
+use Rattle.std.proofs.Common.{◌≡◌, ◌≢◌, ◌<◌, ◌≤◌, ℕ, ◌+◌, ◌*◌, ◌/◌, ◌^◌, Bool, true, false, List, [], length, take, drop, set, replicate, slice_index, Option, Some, None, is_some, unwrap_or, Ok, ◌⊎◌, inl, inr, refl, sym, ap, subst, ◌∙◌, arith, le_refl, length-drop, get_or-take, get_or-drop, get_or-set_same, get_or-set_other}
 use Rattle.std.specs.FinMap.{get}
 use Rattle.std.proofs.lemmas.Bool.{cases_Bool, cases_eq, cases_lt}
 use Rattle.std.proofs.lemmas.List.{ext_get_or, get_or_past, get_or-replicate, length-replicate, length-take-le}
