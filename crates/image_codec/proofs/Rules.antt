@@ -1,7 +1,7 @@
 -- The rules of the header, of bytes and of their words.
-use Rattle.std.proofs.Common.{◌≡◌, ◌≢◌, ◌<◌, ◌≤◌, ℕ, ◌*◌, ◌^◌, Bool, true, false, All, List, length, take, drop, ◌-◌, slice_index, refl, sym, ap, ◌∙◌, subst, arith}
+use Rattle.std.proofs.Common.{◌≡◌, ◌≢◌, ◌<◌, ◌≤◌, ℕ, ◌*◌, ◌^◌, Bool, true, false, All, List, ◌++◌, length, take, drop, ◌-◌, slice_index, refl, sym, ap, ◌∙◌, subst, arith}
 use Rattle.byteorder.specs.Endian.{little_number}
-use Rattle.std.proofs.lemmas.List.{take_rest}
+use Rattle.std.proofs.lemmas.List.{take_at, take_rest}
 use Rattle.std.proofs.lemmas.List.Elements.{recursion_from_All}
 use Rattle.rio_base.proofs.Bytes.{length-bytes_of, word_at-bytes_of}
 use Rattle.rio_base.specs.Image.{image_magic}
@@ -89,3 +89,11 @@ only_err bytes words fault known fails fits is image =
     let long : length bytes ≡ 8 * length words = ap length is ∙ length-bytes_of words in
     let at : (k : ℕ) → k < length words → word_at bytes k ≡ slice_index words k = λ k lt. ap (λ (bs : List ℕ). word_at bs k) is ∙ word_at-bytes_of words k each lt in
     absurd (never bytes (keeps_from bytes words long at image) fault known fails)
+
+-- ---- a list that was lent to be filled
+
+pub bytes_back : (bytes new rest : List ℕ) (len : ℕ) → length new ≡ len → bytes ≡ bytes_of new → bytes ≡ bytes_of (take len (new ++ rest))
+bytes_back bytes new rest len all is = is ∙ ap bytes_of (sym (take_at new rest len all))
+
+pub words_back : (bytes new rest : List ℕ) (len : ℕ) → length new ≡ len → ((k : ℕ) → k < length new → slice_index new k ≡ word_at bytes k) → (k : ℕ) → k < length (take len (new ++ rest)) → slice_index (take len (new ++ rest)) k ≡ word_at bytes k
+words_back bytes new rest len all each = subst (λ (xs : List ℕ). (k : ℕ) → k < length xs → slice_index xs k ≡ word_at bytes k) (sym (take_at new rest len all)) each
