@@ -1,13 +1,14 @@
-use Rattle.std.proofs.Common.{◌∙◌, Err, ap, arith, refl, sym}
+use Rattle.std.proofs.Common.{◌∙◌, Err, ap, arith, refl, sym, subst}
 use Rattle.std.proofs.lemmas.Result.{err_from_is_err_and}
 use Rattle.rio_base.specs.declared.failures.VolFail.TheVariants.{Stopped, Fault}
 use Rattle.rio_base.specs.Rules.{true_false}
 use Rattle.rio_base.proofs.MachineRules.{ends_as, ends_err, ends_then, ends_told, lasts_trans, never, steps_trans, ends_none, lasts_refl}
-use Rattle.write_back.proofs.Steps.{coherent_then, keeps_then}
+use Rattle.write_back.proofs.Steps.{coherent_then, keeps_then, layout_now}
 use Rattle.rio_model.proofs.HeldEntries.{narrows_after, held_same}
-use Rattle.rio_model.specs.Registry.{is_dirty}
+use Rattle.rio_model.specs.Registry.{is_dirty, IsValid}
 use Rattle.rio_model.proofs.CoverSteps.{keeps_refl}
-use Rattle.write_back.proofs.Exits.{at_err, cleaned_from, fault_on, fault_told, few_on, held_from, narrows_same, not_fault, not_ok, one_from, one_more, one_same, writes_rest}
+use Rattle.write_back.proofs.Exits.{at_err, cleaned_from, fault_on, fault_told, few_on, held_from, narrows_same, not_fault, not_ok, one_from, one_more, one_same, writes_rest, on_disk_same}
+use Rattle.rio_model.specs.Cover.{IsBare}
 use Rattle.write_back.proofs.cleaning.clean.Goals as goal
 
 pub mark_clean-requires-clause-synced : goal.mark_clean-requires-clause-synced
@@ -216,3 +217,27 @@ returns-clause-closed g c = c.mark_clean.ensures.closed
 
 pub returns-clause-fault : goal.returns-clause-fault
 returns-clause-fault g c = λ e. absurd (never _ Fault e)
+
+pub load_tag-requires-clause-layout : goal.load_tag-requires-clause-layout
+load_tag-requires-clause-layout g c = layout_now _ _ c.requires.coherent
+
+pub load_tag-requires-clause-entry : goal.load_tag-requires-clause-entry
+load_tag-requires-clause-entry g c = c.requires.valid.within
+
+pub frame_page_of-page-requires-clause-layout : goal.frame_page_of-page-requires-clause-layout
+frame_page_of-page-requires-clause-layout g c = layout_now _ _ c.requires.coherent
+
+pub frame_page_of-page-requires-clause-entry : goal.frame_page_of-page-requires-clause-entry
+frame_page_of-page-requires-clause-entry g c = c.requires.valid.within
+
+pub mark_clean-requires-clause-closed : goal.mark_clean-requires-clause-closed
+mark_clean-requires-clause-closed g c = c.sync_disk.ensures.closed
+
+pub mark_clean-requires-clause-valid : goal.mark_clean-requires-clause-valid
+mark_clean-requires-clause-valid g c = subst (λ ws. IsValid ws c.args.k) (sym (c.sync_disk.ensures.words ∙ c.write_entry.ensures.words)) c.requires.valid
+
+pub mark_clean-requires-clause-bare : goal.mark_clean-requires-clause-bare
+mark_clean-requires-clause-bare g c = subst (λ ws. IsBare ws c.args.k) (sym (c.sync_disk.ensures.words ∙ c.write_entry.ensures.words)) c.requires.bare
+
+pub mark_clean-requires-clause-written : goal.mark_clean-requires-clause-written
+mark_clean-requires-clause-written g c = on_disk_same (g.M.Machine.contents c.write_entry.new.m) (g.M.Machine.contents c.sync_disk.new.m) c.args.k c.sync_disk.ensures.words c.sync_disk.ensures.disk c.in_ok-write_entry.ensures.written

@@ -6,6 +6,7 @@ use Rattle.std.proofs.Common.{ap, refl, subst, sym}
 use Rattle.rio_base.specs.Machine.{Contents}
 use Rattle.rio_model.specs.Cover.{Keeps}
 use Rattle.write_back.proofs.Exits.{at_err, not_ok, step_stopped}
+use Rattle.write_back.proofs.Steps.{layout_now}
 use Rattle.write_back.proofs.cleaning.mark_clean.Goals as goal
 
 pub returns-clause-keeps : goal.returns-clause-keeps
@@ -55,3 +56,9 @@ returns-in_err-set_clean-clause-cleaned g c = not_ok _ c.from_residual.result c.
 
 pub returns-in_err-set_clean-clause-held : goal.returns-in_err-set_clean-clause-held
 returns-in_err-set_clean-clause-held g c = held_same c.args.k _ _ (ap (λ (m : Contents). m.words) c.in_err-set_clean.ensures.same)
+
+pub set_clean-requires-clause-can : goal.set_clean-requires-clause-can
+set_clean-requires-clause-can g c = record { layout = layout_now _ _ c.requires.coherent; closed = c.requires.closed; entry = c.requires.valid.within }
+
+pub set_clean-requires-clause-valid : goal.set_clean-requires-clause-valid
+set_clean-requires-clause-valid g c = c.requires.valid.valid

@@ -1,7 +1,7 @@
 use Rattle.std.proofs.Common.{◌<◌, ◌∙◌, subst, sym, ap, arith, length}
 use Rattle.rio_model.specs.Registry.{tag_block}
 use Rattle.rio_model.proofs.CoverSteps.{keeps_write}
-use Rattle.write_back.proofs.Steps.{frame_begins, on_disk, stays_pending, stays_on_disk}
+use Rattle.write_back.proofs.Steps.{frame_begins, on_disk, stays_pending, stays_on_disk, layout_now}
 use Rattle.write_back.proofs.Exits.{disk_ends, disk_fault, not_ok, step_well}
 use Rattle.std.proofs.lemmas.Result.{err_from_is_err_and}
 use Rattle.std.specs.Prelude.{Err}
@@ -91,3 +91,15 @@ pub returns-in_err-write_block-clause-ends : goal.returns-in_err-write_block-cla
 returns-in_err-write_block-clause-ends g c =
     let p = err_from_is_err_and c.from_residual.result c.from_residual.ensures.1 in
     disk_ends _ _ _ _ (p.1 ∙ ap Err p.2) c.in_err-write_block.ensures.ends
+
+pub load_tag-requires-clause-layout : goal.load_tag-requires-clause-layout
+load_tag-requires-clause-layout g c = layout_now _ _ c.requires.coherent
+
+pub load_tag-requires-clause-entry : goal.load_tag-requires-clause-entry
+load_tag-requires-clause-entry g c = c.requires.valid.within
+
+pub write_block-requires-clause-closed : goal.write_block-requires-clause-closed
+write_block-requires-clause-closed g c = c.requires.closed
+
+pub returns-clause-counted : goal.returns-clause-counted
+returns-clause-counted g c = (c.in_ok-write_block.ensures.made (λ q. cc)).0

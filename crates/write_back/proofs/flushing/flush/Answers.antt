@@ -1,4 +1,4 @@
-use Rattle.std.proofs.Common.{◌∙◌, arith, ◌≤◌, Err, ap, length, List, ℕ, subst, sym}
+use Rattle.std.proofs.Common.{◌∙◌, arith, ◌≤◌, Err, ap, length, List, ℕ, subst, sym, slice_index}
 use Rattle.rio_base.specs.declared.failures.VolFail.TheVariants.{Stopped, Fault}
 use Rattle.rio_model.proofs.CoverSteps.{keeps_trans}
 use Rattle.rio_base.proofs.MachineRules.{ends_as, ends_then, ends_told, never, lasts_trans}
@@ -7,9 +7,10 @@ use Rattle.rio_model.proofs.HeldEntries.{narrows_all, held_same}
 use Rattle.std.proofs.lemmas.Result.{err_from_is_err_and}
 use Rattle.rio_model.specs.Registry.{gate_of}
 use Rattle.write_back.specs.Flushing.{dirty_entries}
-use Rattle.write_back.proofs.Exits.{fault_on, fault_told, few_on, first_from, held_from, narrows_same, not_ok, told_back, writes_rest}
+use Rattle.write_back.proofs.Exits.{fault_on, fault_told, few_on, first_from, held_from, narrows_same, not_ok, told_back, writes_rest, on_disk_same}
 use Rattle.rio_base.specs.Disks.{is_pending}
 use Rattle.rio_base.specs.Machine.{Contents}
+use Rattle.rio_model.specs.Cover.{OnDisk}
 use Rattle.write_back.proofs.flushing.flush.Goals as goal
 
 pub returns-in_err-sync_disk-clause-keeps : goal.returns-in_err-sync_disk-clause-keeps
@@ -158,3 +159,9 @@ returns-clause-closed g c = c.mark_first.ensures.closed
 
 pub returns-clause-lasts : goal.returns-clause-lasts
 returns-clause-lasts g c = lasts_trans _ _ _ (lasts_trans _ _ _ c.write_first.ensures.lasts c.sync_disk.ensures.lasts) c.mark_first.ensures.lasts
+
+pub mark_first-requires-clause-written : goal.mark_first-requires-clause-written
+mark_first-requires-clause-written g c =
+    let old = g.M.Machine.contents c.write_first.new.m in
+    let new = g.M.Machine.contents c.sync_disk.new.m in
+    λ x less. subst (λ ws. OnDisk new (slice_index (dirty_entries ws) x)) (sym (c.sync_disk.ensures.words ∙ c.write_first.ensures.words)) (on_disk_same old new _ c.sync_disk.ensures.words c.sync_disk.ensures.disk (c.in_ok-written.ensures.written.on_disk x less))

@@ -7,6 +7,7 @@ use Rattle.rio_model.specs.Registry.{is_dirty, is_valid}
 use Rattle.rio_model.proofs.CoverSteps.{keeps_refl}
 use Rattle.rio_model.proofs.HeldEntries.{held_same}
 use Rattle.write_back.proofs.Exits.{needs_both, not_dirty, not_fault, not_ok, not_valid, one_same}
+use Rattle.write_back.proofs.Steps.{layout_now}
 use Rattle.write_back.proofs.flushing.mark_if_dirty.Goals as goal
 
 pub returns-then-not-is_valid-clause-keeps : goal.returns-then-not-is_valid-clause-keeps
@@ -158,3 +159,9 @@ returns-clause-fault g c = λ e. never _ Fault e
 
 pub returns-clause-ends : goal.returns-clause-ends
 returns-clause-ends g c = let ends = c.in_ok-mark_clean.ensures.ends in record { steps = ends.steps; told = λ e. absurd (never _ Stopped e); runs = λ n. ends.runs (λ e. true_false (sym e)) }
+
+pub load_tag-tag-requires-clause-layout : goal.load_tag-tag-requires-clause-layout
+load_tag-tag-requires-clause-layout g c = layout_now _ _ c.requires.coherent
+
+pub load_tag-tag-requires-clause-entry : goal.load_tag-tag-requires-clause-entry
+load_tag-tag-requires-clause-entry g c = c.requires.entry
