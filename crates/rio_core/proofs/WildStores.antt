@@ -177,6 +177,9 @@ stopped_reply p e reply stopped replied = cc
 pub trap_quiet : (b c : Below) (at : ℕ) → c ≡ record b { causes = record b.causes { trapped = Some at } } → Quiet b c
 trap_quiet b c at below = subst (λ (d : Below). Quiet b d) (sym below) (record { home = λ r. refl; writes = λ r. refl })
 
+pub arms_quiet : (b c : Below) (at : ℕ) → c ≡ record b { causes = record b.causes { armed = Some at } } → Quiet b c
+arms_quiet b c at below = subst (λ (d : Below). Quiet b d) (sym below) (record { home = λ r. refl; writes = λ r. refl })
+
 pub wild_quiet : (b c : Below) → c ≡ b → Quiet b c
 wild_quiet b c below = subst (λ (d : Below). Quiet b d) (sym below) (quiet_refl b)
 

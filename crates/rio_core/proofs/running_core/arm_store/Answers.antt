@@ -1,7 +1,10 @@
-use Rattle.rio_core.proofs.Common.{subst}
+use Rattle.rio_core.proofs.Common.{◌∙◌, Ok, Some, refl, sym, ap, subst, Seen}
+use Rattle.std.specs.Prelude.{◌+◌, ◌<◌}
+use Rattle.rio_requests.proofs.WentRules.{quiet_refl}
+use Rattle.file_tree.proofs.MemoSteps.{same_step}
 use Rattle.cached_pages.specs.Caches.{cache_below, cache_health, cache_kept, cache_seen}
 use Rattle.page_cache.specs.Wilds.{Arms}
-use Rattle.rio_core.proofs.WildStores.{arm_done, arm_refused, went_armed, went_unarmed}
+use Rattle.rio_core.proofs.WildStores.{arm_done, arm_refused, arms_quiet, refused_done, went_armed, went_unarmed}
 use Rattle.rio_core.proofs.running_core.arm_store.Goals as goal
 
 pub returns-in_default-clause-answered : goal.returns-in_default-clause-answered
@@ -49,3 +52,63 @@ returns-clause-went g c =
     let d = cache_below (g.M.Machine.contents n) (g.M.Machine.run n) in
     let arms = subst (λ i. Arms i h b e d) c.in-Some.ensures.0 c.arm.ensures.arms in
     went_armed h b e d c.args.step c.args.at c.args.value arms
+
+pub arm-requires-clause-sound : goal.arm-requires-clause-sound
+arm-requires-clause-sound g c = c.requires.sound
+
+pub arm-requires-clause-place : goal.arm-requires-clause-place
+arm-requires-clause-place g c =
+    let m = c.args.core.now.view.v.machine in
+    let b = cache_below (g.M.Machine.contents m) (g.M.Machine.run m) in
+    subst (λ n. n < b.memory.protected + b.memory.scratch) (sym c.in-Some.ensures.0) c.in-Some.ensures.1
+
+pub returns-in_default-clause-unarmed : goal.returns-in_default-clause-unarmed
+returns-in_default-clause-unarmed g c = λ refused. refl
+
+pub returns-in_default-clause-armed : goal.returns-in_default-clause-armed
+returns-in_default-clause-armed g c = λ done. absurd (refused_done _ refl (ap Ok done))
+
+pub returns-in_default-clause-quiet : goal.returns-in_default-clause-quiet
+returns-in_default-clause-quiet g c = quiet_refl _
+
+pub returns-in_default-clause-health : goal.returns-in_default-clause-health
+returns-in_default-clause-health g c = refl
+
+pub returns-in_default-clause-sound : goal.returns-in_default-clause-sound
+returns-in_default-clause-sound g c = c.requires.sound
+
+pub returns-clause-unarmed : goal.returns-clause-unarmed
+returns-clause-unarmed g c = λ refused. absurd (refused_done _ (ap Ok refused) refl)
+
+pub returns-clause-armed : goal.returns-clause-armed
+returns-clause-armed g c =
+    let m = c.args.core.now.view.v.machine in
+    λ done. (c.arm.ensures.contents, c.arm.ensures.run ∙ ap (λ i. record (g.M.Machine.run m) { armed = Some i; armed_left = c.args.step; armed_value = c.args.value }) c.in-Some.ensures.0)
+
+pub returns-clause-quiet : goal.returns-clause-quiet
+returns-clause-quiet g c =
+    let m = c.args.core.now.view.v.machine in
+    let n = c.arm.new.self.machine in
+    let h = cache_health (g.M.Machine.contents m) (g.M.Machine.run m) in
+    let b = cache_below (g.M.Machine.contents m) (g.M.Machine.run m) in
+    let e = cache_health (g.M.Machine.contents n) (g.M.Machine.run n) in
+    let d = cache_below (g.M.Machine.contents n) (g.M.Machine.run n) in
+    let arms = subst (λ i. Arms i h b e d) c.in-Some.ensures.0 c.arm.ensures.arms in
+    arms_quiet b d c.args.at arms.below
+
+pub returns-clause-health : goal.returns-clause-health
+returns-clause-health g c =
+    let m = c.args.core.now.view.v.machine in
+    let n = c.arm.new.self.machine in
+    let h = cache_health (g.M.Machine.contents m) (g.M.Machine.run m) in
+    let b = cache_below (g.M.Machine.contents m) (g.M.Machine.run m) in
+    let e = cache_health (g.M.Machine.contents n) (g.M.Machine.run n) in
+    let d = cache_below (g.M.Machine.contents n) (g.M.Machine.run n) in
+    let arms = subst (λ i. Arms i h b e d) c.in-Some.ensures.0 c.arm.ensures.arms in
+    arms.health
+
+pub returns-clause-sound : goal.returns-clause-sound
+returns-clause-sound g c = c.arm.ensures.sound
+
+pub invariant_of-core : goal.invariant_of-core
+invariant_of-core g c = record { in_step = same_step c.args.core.now.view.shape _ _ c.args.core.now.memo (ap (λ (x : Seen). x.words) c.arm.ensures.seen) c.args.core.now.in_step }
