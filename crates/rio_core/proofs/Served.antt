@@ -5,6 +5,7 @@ use Rattle.std.specs.Prelude.{Result, Ok, Err, OnErr, OnOk, Some}
 use Rattle.rio_base.specs.declared.failures.Stopped.{Stopped as MachineStopped}
 use Rattle.rio_base.specs.declared.failures.VolFail.{VolFail}
 use Rattle.rio_base.specs.declared.failures.VolFail.TheVariants.{Fault as DiskFault, Stopped as HaltFault}
+use Rattle.rio_base.specs.Rules.{true_false}
 use Rattle.rio_base.specs.Blocks.{Drops, Ends, EndsBy, Halts, Health, Looks}
 use Rattle.rio_base.specs.Volume.{Below, Firm, Goes, Passes, Runs}
 use Rattle.rio_requests.specs.declared.reply.Reply.TheVariants.{Ok as Done, Inos, Fault as Faulted}
@@ -110,3 +111,22 @@ ahead_stands shape x k y j marks s (Err e) serves settled leaves = stands_same s
 pub ahead_answers : (holds stands : State → Type 0) (s : State) (r : Request) (p : Result Reply MachineStopped) → IsErr p → stands s → Answering holds stands s r p
 ahead_answers holds stands s r (Ok reply) is still = absurd (cc (is))
 ahead_answers holds stands s r (Err e) is still = (s, inl refl, still)
+
+-- ---- how a flush ends
+
+pub not_done : (p : Result Reply MachineStopped) (n : ℕ) → p ≡ Ok (Faulted n) → p ≡ Ok Done → ⊥
+not_done p n fault done = cc
+
+pub none_done : (p : Result Reply MachineStopped) (e : MachineStopped) → p ≡ Err e → p ≡ Ok Done → ⊥
+none_done p e stopped done = cc
+
+pub flush_well : {T : Type 0} (s t : Health) (x : T) → Ends {T = T} s t (Ok x) → EndsBy s t (TellsFault (Ok Done)) (IsErr {E = MachineStopped} (Ok Done))
+flush_well s t x h = record { later = h.later; stays = h.stays; cause = λ f. absurd f; told = λ p. absurd (true_false (sym p)); runs = λ n. h.cause }
+
+pub flush_fault : {T : Type 0} (s t : Health) (f : VolFail) → f ≡ DiskFault → Ends {T = T} s t (Err f) → EndsBy s t (TellsFault (Ok (Faulted 0))) (IsErr {E = MachineStopped} (Ok (Faulted 0)))
+flush_fault s t DiskFault is h = record { later = h.later; stays = h.stays; cause = λ f. h.cause.0; told = λ p. absurd (true_false (sym p)); runs = λ n. h.cause.1 }
+flush_fault s t HaltFault is h = absurd (cc is)
+
+pub flush_halts : {T : Type 0} (s t : Health) (f : VolFail) (e : MachineStopped) → f ≡ HaltFault → Ends {T = T} s t (Err f) → EndsBy s t (TellsFault (Err e)) (IsErr {T = Reply} (Err e))
+flush_halts s t DiskFault e is h = absurd (cc is)
+flush_halts s t HaltFault e is h = record { later = h.later; stays = h.stays; cause = λ f. absurd f; told = λ p. h.cause; runs = λ n. absurd (n refl) }
