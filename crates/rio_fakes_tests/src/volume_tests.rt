@@ -3,6 +3,7 @@
 ghost use Rattle.std.specs.Prelude.{◌≡◌, ◌<◌, false, None, OnOk};
 ghost use Rattle.rio_base.specs.Blocks.{CanName};
 ghost use Rattle.rio_base.specs.Volume.{put, OldOrNew, Goes};
+ghost use Rattle.rio_fakes.specs.ListVolumes.{ListSound, list_kept, list_seen};
 
 use crate::same::same;
 use rio_base::{Block, Blocks, RegionWords, RunFail, VolFail, Volume};
@@ -108,9 +109,14 @@ fn a_run_is_stored_up_to_the_fault(rt: HostRuntime) -> Result<(), Fail> {
     Ok(())
 }
 
-#[test]
-fn calls_of_a_running_volume_succeed(rt: HostRuntime) -> Result<(), Fail> {
-    let mut v = ListVolume::new(rt.alloc(), 4, None)?;
+/// Makes each call of a volume of four blocks that runs, and a store once it stops. Answers how many blocks it has, what word 511 of
+/// block 3 is within an update, behind its rollback and in a fresh block, and between these two how many blocks are written; whether
+/// a page is lent; and what the store answers.
+fn answers(v: &mut ListVolume) -> Result<([u64; 5], bool, Result<(), VolFail>), VolFail>
+    requires sound { ListSound v.old }
+    requires count { (list_seen v.old).count ≡ 4 }
+    requires idle { (list_kept v.old).updating ≡ false }
+{
     let blocks = u64::from(v.volume_blocks());
     v.store(Block(3), None, 511, 9)?;
     v.begin()?;
@@ -126,7 +132,13 @@ fn calls_of_a_running_volume_succeed(rt: HostRuntime) -> Result<(), Fail> {
     v.forget(Block(3))?;
     v.restart(Some(0));
     let stopped = v.store(Block(1), None, 0, 1);
-    let came = [blocks, edited, back, flushed, fresh];
+    Ok(([blocks, edited, back, flushed, fresh], lent, stopped))
+}
+
+#[test]
+fn calls_of_a_running_volume_succeed(rt: HostRuntime) -> Result<(), Fail> {
+    let mut v = ListVolume::new(rt.alloc(), 4, None)?;
+    let (came, lent, stopped) = answers(&mut v)?;
     same(&rt, "what calls answer", 0, &came, &[4, 10, 9, 0, 0]);
     same(
         &rt,
