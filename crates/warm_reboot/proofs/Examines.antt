@@ -21,7 +21,7 @@ use Rattle.rio_model.specs.Cover.{MayLeave, stands, stands_on}
 use Rattle.rio_model.specs.CoverLookups.{cover_same}
 use Rattle.rio_model.specs.Held.{held_of}
 use Rattle.rio_model.specs.Placed.{Layout, volume_layout}
-use Rattle.rio_model.specs.Registry.{FailsRegistry, HasLayout, KeepsRegistry, page_of_entry, scratch_of}
+use Rattle.rio_model.specs.Registry.{FailsRegistry, HasLayout, IsValid, KeepsRegistry, page_of_entry, scratch_of}
 use Rattle.rio_model.specs.Standing.{EntriesFit, StandsFor, StandsWith}
 use Rattle.rio_model.specs.VolumeFails.{FailsPair, FailsVolume, SaysShape}
 use Rattle.rio_model.specs.VolumeReads.{ReadsAs}
@@ -138,6 +138,16 @@ owners_read old mid census owners xs h rest same has = record {
   laid = subst (λ (c : Contents). IsLaid (volume_layout census.shape (stands c))) (sym rest) h.1.mapped.laid;
   has = subst (λ (c : Contents). HasOwners (volume_layout census.shape (stands c)) xs) (sym rest) (subst (HasOwners (volume_layout census.shape (stands old))) (sym same) has);
 }
+
+-- each valid entry is of a block that has an owner
+pub blocks_owned : (old mid new : Contents) (census : Census) (found : Option Block) (owners xs : List Owner) → HasRead old census → mid ≡ record old { faults = mid.faults } → IsLeastMisfit (volume_layout census.shape (stands mid)) mid.words found → ((b : Block) → found ≡ Some b → ⊥) → new ≡ record old { faults = new.faults } → xs ≡ owners → HasOwners (volume_layout census.shape (stands old)) owners → (k : ℕ) → IsValid new.words k → tag_block (tag_at new.words k) < length xs
+blocks_owned old mid new census found owners xs h rest least none kept same has k valid =
+    let l = volume_layout census.shape (stands old) in
+    let fits : EntriesFit l old.words = no_misfit l old.words found (subst (λ (c : Contents). IsLeastMisfit (volume_layout census.shape (stands c)) c.words found) rest least) none in
+    let words : new.words ≡ old.words = ap (λ (c : Contents). c.words) kept in
+    let within : tag_block (tag_at old.words k) < l.shape.blocks = (fits.each k (subst (λ (ws : List ℕ). IsValid ws k) words valid)).within in
+    let count : length xs ≡ l.shape.blocks = ap (λ (os : List Owner). length os) same ∙ has.count in
+    subst (λ n. tag_block (tag_at new.words k) < n) (sym count) (subst (λ (ws : List ℕ). tag_block (tag_at ws k) < l.shape.blocks) (sym words) within)
 
 -- ---- a part of the look failed
 

@@ -1,13 +1,14 @@
-use Rattle.page_restore.proofs.Common.{List, ap, refl, subst, sym}
+use Rattle.page_restore.proofs.Common.{List, ap, length, refl, subst, sym, ℕ, ◌<◌, tag_at, tag_block}
 use Rattle.std.specs.Prelude.{Err}
 use Rattle.std.proofs.lemmas.Result.{err_from_is_err_and}
 use Rattle.rio_model.specs.declared.census.Owner.{Owner}
 use Rattle.rio_model.specs.Censuses.{HasOwners}
 use Rattle.rio_model.specs.Cover.{stands}
 use Rattle.rio_model.specs.Placed.{volume_layout}
+use Rattle.rio_model.specs.Registry.{HasLayout, IsValid}
 use Rattle.registry.specs.ViewLaws.{viewed_trans}
 use Rattle.page_restore.specs.Stale.{MarksStale}
-use Rattle.warm_reboot.proofs.Examines.{fails_so, fails_twelve, is_examined, kinds_read, list_failed, marks_read, misfit_failed, none_made, owners_read, regions_read, shape_read, volume_failed}
+use Rattle.warm_reboot.proofs.Examines.{blocks_owned, fails_so, fails_twelve, is_examined, kinds_read, list_failed, marks_read, misfit_failed, none_made, owners_read, regions_read, shape_read, volume_failed}
 use Rattle.warm_reboot.proofs.examining.look_at_pair.Goals as goal
 
 pub returns-in-Some-clause-unexamined : goal.returns-in-Some-clause-unexamined
@@ -63,6 +64,15 @@ least_misfit-requires-clause-owned g c = owners_read (g.M.Machine.contents c.arg
 
 pub list_regions-requires-clause-sound : goal.list_regions-requires-clause-sound
 list_regions-requires-clause-sound g c = c.least_misfit.ensures.sound
+
+pub mark_stale-requires-clause-layout : goal.mark_stale-requires-clause-layout
+mark_stale-requires-clause-layout g c = subst (λ m. HasLayout (g.M.Machine.contents m).words (g.M.Machine.run m).scratch) (sym c.machine.ensures) c.list_regions.ensures.sound.layout
+
+pub mark_stale-requires-clause-within : goal.mark_stale-requires-clause-within
+mark_stale-requires-clause-within g c =
+    let kept = (viewed_trans _ _ _ _ _ _ (viewed_trans _ _ _ _ _ _ c.in_ok-census.ensures.passes c.least_misfit.ensures.viewed) c.list_regions.ensures.passes).rest in
+    subst (λ m. (k : ℕ) → IsValid (g.M.Machine.contents m).words k → tag_block (tag_at (g.M.Machine.contents m).words k) < length c.deref-2.result.now) (sym c.machine.ensures)
+    (blocks_owned (g.M.Machine.contents c.args.view.now.machine) (g.M.Machine.contents c.look_at_volume.new.v.machine) (g.M.Machine.contents c.list_regions.new.v.machine) c.in_ok-census.census c.in_ok-block.field-0 c.in_ok-census.owners.items c.deref-2.result.now c.in_ok-census.ensures.ok c.in_ok-census.ensures.passes.rest c.in_ok-block.ensures.misfit c.in_default.not-Some kept c.deref-2.ensures.value c.in_ok-census.ensures.owners)
 
 -- ---- a part of the look failed
 
@@ -151,3 +161,17 @@ returns-in_err-census-clause-viewed g c = c.look_at_volume.ensures.passes
 
 pub returns-in_err-block-clause-viewed : goal.returns-in_err-block-clause-viewed
 returns-in_err-block-clause-viewed g c = viewed_trans _ _ _ _ _ _ c.in_ok-census.ensures.passes c.least_misfit.ensures.viewed
+
+-- ---- nothing is made, and nothing fails
+
+pub returns-in-Some-clause-examined : goal.returns-in-Some-clause-examined
+returns-in-Some-clause-examined g c = tt
+
+pub returns-in-Some-clause-marks : goal.returns-in-Some-clause-marks
+returns-in-Some-clause-marks g c = tt
+
+pub returns-in-Some-clause-regions : goal.returns-in-Some-clause-regions
+returns-in-Some-clause-regions g c = tt
+
+pub returns-clause-unexamined : goal.returns-clause-unexamined
+returns-clause-unexamined g c = tt
