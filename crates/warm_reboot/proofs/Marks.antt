@@ -1,5 +1,5 @@
 -- What the owner of a block says of its entry: whether the page is stale, and whether the entry bears a name that it may.
-use Rattle.page_restore.proofs.Common.{Bool, List, None, Option, Some, false, length, not, refl, slice_index_or, true, ℕ, ◌+◌, ◌<◌, ◌≡◌, ◌≢◌, ◌≤◌, ◌⊎◌, ap, arith, inl, inr, subst, sym, ◌∙◌, cases_Bool, cases_eq, true_false, IsValid, frames_of, is_data, is_valid, tag_at, tag_block}
+use Rattle.page_restore.proofs.Common.{Bool, List, None, Option, Some, false, length, not, refl, slice_index_or, true, ℕ, ◌+◌, ◌*◌, ◌<◌, ◌≡◌, ◌≢◌, ◌≤◌, ◌⊎◌, ap, arith, inl, inr, subst, sym, ◌∙◌, cases_Bool, cases_eq, true_false, IsValid, frames_of, is_data, is_valid, tag_at, tag_block}
 use Rattle.std.specs.Prelude.{◌↔◌, IsTrue, cond, if◌then◌else◌, slice_set, ◌/◌, ◌==◌}
 use Rattle.std.proofs.Common.{get_or-set_same, get_or-set_other}
 use Rattle.std.proofs.lemmas.Bool.Decides.{nat_tests}
@@ -12,7 +12,7 @@ use Rattle.rio_model.specs.declared.census.Owner.{Owner}
 use Rattle.rio_model.specs.declared.census.Owner.TheVariants.{Nobody, PageOf, TableOf}
 use Rattle.rio_model.specs.Censuses.{HasOwners, OwnerIs}
 use Rattle.rio_model.specs.Cover.{name_at, name_in}
-use Rattle.rio_model.specs.Placed.{AtPage, Layout}
+use Rattle.rio_model.specs.Placed.{AtPage, Layout, Owns}
 use Rattle.rio_model.specs.Standing.{EntryFits}
 use Rattle.rio_model.specs.VolumeReady.{Bears}
 use Rattle.rio_model.specs.VolumeRules.{IsLaid}
@@ -127,3 +127,21 @@ table_fits l owners words k b t i file has laid block within owner named = fits_
 -- a page's block bears the page's name
 pub page_fits : (l : Layout) (owners : List Owner) (words : List ℕ) (k b page : ℕ) (i : Ino) (fits : Bool) → HasOwners l owners → IsLaid l → b ≡ tag_block (tag_at words k) → b < l.shape.blocks → slice_index_or owners b Nobody ≡ PageOf i page → (IsTrue fits ↔ Bears i.0 (l.node i.0) (AtPage page) (name_in words (Some k))) → IsTrue fits ↔ EntryFits l words k
 page_fits l owners words k b page i fits has laid block within owner bears = fits_owner l words k (PageOf i page) fits laid (subst (λ x. x < l.shape.blocks) block within) (subst (λ x. OwnerIs l x (PageOf i page)) block (subst (OwnerIs l b) owner (has.each b within))) bears
+
+-- a block that no node has may bear any name, but for a reserved one
+pub free_fits : (l : Layout) (owners : List Owner) (words : List ℕ) (k b : ℕ) (fits : Bool) → HasOwners l owners → IsLaid l → b ≡ tag_block (tag_at words k) → b < l.shape.blocks → slice_index_or owners b Nobody ≡ Nobody → (IsTrue fits ↔ (tag_block (tag_at words k) < reserved l.shape → is_data (tag_at words k) ≡ false)) → IsTrue fits ↔ EntryFits l words k
+free_fits l owners words k b fits has laid block within owner e = fits_owner l words k Nobody fits laid (subst (λ x. x < l.shape.blocks) block within) (subst (λ x. OwnerIs l x Nobody) block (subst (OwnerIs l b) owner (has.each b within))) (
+  λ yes low. no_name words k (e.0 yes low),
+  λ lets. e.1 (λ low. metadata_unnamed words k (lets low)),
+)
+
+-- one past the volume's fits none
+pub past_fits : (l : Layout) (words : List ℕ) (k b : ℕ) → b ≡ tag_block (tag_at words k) → l.shape.blocks ≤ b → IsTrue false ↔ EntryFits l words k
+past_fits l words k b block past = (λ f. absurd (true_false (sym f)), λ h. absurd (let within = h.within in omega (arith, within, past, block)))
+
+-- the node that has a page
+pub page_owner : (l : Layout) (owners : List Owner) (b page : ℕ) (i : Ino) → HasOwners l owners → b < l.shape.blocks → slice_index_or owners b Nobody ≡ PageOf i page → Owns l i.0 (AtPage page)
+page_owner l owners b page i has within owner = (subst (OwnerIs l b) owner (has.each b within)).0
+
+pub page_starts : (size placed page : ℕ) → size ≡ placed → page < (placed + 4095) / 4096 → 4096 * page < size
+page_starts size placed page same within = omega (arith, same, within)

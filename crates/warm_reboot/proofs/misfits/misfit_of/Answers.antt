@@ -1,3 +1,5 @@
+use Rattle.std.proofs.Common.{◌<◌, subst, sym}
+use Rattle.rio_model.specs.Registry.{HasLayout, frames_of}
 use Rattle.std.proofs.lemmas.Result.{err_from_is_err_and}
 use Rattle.registry.specs.ViewLaws.{viewed_refl}
 use Rattle.warm_reboot.proofs.Examines.{none_made}
@@ -61,3 +63,9 @@ returns-then-fits-clause-ends g c = ends_other _ _ _ _ c.in_ok-fits.ensures.ends
 
 pub returns-clause-ends : goal.returns-clause-ends
 returns-clause-ends g c = ends_other _ _ _ _ c.in_ok-fits.ensures.ends
+
+pub read_entry-entry-requires-clause-layout : goal.read_entry-entry-requires-clause-layout
+read_entry-entry-requires-clause-layout g c = subst (λ m. HasLayout (g.M.Machine.contents m).words (g.M.Machine.run m).scratch) (sym c.machine.ensures) c.requires.sound.layout
+
+pub read_entry-entry-requires-clause-entry : goal.read_entry-entry-requires-clause-entry
+read_entry-entry-requires-clause-entry g c = subst (λ m. c.args.k < frames_of (g.M.Machine.contents m).words) (sym c.machine.ensures) c.requires.entry
