@@ -1,5 +1,8 @@
 -- A cache on what a restore leaves.
 use Rattle.page_restore.proofs.Common.{Bool, List, false, length, refl, true, ap, ℕ, ◌*◌, ◌+◌, ◌<◌, ◌≡◌, ◌⊎◌, arith, subst, sym, ◌∙◌, block_at, is_pending, true_false, Contents, Running, frames_of, tag_at, Endures, Restorable, none_apart, stale_block}
+use Rattle.std.specs.Prelude.{Err, IsErrOf, Result}
+use Rattle.rio_base.specs.declared.failures.VolFail.{VolFail}
+use Rattle.rio_base.specs.declared.failures.VolFail.TheVariants.{Fault, Stopped}
 use Rattle.rio_base.specs.Blocks.{Seen}
 use Rattle.rio_base.specs.Image.{registry_pages}
 use Rattle.rio_base.specs.Volume.{Kept, Runs}
@@ -94,3 +97,16 @@ restored_on marks l n old new r q fault stop whole still image ends e empty kept
 
 pub runs_on : (apart : ℕ → Bool) (old new : Contents) (r q : Running) (fault stop : Type 0) → Restorable old (length r.scratch) → Endures apart old new → PhaseEnds old new r q fault stop → Runs (cache_health old r) (cache_below old r) (cache_health new q) (cache_below new q)
 runs_on apart old new r q fault stop image e ends = runs_of old new r q ends.lasts ends.ends.steps (frames_kept old new (length r.scratch) (length r.scratch) image (e.image (length r.scratch) image) ends.lasts.size)
+
+-- ---- how a failure is told
+
+err_is : (T : Type 0) (e d : VolFail) → ◌≡◌ {A = Result T VolFail} (Err e) (Err d) → e ≡ d
+err_is T e d same = cc
+
+pub phase_failed : {T : Type 0} (a b : Contents) (r s : Running) (e : VolFail) → PhaseEnds a b r s (IsErrOf {T = T} (Err e) Fault) (IsErrOf {T = T} (Err e) Stopped) → PhaseEnds a b r s (e ≡ Fault) (e ≡ Stopped)
+phase_failed {T = T} a b r s e h = record {
+  closed = h.closed;
+  lasts = h.lasts;
+  cause = λ f. h.cause (ap Err f);
+  ends = record { steps = h.ends.steps; told = λ x. h.ends.told (ap Err x); runs = λ n. h.ends.runs (λ x. n (err_is T e Stopped x)) };
+}

@@ -1,13 +1,14 @@
-use Rattle.std.proofs.Common.{◌≡◌, ◌∙◌, ap, length, subst, sym}
+use Rattle.std.proofs.Common.{◌≡◌, ◌∙◌, ap, false, length, subst, sym}
 use Rattle.rio_base.specs.Disks.{is_pending}
 use Rattle.rio_base.specs.Machine.{Contents}
 use Rattle.rio_base.specs.Volume.{Runs}
 use Rattle.rio_model.specs.Cover.{reads}
+use Rattle.rio_model.specs.Registry.{gate_of}
 use Rattle.rio_model.specs.Standing.{Restored, stale_block}
 use Rattle.rio_model.proofs.RebootClears.{coherent_empty}
 use Rattle.cached_pages.specs.Caches.{cache_below, cache_health, cache_kept, cache_seen}
 use Rattle.page_restore.proofs.Steps.{image_next}
-use Rattle.warm_reboot.proofs.Starts.{agrees_kept, fresh_kept, frames_kept, restored_on, runs_on, starts_on, survives_kept}
+use Rattle.warm_reboot.proofs.Starts.{agrees_kept, fresh_kept, frames_kept, phase_failed, restored_on, runs_on, starts_on, survives_kept}
 use Rattle.warm_reboot.specs.Boots.{Survives}
 use Rattle.warm_reboot.proofs.starting.start.Goals as goal
 
@@ -77,3 +78,52 @@ restore-requires-clause-marks g c = c.requires.marks
 
 pub restore-requires-clause-of_data : goal.restore-requires-clause-of_data
 restore-requires-clause-of_data g c = c.requires.of_data
+
+-- ---- what the restored machine keeps
+
+pub start-requires-clause-shut : goal.start-requires-clause-shut
+start-requires-clause-shut g c = c.in-Ok.ensures.shut
+
+pub start-requires-clause-empty : goal.start-requires-clause-empty
+start-requires-clause-empty g c = c.in-Ok.ensures.empty
+
+pub returns-in-Ok-clause-shut : goal.returns-in-Ok-clause-shut
+returns-in-Ok-clause-shut g c = subst (λ m. gate_of (g.M.Machine.contents m).words ≡ 0) (sym c.start.ensures.machine) c.in-Ok.ensures.shut
+
+pub returns-in-Ok-clause-running : goal.returns-in-Ok-clause-running
+returns-in-Ok-clause-running g c = subst (λ m. (g.M.Machine.run m).stopped ≡ false) (sym c.start.ensures.machine) c.in-Ok.ensures.running
+
+pub returns-in-Ok-clause-counts : goal.returns-in-Ok-clause-counts
+returns-in-Ok-clause-counts g c = c.in-Ok.ensures.counts
+
+pub returns-in-Ok-clause-sound : goal.returns-in-Ok-clause-sound
+returns-in-Ok-clause-sound g c = c.start.ensures.sound
+
+pub returns-in-Ok-clause-ends : goal.returns-in-Ok-clause-ends
+returns-in-Ok-clause-ends g c = tt
+
+-- ---- nothing is started
+
+pub returns-in-Err-clause-starts : goal.returns-in-Err-clause-starts
+returns-in-Err-clause-starts g c = tt
+
+pub returns-in-Err-clause-restored : goal.returns-in-Err-clause-restored
+returns-in-Err-clause-restored g c = tt
+
+pub returns-in-Err-clause-shut : goal.returns-in-Err-clause-shut
+returns-in-Err-clause-shut g c = tt
+
+pub returns-in-Err-clause-synced : goal.returns-in-Err-clause-synced
+returns-in-Err-clause-synced g c = tt
+
+pub returns-in-Err-clause-counts : goal.returns-in-Err-clause-counts
+returns-in-Err-clause-counts g c = tt
+
+pub returns-in-Err-clause-running : goal.returns-in-Err-clause-running
+returns-in-Err-clause-running g c = tt
+
+pub returns-in-Err-clause-sound : goal.returns-in-Err-clause-sound
+returns-in-Err-clause-sound g c = tt
+
+pub returns-in-Err-clause-ends : goal.returns-in-Err-clause-ends
+returns-in-Err-clause-ends g c = phase_failed _ _ _ _ c.in-Err.fail c.in-Err.ensures.ends
