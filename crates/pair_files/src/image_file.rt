@@ -47,8 +47,7 @@ pub fn load_image<H: Host>(
         return Err(LoadFail::BadImage(1));
     }
     let bytes = read_file(alloc, name, size as usize, host)?;
-    let image = image_of(alloc, bytes)?;
-    Ok(image)
+    image_of(alloc, bytes)
 }
 
 /// How many bytes the file has, or why that isn't told.
