@@ -1,4 +1,4 @@
-//! Tests of `file_data`: requests with the answers that must come, with and without what is held in memory, requests that are
+//! Tests of requests by path, with the answers that must come, with and without what is held in memory, requests that are
 //! stopped at each of their steps, and views of regions, also of one whose open transaction is undone after a stop.
 #![tactic(auto)]
 

@@ -5,8 +5,8 @@ ghost use Rattle.file_tree.specs.Ends.{CanServe};
 
 use crate::asks::{Ask, Row, Want};
 use crate::views::{Call, Due, MAGIC, failing, on_words, start_again, view_after, view_of};
-use file_tree::FileFail;
 use file_store::stand_at;
+use file_tree::FileFail;
 use region_view::RegionView;
 use request_codec::is_path;
 use rio_base::{Ino, RegionWords};
