@@ -1,6 +1,6 @@
 //! The words that lines begin with, by what follows them.
 
-ghost use Rattle.std.specs.Prelude.{◌≡◌, ◌≢◌, ◌↔◌, length, slice_index, IsTrue, MatchOption};
+ghost use Rattle.std.specs.Prelude.{◌≡◌, ◌≢◌, ◌↔◌, IsTrue, MatchOption};
 ghost use Rattle.rio_requests.specs.declared.request.Request.{Request as RequestOf};
 ghost use Rattle.request_codec.specs.Words.{path_word, path_request, number_word, number_request, Takes, numbers_word, numbers_request, TakesBoth, data_word, data_request, other_word};
 
@@ -9,13 +9,6 @@ use rio_requests::Request;
 
 /// The most bytes that a request asks for.
 const DATA_BYTES: u64 = 1_048_576;
-
-/// Whether a word is this text.
-fn is_word(word: &[u8], text: &[u8]) -> bool
-    ensures { IsTrue result ↔ word.now ≡ text.now }
-{
-    word == text
-}
 
 /// A word before a path.
 #[derive(Clone, Copy)]
@@ -36,31 +29,17 @@ impl PathWord {
     pub fn of(word: &[u8]) -> Option<PathWord>
         ensures { MatchOption result ((known : PathWord) → word.now ≢ path_word known) (λ known. word.now ≡ path_word known) }
     {
-        if word.len() < 2 {
-            return None;
-        }
-        let (known, text) = PathWord::of_letter(word[1]);
-        if !is_word(word, text) {
-            return None;
-        }
-        Some(known)
-    }
-
-    /// The one word that may have this second letter, and its text.
-    fn of_letter(letter: u8) -> (PathWord, &'static [u8])
-        ensures text { result.1.now ≡ path_word result.0 }
-        ensures one { (known : PathWord) → slice_index (path_word known) 1 ≡ letter → known ≡ result.0 }
-    {
-        match letter {
-            b'k' => (PathWord::Mkdir, b"mkdir"),
-            b'r' => (PathWord::Create, b"create"),
-            b'n' => (PathWord::Unlink, b"unlink"),
-            b'm' => (PathWord::Rmdir, b"rmdir"),
-            b't' => (PathWord::Stat, b"stat"),
-            b'i' => (PathWord::List, b"list"),
-            b'e' => (PathWord::Begin, b"begin"),
-            b'o' => (PathWord::Commit, b"commit"),
-            _ => (PathWord::Abort, b"abort"),
+        match word {
+            b"mkdir" => Some(PathWord::Mkdir),
+            b"create" => Some(PathWord::Create),
+            b"unlink" => Some(PathWord::Unlink),
+            b"rmdir" => Some(PathWord::Rmdir),
+            b"stat" => Some(PathWord::Stat),
+            b"list" => Some(PathWord::List),
+            b"begin" => Some(PathWord::Begin),
+            b"commit" => Some(PathWord::Commit),
+            b"abort" => Some(PathWord::Abort),
+            _ => None,
         }
     }
 
@@ -95,22 +74,11 @@ impl NumberWord {
     pub fn of(word: &[u8]) -> Option<NumberWord>
         ensures { MatchOption result ((known : NumberWord) → word.now ≢ number_word known) (λ known. word.now ≡ number_word known) }
     {
-        let (known, text) = NumberWord::of_length(word.len());
-        if !is_word(word, text) {
-            return None;
-        }
-        Some(known)
-    }
-
-    /// The one word that may have this length, and its text.
-    fn of_length(len: usize) -> (NumberWord, &'static [u8])
-        ensures text { result.1.now ≡ number_word result.0 }
-        ensures one { (known : NumberWord) → length (number_word known) ≡ len → known ≡ result.0 }
-    {
-        match len {
-            8 => (NumberWord::Truncate, b"truncate"),
-            5 => (NumberWord::Alloc, b"alloc"),
-            _ => (NumberWord::Free, b"free"),
+        match word {
+            b"truncate" => Some(NumberWord::Truncate),
+            b"alloc" => Some(NumberWord::Alloc),
+            b"free" => Some(NumberWord::Free),
+            _ => None,
         }
     }
 
@@ -153,23 +121,12 @@ impl NumbersWord {
     pub fn of(word: &[u8]) -> Option<NumbersWord>
         ensures { MatchOption result ((known : NumbersWord) → word.now ≢ numbers_word known) (λ known. word.now ≡ numbers_word known) }
     {
-        let (known, text) = NumbersWord::of_length(word.len());
-        if !is_word(word, text) {
-            return None;
-        }
-        Some(known)
-    }
-
-    /// The one word that may have this length, and its text.
-    fn of_length(len: usize) -> (NumbersWord, &'static [u8])
-        ensures text { result.1.now ≡ numbers_word result.0 }
-        ensures one { (known : NumbersWord) → length (numbers_word known) ≡ len → known ≡ result.0 }
-    {
-        match len {
-            6 => (NumbersWord::Region, b"region"),
-            4 => (NumbersWord::Read, b"read"),
-            5 => (NumbersWord::Range, b"range"),
-            _ => (NumbersWord::Get, b"get"),
+        match word {
+            b"region" => Some(NumbersWord::Region),
+            b"read" => Some(NumbersWord::Read),
+            b"range" => Some(NumbersWord::Range),
+            b"get" => Some(NumbersWord::Get),
+            _ => None,
         }
     }
 
@@ -257,23 +214,12 @@ impl OtherWord {
     pub fn of(word: &[u8]) -> Option<OtherWord>
         ensures { MatchOption result ((known : OtherWord) → word.now ≢ other_word known) (λ known. word.now ≡ other_word known) }
     {
-        let (known, text) = OtherWord::of_length(word.len());
-        if !is_word(word, text) {
-            return None;
-        }
-        Some(known)
-    }
-
-    /// The one word that may have this length, and its text.
-    fn of_length(len: usize) -> (OtherWord, &'static [u8])
-        ensures text { result.1.now ≡ other_word result.0 }
-        ensures one { (known : OtherWord) → length (other_word known) ≡ len → known ≡ result.0 }
-    {
-        match len {
-            6 => (OtherWord::Rename, b"rename"),
-            5 => (OtherWord::Flush, b"flush"),
-            4 => (OtherWord::Wild, b"wild"),
-            _ => (OtherWord::Arm, b"arm"),
+        match word {
+            b"rename" => Some(OtherWord::Rename),
+            b"flush" => Some(OtherWord::Flush),
+            b"wild" => Some(OtherWord::Wild),
+            b"arm" => Some(OtherWord::Arm),
+            _ => None,
         }
     }
 }
