@@ -12,15 +12,16 @@ ghost use Rattle.rio_model.specs.declared.state.State.{State};
 ghost use Rattle.rio_requests.specs.Answers.{stat as stat_of, list as list_of, write as write_of, truncate as truncate_of, read as read_of, mkdir as mkdir_of, create as create_of, make_region as make_region_of, unlink as unlink_of, rmdir as rmdir_of, rename as rename_of};
 ghost use Rattle.rio_requests.specs.Parts.{NoneDone, WriteDone};
 ghost use Rattle.rio_model.specs.Paths.{IsPath};
-ghost use Rattle.file_tree.specs.Ends.{CanServe, FileEnds, SaysNames, SaysStat, SaysBytes, SaysCount, SaysDone, SaysIno};
-ghost use Rattle.file_tree.specs.Failures.{Faulted};
+ghost use Rattle.file_ends.specs.Ends.{CanServe, FileEnds, SaysNames, SaysStat, SaysBytes, SaysCount, SaysDone, SaysIno};
+ghost use Rattle.file_ends.specs.Failures.{Faulted};
 ghost use Rattle.file_pages.specs.Forgetting.{Forgets};
 ghost use Rattle.file_tree.specs.Walks.{ino_numbers};
 ghost use Rattle.rio_base.specs.Layout.{IsIno};
 ghost use Rattle.node_making.specs.NewRegions.{FindsRegion};
 
 use file_data::{read_with, truncate_with, write_with};
-use file_tree::{FileFail, Memo};
+use file_ends::FileFail;
+use file_tree::Memo;
 use name_list::NameList;
 use node_making::{
     create_with, list_with, make_region_with, mkdir_with, region_of_with, stand_at_with, stat_with,

@@ -14,13 +14,13 @@ use Rattle.rio_model.specs.VolumeReads.{ReadsAs}
 use Rattle.rio_model.specs.VolumeReady.{Ready}
 use Rattle.file_pages.proofs.LookingUpRules.{can_look_up, looked_low}
 use Rattle.file_pages.proofs.OrderRules.{leaves_looked}
-use Rattle.file_tree.specs.declared.failures.FileFail.{FileFail}
-use Rattle.file_tree.specs.declared.failures.FileFail.TheVariants.{Refused, Fault, Stopped, Memory}
-use Rattle.file_tree.proofs.EndRules.{can_after}
-use Rattle.file_tree.specs.Ends.{CanServe, FileEnds}
+use Rattle.file_ends.specs.declared.failures.FileFail.{FileFail}
+use Rattle.file_ends.specs.declared.failures.FileFail.TheVariants.{Refused, Fault, Stopped, Memory}
+use Rattle.file_ends.proofs.EndRules.{can_after}
+use Rattle.file_ends.specs.Ends.{CanServe, FileEnds}
 use Rattle.file_tree.specs.Memos.{InStep}
 use Rattle.file_tree.specs.declared.memo.Memo.{Memo}
-use Rattle.file_tree.proofs.Unchanged.{can_again}
+use Rattle.file_ends.proofs.Unchanged.{can_again}
 use Rattle.test_volumes.specs.TestVolumes.{IsFresh}
 use Rattle.file_store_tests.specs.Playing.{CanStart, Follows, FollowsHeld}
 

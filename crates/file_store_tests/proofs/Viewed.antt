@@ -18,7 +18,7 @@ use Rattle.rio_model.specs.VolumeReady.{Firmly}
 use Rattle.rio_model.specs.VolumeRules.{IsMapped}
 use Rattle.inode_table.specs.declared.inode.Inode.{Inode}
 use Rattle.inode_table.specs.Inodes.{IsInode}
-use Rattle.file_tree.specs.Ends.{CanServe}
+use Rattle.file_ends.specs.Ends.{CanServe}
 use Rattle.region_view.specs.Views.{OnRegion}
 use Rattle.vista_region.specs.Ends.{Fits}
 use Rattle.vista_region.specs.Marks.{Marks, set_mark}

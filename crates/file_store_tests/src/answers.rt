@@ -3,7 +3,7 @@
 ghost use Rattle.std.specs.Prelude.{◌≡◌, ◌↔◌, IsErr, IsErrOf};
 
 use crate::asks::{Want, numbered};
-use file_tree::FileFail;
+use file_ends::FileFail;
 use name_list::NameList;
 use rio_base::{Ino, Octets, Stopped, VolFail};
 

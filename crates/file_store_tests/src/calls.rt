@@ -3,7 +3,7 @@
 ghost use Rattle.std.specs.Prelude.{◌≡◌};
 ghost use Rattle.rio_fakes.specs.ListVolumes.{ListSound, list_kept, list_seen};
 ghost use Rattle.rio_model.specs.Paths.{IsPath};
-ghost use Rattle.file_tree.specs.Ends.{CanServe};
+ghost use Rattle.file_ends.specs.Ends.{CanServe};
 ghost use Rattle.file_store_tests.specs.Playing.{Follows};
 
 use crate::answers::{

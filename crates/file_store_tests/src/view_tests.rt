@@ -1,12 +1,12 @@
 //! The words of a region, read and stored through a view of it.
 
 ghost use Rattle.rio_fakes.specs.ListVolumes.{ListSound, list_kept, list_seen};
-ghost use Rattle.file_tree.specs.Ends.{CanServe};
+ghost use Rattle.file_ends.specs.Ends.{CanServe};
 
 use crate::asks::{Ask, Row, Want};
 use crate::views::{Call, Due, MAGIC, failing, on_words, start_again, view_after, view_of};
+use file_ends::FileFail;
 use file_store::stand_at;
-use file_tree::FileFail;
 use region_view::RegionView;
 use request_codec::is_path;
 use rio_base::{Ino, RegionWords};

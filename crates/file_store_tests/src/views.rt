@@ -3,7 +3,7 @@
 ghost use Rattle.std.specs.Prelude.{◌≡◌, ◌+◌, ◌≤◌, true};
 ghost use Rattle.rio_fakes.specs.ListVolumes.{ListSound, list_kept, list_seen};
 ghost use Rattle.rio_model.specs.Heap.{IsSoundRegion};
-ghost use Rattle.file_tree.specs.Ends.{CanServe};
+ghost use Rattle.file_ends.specs.Ends.{CanServe};
 
 use crate::asks::Row;
 use crate::playing::volume_after;

@@ -1,7 +1,8 @@
 -- Inodes that are used, and those that are free.
-use Rattle.file_tree.proofs.Common.{◌≡◌, ◌≢◌, ℕ, ◌<◌, ◌⊎◌, false, ap, ◌∙◌, arith, inl, inr, get, cases_eq, VolumeShape, BlockWords, IsIno, inode_kind, State, held_of, reads_dir, reads_file, reads_region, ReadsAs}
+use Rattle.file_ends.proofs.Common.{◌≡◌, ◌≢◌, ℕ, ◌<◌, ◌⊎◌, false, ap, ◌∙◌, arith, inl, inr, get, cases_eq, VolumeShape, BlockWords, IsIno, inode_kind, State, held_of, reads_dir, reads_file, reads_region, ReadsAs, IsMapped}
 use Rattle.std.specs.Prelude.{is_none}
 use Rattle.region_view.proofs.UsedInodes.{kind_held}
+use Rattle.rio_model.proofs.PlacedRules.{root_ino}
 
 -- a used inode is a node of the state
 pub used_node : (shape : VolumeShape) (f : BlockWords) (s : State) (i : ℕ) → ReadsAs shape f s → IsIno shape i → 0 < inode_kind f i → is_none (get s.nodes i) ≡ false
@@ -17,3 +18,7 @@ used_node shape f s i reads ino used = by (cases_eq (held_of shape f i).kind 1) 
 
 pub free_held : (shape : VolumeShape) (f : BlockWords) (i : ℕ) → IsIno shape i → inode_kind f i ≡ 0 → (held_of shape f i).kind ≡ 0
 free_held shape f i ino free = kind_held shape f i ino ∙ free
+
+-- the root is a directory
+pub root_held : (shape : VolumeShape) (f : BlockWords) → IsMapped shape f → (held_of shape f 1).kind ≡ 1
+root_held shape f mapped = kind_held shape f 1 (root_ino shape mapped.laid.shape_fits) ∙ mapped.laid.kinds.root

@@ -1,15 +1,17 @@
 -- What look-ups by name answer, by the state that the blocks read as.
-use Rattle.file_tree.proofs.Common.{◌≡◌, ℕ, ◌<◌, true, false, cond, List, [], ◌∷◌, refl, sym, ap, subst, ◌∙◌, arith, inl, inr, Result, Ok, Err, Some, None, get, cases_Bool, Ino, VolumeShape, BlockWords, State, front_of, last_of, entry_ino, held_of, from_found, is_dir, walk, walk_to_dir, reads_dir, reads_region, ReadsAs, region_in, Inode, IsInode, HasRow, IsEntry, found}
+use Rattle.file_ends.proofs.Common.{◌≡◌, ℕ, ◌<◌, true, false, cond, List, [], ◌∷◌, refl, sym, ap, subst, ◌∙◌, arith, inl, inr, Result, Ok, Err, Some, None, get, cases_Bool, Ino, VolumeShape, BlockWords, State, front_of, last_of, entry_ino, held_of, from_found, is_dir, walk, walk_to_dir, reads_dir, reads_region, ReadsAs, region_in, Inode, IsInode, found, Answered, at_inode}
+use Rattle.directories.specs.Rows.{HasRow, IsEntry}
 use Rattle.region_view.proofs.UsedInodes.{kind_held, used_ino}
 use Rattle.std.specs.Prelude.{Option}
 use Rattle.rio_model.specs.Paths.{as_dir}
-use Rattle.file_tree.specs.declared.failures.FileFail.{FileFail}
-use Rattle.file_tree.specs.declared.failures.FileFail.TheVariants.{Refused, Fault, Stopped, Memory}
-use Rattle.file_tree.specs.Failures.{Refuses, Unrefused}
+use Rattle.file_ends.specs.declared.failures.FileFail.{FileFail}
+use Rattle.file_ends.specs.declared.failures.FileFail.TheVariants.{Refused, Fault, Stopped, Memory}
+use Rattle.file_ends.specs.Failures.{Refuses, Unrefused}
 use Rattle.file_tree.proofs.RowReads.{dir_kind}
 use Rattle.rio_model.proofs.Walks.{walk_on, walk_over}
 use Rattle.file_tree.specs.Walks.{Comes, FileComes, RowComes, ino_in}
 use Rattle.file_tree.specs.declared.walking.Row.{Row}
+use Rattle.file_ends.proofs.AnsweredAt.{FailsBy}
 
 -- ---- kinds, in the state
 
@@ -193,3 +195,14 @@ file_left shape f s i reads used no_dir no_region =
     let few = reads.mapped.laid.kinds.each i ino in
     let same = kind_held shape f i ino in
     omega (arith, few, same, used, no_dir, no_region)
+
+-- ---- a request whose walk failed
+
+pub fails_walk : (s : State) (walked : Result ℕ ℕ) (go : ℕ → Answered) (r : Result Ino FileFail) (e : FileFail) → r ≡ Err e → Comes walked r → FailsBy s (at_inode s walked go) e
+fails_walk s walked go r e re h = by e (subst (λ (v : Result Ino FileFail). Comes walked v) re h)
+  where
+    by : (f : FileFail) → Comes walked (Err f) → FailsBy s (at_inode s walked go) f
+    by (Refused c) c_is = ap (λ (w : Result ℕ ℕ). at_inode s w go) c_is
+    by (Fault n) none = none
+    by Stopped u = tt
+    by Memory u = tt

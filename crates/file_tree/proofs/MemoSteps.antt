@@ -1,5 +1,6 @@
 -- What is held in memory stays in step with the blocks, while they change.
-use Rattle.file_tree.proofs.Common.{◌≡◌, ◌≢◌, ℕ, ◌*◌, ◌<◌, ◌⊎◌, List, Option, refl, sym, ap, subst, ◌∙◌, arith, inl, inr, None, Some, none-some, get, insert, cases_eq, VolumeShape, BlockWords, IsIno, inode_kind, State, NameKey, Names, Node, HasEntry, Held, entry_ino, entry_name, held_of, reads_none, ReadsAs, HasRow, true_false, get_here, get_there, with_new, with_node}
+use Rattle.file_ends.proofs.Common.{◌≡◌, ◌≢◌, ℕ, ◌*◌, ◌<◌, ◌⊎◌, List, Option, refl, sym, ap, subst, ◌∙◌, arith, inl, inr, None, Some, none-some, get, insert, cases_eq, VolumeShape, BlockWords, IsIno, inode_kind, State, NameKey, Names, Node, HasEntry, Held, entry_ino, entry_name, held_of, reads_none, ReadsAs, true_false, get_here, get_there, with_new, with_node}
+use Rattle.directories.specs.Rows.{HasRow}
 use Rattle.std.specs.Prelude.{is_none}
 use Rattle.rio_model.specs.RegionMoves.{RestHeld}
 use Rattle.rio_model.specs.VolumeReads.{Reads}

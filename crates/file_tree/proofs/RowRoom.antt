@@ -1,9 +1,12 @@
--- Room for a row: blocks that are free, as the state counts them.
-use Rattle.file_tree.proofs.Common.{◌≡◌, ℕ, ◌+◌, ◌-◌, ◌*◌, ◌%◌, ◌<◌, ◌≤◌, true, false, cond, sym, ap, subst, ◌∙◌, arith, nat_lt, nat_tests, VolumeShape, free_blocks, BlockWords, IsIno, true_false, Answered, State, refused, names_in, Held, held_of, held_ino, is_dir, placed_at, volume_layout, blocks_for, free_count, largest_size, reads_dir, ReadsAs, IsMapped, free_by_state, wanted_blocks, row_wanted, with_room}
+-- Room for a row: blocks that are free, as the state counts them, and what a request answers that finds too few.
+use Rattle.file_ends.proofs.Common.{◌≡◌, ℕ, ◌+◌, ◌-◌, ◌*◌, ◌%◌, ◌<◌, ◌≤◌, true, false, cond, sym, ap, subst, ◌∙◌, arith, nat_lt, nat_tests, VolumeShape, free_blocks, BlockWords, IsIno, true_false, Answered, State, refused, names_in, Held, held_of, held_ino, is_dir, placed_at, volume_layout, blocks_for, free_count, largest_size, reads_dir, ReadsAs, IsMapped, free_by_state, wanted_blocks, row_wanted, with_room, Result, Err, IsErrOf, SizeFail, NoSpace, TooLarge, refl}
 use Rattle.std.specs.Prelude.{length}
 use Rattle.rio_model.proofs.FreeByState.{names_counted}
 use Rattle.file_tree.proofs.ReadTrees.{ino_of, names_few}
 use Rattle.region_view.proofs.UsedInodes.{kind_held}
+use Rattle.file_pages.specs.declared.failures.SizeFail.TheVariants.{Fault as SizeFault, Stopped as SizeStopped, Memory as SizeMemory}
+use Rattle.file_ends.specs.Failures.{fail_of_size}
+use Rattle.file_ends.proofs.AnsweredAt.{FailsBy}
 
 -- an inode that a kind is held of
 pub used_ino : (shape : VolumeShape) (f : BlockWords) (s : State) (d : ℕ) → ReadsAs shape f s → (held_of shape f d).kind ≡ 1 → IsIno shape d
@@ -48,3 +51,14 @@ row_room shape f s d a reads dir enough = ap (λ b. cond b (refused s 11) a) (no
 
 pub row_full : (shape : VolumeShape) (f : BlockWords) (s : State) (d : ℕ) (a : Answered) → ReadsAs shape f s → (held_of shape f d).kind ≡ 1 → length (free_blocks shape f) < wanted_blocks (held_of shape f d).size ((held_of shape f d).size + 64) → with_room s (row_wanted s d) a ≡ refused s 11
 row_full shape f s d a reads dir lacks = ap (λ b. cond b (refused s 11) a) (below (free_count s) (row_wanted s d) (subst (λ n. free_count s < n) (sym (row_takes shape f s d reads dir)) (subst (λ n. n < wanted_blocks (held_of shape f d).size ((held_of shape f d).size + 64)) (free_by_state shape f s reads) lacks)))
+
+-- no row more could be planned: 11 where fewer blocks are free than it takes
+pub fails_add : {T : Type 0} (shape : VolumeShape) (f : BlockWords) (s : State) (d : ℕ) (b : Answered) (r : Result T SizeFail) (e : SizeFail) → r ≡ Err e → ReadsAs shape f s → (held_of shape f d).kind ≡ 1 → (IsErrOf r NoSpace → length (free_blocks shape f) < wanted_blocks (held_of shape f d).size ((held_of shape f d).size + 64)) → (IsErrOf r TooLarge → ⊥) → FailsBy s (with_room s (row_wanted s d) b) (fail_of_size e)
+fails_add {T = T} shape f s d b r e re reads dir few large = by e re
+  where
+    by : (v : SizeFail) → r ≡ Err v → FailsBy s (with_room s (row_wanted s d) b) (fail_of_size v)
+    by NoSpace is = row_full shape f s d b reads dir (few is)
+    by TooLarge is = absurd (large is)
+    by SizeFault is = refl
+    by SizeStopped is = tt
+    by SizeMemory is = tt

@@ -1,5 +1,5 @@
 -- The names of a directory's rows, in byte order, are those that the state has in it.
-use Rattle.file_tree.proofs.Common.{◌≡◌, ◌≢◌, ℕ, ◌+◌, ◌*◌, ◌/◌, ◌%◌, ◌<◌, Bool, true, false, cond, List, [], ◌∷◌, length, map, get_or, Option, refl, sym, ap, subst, ◌∙◌, arith, inl, inr, All, get, AllByRecursion, Contains, list_any, range_with_len, eq_by_cmp, is_eq, Ordering, Less, Equal, Greater, cases_Bool, length-map-range_with_len, get_or-map-range_with_len, none-some, true_false, State, names_in, Held, entry_name, Reads, NamesApartRule, Result, Ok, VolumeShape, BlockWords, answered, at_inode, held_of, names_of, walk_to_dir, ReadsAs}
+use Rattle.file_ends.proofs.Common.{◌≡◌, ◌≢◌, ℕ, ◌+◌, ◌*◌, ◌/◌, ◌%◌, ◌<◌, Bool, true, false, cond, List, [], ◌∷◌, length, map, get_or, Option, refl, sym, ap, subst, ◌∙◌, arith, inl, inr, All, get, AllByRecursion, Contains, list_any, range_with_len, eq_by_cmp, is_eq, Ordering, Less, Equal, Greater, cases_Bool, length-map-range_with_len, get_or-map-range_with_len, none-some, true_false, State, names_in, Held, entry_name, Reads, NamesApartRule, Result, Ok, VolumeShape, BlockWords, answered, at_inode, held_of, names_of, walk_to_dir, ReadsAs}
 use Rattle.std.proofs.Common.{Some, None}
 use Rattle.std.specs.Prelude.{◌||◌, ◌&&◌, T}
 use Rattle.std.specs.Cmp.{eq_by_cmp_equiv}

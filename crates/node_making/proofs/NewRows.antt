@@ -1,17 +1,21 @@
 -- A node and its row, made in one update: that the changes can be made, and the state that they come to.
-use Rattle.file_tree.proofs.Common.{◌≡◌, ℕ, ◌+◌, ◌<◌, ◌⊎◌, List, [], ◌∷◌, refl, sym, ap, subst, ◌∙◌, arith, inl, inr, Result, Err, IsErrOf, Some, VolumeShape, BlockWords, Seen, IsIno, Kept, Settled, State, answered, with_new, held_of, IsName, volume_layout, ReadsAs, LeavesInUse, Ready, ready_left, PlansDir, HasRow, DirChange, make_new, row_wanted, with_room, Number, free_blocks, wanted_blocks, SizeFail, NoSpace, TooLarge}
+use Rattle.file_ends.proofs.Common.{◌≡◌, ℕ, ◌+◌, ◌<◌, ◌⊎◌, List, [], ◌∷◌, refl, sym, ap, subst, ◌∙◌, arith, inl, inr, Result, Err, IsErrOf, Some, VolumeShape, BlockWords, Seen, IsIno, Kept, Settled, State, answered, with_new, held_of, IsName, volume_layout, ReadsAs, LeavesInUse, Ready, ready_left, make_new, row_wanted, with_room, Number, free_blocks, wanted_blocks, SizeFail, NoSpace, TooLarge}
+use Rattle.directories.specs.Plans.{PlansDir}
+use Rattle.directories.specs.Rows.{HasRow}
+use Rattle.directories.specs.declared.changes.DirChange.{DirChange}
 use Rattle.directories.specs.RowChanges.{AddsRow}
 use Rattle.std.specs.Prelude.{length}
 use Rattle.rio_requests.specs.Answers.{new_blocks, empty_node}
-use Rattle.file_tree.specs.Failures.{fail_of_size}
-use Rattle.file_tree.proofs.AnsweredAt.{FailsBy}
-use Rattle.file_tree.specs.Changes.{IsMade, of_dir}
-use Rattle.file_tree.specs.declared.changes.NodeChange.{NodeChange}
+use Rattle.file_ends.specs.Failures.{fail_of_size}
+use Rattle.file_ends.proofs.AnsweredAt.{FailsBy}
+use Rattle.node_updates.specs.Changes.{IsMade, of_dir}
+use Rattle.node_updates.specs.declared.changes.NodeChange.{NodeChange}
 use Rattle.file_tree.proofs.LookedAt.{no_row}
-use Rattle.file_tree.proofs.LowestTaken.{bare_lower, lowest_each, stood_lower}
+use Rattle.node_updates.proofs.LowestTaken.{bare_lower, lowest_each, stood_lower}
 use Rattle.node_making.proofs.ReachedMade.{reaches_made}
-use Rattle.file_tree.proofs.Requested.{ReachesAll, Requested, dir_ino, dir_may, fails_add, made_may}
-use Rattle.file_tree.proofs.Stood.{Stood, stood_now}
+use Rattle.node_updates.proofs.Requested.{ReachesAll, Requested, dir_ino, dir_may, made_may}
+use Rattle.file_tree.proofs.RowRoom.{fails_add}
+use Rattle.node_updates.proofs.Stood.{Stood, stood_now}
 
 -- row c of directory d and node m of inode i, prepared
 pub record NewRow (shape : VolumeShape) (x : Seen) (k : Kept) (y : Seen) (j : Kept) (d : ℕ) (name : List ℕ) (i kind : ℕ) (c : DirChange) (m : NodeChange) : Type 0 where

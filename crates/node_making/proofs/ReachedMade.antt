@@ -1,18 +1,20 @@
 -- The state that is read once a row and a node are made.
-use Rattle.file_tree.proofs.Common.{◌≡◌, ◌≢◌, ℕ, ◌≤◌, ◌⊎◌, true, List, [], ◌∷◌, map, sym, ap, subst, ◌∙◌, arith, inl, inr, None, get, cases_eq, VolumeShape, BlockWords, Seen, IsIno, Kept, State, with_new, Held, held_of, IsName, is_dir, placed_at, reads_dir, reads_none, ReadsAs, InOrder, DirChange}
+use Rattle.file_ends.proofs.Common.{◌≡◌, ◌≢◌, ℕ, ◌≤◌, ◌⊎◌, true, List, [], ◌∷◌, map, sym, ap, subst, ◌∙◌, arith, inl, inr, None, get, cases_eq, VolumeShape, BlockWords, Seen, IsIno, Kept, State, with_new, Held, held_of, IsName, is_dir, placed_at, reads_dir, reads_none, ReadsAs, InOrder}
+use Rattle.directories.specs.declared.changes.DirChange.{DirChange}
 use Rattle.rio_requests.specs.Answers.{empty_node}
 use Rattle.directories.specs.RowChanges.{AddsRow}
 use Rattle.region_view.proofs.UsedInodes.{kind_held}
-use Rattle.file_tree.specs.Changes.{AllApplied, IsMade, IsTouchedBy, change_update, of_dir}
-use Rattle.file_tree.proofs.EmptyHeld.{empty_held}
+use Rattle.node_updates.specs.Changes.{AllApplied, IsMade, IsTouchedBy, change_update, of_dir}
+use Rattle.node_updates.proofs.EmptyHeld.{empty_held}
 use Rattle.node_making.proofs.ReadMade.{MakesRow, made_as, tree_new}
 use Rattle.file_tree.proofs.ReadTrees.{rows_fit}
 use Rattle.file_tree.proofs.TreeRules.{RowsFit}
-use Rattle.file_tree.specs.declared.changes.NodeChange.{NodeChange}
-use Rattle.file_tree.proofs.Ended.{Reaches}
-use Rattle.file_tree.proofs.Steps.{Steps, made_step}
-use Rattle.file_tree.proofs.Stood.{Stood, stood_step}
-use Rattle.file_tree.proofs.Reached.{Prepared, order_now, held_now, unnamed_touch, root_held, reached}
+use Rattle.node_updates.specs.declared.changes.NodeChange.{NodeChange}
+use Rattle.node_updates.proofs.Ended.{Reaches}
+use Rattle.node_updates.proofs.Steps.{Steps, made_step}
+use Rattle.node_updates.proofs.Stood.{Stood, stood_step}
+use Rattle.node_updates.proofs.Reached.{Prepared, order_now, held_now, unnamed_touch, reached}
+use Rattle.file_tree.proofs.FreeFound.{root_held}
 
 -- kinds that differ
 pub apart_kinds : (shape : VolumeShape) (f : BlockWords) (i d a b : ℕ) → (held_of shape f i).kind ≡ a → (held_of shape f d).kind ≡ b → a ≢ b → i ≢ d

@@ -1,9 +1,9 @@
 -- A node that is made, and its row: the state that is read then, whose names stay a tree.
-use Rattle.file_tree.proofs.Common.{◌≡◌, ◌≢◌, ℕ, ◌⊎◌, List, refl, sym, ap, subst, ◌∙◌, arith, inl, inr, get, VolumeShape, BlockWords, State, with_new, Held, held_of, NameKey, IsName, node_in, ReadsAs, IsMapped, TreeRule, name_get_other, get_here, get_there, true, [], ◌∷◌, insert, cases_eq, Node, is_dir, walk, name_get_same}
+use Rattle.file_ends.proofs.Common.{◌≡◌, ◌≢◌, ℕ, ◌⊎◌, List, refl, sym, ap, subst, ◌∙◌, arith, inl, inr, get, VolumeShape, BlockWords, State, with_new, Held, held_of, NameKey, IsName, node_in, ReadsAs, IsMapped, TreeRule, name_get_other, get_here, get_there, true, [], ◌∷◌, insert, cases_eq, Node, is_dir, walk, name_get_same}
 use Rattle.directories.specs.RowChanges.{AddsRow}
 use Rattle.rio_requests.specs.Answers.{empty_node}
 use Rattle.std.proofs.Common.{Some, None, Ok}
-use Rattle.file_tree.proofs.EmptyHeld.{empty_held}
+use Rattle.node_updates.proofs.EmptyHeld.{empty_held}
 use Rattle.file_tree.proofs.NameSteps.{by_two, dirs_apart, insert_back, insert_some, row_comes}
 use Rattle.file_tree.proofs.RowReads.{EachReads, OneReads, SoundReads, Stays, bare_names, by_each, of_each, one_bare, one_changes, one_stays, reads_as, sound_of, dir_not_3}
 use Rattle.rio_model.proofs.NameRules.{some_none, row_put, one_put}

@@ -1,5 +1,5 @@
 -- A region that is made, and its row, are so in the state that is read.
-use Rattle.file_tree.proofs.Common.{◌≡◌, ◌≢◌, ℕ, ◌/◌, ◌≤◌, List, sym, ap, subst, ◌∙◌, arith, inl, inr, get, none-some, VolumeShape, BlockWords, Node, Region, State, with_new, IsSoundRegion, Held, held_of, NameKey, IsName, node_in, ReadsAs, IsMapped, TreeRule, name_get_other, get_here, get_there}
+use Rattle.file_ends.proofs.Common.{◌≡◌, ◌≢◌, ℕ, ◌/◌, ◌≤◌, List, sym, ap, subst, ◌∙◌, arith, inl, inr, get, none-some, VolumeShape, BlockWords, Node, Region, State, with_new, IsSoundRegion, Held, held_of, NameKey, IsName, node_in, ReadsAs, IsMapped, TreeRule, name_get_other, get_here, get_there}
 use Rattle.directories.specs.RowChanges.{AddsRow}
 use Rattle.rio_requests.specs.Answers.{new_region}
 use Rattle.std.proofs.Common.{None}

@@ -1,5 +1,7 @@
 -- Room for a region and its row: blocks that are free, as the state counts them.
-use Rattle.file_tree.proofs.Common.{◌≡◌, ℕ, ◌+◌, ◌*◌, ◌<◌, ◌≤◌, true, false, cond, List, refl, sym, ap, subst, ◌∙◌, arith, Result, Err, IsErrOf, Some, nat_lt, slice_index, nat_tests, VolumeShape, free_blocks, BlockWords, Seen, Kept, numbers, Region, State, with_new, Held, held_of, IsFree, placed_at, volume_layout, blocks_for, free_count, reads_agree, ReadsAs, LeavesInUse, Ready, free_by_state, wanted_blocks, ready_left, SizeFail, NoSpace, TooLarge, as_many, PlansDir, DirChange, Answered, Number, answered, refused, make_new, row_wanted, with_room}
+use Rattle.file_ends.proofs.Common.{◌≡◌, ℕ, ◌+◌, ◌*◌, ◌<◌, ◌≤◌, true, false, cond, List, refl, sym, ap, subst, ◌∙◌, arith, Result, Err, IsErrOf, Some, nat_lt, slice_index, nat_tests, VolumeShape, free_blocks, BlockWords, Seen, Kept, numbers, Region, State, with_new, Held, held_of, IsFree, placed_at, volume_layout, blocks_for, free_count, reads_agree, ReadsAs, LeavesInUse, Ready, free_by_state, wanted_blocks, ready_left, SizeFail, NoSpace, TooLarge, as_many, Answered, Number, answered, refused, make_new, row_wanted, with_room}
+use Rattle.directories.specs.Plans.{PlansDir}
+use Rattle.directories.specs.declared.changes.DirChange.{DirChange}
 use Rattle.rio_requests.specs.Answers.{new_region}
 use Rattle.directories.specs.RowChanges.{AddsRow}
 use Rattle.rio_model.specs.Undo.{region_words}
@@ -10,13 +12,13 @@ use Rattle.std.proofs.lemmas.List.{length-replicate}
 use Rattle.file_pages.specs.Changes.{free_beside}
 use Rattle.file_pages.specs.declared.failures.SizeFail.TheVariants.{Fault as SizeFault, Stopped as SizeStopped, Memory as SizeMemory}
 use Rattle.file_pages.proofs.Skipped.{count_beside}
-use Rattle.file_tree.specs.Failures.{fail_of_size}
+use Rattle.file_ends.specs.Failures.{fail_of_size}
 use Rattle.node_making.specs.NewRegions.{FitRegion}
 use Rattle.node_making.specs.declared.regions.RegionSizes.{RegionSizes}
-use Rattle.file_tree.proofs.AnsweredAt.{FailsBy}
+use Rattle.file_ends.proofs.AnsweredAt.{FailsBy}
 use Rattle.region_view.proofs.RegionHeader.{used_size}
 use Rattle.node_making.proofs.RegionPlanned.{free_on}
-use Rattle.file_tree.proofs.Requested.{dir_ino}
+use Rattle.node_updates.proofs.Requested.{dir_ino}
 use Rattle.file_tree.proofs.RowRoom.{row_takes}
 
 -- ---- what a region needs

@@ -1,5 +1,11 @@
 -- A region and its row, made in one update: that the changes can be made, and the state that they come to.
-use Rattle.file_tree.proofs.Common.{◌≡◌, ◌≢◌, ℕ, zero, suc, ◌<◌, ◌≤◌, ◌⊎◌, Bool, true, false, List, [], ◌∷◌, map, refl, sym, ap, subst, ◌∙◌, arith, inl, inr, None, Some, get, AllByRecursion, Contains, cases_eq, PageName, VolumeShape, CachesBy, BlockWords, Seen, IsIno, inode_block, reserved, Kept, Settled, numbers, Region, State, with_new, Held, held_of, Available, Change, IsName, Slot, AtPage, AtTable, Placed, Agrees, HasSlot, IsFree, placed_at, volume_layout, SameLayout, inode_low, lays_agree, lays_same, lays_self, node_fits, owned_on, Applied, ReadsAs, Bears, LeavesInUse, NamedNode, Ready, IsMapped, NodeFits, leaves_trans, ready_left, InOrder, IsEdited, Edit, MayBeMade, plan_edits, plan_change, PlansDir, HasRow, DirChange}
+use Rattle.file_ends.proofs.Common.{◌≡◌, ◌≢◌, ℕ, zero, suc, ◌<◌, ◌≤◌, ◌⊎◌, Bool, true, false, List, [], ◌∷◌, map, refl, sym, ap, subst, ◌∙◌, arith, inl, inr, None, Some, get, AllByRecursion, Contains, cases_eq, PageName, VolumeShape, CachesBy, BlockWords, Seen, IsIno, inode_block, reserved, Kept, Settled, numbers, Region, State, with_new, Held, held_of, Available, Change, IsName, Slot, AtPage, AtTable, Placed, Agrees, HasSlot, IsFree, placed_at, volume_layout, SameLayout, inode_low, lays_agree, lays_same, lays_self, node_fits, owned_on, Applied, ReadsAs, Bears, LeavesInUse, NamedNode, Ready, IsMapped, NodeFits, leaves_trans, ready_left, InOrder, IsEdited, Edit}
+use Rattle.directories.specs.Making.{MayBeMade}
+use Rattle.directories.proofs.MakingOrder.{plan_edits}
+use Rattle.directories.proofs.MakingRules.{plan_change, DisjointNodes, may_after, may_begin, may_still}
+use Rattle.directories.specs.Plans.{PlansDir, SameBlocks}
+use Rattle.directories.specs.Rows.{HasRow}
+use Rattle.directories.specs.declared.changes.DirChange.{DirChange}
 use Rattle.rio_requests.specs.Answers.{new_region}
 use Rattle.directories.specs.RowChanges.{AddsRow}
 use Rattle.std.specs.Prelude.{Option}
@@ -12,24 +18,23 @@ use Rattle.rio_model.proofs.PlacedRules.{table_page}
 use Rattle.rio_model.proofs.UpdateRules.{edited_out, turned_held}
 use Rattle.rio_model.specs.Updates.{Turns, Update, WordEdit, edited}
 use Rattle.file_pages.specs.Changes.{EditsTable, Spares, wanted_blocks, word_edit}
-use Rattle.directories.proofs.MakingRules.{DisjointNodes, may_after, may_begin, may_still}
-use Rattle.directories.specs.Plans.{SameBlocks}
-use Rattle.file_tree.specs.Changes.{IsTouchedBy, change_update, of_dir}
+use Rattle.node_updates.specs.Changes.{IsTouchedBy, change_update, of_dir}
 use Rattle.node_making.specs.NewRegions.{FitRegion, PlansRegion, new_held}
 use Rattle.node_making.proofs.ReadMade.{tree_new}
-use Rattle.file_tree.specs.declared.changes.NodeChange.{NodeChange}
+use Rattle.node_updates.specs.declared.changes.NodeChange.{NodeChange}
 use Rattle.node_making.specs.declared.regions.RegionSizes.{RegionSizes}
-use Rattle.file_tree.proofs.Fitting.{freed_above, freed_out}
+use Rattle.node_updates.proofs.Fitting.{freed_above, freed_out}
 use Rattle.file_tree.proofs.LookedAt.{dir_read, no_row}
-use Rattle.file_tree.proofs.LowestTaken.{lowest_two}
+use Rattle.node_updates.proofs.LowestTaken.{lowest_two}
 use Rattle.region_view.proofs.UsedInodes.{kind_held}
 use Rattle.node_making.proofs.ReachedMade.{apart_kinds, fit_read, unused_read}
-use Rattle.file_tree.proofs.Reached.{held_now, lowest_now, mapped_now, order_now, root_held, unnamed_touch}
+use Rattle.node_updates.proofs.Reached.{held_now, lowest_now, mapped_now, order_now, unnamed_touch}
+use Rattle.file_tree.proofs.FreeFound.{root_held}
 use Rattle.node_making.proofs.RegionPlanned.{free_on}
 use Rattle.node_making.proofs.RegionRead.{MakesRegion, region_as}
-use Rattle.file_tree.proofs.Requested.{MayMake, ReachesAll, Requested, dir_ino, dir_may}
-use Rattle.file_tree.proofs.Steps.{Steps, node_change, step_of}
-use Rattle.file_tree.proofs.Stood.{Stood, stood_step}
+use Rattle.node_updates.proofs.Requested.{MayMake, ReachesAll, Requested, dir_ino, dir_may}
+use Rattle.node_updates.proofs.Steps.{Steps, node_change, step_of}
+use Rattle.node_updates.proofs.Stood.{Stood, stood_step}
 
 -- x and k are before the request, m and l when row c of directory d is prepared, y and j when region n of inode i is too
 pub record RegionRow (shape : VolumeShape) (x : Seen) (k : Kept) (m : Seen) (l : Kept) (y : Seen) (j : Kept) (d : ℕ) (name : List ℕ) (i : ℕ) (r : RegionSizes) (c : DirChange) (n : NodeChange) : Type 0 where

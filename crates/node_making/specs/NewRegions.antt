@@ -19,10 +19,10 @@ use Rattle.rio_model.specs.Undo.{region_magic, region_words}
 use Rattle.rio_model.specs.Updates.{Turns}
 use Rattle.rio_model.specs.VolumeReady.{NamedNode}
 use Rattle.file_pages.specs.Changes.{EditsTable, free_beside}
-use Rattle.file_tree.specs.Changes.{change_update}
-use Rattle.file_tree.specs.declared.changes.NodeChange.{NodeChange}
-use Rattle.file_tree.specs.declared.failures.FileFail.{FileFail}
-use Rattle.file_tree.specs.declared.failures.FileFail.TheVariants.{Refused, Fault, Stopped, Memory}
+use Rattle.node_updates.specs.Changes.{change_update}
+use Rattle.node_updates.specs.declared.changes.NodeChange.{NodeChange}
+use Rattle.file_ends.specs.declared.failures.FileFail.{FileFail}
+use Rattle.file_ends.specs.declared.failures.FileFail.TheVariants.{Refused, Fault, Stopped, Memory}
 use Rattle.node_making.specs.declared.regions.RegionSizes.{RegionSizes}
 
 -- ---- sizes

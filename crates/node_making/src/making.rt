@@ -13,16 +13,15 @@ ghost use Rattle.rio_requests.specs.Answers.{empty_node, mkdir as mkdir_of, crea
 ghost use Rattle.rio_requests.specs.Parts.{NoneDone};
 ghost use Rattle.rio_model.specs.Placed.{volume_layout};
 ghost use Rattle.file_pages.specs.Forgetting.{Forgets};
-ghost use Rattle.file_tree.specs.Ends.{CanServe, FileEnds, SaysIno, SaysNumber};
-ghost use Rattle.file_tree.specs.Failures.{Faulted};
+ghost use Rattle.file_ends.specs.Ends.{CanServe, FileEnds, SaysIno, SaysNumber};
+ghost use Rattle.file_ends.specs.Failures.{Faulted};
 ghost use Rattle.file_tree.specs.Memos.{InStep};
 
 use crate::new_nodes::{NewNode, make_new};
 use directories::plan_add;
-use file_tree::{
-    DIRECTORY, EXISTS, FILE, FileFail, Memo, NodeChange, commit_planned, cut_last, dir_without,
-    is_root, node_made,
-};
+use file_ends::{DIRECTORY, EXISTS, FILE, FileFail};
+use file_tree::{Memo, cut_last, dir_without, is_root};
+use node_updates::{NodeChange, commit_planned, node_made};
 use rio_base::{Ino, Volume, VolumeShape};
 use std::alloc::Global;
 

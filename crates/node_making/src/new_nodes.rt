@@ -14,14 +14,15 @@ ghost use Rattle.rio_requests.specs.Answers.{make_new as make_new_of};
 ghost use Rattle.rio_requests.specs.Parts.{NoneDone};
 ghost use Rattle.rio_model.specs.Placed.{volume_layout};
 ghost use Rattle.file_pages.specs.Forgetting.{Forgets};
-ghost use Rattle.file_tree.specs.Ends.{CanServe, FileEnds, SaysIno, SaysNumber};
-ghost use Rattle.file_tree.specs.Failures.{Faulted};
+ghost use Rattle.file_ends.specs.Ends.{CanServe, FileEnds, SaysIno, SaysNumber};
+ghost use Rattle.file_ends.specs.Failures.{Faulted};
 ghost use Rattle.file_tree.specs.Memos.{InStep};
 ghost use Rattle.node_making.specs.NewNodes.{FitsNode, node_made};
 
 use crate::making::make_row;
 use crate::regions::{RegionSizes, make_region_row};
-use file_tree::{FileFail, Memo, NO_INODE};
+use file_ends::{FileFail, NO_INODE};
+use file_tree::Memo;
 use inode_table::least_free_with;
 use rio_base::{Ino, Volume, VolumeShape};
 use std::alloc::Global;

@@ -19,20 +19,19 @@ ghost use Rattle.file_pages.specs.Forgetting.{Forgets};
 ghost use Rattle.directories.specs.Rows.{HasRow};
 ghost use Rattle.rio_requests.specs.Answers.{make_new as make_new_of, make_region as make_region_of, new_region, region_row};
 ghost use Rattle.rio_requests.specs.Parts.{NoneDone};
-ghost use Rattle.file_tree.specs.Ends.{CanServe, FileEnds, SaysIno, SaysNumber};
-ghost use Rattle.file_tree.specs.Failures.{Faulted};
+ghost use Rattle.file_ends.specs.Ends.{CanServe, FileEnds, SaysIno, SaysNumber};
+ghost use Rattle.file_ends.specs.Failures.{Faulted};
 ghost use Rattle.file_tree.specs.Memos.{InStep};
 ghost use Rattle.node_making.specs.NewRegions.{FindsRegion, FitRegion, PlansRegion, SizesRegion, header_name, header_words};
 ghost use Rattle.file_tree.specs.Walks.{FreeRow, ino_in};
 
 use crate::new_nodes::{NewNode, make_new};
 use directories::plan_add;
+use file_ends::{EXISTS, FileFail, NOT_A_REGION, REGION, TOO_LARGE};
 use file_pages::{SizeFail, plan_size};
-use file_tree::{
-    EXISTS, FileFail, Memo, NOT_A_REGION, NodeChange, REGION, TOO_LARGE, commit_planned, cut_last,
-    dir_without, empty_inode, is_root, node_inode, node_sized, walk,
-};
+use file_tree::{Memo, cut_last, dir_without, is_root, node_inode, walk};
 use inode_table::Inode;
+use node_updates::{NodeChange, commit_planned, empty_inode, node_sized};
 use rio_base::{
     Block, BlockList, Ino, PAGE_BYTES, PageName, REGION_MAGIC, RunFail, VolFail, Volume,
     VolumeShape,

@@ -1,5 +1,5 @@
 -- Names and nodes that go, and the names of one directory once one goes or gives way to another.
-use Rattle.file_tree.proofs.Common.{◌≡◌, ◌≢◌, ℕ, ◌⊎◌, true, false, cond, List, refl, sym, ap, subst, ◌∙◌, inl, inr, get, insert, eq_by_cmp, none-some, NameKey, Names, name_cmp, differs, name_get_other}
+use Rattle.file_ends.proofs.Common.{◌≡◌, ◌≢◌, ℕ, ◌⊎◌, true, false, cond, List, refl, sym, ap, subst, ◌∙◌, inl, inr, get, insert, eq_by_cmp, none-some, NameKey, Names, name_cmp, differs, name_get_other}
 use Rattle.rio_model.proofs.WordRules.{itself}
 use Rattle.std.proofs.Common.{Some, None}
 use Rattle.std.specs.Cmp.{nat_cmp_total}

@@ -1,18 +1,21 @@
 -- The state that is read once a row and its node are gone, or once a row has another name in its slot.
-use Rattle.file_tree.proofs.Common.{◌≡◌, ◌≢◌, ℕ, ◌<◌, ◌≤◌, ◌⊎◌, true, List, [], ◌∷◌, map, refl, sym, ap, subst, ◌∙◌, arith, inl, inr, None, nat_lt, get, cases_eq, nat_tests, Block, VolumeShape, BlockWords, Seen, IsIno, Kept, numbers, State, Held, held_of, held_ino, IsName, is_dir, Placed, placed_at, volume_layout, SamePlaced, Applied, ReadsAs, TreeRule, node_blocks, InOrder, PlansDir, IsEntry, DirChange}
+use Rattle.file_ends.proofs.Common.{◌≡◌, ◌≢◌, ℕ, ◌<◌, ◌≤◌, ◌⊎◌, true, List, [], ◌∷◌, map, refl, sym, ap, subst, ◌∙◌, arith, inl, inr, None, nat_lt, get, cases_eq, nat_tests, Block, VolumeShape, BlockWords, Seen, IsIno, Kept, numbers, State, Held, held_of, held_ino, IsName, is_dir, Placed, placed_at, volume_layout, SamePlaced, Applied, ReadsAs, TreeRule, node_blocks, InOrder}
+use Rattle.directories.specs.Plans.{PlansDir}
+use Rattle.directories.specs.Rows.{IsEntry}
+use Rattle.directories.specs.declared.changes.DirChange.{DirChange}
 use Rattle.rio_requests.specs.Answers.{moved, without}
 use Rattle.directories.specs.RowChanges.{RemovesRow, ReplacesRow, SetsRow}
 use Rattle.region_view.proofs.UsedInodes.{kind_held}
 use Rattle.std.specs.Prelude.{cond}
-use Rattle.file_tree.specs.Changes.{AllApplied, IsGone, IsTouchedBy, change_update, of_dir}
-use Rattle.file_tree.proofs.EmptyHeld.{empty_held}
+use Rattle.node_updates.specs.Changes.{AllApplied, IsGone, IsTouchedBy, change_update, of_dir}
+use Rattle.node_updates.proofs.EmptyHeld.{empty_held}
 use Rattle.node_moving.proofs.ReadSteps.{DropsRow, RenamesRow, gone_as, renamed_as}
-use Rattle.file_tree.specs.declared.changes.NodeChange.{NodeChange}
-use Rattle.file_tree.proofs.Blocks.{still_all, still_own}
-use Rattle.file_tree.proofs.Ended.{Reaches}
-use Rattle.file_tree.proofs.Steps.{Steps, gone_step}
-use Rattle.file_tree.proofs.Stood.{Stood, stood_step}
-use Rattle.file_tree.proofs.Reached.{Prepared, order_now, held_now, unnamed_touch, reached}
+use Rattle.node_updates.specs.declared.changes.NodeChange.{NodeChange}
+use Rattle.node_updates.proofs.Blocks.{still_all, still_own}
+use Rattle.node_updates.proofs.Ended.{Reaches}
+use Rattle.node_updates.proofs.Steps.{Steps, gone_step}
+use Rattle.node_updates.proofs.Stood.{Stood, stood_step}
+use Rattle.node_updates.proofs.Reached.{Prepared, order_now, held_now, unnamed_touch, reached}
 
 -- ---- a row less, and its node
 

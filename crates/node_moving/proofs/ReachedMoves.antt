@@ -1,17 +1,21 @@
 -- The state that is read once the changes of a rename are made, where two directories change or a node goes.
-use Rattle.file_tree.proofs.Common.{◌≡◌, ◌≢◌, ℕ, ◌<◌, ◌≤◌, ◌⊎◌, List, [], ◌∷◌, map, sym, ap, subst, ◌∙◌, arith, inl, inr, None, get, cases_eq, Block, VolumeShape, BlockWords, Seen, IsIno, Kept, numbers, State, Held, held_of, Available, IsName, Slot, Placed, HasSlot, Owns, placed_at, volume_layout, SamePlaced, has_same, Applied, ReadsAs, IsMapped, TreeRule, node_blocks, InOrder, MayBeMade, plan_change, dir_update, IsEntry, DirChange}
+use Rattle.file_ends.proofs.Common.{◌≡◌, ◌≢◌, ℕ, ◌<◌, ◌≤◌, ◌⊎◌, List, [], ◌∷◌, map, sym, ap, subst, ◌∙◌, arith, inl, inr, None, get, cases_eq, Block, VolumeShape, BlockWords, Seen, IsIno, Kept, numbers, State, Held, held_of, Available, IsName, Slot, Placed, HasSlot, Owns, placed_at, volume_layout, SamePlaced, has_same, Applied, ReadsAs, IsMapped, TreeRule, node_blocks, InOrder}
+use Rattle.directories.specs.Making.{MayBeMade}
+use Rattle.directories.proofs.MakingRules.{plan_change, DisjointNodes, may_still}
+use Rattle.directories.specs.Plans.{dir_update}
+use Rattle.directories.specs.Rows.{IsEntry}
+use Rattle.directories.specs.declared.changes.DirChange.{DirChange}
 use Rattle.rio_requests.specs.Answers.{moved, replaced}
 use Rattle.directories.specs.RowChanges.{AddsRow, RemovesRow, ReplacesRow, SetsRow}
-use Rattle.directories.proofs.MakingRules.{DisjointNodes, may_still}
-use Rattle.file_tree.specs.Changes.{AllApplied, IsGone, IsTouchedBy, change_update, of_dir}
-use Rattle.file_tree.proofs.EmptyHeld.{empty_held}
+use Rattle.node_updates.specs.Changes.{AllApplied, IsGone, IsTouchedBy, change_update, of_dir}
+use Rattle.node_updates.proofs.EmptyHeld.{empty_held}
 use Rattle.node_moving.proofs.ReadSteps.{MovesRow, ReplacesAcross, ReplacesWithin, moved_as, replaced_across_as, replaced_within_as}
-use Rattle.file_tree.specs.declared.changes.NodeChange.{NodeChange}
-use Rattle.file_tree.proofs.Ended.{Reaches}
-use Rattle.file_tree.proofs.Reached.{Prepared, held_now, mapped_now, order_now, reached, unnamed_touch}
+use Rattle.node_updates.specs.declared.changes.NodeChange.{NodeChange}
+use Rattle.node_updates.proofs.Ended.{Reaches}
+use Rattle.node_updates.proofs.Reached.{Prepared, held_now, mapped_now, order_now, reached, unnamed_touch}
 use Rattle.node_moving.proofs.ReachedGone.{gone_after}
-use Rattle.file_tree.proofs.Steps.{Steps}
-use Rattle.file_tree.proofs.Stood.{Stood, stood_step}
+use Rattle.node_updates.proofs.Steps.{Steps}
+use Rattle.node_updates.proofs.Stood.{Stood, stood_step}
 use Rattle.node_moving.proofs.StoodAfter.{owns_all}
 
 same_trans : (n m o : Placed) → SamePlaced n m → SamePlaced m o → SamePlaced n o

@@ -1,6 +1,9 @@
 -- Rows that are given another name: what is answered, that the changes can be made, and the state that they come to. x and k
 -- are before the request, w and p, u and q, y and j after one call after the other that only prepares.
-use Rattle.file_tree.proofs.Common.{◌≡◌, ◌≢◌, ℕ, ◌+◌, ◌<◌, ◌≤◌, false, cond, List, [], ◌∷◌, refl, sym, ap, subst, ◌∙◌, arith, Result, Err, IsErrOf, nat_lt, nat_tests, Block, VolumeShape, free_blocks, BlockWords, Seen, IsIno, Kept, Settled, numbers, State, answered, refused, Held, held_of, IsName, placed_at, volume_layout, free_count, held_of_agree, ReadsAs, LeavesInUse, Ready, TreeRule, differs, wanted_blocks, node_blocks, leaves_trans, ready_left, reads_agree, SizeFail, NoSpace, TooLarge, PlansDir, HasRow, IsEntry, DirChange, row_wanted, with_room}
+use Rattle.file_ends.proofs.Common.{◌≡◌, ◌≢◌, ℕ, ◌+◌, ◌<◌, ◌≤◌, false, cond, List, [], ◌∷◌, refl, sym, ap, subst, ◌∙◌, arith, Result, Err, IsErrOf, nat_lt, nat_tests, Block, VolumeShape, free_blocks, BlockWords, Seen, IsIno, Kept, Settled, numbers, State, answered, refused, Held, held_of, IsName, placed_at, volume_layout, free_count, held_of_agree, ReadsAs, LeavesInUse, Ready, TreeRule, differs, wanted_blocks, node_blocks, leaves_trans, ready_left, reads_agree, SizeFail, NoSpace, TooLarge, row_wanted, with_room}
+use Rattle.directories.specs.Plans.{PlansDir}
+use Rattle.directories.specs.Rows.{HasRow, IsEntry}
+use Rattle.directories.specs.declared.changes.DirChange.{DirChange}
 use Rattle.directories.specs.RowChanges.{AddsRow, RemovesRow, ReplacesRow, SetsRow}
 use Rattle.rio_model.proofs.WordRules.{itself}
 use Rattle.std.specs.Prelude.{length}
@@ -8,27 +11,27 @@ use Rattle.rio_base.specs.Bitmap.{used_bit}
 use Rattle.rio_model.proofs.LowestBlocks.{bits_agree}
 use Rattle.rio_requests.specs.declared.reply.Reply.TheVariants.{Ok as Done}
 use Rattle.rio_requests.specs.Answers.{move_row, moved, replaced}
-use Rattle.file_tree.specs.Changes.{IsGone, of_dir}
-use Rattle.file_tree.specs.Failures.{fail_of_size}
-use Rattle.file_tree.specs.Planned.{LeadsBy, Planned}
+use Rattle.node_updates.specs.Changes.{IsGone, of_dir}
+use Rattle.file_ends.specs.Failures.{fail_of_size}
+use Rattle.node_updates.specs.Planned.{LeadsBy, Planned}
 use Rattle.file_tree.proofs.ReadTrees.{rows_fit}
 use Rattle.node_moving.proofs.TreeMoves.{tree_moved, tree_replaced}
 use Rattle.node_moving.specs.WalkRules.{OutOfReach}
 use Rattle.file_tree.specs.Walks.{IsRow}
-use Rattle.file_tree.specs.declared.changes.NodeChange.{NodeChange}
+use Rattle.node_updates.specs.declared.changes.NodeChange.{NodeChange}
 use Rattle.file_tree.specs.declared.walking.Row.{Row}
-use Rattle.file_tree.proofs.AnsweredAt.{FailsBy}
-use Rattle.file_tree.proofs.Ended.{Reaches}
+use Rattle.file_ends.proofs.AnsweredAt.{FailsBy}
+use Rattle.node_updates.proofs.Ended.{Reaches}
 use Rattle.region_view.proofs.UsedInodes.{used_ino}
 use Rattle.file_tree.proofs.LookedAt.{dir_read, leaf_read, no_row, row_read}
-use Rattle.file_tree.proofs.LowestTaken.{bare_lower, lowest_each, stood_lower}
-use Rattle.file_tree.proofs.Planning.{kind_still, leads, planned, planned_reached}
+use Rattle.node_updates.proofs.LowestTaken.{bare_lower, lowest_each, stood_lower}
+use Rattle.node_updates.proofs.Planning.{kind_still, leads, planned, planned_reached}
 use Rattle.node_moving.proofs.ReachedGone.{less_removed, less_replaced, less_set, order_renamed, reaches_renamed}
-use Rattle.file_tree.proofs.Reached.{root_held}
+use Rattle.file_tree.proofs.FreeFound.{root_held}
 use Rattle.node_moving.proofs.ReachedMoves.{order_moved, reaches_across, reaches_moved, reaches_within}
-use Rattle.file_tree.proofs.Requested.{OrdersAll, ReachesAll, Requested, dir_ino, dir_may, fails_add, gone_may}
-use Rattle.file_tree.proofs.RowRoom.{row_room}
-use Rattle.file_tree.proofs.Stood.{Stood, stood_now}
+use Rattle.node_updates.proofs.Requested.{OrdersAll, ReachesAll, Requested, dir_ino, dir_may, gone_may}
+use Rattle.file_tree.proofs.RowRoom.{fails_add, row_room}
+use Rattle.node_updates.proofs.Stood.{Stood, stood_now}
 use Rattle.node_moving.proofs.StoodAfter.{stood_after}
 
 -- ---- what is answered

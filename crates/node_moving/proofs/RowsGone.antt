@@ -1,18 +1,21 @@
 -- A row and its node removed in one update: that the changes can be made, and the state that they come to.
-use Rattle.file_tree.proofs.Common.{◌≡◌, ◌≢◌, ℕ, ◌<◌, List, [], ◌∷◌, arith, refl, sym, ap, subst, ◌∙◌, Some, get, Block, VolumeShape, BlockWords, Seen, Kept, Settled, numbers, State, held_of, placed_at, volume_layout, ReadsAs, LeavesInUse, Ready, TreeRule, node_blocks, leaves_trans, ready_left, PlansDir, IsEntry, DirChange}
+use Rattle.file_ends.proofs.Common.{◌≡◌, ◌≢◌, ℕ, ◌<◌, List, [], ◌∷◌, arith, refl, sym, ap, subst, ◌∙◌, Some, get, Block, VolumeShape, BlockWords, Seen, Kept, Settled, numbers, State, held_of, placed_at, volume_layout, ReadsAs, LeavesInUse, Ready, TreeRule, node_blocks, leaves_trans, ready_left}
+use Rattle.directories.specs.Plans.{PlansDir}
+use Rattle.directories.specs.Rows.{IsEntry}
+use Rattle.directories.specs.declared.changes.DirChange.{DirChange}
 use Rattle.rio_requests.specs.Answers.{without}
 use Rattle.directories.specs.RowChanges.{RemovesRow}
-use Rattle.file_tree.specs.Changes.{IsGone, of_dir}
+use Rattle.node_updates.specs.Changes.{IsGone, of_dir}
 use Rattle.file_tree.proofs.RowReads.{bare_names, by_each, sound_of}
 use Rattle.node_moving.proofs.TreeMoves.{tree_without}
-use Rattle.file_tree.specs.declared.changes.NodeChange.{NodeChange}
+use Rattle.node_updates.specs.declared.changes.NodeChange.{NodeChange}
 use Rattle.region_view.proofs.UsedInodes.{used_ino}
 use Rattle.file_tree.proofs.LookedAt.{row_read}
-use Rattle.file_tree.proofs.LowestTaken.{bare_lower, lowest_each, stood_lower}
-use Rattle.file_tree.proofs.Planning.{kind_still}
+use Rattle.node_updates.proofs.LowestTaken.{bare_lower, lowest_each, stood_lower}
+use Rattle.node_updates.proofs.Planning.{kind_still}
 use Rattle.node_moving.proofs.ReachedGone.{less_removed, reaches_gone}
-use Rattle.file_tree.proofs.Requested.{ReachesAll, Requested, dir_ino, dir_may, gone_may}
-use Rattle.file_tree.proofs.Stood.{Stood, stood_now}
+use Rattle.node_updates.proofs.Requested.{ReachesAll, Requested, dir_ino, dir_may, gone_may}
+use Rattle.node_updates.proofs.Stood.{Stood, stood_now}
 use Rattle.node_moving.proofs.StoodAfter.{stood_after}
 
 -- the row of slot `slot` of directory d and node i, prepared. w and p are when the row is planned, before the node's blocks

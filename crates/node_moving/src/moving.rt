@@ -14,17 +14,17 @@ ghost use Rattle.rio_requests.specs.Answers.{replaced, move_row as move_row_of, 
 ghost use Rattle.rio_requests.specs.Parts.{NoneDone};
 ghost use Rattle.rio_model.specs.Placed.{volume_layout};
 ghost use Rattle.file_pages.specs.Forgetting.{Forgets};
-ghost use Rattle.file_tree.specs.Ends.{CanServe, FileEnds, SaysDone};
-ghost use Rattle.file_tree.specs.Failures.{Faulted};
+ghost use Rattle.file_ends.specs.Ends.{CanServe, FileEnds, SaysDone};
+ghost use Rattle.file_ends.specs.Failures.{Faulted};
 ghost use Rattle.node_moving.specs.WalkRules.{OutOfReach};
 ghost use Rattle.file_tree.specs.Walks.{IsRow, ino_numbers};
 
 use crate::removing::is_open;
 use directories::{plan_add, plan_remove, plan_replace, plan_set};
+use file_ends::{BUSY, DIRECTORY, EXISTS, FileFail};
 use file_pages::blocks_of;
-use file_tree::{
-    BUSY, DIRECTORY, EXISTS, FileFail, NodeChange, Row, commit_planned, inode_of, node_gone,
-};
+use file_tree::{Row, inode_of};
+use node_updates::{NodeChange, commit_planned, node_gone};
 use rio_base::{Ino, InoList, Volume, VolumeShape};
 use std::alloc::Global;
 

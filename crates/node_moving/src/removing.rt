@@ -13,18 +13,19 @@ ghost use Rattle.rio_requests.specs.Parts.{NoneDone};
 ghost use Rattle.rio_model.specs.Paths.{IsPath};
 ghost use Rattle.rio_model.specs.Placed.{volume_layout};
 ghost use Rattle.file_pages.specs.Forgetting.{Forgets};
-ghost use Rattle.file_tree.specs.Ends.{CanServe, FileEnds, SaysDone};
-ghost use Rattle.file_tree.specs.Failures.{Faulted};
+ghost use Rattle.file_ends.specs.Ends.{CanServe, FileEnds, SaysDone};
+ghost use Rattle.file_ends.specs.Failures.{Faulted};
 ghost use Rattle.file_tree.specs.Memos.{InStep};
 ghost use Rattle.file_tree.specs.Walks.{IsRow, ino_numbers};
 
 use directories::plan_remove;
-use file_pages::blocks_of;
-use file_tree::{
-    BUSY, DIRECTORY, FileFail, IS_A_DIRECTORY, IS_ROOT, Memo, NOT_A_DIRECTORY, NOT_EMPTY,
-    NodeChange, REGION, Row, commit_planned, cut_last, is_root, node_gone, node_inode, walk_to_row,
+use file_ends::{
+    BUSY, DIRECTORY, FileFail, IS_A_DIRECTORY, IS_ROOT, NOT_A_DIRECTORY, NOT_EMPTY, REGION,
 };
+use file_pages::blocks_of;
+use file_tree::{Memo, Row, cut_last, is_root, node_inode, walk_to_row};
 use inode_table::Inode;
+use node_updates::{NodeChange, commit_planned, node_gone};
 use rio_base::{Ino, InoList, Volume, VolumeShape};
 use std::alloc::Global;
 

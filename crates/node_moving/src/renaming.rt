@@ -13,16 +13,16 @@ ghost use Rattle.rio_requests.specs.Answers.{move_row as move_row_of, rename as 
 ghost use Rattle.rio_requests.specs.Parts.{NoneDone};
 ghost use Rattle.rio_model.specs.Placed.{volume_layout};
 ghost use Rattle.file_pages.specs.Forgetting.{Forgets};
-ghost use Rattle.file_tree.specs.Ends.{CanServe, FileEnds, SaysDone};
-ghost use Rattle.file_tree.specs.Failures.{Faulted};
+ghost use Rattle.file_ends.specs.Ends.{CanServe, FileEnds, SaysDone};
+ghost use Rattle.file_ends.specs.Failures.{Faulted};
 ghost use Rattle.file_tree.specs.Memos.{InStep};
 ghost use Rattle.node_moving.specs.WalkRules.{OutOfReach};
 ghost use Rattle.file_tree.specs.Walks.{IsRow, ino_numbers};
 
 use crate::moving::{move_row, replace_row};
+use file_ends::{FileFail, INSIDE_ITSELF, IS_ROOT};
 use file_tree::{
-    FileFail, INSIDE_ITSELF, IS_ROOT, Memo, Row, cut_last, is_below, is_root, look_up_in, walk,
-    walk_to_dir, walk_to_row,
+    Memo, Row, cut_last, is_below, is_root, look_up_in, walk, walk_to_dir, walk_to_row,
 };
 use rio_base::{Ino, InoList, Volume, VolumeShape};
 use std::alloc::Global;

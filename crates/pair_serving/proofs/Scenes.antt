@@ -12,7 +12,7 @@ use Rattle.rio_model.specs.declared.txn.Txn.{Txn}
 use Rattle.rio_model.specs.Standing.{StandsFor}
 use Rattle.rio_requests.proofs.WentRules.{went_none}
 use Rattle.rio_requests.specs.Crash.{crashed, undo_all}
-use Rattle.file_tree.specs.Ends.{Stands}
+use Rattle.file_ends.specs.Ends.{Stands}
 use Rattle.vista_region.specs.Marks.{Marks}
 use Rattle.cached_pages.specs.Caches.{CacheSound, Tells, cache_below, cache_health, cache_kept, cache_seen}
 use Rattle.page_cache.specs.Settled.{cache_settled}

@@ -15,7 +15,7 @@ use Rattle.rio_requests.specs.Run.{Run}
 use Rattle.rio_requests.specs.Went.{faults_in}
 use Rattle.rio_requests.specs.declared.reply.Reply.{Reply}
 use Rattle.rio_requests.specs.declared.request.Request.{Request}
-use Rattle.file_tree.specs.Ends.{Stands}
+use Rattle.file_ends.specs.Ends.{Stands}
 use Rattle.vista_region.specs.Marks.{Marks}
 use Rattle.cached_pages.specs.Caches.{Tells, cache_below, cache_health}
 use Rattle.rio_core.specs.Serving.{Holds}

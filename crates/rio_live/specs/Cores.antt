@@ -3,7 +3,7 @@ use Rattle.rio_base.specs.Machine.{Contents, Running}
 use Rattle.rio_base.specs.declared.places.VolumeShape.{VolumeShape}
 use Rattle.rio_model.specs.declared.state.State.{State}
 use Rattle.rio_requests.specs.Crash.{crashed}
-use Rattle.file_tree.specs.Ends.{Stands}
+use Rattle.file_ends.specs.Ends.{Stands}
 use Rattle.cached_pages.specs.Caches.{cache_below, cache_health, cache_kept, cache_seen}
 use Rattle.cached_pages.specs.declared.tables.CacheTables.{CacheTables}
 use Rattle.rio_core.specs.Serving.{Holds}

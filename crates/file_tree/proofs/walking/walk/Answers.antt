@@ -1,10 +1,10 @@
 use Rattle.file_tree.proofs.Lookups.{can_looked}
-use Rattle.file_tree.proofs.Unchanged.{leaves_read}
-use Rattle.file_tree.proofs.UpdateEnds.{never_some}
-use Rattle.file_tree.proofs.Common.{arith, names_of, walk, err_from_is_err_and, refl, le_refl, ends_by_well, goes_refl, leaves_refl}
-use Rattle.file_tree.proofs.CallEnds.{ends_on, ends_ok, well}
+use Rattle.file_ends.proofs.Unchanged.{leaves_read}
+use Rattle.file_ends.proofs.Failed.{never_some}
+use Rattle.file_ends.proofs.Common.{arith, names_of, walk, err_from_is_err_and, refl, le_refl, ends_by_well, goes_refl, leaves_refl}
+use Rattle.file_ends.proofs.CallEnds.{ends_on, ends_ok, well}
 use Rattle.file_tree.proofs.LookedAt.{comes_handed}
-use Rattle.file_tree.proofs.Reached.{root_held}
+use Rattle.file_tree.proofs.FreeFound.{root_held}
 use Rattle.file_tree.proofs.WalksHeld.{walked_used}
 use Rattle.file_tree.proofs.walking.walk.Goals as goal
 

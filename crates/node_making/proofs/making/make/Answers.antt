@@ -1,15 +1,15 @@
-use Rattle.file_tree.proofs.UpdateEnds.{never_ok}
-use Rattle.file_tree.proofs.Common.{◌≡◌, ℕ, le_refl, refl, sym, ap, subst, err_from_is_err_and, ◌then◌, ends_by_well, held_of, names_of, volume_layout, ReadsAs, HasRow, Forgets, leaves_refl, NoneDone, goes_refl}
+use Rattle.file_ends.proofs.Failed.{never_ok}
+use Rattle.file_ends.proofs.Common.{◌≡◌, ℕ, le_refl, refl, sym, ap, subst, err_from_is_err_and, ◌then◌, ends_by_well, held_of, names_of, volume_layout, ReadsAs, Forgets, leaves_refl, NoneDone, goes_refl}
+use Rattle.directories.specs.Rows.{HasRow}
 use Rattle.std.specs.Prelude.{OnOk}
 use Rattle.rio_model.specs.States.{least_free as least_of}
 use Rattle.rio_requests.specs.Answers.{make as make_of, make_new as make_new_of, empty_node}
-use Rattle.file_tree.specs.Ends.{SaysIno}
-use Rattle.file_tree.specs.declared.failures.FileFail.TheVariants.{Refused}
-use Rattle.file_tree.proofs.AnsweredAt.{ends_after, ends_look}
-use Rattle.file_tree.proofs.CallEnds.{after_well, ends_on, ends_refused, well}
+use Rattle.file_ends.specs.Ends.{SaysIno}
+use Rattle.file_ends.specs.declared.failures.FileFail.TheVariants.{Refused}
+use Rattle.file_ends.proofs.AnsweredAt.{ends_after, ends_look, ends_as}
+use Rattle.file_ends.proofs.CallEnds.{after_well, ends_on, ends_refused, well}
 use Rattle.node_making.proofs.RowsMade.{fails_make, made_free}
 use Rattle.file_tree.proofs.MemoSteps.{same_step}
-use Rattle.file_tree.proofs.Requested.{ends_as}
 use Rattle.node_making.proofs.making.make.Goals as goal
 
 pub returns-then-is_root-clause-leaves : goal.returns-then-is_root-clause-leaves

@@ -1,10 +1,10 @@
-use Rattle.file_tree.proofs.UpdateEnds.{never_ok}
-use Rattle.file_tree.proofs.Common.{[], ◌∷◌, ap, ◌∙◌, arith, err_from_is_err_and, Some, ◌then◌, answered, with_new, Number, make_new}
+use Rattle.file_ends.proofs.Failed.{never_ok}
+use Rattle.file_ends.proofs.Common.{[], ◌∷◌, ap, ◌∙◌, arith, err_from_is_err_and, Some, ◌then◌, answered, with_new, Number, make_new}
 use Rattle.rio_requests.specs.Answers.{empty_node}
-use Rattle.file_tree.specs.Ends.{SaysNumber}
-use Rattle.file_tree.proofs.CallEnds.{after_well, ends_size, well_size}
+use Rattle.file_ends.specs.Ends.{SaysNumber}
+use Rattle.file_ends.proofs.CallEnds.{after_well, ends_size, well_size}
 use Rattle.node_making.proofs.NewRows.{NewRow, fails_new, new_needs, new_reaches, new_requested}
-use Rattle.file_tree.proofs.Planning.{ends_planning, leads, planned_reached}
+use Rattle.node_updates.proofs.Planning.{ends_planning, leads, planned_reached}
 use Rattle.file_tree.proofs.RowRoom.{row_fits, row_room}
 use Rattle.node_making.proofs.making.make_row.Goals as goal
 

@@ -1,16 +1,16 @@
-use Rattle.file_tree.proofs.UpdateEnds.{never_ok}
-use Rattle.file_tree.proofs.Common.{◌≡◌, ℕ, le_refl, refl, sym, ap, subst, None, Some, err_from_is_err_and, ◌then◌, ends_by_well, Region, held_of, names_of, volume_layout, ReadsAs, HasRow, Forgets, leaves_refl, NoneDone, goes_refl}
+use Rattle.file_ends.proofs.Failed.{never_ok}
+use Rattle.file_ends.proofs.Common.{◌≡◌, ℕ, le_refl, refl, sym, ap, subst, None, Some, err_from_is_err_and, ◌then◌, ends_by_well, Region, held_of, names_of, volume_layout, ReadsAs, Forgets, leaves_refl, NoneDone, goes_refl}
+use Rattle.directories.specs.Rows.{HasRow}
 use Rattle.std.specs.Prelude.{OnOk}
 use Rattle.rio_model.specs.States.{least_free as least_of}
 use Rattle.rio_requests.specs.Answers.{make_new as make_new_of, region_at, new_region}
-use Rattle.file_tree.specs.Ends.{SaysIno}
+use Rattle.file_ends.specs.Ends.{SaysIno}
 use Rattle.node_making.specs.NewRegions.{SizesRegion}
-use Rattle.file_tree.specs.declared.failures.FileFail.TheVariants.{Refused}
-use Rattle.file_tree.proofs.AnsweredAt.{ends_after, ends_look}
-use Rattle.file_tree.proofs.CallEnds.{after_well, ends_on, ends_refused, well}
+use Rattle.file_ends.specs.declared.failures.FileFail.TheVariants.{Refused}
+use Rattle.file_ends.proofs.AnsweredAt.{ends_after, ends_look, ends_as}
+use Rattle.file_ends.proofs.CallEnds.{after_well, ends_on, ends_refused, well}
 use Rattle.node_making.proofs.RowsMade.{fails_region, region_large, region_new}
 use Rattle.file_tree.proofs.MemoSteps.{same_step}
-use Rattle.file_tree.proofs.Requested.{ends_as}
 use Rattle.node_making.proofs.regions.make_region_with.Goals as goal
 
 pub returns-then-is_root-clause-leaves : goal.returns-then-is_root-clause-leaves

@@ -1,6 +1,6 @@
-use Rattle.file_tree.proofs.UpdateEnds.{never_some}
-use Rattle.file_tree.proofs.Common.{err_from_is_err_and}
-use Rattle.file_tree.proofs.CallEnds.{ends_ok, ends_on, well}
+use Rattle.file_ends.proofs.Failed.{never_some}
+use Rattle.file_ends.proofs.Common.{err_from_is_err_and}
+use Rattle.file_ends.proofs.CallEnds.{ends_ok, ends_on, well}
 use Rattle.node_making.proofs.RegionFound.{found_on, memory_on}
 use Rattle.node_making.proofs.regions.region_of_with.Goals as goal
 

@@ -1,6 +1,7 @@
-use Rattle.file_tree.proofs.Common.{sym, subst, held_of, HasRow, NoneDone}
+use Rattle.file_ends.proofs.Common.{sym, subst, held_of, NoneDone}
+use Rattle.directories.specs.Rows.{HasRow}
 use Rattle.rio_requests.specs.Answers.{move_row as move_row_of}
-use Rattle.file_tree.specs.Ends.{FileEnds, SaysDone}
+use Rattle.file_ends.specs.Ends.{FileEnds, SaysDone}
 use Rattle.node_moving.specs.WalkRules.{OutOfReach}
 use Rattle.node_moving.proofs.moving.move_row.Goals as goal
 

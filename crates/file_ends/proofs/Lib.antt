@@ -1,0 +1,6 @@
+pub mod AnsweredAt
+pub mod CallEnds
+pub mod Common
+pub mod EndRules
+pub mod Failed
+pub mod Unchanged

@@ -1,0 +1,13 @@
+pub mod Blocks
+pub mod EmptyHeld
+pub mod Ended
+pub mod Fitting
+pub mod Forgotten
+pub mod LowestTaken
+pub mod Planning
+pub mod Reached
+pub mod Requested
+pub mod Several
+pub mod Steps
+pub mod Stood
+pub mod UpdateEnds
