@@ -1,8 +1,1 @@
 pub mod Contents
-pub mod Entries
-pub mod Holding
-pub mod Making
-pub mod Plans
-pub mod Reading
-pub mod RowChanges
-pub mod Rows

@@ -9,7 +9,7 @@ use Rattle.rio_model.specs.Held.{Held, HasEntry, held_of}
 use Rattle.rio_model.specs.HeldRules.{held_ino}
 use Rattle.rio_model.specs.Placed.{volume_layout}
 use Rattle.rio_model.specs.VolumeReady.{Ready}
-use Rattle.directories.proofs.CanRead.{dir_ino}
+use Rattle.dir_entries.proofs.CanRead.{dir_ino}
 use Rattle.test_volumes.specs.TestVolumes.{HasNodes}
 use Rattle.directories_tests.specs.TestDirs.{DirsReady, IsTestDir}
 

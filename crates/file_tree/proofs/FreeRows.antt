@@ -1,6 +1,6 @@
 -- A name that is free in a directory: what the look-up of it answers.
 use Rattle.file_ends.proofs.Common.{◌≡◌, ℕ, true, List, refl, sym, ap, subst, ◌∙◌, inl, inr, Result, Ok, Err, None, Some, is_some, Ino, VolumeShape, BlockWords, true_false, State, held_of, walk_to_dir, ReadsAs}
-use Rattle.directories.specs.Rows.{Finds}
+use Rattle.dir_entries.specs.Rows.{Finds}
 use Rattle.std.specs.Prelude.{Option}
 use Rattle.file_ends.specs.Failures.{Unrefused}
 use Rattle.file_tree.proofs.RowReads.{finds_some}

@@ -4,7 +4,7 @@ use Rattle.std.proofs.Common.{Some, None}
 use Rattle.std.proofs.lemmas.Option.{same_Some}
 use Rattle.rio_model.specs.Nodes.{Nodes}
 use Rattle.rio_model.proofs.NameOrder.{name_exact, name_itself}
-use Rattle.directories.specs.RowChanges.{NoName, NoRow, TheRow}
+use Rattle.dir_entries.specs.RowChanges.{NoName, NoRow, TheRow}
 
 -- ---- numbers and keys
 

@@ -11,15 +11,15 @@ ghost use Rattle.rio_model.specs.VolumeReads.{ReadsAs};
 ghost use Rattle.rio_model.specs.VolumeReady.{AllNamed, LeavesInUse};
 ghost use Rattle.rio_model.specs.declared.state.State.{State};
 ghost use Rattle.inode_table.specs.Inodes.{IsInode};
-ghost use Rattle.directories.specs.Holding.{HoldsRows};
-ghost use Rattle.directories.specs.Rows.{Finds, IsEntry};
+ghost use Rattle.dir_lookups.specs.Holding.{HoldsRows};
+ghost use Rattle.dir_entries.specs.Rows.{Finds, IsEntry};
 ghost use Rattle.file_ends.specs.Ends.{CanServe};
 ghost use Rattle.file_ends.specs.Failures.{Faulted, Unrefused};
 ghost use Rattle.file_tree.specs.Memos.{InStep};
 
 use crate::memo::Memo;
 use crate::walking::inode_of;
-use directories::{find_with, hold_names, row_at};
+use dir_lookups::{find_with, hold_names, row_at};
 use file_ends::FileFail;
 use inode_table::Inode;
 use name_index::{DirNames, Lookup};

@@ -12,7 +12,7 @@ ghost use Rattle.rio_model.specs.VolumeReads.{ReadsAs};
 ghost use Rattle.rio_model.specs.VolumeReady.{AllNamed, LeavesInUse};
 ghost use Rattle.rio_model.specs.declared.state.State.{State};
 ghost use Rattle.inode_table.specs.Inodes.{IsInode};
-ghost use Rattle.directories.specs.Rows.{HasRow, IsEntry};
+ghost use Rattle.dir_entries.specs.Rows.{HasRow, IsEntry};
 ghost use Rattle.file_ends.specs.Ends.{CanServe};
 ghost use Rattle.file_ends.specs.Failures.{Faulted, Refuses, Unrefused};
 ghost use Rattle.file_tree.specs.Memos.{InStep};

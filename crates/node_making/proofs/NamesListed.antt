@@ -17,7 +17,7 @@ use Rattle.std.proofs.lemmas.Map.Lookups.{exact_bytes}
 use Rattle.std.proofs.lemmas.Map.Views.{Contains-from_any, list_any-from_Contains}
 use Rattle.rio_model.proofs.InDirectory.{names_in-is}
 use Rattle.file_tree.proofs.RowReads.{rows_of_reads}
-use Rattle.directories.specs.Rows.{NamesApart, ListsNames}
+use Rattle.dir_entries.specs.Rows.{NamesApart, ListsNames}
 use Rattle.rio_requests.specs.declared.reply.Reply.TheVariants.{Names as NamesOf}
 use Rattle.rio_requests.specs.Answers.{list}
 use Rattle.file_tree.proofs.ReadTrees.{dir_whole}

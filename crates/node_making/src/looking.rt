@@ -15,7 +15,7 @@ ghost use Rattle.file_ends.specs.Ends.{CanServe, FileEnds, SaysNames, SaysStat};
 ghost use Rattle.file_ends.specs.Failures.{Faulted, Unrefused};
 ghost use Rattle.file_tree.specs.Memos.{InStep};
 
-use directories::names;
+use dir_lookups::names;
 use file_ends::{FileFail, REGION};
 use file_pages::block_of;
 use file_tree::{Memo, node_inode, walk, walk_to_dir};

@@ -8,7 +8,7 @@ ghost use Rattle.rio_model.specs.Held.{held_of};
 ghost use Rattle.rio_model.specs.Paths.{IsName, IsPath, names_of};
 ghost use Rattle.rio_model.specs.VolumeReads.{ReadsAs};
 ghost use Rattle.rio_model.specs.declared.state.State.{State};
-ghost use Rattle.directories.specs.Rows.{HasRow};
+ghost use Rattle.dir_entries.specs.Rows.{HasRow};
 ghost use Rattle.rio_requests.specs.Answers.{empty_node, mkdir as mkdir_of, create as create_of, make as make_of, make_new as make_new_of};
 ghost use Rattle.rio_requests.specs.Parts.{NoneDone};
 ghost use Rattle.rio_model.specs.Placed.{volume_layout};

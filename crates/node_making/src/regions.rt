@@ -16,7 +16,7 @@ ghost use Rattle.rio_model.specs.VolumeReady.{LeavesInUse, Ready};
 ghost use Rattle.inode_table.specs.Inodes.{IsInode};
 ghost use Rattle.file_pages.specs.Changes.{Apart, Spares, free_beside};
 ghost use Rattle.file_pages.specs.Forgetting.{Forgets};
-ghost use Rattle.directories.specs.Rows.{HasRow};
+ghost use Rattle.dir_entries.specs.Rows.{HasRow};
 ghost use Rattle.rio_requests.specs.Answers.{make_new as make_new_of, make_region as make_region_of, new_region, region_row};
 ghost use Rattle.rio_requests.specs.Parts.{NoneDone};
 ghost use Rattle.file_ends.specs.Ends.{CanServe, FileEnds, SaysIno, SaysNumber};

@@ -1,10 +1,10 @@
 -- Rows that are given another name: what is answered, that the changes can be made, and the state that they come to. x and k
 -- are before the request, w and p, u and q, y and j after one call after the other that only prepares.
 use Rattle.file_ends.proofs.Common.{◌≡◌, ◌≢◌, ℕ, ◌+◌, ◌<◌, ◌≤◌, false, cond, List, [], ◌∷◌, refl, sym, ap, subst, ◌∙◌, arith, Result, Err, IsErrOf, nat_lt, nat_tests, Block, VolumeShape, free_blocks, BlockWords, Seen, IsIno, Kept, Settled, numbers, State, answered, refused, Held, held_of, IsName, placed_at, volume_layout, free_count, held_of_agree, ReadsAs, LeavesInUse, Ready, TreeRule, differs, wanted_blocks, node_blocks, leaves_trans, ready_left, reads_agree, SizeFail, NoSpace, TooLarge, row_wanted, with_room}
-use Rattle.directories.specs.Plans.{PlansDir}
-use Rattle.directories.specs.Rows.{HasRow, IsEntry}
-use Rattle.directories.specs.declared.changes.DirChange.{DirChange}
-use Rattle.directories.specs.RowChanges.{AddsRow, RemovesRow, ReplacesRow, SetsRow}
+use Rattle.dir_entries.specs.Plans.{PlansDir}
+use Rattle.dir_entries.specs.Rows.{HasRow, IsEntry}
+use Rattle.dir_entries.specs.declared.changes.DirChange.{DirChange}
+use Rattle.dir_entries.specs.RowChanges.{AddsRow, RemovesRow, ReplacesRow, SetsRow}
 use Rattle.rio_model.proofs.WordRules.{itself}
 use Rattle.std.specs.Prelude.{length}
 use Rattle.rio_base.specs.Bitmap.{used_bit}

@@ -8,7 +8,7 @@ ghost use Rattle.rio_model.specs.Held.{held_of};
 ghost use Rattle.rio_model.specs.Paths.{IsName, IsPath};
 ghost use Rattle.rio_model.specs.VolumeReads.{ReadsAs};
 ghost use Rattle.rio_model.specs.declared.state.State.{State};
-ghost use Rattle.directories.specs.Rows.{HasRow};
+ghost use Rattle.dir_entries.specs.Rows.{HasRow};
 ghost use Rattle.rio_requests.specs.Answers.{move_row as move_row_of, rename as rename_of, rename_row as rename_row_of, replace_row as replace_row_of};
 ghost use Rattle.rio_requests.specs.Parts.{NoneDone};
 ghost use Rattle.rio_model.specs.Placed.{volume_layout};

@@ -1,8 +1,8 @@
 -- A request of one update: what is known of it once all is prepared, that its changes can be made, and how it ends by how
 -- the call does that makes them. x and k are before the request, y and j when all is prepared, z and l after that call.
 use Rattle.file_ends.proofs.Common.{◌≡◌, ℕ, ◌<◌, ◌≤◌, true, List, [], ◌∷◌, map, zero, suc, refl, sym, ap, subst, ◌∙◌, arith, inl, inr, Result, Ok, Err, None, Contains, VolFail, Block, VolumeShape, BlockWords, Seen, IsIno, Kept, Settled, numbers, Answered, Reply, State, answered, Held, held_of, Slot, AtPage, AtTable, Placed, HasSlot, Owns, Agrees, placed_at, volume_layout, SameLayout, lays_agree, lays_same, lays_self, owned_below, owned_on, SamePlaced, ReadsAs, Bears, LeavesInUse, Ready, IsMapped, node_blocks, ready_left, InOrder, Edit}
-use Rattle.directories.proofs.MakingOrder.{plan_edits, plan_applies}
-use Rattle.directories.specs.declared.changes.DirChange.{DirChange}
+use Rattle.dir_entries.proofs.MakingOrder.{plan_edits, plan_applies}
+use Rattle.dir_entries.specs.declared.changes.DirChange.{DirChange}
 use Rattle.std.specs.Prelude.{length}
 use Rattle.rio_base.specs.declared.failures.VolFail.TheVariants.{Fault as VolFault, Stopped as VolStopped}
 use Rattle.rio_model.proofs.PlacedRules.{owns_back}

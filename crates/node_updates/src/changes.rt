@@ -3,7 +3,7 @@
 ghost use Rattle.std.specs.Prelude.{◌≡◌};
 ghost use Rattle.node_updates.specs.Changes.{IsGone, IsMade, of_size};
 
-use directories::DirChange;
+use dir_entries::DirChange;
 use file_ends::FREE;
 use file_pages::{EditList, SizeChange};
 use inode_table::Inode;

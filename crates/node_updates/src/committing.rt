@@ -17,7 +17,7 @@ ghost use Rattle.rio_model.specs.Updates.{Applied};
 ghost use Rattle.file_pages.specs.Forgetting.{Forgets, Uncached};
 ghost use Rattle.file_pages.specs.Updating.{IsEdited, IsUpdated};
 ghost use Rattle.file_pages.specs.declared.changes.Edit.{Edit as EditOf};
-ghost use Rattle.directories.specs.Plans.{InThreeBlocks};
+ghost use Rattle.dir_entries.specs.Plans.{InThreeBlocks};
 ghost use Rattle.node_updates.specs.Changes.{AllApplied, AllTouched, BitmapTouched, CanCommit, CanMakeNode, ChangeTouched, IsFreed, IsTouchedBy, KeepsBlocks, MakesFit, edited_blocks, change_update};
 ghost use Rattle.node_updates.specs.Committing.{Commits, Touched};
 ghost use Rattle.file_ends.specs.Ends.{FileEnds};

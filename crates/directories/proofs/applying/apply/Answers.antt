@@ -1,4 +1,4 @@
-use Rattle.directories.proofs.Common.{sym, subst}
+use Rattle.dir_entries.proofs.Common.{sym, subst}
 use Rattle.file_pages.specs.Updating.{IsTouched}
 use Rattle.file_pages.proofs.Updated.{applied_as, can_update}
 use Rattle.directories.proofs.applying.apply.Goals as goal

@@ -1,7 +1,7 @@
 use Rattle.file_tree.proofs.Lookups.{reads_then, named_then}
 use Rattle.file_ends.proofs.Failed.{never_some}
 use Rattle.file_ends.proofs.Common.{looks_trans, ◌≡◌, sym, subst, err_from_is_err_and, get, held_of, IsInode}
-use Rattle.directories.specs.Rows.{Finds}
+use Rattle.dir_entries.specs.Rows.{Finds}
 use Rattle.std.specs.Prelude.{IfOk}
 use Rattle.name_index.specs.Agreeing.{Says}
 use Rattle.name_index.specs.declared.index.Lookup.{Lookup}

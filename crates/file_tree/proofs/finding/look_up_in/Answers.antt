@@ -1,7 +1,7 @@
 use Rattle.file_tree.proofs.Lookups.{can_looked}
 use Rattle.file_ends.proofs.Failed.{never_some}
 use Rattle.file_ends.proofs.Common.{◌≡◌, arith, sym, subst, ◌∙◌, err_from_is_err_and, ◌then◌, held_of, IsInode}
-use Rattle.directories.specs.Rows.{Finds}
+use Rattle.dir_entries.specs.Rows.{Finds}
 use Rattle.std.specs.Prelude.{IfOk}
 use Rattle.file_ends.proofs.CallEnds.{after_well, ends_on, well}
 use Rattle.file_tree.proofs.LookedAt.{unrefused_on}

@@ -1,7 +1,7 @@
 use Rattle.file_tree.proofs.Lookups.{can_looked}
 use Rattle.file_ends.proofs.Failed.{never_some}
 use Rattle.file_ends.proofs.Common.{◌≡◌, ap, sym, subst, ◌∙◌, err_from_is_err_and, ◌then◌, held_of, names_of, IsInode}
-use Rattle.directories.specs.Rows.{Finds}
+use Rattle.dir_entries.specs.Rows.{Finds}
 use Rattle.file_tree.specs.Walks.{ino_in}
 use Rattle.file_tree.proofs.RowReads.{none_found}
 use Rattle.file_ends.proofs.CallEnds.{after_well, ends_ok, ends_on, ends_refused, well}

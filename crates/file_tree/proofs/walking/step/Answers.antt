@@ -1,7 +1,7 @@
 use Rattle.file_tree.proofs.Lookups.{reads_then, named_then}
 use Rattle.file_ends.proofs.Failed.{never_some}
 use Rattle.file_ends.proofs.Common.{looks_trans, ◌≡◌, ℕ, sym, subst, err_from_is_err_and, held_of, IsInode}
-use Rattle.directories.specs.Rows.{HasRow, IsEntry}
+use Rattle.dir_entries.specs.Rows.{HasRow, IsEntry}
 use Rattle.file_ends.specs.Failures.{Refuses}
 use Rattle.file_ends.proofs.CallEnds.{after_well, ends_ok, ends_on, well}
 use Rattle.file_tree.proofs.LookedAt.{row_used, step_no_dir, step_no_row, step_taken}

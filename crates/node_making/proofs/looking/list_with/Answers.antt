@@ -1,5 +1,5 @@
 use Rattle.file_ends.proofs.Common.{◌≡◌, refl, sym, subst, err_from_is_err_and, held_of, names_of, walk_to_dir, answered, names_in, ◌then◌, NoneDone, ◌∙◌}
-use Rattle.directories.specs.Rows.{ListsNames}
+use Rattle.dir_entries.specs.Rows.{ListsNames}
 use Rattle.rio_requests.specs.declared.reply.Reply.TheVariants.{Names as NamesOf}
 use Rattle.rio_requests.specs.Answers.{list as list_of}
 use Rattle.file_ends.specs.Ends.{SaysNames}

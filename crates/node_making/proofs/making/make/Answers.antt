@@ -1,6 +1,6 @@
 use Rattle.file_ends.proofs.Failed.{never_ok}
 use Rattle.file_ends.proofs.Common.{◌≡◌, ℕ, le_refl, refl, sym, ap, subst, err_from_is_err_and, ◌then◌, ends_by_well, held_of, names_of, volume_layout, ReadsAs, Forgets, leaves_refl, NoneDone, goes_refl}
-use Rattle.directories.specs.Rows.{HasRow}
+use Rattle.dir_entries.specs.Rows.{HasRow}
 use Rattle.std.specs.Prelude.{OnOk}
 use Rattle.rio_model.specs.States.{least_free as least_of}
 use Rattle.rio_requests.specs.Answers.{make as make_of, make_new as make_new_of, empty_node}

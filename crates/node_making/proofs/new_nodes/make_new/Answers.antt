@@ -1,6 +1,6 @@
 use Rattle.file_ends.proofs.Failed.{never_ok}
 use Rattle.file_ends.proofs.Common.{◌≡◌, ℕ, refl, sym, ap, subst, err_from_is_err_and, Ok, None, Some, inode_kind, ◌then◌, held_of, volume_layout, ReadsAs, LeavesInUse, with_new, NoneDone, Forgets, State}
-use Rattle.directories.specs.Rows.{HasRow}
+use Rattle.dir_entries.specs.Rows.{HasRow}
 use Rattle.std.specs.Prelude.{is_err}
 use Rattle.rio_model.specs.States.{least_free as least_of}
 use Rattle.inode_table.specs.Inodes.{FindsFree}

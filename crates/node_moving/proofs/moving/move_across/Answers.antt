@@ -1,6 +1,6 @@
 use Rattle.file_ends.proofs.Failed.{never_ok}
 use Rattle.file_ends.proofs.Common.{◌≡◌, ◌≤◌, ◌+◌, ◌∙◌, ℕ, [], ◌∷◌, ap, subst, err_from_is_err_and, ◌then◌, Held, largest_size, reads_agree}
-use Rattle.directories.specs.Rows.{HasRow}
+use Rattle.dir_entries.specs.Rows.{HasRow}
 use Rattle.rio_requests.specs.declared.reply.Reply.TheVariants.{Ok as Done}
 use Rattle.rio_requests.specs.Answers.{move_row as move_row_of}
 use Rattle.node_updates.specs.Changes.{of_dir}

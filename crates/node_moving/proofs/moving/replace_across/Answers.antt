@@ -2,7 +2,7 @@ use Rattle.file_ends.proofs.Failed.{never_ok}
 use Rattle.file_ends.proofs.Common.{◌∙◌, ℕ, [], ◌∷◌, sym, ap, subst, err_from_is_err_and, ◌then◌, answered, HasEntry, Held}
 use Rattle.rio_requests.specs.Answers.{replaced}
 use Rattle.rio_requests.specs.declared.reply.Reply.TheVariants.{Ok as Done}
-use Rattle.directories.specs.Rows.{InNoOther}
+use Rattle.dir_entries.specs.Rows.{InNoOther}
 use Rattle.node_updates.specs.Changes.{of_dir}
 use Rattle.file_ends.specs.Ends.{SaysDone}
 use Rattle.file_ends.proofs.CallEnds.{after_well, ends_read, well_read}

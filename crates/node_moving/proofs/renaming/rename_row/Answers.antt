@@ -1,6 +1,6 @@
 use Rattle.file_ends.proofs.Failed.{never_ok}
 use Rattle.file_ends.proofs.Common.{◌≡◌, ◌<◌, ℕ, refl, sym, ap, subst, None, Some, get, err_from_is_err_and, ◌then◌, held_of, volume_layout, ReadsAs, LeavesInUse, NoneDone, Forgets}
-use Rattle.directories.specs.Rows.{Finds, HasRow, IsEntry}
+use Rattle.dir_entries.specs.Rows.{Finds, HasRow, IsEntry}
 use Rattle.std.specs.Prelude.{OnOk}
 use Rattle.rio_requests.specs.Answers.{rename_row as rename_row_of}
 use Rattle.file_ends.specs.Ends.{SaysDone}

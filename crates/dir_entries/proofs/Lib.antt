@@ -1,0 +1,7 @@
+pub mod CanRead
+pub mod Common
+pub mod EndsAs
+pub mod MakingOrder
+pub mod MakingRules
+pub mod NameWords
+pub mod WordBytes

@@ -1,0 +1,4 @@
+pub mod EntryRead
+pub mod Found
+pub mod HeldRows
+pub mod Listed
