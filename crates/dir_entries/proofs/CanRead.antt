@@ -6,8 +6,8 @@ use Rattle.rio_base.specs.Blocks.{CanName, SamePage, IsRun}
 use Rattle.rio_model.specs.Held.{nothing}
 use Rattle.rio_model.proofs.PlacedRules.{numbered_of, table_page}
 use Rattle.rio_model.specs.VolumeRules.{IsNumbered}
-use Rattle.file_pages.specs.LookingUp.{CanLookUp, TablesUnnamed}
-use Rattle.file_pages.proofs.LookingUpRules.{can_look_up}
+use Rattle.node_pages.specs.LookingUp.{CanLookUp, TablesUnnamed}
+use Rattle.node_pages.proofs.LookingUpRules.{can_look_up}
 use Rattle.dir_entries.specs.Reading.{CanReadDir}
 
 pub can_look : (shape : VolumeShape) (x : Seen) (d : ℕ) → CanReadDir shape x d → CanLookUp shape x

@@ -7,16 +7,16 @@ pub use Rattle.std.proofs.lemmas.Result.{err_from_is_err_and}
 pub use Rattle.std.specs.List.{Contains, range_with_len}
 pub use Rattle.std.specs.Prelude.{IfOk, None, Option, Result, Some, nat_lt}
 pub use Rattle.block_alloc.specs.Bitmap.{numbers}
-pub use Rattle.file_pages.proofs.LookingUpRules.{look_trans, named_on}
-pub use Rattle.file_pages.proofs.OrderRules.{firm_on, leaves_looked, leaves_trans, ready_left}
-pub use Rattle.file_pages.proofs.PlannedSize.{if_ok_map}
-pub use Rattle.file_pages.specs.Changes.{PlansSize, free_beside, given_node, planned_node, wanted_blocks, word_edit}
-pub use Rattle.file_pages.specs.LookingUp.{LooksUp}
-pub use Rattle.file_pages.specs.Updating.{IsEdited, IsUpdated}
-pub use Rattle.file_pages.specs.declared.changes.Edit.{Edit}
-pub use Rattle.file_pages.specs.declared.changes.SizeChange.{SizeChange}
 pub use Rattle.inode_table.specs.Inodes.{IsInode, inode_words}
 pub use Rattle.inode_table.specs.declared.inode.Inode.{Inode}
+pub use Rattle.node_pages.proofs.LookingUpRules.{look_trans, named_on}
+pub use Rattle.node_pages.proofs.OrderRules.{firm_on, leaves_looked, leaves_trans, ready_left}
+pub use Rattle.node_pages.proofs.PlannedSize.{if_ok_map}
+pub use Rattle.node_pages.specs.Changes.{PlansSize, free_beside, given_node, planned_node, wanted_blocks, word_edit}
+pub use Rattle.node_pages.specs.LookingUp.{LooksUp}
+pub use Rattle.node_pages.specs.Updating.{IsEdited, IsUpdated}
+pub use Rattle.node_pages.specs.declared.changes.Edit.{Edit}
+pub use Rattle.node_pages.specs.declared.changes.SizeChange.{SizeChange}
 pub use Rattle.rio_base.proofs.BlockSets.{caches_by_one, caches_by_trans}
 pub use Rattle.rio_base.proofs.Rules.{ends_by_after}
 pub use Rattle.rio_base.specs.Bitmap.{free_blocks}

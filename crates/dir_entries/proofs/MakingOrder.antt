@@ -5,10 +5,10 @@ use Rattle.rio_model.proofs.NodeChangeRules.{laid_replaced, lays_replaced, node_
 use Rattle.rio_model.proofs.PlacedRules.{with_placed, inode_low, lays_same}
 use Rattle.rio_model.specs.Updates.{EditsNode}
 use Rattle.rio_model.specs.VolumeRules.{IsLaid}
-use Rattle.file_pages.proofs.OrderRules.{firm_layout}
+use Rattle.node_pages.proofs.OrderRules.{firm_layout}
 use Rattle.rio_model.proofs.NamedRules.{named_layout}
 use Rattle.rio_model.specs.VolumeReady.{InOrder}
-use Rattle.file_pages.specs.Updating.{CanUpdate}
+use Rattle.node_pages.specs.Updating.{CanUpdate}
 use Rattle.dir_entries.specs.Plans.{PlansDir}
 use Rattle.dir_entries.specs.declared.changes.DirChange.{DirChange}
 

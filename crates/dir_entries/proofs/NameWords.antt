@@ -7,8 +7,8 @@ use Rattle.std.proofs.lemmas.List.FromFn.{fill_by_all, get_or-map-range_with_len
 use borrow.Rule.Slice.PartMut.{put_mid, same_len_mid}
 use Rattle.byteorder.specs.Endian.{IsRead, little_number}
 use Rattle.rio_model.specs.Held.{byte_in, byte_of}
-use Rattle.file_pages.specs.PageBytes.{bytes_of, over}
-use Rattle.file_pages.proofs.ByteRuns.{byte_at, bytes_read, get_mid, over_in, over_out}
+use Rattle.node_pages.specs.WordBytes.{bytes_of, over}
+use Rattle.node_pages.proofs.ByteRuns.{byte_at, bytes_read, get_mid, over_in, over_out}
 use Rattle.dir_entries.specs.declared.entries.NameKey.{NameKey}
 use Rattle.dir_entries.specs.Entries.{IsEntryOf, IsKey, IsWordsOf, name_in}
 use Rattle.dir_entries.proofs.WordBytes.{masked_byte, masked_is}

@@ -6,8 +6,8 @@ use Rattle.rio_base.specs.Bitmap.{free_blocks}
 use Rattle.rio_base.specs.Blocks.{BlockWords, Seen}
 use Rattle.rio_base.specs.Volume.{Kept}
 use Rattle.block_alloc.specs.Bitmap.{numbers}
-use Rattle.file_pages.specs.declared.changes.Edit.{Edit}
-use Rattle.file_pages.specs.Changes.{Apart, node_update, wanted_blocks, word_edit}
+use Rattle.node_pages.specs.declared.changes.Edit.{Edit}
+use Rattle.node_pages.specs.Changes.{Apart, node_update, wanted_blocks, word_edit}
 use Rattle.rio_model.specs.Held.{Held, held, held_of}
 use Rattle.rio_model.specs.NodeChanges.{Available}
 use Rattle.rio_model.specs.Placed.{Slot, Placed, HasSlot, placed_at, volume_layout, IsFree}

@@ -2,8 +2,8 @@
 
 ghost use Rattle.std.specs.Prelude.{◌≡◌};
 
-use file_pages::EditList;
 use inode_table::Inode;
+use node_pages::EditList;
 use rio_base::{BlockList, Ino};
 
 /// A change of a directory's rows that is prepared and not yet made.

@@ -5,12 +5,12 @@ ghost use Rattle.rio_base.specs.Blocks.{CanName, Caches, Ends, IsRun, Looks};
 ghost use Rattle.rio_base.specs.Layout.{IsIno};
 ghost use Rattle.rio_model.specs.Placed.{AtPage, HasSlot, placed_at};
 ghost use Rattle.inode_table.specs.Inodes.{IsInode};
-ghost use Rattle.file_pages.specs.LookingUp.{CanLookUp, LooksUp};
+ghost use Rattle.node_pages.specs.LookingUp.{CanLookUp, LooksUp};
 ghost use Rattle.dir_entries.specs.Reading.{CanReadDir};
 
 use crate::entries::{ENTRY_WORDS, PAGE_ENTRIES};
-use file_pages::block_of;
 use inode_table::{DIRECT_PAGES, Inode, read_inode};
+use node_pages::block_of;
 use rio_base::{Block, Blocks, Ino, VolFail, VolumeShape};
 
 /// The inode of a directory.

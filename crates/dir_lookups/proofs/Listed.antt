@@ -9,8 +9,8 @@ use Rattle.std.proofs.lemmas.List.FromFn.{map-range_with_len_more}
 use Rattle.std.proofs.lemmas.List.{append_assoc, get_or-drop, get_or-take, length-take-le}
 use Rattle.rio_base.specs.Blocks.{IsRun}
 use Rattle.rio_model.specs.Held.{byte_in, byte_of}
-use Rattle.file_pages.specs.PageBytes.{bytes_of}
-use Rattle.file_pages.proofs.PageRead.{line_run}
+use Rattle.node_pages.specs.WordBytes.{bytes_of}
+use Rattle.node_pages.proofs.ByteRuns.{line_run}
 use Rattle.dir_entries.specs.Entries.{name_in}
 use Rattle.dir_entries.specs.Reading.{CanReadDir}
 use Rattle.dir_entries.specs.Rows.{ListsNames}

@@ -8,7 +8,7 @@ ghost use Rattle.rio_model.specs.Placed.{AtPage, Owns, placed_at, volume_layout}
 ghost use Rattle.rio_model.specs.VolumeReady.{AllNamed};
 ghost use Rattle.rio_model.specs.VolumeRules.{EntryRule, IsMapped};
 ghost use Rattle.inode_table.specs.Inodes.{IsInode};
-ghost use Rattle.file_pages.specs.LookingUp.{LooksUp};
+ghost use Rattle.node_pages.specs.LookingUp.{LooksUp};
 ghost use Rattle.dir_lookups.specs.Finding.{FindsIn, FindsInPage};
 ghost use Rattle.dir_entries.specs.Entries.{IsKey, name_in};
 ghost use Rattle.dir_entries.specs.Reading.{CanReadDir};

@@ -2,8 +2,8 @@
 use Rattle.dir_entries.proofs.Common.{◌≡◌, ℕ, ◌+◌, ◌-◌, ◌*◌, ◌/◌, ◌%◌, ◌<◌, ◌≤◌, ◌⊎◌, List, [], ◌∷◌, length, refl, sym, ap, subst, ◌∙◌, arith, inl, inr, cases_eq, cases_lt, Ino, VolumeShape, free_blocks, BlockWords, Health, Seen, Below, Kept, Passes, numbers, Inode, IsInode, PlansSize, free_beside, given_node, planned_node, wanted_blocks, LooksUp, leaves_looked, leaves_trans, ready_left, SizeChange, page_old, Held, held_of, IsName, AtPage, Placed, placed_at, volume_layout, LeavesInUse, Ready}
 use Rattle.std.specs.Prelude.{not, slice_index}
 use Rattle.std.specs.List.{filter}
-use Rattle.file_pages.proofs.Planned.{wanted_count}
-use Rattle.file_pages.specs.Changes.{is_among}
+use Rattle.node_pages.proofs.Planned.{wanted_count}
+use Rattle.node_pages.specs.Changes.{is_among}
 use Rattle.rio_model.proofs.GrowthRules.{page_new}
 use Rattle.rio_model.specs.Sizes.{largest_size, pages, tables}
 use Rattle.directories.specs.Contents.{GoesInto, sized_to, with_entry}

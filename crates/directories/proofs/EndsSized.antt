@@ -3,8 +3,8 @@ use Rattle.dir_entries.proofs.Common.{◌≡◌, refl, subst, Result, Health}
 use Rattle.std.specs.Prelude.{Ok, Err, IsErrOf}
 use Rattle.rio_base.specs.declared.failures.ReadFail.{ReadFail}
 use Rattle.rio_base.specs.declared.failures.ReadFail.TheVariants.{Fault as ReadFault, Stopped as ReadStopped, Memory as ReadMemory}
-use Rattle.file_pages.specs.declared.failures.SizeFail.{SizeFail}
-use Rattle.file_pages.specs.declared.failures.SizeFail.TheVariants.{Fault as SizeFault, Stopped as SizeStopped, Memory as SizeMemory, NoSpace, TooLarge}
+use Rattle.node_pages.specs.declared.failures.SizeFail.{SizeFail}
+use Rattle.node_pages.specs.declared.failures.SizeFail.TheVariants.{Fault as SizeFault, Stopped as SizeStopped, Memory as SizeMemory, NoSpace, TooLarge}
 use Rattle.rio_base.specs.Blocks.{EndsBy}
 use Rattle.rio_base.proofs.Rules.{ends_by_as}
 use Rattle.dir_entries.proofs.EndsAs.{EndsRead}

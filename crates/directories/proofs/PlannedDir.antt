@@ -4,8 +4,8 @@ use Rattle.std.proofs.Common.{length-take}
 use Rattle.std.specs.Prelude.{not, slice_index}
 use Rattle.std.specs.List.{AllByRecursion, filter}
 use Rattle.rio_base.specs.Layout.{half}
-use Rattle.file_pages.proofs.Skipped.{left_apart, left_are_free}
-use Rattle.file_pages.specs.Changes.{Apart, EditsTable, is_among, size_update}
+use Rattle.node_pages.proofs.Skipped.{left_apart, left_are_free}
+use Rattle.node_pages.specs.Changes.{Apart, EditsTable, is_among, size_update}
 use Rattle.rio_model.proofs.GrowthRules.{few_tables}
 use Rattle.rio_model.proofs.HeldRules.{counts_of}
 use Rattle.rio_model.proofs.PlacedRules.{first_table, table_page}

@@ -1,6 +1,6 @@
 -- What a plan of a directory's size supposes.
 use Rattle.dir_entries.proofs.Common.{◌≡◌, ℕ, ◌%◌, ◌<◌, ◌≤◌, List, [], length, arith, ap, inl, ◌∙◌, VolumeShape, Seen, Inode, IsInode}
-use Rattle.file_pages.specs.Changes.{Apart, PlansFor}
+use Rattle.node_pages.specs.Changes.{Apart, PlansFor}
 use Rattle.rio_model.specs.Sizes.{largest_size}
 use Rattle.rio_model.specs.VolumeRules.{SizeFits}
 use Rattle.dir_entries.specs.Reading.{CanReadDir}

@@ -7,11 +7,11 @@ ghost use Rattle.rio_base.specs.Shapes.{HasShape};
 ghost use Rattle.rio_base.specs.Volume.{Firm, Goes, SameUpdate};
 ghost use Rattle.rio_model.specs.Updates.{Applied};
 ghost use Rattle.block_alloc.specs.Bitmap.{numbers};
-ghost use Rattle.file_pages.specs.Updating.{CanUpdate, IsTouched};
+ghost use Rattle.node_pages.specs.Updating.{CanUpdate, IsTouched};
 ghost use Rattle.dir_entries.specs.Plans.{dir_update};
 
 use dir_entries::DirChange;
-use file_pages::make_update;
+use node_pages::make_update;
 use rio_base::{Stopped, Volume, VolumeShape};
 
 /// Makes a prepared change of a directory, in the open update: its edits, its inode, and the bits of the blocks that it

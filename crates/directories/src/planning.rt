@@ -14,8 +14,8 @@ ghost use Rattle.rio_model.specs.VolumeReady.{LeavesInUse, Ready};
 ghost use Rattle.rio_model.specs.VolumeRules.{EntryRule};
 ghost use Rattle.block_alloc.specs.Bitmap.{numbers};
 ghost use Rattle.inode_table.specs.Inodes.{IsInode};
-ghost use Rattle.file_pages.specs.Changes.{PlansSize, wanted_blocks};
-ghost use Rattle.file_pages.specs.LookingUp.{LooksUp};
+ghost use Rattle.node_pages.specs.Changes.{PlansSize, wanted_blocks};
+ghost use Rattle.node_pages.specs.LookingUp.{LooksUp};
 ghost use Rattle.directories.specs.Contents.{AllGoInto, sized_to, with_entries, with_entry};
 ghost use Rattle.dir_entries.specs.Plans.{PlansDir};
 ghost use Rattle.dir_entries.specs.Reading.{CanReadDir};
@@ -25,8 +25,8 @@ ghost use Rattle.directories.specs.declared.storing.EntryWords.{EntryWords as En
 
 use crate::storing::{EntryWords, SlotWords, with_entries, words_for_slot};
 use dir_entries::{DirChange, ENTRY_BYTES, dir_inode, entry_words, first_word, page_block};
-use file_pages::{SizeChange, SizeFail, plan_size};
 use inode_table::Inode;
+use node_pages::{SizeChange, SizeFail, plan_size};
 use rio_base::{Block, BlockList, Blocks, Ino, PAGE_BYTES, ReadFail, VolFail, Volume, VolumeShape};
 use std::alloc::Global;
 

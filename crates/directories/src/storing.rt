@@ -6,15 +6,15 @@ ghost use Rattle.std.specs.List.{Contains};
 ghost use Rattle.rio_base.specs.Blocks.{Ends};
 ghost use Rattle.rio_model.specs.Placed.{AtPage, placed_at};
 ghost use Rattle.inode_table.specs.Inodes.{IsInode};
-ghost use Rattle.file_pages.specs.Changes.{word_edit};
-ghost use Rattle.file_pages.specs.LookingUp.{LooksUp};
+ghost use Rattle.node_pages.specs.Changes.{word_edit};
+ghost use Rattle.node_pages.specs.LookingUp.{LooksUp};
 ghost use Rattle.directories.specs.Contents.{GoesInto, all_edits, entry_edits};
 ghost use Rattle.dir_entries.specs.Reading.{CanReadDir};
 ghost use Rattle.directories.specs.declared.storing.EntryWords.{EntryWords as EntryWordsOf};
 
 use dir_entries::{DirChange, ENTRY_WORDS, PAGE_ENTRIES, first_word, page_block, read_entry};
-use file_pages::{Edit, EditList, SizeChange};
 use inode_table::Inode;
+use node_pages::{Edit, EditList, SizeChange};
 use rio_base::{Block, Blocks, Ino, VolFail, VolumeShape};
 use std::alloc::AllocError;
 

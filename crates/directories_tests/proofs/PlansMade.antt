@@ -3,7 +3,7 @@ use Rattle.dir_entries.proofs.Common.{◌≡◌, ◌≢◌, ℕ, ◌*◌, ◌<�
 use Rattle.rio_model.proofs.HeldRules.{held_by, held_in_agree, same_all}
 use Rattle.rio_model.specs.Placed.{Agrees}
 use Rattle.rio_model.proofs.PlacedRules.{lays_agree}
-use Rattle.file_pages.proofs.OrderRules.{ready_order}
+use Rattle.node_pages.proofs.OrderRules.{ready_order}
 use Rattle.dir_entries.proofs.MakingRules.{SetsDir, may_begin, plan_change, plan_made}
 use Rattle.dir_entries.proofs.MakingOrder.{order_made, plan_edits}
 use Rattle.dir_entries.specs.Plans.{PlansDir, dir_update}

@@ -11,7 +11,7 @@ use Rattle.rio_model.specs.Paths.{IsName}
 use Rattle.rio_model.specs.Placed.{placed_at}
 use Rattle.rio_model.specs.VolumeReady.{InOrder, Ready}
 use Rattle.rio_model.specs.VolumeRules.{EntryRule}
-use Rattle.file_pages.specs.declared.changes.Edit.{Edit}
+use Rattle.node_pages.specs.declared.changes.Edit.{Edit}
 use Rattle.dir_entries.specs.Making.{MayBeMade}
 use Rattle.dir_entries.specs.Plans.{PlansDir}
 use Rattle.dir_entries.specs.Rows.{HasRow, NamesApart}

@@ -12,8 +12,8 @@ use crate::dirs::{
 };
 use crate::held::{hold, ino_at, is_held};
 use crate::numbered::{add_numbered, has_numbered, remove_numbered};
-use file_pages::SizeFail;
 use name_list::NameList;
+use node_pages::SizeFail;
 use rio_base::{Failed, Ino, VolFail, VolumeShape};
 use rio_fakes::ListVolume;
 use std::alloc::Global;

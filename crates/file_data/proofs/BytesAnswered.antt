@@ -7,9 +7,9 @@ use Rattle.rio_requests.specs.declared.reply.Reply.TheVariants.{Bytes}
 use Rattle.rio_model.specs.FileParts.{written, resized}
 use Rattle.file_pages.specs.Files.{FaultsAfter, HasSpace, HasSpaceFor, ResizeStops, StopsAs, SetsBoth, file_bytes}
 use Rattle.file_pages.specs.Writing.{WriteStops}
-use Rattle.file_pages.specs.declared.failures.SizeFail.TheVariants.{NoSpace as SizeNoSpace, TooLarge as SizeTooLarge, Fault as SizeFault, Stopped as SizeStopped, Memory as SizeMemory}
-use Rattle.file_pages.specs.declared.failures.WriteFail.{WriteFail}
-use Rattle.file_pages.specs.declared.failures.WriteFail.TheVariants.{NoSpace as WriteNoSpace, TooLarge as WriteTooLarge, Fault as WriteFault, Stopped as WriteStopped, Memory as WriteMemory}
+use Rattle.node_pages.specs.declared.failures.SizeFail.TheVariants.{NoSpace as SizeNoSpace, TooLarge as SizeTooLarge, Fault as SizeFault, Stopped as SizeStopped, Memory as SizeMemory}
+use Rattle.node_pages.specs.declared.failures.WriteFail.{WriteFail}
+use Rattle.node_pages.specs.declared.failures.WriteFail.TheVariants.{NoSpace as WriteNoSpace, TooLarge as WriteTooLarge, Fault as WriteFault, Stopped as WriteStopped, Memory as WriteMemory}
 use Rattle.rio_requests.specs.Answers.{read, read_in, truncate, write, write_in, truncate_in}
 use Rattle.file_ends.specs.Ends.{FileEnds, SaysCount, SaysDone}
 use Rattle.file_ends.specs.declared.failures.FileFail.{FileFail}

@@ -5,9 +5,9 @@ use Rattle.rio_base.specs.declared.failures.ReadFail.TheVariants.{Fault as ReadF
 use Rattle.rio_base.specs.declared.failures.VolFail.TheVariants.{Fault as VolFault, Stopped as VolStopped}
 use Rattle.rio_base.specs.Blocks.{Ends}
 use Rattle.rio_base.proofs.Rules.{ends_by, ends_by_after, ends_by_as}
-use Rattle.file_pages.specs.declared.failures.SizeFail.TheVariants.{NoSpace as SizeNoSpace, TooLarge as SizeTooLarge, Fault as SizeFault, Stopped as SizeStopped, Memory as SizeMemory}
-use Rattle.file_pages.specs.declared.failures.WriteFail.{WriteFail}
-use Rattle.file_pages.specs.declared.failures.WriteFail.TheVariants.{NoSpace as WriteNoSpace, TooLarge as WriteTooLarge, Fault as WriteFault, Stopped as WriteStopped, Memory as WriteMemory}
+use Rattle.node_pages.specs.declared.failures.SizeFail.TheVariants.{NoSpace as SizeNoSpace, TooLarge as SizeTooLarge, Fault as SizeFault, Stopped as SizeStopped, Memory as SizeMemory}
+use Rattle.node_pages.specs.declared.failures.WriteFail.{WriteFail}
+use Rattle.node_pages.specs.declared.failures.WriteFail.TheVariants.{NoSpace as WriteNoSpace, TooLarge as WriteTooLarge, Fault as WriteFault, Stopped as WriteStopped, Memory as WriteMemory}
 use Rattle.file_ends.specs.declared.failures.FileFail.{FileFail}
 use Rattle.file_ends.specs.declared.failures.FileFail.TheVariants.{Refused, Fault, Stopped, Memory}
 use Rattle.file_ends.specs.Failures.{Faulted, fail_of_read, fail_of_size, fail_of_vol, fail_of_write}

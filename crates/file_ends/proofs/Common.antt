@@ -14,17 +14,17 @@ pub use Rattle.std.specs.Prelude.{All, Err, IsErrOf, None, Ok, Result, Some, is_
 pub use Rattle.std.specs.declared.cmp.Ordering.{Ordering}
 pub use Rattle.std.specs.declared.cmp.Ordering.TheVariants.{Equal, Greater, Less}
 pub use Rattle.block_alloc.specs.Bitmap.{numbers}
-pub use Rattle.file_pages.proofs.Listed.{as_many, number_at}
-pub use Rattle.file_pages.proofs.LookingUpRules.{can_look_up}
-pub use Rattle.file_pages.proofs.OrderRules.{firm_on, leaves_looked, leaves_refl, leaves_trans, ready_left, ready_order}
-pub use Rattle.file_pages.specs.Changes.{wanted_blocks}
-pub use Rattle.file_pages.specs.Forgetting.{Forgets}
-pub use Rattle.file_pages.specs.LookingUp.{node_blocks}
+pub use Rattle.node_pages.proofs.Listed.{as_many, number_at}
+pub use Rattle.node_pages.proofs.LookingUpRules.{can_look_up}
+pub use Rattle.node_pages.proofs.OrderRules.{firm_on, leaves_looked, leaves_refl, leaves_trans, ready_left, ready_order}
+pub use Rattle.node_pages.specs.Changes.{wanted_blocks}
+pub use Rattle.node_pages.specs.Forgetting.{Forgets}
+pub use Rattle.node_pages.specs.LookingUp.{node_blocks}
 pub use Rattle.rio_model.specs.VolumeReady.{AllNamed, Bears, InOrder, LeavesInUse, NamedNode, Ready}
-pub use Rattle.file_pages.specs.Updating.{IsEdited}
-pub use Rattle.file_pages.specs.declared.changes.Edit.{Edit}
-pub use Rattle.file_pages.specs.declared.failures.SizeFail.{SizeFail}
-pub use Rattle.file_pages.specs.declared.failures.SizeFail.TheVariants.{NoSpace, TooLarge}
+pub use Rattle.node_pages.specs.Updating.{IsEdited}
+pub use Rattle.node_pages.specs.declared.changes.Edit.{Edit}
+pub use Rattle.node_pages.specs.declared.failures.SizeFail.{SizeFail}
+pub use Rattle.node_pages.specs.declared.failures.SizeFail.TheVariants.{NoSpace, TooLarge}
 pub use Rattle.inode_table.specs.Inodes.{IsInode}
 pub use Rattle.inode_table.specs.declared.inode.Inode.{Inode}
 pub use Rattle.rio_base.proofs.BlockSets.{caches_by_trans, firm_outside_trans}

@@ -1,6 +1,6 @@
 -- Calls that only look: the volume can serve as before, and a request that ends there left everything as it was.
 use Rattle.file_ends.proofs.Common.{◌≡◌, ℕ, refl, sym, ap, subst, ◌∙◌, inl, Ok, Err, Some, VolumeShape, BlockWords, Health, Looks, Seen, HasShape, Below, Kept, Passes, Settled, Answered, Reply, State, volume_layout, ReadsAs, AllNamed, LeavesInUse, Ready, firm_on, ready_left, Held, held_of_agree, reads_agree}
-use Rattle.file_pages.proofs.OrderRules.{agrees_trans, stands_left, stands_ready_left}
+use Rattle.node_pages.proofs.OrderRules.{agrees_trans, stands_left, stands_ready_left}
 use Rattle.file_ends.specs.Ends.{CanServe, FileEnds, Left, Spares, Stands}
 use Rattle.file_ends.specs.declared.failures.FileFail.TheVariants.{Fault, Stopped}
 use Rattle.rio_model.proofs.LowestBlocks.{bits_agree, lowest_same}

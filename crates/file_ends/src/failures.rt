@@ -3,7 +3,7 @@
 ghost use Rattle.std.specs.Prelude.{◌≡◌};
 ghost use Rattle.file_ends.specs.Failures.{fail_of_read, fail_of_size, fail_of_vol, fail_of_write};
 
-use file_pages::{SizeFail, WriteFail};
+use node_pages::{SizeFail, WriteFail};
 use rio_base::{ReadFail, Stopped, VolFail};
 use std::alloc::{AllocError, AllocFailed};
 use thiserror::Error;

@@ -10,9 +10,9 @@ use Rattle.rio_model.proofs.PlacedRules.{Lays, has_back, lies_same}
 use Rattle.rio_model.specs.PlacedRules.{SamePlaced}
 use Rattle.rio_model.proofs.UpdateRules.{edited_out, turned, turned_bits, turned_held}
 use Rattle.rio_model.proofs.WordRules.{held_beside}
-use Rattle.file_pages.specs.Changes.{EditsTable, size_update, word_edit}
-use Rattle.file_pages.specs.declared.changes.Edit.{Edit}
-use Rattle.file_pages.specs.declared.changes.SizeChange.{SizeChange}
+use Rattle.node_pages.specs.Changes.{EditsTable, size_update, word_edit}
+use Rattle.node_pages.specs.declared.changes.Edit.{Edit}
+use Rattle.node_pages.specs.declared.changes.SizeChange.{SizeChange}
 
 -- the change is one of the node as the blocks say it when it is made
 pub changed : (shape : VolumeShape) (f g k : BlockWords) (i : ℕ) (m : Placed) (c : SizeChange) → IsMapped shape f → IsIno shape i → AgreesBeside (volume_layout shape f) i f g → Turns shape (placed_at f i) m (size_update i c) → (i ≡ 1 → m.kind ≡ 1) → ((s : Slot) → HasSlot m s → Available (volume_layout shape f) i (m.block s)) → Applied shape (size_update i c) g k → Change (volume_layout shape g) g k i m

@@ -1,15 +1,15 @@
 -- The exits of a shrink: its bytes, and the blocks that it frees.
 use Rattle.file_pages.proofs.Common.{◌≡◌, ℕ, ◌<◌, ◌≤◌, List, length, refl, sym, ap, subst, ◌∙◌, arith, inr, Result, Ok, Err, IsErrOf, slice_index, Contains, Block, VolumeShape, BlockWords, Seen, IsIno, Kept, Settled, numbers, Inode, IsInode, page_old, ResizePart, resized, Held, held, held_bytes, held_of, held_ino, Change, Placed, HasSlot, placed_at, volume_layout, IsFree, Turns, LeavesInUse, Ready, IsMapped, SizeFits}
 use Rattle.std.specs.Prelude.{IsErr}
-use Rattle.file_pages.specs.Changes.{given_node, planned_node, size_update}
+use Rattle.node_pages.specs.Changes.{given_node, planned_node, size_update}
 use Rattle.file_pages.specs.Files.{SetsBoth, file_bytes}
-use Rattle.file_pages.proofs.OrderRules.{ready_left}
+use Rattle.node_pages.proofs.OrderRules.{ready_left}
 use Rattle.file_pages.specs.Preparing.{SizeLeaves}
-use Rattle.file_pages.specs.declared.changes.SizeChange.{SizeChange}
-use Rattle.file_pages.specs.declared.failures.SizeFail.{SizeFail}
-use Rattle.file_pages.specs.declared.failures.SizeFail.TheVariants.{Stopped}
-use Rattle.file_pages.specs.Updating.{CanChange}
-use Rattle.file_pages.proofs.Listed.{as_many, listed}
+use Rattle.node_pages.specs.declared.changes.SizeChange.{SizeChange}
+use Rattle.node_pages.specs.declared.failures.SizeFail.{SizeFail}
+use Rattle.node_pages.specs.declared.failures.SizeFail.TheVariants.{Stopped}
+use Rattle.file_pages.specs.Touching.{CanChange}
+use Rattle.node_pages.proofs.Listed.{as_many, listed}
 use Rattle.file_pages.proofs.Left.{both_on, file_node, lost_free, shrunk_bytes, stops_on}
 
 pub file_kind : (shape : VolumeShape) (f : BlockWords) (i : ℕ) (n : Inode) → IsIno shape i → IsInode f i n → n.kind ≡ 2 → (held_of shape f i).kind ≡ 2

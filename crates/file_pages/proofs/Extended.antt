@@ -5,17 +5,17 @@ use Rattle.rio_model.proofs.HeldRules.{held_agree, held_same}
 use Rattle.rio_model.specs.NodeChanges.{AreLowest}
 use Rattle.rio_model.proofs.PlacedRules.{lays_agree}
 use Rattle.rio_model.proofs.WordRules.{held_word}
-use Rattle.file_pages.specs.Changes.{Grows, given_node, planned_node}
+use Rattle.node_pages.specs.Changes.{Grows, given_node, planned_node}
 use Rattle.file_pages.specs.Files.{file_bytes}
 use Rattle.file_pages.specs.PageBytes.{block_byte}
 use Rattle.file_pages.specs.Preparing.{Prepared}
 use Rattle.file_pages.specs.Storing.{NamedAs, StoresPages, TailCleared}
-use Rattle.file_pages.specs.declared.changes.SizeChange.{SizeChange}
-use Rattle.file_pages.proofs.Given.{Given, given_of}
+use Rattle.node_pages.specs.declared.changes.SizeChange.{SizeChange}
+use Rattle.node_pages.proofs.Given.{Given, given_of}
 use Rattle.file_pages.proofs.Left.{byte_same, bytes_sized, file_node}
-use Rattle.file_pages.proofs.Listed.{listed}
+use Rattle.node_pages.proofs.Listed.{listed}
 use Rattle.file_pages.proofs.Prepared.{edited_table}
-use Rattle.file_pages.proofs.Staged.{not_true}
+use Rattle.node_pages.proofs.Staged.{not_true}
 use Rattle.file_pages.proofs.Stored.{bears_as}
 use Rattle.file_pages.proofs.Tails.{zero_byte}
 

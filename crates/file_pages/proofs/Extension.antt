@@ -2,11 +2,11 @@
 use Rattle.file_pages.proofs.Common.{◌≡◌, ℕ, ◌-◌, ◌<◌, ◌≤◌, ◌⊎◌, ◌++◌, List, sym, ap, subst, ◌∙◌, arith, inl, inr, max, cases_lt, VolumeShape, BlockWords, Seen, Kept, Inode, grown, AtPage, Placed, volume_layout, IsFree, SameLayout, owned_back, pages, same_map}
 use Rattle.std.specs.Prelude.{min}
 use Rattle.rio_model.specs.NodeChanges.{AreLowest}
-use Rattle.file_pages.specs.Changes.{Grows, given_node}
+use Rattle.node_pages.specs.Changes.{Grows, given_node}
 use Rattle.file_pages.specs.Extending.{Extends}
-use Rattle.file_pages.specs.LookingUp.{page_blocks}
-use Rattle.file_pages.specs.declared.changes.SizeChange.{SizeChange}
-use Rattle.file_pages.proofs.Listed.{blocks_joined}
+use Rattle.node_pages.specs.LookingUp.{page_blocks}
+use Rattle.node_pages.specs.declared.changes.SizeChange.{SizeChange}
+use Rattle.node_pages.proofs.Listed.{blocks_joined}
 
 -- a free block is free still
 pub free_left : (shape : VolumeShape) (f g : BlockWords) (b : ℕ) → SameLayout (volume_layout shape f) (volume_layout shape g) → IsFree (volume_layout shape f) b → IsFree (volume_layout shape g) b

@@ -3,12 +3,13 @@ use Rattle.file_pages.proofs.Common.{◌≡◌, ℕ, ◌+◌, ◌-◌, ◌*◌, 
 use Rattle.std.proofs.lemmas.List.{drop_all, length-append, length-replicate, replicate-append-replicate, take-append-le}
 use Rattle.rio_model.specs.Held.{byte_of}
 use Rattle.file_pages.specs.Files.{file_bytes}
-use Rattle.file_pages.specs.LookingUp.{page_blocks}
-use Rattle.file_pages.specs.PageBytes.{block_byte, over}
+use Rattle.node_pages.specs.LookingUp.{page_blocks}
+use Rattle.file_pages.specs.PageBytes.{block_byte}
+use Rattle.node_pages.specs.WordBytes.{over}
 use Rattle.file_pages.specs.Preparing.{Prepared}
 use Rattle.file_pages.specs.Spans.{PutsLead, PutsSpan, span_byte}
-use Rattle.file_pages.specs.declared.changes.SizeChange.{SizeChange}
-use Rattle.file_pages.proofs.ByteRuns.{over_out}
+use Rattle.node_pages.specs.declared.changes.SizeChange.{SizeChange}
+use Rattle.node_pages.proofs.ByteRuns.{over_out}
 use Rattle.file_pages.proofs.Extended.{byte_at_block}
 use Rattle.file_pages.proofs.ExtensionStored.{GrownFrom, span_at, span_long, span_page}
 use Rattle.file_pages.proofs.FileBytes.{bytes_put, over_same}

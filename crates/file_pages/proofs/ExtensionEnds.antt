@@ -2,18 +2,19 @@
 use Rattle.file_pages.proofs.Common.{◌≡◌, ℕ, List, length, refl, sym, ap, subst, ◌∙◌, arith, inl, inr, Result, Err, Ok, IsErrOf, VolFail, VolumeShape, BlockWords, Seen, Kept, Settled, IsLead, held, held_bytes, held_of, Placed, placed_at, volume_layout, LeavesInUse, Ready, written}
 use Rattle.rio_base.specs.declared.failures.VolFail.TheVariants.{Fault as VolFault, Stopped as VolStopped}
 use Rattle.file_pages.specs.Extending.{failed_after, told_after}
-use Rattle.file_pages.specs.Failures.{Unrefused, write_handed, write_of_bytes, write_of_size}
+use Rattle.node_pages.specs.Failures.{Unrefused, write_handed, write_of_size}
+use Rattle.file_pages.specs.Failures.{write_of_bytes}
 use Rattle.file_pages.specs.Files.{FaultsAfter, HasSpaceFor, SetsBoth, file_bytes}
-use Rattle.file_pages.proofs.OrderRules.{ready_left}
+use Rattle.node_pages.proofs.OrderRules.{ready_left}
 use Rattle.file_pages.specs.Preparing.{Committed, Prepared}
 use Rattle.file_pages.specs.Writing.{WriteLeaves, WriteStops}
-use Rattle.file_pages.specs.declared.changes.SizeChange.{SizeChange}
+use Rattle.node_pages.specs.declared.changes.SizeChange.{SizeChange}
 use Rattle.file_pages.specs.declared.failures.BytesFail.{BytesFail}
 use Rattle.file_pages.specs.declared.failures.BytesFail.TheVariants.{Fault as BytesFault, Stopped as BytesStopped}
-use Rattle.file_pages.specs.declared.failures.SizeFail.{SizeFail}
-use Rattle.file_pages.specs.declared.failures.SizeFail.TheVariants.{NoSpace, TooLarge, Fault, Stopped, Memory}
-use Rattle.file_pages.specs.declared.failures.WriteFail.{WriteFail}
-use Rattle.file_pages.specs.declared.failures.WriteFail.TheVariants.{NoSpace as NoWrite, TooLarge as LargeWrite}
+use Rattle.node_pages.specs.declared.failures.SizeFail.{SizeFail}
+use Rattle.node_pages.specs.declared.failures.SizeFail.TheVariants.{NoSpace, TooLarge, Fault, Stopped, Memory}
+use Rattle.node_pages.specs.declared.failures.WriteFail.{WriteFail}
+use Rattle.node_pages.specs.declared.failures.WriteFail.TheVariants.{NoSpace as NoWrite, TooLarge as LargeWrite}
 use Rattle.file_pages.proofs.FileBytes.{put_none}
 use Rattle.file_pages.proofs.GrowEnds.{stored_stops}
 use Rattle.file_pages.proofs.Left.{both_left, stops_left}

@@ -2,15 +2,15 @@
 -- bytes and make its update.
 use Rattle.file_pages.proofs.Common.{◌≡◌, ℕ, ◌+◌, ◌-◌, ◌*◌, ◌<◌, ◌≤◌, false, List, length, refl, sym, subst, ◌∙◌, arith, slice_index, Contains, VolumeShape, BlockWords, Seen, IsIno, Firm, Kept, Settled, numbers, Inode, IsInode, IsLead, resized, page_new, page_old, held, held_bytes, Takes, Placed, placed_at, volume_layout, IsFree, pages, LeavesInUse, Ready}
 use Rattle.std.specs.Prelude.{min}
-use Rattle.file_pages.specs.Changes.{Apart, given_node, planned_node}
+use Rattle.node_pages.specs.Changes.{Apart, given_node, planned_node}
 use Rattle.file_pages.specs.Extending.{Extends}
 use Rattle.file_pages.specs.Files.{FaultsAfter, HasSpace, HasSpaceFor, file_bytes}
-use Rattle.file_pages.specs.LookingUp.{page_blocks}
+use Rattle.node_pages.specs.LookingUp.{page_blocks}
 use Rattle.file_pages.specs.Preparing.{Prepared}
 use Rattle.file_pages.specs.Spans.{PutsLead, PutsSpan, SpanNamed}
-use Rattle.file_pages.specs.Staging.{Beside}
+use Rattle.node_pages.specs.Staging.{Beside}
 use Rattle.file_pages.specs.Storing.{StoresPages, TailCleared}
-use Rattle.file_pages.specs.declared.changes.SizeChange.{SizeChange}
+use Rattle.node_pages.specs.declared.changes.SizeChange.{SizeChange}
 use Rattle.file_pages.proofs.Extended.{grow_new, grow_old, grow_prepared}
 use Rattle.file_pages.proofs.ExtensionBytes.{lead_stored, written_stored}
 use Rattle.file_pages.proofs.ExtensionEnds.{HoldsWritten}

@@ -1,18 +1,18 @@
 -- Bytes stored in pages of a file as it will be leave its growth prepared.
 use Rattle.file_pages.proofs.Common.{◌≡◌, ℕ, ◌+◌, ◌<◌, ◌≤◌, ◌⊎◌, true, false, length, refl, sym, subst, ◌∙◌, arith, inl, inr, Option, slice_index, Contains, cases_lt, get_or-map-range_with_len, length-map-range_with_len, PageName, VolumeShape, BlockWords, Seen, IsIno, reserved, Firm, Kept, Settled, Slot, AtPage, AtTable, Placed, HasSlot, placed_at, Layout, volume_layout, Owns, IsFree, AgreesBeside, SameLayout, has_same, lays_same, lays_self, page_page, table_page, pages, Bears, beside_trans, lays_beside, mapped_beside}
-use Rattle.file_pages.specs.Changes.{Apart}
-use Rattle.file_pages.specs.LookingUp.{page_blocks}
-use Rattle.file_pages.proofs.OrderRules.{firm_layout, firm_on, ready_order}
+use Rattle.node_pages.specs.Changes.{Apart}
+use Rattle.node_pages.specs.LookingUp.{page_blocks}
+use Rattle.node_pages.proofs.OrderRules.{firm_layout, firm_on, ready_order}
 use Rattle.rio_model.proofs.NamedRules.{named_layout}
 use Rattle.file_pages.specs.Preparing.{Prepared}
 use Rattle.file_pages.specs.Spans.{SpanNamed}
-use Rattle.file_pages.specs.Staging.{Beside}
+use Rattle.node_pages.specs.Staging.{Beside}
 use Rattle.file_pages.specs.Storing.{NamedAs}
-use Rattle.file_pages.specs.declared.changes.SizeChange.{SizeChange}
+use Rattle.node_pages.specs.declared.changes.SizeChange.{SizeChange}
 use Rattle.file_pages.proofs.Extended.{beside_back}
 use Rattle.file_pages.proofs.Extension.{free_left}
-use Rattle.file_pages.proofs.Listed.{place_of}
-use Rattle.file_pages.proofs.Staged.{kept_outside, not_true}
+use Rattle.node_pages.proofs.Listed.{place_of}
+use Rattle.node_pages.proofs.Staged.{kept_outside, not_true}
 use Rattle.file_pages.proofs.Stored.{as_bears, bears_as}
 
 -- ---- a run of pages by their places

@@ -2,8 +2,8 @@
 use Rattle.file_pages.proofs.Common.{◌≡◌, ℕ, zero, suc, ◌+◌, ◌-◌, ◌<◌, ◌≤◌, ◌⊎◌, ◌&&◌, ◌++◌, cond, List, [], ◌∷◌, length, map, replicate, take, drop, refl, sym, ap, ◌∙◌, arith, inl, inr, nat_le, nat_lt, slice_index, range_with_len, cases_lt, append-nil, length-take-le, take-append-drop, take_all, length-map-range_with_len, take-map-range_with_len, BlockWords, put_at, written, byte_in, held, held_bytes, word_in, Placed, same_map}
 use Rattle.std.specs.Prelude.{min}
 use Rattle.std.proofs.lemmas.List.{drop_at}
-use Rattle.file_pages.specs.PageBytes.{over}
-use Rattle.file_pages.proofs.ByteRuns.{over_in, over_out}
+use Rattle.node_pages.specs.WordBytes.{over}
+use Rattle.node_pages.proofs.ByteRuns.{over_in, over_out}
 use Rattle.file_pages.proofs.Extended.{split_map}
 use Rattle.file_pages.proofs.Left.{bytes_sized}
 

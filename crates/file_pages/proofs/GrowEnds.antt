@@ -4,13 +4,13 @@ use Rattle.std.specs.Prelude.{List}
 use Rattle.rio_base.specs.declared.failures.VolFail.TheVariants.{Fault as VolFault, Stopped as VolStopped}
 use Rattle.rio_model.proofs.WordRules.{file_beside}
 use Rattle.rio_model.specs.VolumeRules.{SizeFits}
-use Rattle.file_pages.specs.Changes.{wanted_blocks}
-use Rattle.file_pages.specs.Failures.{size_handed}
+use Rattle.node_pages.specs.Changes.{wanted_blocks}
+use Rattle.node_pages.specs.Failures.{size_handed}
 use Rattle.file_pages.specs.Files.{HasSpace, SetsBoth, StopsAs, file_bytes}
-use Rattle.file_pages.proofs.OrderRules.{order_agree}
+use Rattle.node_pages.proofs.OrderRules.{order_agree}
 use Rattle.file_pages.specs.Preparing.{SizeLeaves}
 use Rattle.file_pages.specs.Storing.{StoresPages}
-use Rattle.file_pages.specs.declared.failures.SizeFail.{SizeFail}
+use Rattle.node_pages.specs.declared.failures.SizeFail.{SizeFail}
 use Rattle.file_pages.proofs.Extended.{beside_back, grow_old, layout_left}
 use Rattle.file_pages.proofs.Left.{sets_on}
 

@@ -7,7 +7,7 @@ use Rattle.rio_model.specs.NodeChanges.{Without}
 use Rattle.rio_model.proofs.PlacedRules.{mapped_agree}
 use Rattle.rio_model.proofs.VolumeReadRules.{held_of_agree}
 use Rattle.file_pages.specs.Files.{SetsBoth, StopsAs, file_bytes}
-use Rattle.file_pages.proofs.OrderRules.{stands_left, stands_ready_left}
+use Rattle.node_pages.proofs.OrderRules.{stands_left, stands_ready_left}
 
 -- ---- words that agree with those of before on all blocks in use
 

@@ -1,14 +1,14 @@
 -- A page of a file read, and its bytes.
-use Rattle.file_pages.proofs.Common.{◌≡◌, ◌≢◌, ℕ, zero, suc, ◌+◌, ◌-◌, ◌*◌, ◌/◌, ◌%◌, ◌<◌, ◌≤◌, ◌⊎◌, ◌++◌, true, List, [], ◌∷◌, map, take, drop, min, refl, sym, ap, subst, ◌∙◌, arith, inl, inr, length, length-drop, slice_index, None, Some, Result, OnOk, range_with_len, cases_eq, cases_lt, append_assoc, get_or-drop, get_or-take, length-take-le, take_all, get_or-map-range_with_len, length-map-range_with_len, take-map-range_with_len, Block, PageName, numbers, VolumeShape, caches_by_one, BlockWords, Caches, Looks, Seen, HasShape, reserved, byte_in, held, AtPage, AtTable, Placed, placed_at, Layout, volume_layout, Owns, numbered_of, table_page, AllNamed, NamesPage, IsMapped, IsNumbered}
+use Rattle.file_pages.proofs.Common.{◌≡◌, ◌≢◌, ℕ, zero, suc, ◌+◌, ◌-◌, ◌*◌, ◌/◌, ◌%◌, ◌<◌, ◌≤◌, ◌⊎◌, ◌++◌, true, List, map, take, drop, min, sym, ap, subst, ◌∙◌, arith, inl, inr, length, slice_index, None, Some, Result, OnOk, range_with_len, cases_eq, cases_lt, append_assoc, get_or-drop, get_or-take, take_all, get_or-map-range_with_len, length-map-range_with_len, take-map-range_with_len, Block, PageName, numbers, VolumeShape, caches_by_one, BlockWords, Caches, Looks, Seen, HasShape, reserved, byte_in, held, AtPage, AtTable, Placed, placed_at, Layout, volume_layout, Owns, numbered_of, table_page, AllNamed, NamesPage, IsMapped, IsNumbered}
 use Rattle.std.specs.Prelude.{slice_index_or}
-use Rattle.std.proofs.lemmas.List.FromFn.{fill_by_all}
 use Rattle.rio_base.proofs.BlockRules.{shape_beside}
 use Rattle.rio_base.specs.Blocks.{IsRun}
 use Rattle.rio_model.specs.Held.{byte_of, bytes_in}
-use Rattle.file_pages.specs.LookingUp.{LooksUp, TablesUnnamed, page_blocks}
-use Rattle.file_pages.specs.PageBytes.{block_byte, bytes_of}
-use Rattle.file_pages.proofs.ByteRuns.{byte_at}
-use Rattle.file_pages.proofs.Listed.{as_many, number_at}
+use Rattle.node_pages.specs.LookingUp.{LooksUp, TablesUnnamed, page_blocks}
+use Rattle.file_pages.specs.PageBytes.{block_byte}
+use Rattle.node_pages.specs.WordBytes.{list_byte}
+use Rattle.node_pages.proofs.ByteRuns.{same_bytes}
+use Rattle.node_pages.proofs.Listed.{as_many, number_at}
 use Rattle.file_pages.proofs.Extended.{byte_at_block, split_map}
 
 -- a page read under its name: nothing reads otherwise, and it bears that name
@@ -29,35 +29,6 @@ looked_page shape x y i p b given h mapped named own at kind wide looks caches =
     by : (n t : ℕ) → Owns l n (AtTable t) → y.cached ((l.node n).block (AtTable t)) ≡ true → (((l.node n).block (AtTable t) ≡ b) ⊎ ((l.node n).block (AtTable t) ≢ b)) → y.names ((l.node n).block (AtTable t)) ≡ None
     by n t owns on (inl here) = absurd (table_page t p (mapped.laid.once.each n i (AtTable t) (AtPage p) owns own (here ∙ at)).1)
     by n t owns on (inr away) = let was = caches.others _ away on in was.1 ∙ named.each n owns.ino (AtTable t) owns.slot was.0
-
-same_bytes : (f g : ℕ → ℕ) (n a b : ℕ) → ((k : ℕ) → k < n → f (a + k) ≡ g (b + k)) → map f (range_with_len a n) ≡ map g (range_with_len b n)
-same_bytes f g zero a b each = refl
-same_bytes f g (suc n) a b each =
-    let first : f a ≡ g b = (let za : a ≡ a + 0 = omega arith in ap f za) ∙ each 0 (omega arith) ∙ (let zb : b + 0 ≡ b = omega arith in ap g zb) in
-    let rest : map f (range_with_len (a + 1) n) ≡ map g (range_with_len (b + 1) n) = same_bytes f g n (a + 1) (b + 1) (λ k few. (let ka : a + 1 + k ≡ a + suc k = omega arith in ap f ka) ∙ each (suc k) (omega (arith, few)) ∙ (let kb : b + suc k ≡ b + 1 + k = omega arith in ap g kb)) in
-    (λ q. first q ∷ rest q)
-
-abbrev list_byte : List ℕ → ℕ → ℕ
-list_byte words y = byte_of (slice_index words (y / 8)) (y % 8)
-
--- ---- bytes made of words
-
-by_each : (F : ℕ → ℕ) (xs : List ℕ) (a n : ℕ) → length xs ≡ n → ((k : ℕ) → k < n → slice_index xs k ≡ F (a + k)) → xs ≡ map F (range_with_len a n)
-by_each F xs a n long each = fill_by_all (λ k. F (a + k)) xs n 0 long each ∙ same_bytes (λ k. F (a + k)) F n 0 a (λ k few. let e : a + (0 + k) ≡ a + k = omega arith in ap F e)
-
-length_bytes_of : (words : List ℕ) → length (bytes_of words) ≡ 8 * length words
-length_bytes_of [] = refl
-length_bytes_of (w ∷ words) = let rest = length_bytes_of words in omega (arith, rest)
-
-pub line_run : (words bytes : List ℕ) (from to k : ℕ) → bytes ≡ bytes_of words → k ≡ to - from → from ≤ to → to ≤ 8 * length words → take k (drop from bytes) ≡ map (list_byte words) (range_with_len from (to - from))
-line_run words bytes from to k is many order within = by_each (list_byte words) (take k (drop from bytes)) from (to - from) (length-take-le k (drop from bytes) (let l = ap length is ∙ length_bytes_of words in omega (arith, many, order, within, l, length-drop from bytes)) ∙ many) (λ j few. each j few)
-  where
-    each : (j : ℕ) → j < to - from → slice_index (take k (drop from bytes)) j ≡ list_byte words (from + j)
-    each j few =
-        let place : from + j ≡ 8 * ((from + j) / 8) + (from + j) % 8 = omega arith in
-        get_or-take k (drop from bytes) j 0 (omega (arith, few, many)) ∙ get_or-drop from bytes j 0
-        ∙ ap (λ zs. slice_index zs (from + j)) is ∙ ap (slice_index (bytes_of words)) place
-        ∙ byte_at words ((from + j) / 8) ((from + j) % 8) (omega (arith, few, within)) (omega arith)
 
 -- bytes of a part of the words are bytes of the words
 pub part_bytes : (words : List ℕ) (first k a n b : ℕ) → b ≡ 8 * first + a → a + n ≤ 8 * k → map (list_byte (take k (drop first words))) (range_with_len a n) ≡ map (list_byte words) (range_with_len b n)

@@ -2,19 +2,20 @@
 use Rattle.file_pages.proofs.Common.{◌≡◌, ℕ, zero, suc, ◌<◌, ◌≤◌, ◌⊎◌, true, false, List, [], ◌∷◌, refl, sym, ap, subst, ◌∙◌, arith, inl, inr, Option, None, Some, Result, Ok, Err, IsErrOf, AllByRecursion, Contains, PageName, VolFail, VolumeShape, CachesBy, BlockWords, Seen, IsIno, HasShape, Firm, Kept, Settled, numbers, Inode, ResizePart, resized, few_tables, same_old, shrunk_has, held, held_bytes, held_of, Change, SetsFile, Slot, AtPage, AtTable, Placed, HasSlot, placed_at, volume_layout, Agrees, Applied, stands_agree, Bears, LeavesInUse, Ready, IsMapped, beside_agrees}
 use Rattle.rio_base.specs.declared.failures.VolFail.TheVariants.{Fault as VolFault, Stopped as VolStopped}
 use Rattle.rio_model.proofs.WordRules.{file_beside}
-use Rattle.file_pages.specs.Changes.{EditsTable, PlansFor, Shrinks, given_node, planned_node, size_update}
+use Rattle.node_pages.specs.Changes.{EditsTable, PlansFor, Shrinks, given_node, planned_node, size_update}
 use Rattle.file_pages.specs.Files.{SetsBoth, StopsAs, file_bytes}
 use Rattle.file_pages.specs.Preparing.{Committed, IsEither, Prepared, SizeLeaves}
-use Rattle.file_pages.proofs.OrderRules.{order_agree, order_changed, order_touched, ready_left, ready_order}
+use Rattle.node_pages.proofs.OrderRules.{order_agree, order_changed, order_touched, ready_left, ready_order}
 use Rattle.rio_model.specs.VolumeReady.{InOrder}
-use Rattle.file_pages.specs.Updating.{CanChange, IsEdited, IsUpdated}
-use Rattle.file_pages.specs.declared.changes.Edit.{Edit}
-use Rattle.file_pages.specs.declared.changes.SizeChange.{SizeChange}
-use Rattle.file_pages.specs.declared.failures.SizeFail.{SizeFail}
-use Rattle.file_pages.specs.declared.failures.SizeFail.TheVariants.{NoSpace, TooLarge, Fault, Stopped, Memory}
-use Rattle.file_pages.specs.Failures.{size_handed}
+use Rattle.file_pages.specs.Touching.{CanChange}
+use Rattle.node_pages.specs.Updating.{IsEdited, IsUpdated}
+use Rattle.node_pages.specs.declared.changes.Edit.{Edit}
+use Rattle.node_pages.specs.declared.changes.SizeChange.{SizeChange}
+use Rattle.node_pages.specs.declared.failures.SizeFail.{SizeFail}
+use Rattle.node_pages.specs.declared.failures.SizeFail.TheVariants.{NoSpace, TooLarge, Fault, Stopped, Memory}
+use Rattle.node_pages.specs.Failures.{size_handed}
 use Rattle.file_pages.proofs.Changed.{changed, file_changed}
-use Rattle.file_pages.proofs.Given.{Given, given_of}
+use Rattle.node_pages.proofs.Given.{Given, given_of}
 use Rattle.file_pages.proofs.Left.{both_left, sets_on, stops_left}
 
 each_edit : (P : Edit → Type 0) (es : List Edit) (e : Edit) → AllByRecursion P es → Contains es e → P e

@@ -9,8 +9,10 @@ use Rattle.rio_model.specs.Held.{byte_of}
 use Rattle.file_pages.specs.Failures.{bytes_handed}
 use Rattle.file_pages.specs.declared.failures.BytesFail.{BytesFail}
 use Rattle.file_pages.specs.declared.failures.BytesFail.TheVariants.{Fault as BytesFault, Stopped as BytesStopped}
-use Rattle.file_pages.specs.PageBytes.{EndsHave, PutsBytes, block_byte, list_byte, bytes_stored, over}
-use Rattle.file_pages.proofs.ByteRuns.{over_out, run_puts}
+use Rattle.file_pages.specs.PageBytes.{EndsHave, PutsBytes, block_byte, bytes_stored}
+use Rattle.node_pages.specs.WordBytes.{list_byte, over}
+use Rattle.node_pages.proofs.ByteRuns.{over_out}
+use Rattle.file_pages.proofs.StoredRuns.{run_puts}
 
 -- the words that bytes at a place make over those of a block
 pub record Makes (f : BlockWords) (b at : ℕ) (bytes words : List ℕ) : Type 0 where

@@ -2,12 +2,12 @@
 use Rattle.file_pages.proofs.Common.{◌≡◌, ℕ, ◌≤◌, ◌⊎◌, ◌&&◌, Bool, true, false, cond, length, refl, sym, ap, ◌∙◌, arith, inl, inr, Result, Ok, Err, OnOk, IsErrOf, nat_le, nat_tests, length-map-range_with_len, VolumeShape, BlockWords, Seen, IsIno, Kept, Settled, resized, Held, byte_in, held, held_of, word_in, held_ino, placed_at, volume_layout, largest_size, LeavesInUse, Ready}
 use Rattle.rio_model.specs.Held.{nothing}
 use Rattle.file_pages.specs.Files.{HasSpace, ResizeStops, SetsBoth, StopsAs, file_bytes}
-use Rattle.file_pages.proofs.OrderRules.{ready_left}
+use Rattle.node_pages.proofs.OrderRules.{ready_left}
 use Rattle.file_pages.specs.Preparing.{SizeLeaves}
-use Rattle.file_pages.specs.declared.failures.SizeFail.{SizeFail}
-use Rattle.file_pages.specs.declared.failures.SizeFail.TheVariants.{NoSpace, TooLarge, Fault, Stopped, Memory}
+use Rattle.node_pages.specs.declared.failures.SizeFail.{SizeFail}
+use Rattle.node_pages.specs.declared.failures.SizeFail.TheVariants.{NoSpace, TooLarge, Fault, Stopped, Memory}
 use Rattle.file_pages.proofs.Left.{bytes_sized, file_node, stops_left}
-use Rattle.file_pages.proofs.Planned.{wanted_none}
+use Rattle.node_pages.proofs.Planned.{wanted_none}
 
 -- ---- a file is an inode
 
@@ -75,7 +75,3 @@ size_stopped shape x k y j i len (Err Memory) h settled kind (inl space) s is = 
 -- a smaller size always has space
 pub space_less : (shape : VolumeShape) (f : BlockWords) (size len : ℕ) → size ≤ largest_size → len ≤ size → HasSpace shape f size len
 space_less shape f size len most less = record { most = omega (arith, most, less); room = (let none = wanted_none size len less in omega (arith, none)) }
-
-pub on_any : {T E : Type 0} (C : Type 0) (r : Result T E) → C → OnOk r C
-on_any C (Ok v) c = c
-on_any C (Err e) c = tt

@@ -3,16 +3,17 @@ use Rattle.file_pages.proofs.Common.{◌≡◌, ◌≢◌, ℕ, ◌+◌, ◌-◌
 use Rattle.std.proofs.lemmas.List.{length-drop}
 use Rattle.rio_base.proofs.BlockSets.{caches_by_stored, firm_outside_all, same_outside_one}
 use Rattle.rio_base.specs.Volume.{CachesStored, widened}
-use Rattle.file_pages.specs.Changes.{Apart}
+use Rattle.node_pages.specs.Changes.{Apart}
 use Rattle.rio_model.specs.Held.{byte_of}
-use Rattle.file_pages.specs.PageBytes.{PutsBytes, block_byte, over}
+use Rattle.file_pages.specs.PageBytes.{PutsBytes, block_byte}
+use Rattle.node_pages.specs.WordBytes.{over}
 use Rattle.file_pages.specs.Spans.{PutsLead, PutsSpan, SpanNamed, span_byte}
-use Rattle.file_pages.specs.Staging.{Beside}
+use Rattle.node_pages.specs.Staging.{Beside}
 use Rattle.file_pages.specs.Storing.{NamedAs}
 use Rattle.file_pages.specs.declared.failures.BytesFail.{BytesFail}
 use Rattle.file_pages.specs.declared.failures.BytesFail.TheVariants.{Fault}
-use Rattle.file_pages.proofs.ByteRuns.{over_in, over_out}
-use Rattle.file_pages.proofs.Listed.{as_many, listed, number_at}
+use Rattle.node_pages.proofs.ByteRuns.{over_in, over_out}
+use Rattle.node_pages.proofs.Listed.{as_many, listed, number_at}
 use Rattle.file_pages.proofs.Stored.{widened_as}
 
 -- ---- bytes over others, in two parts

@@ -5,8 +5,8 @@ use Rattle.rio_base.proofs.BlockRules.{shape_beside_stored, stored_trans}
 use Rattle.rio_base.specs.Volume.{CachesStored, OldOrRun, widened}
 use Rattle.rio_model.specs.Held.{byte_of}
 use Rattle.rio_model.proofs.WordRules.{beside_page, held_word}
-use Rattle.file_pages.specs.LookingUp.{LooksUp}
-use Rattle.file_pages.proofs.OrderRules.{firm_layout, firm_on, leaves_looked, ready_left, ready_order}
+use Rattle.node_pages.specs.LookingUp.{LooksUp}
+use Rattle.node_pages.proofs.OrderRules.{firm_layout, firm_on, leaves_looked, ready_left, ready_order}
 use Rattle.rio_model.proofs.NamedRules.{named_layout}
 use Rattle.file_pages.specs.Storing.{KeepsFront, NamedAs, StoresPages, TailCleared, ZerosFrom}
 use Rattle.file_pages.specs.PageBytes.{block_byte}

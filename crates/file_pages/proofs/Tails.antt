@@ -5,7 +5,7 @@ use Rattle.std.proofs.lemmas.List.{length-replicate, get_or-set_same, get_or-set
 use Rattle.rio_model.specs.Held.{byte_of}
 use Rattle.file_pages.specs.PageBytes.{block_byte}
 use Rattle.file_pages.specs.Storing.{KeepsFront, ZerosFrom}
-use Rattle.file_pages.proofs.ByteRuns.{run_inside, run_outside}
+use Rattle.file_pages.proofs.StoredRuns.{run_inside, run_outside}
 
 pub low_below : (w k t : ℕ) → t < k → k < 8 → byte_of (w % 256 ^ k) t ≡ byte_of w t
 unfolding byte_of

@@ -2,26 +2,27 @@
 use Rattle.file_pages.proofs.Common.{◌≡◌, ℕ, ◌+◌, ◌-◌, ◌*◌, ◌/◌, ◌%◌, ◌<◌, ◌≤◌, ◌⊎◌, true, false, List, length, take, refl, sym, ap, subst, ◌∙◌, arith, inl, inr, slice_index, Result, Err, IsErrOf, Contains, cases_lt, get_or-map-range_with_len, length-map-range_with_len, Block, VolumeShape, BlockWords, Health, Seen, IsIno, numbers, reserved, Below, Firm, Kept, Passes, Settled, IsLead, put_at, written, byte_in, word_in, Slot, AtPage, AtTable, Placed, HasSlot, placed_at, Layout, volume_layout, Owns, IsFree, AgreesBeside, SameLayout, lays_same, lays_self, page_page, table_page, pages, Bears, NamedNode, Ready, IsLaid, IsMapped, lays_beside, mapped_beside}
 use Rattle.std.specs.Int.{div_ceil}
 use Rattle.rio_model.specs.Held.{byte_of}
-use Rattle.file_pages.specs.Changes.{Apart}
+use Rattle.node_pages.specs.Changes.{Apart}
 use Rattle.file_pages.specs.Failures.{write_of_bytes}
 use Rattle.file_pages.specs.Files.{FaultsAfter, HasSpaceFor, SetsBoth, StopsAs, file_bytes}
-use Rattle.file_pages.specs.LookingUp.{LooksUp, page_blocks}
-use Rattle.file_pages.proofs.OrderRules.{firm_layout, firm_on, leaves_looked, ready_left, ready_order}
+use Rattle.node_pages.specs.LookingUp.{LooksUp, page_blocks}
+use Rattle.node_pages.proofs.OrderRules.{firm_layout, firm_on, leaves_looked, ready_left, ready_order}
 use Rattle.rio_model.proofs.NamedRules.{named_layout}
-use Rattle.file_pages.specs.PageBytes.{block_byte, over}
+use Rattle.file_pages.specs.PageBytes.{block_byte}
+use Rattle.node_pages.specs.WordBytes.{over}
 use Rattle.file_pages.specs.Spans.{PutsSpan, SpanNamed, span_byte}
-use Rattle.file_pages.specs.Staging.{Beside}
+use Rattle.node_pages.specs.Staging.{Beside}
 use Rattle.file_pages.specs.Storing.{StoresPages}
 use Rattle.file_pages.specs.Writing.{WriteLeaves, WriteStops}
 use Rattle.file_pages.specs.declared.failures.BytesFail.{BytesFail}
 use Rattle.file_pages.specs.declared.failures.BytesFail.TheVariants.{Fault as BytesFault, Stopped as BytesStopped}
-use Rattle.file_pages.specs.declared.failures.WriteFail.{WriteFail}
+use Rattle.node_pages.specs.declared.failures.WriteFail.{WriteFail}
 use Rattle.file_pages.proofs.Extended.{byte_at_block}
-use Rattle.file_pages.proofs.ByteRuns.{over_out}
+use Rattle.node_pages.proofs.ByteRuns.{over_out}
 use Rattle.file_pages.proofs.FileBytes.{bytes_put, over_same, put_written}
 use Rattle.file_pages.proofs.GrowEnds.{stored_both, stored_stops}
 use Rattle.file_pages.proofs.Left.{file_node}
-use Rattle.file_pages.proofs.Listed.{as_many, place_of}
+use Rattle.node_pages.proofs.Listed.{as_many, place_of}
 use Rattle.file_pages.proofs.Resized.{file_size, space_less}
 use Rattle.file_pages.proofs.Stored.{as_bears, bears_as, stores_after}
 

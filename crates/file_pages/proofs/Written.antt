@@ -9,17 +9,18 @@ use Rattle.rio_base.specs.Blocks.{Ends, as_word}
 use Rattle.rio_base.proofs.Rules.{ends_by, ends_by_well}
 use Rattle.rio_model.proofs.WordRules.{beside_refl}
 use Rattle.file_pages.specs.Extending.{told_after}
-use Rattle.file_pages.specs.Failures.{bytes_handed, write_handed, write_of_bytes, write_of_read, write_of_size}
-use Rattle.file_pages.specs.declared.failures.SizeFail.{SizeFail}
-use Rattle.file_pages.specs.declared.failures.SizeFail.TheVariants.{NoSpace as SizeNoSpace, TooLarge as SizeTooLarge, Fault as SizeFault, Stopped as SizeStopped, Memory as SizeMemory}
-use Rattle.file_pages.proofs.Ends.{EndsRead, EndsSize}
+use Rattle.file_pages.specs.Failures.{bytes_handed, write_of_bytes}
+use Rattle.node_pages.specs.Failures.{write_handed, write_of_read, write_of_size}
+use Rattle.node_pages.specs.declared.failures.SizeFail.{SizeFail}
+use Rattle.node_pages.specs.declared.failures.SizeFail.TheVariants.{NoSpace as SizeNoSpace, TooLarge as SizeTooLarge, Fault as SizeFault, Stopped as SizeStopped, Memory as SizeMemory}
+use Rattle.node_pages.proofs.Ends.{EndsRead, EndsSize}
 use Rattle.file_pages.specs.Files.{FaultsAfter, SetsBoth, StopsAs, file_bytes}
-use Rattle.file_pages.proofs.OrderRules.{leaves_trans, ready_left}
+use Rattle.node_pages.proofs.OrderRules.{leaves_trans, ready_left}
 use Rattle.file_pages.specs.Writing.{WriteLeaves, WriteStops}
 use Rattle.file_pages.specs.declared.failures.BytesFail.{BytesFail}
 use Rattle.file_pages.specs.declared.failures.BytesFail.TheVariants.{Fault as BytesFault, Stopped as BytesStopped}
-use Rattle.file_pages.specs.declared.failures.WriteFail.{WriteFail}
-use Rattle.file_pages.specs.declared.failures.WriteFail.TheVariants.{NoSpace, TooLarge, Fault, Stopped, Memory}
+use Rattle.node_pages.specs.declared.failures.WriteFail.{WriteFail}
+use Rattle.node_pages.specs.declared.failures.WriteFail.TheVariants.{NoSpace, TooLarge, Fault, Stopped, Memory}
 use Rattle.file_pages.proofs.FileBytes.{put_none}
 use Rattle.file_pages.proofs.GrowEnds.{stored_both}
 use Rattle.file_pages.proofs.Left.{both_left, file_node, stops_left}

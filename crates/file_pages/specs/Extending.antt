@@ -7,13 +7,13 @@ use Rattle.block_alloc.specs.Bitmap.{numbers}
 use Rattle.inode_table.specs.declared.inode.Inode.{Inode}
 use Rattle.rio_model.specs.NodeChanges.{AreLowest}
 use Rattle.rio_model.specs.Sizes.{pages}
-use Rattle.file_pages.specs.Changes.{Grows, planned_node}
-use Rattle.file_pages.specs.LookingUp.{page_blocks}
-use Rattle.file_pages.specs.declared.changes.SizeChange.{SizeChange}
-use Rattle.file_pages.specs.declared.failures.SizeFail.{SizeFail}
-use Rattle.file_pages.specs.declared.failures.SizeFail.TheVariants.{NoSpace, TooLarge, Fault, Stopped, Memory}
-use Rattle.file_pages.specs.declared.failures.WriteFail.{WriteFail}
-use Rattle.file_pages.specs.declared.failures.WriteFail.TheVariants.{NoSpace as WriteNoSpace, TooLarge as WriteTooLarge, Fault as WriteFault, Stopped as WriteStopped, Memory as WriteMemory}
+use Rattle.node_pages.specs.Changes.{Grows, planned_node}
+use Rattle.node_pages.specs.LookingUp.{page_blocks}
+use Rattle.node_pages.specs.declared.changes.SizeChange.{SizeChange}
+use Rattle.node_pages.specs.declared.failures.SizeFail.{SizeFail}
+use Rattle.node_pages.specs.declared.failures.SizeFail.TheVariants.{NoSpace, TooLarge, Fault, Stopped, Memory}
+use Rattle.node_pages.specs.declared.failures.WriteFail.{WriteFail}
+use Rattle.node_pages.specs.declared.failures.WriteFail.TheVariants.{NoSpace as WriteNoSpace, TooLarge as WriteTooLarge, Fault as WriteFault, Stopped as WriteStopped, Memory as WriteMemory}
 
 -- the growth of file i to a size is prepared, by the lowest free blocks, and these are the blocks of its pages from one page
 -- on, old and new ones

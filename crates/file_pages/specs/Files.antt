@@ -9,7 +9,7 @@ use Rattle.rio_model.specs.Held.{held_bytes, held_of}
 use Rattle.rio_model.specs.NodeChanges.{SetsFile}
 use Rattle.rio_model.specs.Sizes.{largest_size}
 use Rattle.rio_model.specs.VolumeReady.{StandsReady}
-use Rattle.file_pages.specs.Changes.{wanted_blocks}
+use Rattle.node_pages.specs.Changes.{wanted_blocks}
 
 -- the bytes of file i
 abbrev pub file_bytes : VolumeShape → BlockWords → ℕ → List ℕ

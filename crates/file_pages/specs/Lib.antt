@@ -1,16 +1,9 @@
-pub mod Changes
 pub mod Extending
 pub mod Failures
 pub mod Files
-pub mod Forgetting
-pub mod Growing
-pub mod LookingUp
-pub mod OrderRules
 pub mod PageBytes
 pub mod Preparing
 pub mod Spans
-pub mod Staging
 pub mod Storing
 pub mod Touching
-pub mod Updating
 pub mod Writing

@@ -1,26 +1,13 @@
 -- Bytes of pages, and bytes stored over them.
-use Rattle.std.specs.Prelude.{◌≡◌, ℕ, ◌+◌, ◌-◌, ◌*◌, ◌/◌, ◌%◌, ◌<◌, ◌≤◌, ◌&&◌, ◌⊎◌, nat_le, nat_lt, if◌then◌else◌, min, List, slice_index}
-use Rattle.std.specs.List.{flat_map}
-use Rattle.byteorder.specs.Endian.{little_bytes}
+use Rattle.std.specs.Prelude.{◌≡◌, ℕ, ◌+◌, ◌-◌, ◌*◌, ◌/◌, ◌%◌, ◌<◌, ◌≤◌, ◌⊎◌, min, List}
 use Rattle.rio_base.specs.Blocks.{BlockWords}
 use Rattle.rio_base.specs.Volume.{SameBut}
 use Rattle.rio_model.specs.Held.{byte_of}
-
--- the bytes of words, in order
-abbrev pub bytes_of : List ℕ → List ℕ
-bytes_of words = flat_map (little_bytes 8) words
+use Rattle.node_pages.specs.WordBytes.{over}
 
 -- byte y of a block
 abbrev pub block_byte : BlockWords → ℕ → ℕ → ℕ
 block_byte f b y = byte_of (f b (y / 8)) (y % 8)
-
--- byte y of a list of words
-abbrev pub list_byte : List ℕ → ℕ → ℕ
-list_byte words y = byte_of (slice_index words (y / 8)) (y % 8)
-
--- k bytes stand at a place, and around them what was there
-abbrev pub over : (ℕ → ℕ) → ℕ → List ℕ → ℕ → ℕ → ℕ
-over was at bytes k y = if nat_le at y && nat_lt y (at + k) then slice_index bytes (y - at) else was y
 
 -- the first and the last of n words have these bytes, where `len` bytes from byte `skip` on leave some of them
 pub record EndsHave (was : ℕ → ℕ) (skip len n first last : ℕ) : Type 0 where

@@ -13,12 +13,12 @@ use Rattle.rio_model.specs.Placed.{Slot, Placed, HasSlot, placed_at, volume_layo
 use Rattle.rio_model.specs.Updates.{Turns}
 use Rattle.rio_model.specs.VolumeReady.{LeavesInUse, NamedNode, Ready}
 use Rattle.rio_model.specs.VolumeRules.{IsMapped}
-use Rattle.file_pages.specs.Changes.{EditsTable, size_update}
+use Rattle.node_pages.specs.Changes.{EditsTable, size_update}
 use Rattle.file_pages.specs.Files.{SetsBoth, StopsAs, file_bytes}
-use Rattle.file_pages.specs.OrderRules.{TableOrFree}
-use Rattle.file_pages.specs.declared.changes.SizeChange.{SizeChange}
-use Rattle.file_pages.specs.declared.failures.SizeFail.{SizeFail}
-use Rattle.file_pages.specs.declared.failures.SizeFail.TheVariants.{Fault, Stopped}
+use Rattle.node_pages.specs.OrderRules.{TableOrFree}
+use Rattle.node_pages.specs.declared.changes.SizeChange.{SizeChange}
+use Rattle.node_pages.specs.declared.failures.SizeFail.{SizeFail}
+use Rattle.node_pages.specs.declared.failures.SizeFail.TheVariants.{Fault, Stopped}
 
 -- file i, as the blocks f say it, is to become m by a change. Since then its pages and free blocks alone were stored to
 pub record Prepared (shape : VolumeShape) (f : BlockWords) (y : Seen) (j : Kept) (i : ℕ) (m : Placed) (c : SizeChange) : Type 0 where

@@ -2,7 +2,8 @@
 use Rattle.std.specs.Prelude.{◌≡◌, ℕ, ◌+◌, ◌-◌, ◌*◌, ◌/◌, ◌%◌, ◌<◌, ◌≤◌, min, true, List, length, slice_index}
 use Rattle.std.specs.List.{Contains}
 use Rattle.rio_base.specs.Blocks.{BlockWords, Seen}
-use Rattle.file_pages.specs.PageBytes.{block_byte, over}
+use Rattle.file_pages.specs.PageBytes.{block_byte}
+use Rattle.node_pages.specs.WordBytes.{over}
 use Rattle.file_pages.specs.Storing.{NamedAs}
 
 -- byte x of a file whose pages, from page `first` on, are these blocks

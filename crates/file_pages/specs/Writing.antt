@@ -7,8 +7,8 @@ use Rattle.rio_model.specs.FileParts.{WritePart, written}
 use Rattle.rio_model.specs.Placed.{volume_layout}
 use Rattle.rio_model.specs.VolumeReady.{LeavesInUse, Ready}
 use Rattle.file_pages.specs.Files.{FaultsAfter, HasSpaceFor, SetsBoth, StopsAs, file_bytes}
-use Rattle.file_pages.specs.declared.failures.WriteFail.{WriteFail}
-use Rattle.file_pages.specs.declared.failures.WriteFail.TheVariants.{Fault, Stopped}
+use Rattle.node_pages.specs.declared.failures.WriteFail.{WriteFail}
+use Rattle.node_pages.specs.declared.failures.WriteFail.TheVariants.{Fault, Stopped}
 
 -- what a stop leaves of a write: the old bytes, or where there was space all of it or a leading part
 abbrev pub WriteStops : VolumeShape → BlockWords → ℕ → ℕ → List ℕ → List ℕ → Type 0

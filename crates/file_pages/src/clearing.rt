@@ -10,8 +10,7 @@ ghost use Rattle.rio_model.specs.Sizes.{largest_size};
 ghost use Rattle.rio_model.specs.VolumeReady.{Ready};
 ghost use Rattle.file_pages.specs.Storing.{KeepsFront, NamedAs, StoresPages, TailCleared, ZerosFrom};
 
-use crate::lookup::block_of;
-use crate::staging::bytes_in_page;
+use node_pages::{block_of, bytes_in_page};
 use rio_base::{Block, Ino, PAGE_BYTES, PageName, RunFail, VolFail, Volume, VolumeShape};
 
 /// The first `k` bytes of a word, and zeros.

@@ -8,14 +8,13 @@ ghost use Rattle.rio_base.specs.Shapes.{HasShape};
 ghost use Rattle.rio_base.specs.Volume.{Firm, Goes};
 ghost use Rattle.rio_model.specs.NodeChanges.{Change};
 ghost use Rattle.rio_model.specs.Placed.{Placed, volume_layout};
+ghost use Rattle.node_pages.specs.Updating.{IsUpdated};
+ghost use Rattle.node_pages.specs.Failures.{Unrefused};
 ghost use Rattle.file_pages.specs.Preparing.{Committed, Prepared};
-ghost use Rattle.file_pages.specs.Touching.{ChangeTouched};
-ghost use Rattle.file_pages.specs.Updating.{CanChange, IsUpdated};
-ghost use Rattle.file_pages.specs.Failures.{Unrefused};
+ghost use Rattle.file_pages.specs.Touching.{CanChange, ChangeTouched};
 
-use crate::changes::SizeChange;
-use crate::failures::SizeFail;
 use crate::updating::{apply, touch_change};
+use node_pages::{SizeChange, SizeFail};
 use rio_base::{Ino, VolFail, Volume, VolumeShape};
 
 /// Opens an update and touches the blocks of a change of node `i`. After `Fault` no update is open, and nothing reads or

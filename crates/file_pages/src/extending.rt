@@ -11,22 +11,20 @@ ghost use Rattle.rio_model.specs.Sizes.{largest_size, pages};
 ghost use Rattle.rio_model.specs.VolumeReady.{LeavesInUse, Ready};
 ghost use Rattle.block_alloc.specs.Bitmap.{numbers};
 ghost use Rattle.inode_table.specs.Inodes.{IsInode};
-ghost use Rattle.file_pages.specs.Changes.{PlansFor, given_node, wanted_blocks};
+ghost use Rattle.node_pages.specs.Changes.{PlansFor, given_node, wanted_blocks};
+ghost use Rattle.node_pages.specs.LookingUp.{CanLookUp, LooksUp, page_blocks};
 ghost use Rattle.file_pages.specs.Extending.{Extends, failed_after, told_after};
 ghost use Rattle.file_pages.specs.Files.{HasSpace};
-ghost use Rattle.file_pages.specs.LookingUp.{CanLookUp, LooksUp, page_blocks};
 ghost use Rattle.file_pages.specs.Writing.{WriteLeaves};
 
-use crate::changes::SizeChange;
 use crate::clearing::clear_tail;
 use crate::committing::commit_change;
-use crate::failures::{SizeFail, WriteFail};
-use crate::numbers::page_blocks;
-use crate::planning::plan_growth;
-use crate::sizes::{page_count, wanted_count};
 use crate::spans::store_parts;
-use crate::taking::take_lowest;
 use inode_table::Inode;
+use node_pages::{
+    SizeChange, SizeFail, WriteFail, page_blocks, page_count, plan_growth, take_lowest,
+    wanted_count,
+};
 use rio_base::{Block, Blocks, Ino, PAGE_BYTES, ReadFail, Volume, VolumeShape};
 use std::alloc::{AllocError, Global};
 
@@ -50,7 +48,7 @@ fn push_taken(
 }
 
 /// The blocks of pages `first` to `end` of node `i` once it has these new ones behind its own.
-#[tactic(auto, using(crate::proofs::Given::given_most))]
+#[tactic(auto, using(node_pages::proofs::Given::given_most))]
 fn span_blocks<V: Blocks>(
     alloc: Global,
     v: &mut V,

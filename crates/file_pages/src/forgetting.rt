@@ -5,10 +5,10 @@ ghost use Rattle.std.specs.List.{Contains};
 ghost use Rattle.rio_base.specs.Blocks.{Halts};
 ghost use Rattle.rio_base.specs.Volume.{Goes};
 ghost use Rattle.block_alloc.specs.Bitmap.{numbers};
-ghost use Rattle.file_pages.specs.Forgetting.{Uncached};
-ghost use Rattle.file_pages.specs.Staging.{Beside};
+ghost use Rattle.node_pages.specs.Forgetting.{Uncached};
+ghost use Rattle.node_pages.specs.Staging.{Beside};
 
-use crate::failures::SizeFail;
+use node_pages::SizeFail;
 use rio_base::{Block, Volume};
 
 /// Drops blocks from the cache that are not in use: what they held no longer counts.

@@ -9,13 +9,12 @@ ghost use Rattle.rio_model.specs.Sizes.{pages};
 ghost use Rattle.rio_model.specs.VolumeReady.{Ready};
 ghost use Rattle.block_alloc.specs.Bitmap.{numbers};
 ghost use Rattle.inode_table.specs.Inodes.{IsInode};
-ghost use Rattle.file_pages.specs.LookingUp.{page_blocks};
+ghost use Rattle.node_pages.specs.LookingUp.{page_blocks};
 ghost use Rattle.file_pages.specs.Writing.{WriteLeaves};
 
-use crate::failures::WriteFail;
-use crate::numbers::{only_direct, page_blocks};
 use crate::spans::store_span;
 use inode_table::Inode;
+use node_pages::{WriteFail, only_direct, page_blocks};
 use rio_base::{Block, Ino, PAGE_BYTES, Volume, VolumeShape};
 use std::alloc::Global;
 

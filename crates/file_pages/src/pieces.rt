@@ -4,7 +4,8 @@ ghost use Rattle.std.specs.Prelude.{◌≡◌, ◌+◌, ◌-◌, ◌*◌, ◌/�
 ghost use Rattle.rio_base.specs.Blocks.{CanName, Caches, Ends, EndsBy, IsPlace, Looks};
 ghost use Rattle.rio_base.specs.Volume.{CachesStored, Firm, Goes, SameBut};
 ghost use Rattle.rio_model.specs.Held.{byte_of};
-ghost use Rattle.file_pages.specs.PageBytes.{EndsHave, PutsBytes, bytes_stored, list_byte, over};
+ghost use Rattle.node_pages.specs.WordBytes.{list_byte, over};
+ghost use Rattle.file_pages.specs.PageBytes.{EndsHave, PutsBytes, bytes_stored};
 
 use crate::failures::BytesFail;
 use byteorder::{ByteOrder, LittleEndian};

@@ -12,14 +12,14 @@ ghost use Rattle.rio_model.specs.VolumeReady.{AllNamed};
 ghost use Rattle.rio_model.specs.VolumeRules.{IsMapped};
 ghost use Rattle.block_alloc.specs.Bitmap.{numbers};
 ghost use Rattle.inode_table.specs.Inodes.{IsInode};
+ghost use Rattle.node_pages.specs.LookingUp.{LooksUp, page_blocks};
+ghost use Rattle.node_pages.specs.WordBytes.{bytes_of};
 ghost use Rattle.file_pages.specs.Files.{file_bytes};
-ghost use Rattle.file_pages.specs.LookingUp.{LooksUp, page_blocks};
-ghost use Rattle.file_pages.specs.PageBytes.{block_byte, bytes_of};
+ghost use Rattle.file_pages.specs.PageBytes.{block_byte};
 
-use crate::numbers::{look_inode, only_direct, page_blocks};
-use crate::staging::bytes_in_page;
 use byteorder::{ByteOrder, LittleEndian};
 use inode_table::Inode;
+use node_pages::{bytes_in_page, look_inode, only_direct, page_blocks};
 use rio_base::{Block, Blocks, Ino, Octets, PAGE_BYTES, PageName, ReadFail, VolumeShape};
 use std::alloc::{AllocError, Global};
 
@@ -164,7 +164,7 @@ fn push_page<V: Blocks>(
 }
 
 /// Adds bytes `off` to `end` of file `i`. These blocks are its pages from the one with byte `off` on.
-#[tactic(auto, using(crate::proofs::LookingUpRules::can_look_up, crate::proofs::LookingUpRules::look_refl))]
+#[tactic(auto, using(node_pages::proofs::LookingUpRules::can_look_up, node_pages::proofs::LookingUpRules::look_refl))]
 fn push_pages<V: Blocks>(
     v: &mut V,
     shape: &VolumeShape,

@@ -11,22 +11,17 @@ ghost use Rattle.rio_model.specs.Placed.{placed_at, volume_layout};
 ghost use Rattle.rio_model.specs.VolumeReady.{LeavesInUse, Ready};
 ghost use Rattle.rio_model.specs.Sizes.{largest_size};
 ghost use Rattle.inode_table.specs.Inodes.{IsInode};
-ghost use Rattle.file_pages.specs.Changes.{wanted_blocks};
+ghost use Rattle.node_pages.specs.Changes.{wanted_blocks};
+ghost use Rattle.node_pages.specs.Forgetting.{Forgets};
+ghost use Rattle.node_pages.specs.Failures.{Unrefused};
 ghost use Rattle.file_pages.specs.Files.{HasSpace, ResizeStops, SetsBoth, StopsAs, file_bytes};
-ghost use Rattle.file_pages.specs.Forgetting.{Forgets};
 ghost use Rattle.file_pages.specs.Preparing.{SizeLeaves};
-ghost use Rattle.file_pages.specs.Failures.{Unrefused};
 
 use crate::clearing::clear_tail;
 use crate::committing::commit_change;
-use crate::failures::SizeFail;
 use crate::forgetting::forget_all;
-use crate::numbers::look_inode;
-use crate::planning::plan_growth;
-use crate::shrinking::plan_shrink;
-use crate::sizes::wanted_count;
-use crate::taking::take_lowest;
 use inode_table::{Inode, LARGEST_SIZE};
+use node_pages::{SizeFail, look_inode, plan_growth, plan_shrink, take_lowest, wanted_count};
 use rio_base::{Ino, Volume, VolumeShape};
 use std::alloc::Global;
 

@@ -6,13 +6,13 @@ ghost use Rattle.rio_base.specs.Blocks.{EndsBy};
 ghost use Rattle.rio_base.specs.Volume.{Firm, Goes};
 ghost use Rattle.block_alloc.specs.Bitmap.{numbers};
 ghost use Rattle.rio_model.specs.Sizes.{largest_size};
-ghost use Rattle.file_pages.specs.Changes.{Apart};
+ghost use Rattle.node_pages.specs.Changes.{Apart};
+ghost use Rattle.node_pages.specs.Staging.{Beside};
 ghost use Rattle.file_pages.specs.Spans.{PutsLead, PutsSpan, SpanNamed};
-ghost use Rattle.file_pages.specs.Staging.{Beside};
 
 use crate::failures::BytesFail;
 use crate::pieces::store_piece;
-use crate::staging::bytes_in_page;
+use node_pages::bytes_in_page;
 use rio_base::{Block, Ino, PAGE_BYTES, PageName, Volume};
 
 /// Stores those of `bytes` that lie in one page with the first of them, which is byte `off` of the file. Says how many.

@@ -11,15 +11,14 @@ ghost use Rattle.rio_model.specs.Placed.{placed_at, volume_layout};
 ghost use Rattle.rio_model.specs.Sizes.{largest_size};
 ghost use Rattle.rio_model.specs.VolumeReady.{LeavesInUse, Ready};
 ghost use Rattle.inode_table.specs.Inodes.{IsInode};
-ghost use Rattle.file_pages.specs.Changes.{wanted_blocks};
+ghost use Rattle.node_pages.specs.Changes.{wanted_blocks};
 ghost use Rattle.file_pages.specs.Files.{FaultsAfter, HasSpace, HasSpaceFor, SetsBoth, StopsAs, file_bytes};
 ghost use Rattle.file_pages.specs.Writing.{WriteLeaves, WriteStops};
 
 use crate::extending::write_past;
-use crate::failures::WriteFail;
-use crate::numbers::look_inode;
 use crate::overwriting::write_within;
 use inode_table::{Inode, LARGEST_SIZE};
+use node_pages::{WriteFail, look_inode};
 use rio_base::{Ino, Volume, VolumeShape};
 use std::alloc::Global;
 

@@ -9,25 +9,25 @@ use Rattle.rio_model.specs.NodeChanges.{SetsFile}
 use Rattle.rio_model.specs.Placed.{volume_layout}
 use Rattle.rio_model.specs.VolumeReady.{LeavesInUse, Ready, AllNamed, Firmly}
 use Rattle.file_pages.specs.Files.{SetsBoth, StopsAs, FaultsAfter}
-use Rattle.file_pages.proofs.OrderRules.{leaves_refl, stands_ready_left, firm_on}
+use Rattle.node_pages.proofs.OrderRules.{leaves_refl, stands_ready_left, firm_on}
 use Rattle.block_alloc.specs.Bitmap.{numbers}
 use Rattle.rio_base.specs.declared.places.Block.{Block}
 use Rattle.rio_base.specs.Bitmap.{free_blocks}
 use Rattle.std.specs.Prelude.{◌↔◌, length, take, IfOk, IsErr, IsErrOf, OnOk}
 use Rattle.rio_base.specs.Rules.{true_false}
-use Rattle.file_pages.specs.Changes.{Apart}
-use Rattle.file_pages.proofs.FreeLists.{first_apart, first_free, lists_apart}
-use Rattle.file_pages.proofs.Listed.{as_many}
+use Rattle.node_pages.specs.Changes.{Apart}
+use Rattle.node_pages.proofs.FreeLists.{first_apart, first_free, lists_apart}
+use Rattle.node_pages.proofs.Listed.{as_many}
 use Rattle.test_volumes.specs.TestVolumes.{HasNodes}
 use Rattle.file_pages_tests.specs.TestFiles.{CanSkip, FilesReady, FilesStand, HasFiles, IsTestFile}
 use Rattle.rio_base.specs.Shapes.{HasShape}
 use Rattle.rio_model.specs.VolumeRules.{IsMapped}
-use Rattle.file_pages.specs.LookingUp.{LooksUp}
-use Rattle.file_pages.proofs.LookingUpRules.{named_on}
-use Rattle.file_pages.specs.declared.failures.SizeFail.{SizeFail}
-use Rattle.file_pages.specs.declared.failures.SizeFail.TheVariants.{NoSpace as SizeNoSpace, TooLarge as SizeTooLarge, Fault as SizeFault, Stopped as SizeStopped, Memory as SizeMemory}
-use Rattle.file_pages.specs.declared.failures.WriteFail.{WriteFail}
-use Rattle.file_pages.specs.declared.failures.WriteFail.TheVariants.{NoSpace, TooLarge, Fault, Stopped, Memory}
+use Rattle.node_pages.specs.LookingUp.{LooksUp}
+use Rattle.node_pages.proofs.LookingUpRules.{named_on}
+use Rattle.node_pages.specs.declared.failures.SizeFail.{SizeFail}
+use Rattle.node_pages.specs.declared.failures.SizeFail.TheVariants.{NoSpace as SizeNoSpace, TooLarge as SizeTooLarge, Fault as SizeFault, Stopped as SizeStopped, Memory as SizeMemory}
+use Rattle.node_pages.specs.declared.failures.WriteFail.{WriteFail}
+use Rattle.node_pages.specs.declared.failures.WriteFail.TheVariants.{NoSpace, TooLarge, Fault, Stopped, Memory}
 use Rattle.file_pages.proofs.Left.{both_left}
 use Rattle.file_pages.proofs.Resized.{file_ino, file_placed}
 use Rattle.rio_base.specs.Layout.{inode_kind, IsIno}

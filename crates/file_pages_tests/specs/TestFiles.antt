@@ -6,7 +6,7 @@ use Rattle.rio_base.specs.Volume.{Kept}
 use Rattle.rio_model.specs.Held.{held_of}
 use Rattle.rio_model.specs.Placed.{IsFree, volume_layout}
 use Rattle.rio_model.specs.VolumeReady.{Ready, StandsReady}
-use Rattle.file_pages.specs.Changes.{Apart}
+use Rattle.node_pages.specs.Changes.{Apart}
 
 -- inodes 2 and 3 are the files, and inode 4 is free
 abbrev pub IsTestFile : ℕ → Type 0

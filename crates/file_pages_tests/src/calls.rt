@@ -3,8 +3,9 @@
 ghost use Rattle.std.specs.Prelude.{◌≡◌, ◌↔◌, ◌⊎◌, IsErr, IsErrOf, OnOk};
 ghost use Rattle.file_pages_tests.specs.TestFiles.{FilesReady, FilesStand, IsTestFile};
 
-use file_pages::{SizeFail, WriteFail, blocks_of, read, resize, write};
+use file_pages::{read, resize, write};
 use inode_table::LARGEST_SIZE;
+use node_pages::{SizeFail, WriteFail, blocks_of};
 use rio_base::{BlockList, Ino, Octets, ReadFail, Stopped, Volume, VolumeShape};
 use std::alloc::Global;
 

@@ -6,8 +6,8 @@ ghost use Rattle.inode_table.specs.Inodes.{IsInode};
 ghost use Rattle.file_pages_tests.specs.TestFiles.{CanSkip, FilesReady, IsTestFile};
 
 use block_alloc::{TakeFail, take};
-use file_pages::{SizeChange, SizeFail, block_of, plan_size};
 use inode_table::{Inode, read_inode};
+use node_pages::{SizeChange, SizeFail, block_of, plan_size};
 use rio_base::{Block, BlockList, Ino, VolFail, Volume, VolumeShape};
 use std::alloc::Global;
 

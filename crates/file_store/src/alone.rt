@@ -14,7 +14,7 @@ ghost use Rattle.rio_requests.specs.Parts.{NoneDone, WriteDone};
 ghost use Rattle.rio_model.specs.Paths.{IsPath};
 ghost use Rattle.file_ends.specs.Ends.{CanServe, FileEnds, SaysNames, SaysStat, SaysBytes, SaysCount, SaysDone, SaysIno};
 ghost use Rattle.file_ends.specs.Failures.{Faulted};
-ghost use Rattle.file_pages.specs.Forgetting.{Forgets};
+ghost use Rattle.node_pages.specs.Forgetting.{Forgets};
 ghost use Rattle.file_tree.specs.Walks.{ino_numbers};
 ghost use Rattle.rio_base.specs.Layout.{IsIno};
 ghost use Rattle.node_making.specs.NewRegions.{FindsRegion};

@@ -12,8 +12,8 @@ use Rattle.rio_model.specs.declared.state.State.{State}
 use Rattle.rio_model.specs.Fresh.{fresh_state}
 use Rattle.rio_model.specs.VolumeReads.{ReadsAs}
 use Rattle.rio_model.specs.VolumeReady.{Ready}
-use Rattle.file_pages.proofs.LookingUpRules.{can_look_up, looked_low}
-use Rattle.file_pages.proofs.OrderRules.{leaves_looked}
+use Rattle.node_pages.proofs.LookingUpRules.{can_look_up, looked_low}
+use Rattle.node_pages.proofs.OrderRules.{leaves_looked}
 use Rattle.file_ends.specs.declared.failures.FileFail.{FileFail}
 use Rattle.file_ends.specs.declared.failures.FileFail.TheVariants.{Refused, Fault, Stopped, Memory}
 use Rattle.file_ends.proofs.EndRules.{can_after}

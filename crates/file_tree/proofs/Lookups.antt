@@ -1,8 +1,8 @@
 -- Look-ups over blocks alone: what holds after them, of calls one after the other, and what that says of a volume.
 use Rattle.file_ends.proofs.Common.{◌≡◌, ◌<◌, ℕ, None, Err, Result, VolFail, refl, subst, can_look_up, held_of, inode_block, Below, BlockWords, Health, Kept, Looks, Passes, Seen, VolumeShape, HasShape, State, AllNamed, ReadsAs, volume_layout}
 use Rattle.rio_base.specs.Blocks.{Caches}
-use Rattle.file_pages.proofs.LookingUpRules.{looked_inode, named_on}
-use Rattle.file_pages.specs.LookingUp.{LooksUp}
+use Rattle.node_pages.proofs.LookingUpRules.{looked_inode, named_on}
+use Rattle.node_pages.specs.LookingUp.{LooksUp}
 use Rattle.region_view.proofs.UsedInodes.{used_ino}
 use Rattle.file_ends.specs.Ends.{CanServe}
 use Rattle.file_ends.specs.Failures.{Refuses, fail_of_vol}

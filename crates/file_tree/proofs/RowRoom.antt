@@ -4,7 +4,7 @@ use Rattle.std.specs.Prelude.{length}
 use Rattle.rio_model.proofs.FreeByState.{names_counted}
 use Rattle.file_tree.proofs.ReadTrees.{ino_of, names_few}
 use Rattle.region_view.proofs.UsedInodes.{kind_held}
-use Rattle.file_pages.specs.declared.failures.SizeFail.TheVariants.{Fault as SizeFault, Stopped as SizeStopped, Memory as SizeMemory}
+use Rattle.node_pages.specs.declared.failures.SizeFail.TheVariants.{Fault as SizeFault, Stopped as SizeStopped, Memory as SizeMemory}
 use Rattle.file_ends.specs.Failures.{fail_of_size}
 use Rattle.file_ends.proofs.AnsweredAt.{FailsBy}
 

@@ -9,12 +9,12 @@ use Rattle.rio_base.specs.Volume.{SameBut, CachesStored, put_run, widened}
 use Rattle.rio_model.proofs.GrowthRules.{page_new}
 use Rattle.rio_model.proofs.HeldRules.{page_counts, counts_of}
 use Rattle.rio_model.proofs.PlacedRules.{owned_back, page_page, table_page, cases_lt}
-use Rattle.file_pages.specs.Changes.{PlansSize, Spares, free_beside, planned_node}
-use Rattle.file_pages.proofs.OrderRules.{leaves_beside}
-use Rattle.file_pages.specs.Staging.{Beside}
-use Rattle.file_pages.specs.declared.changes.SizeChange.{SizeChange}
-use Rattle.file_pages.proofs.Listed.{place_of}
-use Rattle.file_pages.proofs.Skipped.{among_at, left_are_free}
+use Rattle.node_pages.specs.Changes.{PlansSize, Spares, free_beside, planned_node}
+use Rattle.node_pages.proofs.OrderRules.{leaves_beside}
+use Rattle.node_pages.specs.Staging.{Beside}
+use Rattle.node_pages.specs.declared.changes.SizeChange.{SizeChange}
+use Rattle.node_pages.proofs.Listed.{place_of}
+use Rattle.node_pages.proofs.Skipped.{among_at, left_are_free}
 use Rattle.node_updates.specs.Changes.{of_size}
 use Rattle.node_making.specs.NewRegions.{FitRegion, PlansRegion, header_name, header_words, new_held, new_word}
 use Rattle.node_updates.specs.declared.changes.NodeChange.{NodeChange}

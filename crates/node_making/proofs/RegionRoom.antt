@@ -9,9 +9,9 @@ use Rattle.rio_model.specs.Sizes.{data_pages}
 use Rattle.std.proofs.Common.{length-take-le}
 use Rattle.std.specs.Prelude.{length, replicate, take}
 use Rattle.std.proofs.lemmas.List.{length-replicate}
-use Rattle.file_pages.specs.Changes.{free_beside}
-use Rattle.file_pages.specs.declared.failures.SizeFail.TheVariants.{Fault as SizeFault, Stopped as SizeStopped, Memory as SizeMemory}
-use Rattle.file_pages.proofs.Skipped.{count_beside}
+use Rattle.node_pages.specs.Changes.{free_beside}
+use Rattle.node_pages.specs.declared.failures.SizeFail.TheVariants.{Fault as SizeFault, Stopped as SizeStopped, Memory as SizeMemory}
+use Rattle.node_pages.proofs.Skipped.{count_beside}
 use Rattle.file_ends.specs.Failures.{fail_of_size}
 use Rattle.node_making.specs.NewRegions.{FitRegion}
 use Rattle.node_making.specs.declared.regions.RegionSizes.{RegionSizes}

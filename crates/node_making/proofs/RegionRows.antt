@@ -17,7 +17,7 @@ use Rattle.rio_model.specs.Placed.{Lies}
 use Rattle.rio_model.proofs.PlacedRules.{table_page}
 use Rattle.rio_model.proofs.UpdateRules.{edited_out, turned_held}
 use Rattle.rio_model.specs.Updates.{Turns, Update, WordEdit, edited}
-use Rattle.file_pages.specs.Changes.{EditsTable, Spares, wanted_blocks, word_edit}
+use Rattle.node_pages.specs.Changes.{EditsTable, Spares, wanted_blocks, word_edit}
 use Rattle.node_updates.specs.Changes.{IsTouchedBy, change_update, of_dir}
 use Rattle.node_making.specs.NewRegions.{FitRegion, PlansRegion, new_held}
 use Rattle.node_making.proofs.ReadMade.{tree_new}

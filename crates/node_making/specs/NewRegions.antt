@@ -18,7 +18,7 @@ use Rattle.rio_model.specs.Sizes.{largest_size}
 use Rattle.rio_model.specs.Undo.{region_magic, region_words}
 use Rattle.rio_model.specs.Updates.{Turns}
 use Rattle.rio_model.specs.VolumeReady.{NamedNode}
-use Rattle.file_pages.specs.Changes.{EditsTable, free_beside}
+use Rattle.node_pages.specs.Changes.{EditsTable, free_beside}
 use Rattle.node_updates.specs.Changes.{change_update}
 use Rattle.node_updates.specs.declared.changes.NodeChange.{NodeChange}
 use Rattle.file_ends.specs.declared.failures.FileFail.{FileFail}

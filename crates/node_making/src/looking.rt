@@ -17,9 +17,9 @@ ghost use Rattle.file_tree.specs.Memos.{InStep};
 
 use dir_lookups::names;
 use file_ends::{FileFail, REGION};
-use file_pages::block_of;
 use file_tree::{Memo, node_inode, walk, walk_to_dir};
 use name_list::NameList;
+use node_pages::block_of;
 use rio_base::{Ino, PAGE_BYTES, PageName, Volume, VolumeShape};
 use std::alloc::Global;
 

@@ -14,8 +14,8 @@ ghost use Rattle.rio_model.specs.Sizes.{blocks_for};
 ghost use Rattle.rio_model.specs.VolumeReads.{ReadsAs};
 ghost use Rattle.rio_model.specs.VolumeReady.{LeavesInUse, Ready};
 ghost use Rattle.inode_table.specs.Inodes.{IsInode};
-ghost use Rattle.file_pages.specs.Changes.{Apart, Spares, free_beside};
-ghost use Rattle.file_pages.specs.Forgetting.{Forgets};
+ghost use Rattle.node_pages.specs.Changes.{Apart, Spares, free_beside};
+ghost use Rattle.node_pages.specs.Forgetting.{Forgets};
 ghost use Rattle.dir_entries.specs.Rows.{HasRow};
 ghost use Rattle.rio_requests.specs.Answers.{make_new as make_new_of, make_region as make_region_of, new_region, region_row};
 ghost use Rattle.rio_requests.specs.Parts.{NoneDone};
@@ -28,9 +28,9 @@ ghost use Rattle.file_tree.specs.Walks.{FreeRow, ino_in};
 use crate::new_nodes::{NewNode, make_new};
 use directories::plan_add;
 use file_ends::{EXISTS, FileFail, NOT_A_REGION, REGION, TOO_LARGE};
-use file_pages::{SizeFail, plan_size};
 use file_tree::{Memo, cut_last, dir_without, is_root, node_inode, walk};
 use inode_table::Inode;
+use node_pages::{SizeFail, plan_size};
 use node_updates::{NodeChange, commit_planned, empty_inode, node_sized};
 use rio_base::{
     Block, BlockList, Ino, PAGE_BYTES, PageName, REGION_MAGIC, RunFail, VolFail, Volume,

@@ -3,8 +3,8 @@ use Rattle.file_ends.proofs.Common.{◌≡◌, ◌≢◌, ℕ, ◌<◌, ◌==◌
 use Rattle.std.proofs.Common.{◌||◌}
 use Rattle.std.specs.Prelude.{length}
 use Rattle.std.proofs.lemmas.List.{get_or-map, length-map}
-use Rattle.file_pages.specs.Changes.{is_among as is_block_among}
-use Rattle.file_pages.proofs.Skipped.{among_at as block_at, among_none as block_none}
+use Rattle.node_pages.specs.Changes.{is_among as is_block_among}
+use Rattle.node_pages.proofs.Skipped.{among_at as block_at, among_none as block_none}
 use Rattle.rio_requests.specs.Answers.{is_among, is_open}
 use Rattle.file_tree.specs.Walks.{ino_numbers}
 use Rattle.file_tree.proofs.LookedAt.{file_left}

@@ -12,7 +12,7 @@ ghost use Rattle.rio_requests.specs.Answers.{without, unlink as unlink_of, rmdir
 ghost use Rattle.rio_requests.specs.Parts.{NoneDone};
 ghost use Rattle.rio_model.specs.Paths.{IsPath};
 ghost use Rattle.rio_model.specs.Placed.{volume_layout};
-ghost use Rattle.file_pages.specs.Forgetting.{Forgets};
+ghost use Rattle.node_pages.specs.Forgetting.{Forgets};
 ghost use Rattle.file_ends.specs.Ends.{CanServe, FileEnds, SaysDone};
 ghost use Rattle.file_ends.specs.Failures.{Faulted};
 ghost use Rattle.file_tree.specs.Memos.{InStep};
@@ -22,9 +22,9 @@ use directories::plan_remove;
 use file_ends::{
     BUSY, DIRECTORY, FileFail, IS_A_DIRECTORY, IS_ROOT, NOT_A_DIRECTORY, NOT_EMPTY, REGION,
 };
-use file_pages::blocks_of;
 use file_tree::{Memo, Row, cut_last, is_root, node_inode, walk_to_row};
 use inode_table::Inode;
+use node_pages::blocks_of;
 use node_updates::{NodeChange, commit_planned, node_gone};
 use rio_base::{Ino, InoList, Volume, VolumeShape};
 use std::alloc::Global;

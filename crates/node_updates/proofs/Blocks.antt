@@ -4,7 +4,7 @@ use Rattle.dir_entries.specs.declared.changes.DirChange.{DirChange}
 use Rattle.std.proofs.lemmas.List.Elements.{Contains-append_cases, Contains-append_left, Contains-append_right}
 use Rattle.rio_model.proofs.PlacedRules.{has_back}
 use Rattle.rio_model.specs.Sizes.{tables}
-use Rattle.file_pages.specs.LookingUp.{page_blocks}
+use Rattle.node_pages.specs.LookingUp.{page_blocks}
 use Rattle.node_updates.specs.Changes.{IsGone, IsMade, of_dir}
 use Rattle.node_updates.specs.declared.changes.NodeChange.{NodeChange}
 use Rattle.node_updates.proofs.Fitting.{Fits}

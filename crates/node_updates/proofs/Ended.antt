@@ -4,7 +4,7 @@ use Rattle.std.specs.Prelude.{Bool, true, Option}
 use Rattle.rio_base.specs.declared.failures.VolFail.TheVariants.{Fault as VolFault, Stopped as VolStopped}
 use Rattle.rio_model.proofs.LowestBlocks.{bits_agree, lowest_on}
 use Rattle.rio_model.specs.NodeChanges.{UsesLowest}
-use Rattle.file_pages.proofs.OrderRules.{order_agree, order_left, stands_left}
+use Rattle.node_pages.proofs.OrderRules.{order_agree, order_left, stands_left}
 use Rattle.node_updates.specs.Changes.{AllApplied, IsFreed, IsTouchedBy, change_update}
 use Rattle.node_updates.specs.Committing.{Commits, Touched}
 use Rattle.file_ends.specs.Ends.{FileEnds, Spares}

@@ -10,9 +10,9 @@ use Rattle.rio_base.specs.Shapes.{IsShape}
 use Rattle.rio_model.proofs.LowestBlocks.{decided, in_none, lower_free, lower_passes, lowest_taken}
 use Rattle.rio_model.proofs.PlacedRules.{has_bit}
 use Rattle.rio_model.specs.NodeChanges.{AreLowest, UsesLowest}
-use Rattle.file_pages.proofs.Listed.{listed}
-use Rattle.file_pages.proofs.Skipped.{among_none, beside_range, is_left}
-use Rattle.file_pages.specs.Changes.{free_beside, is_among, wanted_blocks}
+use Rattle.node_pages.proofs.Listed.{listed}
+use Rattle.node_pages.proofs.Skipped.{among_none, beside_range, is_left}
+use Rattle.node_pages.specs.Changes.{free_beside, is_among, wanted_blocks}
 use Rattle.node_updates.specs.Changes.{AllApplied, change_update}
 use Rattle.node_updates.specs.declared.changes.NodeChange.{NodeChange}
 use Rattle.node_updates.proofs.Fitting.{AllFit, fits_of}

@@ -2,7 +2,7 @@
 -- can be committed, and what a commit of it comes to.
 use Rattle.file_ends.proofs.Common.{◌≡◌, ◌≤◌, ◌<◌, ◌∙◌, ℕ, List, length, arith, refl, sym, ap, subst, Result, Ok, Err, VolFail, VolumeShape, Health, Seen, Below, Kept, Passes, Settled, Answered, Reply, State, answered, Held, held_of, placed_at, volume_layout, held_of_agree, reads_agree, ReadsAs, LeavesInUse, Ready, can_look_up, leaves_looked, leaves_trans, ready_left, NoneDone}
 use Rattle.rio_base.specs.declared.failures.ReadFail.{ReadFail}
-use Rattle.file_pages.specs.LookingUp.{CanLookUp, LooksUp}
+use Rattle.node_pages.specs.LookingUp.{CanLookUp, LooksUp}
 use Rattle.node_updates.specs.Committing.{Commits, Touched}
 use Rattle.file_ends.specs.Ends.{CanServe, FileEnds}
 use Rattle.file_ends.specs.Failures.{fail_of_read, fail_of_vol}

@@ -10,11 +10,11 @@ use Rattle.rio_base.specs.declared.failures.VolFail.TheVariants.{Fault, Stopped}
 use Rattle.rio_base.proofs.BlockRules.{shape_dropped}
 use Rattle.rio_base.proofs.BlockSets.{caches_by_drops, caches_by_one, caches_by_wider, firm_outside_all, firm_outside_refl, same_outside_refl}
 use Rattle.rio_base.specs.Volume.{HasRoom, SameUpdate, Touches}
-use Rattle.file_pages.specs.Updating.{IsTouched, IsUpdated}
-use Rattle.file_pages.proofs.Listed.{listed}
-use Rattle.file_pages.proofs.Updated.{touched_now, touched_still, unnamed_on}
+use Rattle.node_pages.specs.Updating.{IsTouched, IsUpdated}
+use Rattle.node_pages.proofs.Listed.{listed}
+use Rattle.node_pages.proofs.Updated.{touched_now, touched_still, unnamed_on}
 use Rattle.node_updates.specs.Changes.{AllApplied, AllTouched, ChangeTouched, KeepsBlocks, CanMakeNode, CanCommit, IsFreed, IsTouchedBy, MakesFit, edited_blocks, change_update}
-use Rattle.file_pages.specs.Changes.{node_update}
+use Rattle.node_pages.specs.Changes.{node_update}
 use Rattle.node_updates.specs.Committing.{Commits, Makes, Touched}
 use Rattle.node_updates.specs.declared.changes.NodeChange.{NodeChange}
 

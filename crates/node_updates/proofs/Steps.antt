@@ -8,7 +8,7 @@ use Rattle.dir_entries.specs.declared.changes.DirChange.{DirChange}
 use Rattle.std.proofs.Common.{None}
 use Rattle.std.specs.Prelude.{◌&&◌, ◌%◌, cond, map}
 use Rattle.rio_model.proofs.NodeChangeRules.{held_here, held_there, lays_replaced, node_there}
-use Rattle.file_pages.specs.Changes.{word_edit}
+use Rattle.node_pages.specs.Changes.{word_edit}
 use Rattle.rio_base.proofs.BlockSets.{caches_by_refl}
 use Rattle.rio_base.specs.Rules.{firm_refl}
 use Rattle.inode_table.specs.Inodes.{inode_words}
@@ -16,7 +16,7 @@ use Rattle.rio_model.proofs.PlacedRules.{with_placed}
 use Rattle.rio_model.proofs.UpdateRules.{turned, turned_bits}
 use Rattle.rio_model.specs.Updates.{EditsNode, Turns, Update}
 use Rattle.rio_model.specs.VolumeRules.{IsLaid}
-use Rattle.file_pages.proofs.OrderRules.{order_changed}
+use Rattle.node_pages.proofs.OrderRules.{order_changed}
 use Rattle.node_updates.proofs.EmptyHeld.{empty_held}
 use Rattle.node_updates.specs.Changes.{IsGone, IsMade, change_update}
 use Rattle.node_updates.specs.declared.changes.NodeChange.{NodeChange}

@@ -10,10 +10,10 @@ use Rattle.rio_base.specs.Blocks.{BlockWords, Seen}
 use Rattle.rio_base.specs.Layout.{IsIno, inode_block}
 use Rattle.rio_base.specs.Volume.{Kept}
 use Rattle.block_alloc.specs.Bitmap.{numbers}
-use Rattle.file_pages.specs.declared.changes.Edit.{Edit}
-use Rattle.file_pages.specs.declared.changes.SizeChange.{SizeChange}
-use Rattle.file_pages.specs.Changes.{node_update}
-use Rattle.file_pages.specs.Updating.{CanUpdate, IsEdited}
+use Rattle.node_pages.specs.declared.changes.Edit.{Edit}
+use Rattle.node_pages.specs.declared.changes.SizeChange.{SizeChange}
+use Rattle.node_pages.specs.Changes.{node_update}
+use Rattle.node_pages.specs.Updating.{CanUpdate, IsEdited}
 use Rattle.rio_model.specs.Updates.{Applied, Update}
 use Rattle.dir_entries.specs.Plans.{InThreeBlocks}
 use Rattle.node_updates.specs.declared.changes.NodeChange.{NodeChange}

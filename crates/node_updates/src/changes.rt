@@ -5,8 +5,8 @@ ghost use Rattle.node_updates.specs.Changes.{IsGone, IsMade, of_size};
 
 use dir_entries::DirChange;
 use file_ends::FREE;
-use file_pages::{EditList, SizeChange};
 use inode_table::Inode;
+use node_pages::{EditList, SizeChange};
 use rio_base::{BlockList, Ino};
 use std::alloc::Global;
 

@@ -14,9 +14,9 @@ ghost use Rattle.rio_requests.specs.declared.reply.Reply.{Reply};
 ghost use Rattle.rio_model.specs.declared.state.State.{State};
 ghost use Rattle.rio_model.specs.Placed.{volume_layout};
 ghost use Rattle.rio_model.specs.Updates.{Applied};
-ghost use Rattle.file_pages.specs.Forgetting.{Forgets, Uncached};
-ghost use Rattle.file_pages.specs.Updating.{IsEdited, IsUpdated};
-ghost use Rattle.file_pages.specs.declared.changes.Edit.{Edit as EditOf};
+ghost use Rattle.node_pages.specs.Forgetting.{Forgets, Uncached};
+ghost use Rattle.node_pages.specs.Updating.{IsEdited, IsUpdated};
+ghost use Rattle.node_pages.specs.declared.changes.Edit.{Edit as EditOf};
 ghost use Rattle.dir_entries.specs.Plans.{InThreeBlocks};
 ghost use Rattle.node_updates.specs.Changes.{AllApplied, AllTouched, BitmapTouched, CanCommit, CanMakeNode, ChangeTouched, IsFreed, IsTouchedBy, KeepsBlocks, MakesFit, edited_blocks, change_update};
 ghost use Rattle.node_updates.specs.Committing.{Commits, Touched};
@@ -28,8 +28,8 @@ ghost use Rattle.node_updates.specs.declared.changes.NodeChange.{NodeChange as N
 use crate::changes::NodeChange;
 use block_alloc::BITMAP;
 use file_ends::FileFail;
-use file_pages::{Edit, make_update, make_words};
 use inode_table::{Inode, inode_block};
+use node_pages::{Edit, make_update, make_words};
 use rio_base::{Block, Ino, Stopped, VolFail, Volume, VolumeShape};
 
 /// Whether edit `t` is in the same block as the edit before it.

@@ -6,8 +6,8 @@ pub use Rattle.std.proofs.lemmas.Result.{err_from_is_err_and}
 pub use Rattle.std.proofs.lemmas.List.FromFn.{length-map-range_with_len}
 pub use Rattle.std.specs.List.{range_with_len}
 pub use Rattle.std.specs.Prelude.{Err, None, Ok, OnOk, Result, nat_le, nat_lt}
-pub use Rattle.file_pages.proofs.LookingUpRules.{can_look_up}
-pub use Rattle.file_pages.proofs.OrderRules.{firm_on, leaves_looked, ready_left, ready_order}
+pub use Rattle.node_pages.proofs.LookingUpRules.{can_look_up}
+pub use Rattle.node_pages.proofs.OrderRules.{firm_on, leaves_looked, ready_left, ready_order}
 pub use Rattle.rio_model.specs.VolumeReady.{AllNamed, Bears, LeavesInUse, NamesPage, Ready}
 pub use Rattle.inode_table.specs.Inodes.{IsInode}
 pub use Rattle.inode_table.specs.declared.inode.Inode.{Inode}

@@ -12,9 +12,9 @@ use Rattle.rio_model.proofs.NodeChanges.{IsAt}
 use Rattle.rio_model.specs.Placed.{AgreesBeside}
 use Rattle.rio_model.proofs.PlacedRules.{direct_of, page_page}
 use Rattle.rio_model.proofs.WordRules.{beside_page, held_at_old, held_beside, held_put, lays_beside, mapped_beside, put_beside_node, put_same_but}
-use Rattle.file_pages.proofs.LookingUpRules.{named_on}
-use Rattle.file_pages.proofs.OrderRules.{firm_layout}
-use Rattle.file_pages.specs.LookingUp.{LooksUp}
+use Rattle.node_pages.proofs.LookingUpRules.{named_on}
+use Rattle.node_pages.proofs.OrderRules.{firm_layout}
+use Rattle.node_pages.specs.LookingUp.{LooksUp}
 use Rattle.rio_model.specs.VolumeReady.{AllNamed, Firmly}
 use Rattle.rio_model.proofs.NamedRules.{named_layout}
 use Rattle.region_view.specs.Views.{CanRead, IsWordName, IsWordPage}

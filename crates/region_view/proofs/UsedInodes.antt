@@ -1,6 +1,6 @@
 -- An inode that is used: it is one of the volume's, and what it holds is what it is placed as.
 use Rattle.region_view.proofs.Common.{Bool, ap, arith, cond, false, refl, true, ℕ, ◌&&◌, ◌<◌, ◌≡◌, nat_tests, None, nat_le, can_look_up, leaves_looked, LeavesInUse, Ready, BlockWords, Caches, Health, Looks, Seen, IsIno, inode_block, Below, Kept, Passes, VolumeShape, Held, held, held_of, nothing, held_ino, placed_at, volume_layout}
-use Rattle.file_pages.proofs.LookingUpRules.{looked_inode}
+use Rattle.node_pages.proofs.LookingUpRules.{looked_inode}
 
 -- what it holds is of its kind
 pub kind_held : (shape : VolumeShape) (f : BlockWords) (i : ℕ) → IsIno shape i → (held_of shape f i).kind ≡ (placed_at f i).kind

@@ -13,8 +13,8 @@ ghost use Rattle.inode_table.specs.Inodes.{IsInode};
 ghost use Rattle.region_view.specs.Views.{CanRead, IsWordName, IsWordPage};
 ghost use Rattle.rio_model.specs.RegionMoves.{RestHeld};
 
-use file_pages::block_of;
 use inode_table::{DIRECT_PAGES, Inode, read_inode};
+use node_pages::block_of;
 use rio_base::{
     Block, Blocks, Ino, PAGE_BYTES, PAGE_WORDS, PageName, RunFail, VolFail, Volume, VolumeShape,
 };

@@ -15,7 +15,7 @@ use Rattle.rio_requests.proofs.AnswerRules.{step_keeps}
 use Rattle.rio_requests.specs.Parts.{IsPart}
 use Rattle.rio_requests.specs.Run.{Step}
 use Rattle.rio_model.specs.VolumeReady.{Bears}
-use Rattle.file_pages.proofs.OrderRules.{firm_on}
+use Rattle.node_pages.proofs.OrderRules.{firm_on}
 use Rattle.rio_core.specs.Replying.{TellsTxns}
 use Rattle.rio_core.specs.Serving.{Answering, Holds, RequestEnds, Serves, TellsFault}
 use Rattle.rio_core.proofs.FileRequests.{same_serves}

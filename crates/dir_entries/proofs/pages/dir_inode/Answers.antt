@@ -1,4 +1,4 @@
-use Rattle.file_pages.proofs.LookingUpRules.{looked_inode}
+use Rattle.node_pages.proofs.LookingUpRules.{looked_inode}
 use Rattle.dir_entries.proofs.CanRead.{can_look, can_stays}
 use Rattle.dir_entries.proofs.pages.dir_inode.Goals as goal
 

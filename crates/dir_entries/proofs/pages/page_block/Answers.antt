@@ -1,5 +1,5 @@
 use Rattle.dir_entries.proofs.Common.{◌∙◌, refl, arith, placed_at}
-use Rattle.file_pages.proofs.LookingUpRules.{look_refl}
+use Rattle.node_pages.proofs.LookingUpRules.{look_refl}
 use Rattle.rio_model.proofs.PlacedRules.{direct_of, lies_self}
 use Rattle.dir_entries.proofs.CanRead.{can_look, can_stays}
 use Rattle.dir_entries.proofs.pages.page_block.Goals as goal

@@ -4,7 +4,7 @@ use Rattle.rio_base.proofs.Rules.{looks_trans}
 use Rattle.dir_entries.specs.Rows.{Finds}
 use Rattle.dir_entries.proofs.CanRead.{can_read}
 use Rattle.dir_entries.proofs.EndsAs.{ends_err}
-use Rattle.file_pages.proofs.EndsOn.{if_err}
+use Rattle.node_pages.proofs.EndsOn.{if_err}
 use Rattle.dir_lookups.proofs.finding.find.Goals as goal
 
 pub dir_inode-requires-clause-can : goal.dir_inode-requires-clause-can

@@ -2,9 +2,9 @@ use Rattle.rio_base.proofs.Rules.{ends_by_well}
 use Rattle.dir_entries.proofs.Common.{◌≡◌, ◌/◌, ◌∙◌, arith, sym, ap, subst, map, refl, range_with_len, err_from_is_err_and, ends_by_after, BlockWords, Held, held_of, placed_at, IsInode, look_trans, named_on}
 use Rattle.std.proofs.Common.{le_trans}
 use Rattle.std.specs.FinMap.{empty}
-use Rattle.file_pages.proofs.LookingUpRules.{look_refl}
+use Rattle.node_pages.proofs.LookingUpRules.{look_refl}
 use Rattle.dir_lookups.specs.Holding.{HoldsRows}
-use Rattle.file_pages.proofs.EndsOn.{if_err}
+use Rattle.node_pages.proofs.EndsOn.{if_err}
 use Rattle.dir_entries.proofs.CanRead.{can_look, can_read, dir_held, dir_size, sized}
 use Rattle.dir_entries.proofs.EndsAs.{ends_memory, ends_vol_read}
 use Rattle.dir_lookups.proofs.EntryRead.{IsSlot, slot_read}

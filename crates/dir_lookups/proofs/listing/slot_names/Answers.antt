@@ -2,8 +2,8 @@ use Rattle.rio_base.proofs.Rules.{ends_by_well}
 use Rattle.dir_entries.proofs.EndsAs.{ends_memory}
 use Rattle.dir_entries.proofs.Common.{◌∙◌, ◌++◌, ◌-◌, ◌*◌, ◌/◌, ◌%◌, map, min, arith, sym, ap, subst, range_with_len, err_from_is_err_and, BlockWords, ends_by_after, IsInode, entry_name, held_of, look_trans, refl, ◌≡◌}
 use Rattle.std.proofs.Common.{le_trans, le_refl}
-use Rattle.file_pages.proofs.LookingUpRules.{look_refl}
-use Rattle.file_pages.proofs.Ends.{ends_read}
+use Rattle.node_pages.proofs.LookingUpRules.{look_refl}
+use Rattle.node_pages.proofs.Ends.{ends_read}
 use Rattle.dir_entries.proofs.CanRead.{can_look, dir_size}
 use Rattle.dir_lookups.proofs.Listed.{pages_next, no_pages}
 use Rattle.dir_lookups.proofs.listing.slot_names.Goals as goal

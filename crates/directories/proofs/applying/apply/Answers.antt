@@ -1,6 +1,6 @@
 use Rattle.dir_entries.proofs.Common.{sym, subst}
-use Rattle.file_pages.specs.Updating.{IsTouched}
-use Rattle.file_pages.proofs.Updated.{applied_as, can_update}
+use Rattle.node_pages.specs.Updating.{IsTouched}
+use Rattle.node_pages.proofs.Updated.{applied_as, can_update}
 use Rattle.directories.proofs.applying.apply.Goals as goal
 
 pub make_update-requires-clause-touched : goal.make_update-requires-clause-touched

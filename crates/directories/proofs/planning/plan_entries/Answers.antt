@@ -1,9 +1,9 @@
 use Rattle.rio_base.proofs.Rules.{ends_by_well}
-use Rattle.file_pages.proofs.Ends.{ends_read}
+use Rattle.node_pages.proofs.Ends.{ends_read}
 use Rattle.dir_entries.proofs.EndsAs.{ends_memory}
 use Rattle.dir_entries.proofs.Common.{err_from_is_err_and}
 use Rattle.directories.proofs.PlannedRows.{entries_planned}
-use Rattle.file_pages.proofs.EndsOn.{if_err}
+use Rattle.node_pages.proofs.EndsOn.{if_err}
 use Rattle.directories.proofs.planning.plan_entries.Goals as goal
 
 pub returns-clause-ok : goal.returns-clause-ok

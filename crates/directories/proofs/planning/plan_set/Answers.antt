@@ -8,7 +8,7 @@ use Rattle.dir_entries.proofs.EndsAs.{ends_vol_read}
 use Rattle.dir_entries.proofs.CanRead.{can_read}
 use Rattle.directories.proofs.PlannedOn.{leaves_on, ready_on}
 use Rattle.directories.proofs.PlannedRows.{has_room, whole_size, dir_back, set_planned, slot_in}
-use Rattle.file_pages.proofs.EndsOn.{if_err}
+use Rattle.node_pages.proofs.EndsOn.{if_err}
 use Rattle.directories.proofs.planning.plan_set.Goals as goal
 
 pub returns-in_err-inode-clause-leaves : goal.returns-in_err-inode-clause-leaves

@@ -4,7 +4,7 @@ use Rattle.directories.specs.Contents.{sized_to, with_entry}
 use Rattle.dir_entries.specs.Plans.{PlansDir}
 use Rattle.dir_entries.proofs.EndsAs.{ends_vol_read}
 use Rattle.directories.proofs.PlannedOn.{into_back, leaves_on, moved_back, ready_on}
-use Rattle.file_pages.proofs.EndsOn.{if_err}
+use Rattle.node_pages.proofs.EndsOn.{if_err}
 use Rattle.directories.proofs.PushedEdits.{two_within}
 use Rattle.directories.proofs.PlannedRows.{PlansEntries, gap_room, last_in, plans_back, two_planned}
 use Rattle.directories.proofs.removing.plan_filled.Goals as goal

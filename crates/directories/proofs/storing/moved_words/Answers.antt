@@ -1,5 +1,5 @@
 use Rattle.std.proofs.lemmas.Result.{IfOk-weaker}
-use Rattle.file_pages.proofs.EndsOn.{if_err}
+use Rattle.node_pages.proofs.EndsOn.{if_err}
 use Rattle.dir_entries.proofs.Common.{ap, slice_index, ◌∙◌, sym, subst, IfOk, BlockWords, IsInode, placed_at, err_from_is_err_and, look_trans}
 use Rattle.rio_base.proofs.BlockRules.{ends_later}
 use Rattle.directories.specs.Contents.{GoesInto}

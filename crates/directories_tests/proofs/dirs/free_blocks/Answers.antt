@@ -1,5 +1,5 @@
 use Rattle.std.proofs.Common.{arith}
-use Rattle.file_pages.proofs.LookingUpRules.{can_look_up, looked_low}
+use Rattle.node_pages.proofs.LookingUpRules.{can_look_up, looked_low}
 use Rattle.directories_tests.proofs.PlansMade.{dirs_looked}
 use Rattle.directories_tests.proofs.dirs.free_blocks.Goals as goal
 

@@ -1,5 +1,6 @@
 use Rattle.rio_base.proofs.BlockRules.{can_name_on, ends_later}
-use Rattle.file_pages.proofs.EndsOn.{ends_vol, if_err, run_told}
+use Rattle.node_pages.proofs.EndsOn.{ends_vol, if_err}
+use Rattle.file_pages.proofs.Undone.{run_told}
 use Rattle.file_pages.proofs.Common.{◌/◌, ◌∙◌, refl, sym, ap, subst, arith, ◌then◌, err_from_is_err_and, AtPage}
 use Rattle.file_pages.proofs.Stored.{names_grown, page_can, page_low, stores_page, stores_run, stored_read}
 use Rattle.file_pages.specs.Storing.{KeepsFront}

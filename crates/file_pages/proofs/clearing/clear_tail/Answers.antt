@@ -1,9 +1,9 @@
 use Rattle.rio_base.proofs.BlockRules.{ends_later}
-use Rattle.file_pages.proofs.LookingUpRules.{can_look_up}
-use Rattle.file_pages.proofs.EndsOn.{ends_vol, if_err}
+use Rattle.node_pages.proofs.LookingUpRules.{can_look_up}
+use Rattle.node_pages.proofs.EndsOn.{ends_vol, if_err}
 use Rattle.file_pages.proofs.Common.{◌≡◌, ◌/◌, ◌%◌, true, subst, arith, ◌then◌, placed_at, volume_layout, NamedNode, BlockWords, ap, err_from_is_err_and, held, held_bytes, refl}
 use Rattle.file_pages.specs.Storing.{KeepsFront, NamedAs, TailCleared, ZerosFrom}
-use Rattle.file_pages.proofs.OrderRules.{leaves_looked, ready_left}
+use Rattle.node_pages.proofs.OrderRules.{leaves_looked, ready_left}
 use Rattle.file_pages.proofs.Stored.{bytes_front, last_page, on_both, stores_after, stores_looked}
 use Rattle.file_pages.proofs.clearing.clear_tail.Goals as goal
 

@@ -1,10 +1,11 @@
 use Rattle.rio_base.proofs.BlockRules.{shape_dropped}
 use Rattle.rio_base.proofs.BlockSets.{caches_by_drops, caches_by_trans}
 use Rattle.file_pages.proofs.Common.{Applied, caches_by_one, ends_by_after, err_from_is_err_and, firm_trans, inl, inr, refl, subst, sym, ◌then◌, ◌∙◌}
-use Rattle.file_pages.specs.Changes.{size_update}
+use Rattle.node_pages.specs.Changes.{size_update}
 use Rattle.file_pages.proofs.Prepared.{change_of, committed_done, committed_err, committed_stop}
-use Rattle.file_pages.proofs.Ends.{ends_vol_size, ends_well_ok, size_halted, unrefused_ok, unrefused_stop, unrefused_vol}
-use Rattle.file_pages.proofs.EndsOn.{if_err}
+use Rattle.node_pages.proofs.Ends.{ends_vol_size, ends_well_ok, unrefused_ok, unrefused_vol}
+use Rattle.file_pages.proofs.SizeEnds.{size_halted, unrefused_stop}
+use Rattle.node_pages.proofs.EndsOn.{if_err}
 use Rattle.file_pages.proofs.committing.commit_change.Goals as goal
 
 pub open_change-requires-clause-sound : goal.open_change-requires-clause-sound

@@ -1,8 +1,9 @@
 use Rattle.file_pages.proofs.Common.{err_from_is_err_and, firm_trans, ◌then◌, ◌∙◌, le_trans}
 use Rattle.rio_base.proofs.BlockSets.{caches_by_drops, caches_by_trans}
-use Rattle.file_pages.proofs.EndsOn.{ends_halted, ends_undone, if_err, not_fault, stop_no_fault, well_no_fault, ends_told, fault_runs}
+use Rattle.node_pages.proofs.EndsOn.{ends_halted, if_err, ends_told}
+use Rattle.file_pages.proofs.Undone.{ends_undone, not_fault, stop_no_fault, well_no_fault, fault_runs}
 use Rattle.rio_base.proofs.BlockRules.{shape_dropped, ends_later}
-use Rattle.file_pages.proofs.Updated.{shape_updated}
+use Rattle.file_pages.proofs.Touched.{shape_updated}
 use Rattle.file_pages.proofs.committing.open_change.Goals as goal
 
 pub returns-in_err-begin-clause-shape : goal.returns-in_err-begin-clause-shape

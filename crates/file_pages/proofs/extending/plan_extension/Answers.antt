@@ -1,13 +1,13 @@
 use Rattle.file_pages.proofs.GrowEnds.{file_fits}
 use Rattle.file_pages.proofs.Common.{◌-◌, ◌∙◌, ap, subst, ends_by_after, err_from_is_err_and, ◌then◌, numbers, grown, volume_layout, LeavesInUse, IsFree, arith, free_blocks, inl, length, refl, slice_index, sym, ℕ, ◌<◌, ◌≤◌}
-use Rattle.file_pages.specs.Changes.{Grows, given_node, PlansFor}
-use Rattle.file_pages.specs.LookingUp.{page_blocks}
-use Rattle.file_pages.proofs.LookingUpRules.{look_trans}
-use Rattle.file_pages.proofs.OrderRules.{leaves_looked, leaves_trans, ready_left}
-use Rattle.file_pages.proofs.Ends.{ends_size, ends_well_ok, err_handed, read_runs, size_err, size_runs, size_then, unrefused_read, unrefused_ok}
+use Rattle.node_pages.specs.Changes.{Grows, given_node, PlansFor}
+use Rattle.node_pages.specs.LookingUp.{page_blocks}
+use Rattle.node_pages.proofs.LookingUpRules.{look_trans}
+use Rattle.node_pages.proofs.OrderRules.{leaves_looked, leaves_trans, ready_left}
+use Rattle.node_pages.proofs.Ends.{ends_size, ends_well_ok, err_handed, read_runs, size_err, size_runs, size_then, unrefused_read, unrefused_ok}
 use Rattle.file_pages.proofs.Extension.{extends_made}
-use Rattle.file_pages.proofs.EndsOn.{if_err}
-use Rattle.file_pages.proofs.Planned.{taken_reach}
+use Rattle.node_pages.proofs.EndsOn.{if_err}
+use Rattle.node_pages.proofs.Planned.{taken_reach}
 use Rattle.file_pages.proofs.extending.plan_extension.Goals as goal
 
 pub returns-in_err-taken-clause-leaves : goal.returns-in_err-taken-clause-leaves

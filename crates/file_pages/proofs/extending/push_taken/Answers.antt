@@ -1,5 +1,5 @@
 use Rattle.file_pages.proofs.Common.{◌-◌, ◌∙◌, arith, numbers}
-use Rattle.file_pages.proofs.Listed.{block_next, number_at}
+use Rattle.node_pages.proofs.Listed.{block_next, number_at}
 use Rattle.file_pages.proofs.extending.push_taken.Goals as goal
 
 pub loop-p-preserved : goal.loop-p-preserved

@@ -1,5 +1,5 @@
 use Rattle.file_pages.proofs.Common.{ℕ, ◌≡◌, ◌-◌, ◌<◌, ◌≤◌, ◌++◌, slice_index, numbers, AtPage, Placed}
-use Rattle.file_pages.specs.LookingUp.{page_blocks}
+use Rattle.node_pages.specs.LookingUp.{page_blocks}
 use Rattle.file_pages.proofs.extending.push_taken.Given as goal
 
 abbrev pub invariant-loop-p : goal.invariant-loop-p

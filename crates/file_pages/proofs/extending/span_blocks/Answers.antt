@@ -1,8 +1,8 @@
-use Rattle.file_pages.proofs.EndsOn.{if_err}
-use Rattle.file_pages.proofs.Ends.{ends_read, ends_read_memory, ends_read_on, read_runs}
+use Rattle.node_pages.proofs.EndsOn.{if_err}
+use Rattle.node_pages.proofs.Ends.{ends_read, ends_read_memory, ends_read_on, read_runs}
 use Rattle.file_pages.proofs.Common.{◌-◌, ◌++◌, ◌∙◌, sym, ap, arith, slice_index, numbers, page_new, page_old, grown, placed_at, err_from_is_err_and}
-use Rattle.file_pages.specs.Changes.{given_node}
-use Rattle.file_pages.specs.LookingUp.{page_blocks}
+use Rattle.node_pages.specs.Changes.{given_node}
+use Rattle.node_pages.specs.LookingUp.{page_blocks}
 use Rattle.file_pages.proofs.Extension.{span_joined}
 use Rattle.file_pages.proofs.extending.span_blocks.Goals as goal
 

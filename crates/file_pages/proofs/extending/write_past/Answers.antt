@@ -1,16 +1,15 @@
-use Rattle.file_pages.proofs.Ends.{size_runs}
-use Rattle.file_pages.proofs.Resized.{on_any}
-use Rattle.file_pages.proofs.EndsOn.{if_err}
+use Rattle.node_pages.proofs.Ends.{size_runs}
+use Rattle.node_pages.proofs.EndsOn.{on_any, if_err}
 use Rattle.file_pages.proofs.Common.{◌+◌, ◌/◌, length, sym, subst, arith, err_from_is_err_and, ◌then◌, ends_by_after, numbers}
-use Rattle.file_pages.specs.Changes.{planned_node}
+use Rattle.node_pages.specs.Changes.{planned_node}
 use Rattle.file_pages.specs.Extending.{Extends}
-use Rattle.file_pages.proofs.OrderRules.{ready_left}
+use Rattle.node_pages.proofs.OrderRules.{ready_left}
 use Rattle.file_pages.specs.Preparing.{Prepared}
 use Rattle.file_pages.proofs.Dropped.{file_kind}
 use Rattle.file_pages.proofs.ExtensionEnds.{made_told, parts_err, planned_err, tail_err, told_unrefused}
 use Rattle.file_pages.proofs.ExtensionOpened.{Opened, holds_written, led, may_apart, may_name, may_place, opened, span_count, still_prepared}
 use Rattle.file_pages.proofs.GrowEnds.{cleared_both, file_left}
-use Rattle.file_pages.proofs.Listed.{as_many}
+use Rattle.node_pages.proofs.Listed.{as_many}
 use Rattle.file_pages.proofs.Prepared.{prepared_can}
 use Rattle.file_pages.proofs.Written.{ends_told_after, ends_write, bytes_unrefused, ends_write_size, ends_write_vol, refused_size, vol_unrefused, bytes_runs}
 use Rattle.file_pages.proofs.extending.write_past.Goals as goal

@@ -1,9 +1,9 @@
-use Rattle.file_pages.proofs.Ends.{well_err}
-use Rattle.file_pages.proofs.EndsOn.{halts_later, halts_ok, halts_on, if_err}
+use Rattle.file_pages.proofs.SizeEnds.{well_err}
+use Rattle.node_pages.proofs.EndsOn.{halts_later, halts_ok, halts_on, if_err}
 use Rattle.file_pages.proofs.Common.{◌≡◌, ◌<◌, ◌≤◌, Err, false, length, ap, sym, subst, ◌∙◌, le_trans, arith, Contains, goes_trans, numbers, err_from_is_err_and}
-use Rattle.file_pages.proofs.Forgotten.{forgotten_all, forgotten_more}
-use Rattle.file_pages.proofs.Listed.{as_many, block_place, number_at, listed}
-use Rattle.file_pages.proofs.Staged.{beside_drops, beside_trans, beside_wider}
+use Rattle.node_pages.proofs.Forgotten.{forgotten_all, forgotten_more}
+use Rattle.node_pages.proofs.Listed.{as_many, block_place, number_at, listed}
+use Rattle.node_pages.proofs.Staged.{beside_drops, beside_trans, beside_wider}
 use Rattle.file_pages.proofs.forgetting.forget_all.Goals as goal
 
 pub forget-requires-clause-place : goal.forget-requires-clause-place

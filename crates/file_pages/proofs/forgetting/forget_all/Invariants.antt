@@ -1,5 +1,5 @@
 use Rattle.file_pages.proofs.Common.{◌≡◌, ◌<◌, ◌≤◌, ℕ, false, slice_index, Contains, Goes, numbers}
-use Rattle.file_pages.specs.Staging.{Beside}
+use Rattle.node_pages.specs.Staging.{Beside}
 use Rattle.file_pages.proofs.forgetting.forget_all.Given as goal
 
 abbrev pub invariant-loop-t : goal.invariant-loop-t

@@ -1,6 +1,6 @@
 use Rattle.file_pages.specs.Spans.{SpanNamed}
 use Rattle.file_pages.proofs.Common.{◌≡◌, length, numbers, refl, arith, volume_layout, err_from_is_err_and, subst, sym}
-use Rattle.file_pages.proofs.LookingUpRules.{can_look_up, look_refl}
+use Rattle.node_pages.proofs.LookingUpRules.{can_look_up, look_refl}
 use Rattle.file_pages.proofs.Within.{IsPages, Overwrites, over_done, over_err, overwrites_of, pages_of, pages_apart, pages_named, pages_places}
 use Rattle.file_pages.proofs.Written.{ends_write, bytes_unrefused, ends_write_done, write_unrefused}
 use Rattle.file_pages.proofs.overwriting.write_pages.Goals as goal

@@ -1,9 +1,9 @@
-use Rattle.file_pages.proofs.LookingUpRules.{can_look_up}
-use Rattle.file_pages.proofs.Ends.{read_runs}
+use Rattle.node_pages.proofs.LookingUpRules.{can_look_up}
+use Rattle.node_pages.proofs.Ends.{read_runs}
 use Rattle.file_pages.proofs.Common.{◌≡◌, ◌-◌, ◌/◌, ◌≤◌, ◌∙◌, ◌∷◌, [], BlockWords, length, refl, sym, ap, arith, inl, err_from_is_err_and, ◌then◌, ends_by_after, numbers, placed_at, volume_layout, numbered_of, largest_size, LeavesInUse}
-use Rattle.file_pages.proofs.OrderRules.{leaves_looked, ready_left}
-use Rattle.file_pages.proofs.Given.{direct_page, given_most}
-use Rattle.file_pages.proofs.Listed.{as_many}
+use Rattle.node_pages.proofs.OrderRules.{leaves_looked, ready_left}
+use Rattle.node_pages.proofs.Given.{direct_page, given_most}
+use Rattle.node_pages.proofs.Listed.{as_many}
 use Rattle.file_pages.proofs.Resized.{held_file}
 use Rattle.file_pages.proofs.Within.{looked_blocks, pages_over}
 use Rattle.file_pages.proofs.Written.{none_read, ends_write_read, read_unrefused, write_after}

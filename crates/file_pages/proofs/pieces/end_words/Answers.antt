@@ -1,7 +1,7 @@
 use Rattle.file_pages.proofs.Common.{◌+◌, ◌-◌, ◌/◌, ◌<◌, ◌∙◌, BlockWords, ap, arith, err_from_is_err_and, le_trans, subst, sym}
 use Rattle.rio_base.proofs.BlockRules.{caches_trans, can_name_on, ends_later}
 use Rattle.rio_base.proofs.Rules.{looks_trans}
-use Rattle.file_pages.proofs.EndsOn.{ends_vol, ends_vol_ok, if_err}
+use Rattle.node_pages.proofs.EndsOn.{ends_vol, ends_vol_ok, if_err}
 use Rattle.file_pages.proofs.Filled.{some_left}
 use Rattle.file_pages.proofs.pieces.end_words.Goals as goal
 

@@ -1,5 +1,5 @@
-use Rattle.file_pages.proofs.Ends.{ends_vol_read, ends_read_memory, ends_read_ok}
-use Rattle.file_pages.proofs.EndsOn.{if_err}
+use Rattle.node_pages.proofs.Ends.{ends_vol_read, ends_read_memory, ends_read_ok}
+use Rattle.node_pages.proofs.EndsOn.{if_err}
 use Rattle.file_pages.proofs.Common.{◌∙◌, ◌-◌, ◌++◌, refl, ap, arith, err_from_is_err_and}
 use Rattle.file_pages.proofs.PageRead.{run_block}
 use Rattle.file_pages.proofs.reading.push_copy.Goals as goal

@@ -1,5 +1,5 @@
 use Rattle.file_pages.proofs.Common.{◌∙◌, ◌++◌, ap, arith}
-use Rattle.file_pages.proofs.PageRead.{line_run}
+use Rattle.node_pages.proofs.ByteRuns.{line_run}
 use Rattle.file_pages.proofs.reading.push_line.Goals as goal
 
 pub returns : goal.returns

@@ -1,8 +1,8 @@
-use Rattle.file_pages.proofs.Ends.{read_runs, ends_read, ends_read_ok}
+use Rattle.node_pages.proofs.Ends.{read_runs, ends_read, ends_read_ok}
 use Rattle.file_pages.proofs.Common.{◌≡◌, ◌+◌, ◌-◌, ◌*◌, ◌/◌, ◌∙◌, ◌++◌, map, sym, subst, arith, le_trans, range_with_len, BlockWords, byte_in, word_in, placed_at, volume_layout, AllNamed, IsMapped, ends_by_after, err_from_is_err_and}
-use Rattle.file_pages.proofs.LookingUpRules.{look_trans, named_on}
+use Rattle.node_pages.proofs.LookingUpRules.{look_trans, named_on}
 use Rattle.file_pages.proofs.PageRead.{bytes_next, page_at}
-use Rattle.file_pages.proofs.EndsOn.{if_err}
+use Rattle.node_pages.proofs.EndsOn.{if_err}
 use Rattle.file_pages.proofs.reading.push_pages.Goals as goal
 
 pub push_page-requires-clause-named : goal.push_page-requires-clause-named

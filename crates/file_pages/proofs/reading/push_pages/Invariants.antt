@@ -1,6 +1,6 @@
 use Rattle.file_pages.proofs.Common.{◌≡◌, ◌-◌, ◌≤◌, ◌++◌, held, placed_at}
 use Rattle.rio_model.specs.Held.{bytes_in}
-use Rattle.file_pages.specs.LookingUp.{LooksUp}
+use Rattle.node_pages.specs.LookingUp.{LooksUp}
 use Rattle.file_pages.proofs.reading.push_pages.Given as goal
 
 abbrev pub invariant-loop-at : goal.invariant-loop-at

@@ -1,8 +1,8 @@
 use Rattle.rio_base.proofs.BlockRules.{caches_trans, can_name_on}
 use Rattle.rio_base.proofs.Rules.{looks_trans}
 use Rattle.file_pages.specs.PageBytes.{block_byte}
-use Rattle.file_pages.proofs.Ends.{ends_vol_read, ends_read_memory, ends_read_ok}
-use Rattle.file_pages.proofs.EndsOn.{if_err}
+use Rattle.node_pages.proofs.Ends.{ends_vol_read, ends_read_memory, ends_read_ok}
+use Rattle.node_pages.proofs.EndsOn.{if_err}
 use Rattle.file_pages.proofs.Common.{◌∙◌, ◌-◌, ◌++◌, ap, arith, err_from_is_err_and, subst, sym, map, range_with_len, OnOk, ends_by_after, ℕ, ◌<◌, ◌≡◌}
 use Rattle.file_pages.proofs.PageRead.{run_block}
 use Rattle.file_pages.proofs.reading.push_piece.Goals as goal

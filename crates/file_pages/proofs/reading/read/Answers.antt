@@ -1,7 +1,7 @@
 use Rattle.file_pages.proofs.Common.{◌≡◌, drop, take, sym, subst, IfOk, ends_by_after, IsInode, held_of, volume_layout, AllNamed, IsMapped}
 use Rattle.rio_base.proofs.Rules.{looks_trans}
 use Rattle.file_pages.specs.Files.{file_bytes}
-use Rattle.file_pages.proofs.LookingUpRules.{named_on}
+use Rattle.node_pages.proofs.LookingUpRules.{named_on}
 use Rattle.file_pages.proofs.reading.read.Goals as goal
 
 pub returns-in_err-inode-clause-named : goal.returns-in_err-inode-clause-named

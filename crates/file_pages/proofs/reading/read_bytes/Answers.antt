@@ -1,9 +1,9 @@
-use Rattle.file_pages.proofs.EndsOn.{if_err}
-use Rattle.file_pages.proofs.Ends.{ends_read, ends_read_ok, read_runs, read_still, read_still_memory}
+use Rattle.node_pages.proofs.EndsOn.{if_err}
+use Rattle.node_pages.proofs.Ends.{ends_read, ends_read_ok, read_runs, read_still, read_still_memory}
 use Rattle.file_pages.proofs.Common.{◌≡◌, ◌/◌, ◌∙◌, length, sym, ap, subst, arith, inl, placed_at, volume_layout, AllNamed, numbers, err_from_is_err_and, ends_by_after, le_trans, IsMapped}
-use Rattle.file_pages.specs.LookingUp.{page_blocks}
-use Rattle.file_pages.proofs.LookingUpRules.{look_trans, named_on, can_look_up, look_refl}
-use Rattle.file_pages.proofs.Given.{direct_page}
+use Rattle.node_pages.specs.LookingUp.{page_blocks}
+use Rattle.node_pages.proofs.LookingUpRules.{look_trans, named_on, can_look_up, look_refl}
+use Rattle.node_pages.proofs.Given.{direct_page}
 use Rattle.file_pages.proofs.PageRead.{many_blocks}
 use Rattle.file_pages.proofs.reading.read_bytes.Goals as goal
 

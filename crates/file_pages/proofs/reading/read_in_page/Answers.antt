@@ -1,7 +1,7 @@
 use Rattle.file_pages.proofs.Common.{arith, err_from_is_err_and}
-use Rattle.file_pages.proofs.Ends.{ends_read, ends_read_on, read_still_memory}
-use Rattle.file_pages.proofs.EndsOn.{if_err}
-use Rattle.file_pages.proofs.LookingUpRules.{can_look_up, look_refl}
+use Rattle.node_pages.proofs.Ends.{ends_read, ends_read_on, read_still_memory}
+use Rattle.node_pages.proofs.EndsOn.{if_err}
+use Rattle.node_pages.proofs.LookingUpRules.{can_look_up, look_refl}
 use Rattle.file_pages.proofs.reading.read_in_page.Goals as goal
 
 pub push_page-requires-clause-sound : goal.push_page-requires-clause-sound

@@ -1,6 +1,6 @@
-use Rattle.file_pages.proofs.PlannedSize.{if_ok_map}
+use Rattle.node_pages.proofs.PlannedSize.{if_ok_map}
 use Rattle.file_pages.proofs.Common.{◌∙◌, drop, take, sym, ap, arith, byte_in, word_in, placed_at}
-use Rattle.file_pages.proofs.LookingUpRules.{named_on}
+use Rattle.node_pages.proofs.LookingUpRules.{named_on}
 use Rattle.file_pages.proofs.PageRead.{read_value}
 use Rattle.file_pages.proofs.Left.{bytes_sized, file_node}
 use Rattle.file_pages.proofs.Resized.{file_ino, file_placed}

@@ -1,16 +1,16 @@
-use Rattle.file_pages.proofs.Resized.{on_any}
-use Rattle.file_pages.proofs.EndsOn.{if_err, on_ok}
+use Rattle.node_pages.proofs.EndsOn.{on_any, if_err, on_ok}
 use Rattle.file_pages.proofs.Common.{◌<◌, ◌∙◌, ℕ, length, subst, arith, inl, inr, err_from_is_err_and, ◌then◌, numbers, volume_layout, LeavesInUse, free_blocks, ends_by_after, IsFree, slice_index, sym}
 use Rattle.rio_model.proofs.PlacedRules.{layout_refl}
-use Rattle.file_pages.specs.Changes.{Grows, planned_node, PlansFor}
+use Rattle.node_pages.specs.Changes.{Grows, planned_node, PlansFor}
 use Rattle.file_pages.specs.Files.{SetsBoth, file_bytes}
-use Rattle.file_pages.proofs.OrderRules.{leaves_looked, leaves_trans, ready_left}
+use Rattle.node_pages.proofs.OrderRules.{leaves_looked, leaves_trans, ready_left}
 use Rattle.file_pages.specs.Preparing.{Prepared}
 use Rattle.file_pages.proofs.Dropped.{file_kind}
-use Rattle.file_pages.proofs.Ends.{err_handed, size_err, unrefused_err, size_then, ends_vol_size, unrefused_vol}
-use Rattle.file_pages.specs.declared.failures.SizeFail.TheVariants.{NoSpace, TooLarge}
+use Rattle.node_pages.proofs.Ends.{err_handed, size_err, size_then, ends_vol_size, unrefused_vol}
+use Rattle.file_pages.proofs.SizeEnds.{unrefused_err}
+use Rattle.node_pages.specs.declared.failures.SizeFail.TheVariants.{NoSpace, TooLarge}
 use Rattle.file_pages.proofs.Extended.{grow_new, grow_old, grow_prepared}
-use Rattle.file_pages.proofs.Forgotten.{grown_frees, prepared_forgets}
+use Rattle.file_pages.proofs.LostBlocks.{grown_frees, prepared_forgets}
 use Rattle.file_pages.proofs.GrowEnds.{cleared_both, cleared_err, has_space, file_left, file_fits}
 use Rattle.file_pages.proofs.Prepared.{leaves_err, prepared_can, made_all}
 use Rattle.file_pages.proofs.resizing.grow.Goals as goal

@@ -1,13 +1,13 @@
 use Rattle.rio_base.specs.Rules.{goes_refl}
-use Rattle.file_pages.proofs.Ends.{ends_vol_size, refused_still, unrefused_vol}
-use Rattle.file_pages.proofs.EndsOn.{if_err}
-use Rattle.file_pages.proofs.LookingUpRules.{can_look_up}
-use Rattle.file_pages.proofs.OrderRules.{leaves_looked, leaves_refl, leaves_trans, ready_left}
+use Rattle.node_pages.proofs.Ends.{ends_vol_size, refused_still, unrefused_vol}
+use Rattle.node_pages.proofs.EndsOn.{if_err}
+use Rattle.node_pages.proofs.LookingUpRules.{can_look_up}
+use Rattle.node_pages.proofs.OrderRules.{leaves_looked, leaves_refl, leaves_trans, ready_left}
 use Rattle.file_pages.proofs.Prepared.{leaves_err}
 use Rattle.file_pages.proofs.Common.{◌≡◌, ◌<◌, ◌≤◌, length, sym, subst, arith, inr, OnOk, err_from_is_err_and, free_blocks, ◌then◌, ends_by_after, IsInode, held_of, largest_size, resized, volume_layout, LeavesInUse}
-use Rattle.file_pages.specs.Changes.{wanted_blocks}
+use Rattle.node_pages.specs.Changes.{wanted_blocks}
 use Rattle.file_pages.specs.Files.{HasSpace, ResizeStops, SetsBoth, StopsAs, file_bytes}
-use Rattle.file_pages.specs.Forgetting.{Forgets}
+use Rattle.node_pages.specs.Forgetting.{Forgets}
 use Rattle.file_pages.proofs.Resized.{file_ino, size_fault, size_stopped}
 use Rattle.file_pages.proofs.resizing.resize.Goals as goal
 

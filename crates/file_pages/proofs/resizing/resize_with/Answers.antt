@@ -1,8 +1,8 @@
 use Rattle.rio_base.specs.Rules.{goes_refl}
-use Rattle.file_pages.proofs.Ends.{refused_still}
-use Rattle.file_pages.proofs.OrderRules.{leaves_refl}
+use Rattle.node_pages.proofs.Ends.{refused_still}
+use Rattle.node_pages.proofs.OrderRules.{leaves_refl}
 use Rattle.file_pages.proofs.Common.{◌≡◌, ◌<◌, ◌⊎◌, length, sym, subst, arith, OnOk, free_blocks, IsIno, placed_at, volume_layout, LeavesInUse, inr}
-use Rattle.file_pages.specs.Changes.{wanted_blocks}
+use Rattle.node_pages.specs.Changes.{wanted_blocks}
 use Rattle.file_pages.specs.Files.{HasSpace, file_bytes}
 use Rattle.file_pages.proofs.Resized.{file_ino, file_placed, file_size, size_fault, size_ok, size_ready, size_refused, size_stopped}
 use Rattle.file_pages.proofs.resizing.resize_with.Goals as goal

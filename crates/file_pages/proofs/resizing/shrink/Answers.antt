@@ -1,14 +1,15 @@
-use Rattle.file_pages.proofs.EndsOn.{if_err, on_ok}
+use Rattle.node_pages.proofs.EndsOn.{if_err, on_ok}
 use Rattle.file_pages.proofs.Common.{◌∙◌, ℕ, sym, subst, arith, inl, Contains, err_from_is_err_and, ◌then◌, numbers, volume_layout, LeavesInUse}
-use Rattle.file_pages.specs.Changes.{planned_node}
-use Rattle.file_pages.specs.Forgetting.{Uncached}
-use Rattle.file_pages.proofs.OrderRules.{leaves_beside, leaves_looked, ready_left}
-use Rattle.file_pages.proofs.LookingUpRules.{can_look_up}
+use Rattle.node_pages.specs.Changes.{planned_node}
+use Rattle.node_pages.specs.Forgetting.{Uncached}
+use Rattle.node_pages.proofs.OrderRules.{leaves_beside, leaves_looked, ready_left}
+use Rattle.node_pages.proofs.LookingUpRules.{can_look_up}
 use Rattle.file_pages.specs.Preparing.{Prepared}
 use Rattle.file_pages.proofs.Dropped.{dropped_all, file_fits, file_kind, freed_free, freed_place, new_bytes, old_bytes}
-use Rattle.file_pages.proofs.Ends.{size_err, size_halts, size_then, unrefused_err, unrefused_stops}
+use Rattle.node_pages.proofs.Ends.{size_err, size_then}
+use Rattle.file_pages.proofs.SizeEnds.{size_halts, unrefused_err, unrefused_stops}
 use Rattle.file_pages.proofs.Extended.{layout_left}
-use Rattle.file_pages.proofs.Forgotten.{prepared_forgets}
+use Rattle.file_pages.proofs.LostBlocks.{prepared_forgets}
 use Rattle.file_pages.proofs.Prepared.{leaves_err, made_err, made_ok, prepared_can, shrink_prepared}
 use Rattle.file_pages.proofs.resizing.shrink.Goals as goal
 

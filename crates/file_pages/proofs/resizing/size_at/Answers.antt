@@ -1,8 +1,9 @@
 use Rattle.file_pages.proofs.Common.{◌<◌, ◌≤◌, ◌∙◌, ℕ, ◌⊎◌, length, sym, subst, arith, inl, OnOk, free_blocks, placed_at, volume_layout, numbered_of, largest_size, LeavesInUse}
-use Rattle.file_pages.specs.Changes.{wanted_blocks}
+use Rattle.node_pages.specs.Changes.{wanted_blocks}
 use Rattle.file_pages.specs.Files.{HasSpace}
-use Rattle.file_pages.proofs.Given.{given_most}
-use Rattle.file_pages.proofs.Resized.{on_any, space_less}
+use Rattle.node_pages.proofs.Given.{given_most}
+use Rattle.node_pages.proofs.EndsOn.{on_any}
+use Rattle.file_pages.proofs.Resized.{space_less}
 use Rattle.file_pages.proofs.resizing.size_at.Goals as goal
 
 pub shrink-requires-clause-file : goal.shrink-requires-clause-file

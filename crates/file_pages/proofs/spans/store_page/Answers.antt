@@ -1,7 +1,7 @@
 use Rattle.file_pages.proofs.Common.{◌/◌, ◌-◌, refl, arith, err_from_is_err_and, numbers}
-use Rattle.file_pages.proofs.Listed.{as_many, block_place}
+use Rattle.node_pages.proofs.Listed.{as_many, block_place}
 use Rattle.file_pages.proofs.Spanned.{beside_stored, page_at, page_in, page_named, page_piece, page_whole, span_can}
-use Rattle.file_pages.proofs.EndsOn.{if_err}
+use Rattle.node_pages.proofs.EndsOn.{if_err}
 use Rattle.file_pages.proofs.Written.{bytes_ok, bytes_runs, bytes_well, ends_bytes}
 use Rattle.file_pages.proofs.spans.store_page.Goals as goal
 

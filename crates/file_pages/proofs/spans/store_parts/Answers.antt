@@ -2,7 +2,7 @@ use Rattle.file_pages.proofs.Written.{bytes_fault, bytes_runs, bytes_stop}
 use Rattle.file_pages.proofs.Common.{◌≡◌, ◌-◌, min, arith, ap, subst, sym, ◌∙◌, Err, ◌then◌, firm_trans, ends_by_after, numbers, ℕ, ◌<◌, slice_index}
 use Rattle.file_pages.specs.Spans.{PutsLead}
 use Rattle.file_pages.proofs.Spanned.{fault_told, parts_first, parts_then, parts_whole}
-use Rattle.file_pages.proofs.Staged.{beside_trans}
+use Rattle.node_pages.proofs.Staged.{beside_trans}
 use Rattle.file_pages.proofs.spans.store_parts.Goals as goal
 
 pub returns-in-Err-Fault-clause-front : goal.returns-in-Err-Fault-clause-front

@@ -3,7 +3,7 @@ use Rattle.file_pages.proofs.Common.{◌≡◌, ◌+◌, arith, le_trans, subst,
 use Rattle.std.proofs.Common.{Fits, w64}
 use Rattle.file_pages.specs.Spans.{PutsSpan}
 use Rattle.file_pages.proofs.Spanned.{fault_told, span_more}
-use Rattle.file_pages.proofs.Staged.{beside_trans}
+use Rattle.node_pages.proofs.Staged.{beside_trans}
 use Rattle.file_pages.proofs.spans.store_span.Goals as goal
 
 pub loop-done-preserved : goal.loop-done-preserved

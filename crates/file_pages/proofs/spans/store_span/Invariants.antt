@@ -1,6 +1,6 @@
 use Rattle.file_pages.proofs.Common.{◌≡◌, ◌≤◌, ◌-◌, false, length, Contains, Firm, Goes, numbers}
 use Rattle.file_pages.specs.Spans.{PutsSpan, SpanNamed}
-use Rattle.file_pages.specs.Staging.{Beside}
+use Rattle.node_pages.specs.Staging.{Beside}
 use Rattle.file_pages.proofs.spans.store_span.Given as goal
 
 abbrev pub invariant-loop-done : goal.invariant-loop-done

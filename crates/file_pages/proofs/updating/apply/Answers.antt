@@ -1,6 +1,6 @@
 use Rattle.file_pages.proofs.Common.{subst, sym, Contains}
-use Rattle.file_pages.proofs.Touched.{bitmap_dropped, change_is_touched}
-use Rattle.file_pages.proofs.Updated.{applied_as, can_update}
+use Rattle.node_pages.proofs.Updated.{bitmap_dropped, applied_as, can_update}
+use Rattle.file_pages.proofs.Touched.{change_is_touched}
 use Rattle.file_pages.proofs.updating.apply.Goals as goal
 
 pub make_words-requires-clause-inode : goal.make_words-requires-clause-inode

@@ -1,8 +1,8 @@
-use Rattle.file_pages.proofs.Updated.{first_edited, first_place, first_touched, first_unnamed, no_edit, some_length, touched_still, unnamed_on}
-use Rattle.file_pages.proofs.EndsOn.{ends_vol, ends_vol_ok, if_err, on_ok}
+use Rattle.file_pages.proofs.Touched.{first_edited, first_place, first_touched, first_unnamed, no_edit, some_length, change_touched, touches_most}
+use Rattle.node_pages.proofs.Updated.{touched_still, unnamed_on}
+use Rattle.node_pages.proofs.EndsOn.{ends_vol, ends_vol_ok, if_err, on_ok}
 use Rattle.file_pages.proofs.Common.{sym, subst, Contains, arith, caches_by_one, firm_trans, inl, inr, le_trans, refl, ◌then◌, ◌∙◌, CanName, None, err_from_is_err_and, inode_low}
-use Rattle.file_pages.proofs.Touched.{change_touched, touches_most}
-use Rattle.file_pages.specs.Updating.{InOneBlock}
+use Rattle.file_pages.specs.Touching.{InOneBlock}
 use Rattle.rio_base.proofs.BlockSets.{caches_by_trans}
 use Rattle.rio_base.proofs.BlockRules.{ends_later, still_unnamed, metadata}
 use Rattle.rio_base.proofs.Rules.{looks_trans}

@@ -1,12 +1,12 @@
 use Rattle.file_pages.proofs.Common.{◌≡◌, ◌+◌, ◌<◌, ◌≤◌, ◌∙◌, length, sym, subst, arith, err_from_is_err_and, free_blocks, ◌then◌, ends_by_after, inr, IsInode, OnOk, held_of, largest_size, written, volume_layout, LeavesInUse}
-use Rattle.file_pages.specs.Changes.{wanted_blocks}
+use Rattle.node_pages.specs.Changes.{wanted_blocks}
 use Rattle.file_pages.specs.Files.{FaultsAfter, HasSpaceFor, SetsBoth, StopsAs, file_bytes}
 use Rattle.file_pages.specs.Writing.{WriteStops}
 use Rattle.file_pages.proofs.Resized.{file_ino}
 use Rattle.file_pages.proofs.Written.{ends_write_vol, no_length, none_both, none_vol, vol_unrefused, write_fault, write_stopped, large_fault, large_space, large_still, large_stopped, well_fault, well_refused, well_stopped, write_still, write_unrefused}
-use Rattle.file_pages.proofs.EndsOn.{if_err}
-use Rattle.file_pages.proofs.LookingUpRules.{can_look_up}
-use Rattle.file_pages.proofs.OrderRules.{leaves_looked, leaves_refl, leaves_trans, ready_left}
+use Rattle.node_pages.proofs.EndsOn.{if_err}
+use Rattle.node_pages.proofs.LookingUpRules.{can_look_up}
+use Rattle.node_pages.proofs.OrderRules.{leaves_looked, leaves_refl, leaves_trans, ready_left}
 use Rattle.rio_base.specs.Rules.{goes_refl}
 use Rattle.file_pages.proofs.writing.write.Goals as goal
 

@@ -1,12 +1,12 @@
 use Rattle.file_pages.proofs.Common.{◌≡◌, ◌+◌, ◌<◌, ◌∙◌, length, sym, subst, arith, err_from_is_err_and, free_blocks, IsIno, placed_at, inr, refl}
-use Rattle.file_pages.specs.Changes.{wanted_blocks}
+use Rattle.node_pages.specs.Changes.{wanted_blocks}
 use Rattle.file_pages.specs.Files.{HasSpace, file_bytes}
-use Rattle.file_pages.specs.declared.failures.WriteFail.TheVariants.{NoSpace, TooLarge}
+use Rattle.node_pages.specs.declared.failures.WriteFail.TheVariants.{NoSpace, TooLarge}
 use Rattle.file_pages.proofs.Resized.{file_ino, file_placed, file_size}
-use Rattle.file_pages.proofs.Updated.{some_length}
+use Rattle.file_pages.proofs.Touched.{some_length}
 use Rattle.file_pages.proofs.Written.{ends_same, ends_write_ok, leaves_same, no_length, none_both, was_err, write_fault, write_ready, write_refused, write_stopped, large_fault, large_space, large_still, large_stopped, well_fault, well_refused, well_stopped, write_still, write_unrefused}
-use Rattle.file_pages.proofs.EndsOn.{if_err}
-use Rattle.file_pages.proofs.OrderRules.{leaves_refl}
+use Rattle.node_pages.proofs.EndsOn.{if_err}
+use Rattle.node_pages.proofs.OrderRules.{leaves_refl}
 use Rattle.rio_base.specs.Rules.{goes_refl}
 use Rattle.file_pages.proofs.writing.write_with.Goals as goal
 

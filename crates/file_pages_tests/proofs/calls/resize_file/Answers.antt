@@ -1,4 +1,4 @@
-use Rattle.file_pages.specs.declared.failures.SizeFail.TheVariants.{Stopped}
+use Rattle.node_pages.specs.declared.failures.SizeFail.TheVariants.{Stopped}
 use Rattle.file_pages_tests.proofs.TestFiles.{sized_ready, written_stand}
 use Rattle.file_pages_tests.proofs.calls.resize_file.Goals as goal
 

@@ -1,4 +1,4 @@
-use Rattle.file_pages.specs.declared.failures.SizeFail.TheVariants.{Stopped}
+use Rattle.node_pages.specs.declared.failures.SizeFail.TheVariants.{Stopped}
 use Rattle.file_pages_tests.proofs.TestFiles.{on_answered}
 use Rattle.file_pages_tests.proofs.calls.set_size.Goals as goal
 

@@ -1,4 +1,4 @@
-use Rattle.file_pages.specs.declared.failures.WriteFail.TheVariants.{Stopped}
+use Rattle.node_pages.specs.declared.failures.WriteFail.TheVariants.{Stopped}
 use Rattle.file_pages_tests.proofs.TestFiles.{written_ready, written_stand}
 use Rattle.file_pages_tests.proofs.calls.write_file.Goals as goal
 

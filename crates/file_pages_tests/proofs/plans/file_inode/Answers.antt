@@ -2,7 +2,7 @@ use Rattle.std.proofs.Common.{sym, subst}
 use Rattle.std.specs.Prelude.{IfOk}
 use Rattle.rio_base.specs.Blocks.{BlockWords}
 use Rattle.inode_table.specs.Inodes.{IsInode}
-use Rattle.file_pages.proofs.LookingUpRules.{can_look_up, looked_inode}
+use Rattle.node_pages.proofs.LookingUpRules.{can_look_up, looked_inode}
 use Rattle.file_pages_tests.proofs.TestFiles.{files_looked, inode_is_file, test_ino, test_kind}
 use Rattle.file_pages_tests.proofs.plans.file_inode.Goals as goal
 

@@ -1,5 +1,5 @@
 use Rattle.std.proofs.Common.{arith}
-use Rattle.file_pages.proofs.LookingUpRules.{can_look_up, looked_low}
+use Rattle.node_pages.proofs.LookingUpRules.{can_look_up, looked_low}
 use Rattle.file_pages_tests.proofs.TestFiles.{files_looked}
 use Rattle.file_pages_tests.proofs.volumes.used_count.Goals as goal
 

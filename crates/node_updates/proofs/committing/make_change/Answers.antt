@@ -1,6 +1,6 @@
 use Rattle.file_ends.proofs.Common.{subst, sym}
 use Rattle.std.specs.List.{Contains}
-use Rattle.file_pages.proofs.Updated.{applied_as, can_update}
+use Rattle.node_pages.proofs.Updated.{applied_as, can_update}
 use Rattle.node_updates.proofs.Several.{bitmap_dropped, change_is_touched}
 use Rattle.node_updates.proofs.committing.make_change.Goals as goal
 

@@ -4,7 +4,7 @@ use Rattle.rio_base.proofs.BlockRules.{caches_refl}
 use Rattle.dir_entries.proofs.EndsAs.{ends_err, ends_ok}
 use Rattle.file_ends.proofs.Failed.{never_ok}
 use Rattle.file_ends.proofs.Common.{arith, err_from_is_err_and, goes_refl, inr, le_refl, refl}
-use Rattle.file_pages.proofs.Updated.{touched_now}
+use Rattle.node_pages.proofs.Updated.{touched_now}
 use Rattle.node_updates.proofs.Several.{touches_most}
 use Rattle.node_updates.proofs.committing.touch_bitmap.Goals as goal
 

@@ -5,7 +5,7 @@ use Rattle.file_ends.proofs.Common.{◌<◌, ◌∙◌, le_refl, le_trans, refl,
 use Rattle.rio_base.proofs.BlockSets.{caches_by_refl}
 use Rattle.rio_base.specs.Rules.{firm_refl}
 use Rattle.rio_base.proofs.Rules.{looks_refl}
-use Rattle.file_pages.proofs.Updated.{can_touch, touched_still}
+use Rattle.node_pages.proofs.Updated.{can_touch, touched_still}
 use Rattle.node_updates.proofs.Several.{all_touched, caches_edit, edit_in_three, edit_place, edit_was_unnamed, edits_next, edits_unnamed, three_most, three_room, touches_three}
 use Rattle.node_updates.proofs.committing.touch_edits.Goals as goal
 

@@ -1,6 +1,6 @@
 use Rattle.file_ends.proofs.Common.{◌≡◌, ◌+◌, ◌<◌, ◌≤◌, ℕ, None, true, slice_index, CachesBy, Looks, Firm, Goes}
 use Rattle.dir_entries.specs.Plans.{InThreeBlocks}
-use Rattle.file_pages.specs.Updating.{IsEdited}
+use Rattle.node_pages.specs.Updating.{IsEdited}
 use Rattle.node_updates.specs.Changes.{edited_blocks}
 use Rattle.node_updates.proofs.Several.{three_touched}
 use Rattle.node_updates.proofs.committing.touch_edits.Given as goal

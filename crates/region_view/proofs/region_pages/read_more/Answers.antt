@@ -1,5 +1,5 @@
 use Rattle.region_view.proofs.Common.{err_from_is_err_and}
-use Rattle.file_pages.proofs.EndsOn.{ends_vol, ends_vol_ok, if_err}
+use Rattle.node_pages.proofs.EndsOn.{ends_vol, ends_vol_ok, if_err}
 use Rattle.region_view.proofs.RegionParts.{read_end, read_place, read_some, read_within, words_then, written_length}
 use Rattle.region_view.proofs.region_pages.read_more.Goals as goal
 

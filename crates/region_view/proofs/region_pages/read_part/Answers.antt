@@ -1,5 +1,5 @@
 use Rattle.region_view.proofs.Common.{refl, ◌∙◌, err_from_is_err_and}
-use Rattle.file_pages.proofs.EndsOn.{ends_vol, if_err}
+use Rattle.node_pages.proofs.EndsOn.{ends_vol, if_err}
 use Rattle.rio_base.proofs.BlockRules.{ends_later}
 use Rattle.region_view.proofs.WordsRead.{first_within, run_span, words_read}
 use Rattle.region_view.proofs.RegionPlaces.{can_name, can_page}

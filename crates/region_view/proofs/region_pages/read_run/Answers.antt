@@ -1,5 +1,5 @@
 use Rattle.region_view.proofs.Common.{◌≡◌, ◌≤◌, ◌∙◌, arith, err_from_is_err_and, le_refl, le_trans, refl, subst, sym, held_of, IsInode}
-use Rattle.file_pages.proofs.EndsOn.{ends_vol, ends_vol_ok, if_err}
+use Rattle.node_pages.proofs.EndsOn.{ends_vol, ends_vol_ok, if_err}
 use Rattle.rio_base.specs.Regions.{AreWords}
 use Rattle.rio_base.proofs.BlockRules.{ends_later}
 use Rattle.region_view.proofs.WordsRead.{no_words, place_on, words_as}

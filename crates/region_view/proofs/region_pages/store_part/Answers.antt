@@ -1,5 +1,5 @@
 use Rattle.region_view.proofs.Common.{length, le_refl, refl, arith, ◌then◌}
-use Rattle.file_pages.proofs.EndsOn.{ends_told}
+use Rattle.node_pages.proofs.EndsOn.{ends_told}
 use Rattle.rio_base.proofs.BlockRules.{ends_later}
 use Rattle.rio_model.proofs.RegionMoves.{rest_same}
 use Rattle.region_view.proofs.WordsRead.{first_within, run_span}

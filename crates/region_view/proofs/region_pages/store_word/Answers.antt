@@ -1,5 +1,5 @@
 use Rattle.region_view.proofs.Common.{arith, inl, refl, ◌∙◌, ◌then◌, err_from_is_err_and}
-use Rattle.file_pages.proofs.EndsOn.{ends_vol, if_err}
+use Rattle.node_pages.proofs.EndsOn.{ends_vol, if_err}
 use Rattle.rio_base.proofs.BlockRules.{ends_later}
 use Rattle.rio_model.proofs.RegionMoves.{rest_same}
 use Rattle.region_view.proofs.RegionPlaces.{can_name, ready_read, reads_ready, one_either, one_put, one_same_but, page_below, page_done, rest_by, still_word}

@@ -2,7 +2,7 @@ use Rattle.region_view.proofs.Common.{◌≡◌, ℕ, ◌+◌, ◌<◌, ◌∙�
 use Rattle.region_view.proofs.Views.{inode_still}
 use Rattle.rio_model.specs.RegionMoves.{rest_refl, rest_trans}
 use Rattle.rio_base.specs.Rules.{goes_refl}
-use Rattle.file_pages.proofs.EndsOn.{ends_vol_ok}
+use Rattle.node_pages.proofs.EndsOn.{ends_vol_ok}
 use Rattle.region_view.proofs.RegionParts.{front_rest, put_all, put_none, put_rest, rest_length, rest_place, rest_some, rest_told}
 use Rattle.region_view.proofs.RunEnds.{ends_fault, ends_stop, fault_told}
 use Rattle.region_view.proofs.region_pages.store_words.Goals as goal

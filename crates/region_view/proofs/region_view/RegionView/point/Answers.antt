@@ -1,5 +1,5 @@
 use Rattle.region_view.proofs.Common.{err_from_is_err_and, refl, subst, sym, IsInode}
-use Rattle.file_pages.proofs.EndsOn.{ends_vol, ends_vol_ok, if_err}
+use Rattle.node_pages.proofs.EndsOn.{ends_vol, ends_vol_ok, if_err}
 use Rattle.region_view.proofs.RunEnds.{on_err}
 use Rattle.region_view.proofs.RegionStood.{few_bytes, on_region}
 use Rattle.region_view.proofs.region_view.RegionView.point.Goals as goal

@@ -1,7 +1,0 @@
-use Rattle.file_pages.proofs.Common.{ℕ, ◌≢◌, ◌<◌, slice_index, numbers}
-use Rattle.file_pages.proofs.taking.is_among.Given as goal
-
-abbrev pub invariant-loop-k : goal.invariant-loop-k
-invariant-loop-k l = record {
-  none : (q : ℕ) → q < l.k → slice_index (numbers l.blocks) q ≢ l.b.0;
-}

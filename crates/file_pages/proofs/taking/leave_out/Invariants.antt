@@ -1,9 +1,0 @@
-use Rattle.file_pages.proofs.Common.{◌≡◌, ◌≤◌, length, not, take, filter, numbers}
-use Rattle.file_pages.specs.Changes.{is_among}
-use Rattle.file_pages.proofs.taking.leave_out.Given as goal
-
-abbrev pub invariant-loop-t : goal.invariant-loop-t
-invariant-loop-t l = record {
-  until : l.t ≤ length l.blocks;
-  left : numbers l.left.items ≡ take l.n (filter (λ b. not (is_among (numbers l.skip) b)) (take l.t (numbers l.blocks)));
-}

@@ -1,0 +1,83 @@
+use Rattle.node_pages.proofs.LookingUpRules.{look_refl}
+use Rattle.node_pages.proofs.EndsOn.{ends_vol, ends_vol_ok, if_err, vol_still}
+use Rattle.node_pages.proofs.Common.{ℕ, ◌-◌, ◌/◌, ◌∙◌, ap, arith, AtPage, AtTable, first_table, pages, err_from_is_err_and}
+use Rattle.rio_base.specs.Layout.{half}
+use Rattle.node_pages.specs.Changes.{given_node}
+use Rattle.node_pages.proofs.Given.{given_of}
+use Rattle.node_pages.proofs.Looked.{later_value}
+use Rattle.node_pages.proofs.planning.last_number.Goals as goal
+
+pub table_word-requires-clause-table : goal.table_word-requires-clause-table
+table_word-requires-clause-table g c =
+    let f = (g.V.Blocks.seen c.args.v.now).words in
+    let i = c.args.i.0 in
+    let given = c.args.inode.now in
+    let all = given_of f i given c.requires.inode in
+    let many = c.if-have-le-DIRECT_PAGES.false in
+    let is = c.page_count-have.ensures.pages in
+    all.indirect 0 (first_table (given_node f i given) (c.page_count-have.result - 1) (record { used = all.used; within = (omega (arith, many, is)) }) (omega (arith, many)))
+
+pub table_word-requires-clause-owns : goal.table_word-requires-clause-owns
+table_word-requires-clause-owns g c =
+    let f = (g.V.Blocks.seen c.args.v.now).words in
+    let i = c.args.i.0 in
+    let given = c.args.inode.now in
+    let all = given_of f i given c.requires.inode in
+    let many = c.if-have-le-DIRECT_PAGES.false in
+    let is = c.page_count-have.ensures.pages in
+    record { ino = c.requires.ino; slot = all.back (AtTable 0) (first_table (given_node f i given) (c.page_count-have.result - 1) (record { used = all.used; within = (omega (arith, many, is)) }) (omega (arith, many))) }
+
+pub returns-clause-value : goal.returns-clause-value
+returns-clause-value g c = λ many odd.
+    let f = (g.V.Blocks.seen c.args.v.now).words in
+    let i = c.args.i.0 in
+    let given = c.args.inode.now in
+    let all = given_of f i given c.requires.inode in
+    let is = c.page_count-have.ensures.pages in
+    let last = pages given.size - 1 in
+    later_value f i last c.in_ok-word.word _ ((c.page_count-have.result - 1 - 24) / 2) (omega (arith, many)) (all.back (AtPage last) (record { used = all.used; within = (omega (arith, many)) })) (omega (arith, is)) c.in_ok-word.ensures.value (c.number_in.ensures ∙ ap (λ (h : ℕ). half c.in_ok-word.word (h - 1)) is)
+
+pub table_word-requires-clause-can : goal.table_word-requires-clause-can
+table_word-requires-clause-can g c = c.requires.can
+
+pub table_word-requires-clause-sound : goal.table_word-requires-clause-sound
+table_word-requires-clause-sound g c = c.requires.sound
+
+pub returns-clause-ends : goal.returns-clause-ends
+returns-clause-ends g c = ends_vol_ok _ _ _ c.table_word.ensures.ends.later c.in_ok-word.ensures.ends.cause
+
+pub returns-clause-looks : goal.returns-clause-looks
+returns-clause-looks g c = c.table_word.ensures.looks
+
+pub returns-clause-passes : goal.returns-clause-passes
+returns-clause-passes g c = c.table_word.ensures.passes
+
+pub returns-clause-sound : goal.returns-clause-sound
+returns-clause-sound g c = c.table_word.ensures.sound
+
+pub returns-in_err-word-clause-ends : goal.returns-in_err-word-clause-ends
+returns-in_err-word-clause-ends g c = let p = err_from_is_err_and c.from_residual.result c.from_residual.ensures.1 in ends_vol _ _ c.table_word.result c.from_residual.result _ p.0 c.in_err-word.was p.1 p.2 c.table_word.ensures.ends
+
+pub returns-in_err-word-clause-looks : goal.returns-in_err-word-clause-looks
+returns-in_err-word-clause-looks g c = c.table_word.ensures.looks
+
+pub returns-in_err-word-clause-passes : goal.returns-in_err-word-clause-passes
+returns-in_err-word-clause-passes g c = c.table_word.ensures.passes
+
+pub returns-in_err-word-clause-sound : goal.returns-in_err-word-clause-sound
+returns-in_err-word-clause-sound g c = c.table_word.ensures.sound
+
+pub returns-in_err-word-clause-value : goal.returns-in_err-word-clause-value
+returns-in_err-word-clause-value g c = if_err c.from_residual.result _ c.from_residual.ensures.0
+
+pub returns-then-have-le-DIRECT_PAGES-clause-ends : goal.returns-then-have-le-DIRECT_PAGES-clause-ends
+returns-then-have-le-DIRECT_PAGES-clause-ends g c = vol_still _ _
+
+pub returns-then-have-le-DIRECT_PAGES-clause-looks : goal.returns-then-have-le-DIRECT_PAGES-clause-looks
+returns-then-have-le-DIRECT_PAGES-clause-looks g c = look_refl c.args.shape.now _ c.requires.can
+
+pub returns-then-have-le-DIRECT_PAGES-clause-passes : goal.returns-then-have-le-DIRECT_PAGES-clause-passes
+returns-then-have-le-DIRECT_PAGES-clause-passes g c = g.met.V.Blocks.passes_refl _
+
+pub returns-then-have-le-DIRECT_PAGES-clause-sound : goal.returns-then-have-le-DIRECT_PAGES-clause-sound
+returns-then-have-le-DIRECT_PAGES-clause-sound g c = c.requires.sound
