@@ -7,7 +7,7 @@ use Rattle.rio_base.specs.declared.failures.VolFail.{VolFail}
 use Rattle.rio_base.specs.declared.failures.VolFail.TheVariants.{Fault as DiskFault, Stopped as MachineStopped}
 use Rattle.rio_base.specs.Rules.{true_false}
 use Rattle.rio_base.proofs.BlockRules.{ends_later}
-use Rattle.rio_base.proofs.Rules.{rose_later}
+use Rattle.rio_base.proofs.Rules.{ends_by_well, rose_later}
 use Rattle.block_alloc.specs.Bitmap.{handed}
 use Rattle.block_alloc.specs.declared.taking.TakeFail.{TakeFail}
 use Rattle.block_alloc.specs.declared.taking.TakeFail.TheVariants.{Fault, Memory, NoSpace, Stopped}
@@ -27,17 +27,14 @@ same_update s t a b k l h = record { updating = h.updating; touched = h.touched;
 
 -- ---- blocks that are taken
 
-quiet : (s t : Health) (fault stop : Type 0) → s.faults ≤ t.faults → t.stopped ≡ s.stopped → (fault → ⊥) → (stop → ⊥) → EndsBy s t fault stop
-quiet s t fault stop later running none on = record { later = later; stays = λ e. running ∙ e; cause = λ f. absurd (none f); told = λ e. absurd (on e); runs = λ n. running }
-
 pub ends_none : {T : Type 0} (s t : Health) → s.faults ≤ t.faults → t.stopped ≡ s.stopped → EndsBy s t (IsErrOf {T = T} (Err NoSpace) Fault) (IsErrOf {T = T} (Err NoSpace) Stopped)
-ends_none s t later running = quiet s t _ _ later running (λ e. cc) (λ e. cc)
+ends_none s t later running = ends_by_well s t _ _ later running (λ e. cc) (λ e. cc)
 
 pub ends_well : {T : Type 0} (s t : Health) (x : T) → s.faults ≤ t.faults → t.stopped ≡ s.stopped → EndsBy s t (IsErrOf (Ok x) Fault) (IsErrOf (Ok x) Stopped)
-ends_well s t x later running = quiet s t _ _ later running (λ e. cc) (λ e. cc)
+ends_well s t x later running = ends_by_well s t _ _ later running (λ e. cc) (λ e. cc)
 
 pub ends_memory : {T : Type 0} (s m t : Health) (q : Result T TakeFail) (d : TakeFail) → q ≡ Err d → d ≡ Memory → s.faults ≤ m.faults → m.stopped ≡ s.stopped → m.faults ≤ t.faults → t.stopped ≡ m.stopped → EndsBy s t (IsErrOf q Fault) (IsErrOf q Stopped)
-ends_memory {T = T} s m t q d is same later running more on = subst (λ (r : Result T TakeFail). EndsBy s t (IsErrOf r Fault) (IsErrOf r Stopped)) (sym (is ∙ ap Err same)) (quiet s t _ _ (le_trans later more) (on ∙ running) (λ e. cc) (λ e. cc))
+ends_memory {T = T} s m t q d is same later running more on = subst (λ (r : Result T TakeFail). EndsBy s t (IsErrOf r Fault) (IsErrOf r Stopped)) (sym (is ∙ ap Err same)) (ends_by_well s t _ _ (le_trans later more) (on ∙ running) (λ e. cc) (λ e. cc))
 
 handed_on : {T U : Type 0} (s m t : Health) (fail : VolFail) → s.faults ≤ m.faults → m.stopped ≡ s.stopped → Ends {T = T} m t (Err fail) → EndsBy s t (IsErrOf {T = U} (Err (handed fail)) Fault) (IsErrOf {T = U} (Err (handed fail)) Stopped)
 handed_on s m t DiskFault later running h = record { later = le_trans later h.later; stays = λ e. h.stays (running ∙ e); cause = λ f. rose_later s.faults m.faults t.faults later h.cause.0; told = λ e. cc; runs = λ n. h.cause.1 ∙ running }

@@ -1,4 +1,5 @@
-//! How a request on files ends over any volume, and why one is not done. Beside that the kinds of nodes, which refusals tell apart.
+//! How a request on files ends over any volume, and why one is not done. Beside that the kinds of nodes, which refusals
+//! tell apart.
 #![tactic(auto)]
 
 mod failures;

@@ -8,7 +8,7 @@ use Rattle.rio_base.specs.Volume.{OldOrRun}
 use Rattle.rio_model.specs.Held.{byte_of}
 use Rattle.file_pages.specs.Failures.{bytes_handed}
 use Rattle.file_pages.specs.declared.failures.BytesFail.{BytesFail}
-use Rattle.file_pages.specs.declared.failures.BytesFail.TheVariants.{Fault as BytesFault, Stopped as BytesStopped}
+use Rattle.file_pages.specs.declared.failures.BytesFail.TheVariants.{Fault as BytesFault}
 use Rattle.file_pages.specs.PageBytes.{EndsHave, PutsBytes, block_byte, bytes_stored}
 use Rattle.node_pages.specs.WordBytes.{list_byte, over}
 use Rattle.node_pages.proofs.ByteRuns.{over_out}
@@ -84,9 +84,6 @@ puts_before {T = T} f g b at bytes q e d qd de same k is =
 -- it tells fewer words than there are
 pub told_few : (T : Type 0) (w n : ℕ) (P : ℕ → Type 0) (e : RunFail) → FaultAt {T = T} (Err e) (λ n. (n < w) × P n) → e ≡ RunFault n → n < w
 told_few T w n P e fault is = (subst (λ x. FaultAt {T = T} (Err x) (λ n. (n < w) × P n)) is fault).0
-
-pub stop_untold : {T : Type 0} (k : ℕ) → IsErrOf {T = T} (Err BytesStopped) (BytesFault k) → ⊥
-stop_untold k is = cc
 
 told : {T : Type 0} (n k : ℕ) → IsErrOf {T = T} (Err (BytesFault n)) (BytesFault k) → n ≡ k
 told n k is = cc

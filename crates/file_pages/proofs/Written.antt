@@ -112,7 +112,7 @@ EndsWrite s t r = EndsBy s t ((k : ℕ) × IsErrOf r (Fault k)) (IsErrOf r Stopp
 not_fault : {T : Type 0} (k : ℕ) → IsErrOf {T = T} (Err Stopped) (Fault k) → ⊥
 not_fault k is = cc
 
-stop_told : {T : Type 0} (k : ℕ) → IsErrOf {T = T} (Err BytesStopped) (BytesFault k) → ⊥
+pub stop_told : {T : Type 0} (k : ℕ) → IsErrOf {T = T} (Err BytesStopped) (BytesFault k) → ⊥
 stop_told k is = cc
 
 write_as : {T U : Type 0} (s t : Health) (e : BytesFail) → EndsBytes {T = T} s t (Err e) → EndsWrite {T = U} s t (Err (write_of_bytes e))

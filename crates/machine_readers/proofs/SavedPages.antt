@@ -1,5 +1,5 @@
 -- What is on a machine's pages and blocks while a page is stored and saved, call by call.
-use Rattle.std.specs.Prelude.{◌≡◌, ◌≢◌, ℕ, ◌+◌, ◌*◌, ◌/◌, ◌<◌, Bool, true, false, List, length, replicate, slice_set, Option, Some, None, Result, Ok, Err, IsErr, IsErrOf, OnErr, OnOk, is_err}
+use Rattle.std.specs.Prelude.{◌≡◌, ◌≢◌, ℕ, ◌+◌, ◌*◌, ◌/◌, ◌<◌, Bool, true, false, List, length, replicate, slice_set, Option, Some, None, Result, Ok, Err, IsErrOf, OnErr, OnOk, is_err}
 use Rattle.std.proofs.Common.{arith, sym, ap, ◌∙◌}
 use Rattle.rio_base.specs.Disks.{block_at}
 use Rattle.rio_base.specs.Machine.{Contents, FaultCause, Lasts, Running, StepEnds}
@@ -18,10 +18,6 @@ was_ok (Err x) P e h = absurd (true_false e)
 pub was_err : {T E : Type 0} (r : Result T E) (P : Type 0) → is_err r ≡ true → OnErr r P → P
 was_err (Ok x) P e h = absurd (true_false (sym e))
 was_err (Err x) P e h = h
-
-pub none_on : {T E : Type 0} (r : Result T E) (P : Type 0) → IsErr r → OnOk r P
-none_on (Ok x) P bad = cc bad
-none_on (Err e) P bad = tt
 
 -- ---- the words
 

@@ -55,10 +55,6 @@ pub on_any : {T E : Type 0} (C : Type 0) (r : Result T E) → C → OnOk r C
 on_any C (Ok v) c = c
 on_any C (Err e) c = tt
 
-pub on_both : {T E : Type 0} (r : Result T E) (A B C : Type 0) → (A → B → C) → OnOk r A → OnOk r B → OnOk r C
-on_both (Ok v) A B C f h k = f h k
-on_both (Err e) A B C f h k = tt
-
 -- no call was made
 pub vol_still : {T : Type 0} (s : Health) (v : T) → Ends s s (Ok v)
 vol_still s v = ends_vol_ok s s v (omega arith) refl

@@ -1,13 +1,10 @@
 -- Calls that leave all but some blocks as they were, one after the other.
 use Rattle.node_pages.proofs.Common.{◌≡◌, ◌≢◌, ℕ, ◌+◌, ◌<◌, ◌==◌, Bool, true, false, cond, List, length, refl, sym, ap, subst, ◌∙◌, arith, inl, inr, slice_index, Option, cases_eq, nat_tests, PageName, BlockWords, Seen, CanName, Caches, Drops, caches_by_one, Kept, SameBut}
-use Rattle.rio_base.proofs.BlockSets.{caches_by_drops, caches_by_refl, caches_by_trans, caches_by_wider, firm_outside_one, firm_outside_refl, firm_outside_trans, firm_outside_wider, same_outside_one, same_outside_refl, same_outside_trans, same_outside_wider}
+use Rattle.rio_base.proofs.BlockSets.{caches_by_drops, caches_by_trans, caches_by_wider, firm_outside_one, firm_outside_trans, firm_outside_wider, same_outside_one, same_outside_trans, same_outside_wider}
 use Rattle.rio_base.specs.Blocks.{InRange}
 use Rattle.rio_base.specs.Volume.{FirmBut, cleared}
 use Rattle.node_pages.specs.Changes.{Apart}
 use Rattle.node_pages.specs.Staging.{Beside, Zeroed}
-
-pub beside_refl : (p : ℕ → Type 0) (x : Seen) (k : Kept) → Beside p x k x k
-beside_refl p x k = record { count = refl; words = same_outside_refl p x.words; standing = same_outside_refl p k.standing; firm = firm_outside_refl p k; caches = caches_by_refl _ x }
 
 pub beside_trans : (p : ℕ → Type 0) (x : Seen) (k : Kept) (y : Seen) (j : Kept) (z : Seen) (l : Kept) → Beside p x k y j → Beside p y j z l → Beside p x k z l
 beside_trans p x k y j z l h m = record {

@@ -1,16 +1,10 @@
 -- How the words of an image are parted into protected ones and those of scratch pages.
 use Rattle.std.proofs.Common.{◌≡◌, ℕ, ◌+◌, ◌*◌, ◌-◌, List, length, slice_index, sym, ap, subst, arith, length-take, length-drop}
-use Rattle.std.specs.Prelude.{Result, Ok, Err, IfOk, IsErr}
 use Rattle.std.proofs.lemmas.List.{get_or-take}
 use Rattle.rio_base.specs.Image.{AreImageSizes, registry_pages}
 use Rattle.rio_model.specs.Registry.{HasLayout}
 use Rattle.image_codec.specs.Image.{IsImage}
 use Rattle.board.specs.Boards.{protected_count, protected_of, scratch_of}
-
--- of an answer that is none nothing is owed
-pub if_err : {T E : Type 0} (r : Result T E) (P : T → Type 0) → IsErr r → IfOk r P
-if_err (Ok x) P h = cc
-if_err (Err e) P h = tt
 
 -- the sizes in its header are those of its parts
 pub image_layout : (words : List ℕ) (scratch : ℕ) → IsImage words → scratch ≡ slice_index words 3 → HasLayout (protected_of words scratch) (scratch_of words scratch)

@@ -1,5 +1,5 @@
-//! Machines in memory that are stopped and booted again. The script is the program's input, and the output has each line of it and
-//! below it, four spaces further in, what it came to:
+//! Machines in memory that are stopped and booted again. The script is the program's input, and the output has each line of
+//! it and below it, four spaces further in, what it came to:
 //!
 //! - `== TITLE`: nothing. From here on there is a fresh pair of memory and disk, 32 frames, 32 blocks and 32 inodes.
 //! - `on FRAMES BLOCKS INODES`: nothing. There is a fresh pair of these sizes.

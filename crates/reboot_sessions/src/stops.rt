@@ -1,16 +1,17 @@
 //! A request that is stopped before its steps, each time on a machine of its own, which is booted afterwards.
 //!
-//! A request of up to 20,000 steps is stopped before each of them. A longer one copies pages by 512 steps which say nothing new: it is
-//! stopped before each of its first and last 8 steps, before each step of those pieces of up to 4 in which an entry, the gate or the
-//! disk changes, and before each 256th of the others. Pieces are found by halving, so one is passed over at whose ends all of
-//! these are alike. Where blocks may be on their way to the disk, each stop is tried with the three things that the disk may make
-//! of them.
+//! A request of up to 20,000 steps is stopped before each of them. A longer one copies pages by 512 steps which say nothing
+//! new: it is stopped before each of its first and last 8 steps, before each step of those pieces of up to 4 in which an
+//! entry, the gate or the disk changes, and before each 256th of the others. Pieces are found by halving, so one is passed
+//! over at whose ends all of these are alike. Where blocks may be on their way to the disk, each stop is tried with the
+//! three things that the disk may make of them.
 //!
-//! Behind each stop the reboot is stopped too, or its calls on the disk fail in turn: before each of its steps, or before one of so
-//! many, another one behind the next stop. Behind some stops of a reboot the next one is stopped before each of its steps.
+//! Behind each stop the reboot is stopped too, or its calls on the disk fail in turn: before each of its steps, or before
+//! one of so many, another one behind the next stop. Behind some stops of a reboot the next one is stopped before each of
+//! its steps.
 //!
-//! A stop that leaves the very words that the one before it left, as one within a copy of zeros over zeros does, is counted, and is
-//! not tried again: a reboot has these words alone.
+//! A stop that leaves the very words that the one before it left, as one within a copy of zeros over zeros does, is
+//! counted, and is not tried again: a reboot has these words alone.
 
 use crate::finder::Finder;
 use crate::machines::Cut;

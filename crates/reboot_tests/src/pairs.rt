@@ -1,6 +1,6 @@
 //! Pairs of memory and disk. The image has 32 frames and one scratch page: its shadow page `s` is page `1 + s`, and its frame
-//! `k` page `18 + k`. The volume has 16 blocks and 32 inodes, so that blocks 0 to 2 are reserved; block 3 is the page of the root,
-//! which has the file `f`, inode 2, of 5,000 bytes in the blocks 4 and 5. Each word of these is 1.
+//! `k` page `18 + k`. The volume has 16 blocks and 32 inodes, so that blocks 0 to 2 are reserved; block 3 is the page of
+//! the root, which has the file `f`, inode 2, of 5,000 bytes in the blocks 4 and 5. Each word of these is 1.
 
 use image_codec::{fresh_image, fresh_volume};
 use rio_base::VolumeShape;

@@ -2,7 +2,7 @@
 use Rattle.region_view.proofs.Common.{◌≡◌, ℕ, ◌+◌, ◌*◌, ◌/◌, ◌%◌, ◌<◌, ◌≤◌, List, cond, sym, ap, subst, ◌∙◌, arith, Err, Ok, OnOk, Result, VolumeShape, BlockWords, Seen, Held, held_of, held_ino, counts_of, AtPage, placed_at, volume_layout, Owns}
 use Rattle.std.specs.Prelude.{IfOk}
 use Rattle.rio_base.specs.Blocks.{IsRun, IsSpan}
-use Rattle.rio_base.specs.Regions.{AreWords, RegionContent}
+use Rattle.rio_base.specs.Regions.{AreWords}
 use Rattle.region_view.specs.Views.{CanRead, IsWordPage}
 use Rattle.region_view.proofs.RegionHeader.{used_size}
 use Rattle.region_view.proofs.RegionPlaces.{page_below}
@@ -49,9 +49,6 @@ pub first_within : (at n size : ℕ) → 0 < n → 8 * (at + n) ≤ size → 8 *
 first_within at n size some most = omega (arith, some, most)
 
 -- ---- runs read in parts
-
-pub no_words : (f : RegionContent) (at : ℕ) (words : List ℕ) → AreWords f at 0 words
-no_words f at words = record { each = λ k less. absurd (omega (arith, less)) }
 
 -- where the words of all blocks are the same
 pub words_as : (shape : VolumeShape) (f g : BlockWords) (i at n : ℕ) (words : List ℕ) → g ≡ f → AreWords (held_of shape g i).word at n words → AreWords (held_of shape f i).word at n words

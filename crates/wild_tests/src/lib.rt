@@ -1,5 +1,5 @@
-//! Tests of wild stores on each word of a small machine, while no page is open and while each page is. They stand apart from the other
-//! tests of machines, which take long to prove.
+//! Tests of wild stores on each word of a small machine, while no page is open and while each page is. They stand apart
+//! from the other tests of machines, which take long to prove.
 #![tactic(auto)]
 
 #[cfg(test)]

@@ -1,5 +1,6 @@
+use Rattle.file_pages.proofs.Written.{stop_told}
 use Rattle.file_pages.proofs.Common.{refl, ◌then◌, ◌<◌, SameBut, ap, arith, ends_by_after, err_from_is_err_and, firm_trans, le_trans, subst, sym, ◌∙◌}
-use Rattle.file_pages.proofs.PutPieces.{makes, puts_all, puts_before, puts_front, puts_none, puts_told, stop_untold, told_few}
+use Rattle.file_pages.proofs.PutPieces.{makes, puts_all, puts_before, puts_front, puts_none, puts_told, told_few}
 use Rattle.node_pages.proofs.EndsOn.{if_err}
 use Rattle.file_pages.proofs.Written.{bytes_ok, bytes_well, ends_bytes_vol, run_fault, run_stop}
 use Rattle.rio_base.proofs.BlockRules.{can_name_on, stored_trans}
@@ -79,7 +80,7 @@ pub returns-in-Err-Stopped-clause-ok : goal.returns-in-Err-Stopped-clause-ok
 returns-in-Err-Stopped-clause-ok g c = tt
 
 pub returns-in-Err-Stopped-clause-fault : goal.returns-in-Err-Stopped-clause-fault
-returns-in-Err-Stopped-clause-fault g c = λ k is. absurd (stop_untold k is)
+returns-in-Err-Stopped-clause-fault g c = λ k is. absurd (stop_told k is)
 
 pub returns-in-Err-Stopped-clause-firm : goal.returns-in-Err-Stopped-clause-firm
 returns-in-Err-Stopped-clause-firm g c = firm_trans _ _ _ (g.met.V.Volume.passes_keeps _ _ c.end_words.ensures.passes).firm c.store_run.ensures.firm

@@ -1,10 +1,11 @@
+use Rattle.block_disk.proofs.Ends.{none_owed}
 use Rattle.std.proofs.Common.{◌∙◌, ◌*◌, IsErr, arith, inl, inr, refl, sym}
 use Rattle.std.specs.Prelude.{None, Some}
 use Rattle.rio_base.specs.Rules.{true_false}
 use Rattle.rio_base.specs.declared.failures.DiskFail.{DiskFail}
 use Rattle.rio_base.proofs.MachineRules.{ends_then, ends_told, lasts_trans, never}
 use Rattle.machine_readers.proofs.Ends.{ends_still, ends_within, lasts_within}
-use Rattle.machine_readers.proofs.SavedPages.{closed_page, fault_told, no_fault, none_on, not_ok_fault, opened_page, page_read, read_page, read_words, same_words, settled, stays_open, stop_told, stored_words, synced_disk, synced_page, synced_words, was_err, was_ok, within_more, within_now}
+use Rattle.machine_readers.proofs.SavedPages.{closed_page, fault_told, no_fault, not_ok_fault, opened_page, page_read, read_page, read_words, same_words, settled, stays_open, stop_told, stored_words, synced_disk, synced_page, synced_words, was_err, was_ok, within_more, within_now}
 use Rattle.machine_readers.proofs.saving.save.Goals as goal
 
 pub returns-in_err-write_block-clause-ends : goal.returns-in_err-write_block-clause-ends
@@ -68,13 +69,13 @@ returns-then-is_err-clause-ends g c =
     stop_told _ _ (IsErr c.store-stored.result) _ (sym c.is_err.ensures.value ∙ c.if-is_err.true) refl (ends_within _ _ _ _ (IsErr c.store-stored.result) c.open_page.ensures.run c.store-stored.ensures.ends c.close_page.ensures.run)
 
 pub returns-in_err-write_block-clause-ok : goal.returns-in_err-write_block-clause-ok
-returns-in_err-write_block-clause-ok g c = none_on c.from_residual.result _ c.from_residual.ensures.0
+returns-in_err-write_block-clause-ok g c = none_owed c.from_residual.result _ c.from_residual.ensures.0
 
 pub returns-in_err-write_block-clause-read : goal.returns-in_err-write_block-clause-read
-returns-in_err-write_block-clause-read g c = none_on c.from_residual.result _ c.from_residual.ensures.0
+returns-in_err-write_block-clause-read g c = none_owed c.from_residual.result _ c.from_residual.ensures.0
 
 pub returns-in_err-write_block-clause-settled : goal.returns-in_err-write_block-clause-settled
-returns-in_err-write_block-clause-settled g c = none_on c.from_residual.result _ c.from_residual.ensures.0
+returns-in_err-write_block-clause-settled g c = none_owed c.from_residual.result _ c.from_residual.ensures.0
 
 pub returns-in_err-write_block-clause-words : goal.returns-in_err-write_block-clause-words
 returns-in_err-write_block-clause-words g c =
@@ -100,13 +101,13 @@ returns-in_err-write_block-clause-fault g c =
     fault_told (m c.args.m.now) (m c.close_page.new.self) (m c.write_block.new.self) _ _ (grind (arith, c.from_residual.ensures)) (lasts_within (m c.args.m.now) (m c.open_page.new.self) (m c.store-stored.new.self) (m c.close_page.new.self) (Some c.args.p.0) None c.open_page.ensures.contents c.store-stored.ensures.lasts c.close_page.ensures.contents) c.in_err-write_block.ensures.fault
 
 pub returns-in_err-sync-clause-ok : goal.returns-in_err-sync-clause-ok
-returns-in_err-sync-clause-ok g c = none_on c.from_residual-in_err-sync.result _ c.from_residual-in_err-sync.ensures.0
+returns-in_err-sync-clause-ok g c = none_owed c.from_residual-in_err-sync.result _ c.from_residual-in_err-sync.ensures.0
 
 pub returns-in_err-sync-clause-read : goal.returns-in_err-sync-clause-read
-returns-in_err-sync-clause-read g c = none_on c.from_residual-in_err-sync.result _ c.from_residual-in_err-sync.ensures.0
+returns-in_err-sync-clause-read g c = none_owed c.from_residual-in_err-sync.result _ c.from_residual-in_err-sync.ensures.0
 
 pub returns-in_err-sync-clause-settled : goal.returns-in_err-sync-clause-settled
-returns-in_err-sync-clause-settled g c = none_on c.from_residual-in_err-sync.result _ c.from_residual-in_err-sync.ensures.0
+returns-in_err-sync-clause-settled g c = none_owed c.from_residual-in_err-sync.result _ c.from_residual-in_err-sync.ensures.0
 
 pub returns-in_err-sync-clause-words : goal.returns-in_err-sync-clause-words
 returns-in_err-sync-clause-words g c =
@@ -132,13 +133,13 @@ returns-in_err-sync-clause-fault g c =
     fault_told (m c.args.m.now) (m c.write_block.new.self) (m c.sync.new.self) _ _ (grind (arith, c.from_residual-in_err-sync.ensures)) (lasts_trans (m c.args.m.now) (m c.close_page.new.self) (m c.write_block.new.self) (lasts_within (m c.args.m.now) (m c.open_page.new.self) (m c.store-stored.new.self) (m c.close_page.new.self) (Some c.args.p.0) None c.open_page.ensures.contents c.store-stored.ensures.lasts c.close_page.ensures.contents) c.write_block.ensures.lasts) c.in_err-sync.ensures.fault
 
 pub returns-in_err-read_block-clause-ok : goal.returns-in_err-read_block-clause-ok
-returns-in_err-read_block-clause-ok g c = none_on c.from_residual-in_err-read_block.result _ c.from_residual-in_err-read_block.ensures.0
+returns-in_err-read_block-clause-ok g c = none_owed c.from_residual-in_err-read_block.result _ c.from_residual-in_err-read_block.ensures.0
 
 pub returns-in_err-read_block-clause-read : goal.returns-in_err-read_block-clause-read
-returns-in_err-read_block-clause-read g c = none_on c.from_residual-in_err-read_block.result _ c.from_residual-in_err-read_block.ensures.0
+returns-in_err-read_block-clause-read g c = none_owed c.from_residual-in_err-read_block.result _ c.from_residual-in_err-read_block.ensures.0
 
 pub returns-in_err-read_block-clause-settled : goal.returns-in_err-read_block-clause-settled
-returns-in_err-read_block-clause-settled g c = none_on c.from_residual-in_err-read_block.result _ c.from_residual-in_err-read_block.ensures.0
+returns-in_err-read_block-clause-settled g c = none_owed c.from_residual-in_err-read_block.result _ c.from_residual-in_err-read_block.ensures.0
 
 pub returns-in_err-read_block-clause-words : goal.returns-in_err-read_block-clause-words
 returns-in_err-read_block-clause-words g c =

@@ -1,5 +1,6 @@
 use Rattle.std.proofs.lemmas.Result.{err_from_is_err_and}
-use Rattle.region_recovery.proofs.EndsAs.{ends_err, if_err, ran_well}
+use Rattle.std.proofs.lemmas.Result.{IfOk-from_err}
+use Rattle.inode_table.proofs.Exits.{ends_err, ends_none}
 use Rattle.region_recovery.proofs.Lists.{inode_cached}
 use Rattle.region_recovery.proofs.listing.is_region.Goals as goal
 
@@ -16,7 +17,7 @@ pub read_inode-requires-clause-kind : goal.read_inode-requires-clause-kind
 read_inode-requires-clause-kind g c = c.requires.kind
 
 pub returns-in_err-inode-clause-value : goal.returns-in_err-inode-clause-value
-returns-in_err-inode-clause-value g c = if_err c.from_residual.result _ c.from_residual.ensures.0
+returns-in_err-inode-clause-value g c = IfOk-from_err c.from_residual.result _ c.from_residual.ensures.0
 
 pub returns-in_err-inode-clause-looks : goal.returns-in_err-inode-clause-looks
 returns-in_err-inode-clause-looks g c = c.read_inode.ensures.looks
@@ -54,4 +55,4 @@ pub returns-clause-sound : goal.returns-clause-sound
 returns-clause-sound g c = c.read_inode.ensures.sound
 
 pub returns-clause-ends : goal.returns-clause-ends
-returns-clause-ends g c = ran_well _ _ _ c.in_ok-inode.ensures.ends.later c.in_ok-inode.ensures.ends.cause
+returns-clause-ends g c = ends_none _ _ _ c.in_ok-inode.ensures.ends.later c.in_ok-inode.ensures.ends.cause

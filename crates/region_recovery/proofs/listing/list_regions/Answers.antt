@@ -4,7 +4,8 @@ use Rattle.rio_base.specs.Blocks.{BlockWords}
 use Rattle.rio_base.proofs.BlockSets.{caches_by_refl, caches_by_trans}
 use Rattle.rio_base.proofs.Rules.{ends_by_after, looks_refl, looks_trans}
 use Rattle.region_recovery.specs.RegionLists.{is_region}
-use Rattle.region_recovery.proofs.EndsAs.{ends_listed, ends_memory, ends_vol_read, if_err}
+use Rattle.std.proofs.lemmas.Result.{IfOk-from_err}
+use Rattle.region_recovery.proofs.EndsAs.{ends_listed, ends_memory, ends_vol_read}
 use Rattle.region_recovery.proofs.Lists.{kind_on, listed_all, listed_none, nth_ino, listed_with, listed_without}
 use Rattle.region_recovery.proofs.listing.list_regions.Goals as goal
 use Rattle.region_recovery.proofs.listing.list_regions.Goals.{then-branch+in_ok-push, else-branch}
@@ -58,7 +59,7 @@ loop-n-init g c = record {
 }
 
 pub returns-in_err-is_region-clause-list : goal.returns-in_err-is_region-clause-list
-returns-in_err-is_region-clause-list g c = if_err c.from_residual.result _ c.from_residual.ensures.0
+returns-in_err-is_region-clause-list g c = IfOk-from_err c.from_residual.result _ c.from_residual.ensures.0
 
 pub returns-in_err-is_region-clause-looks : goal.returns-in_err-is_region-clause-looks
 returns-in_err-is_region-clause-looks g c = looks_trans _ _ _ c.loop-n.invariant.looks c.is_region.ensures.looks
@@ -81,7 +82,7 @@ returns-in_err-is_region-clause-ends g c =
     ends_by_after _ _ _ _ _ c.loop-n.invariant.later c.loop-n.invariant.running (ends_vol_read _ _ c.is_region.result c.from_residual.result _ _ c.in_err-is_region.was p.1 p.2 c.is_region.ensures.ends)
 
 pub returns-in_err-push-clause-list : goal.returns-in_err-push-clause-list
-returns-in_err-push-clause-list g c = if_err c.from_residual-in_err-push.result _ c.from_residual-in_err-push.ensures.0
+returns-in_err-push-clause-list g c = IfOk-from_err c.from_residual-in_err-push.result _ c.from_residual-in_err-push.ensures.0
 
 pub returns-in_err-push-clause-looks : goal.returns-in_err-push-clause-looks
 returns-in_err-push-clause-looks g c = looks_trans _ _ _ c.loop-n.invariant.looks c.is_region.ensures.looks

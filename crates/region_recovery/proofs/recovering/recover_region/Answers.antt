@@ -7,7 +7,9 @@ use Rattle.rio_base.proofs.BlockRules.{ends_later}
 use Rattle.rio_model.proofs.RegionMoves.{rest_same}
 use Rattle.rio_model.specs.VolumeReady.{Ready}
 use Rattle.region_view.specs.Views.{KeepsInode, OnRegion}
-use Rattle.region_recovery.proofs.EndsAs.{ends_err, if_err, ran_ok}
+use Rattle.std.proofs.lemmas.Result.{IfOk-from_err}
+use Rattle.inode_table.proofs.Exits.{ends_err}
+use Rattle.region_recovery.proofs.EndsAs.{ran_ok}
 use Rattle.region_recovery.proofs.OneRegion.{had_records, none_left, reads_still, reads_turned, stands_on, stood_size, turned}
 use Rattle.region_recovery.proofs.recovering.recover_region.Goals as goal
 
@@ -98,10 +100,10 @@ pub returns-in_err-point-clause-reads : goal.returns-in_err-point-clause-reads
 returns-in_err-point-clause-reads g c = λ s reads. reads_still c.args.view.now.shape _ _ s c.point.ensures.words reads
 
 pub returns-in_err-point-clause-recovered : goal.returns-in_err-point-clause-recovered
-returns-in_err-point-clause-recovered g c = if_err c.from_residual.result _ c.from_residual.ensures.0
+returns-in_err-point-clause-recovered g c = IfOk-from_err c.from_residual.result _ c.from_residual.ensures.0
 
 pub returns-in_err-point-clause-held : goal.returns-in_err-point-clause-held
-returns-in_err-point-clause-held g c = if_err c.from_residual.result _ c.from_residual.ensures.0
+returns-in_err-point-clause-held g c = IfOk-from_err c.from_residual.result _ c.from_residual.ensures.0
 
 pub returns-in_err-point-clause-rest : goal.returns-in_err-point-clause-rest
 returns-in_err-point-clause-rest g c = rest_same c.args.view.now.shape c.args.i.0 _ _ c.point.ensures.words

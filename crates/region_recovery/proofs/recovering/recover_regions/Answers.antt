@@ -4,7 +4,8 @@ use Rattle.rio_base.specs.declared.places.VolumeShape.{VolumeShape}
 use Rattle.rio_base.specs.Rules.{goes_refl, ◌then◌}
 use Rattle.rio_base.proofs.BlockRules.{ends_later}
 use Rattle.rio_model.specs.VolumeReady.{Ready}
-use Rattle.region_recovery.proofs.EndsAs.{ends_err, if_err, ran_well}
+use Rattle.std.proofs.lemmas.Result.{IfOk-from_err}
+use Rattle.inode_table.proofs.Exits.{ends_err, ends_none}
 use Rattle.region_recovery.proofs.RecoverTurns.{as_long, asked, counted_all, few_regions, no_more, no_turn, no_turns, nth_region, one_more, recovered_all, recovered_none, some_state, states_turned, turn}
 use Rattle.region_recovery.proofs.recovering.recover_regions.Goals as goal
 use Rattle.region_recovery.proofs.recovering.recover_regions.Goals.{then-branch, else-branch}
@@ -99,10 +100,10 @@ loop-n-init g c = record {
 }
 
 pub returns-in_err-recover_region-clause-recovered : goal.returns-in_err-recover_region-clause-recovered
-returns-in_err-recover_region-clause-recovered g c = if_err c.from_residual.result _ c.from_residual.ensures.0
+returns-in_err-recover_region-clause-recovered g c = IfOk-from_err c.from_residual.result _ c.from_residual.ensures.0
 
 pub returns-in_err-recover_region-clause-count : goal.returns-in_err-recover_region-clause-count
-returns-in_err-recover_region-clause-count g c = if_err c.from_residual.result _ c.from_residual.ensures.0
+returns-in_err-recover_region-clause-count g c = IfOk-from_err c.from_residual.result _ c.from_residual.ensures.0
 
 pub returns-in_err-recover_region-clause-none : goal.returns-in_err-recover_region-clause-none
 returns-in_err-recover_region-clause-none g c = λ none. absurd (no_turn c.args.view.now.shape _ c.args.regions.now c.loop-n.n c.requires.regions none c.loop-n-test.true)
@@ -138,7 +139,7 @@ pub returns-clause-goes : goal.returns-clause-goes
 returns-clause-goes g c = c.loop-n.invariant.goes
 
 pub returns-clause-ends : goal.returns-clause-ends
-returns-clause-ends g c = ran_well _ _ _ c.loop-n.invariant.later c.loop-n.invariant.running
+returns-clause-ends g c = ends_none _ _ _ c.loop-n.invariant.later c.loop-n.invariant.running
 
 pub returns-clause-sound : goal.returns-clause-sound
 returns-clause-sound g c = c.loop-n.invariant.sound

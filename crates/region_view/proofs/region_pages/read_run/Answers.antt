@@ -1,14 +1,15 @@
+use Rattle.rio_base.proofs.RegionRuns.{words_none}
 use Rattle.region_view.proofs.Common.{◌≡◌, ◌≤◌, ◌∙◌, arith, err_from_is_err_and, le_refl, le_trans, refl, subst, sym, held_of, IsInode}
 use Rattle.node_pages.proofs.EndsOn.{ends_vol, ends_vol_ok, if_err}
 use Rattle.rio_base.specs.Regions.{AreWords}
 use Rattle.rio_base.proofs.BlockRules.{ends_later}
-use Rattle.region_view.proofs.WordsRead.{no_words, place_on, words_as}
+use Rattle.region_view.proofs.WordsRead.{place_on, words_as}
 use Rattle.region_view.proofs.region_pages.read_run.Goals as goal
 
 pub loop-done-init : goal.loop-done-init
 loop-done-init g c = record {
   within = omega arith;
-  value = no_words _ c.args.at c.args.into.now;
+  value = words_none _ c.args.at c.args.into.now;
   len = refl;
   words = refl;
   can = c.requires.can;
