@@ -4,9 +4,9 @@ use Rattle.rio_serving.specs.declared.ends.ServeEnd.{ServeEnd}
 use Rattle.rio_serving.specs.declared.ends.ServeEnd.TheVariants.{End, SourceFault, SinkFault, InputLimit, Memory as NoMemory, Stopped}
 use Rattle.pair_files.specs.declared.ends.PairEnd.{PairEnd}
 use Rattle.pair_files.specs.declared.ends.PairEnd.TheVariants.{Absent, BadImage, BadVolume, BootFault, BootStopped, HostFault, Memory, Unsaved, Worked}
-use Rattle.pair_serving.specs.ServedScenes.{loop_end}
-use Rattle.pair_serving.specs.declared.ends.LinesEnd.{LinesEnd}
-use Rattle.pair_serving.specs.declared.ends.LinesEnd.TheVariants.{Ended as LoopEnded, Trapped}
+use Rattle.rio_serving.specs.LinesEnds.{loop_end}
+use Rattle.rio_serving.specs.declared.ends.LinesEnd.{LinesEnd}
+use Rattle.rio_serving.specs.declared.ends.LinesEnd.TheVariants.{Ended as LoopEnded, Trapped}
 use Rattle.command_lines.specs.CheckLines.{name_of, volume_rule_line}
 use Rattle.command_lines.specs.Command.{host_fault_line, memory_line}
 use Rattle.command_lines.specs.RegistryLines.{absent_line, field, image_rule_line}

@@ -5,16 +5,16 @@ ghost use Rattle.std.specs.String.{string_bytes};
 ghost use Rattle.rio_base.specs.Counts.{Rose};
 ghost use Rattle.request_codec.specs.Sending.{Sends};
 ghost use Rattle.command_lines.specs.Command.{WritesLine};
-ghost use Rattle.pair_serving.specs.ServedScenes.{loop_end};
+ghost use Rattle.rio_serving.specs.LinesEnds.{loop_end};
 ghost use Rattle.command_lines.specs.ServeLines.{lines_line, lines_status, loop_line, serve_line, serve_status, stop_line, stopped_line, trapped_line};
 
 use crate::check_lines::{file_name, tell_volume_rule};
 use crate::last_line::say;
 use crate::registry_lines::{tell_name, tell_rule};
 use pair_files::{PairEnd, PairNames};
-use pair_serving::{LinesEnd, ServeEnd};
 use request_codec::{put, put_number, send};
 use rio_base::{Failed, Sink, WordAt};
+use rio_serving::{LinesEnd, ServeEnd};
 
 /// Writes the line of an end, as far as the sink takes it, and answers the status.
 pub fn tell_end<K: Sink>(

@@ -1,5 +1,3 @@
-pub mod Machines
 pub mod MachineLasts
 mod Quiet
 mod Scenes
-pub mod Sizes

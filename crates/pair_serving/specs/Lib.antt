@@ -1,2 +1,1 @@
 pub mod ServedScenes
-pub mod Strikes

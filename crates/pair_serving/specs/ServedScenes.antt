@@ -1,38 +1,18 @@
 -- Lines served over a pair of files: from which scene to which they lead, and what they leave of the disk.
-use Rattle.std.specs.Prelude.{◌≡◌, ◌≢◌, ℕ, true, List, All, Option, Some, None}
+use Rattle.std.specs.Prelude.{◌≡◌, ◌≢◌, ℕ, true, List, All}
 use Rattle.rio_base.specs.Counts.{Rose}
-use Rattle.rio_base.specs.declared.places.WordAt.{WordAt}
 use Rattle.rio_model.specs.declared.state.State.{State}
 use Rattle.rio_requests.specs.Crash.{crashed}
 use Rattle.rio_requests.specs.declared.request.Request.TheVariants.{Flush}
 use Rattle.request_codec.specs.Form.{Form}
 use Rattle.request_codec.specs.Lines.{lines}
+use Rattle.rio_serving.specs.LinesEnds.{loop_end, trap_of}
+use Rattle.rio_serving.specs.declared.ends.LinesEnd.{LinesEnd}
 use Rattle.rio_serving.specs.declared.ends.ServeEnd.{ServeEnd}
 use Rattle.rio_serving.specs.declared.ends.ServeEnd.TheVariants.{End, SourceFault, SinkFault, InputLimit, Memory, Stopped}
 use Rattle.rio_serving.specs.ServeRun.{RunEnds}
 use Rattle.rio_core.specs.Lines.{core_protocol}
 use Rattle.pair_files.specs.Scenes.{Scene}
-use Rattle.pair_serving.specs.declared.ends.LinesEnd.{LinesEnd}
-use Rattle.pair_serving.specs.declared.ends.LinesEnd.TheVariants.{Ended, Trapped}
-
--- ---- how it ends
-
--- the end of the loop of lines
-abbrev pub loop_end : LinesEnd → ServeEnd
-loop_end (Ended end) = end
-loop_end (Trapped at) = Stopped
-
--- the place of the wild store that is told to have trapped
-abbrev pub trap_of : LinesEnd → Option ℕ
-trap_of (Ended end) = None
-trap_of (Trapped at) = Some at.0
-
--- how an end of the loop is told, and the place of the store that trapped, if one did
-abbrev pub told_end : ServeEnd → Option WordAt → LinesEnd
-told_end Stopped (Some at) = Trapped at
-told_end end trapped = Ended end
-
--- ---- what it leads to
 
 -- t is what a stop leaves of u
 abbrev pub IsLeftOf : State → State → Type 0

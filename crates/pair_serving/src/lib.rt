@@ -5,7 +5,6 @@ mod ends;
 mod pair_work;
 mod serving;
 
-pub use ends::LinesEnd;
 pub use pair_work::Serving;
-pub use rio_serving::ServeEnd;
+pub use rio_serving::{LinesEnd, ServeEnd};
 pub use serving::serve;

@@ -2,13 +2,12 @@
 
 ghost use Rattle.std.specs.Prelude.{◌≤◌};
 
-use crate::ends::LinesEnd;
 use crate::serving::serve_core;
 use page_cache::PageCache;
 use pair_files::Work;
 use rio_base::{Machine, Sink, Source, VolumeShape};
 use rio_core::Core;
-use rio_serving::ServeEnd;
+use rio_serving::{LinesEnd, ServeEnd};
 use std::alloc::Global;
 
 /// The work of serving the lines of a source until it ends, each reply written to the sink before more of it is read.

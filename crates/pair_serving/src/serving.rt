@@ -11,10 +11,10 @@ ghost use Rattle.cached_pages.specs.Caches.{cache_below, cache_health};
 ghost use Rattle.pair_files.specs.Scenes.{LastsBelow, scene_of, streams_of};
 ghost use Rattle.pair_serving.specs.ServedScenes.{Served};
 
-use crate::ends::{LinesEnd, end_of};
+use crate::ends::end_of;
 use rio_base::{Machine, Sink, Source};
 use rio_core::Core;
-use rio_serving::{ServeEnd, Server, serve_with};
+use rio_serving::{LinesEnd, ServeEnd, Server, serve_with};
 use std::alloc::Global;
 
 /// Serves lines until the input ends, each reply written before the next line is asked for.

@@ -6,6 +6,7 @@ pub mod FileSteps
 pub mod FormRules
 pub mod HeldRules
 pub mod Lookups
+pub mod Machines
 pub mod MemoRules
 pub mod ReadMoves
 pub mod Recoveries
@@ -19,6 +20,7 @@ pub mod RequestForms
 pub mod RowRules
 pub mod Served
 pub mod ServerRules
+pub mod Sizes
 pub mod Standing
 pub mod WentBy
 pub mod WildStores

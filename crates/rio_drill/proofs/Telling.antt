@@ -6,7 +6,7 @@ use Rattle.request_codec.proofs.Sendings.{sends_cut, sends_ok}
 use Rattle.live_plans.specs.declared.transcript.BootRun.{BootRun}
 use Rattle.live_plans.specs.declared.transcript.Transcript.{Transcript}
 use Rattle.rio_drill.specs.Summaries.{answered_line, boots_line, nodes_line, refusal_lines, summary}
-use Rattle.rio_drill.specs.Drills.{LacksMemory, WroteFront, memory_line}
+use Rattle.rio_drill.specs.Told.{LacksMemory, WroteFront, memory_line}
 
 -- the summary, of the boots as they are lent
 pub summary_of : (t : Transcript) (runs : List BootRun) → runs ≡ t.boots → boots_line runs ++ answered_line runs ++ refusal_lines runs 256 ++ nodes_line t ≡ summary t

@@ -1,3 +1,3 @@
-pub mod Drills
 pub mod Plans
 pub mod Summaries
+pub mod Told

@@ -1,11 +1,10 @@
-//! Drills: requests and stops drawn from a seed, served in memory alone, and what came of them told in a few lines.
+//! Drills, but for running them: requests and stops drawn from a seed, and what came of them told in a few lines.
 #![tactic(auto)]
 
 mod boots;
 mod counts;
 mod plan;
-mod running;
 mod summary;
 
 pub use plan::drill_plan;
-pub use running::drill;
+pub use summary::{tell_memory, tell_summary};

@@ -3,8 +3,8 @@
 ghost use Rattle.std.specs.Prelude.{◌≡◌, ◌<◌, ◌≤◌, ◌^◌, [], length, take};
 ghost use Rattle.rio_base.specs.Counts.{Rose};
 ghost use Rattle.request_codec.specs.Sending.{Puts, Sends};
-ghost use Rattle.rio_drill.specs.Drills.{Tells};
 ghost use Rattle.rio_drill.specs.Summaries.{answered_line, boots_line, count_line, counted_line, nodes_line, refusal_line, refusal_lines, reply_count, summary};
+ghost use Rattle.rio_drill.specs.Told.{LacksMemory, Tells};
 
 use crate::counts::{all_replies, ok_replies, refusals, stopped_boots};
 use live_plans::{BootRun, Transcript};
@@ -154,4 +154,15 @@ fn put_nodes<K: Sink>(
     let held = put_number(b" regions ", u64::from(last.regions), room, held, sink)?;
     let held = put_number(b" bytes ", transcript.bytes, room, held, sink)?;
     put(b"\n", room, held, sink)
+}
+
+/// Tells that there was no memory for a drill. Answers the status, which is 6.
+pub fn tell_memory<K: Sink>(sink: &mut K) -> u8
+    ensures lacks { LacksMemory result (Rose (K.faults sink.old) (K.faults sink.new)) (K.written sink.old) (K.written sink.new) }
+    ensures later { K.faults sink.old ≤ K.faults sink.new }
+{
+    match send(b"out of memory\n", sink) {
+        Ok(()) => 6,
+        Err(_) => 6,
+    }
 }

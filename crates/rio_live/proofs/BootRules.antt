@@ -18,8 +18,8 @@ use Rattle.live_plans.specs.declared.transcript.BootEnd.TheVariants.{Served, Sto
 use Rattle.live_plans.specs.declared.transcript.BootRun.{BootRun}
 use Rattle.rio_live.specs.Boots.{MayStop, RunsBoot}
 use Rattle.rio_live.specs.Legal.{BootEnds, SetsStop, boot_faults, requests_of}
-use Rattle.pair_serving.specs.Strikes.{IsStrike}
-use Rattle.rio_live.specs.Parts.{armed_run}
+use Rattle.rio_serving.specs.Strikes.{IsStrike}
+use Rattle.live_parts.specs.Parts.{armed_run}
 use Rattle.rio_live.proofs.Causes.{guarded_word, may_stop_before}
 
 -- ---- causes

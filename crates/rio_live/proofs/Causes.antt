@@ -14,7 +14,7 @@ use Rattle.rio_requests.specs.declared.request.Request.{Request}
 use Rattle.rio_requests.specs.declared.request.Request.TheVariants.{Arm}
 use Rattle.rio_requests.specs.Went.{Halting, StoppedOn, armed_by, last_armed}
 use Rattle.rio_live.specs.Boots.{AreAnswered, MayStop}
-use Rattle.pair_serving.specs.Strikes.{IsProtected, IsStrike}
+use Rattle.rio_serving.specs.Strikes.{IsProtected, IsStrike}
 use Rattle.rio_live.specs.Legal.{replies_of, requests_of}
 
 -- ---- some element of a list

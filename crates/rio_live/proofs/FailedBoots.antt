@@ -5,7 +5,6 @@ use Rattle.rio_base.specs.Machine.{Contents, Running}
 use Rattle.rio_base.specs.Volume.{MemorySizes, Runs}
 use Rattle.rio_model.specs.declared.state.State.{State}
 use Rattle.rio_model.specs.Cover.{causes_of}
-use Rattle.rio_model.specs.Registry.{HasLayout}
 use Rattle.rio_model.specs.Standing.{StandsFor}
 use Rattle.rio_requests.specs.declared.request.Request.{Request}
 use Rattle.cached_pages.specs.Caches.{cache_below, cache_health}
@@ -54,7 +53,3 @@ failed_boot old new r q (BadVolume rule b) run requests s is unbooted runs ran s
 -- as many words are protected as before
 pub words_kept : (c d : Contents) (r q : Running) → r.protected ≡ length c.words → q.protected ≡ length d.words → (cache_below d q).memory ≡ (cache_below c r).memory → length d.words ≡ length c.words
 words_kept c d r q here there same = sym there ∙ ap (λ (m : MemorySizes). m.protected) same ∙ here
-
--- what stands for a state has its memory laid out
-pub standing_layout : (c : Contents) (scratch : List ℕ) (s : State) → StandsFor c (length scratch) s → HasLayout c.words scratch
-standing_layout c scratch s h = record { sizes = h.image.sizes; protected = h.image.protected; scratch_pages = h.image.scratch_pages }

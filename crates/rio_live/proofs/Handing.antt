@@ -1,5 +1,5 @@
 -- From one boot to the next: what a machine stands for that is taken apart, one that is made of the parts stands for.
-use Rattle.std.proofs.Common.{◌≡◌, ◌≤◌, ◌<◌, ◌+◌, ◌*◌, ◌-◌, ◌%◌, ◌^◌, ℕ, nat_lt, true, false, List, [], ◌++◌, length, refl, sym, ap, subst, ◌∙◌, inl, inr, arith, length-append, length-drop}
+use Rattle.std.proofs.Common.{◌≡◌, ◌≤◌, ◌<◌, ◌+◌, ◌*◌, ◌-◌, ◌%◌, ◌^◌, ℕ, nat_lt, true, false, List, [], ◌++◌, length, refl, sym, ap, subst, ◌∙◌, inl, inr, arith, length-append}
 use Rattle.std.specs.Prelude.{Option, Some, None, ◌⊎◌, take}
 use Rattle.std.proofs.lemmas.List.{get_or_past, length-take}
 use Rattle.std.proofs.Math.Seq.{take-append_seam}
@@ -9,14 +9,12 @@ use Rattle.rio_base.specs.Disks.{DiskContents, block_at, is_pending}
 use Rattle.rio_base.specs.Machine.{Contents, Running}
 use Rattle.rio_base.specs.Volume.{Below, LimitLasts, MemorySizes}
 use Rattle.rio_model.specs.declared.state.State.{State}
-use Rattle.rio_model.specs.Cover.{MayLeave, cover_by}
-use Rattle.rio_model.specs.Registry.{page_of_entry}
-use Rattle.rio_model.specs.Standing.{Restorable, StandsFor}
+use Rattle.rio_model.specs.Cover.{MayLeave}
+use Rattle.rio_model.specs.Standing.{StandsFor}
 use Rattle.rio_model.proofs.CoverSteps.{none_pending}
 use Rattle.rio_model.proofs.PlacedRules.{cases_lt}
-use Rattle.rio_model.proofs.RebootSteps.{image_same, narrows_words}
-use Rattle.rio_model.proofs.StandingStates.{stands_for_could, stands_for_stopped}
-use Rattle.board.specs.Boards.{protected_count, protected_of, scratch_of}
+use Rattle.rio_model.proofs.StandingStates.{stands_for_stopped}
+use Rattle.board.specs.Boards.{protected_count, protected_of}
 use Rattle.block_disk.specs.BlockLists.{AreWhole}
 use Rattle.block_disk.specs.MemDisks.{Crashed, FailsNever, MemDiskState, contents_of, crashed_block, most_faults, upcoming}
 use Rattle.block_disk.specs.declared.disk_choice.DiskChoice.{DiskChoice}
@@ -26,33 +24,13 @@ use Rattle.live_plans.specs.declared.plan.BootPlan.{BootPlan}
 use Rattle.live_plans.specs.declared.transcript.BootEnd.{BootEnd}
 use Rattle.live_plans.specs.declared.transcript.BootEnd.TheVariants.{Served, Stopped, BootFault}
 use Rattle.live_plans.specs.declared.transcript.BootRun.{BootRun}
+use Rattle.live_parts.proofs.PartsMachines.{none_upcoming, scratch_count, stands_same}
 use Rattle.rio_live.specs.Boots.{MayStop, RunsBoot}
 use Rattle.rio_live.specs.Legal.{BootEnds, BootLeads, SetsStop, boot_faults}
-use Rattle.rio_live.specs.Parts.{IsDiskAfter, NeverFails, PartsStand, armed_run, unfailing}
+use Rattle.live_parts.specs.Parts.{IsDiskAfter, PartsStand, armed_run, unfailing}
 use Rattle.rio_live.proofs.BootRules.{ends_as, planned_run, planned_stop}
 
 -- ---- what stands
-
--- over the same words, blocks and marks
-pub stands_same : (old new : Contents) (n m : ℕ) (s : State) → new.words ≡ old.words → new.disk ≡ old.disk → new.pending ≡ old.pending → m ≡ n → StandsFor old n s → StandsFor new m s
-stands_same old new n m s words disk pending same h = stands_for_could old new n m s
-    (record { words = ap (λ (ws : List ℕ). length ws) words; blocks = blocks; scratch = same })
-    (subst (Restorable new) (sym same) (image_same n old new words blocks h.image))
-    (narrows_words old.words new.words words)
-    (record {
-      each = λ d may. (
-        d,
-        record {
-          count = may.count ∙ blocks;
-          whole = may.whole;
-          kept = λ b firm. may.kept b (ap (λ marks. is_pending marks b) pending ∙ firm) ∙ ap (λ (ds : List (List ℕ)). block_at ds b) disk;
-        },
-        λ b w out. ap (λ (ws : List ℕ). cover_by (page_of_entry ws) ws d b w) words,
-      );
-    }) h
-  where
-    blocks : length new.disk ≡ length old.disk
-    blocks = ap (λ (ds : List (List ℕ)). length ds) disk
 
 -- the words of a machine are parted where they were
 front_of : (a b : List ℕ) (scratch : ℕ) → length b ≡ 512 * scratch → protected_of (a ++ b) scratch ≡ a
@@ -102,10 +80,6 @@ disk_faults BootFault choice old new after = ap (λ (x : MemDiskState). x.faults
 
 -- ---- how many calls fail
 
-none_upcoming : (calls : ℕ) (failing : List ℕ) → failing ≡ [] → upcoming calls failing ≡ 0
-unfolding upcoming
-none_upcoming calls failing none = ap (upcoming calls) none
-
 -- calls that are to fail from now on
 pub planned_faults : (old new : MemDiskState) (n : ℕ) → FailsNever old → new ≡ record old { failing = new.failing } → upcoming new.calls new.failing ≤ upcoming old.calls old.failing + n → most_faults new ≤ old.faults + n
 planned_faults old new n never rest more =
@@ -130,9 +104,6 @@ few_faults n before after len (inl rose) most few = omega (arith, rose, most)
 few_faults n before after len (inr top) most few = absurd (omega (arith, top, most, few))
 
 -- ---- one boot
-
-scratch_count : (words : List ℕ) (scratch : ℕ) → 512 * scratch < length words → length (scratch_of words scratch) ≡ 512 * scratch
-scratch_count words scratch room = omega (arith, room, length-drop (protected_count words scratch) words)
 
 planned_scratch : (arm : Option (ℕ × ℕ × ℕ)) (r : Running) → (armed_run arm r).scratch ≡ r.scratch
 planned_scratch None r = refl
@@ -237,17 +208,3 @@ boot_done plan words disk scratch failing total run words_after disk_after s b s
     faults = few_faults (boot_faults run) disk.faults b.left_disk.faults (length plan.fail) (subst (λ n. RoseBy (boot_faults run) n b.left_disk.faults) was (subst (RoseBy (boot_faults run) b.before.faults.count) now led.1.counted)) most (let were = h.counted in omega (arith, were, sum, few))
 
 -- ---- a machine that is made of the parts alone
-
-pub parts_machine : (words : List ℕ) (disk : MemDiskState) (scratch failing : ℕ) (s : State) (c : Contents) (r : Running) → c ≡ made_contents words scratch (contents_of disk) → r ≡ made_run words scratch None → AreWhole disk.blocks → PartsStand words disk scratch failing s → StandsFor c (length r.scratch) s
-parts_machine words disk scratch failing s c r made run whole h = stands_same (made_contents words scratch (contents_of disk)) c (512 * scratch) (length r.scratch) s
-    (ap (λ (x : Contents). x.words) made) (ap (λ (x : Contents). x.disk) made) (ap (λ (x : Contents). x.pending) made)
-    (ap (λ (x : Running). length x.scratch) run ∙ scratch_count words scratch h.room) (h.stands whole)
-
-parts_limit : (words : List ℕ) (disk : MemDiskState) (scratch failing : ℕ) (s : State) → PartsStand words disk scratch failing s → NeverFails (contents_of disk).faults
-parts_limit words disk scratch failing s h = (ap Some most, let were = h.counted in let few = h.few in omega (arith, were, few))
-  where
-    most : most_faults disk ≡ disk.faults
-    most = let none = none_upcoming disk.calls disk.failing h.never.0 in let reads = h.never.1 in omega (arith, none, reads)
-
-pub parts_never : (words : List ℕ) (disk : MemDiskState) (scratch failing : ℕ) (s : State) (c : Contents) → c ≡ made_contents words scratch (contents_of disk) → PartsStand words disk scratch failing s → NeverFails c.faults
-parts_never words disk scratch failing s c made h = subst NeverFails (sym (ap (λ (x : Contents). x.faults) made)) (parts_limit words disk scratch failing s h)

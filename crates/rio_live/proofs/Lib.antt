@@ -3,9 +3,6 @@ pub mod BootRules
 pub mod Causes
 pub mod FailedBoots
 pub mod FailingCalls
-pub mod FileSizes
-pub mod FreshDisks
-pub mod FreshMemory
 pub mod Handing
 pub mod ManyBoots
 pub mod ServedBoots

@@ -8,7 +8,8 @@ use Rattle.live_plans.specs.declared.transcript.BootRun.{BootRun}
 use Rattle.live_plans.specs.declared.plan.LivePlan.{LivePlan}
 use Rattle.live_plans.specs.declared.transcript.Transcript.{Transcript}
 use Rattle.rio_model.specs.Censuses.{IsCensus}
-use Rattle.rio_live.specs.Legal.{BootLeads, BootsLead, Legal, file_bytes, first_state}
+use Rattle.rio_live.specs.Legal.{BootLeads, BootsLead, Legal, first_state}
+use Rattle.live_parts.specs.FileBytes.{file_bytes}
 
 boots_push : (s t u : State) (plans : List BootPlan) (runs : List BootRun) (plan : BootPlan) (run : BootRun) → BootsLead s plans runs t → BootLeads t plan run u → BootsLead s (plans ++ plan ∷ []) (runs ++ run ∷ []) u
 boots_push s t u [] [] plan run same leads = (u, subst (λ (x : State). BootLeads x plan run u) same leads, refl)

@@ -1,15 +1,12 @@
 -- Legal transcripts of a plan of boots. Every reply is the one that the definition gives, and each boot finds the files and
 -- regions after all requests that were answered before, the one that met a stop being absent, whole or a leading part.
-use Rattle.std.specs.Prelude.{◌≡◌, ◌⊎◌, ℕ, ◌+◌, ◌<◌, ◌≤◌, ◌++◌, All, Any, List, [], ◌∷◌, length, map, sum, Option, Some, None}
-use Rattle.std.specs.List.{range_with_len}
-use Rattle.std.specs.FinMap.{get}
+use Rattle.std.specs.Prelude.{◌≡◌, ◌⊎◌, ℕ, ◌+◌, ◌<◌, ◌≤◌, ◌++◌, All, Any, List, [], ◌∷◌, length, map, Option, Some, None}
 use Rattle.rio_base.specs.Image.{image_pages}
 use Rattle.rio_base.specs.declared.places.VolumeShape.{VolumeShape}
-use Rattle.rio_model.specs.declared.node.Node.{Node}
-use Rattle.rio_model.specs.declared.node.Node.TheVariants.{File}
 use Rattle.rio_model.specs.declared.state.State.{State}
 use Rattle.rio_model.specs.Censuses.{IsCensus}
 use Rattle.rio_model.specs.Fresh.{fresh_state}
+use Rattle.live_parts.specs.FileBytes.{file_bytes}
 use Rattle.rio_requests.specs.declared.reply.Reply.{Reply}
 use Rattle.rio_requests.specs.declared.request.Request.{Request}
 use Rattle.rio_requests.specs.Crash.{crashed}
@@ -17,7 +14,7 @@ use Rattle.rio_requests.specs.Parts.{IsPart}
 use Rattle.rio_requests.specs.Requests.{IsRequest}
 use Rattle.rio_requests.specs.Run.{Run}
 use Rattle.rio_requests.specs.Went.{faults_in}
-use Rattle.pair_serving.specs.Strikes.{IsProtected, IsStrike}
+use Rattle.rio_serving.specs.Strikes.{IsProtected, IsStrike}
 use Rattle.live_plans.specs.declared.plan.BootPlan.{BootPlan}
 use Rattle.live_plans.specs.declared.plan.LivePlan.{LivePlan}
 use Rattle.live_plans.specs.declared.transcript.BootEnd.{BootEnd}
@@ -115,14 +112,6 @@ BootsLead s [] (run ∷ runs) t = ⊥
 BootsLead s (plan ∷ plans) [] t = ⊥
 
 -- ---- the files
-
-abbrev pub bytes_in : Option Node → ℕ
-bytes_in (Some (File bytes)) = length bytes
-bytes_in _ = 0
-
--- the sum of their sizes
-abbrev pub file_bytes : State → ℕ
-file_bytes s = sum (map (λ i. bytes_in (get s.nodes i)) (range_with_len 1 s.shape.inodes))
 
 -- ---- a plan and its transcript
 

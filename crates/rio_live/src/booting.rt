@@ -7,12 +7,12 @@ ghost use Rattle.phys_memory.specs.PhysMem.{words_of};
 ghost use Rattle.rio_model.specs.declared.state.State.{State};
 ghost use Rattle.rio_live.specs.Legal.{BootLeads, IsBootPlan};
 ghost use Rattle.rio_bench.specs.Benches.{made_contents, made_run};
-ghost use Rattle.rio_live.specs.Parts.{IsDiskAfter, PartsStand, armed_run};
+ghost use Rattle.live_parts.specs.Parts.{IsDiskAfter, PartsStand, armed_run};
 
-use crate::parts::{Parts, board_of};
 use crate::serving::serve_machine;
 use block_disk::{DiskChoice, MemDisk};
 use board::Board;
+use live_parts::{Parts, board_of};
 use live_plans::{BootEnd, BootPlan, BootRun};
 use rio_base::{DiskBlocks, Machine, MemWords, WordAt};
 use std::alloc::{AllocError, Global};

@@ -2,11 +2,7 @@
 #![tactic(auto)]
 
 mod booting;
-mod copies;
-mod counting;
-mod formatting;
 mod many_boots;
-mod parts;
 mod serving;
 
 pub use many_boots::live;

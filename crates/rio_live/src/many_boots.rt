@@ -7,12 +7,10 @@ ghost use Rattle.rio_base.specs.Image.{AreImageSizes, image_pages};
 ghost use Rattle.rio_base.specs.Shapes.{IsServed};
 ghost use Rattle.rio_model.specs.declared.state.State.{State};
 ghost use Rattle.rio_live.specs.Legal.{BootsLead, IsBootPlan, Legal, plan_shape};
-ghost use Rattle.rio_live.specs.Parts.{PartsStand};
+ghost use Rattle.live_parts.specs.Parts.{PartsStand};
 
 use crate::booting::run_boot;
-use crate::counting::count_parts;
-use crate::formatting::format_parts;
-use crate::parts::Parts;
+use live_parts::{Parts, count_parts, format_parts};
 use live_plans::{BootPlan, BootRun, LivePlan, Transcript};
 use rio_base::VolumeShape;
 use std::alloc::{AllocError, Global};

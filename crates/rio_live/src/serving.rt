@@ -11,8 +11,7 @@ ghost use Rattle.pair_files.specs.Scenes.{IsBooted};
 ghost use Rattle.rio_live.specs.Cores.{CoreHolds, CoreStands};
 ghost use Rattle.rio_live.specs.Boots.{EndsUnbooted, RunsBoot, ServesThese, none_served, run_served};
 
-use crate::copies::copy_request;
-use live_plans::{BootEnd, BootRun};
+use live_plans::{BootEnd, BootRun, copy_request};
 use page_cache::PageCache;
 use rio_base::{Machine, VolumeShape};
 use rio_core::{Core, answer_one};

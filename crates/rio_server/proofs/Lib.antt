@@ -1,12 +1,4 @@
-pub mod Checking
-pub mod Commands
-pub mod Entries
-pub mod Formatting
-pub mod FreshPairs
-pub mod InputLines
-pub mod Listings
-pub mod ServeEndings
-pub mod ServeRefusals
-pub mod ServedPairs
-pub mod StopCauses
-pub mod StoppedMachines
+mod Commands
+mod Few
+mod Planned
+mod Runnable

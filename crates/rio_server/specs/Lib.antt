@@ -1,6 +1,2 @@
-pub mod Outside
-pub mod Format
-pub mod Registry
-pub mod Check
-pub mod Serve
+pub mod Drills
 pub mod Commands

@@ -1,12 +1,9 @@
-//! Whole runs of the program: requests served one after another over a pair of files, and what else is done with such files.
+//! Whole runs of the program: its words read, and the command done that they are.
 #![tactic(auto)]
 
-mod check_command;
-mod format;
+mod drill_command;
 mod program;
-mod registry_command;
-mod registry_listing;
-mod serve_command;
 
+pub use drill_command::drill;
 pub use pair_serving::{LinesEnd, ServeEnd, serve};
 pub use program::{end_without_memory, run};

@@ -7,21 +7,19 @@ ghost use Rattle.rio_words.specs.Words.{Reads, texts_of};
 ghost use Rattle.rio_words.specs.declared.command.RioCommand.TheVariants.{Check, Drill, Format, Registry, Serve};
 ghost use Rattle.command_lines.specs.Command.{WritesLine, memory_line, usage_line};
 ghost use Rattle.rio_server.specs.Commands.{CheckRuns, DrillRuns, FormatRuns, IsCommand, IsServe, NamesAbsent, Obeyed, RegistryRuns};
-ghost use Rattle.rio_server.specs.Format.{format_sizes};
-ghost use Rattle.rio_server.specs.Outside.{benched, outside};
-ghost use Rattle.rio_server.specs.Serve.{ServeRuns};
+ghost use Rattle.pair_commands.specs.Format.{format_sizes};
+ghost use Rattle.serve_command.specs.Outside.{benched, outside};
+ghost use Rattle.serve_command.specs.Serve.{ServeRuns};
 
-use crate::check_command::check_pair;
-use crate::format::{FormatSizes, PairPlan, format};
-use crate::registry_command::show_registry;
-use crate::serve_command::serve_pair;
+use crate::drill_command::drill;
 use block_disk::HostDisk;
 use command_lines::say;
+use pair_commands::{FormatSizes, PairPlan, check_pair, format, show_registry};
 use pair_files::PairNames;
 use rio_base::{Host, Sink, Source, VolumeShape};
 use rio_bench::Bench;
-use rio_drill::drill;
 use rio_words::{RioCommand, WordsFail, read_words};
+use serve_command::serve_pair;
 use std::alloc::Global;
 
 /// What is printed where the words are no command.

@@ -1,5 +1,7 @@
 //! How serving ends.
 
+use rio_base::WordAt;
+
 /// Why serving ended.
 #[derive(Clone, Copy, Debug, PartialEq, Eq)]
 pub enum ServeEnd {
@@ -15,4 +17,13 @@ pub enum ServeEnd {
     Memory,
     /// The machine stopped.
     Stopped,
+}
+
+/// How serving lines on a machine ended.
+#[derive(Clone, Copy, Debug, PartialEq, Eq)]
+pub enum LinesEnd {
+    /// As the loop of lines tells it. Where the machine stopped, no wild store trapped: the stop was one that it was given.
+    Ended(ServeEnd),
+    /// A wild store on this protected word trapped, which stopped the machine.
+    Trapped(WordAt),
 }

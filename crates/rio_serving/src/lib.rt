@@ -8,6 +8,6 @@ mod serving;
 mod waiting;
 
 pub use effects::Effect;
-pub use ends::ServeEnd;
+pub use ends::{LinesEnd, ServeEnd};
 pub use server::Server;
 pub use serving::serve_with;

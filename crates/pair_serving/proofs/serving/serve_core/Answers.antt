@@ -1,5 +1,5 @@
 use Rattle.page_cache.specs.Settled.{cache_settled}
-use Rattle.pair_serving.proofs.Machines.{holds_fits}
+use Rattle.rio_core.proofs.Machines.{holds_fits}
 use Rattle.pair_serving.proofs.Scenes.{lasts_told, served_stands}
 use Rattle.pair_serving.proofs.serving.serve_core.Goals as goal
 

@@ -3,7 +3,7 @@ use Rattle.block_disk.specs.MemDisks.{state_of}
 use Rattle.phys_memory.specs.PhysMem.{words_of}
 use Rattle.rio_model.specs.declared.state.State.{State}
 use Rattle.rio_live.specs.Legal.{BootsLead}
-use Rattle.rio_live.specs.Parts.{PartsStand}
+use Rattle.live_parts.specs.Parts.{PartsStand}
 use Rattle.rio_live.proofs.many_boots.run_boots.Given as goal
 
 abbrev pub invariant-loop-plan : goal.invariant-loop-plan

@@ -1,5 +1,5 @@
 use Rattle.page_cache.specs.Settled.{cache_settled}
-use Rattle.pair_serving.proofs.Machines.{holds_fits}
+use Rattle.rio_core.proofs.Machines.{holds_fits}
 use Rattle.rio_live.proofs.ServedBoots.{guards_machine, served_boot}
 use Rattle.rio_live.proofs.serving.serve_core.Goals as goal
 

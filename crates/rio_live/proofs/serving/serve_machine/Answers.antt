@@ -1,6 +1,7 @@
 use Rattle.pair_files.proofs.StageRules.{is_booted}
 use Rattle.rio_live.proofs.BootRules.{runs_then}
-use Rattle.rio_live.proofs.FailedBoots.{failed_boot, standing_layout, words_kept}
+use Rattle.rio_live.proofs.FailedBoots.{failed_boot, words_kept}
+use Rattle.live_parts.proofs.PartsMachines.{standing_layout}
 use Rattle.rio_live.proofs.serving.serve_machine.Goals as goal
 
 pub boot-requires-clause-header : goal.boot-requires-clause-header

@@ -1,5 +1,4 @@
-use Rattle.pair_serving.proofs.Machines.{booted_holds, booted_served}
-use Rattle.pair_serving.proofs.Scenes.{unserved}
+use Rattle.pair_serving.proofs.Scenes.{booted_holds, booted_served, unserved}
 use Rattle.pair_serving.proofs.pair_work.ServingWork.work.Goals as goal
 
 pub serve_core-requires-clause-holds : goal.serve_core-requires-clause-holds

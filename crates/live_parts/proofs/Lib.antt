@@ -1,0 +1,4 @@
+mod FileSizes
+mod FreshDisks
+mod FreshMemory
+pub mod PartsMachines

@@ -1,0 +1,5 @@
+pub mod Checking
+mod Entries
+mod FormatEnds
+pub mod FreshPairs
+pub mod Listings

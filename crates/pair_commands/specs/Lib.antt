@@ -1,0 +1,3 @@
+pub mod Format
+pub mod Registry
+pub mod Check
