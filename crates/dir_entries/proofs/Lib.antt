@@ -1,6 +1,5 @@
 pub mod CanRead
 pub mod Common
-pub mod EndsAs
 pub mod MakingOrder
 pub mod MakingRules
 pub mod NameWords

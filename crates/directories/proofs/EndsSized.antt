@@ -1,4 +1,5 @@
 -- How a plan of a size ends, told by an answer of reading.
+use Rattle.node_pages.proofs.Ends.{EndsRead}
 use Rattle.dir_entries.proofs.Common.{◌≡◌, refl, subst, Result, Health}
 use Rattle.std.specs.Prelude.{Ok, Err, IsErrOf}
 use Rattle.rio_base.specs.declared.failures.ReadFail.{ReadFail}
@@ -7,7 +8,6 @@ use Rattle.node_pages.specs.declared.failures.SizeFail.{SizeFail}
 use Rattle.node_pages.specs.declared.failures.SizeFail.TheVariants.{Fault as SizeFault, Stopped as SizeStopped, Memory as SizeMemory, NoSpace, TooLarge}
 use Rattle.rio_base.specs.Blocks.{EndsBy}
 use Rattle.rio_base.proofs.Rules.{ends_by_as}
-use Rattle.dir_entries.proofs.EndsAs.{EndsRead}
 
 abbrev EndsSize : {T : Type 0} → Health → Health → Result T SizeFail → Type 0
 EndsSize s t r = EndsBy s t (IsErrOf r SizeFault) (IsErrOf r SizeStopped)

@@ -49,7 +49,7 @@ below a b less = grind (arith, nat_tests, less)
 pub row_room : (shape : VolumeShape) (f : BlockWords) (s : State) (d : ℕ) (a : Answered) → ReadsAs shape f s → (held_of shape f d).kind ≡ 1 → wanted_blocks (held_of shape f d).size ((held_of shape f d).size + 64) ≤ length (free_blocks shape f) → with_room s (row_wanted s d) a ≡ a
 row_room shape f s d a reads dir enough = ap (λ b. cond b (refused s 11) a) (not_below (free_count s) (row_wanted s d) (subst (λ n. n ≤ free_count s) (sym (row_takes shape f s d reads dir)) (subst (λ n. wanted_blocks (held_of shape f d).size ((held_of shape f d).size + 64) ≤ n) (free_by_state shape f s reads) enough)))
 
-pub row_full : (shape : VolumeShape) (f : BlockWords) (s : State) (d : ℕ) (a : Answered) → ReadsAs shape f s → (held_of shape f d).kind ≡ 1 → length (free_blocks shape f) < wanted_blocks (held_of shape f d).size ((held_of shape f d).size + 64) → with_room s (row_wanted s d) a ≡ refused s 11
+row_full : (shape : VolumeShape) (f : BlockWords) (s : State) (d : ℕ) (a : Answered) → ReadsAs shape f s → (held_of shape f d).kind ≡ 1 → length (free_blocks shape f) < wanted_blocks (held_of shape f d).size ((held_of shape f d).size + 64) → with_room s (row_wanted s d) a ≡ refused s 11
 row_full shape f s d a reads dir lacks = ap (λ b. cond b (refused s 11) a) (below (free_count s) (row_wanted s d) (subst (λ n. free_count s < n) (sym (row_takes shape f s d reads dir)) (subst (λ n. n < wanted_blocks (held_of shape f d).size ((held_of shape f d).size + 64)) (free_by_state shape f s reads) lacks)))
 
 -- no row more could be planned: 11 where fewer blocks are free than it takes

@@ -5,7 +5,7 @@ use Rattle.rio_base.specs.Disks.{block_at, is_pending}
 use Rattle.rio_base.specs.Machine.{Contents, Running}
 use Rattle.rio_model.specs.declared.state.State.{State}
 use Rattle.rio_model.specs.Cover.{cover_by}
-use Rattle.rio_model.specs.Registry.{page_of_entry}
+use Rattle.rio_model.specs.Registry.{page_of_entry, HasLayout}
 use Rattle.rio_model.specs.Standing.{Restorable, StandsFor}
 use Rattle.rio_model.proofs.RebootSteps.{image_same, narrows_words}
 use Rattle.rio_model.proofs.StandingStates.{stands_for_could}
@@ -14,7 +14,6 @@ use Rattle.block_disk.specs.BlockLists.{AreWhole}
 use Rattle.block_disk.specs.MemDisks.{MemDiskState, contents_of, most_faults, upcoming}
 use Rattle.rio_bench.specs.Benches.{made_contents, made_run}
 use Rattle.live_parts.specs.Parts.{NeverFails, PartsStand}
-use Rattle.rio_model.specs.Registry.{HasLayout}
 
 -- over the same words, blocks and marks
 pub stands_same : (old new : Contents) (n m : ℕ) (s : State) → new.words ≡ old.words → new.disk ≡ old.disk → new.pending ≡ old.pending → m ≡ n → StandsFor old n s → StandsFor new m s

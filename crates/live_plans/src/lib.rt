@@ -1,4 +1,4 @@
-//! What a run of many boots is told, and what it tells: plans of boots, and transcripts.
+//! What a run of many boots is told, and what it tells: plans of boots, and transcripts. Beside that copies of requests.
 #![tactic(auto)]
 
 mod copies;

@@ -11,8 +11,8 @@
 //!   choice of what the pending blocks hold then. How each boot ended, and whether its replies tell of device faults; and then
 //!   `the same` where all three choices have one transcript, else which one differs.
 //! - `faults SEED COUNT CALL`: three boots of so many requests each. Two calls of the disk fail in the first, from this one
-//! on, and   the first two in the third. How each boot ended, and whether its replies tell of device faults, which is never
-//! of more than   two.
+//!   on, and the first two in the third. How each boot ended, and whether its replies tell of device faults, which is never
+//!   of more than two.
 //!
 //! An empty line, and one that begins with `#` or `==`, comes to nothing.
 #![tactic(auto)]

@@ -1,4 +1,4 @@
--- The update of a change of size, while it is made.
+-- The update of a node's blocks, while it is made.
 use Rattle.std.specs.Prelude.{◌≡◌, ◌≢◌, ℕ, ◌+◌, ◌<◌, ◌≤◌, ◌⊎◌, true, List, slice_index, slice_index_or, Option, None}
 use Rattle.std.specs.List.{Contains}
 use Rattle.rio_base.specs.declared.places.PageName.{PageName}

@@ -12,7 +12,7 @@ use Rattle.rio_base.proofs.BlockSets.{caches_by_drops, caches_by_one, caches_by_
 use Rattle.rio_base.specs.Volume.{HasRoom, SameUpdate, Touches}
 use Rattle.node_pages.specs.Updating.{IsTouched, IsUpdated}
 use Rattle.node_pages.proofs.Listed.{listed}
-use Rattle.node_pages.proofs.Updated.{touched_now, touched_still, unnamed_on}
+use Rattle.node_pages.proofs.Updated.{touched_now, touched_still, unnamed_on, unnamed_kept}
 use Rattle.node_updates.specs.Changes.{AllApplied, AllTouched, ChangeTouched, KeepsBlocks, CanMakeNode, CanCommit, IsFreed, IsTouchedBy, MakesFit, edited_blocks, change_update}
 use Rattle.node_pages.specs.Changes.{node_update}
 use Rattle.node_updates.specs.Committing.{Commits, Makes, Touched}
@@ -155,9 +155,6 @@ pub all_touched : (k : Kept) (es : List Edit) (t : ℕ) → length es ≤ t → 
 all_touched k es t end done e (s, few, is) = subst (λ b. k.touched b ≡ true) (sym (edit_block es s e few) ∙ ap (λ (x : Edit). x.block.0) is) (done s (omega (arith, few, end)))
 
 -- ---- names of blocks that are touched
-
-unnamed_kept : (bears : ℕ → Option PageName → Type 0) (x y : Seen) (b : ℕ) → ((name : Option PageName) → bears b name → name ≡ None) → CachesBy bears x y → (x.cached b ≡ true → x.names b ≡ None) → y.cached b ≡ true → y.names b ≡ None
-unnamed_kept bears x y b none h was on = elim (h.each b on) [ inl old ↦ old.1 ∙ was old.0 | inr new ↦ none _ new ]
 
 -- the block of an edit, which is cached without a name
 abbrev TouchesEdit : List Edit → ℕ → Option PageName → Type 0

@@ -7,5 +7,5 @@ mod registry_command;
 mod registry_listing;
 
 pub use check_command::check_pair;
-pub use formatting::{FormatEnd, FormatSizes, PairPlan, format};
+pub use formatting::{FormatSizes, PairPlan, format};
 pub use registry_command::show_registry;

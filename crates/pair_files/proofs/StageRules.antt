@@ -139,6 +139,10 @@ is_booted c d r q t report s whole here memory running booted st = record {
     b : Booted c s report (cache_seen d) (cache_kept d t)
     b = booted (stands_now c (length r.scratch) s whole st)
 
+-- which has a volume that can be served
+pub booted_served : (shape : VolumeShape) (c : Contents) (r : Running) (t : CacheTables) (s : State) → IsBooted shape c r t s → IsServed s.shape
+booted_served shape c r t s h = subst IsServed (sym h.reads.sizes) h.served
+
 -- some state is booted
 pub some_booted : (c d : Contents) (r q : Running) (t : CacheTables) (report : BootReport) → AreWhole c → HasHeader c.words → HasLayout c.words r.scratch → KeepsRegistry c.words → ((b : ℕ) → is_pending c.pending b ≡ false) → r.protected ≡ length c.words → (cache_below d q).memory ≡ (cache_below c r).memory → q.stopped ≡ false → ((s : State) × StandsNow c s) → ((s : State) → StandsNow c s → Booted c s report (cache_seen d) (cache_kept d t)) → (s : State) × StandsFor c (length r.scratch) s × IsBooted report.shape d q t s
 some_booted c d r q t report whole header layout keeps none here memory running found booted =

@@ -6,7 +6,6 @@ use Rattle.rio_base.specs.declared.places.WordAt.{WordAt}
 use Rattle.rio_base.specs.Blocks.{Health, Seen}
 use Rattle.rio_base.specs.Counts.{Rose}
 use Rattle.rio_base.specs.Machine.{Contents, Running}
-use Rattle.rio_base.specs.Shapes.{IsServed}
 use Rattle.rio_base.specs.Volume.{Below, Kept, Settled}
 use Rattle.rio_model.specs.declared.state.State.{State}
 use Rattle.rio_model.specs.declared.txn.Txn.{Txn}
@@ -24,6 +23,7 @@ use Rattle.rio_serving.specs.ServeRun.{RunEnds}
 use Rattle.rio_serving.proofs.Running.{nothing_served}
 use Rattle.rio_core.specs.Lines.{core_protocol}
 use Rattle.rio_core.specs.Serving.{Holds}
+use Rattle.pair_files.proofs.StageRules.{booted_served}
 use Rattle.pair_files.specs.Scenes.{IsBooted, LastsBelow, Scene, Streams, scene_of}
 use Rattle.rio_core.proofs.Machines.{holds_fits, recovered_holds, stands_held, stands_stopped}
 use Rattle.pair_serving.proofs.Quiet.{run_quiet}
@@ -36,9 +36,6 @@ use Rattle.rio_serving.specs.declared.ends.LinesEnd.TheVariants.{Ended}
 
 pub booted_holds : (shape : VolumeShape) (c : Contents) (r : Running) (t : CacheTables) (s : State) → IsBooted shape c r t s → Holds shape (cache_seen c) (cache_kept c t) (cache_health c r) (cache_below c r) [] s
 booted_holds shape c r t s h = recovered_holds shape c r t s h.reads h.ready h.recovered h.running h.pages h.scratch
-
-pub booted_served : (shape : VolumeShape) (c : Contents) (r : Running) (t : CacheTables) (s : State) → IsBooted shape c r t s → IsServed s.shape
-booted_served shape c r t s h = subst IsServed (sym h.reads.sizes) h.served
 
 -- without transactions a stop leaves all as it is
 idle_crashed : (s : State) → s.txns ≡ [] → crashed s ≡ s

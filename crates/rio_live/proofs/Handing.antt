@@ -206,5 +206,3 @@ boot_done plan words disk scratch failing total run words_after disk_after s b s
 
     faults : boot_faults run ≤ length plan.fail
     faults = few_faults (boot_faults run) disk.faults b.left_disk.faults (length plan.fail) (subst (λ n. RoseBy (boot_faults run) n b.left_disk.faults) was (subst (RoseBy (boot_faults run) b.before.faults.count) now led.1.counted)) most (let were = h.counted in omega (arith, were, sum, few))
-
--- ---- a machine that is made of the parts alone

@@ -1,11 +1,10 @@
 -- A boot that was served over a core: its machine stands for what the boot leads to.
-use Rattle.std.proofs.Common.{◌≡◌, ◌≤◌, ◌+◌, ◌-◌, ◌*◌, ℕ, nat_lt, List, [], ◌∷◌, length, refl, ap, sym, subst, ◌∙◌, inl, inr, arith}
+use Rattle.std.proofs.Common.{◌≡◌, ◌≤◌, ◌+◌, ◌-◌, ◌*◌, ℕ, nat_lt, List, [], ◌∷◌, length, refl, ap, subst, ◌∙◌, inl, inr, arith}
 use Rattle.std.specs.Prelude.{map, Option, Some, None}
 use Rattle.rio_base.specs.Blocks.{Health, Seen}
 use Rattle.rio_base.specs.Counts.{RoseBy}
 use Rattle.rio_base.specs.Machine.{Contents, Running}
 use Rattle.rio_base.specs.Rules.{limit_trans}
-use Rattle.rio_base.specs.Shapes.{IsServed}
 use Rattle.rio_base.specs.Volume.{Below, Kept, Settled}
 use Rattle.rio_base.specs.declared.places.VolumeShape.{VolumeShape}
 use Rattle.rio_model.specs.declared.state.State.{State}
@@ -32,9 +31,6 @@ use Rattle.rio_live.proofs.Causes.{Guards, stop_cause}
 
 pub booted_holds : (shape : VolumeShape) (c : Contents) (r : Running) (t : CacheTables) (s : State) → IsBooted shape c r t s → Holds shape (cache_seen c) (cache_kept c t) (cache_health c r) (cache_below c r) [] s
 booted_holds shape c r t s h = recovered_holds shape c r t s h.reads h.ready h.recovered h.running h.pages h.scratch
-
-pub booted_served : (shape : VolumeShape) (c : Contents) (r : Running) (t : CacheTables) (s : State) → IsBooted shape c r t s → IsServed s.shape
-booted_served shape c r t s h = subst IsServed (sym h.reads.sizes) h.served
 
 -- ---- sizes
 

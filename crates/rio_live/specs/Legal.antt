@@ -111,8 +111,6 @@ BootsLead s (plan ∷ plans) (run ∷ runs) t = (mid : State) × BootLeads s pla
 BootsLead s [] (run ∷ runs) t = ⊥
 BootsLead s (plan ∷ plans) [] t = ⊥
 
--- ---- the files
-
 -- ---- a plan and its transcript
 
 -- a volume with the root alone

@@ -4,6 +4,4 @@
 mod drill_command;
 mod program;
 
-pub use drill_command::drill;
-pub use pair_serving::{LinesEnd, ServeEnd, serve};
 pub use program::{end_without_memory, run};

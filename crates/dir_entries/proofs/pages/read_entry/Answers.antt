@@ -1,6 +1,6 @@
+use Rattle.inode_table.proofs.Exits.{ends_err, ends_ok}
 use Rattle.rio_base.proofs.BlockRules.{ends_later}
 use Rattle.dir_entries.proofs.CanRead.{words_read, block_on, can_stays, has_slot, looked_page, page_on, can_page, page_below}
-use Rattle.dir_entries.proofs.EndsAs.{ends_err, ends_ok}
 use Rattle.dir_entries.proofs.Common.{◌/◌, look_trans, err_from_is_err_and}
 use Rattle.node_pages.proofs.EndsOn.{if_err}
 use Rattle.dir_entries.proofs.pages.read_entry.Goals as goal

@@ -1,9 +1,9 @@
+use Rattle.inode_table.proofs.Exits.{ends_err}
 use Rattle.dir_entries.proofs.Common.{◌≡◌, sym, subst, err_from_is_err_and, IfOk, BlockWords, held_of, volume_layout, AllNamed, IsInode}
 use Rattle.rio_base.proofs.BlockRules.{ends_later}
 use Rattle.rio_base.proofs.Rules.{looks_trans}
 use Rattle.dir_entries.specs.Rows.{Finds}
 use Rattle.dir_entries.proofs.CanRead.{can_read}
-use Rattle.dir_entries.proofs.EndsAs.{ends_err}
 use Rattle.node_pages.proofs.EndsOn.{if_err}
 use Rattle.dir_lookups.proofs.finding.find.Goals as goal
 

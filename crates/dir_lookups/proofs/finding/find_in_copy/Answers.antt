@@ -1,4 +1,4 @@
-use Rattle.dir_entries.proofs.EndsAs.{ends_err, ends_ok}
+use Rattle.inode_table.proofs.Exits.{ends_err, ends_ok}
 use Rattle.dir_entries.proofs.Common.{err_from_is_err_and}
 use Rattle.dir_lookups.proofs.Found.{finds_read}
 use Rattle.dir_lookups.proofs.finding.find_in_copy.Goals as goal

@@ -1,8 +1,8 @@
+use Rattle.inode_table.proofs.Exits.{ends_err}
 use Rattle.dir_entries.proofs.Common.{◌*◌, ◌<◌, ◌∙◌, ◌-◌, ◌/◌, ℕ, min, sym, ap, subst, IfOk, err_from_is_err_and, BlockWords, held, placed_at, look_trans, arith}
 use Rattle.rio_base.proofs.BlockRules.{ends_later}
 use Rattle.dir_lookups.specs.Finding.{FindsIn}
 use Rattle.dir_entries.proofs.CanRead.{block_on, can_page, can_stays, dir_held, dir_size, has_page, looked_page, page_below, page_on}
-use Rattle.dir_entries.proofs.EndsAs.{ends_err}
 use Rattle.dir_lookups.proofs.Found.{finds_held, finds_in_page}
 use Rattle.dir_lookups.proofs.finding.find_in_page.Goals as goal
 

@@ -1,10 +1,10 @@
+use Rattle.inode_table.proofs.Exits.{ends_err, ends_ok}
 use Rattle.dir_entries.proofs.Common.{◌≡◌, ◌<◌, ◌∙◌, ap, arith, refl, sym, subst, err_from_is_err_and, BlockWords, Held, IsInode, held_of, look_trans, placed_at}
 use Rattle.std.proofs.Common.{le_trans}
 use Rattle.rio_base.proofs.BlockRules.{ends_later}
 use Rattle.node_pages.proofs.LookingUpRules.{look_refl}
 use Rattle.dir_lookups.specs.Finding.{FindsInPage}
 use Rattle.dir_entries.proofs.CanRead.{can_look, dir_held, sized}
-use Rattle.dir_entries.proofs.EndsAs.{ends_err, ends_ok}
 use Rattle.dir_lookups.proofs.Found.{none_next}
 use Rattle.node_pages.proofs.EndsOn.{if_err}
 use Rattle.dir_lookups.proofs.finding.find_in_pages.Goals as goal

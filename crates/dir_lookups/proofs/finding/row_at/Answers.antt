@@ -1,9 +1,9 @@
+use Rattle.inode_table.proofs.Exits.{ends_err, ends_ok}
 use Rattle.rio_base.proofs.Rules.{looks_refl}
 use Rattle.dir_entries.proofs.Common.{arith, err_from_is_err_and, named_on, refl, held_of}
 use Rattle.std.proofs.Common.{rules, le_refl}
 use Rattle.node_pages.proofs.EndsOn.{if_err}
 use Rattle.dir_entries.proofs.CanRead.{can_read}
-use Rattle.dir_entries.proofs.EndsAs.{ends_err, ends_ok}
 use Rattle.dir_lookups.proofs.EntryRead.{slot_named, slot_other, slot_read, entry_sized}
 use Rattle.dir_lookups.proofs.finding.row_at.Goals as goal
 

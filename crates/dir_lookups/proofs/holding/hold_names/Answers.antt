@@ -1,3 +1,4 @@
+use Rattle.node_pages.proofs.Ends.{ends_read_memory, ends_vol_read}
 use Rattle.rio_base.proofs.Rules.{ends_by_well}
 use Rattle.dir_entries.proofs.Common.{◌≡◌, ◌/◌, ◌∙◌, arith, sym, ap, subst, map, refl, range_with_len, err_from_is_err_and, ends_by_after, BlockWords, Held, held_of, placed_at, IsInode, look_trans, named_on}
 use Rattle.std.proofs.Common.{le_trans}
@@ -6,7 +7,6 @@ use Rattle.node_pages.proofs.LookingUpRules.{look_refl}
 use Rattle.dir_lookups.specs.Holding.{HoldsRows}
 use Rattle.node_pages.proofs.EndsOn.{if_err}
 use Rattle.dir_entries.proofs.CanRead.{can_look, can_read, dir_held, dir_size, sized}
-use Rattle.dir_entries.proofs.EndsAs.{ends_memory, ends_vol_read}
 use Rattle.dir_lookups.proofs.EntryRead.{IsSlot, slot_read}
 use Rattle.dir_lookups.proofs.HeldRows.{put_rows, row_of, rows_held, rows_next}
 use Rattle.dir_lookups.proofs.holding.hold_names.Goals as goal
@@ -63,7 +63,7 @@ returns-in_err-put_entry-clause-ends g c =
     let inv = c.loop-slot.invariant in
     let call = c.in_ok-entry.ensures.ends in
     let p = err_from_is_err_and c.from_residual-in_err-put_entry.result c.from_residual-in_err-put_entry.ensures.1 in
-    ends_memory _ _ c.from_residual-in_err-put_entry.result _ p.1 p.2 (le_trans inv.later call.later) (call.cause ∙ inv.running)
+    ends_read_memory _ _ c.from_residual-in_err-put_entry.result _ p.1 p.2 (le_trans inv.later call.later) (call.cause ∙ inv.running)
 
 pub loop-slot-preserved : goal.loop-slot-preserved
 loop-slot-preserved g c =

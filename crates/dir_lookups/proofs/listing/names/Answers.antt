@@ -1,7 +1,6 @@
 use Rattle.std.proofs.Common.{le_trans}
 use Rattle.rio_base.proofs.Rules.{ends_by_well, looks_trans}
-use Rattle.node_pages.proofs.Ends.{ends_read}
-use Rattle.dir_entries.proofs.EndsAs.{ends_vol_read}
+use Rattle.node_pages.proofs.Ends.{ends_read, ends_vol_read}
 use Rattle.dir_entries.proofs.Common.{◌∙◌, ◌/◌, map, sym, ap, arith, range_with_len, BlockWords, Held, entry_name, held_of, placed_at, look_trans, named_on, IsInode, ends_by_after, err_from_is_err_and, subst}
 use Rattle.dir_entries.proofs.CanRead.{can_read, dir_held, sized}
 use Rattle.dir_lookups.proofs.Listed.{lists_sorted}

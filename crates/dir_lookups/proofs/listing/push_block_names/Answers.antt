@@ -1,8 +1,8 @@
+use Rattle.node_pages.proofs.Ends.{ends_vol_read, ends_read_memory}
 use Rattle.std.specs.Prelude.{OnOk}
 use Rattle.dir_entries.specs.Entries.{name_in}
 use Rattle.rio_base.proofs.Rules.{ends_by_well, looks_trans}
 use Rattle.rio_base.proofs.BlockRules.{caches_trans, can_name_on}
-use Rattle.dir_entries.proofs.EndsAs.{ends_vol_read, ends_memory}
 use Rattle.dir_entries.proofs.Common.{arith, ends_by_after, err_from_is_err_and, subst, sym, ℕ, ◌<◌, BlockWords, map, range_with_len, ◌%◌, ◌*◌, ◌++◌, ◌/◌, ◌^◌, ◌≡◌, ◌≤◌}
 use Rattle.dir_lookups.proofs.Listed.{names_read, short_read}
 use Rattle.dir_lookups.proofs.listing.push_block_names.Goals as goal
@@ -111,7 +111,7 @@ returns-in_err-push_names-clause-sound g c = c.word.ensures.sound
 pub returns-in_err-push_names-clause-ends : goal.returns-in_err-push_names-clause-ends
 returns-in_err-push_names-clause-ends g c =
     let p = err_from_is_err_and c.from_residual-in_err-push_names.result c.from_residual-in_err-push_names.ensures.1 in
-    ends_memory _ _ c.from_residual-in_err-push_names.result _ p.1 p.2 c.word.ensures.ends.later c.in_ok-word.ensures.ends.cause
+    ends_read_memory _ _ c.from_residual-in_err-push_names.result _ p.1 p.2 c.word.ensures.ends.later c.in_ok-word.ensures.ends.cause
 
 pub push_names-requires-clause-short : goal.push_names-requires-clause-short
 push_names-requires-clause-short g c = short_read _ _ c.args.b.0 c.args.count c.in-Some.words.now c.word.ensures.looks.words c.requires.few c.requires.short c.in-Some.ensures.words

@@ -1,5 +1,5 @@
+use Rattle.node_pages.proofs.Ends.{ends_read_memory, ends_vol_read}
 use Rattle.rio_base.proofs.Rules.{ends_by_well}
-use Rattle.dir_entries.proofs.EndsAs.{ends_memory, ends_vol_read}
 use Rattle.dir_entries.proofs.Common.{refl, err_from_is_err_and}
 use Rattle.dir_lookups.proofs.Listed.{names_read, short_read}
 use Rattle.dir_lookups.proofs.listing.push_copied_names.Goals as goal
@@ -57,7 +57,7 @@ returns-in_err-read_run-clause-ends g c =
 pub returns-in_err-push_names-clause-ends : goal.returns-in_err-push_names-clause-ends
 returns-in_err-push_names-clause-ends g c =
     let p = err_from_is_err_and c.from_residual-in_err-push_names.result c.from_residual-in_err-push_names.ensures.1 in
-    ends_memory _ _ c.from_residual-in_err-push_names.result _ p.1 p.2 c.read_run.ensures.ends.later c.in_ok-read_run.ensures.ends.cause
+    ends_read_memory _ _ c.from_residual-in_err-push_names.result _ p.1 p.2 c.read_run.ensures.ends.later c.in_ok-read_run.ensures.ends.cause
 
 pub returns-clause-ends : goal.returns-clause-ends
 returns-clause-ends g c = ends_by_well _ _ _ _ c.read_run.ensures.ends.later c.in_ok-read_run.ensures.ends.cause (λ a. cc) (λ a. cc)

@@ -1,7 +1,7 @@
+use Rattle.node_pages.proofs.Ends.{ends_vol_read}
 use Rattle.dir_entries.proofs.Common.{◌*◌, ◌<◌, ◌∙◌, ◌-◌, ◌/◌, ◌%◌, ◌^◌, ◌≤◌, ℕ, map, min, sym, ap, subst, range_with_len, err_from_is_err_and, BlockWords, ends_by_after, Held, entry_name, held_of, placed_at, look_trans, arith}
 use Rattle.dir_entries.specs.Entries.{name_in}
 use Rattle.dir_entries.proofs.CanRead.{block_on, can_page, can_stays, dir_held, dir_size, has_page, looked_page, page_below, page_on}
-use Rattle.dir_entries.proofs.EndsAs.{ends_vol_read}
 use Rattle.dir_lookups.proofs.Listed.{names_on, names_short, page_names, short_in_page}
 use Rattle.dir_lookups.proofs.listing.push_page_names.Goals as goal
 

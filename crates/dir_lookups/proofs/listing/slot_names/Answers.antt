@@ -1,9 +1,8 @@
 use Rattle.rio_base.proofs.Rules.{ends_by_well}
-use Rattle.dir_entries.proofs.EndsAs.{ends_memory}
 use Rattle.dir_entries.proofs.Common.{◌∙◌, ◌++◌, ◌-◌, ◌*◌, ◌/◌, ◌%◌, map, min, arith, sym, ap, subst, range_with_len, err_from_is_err_and, BlockWords, ends_by_after, IsInode, entry_name, held_of, look_trans, refl, ◌≡◌}
 use Rattle.std.proofs.Common.{le_trans, le_refl}
 use Rattle.node_pages.proofs.LookingUpRules.{look_refl}
-use Rattle.node_pages.proofs.Ends.{ends_read}
+use Rattle.node_pages.proofs.Ends.{ends_read, ends_read_memory}
 use Rattle.dir_entries.proofs.CanRead.{can_look, dir_size}
 use Rattle.dir_lookups.proofs.Listed.{pages_next, no_pages}
 use Rattle.dir_lookups.proofs.listing.slot_names.Goals as goal
@@ -62,7 +61,7 @@ returns-in_err-names-clause-sound g c = c.requires.sound
 pub returns-in_err-names-clause-ends : goal.returns-in_err-names-clause-ends
 returns-in_err-names-clause-ends g c =
     let p = err_from_is_err_and c.from_residual.result c.from_residual.ensures.1 in
-    ends_memory _ _ c.from_residual.result _ p.1 p.2 (le_refl _) refl
+    ends_read_memory _ _ c.from_residual.result _ p.1 p.2 (le_refl _) refl
 
 pub returns-in_err-push_page_names-clause-sound : goal.returns-in_err-push_page_names-clause-sound
 returns-in_err-push_page_names-clause-sound g c = c.push_page_names.ensures.sound

@@ -1,6 +1,5 @@
 use Rattle.rio_base.proofs.Rules.{ends_by_well}
-use Rattle.node_pages.proofs.Ends.{ends_read}
-use Rattle.dir_entries.proofs.EndsAs.{ends_memory}
+use Rattle.node_pages.proofs.Ends.{ends_read, ends_read_memory}
 use Rattle.dir_entries.proofs.Common.{err_from_is_err_and}
 use Rattle.directories.proofs.PlannedRows.{entries_planned}
 use Rattle.node_pages.proofs.EndsOn.{if_err}
@@ -69,7 +68,7 @@ returns-in_err-change-clause-ends g c =
 pub returns-in_err-with_entries-clause-ends : goal.returns-in_err-with_entries-clause-ends
 returns-in_err-with_entries-clause-ends g c =
     let p = err_from_is_err_and c.from_residual-in_err-with_entries.result c.from_residual-in_err-with_entries.ensures.1 in
-    ends_memory _ _ c.from_residual-in_err-with_entries.result _ p.1 p.2 c.in_ok-change.ensures.ends.later (c.in_ok-change.ensures.ends.runs (λ stop. cc))
+    ends_read_memory _ _ c.from_residual-in_err-with_entries.result _ p.1 p.2 c.in_ok-change.ensures.ends.later (c.in_ok-change.ensures.ends.runs (λ stop. cc))
 
 pub returns-clause-ends : goal.returns-clause-ends
 returns-clause-ends g c = ends_by_well _ _ _ _ c.in_ok-change.ensures.ends.later (c.in_ok-change.ensures.ends.runs (λ stop. cc)) (λ a. cc) (λ a. cc)

@@ -1,8 +1,7 @@
-use Rattle.file_pages.proofs.Written.{stop_told}
+use Rattle.file_pages.proofs.Written.{stop_told, bytes_ok, bytes_well, ends_bytes_vol, run_fault, run_stop}
 use Rattle.file_pages.proofs.Common.{refl, ◌then◌, ◌<◌, SameBut, ap, arith, ends_by_after, err_from_is_err_and, firm_trans, le_trans, subst, sym, ◌∙◌}
 use Rattle.file_pages.proofs.PutPieces.{makes, puts_all, puts_before, puts_front, puts_none, puts_told, told_few}
 use Rattle.node_pages.proofs.EndsOn.{if_err}
-use Rattle.file_pages.proofs.Written.{bytes_ok, bytes_well, ends_bytes_vol, run_fault, run_stop}
 use Rattle.rio_base.proofs.BlockRules.{can_name_on, stored_trans}
 use Rattle.file_pages.proofs.Stored.{stored_read}
 use Rattle.file_pages.proofs.pieces.store_words.Goals as goal

@@ -1,4 +1,4 @@
-use Rattle.dir_entries.proofs.EndsAs.{ends_err}
+use Rattle.inode_table.proofs.Exits.{ends_err}
 use Rattle.rio_base.proofs.BlockRules.{ends_later, shape_dropped}
 use Rattle.node_updates.proofs.UpdateEnds.{ends_halted, ends_unhalted, fault_handed, never_fault}
 use Rattle.file_ends.proofs.Failed.{never_ok}

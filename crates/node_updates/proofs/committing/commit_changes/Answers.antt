@@ -1,5 +1,5 @@
+use Rattle.inode_table.proofs.Exits.{ends_err}
 use Rattle.rio_base.proofs.BlockRules.{ends_later}
-use Rattle.dir_entries.proofs.EndsAs.{ends_err}
 use Rattle.node_updates.proofs.UpdateEnds.{ends_halted, ends_unhalted}
 use Rattle.file_ends.proofs.Failed.{never_ok}
 use Rattle.file_ends.proofs.Common.{err_from_is_err_and, ◌then◌}

@@ -1,4 +1,4 @@
-use Rattle.dir_entries.proofs.EndsAs.{ends_err}
+use Rattle.inode_table.proofs.Exits.{ends_err}
 use Rattle.file_ends.proofs.Failed.{never_ok}
 use Rattle.node_updates.proofs.UpdateEnds.{on_done, on_both}
 use Rattle.node_pages.proofs.Updated.{touched_still}

@@ -1,5 +1,4 @@
-use Rattle.std.proofs.lemmas.Result.{err_from_is_err_and}
-use Rattle.std.proofs.lemmas.Result.{IfOk-from_err}
+use Rattle.std.proofs.lemmas.Result.{err_from_is_err_and, IfOk-from_err}
 use Rattle.inode_table.proofs.Exits.{ends_err, ends_none}
 use Rattle.region_recovery.proofs.Lists.{inode_cached}
 use Rattle.region_recovery.proofs.listing.is_region.Goals as goal

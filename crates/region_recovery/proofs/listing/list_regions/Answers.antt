@@ -1,10 +1,9 @@
 use Rattle.std.proofs.Common.{◌+◌, ◌∙◌, ap, le_refl, le_trans, refl, sym}
-use Rattle.std.proofs.lemmas.Result.{err_from_is_err_and}
+use Rattle.std.proofs.lemmas.Result.{err_from_is_err_and, IfOk-from_err}
 use Rattle.rio_base.specs.Blocks.{BlockWords}
 use Rattle.rio_base.proofs.BlockSets.{caches_by_refl, caches_by_trans}
 use Rattle.rio_base.proofs.Rules.{ends_by_after, looks_refl, looks_trans}
 use Rattle.region_recovery.specs.RegionLists.{is_region}
-use Rattle.std.proofs.lemmas.Result.{IfOk-from_err}
 use Rattle.region_recovery.proofs.EndsAs.{ends_listed, ends_memory, ends_vol_read}
 use Rattle.region_recovery.proofs.Lists.{kind_on, listed_all, listed_none, nth_ino, listed_with, listed_without}
 use Rattle.region_recovery.proofs.listing.list_regions.Goals as goal

@@ -1,5 +1,5 @@
 use Rattle.std.proofs.Common.{◌∙◌, subst, sym}
-use Rattle.std.proofs.lemmas.Result.{IfOk-weaker, err_from_is_err_and, on_ok_weaker}
+use Rattle.std.proofs.lemmas.Result.{IfOk-weaker, err_from_is_err_and, on_ok_weaker, IfOk-from_err}
 use Rattle.rio_base.specs.declared.places.Ino.{Ino}
 use Rattle.rio_base.specs.declared.places.VolumeShape.{VolumeShape}
 use Rattle.rio_base.specs.Rules.{◌then◌}
@@ -7,7 +7,6 @@ use Rattle.rio_base.proofs.BlockRules.{ends_later}
 use Rattle.rio_model.proofs.RegionMoves.{rest_same}
 use Rattle.rio_model.specs.VolumeReady.{Ready}
 use Rattle.region_view.specs.Views.{KeepsInode, OnRegion}
-use Rattle.std.proofs.lemmas.Result.{IfOk-from_err}
 use Rattle.inode_table.proofs.Exits.{ends_err}
 use Rattle.region_recovery.proofs.EndsAs.{ran_ok}
 use Rattle.region_recovery.proofs.OneRegion.{had_records, none_left, reads_still, reads_turned, stands_on, stood_size, turned}

@@ -1,10 +1,9 @@
 use Rattle.std.proofs.Common.{◌∙◌, arith, le_refl, le_trans, refl, subst, sym}
-use Rattle.std.proofs.lemmas.Result.{err_from_is_err_and}
+use Rattle.std.proofs.lemmas.Result.{err_from_is_err_and, IfOk-from_err}
 use Rattle.rio_base.specs.declared.places.VolumeShape.{VolumeShape}
 use Rattle.rio_base.specs.Rules.{goes_refl, ◌then◌}
 use Rattle.rio_base.proofs.BlockRules.{ends_later}
 use Rattle.rio_model.specs.VolumeReady.{Ready}
-use Rattle.std.proofs.lemmas.Result.{IfOk-from_err}
 use Rattle.inode_table.proofs.Exits.{ends_err, ends_none}
 use Rattle.region_recovery.proofs.RecoverTurns.{as_long, asked, counted_all, few_regions, no_more, no_turn, no_turns, nth_region, one_more, recovered_all, recovered_none, some_state, states_turned, turn}
 use Rattle.region_recovery.proofs.recovering.recover_regions.Goals as goal

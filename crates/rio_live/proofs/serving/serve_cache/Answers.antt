@@ -1,4 +1,5 @@
-use Rattle.rio_live.proofs.ServedBoots.{booted_holds, booted_served}
+use Rattle.pair_files.proofs.StageRules.{booted_served}
+use Rattle.rio_live.proofs.ServedBoots.{booted_holds}
 use Rattle.rio_live.proofs.serving.serve_cache.Goals as goal
 
 pub serve_core-requires-clause-holds : goal.serve_core-requires-clause-holds
