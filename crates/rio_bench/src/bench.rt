@@ -19,7 +19,10 @@ pub trait Bench<D: DiskBlocks> {
     /// That machine was taken back.
     ghost parted: { Self → Bool };
 
-    /// It tells what its machine began with and how it was left.
+    /// It tells what its machine began with.
+    ghost tells_start: { Self → Bool };
+
+    /// It tells how its machine was left.
     ghost tells: { Self → Bool };
 
     /// What the machine began with, where that is told and one was made.
@@ -48,7 +51,8 @@ pub trait Bench<D: DiskBlocks> {
         ensures run { IfOk result (λ m. Self.M.run m ≡ made_run words.now.items scratch stop_after) }
         ensures pages { OnOk result (pages self.new ≡ Some (length words.now.items / 512)) }
         ensures unparted { OnOk result (parted self.new ≡ false) }
-        ensures began { tells self.old ≡ true → OnOk result (began self.new ≡ Some (record { words = words.now.items; blocks = (D.contents disk).blocks; scratch = scratch; stop = stop_after })) }
+        ensures began { tells_start self.old ≡ true → OnOk result (began self.new ≡ Some (record { words = words.now.items; blocks = (D.contents disk).blocks; scratch = scratch; stop = stop_after })) }
+        ensures tells_start { tells_start self.new ≡ tells_start self.old }
         ensures tells { tells self.new ≡ tells self.old }
         ensures back { IfErr result (λ back. back.0 ≡ disk) }
         ensures same { OnErr result (self.new ≡ self.old) };
@@ -62,5 +66,6 @@ pub trait Bench<D: DiskBlocks> {
         ensures parted { parted self.new ≡ true }
         ensures began { began self.new ≡ began self.old }
         ensures left { tells self.old ≡ true → left self.new ≡ Some (left_by (Self.M.contents machine) (Self.M.run machine)) }
+        ensures tells_start { tells_start self.new ≡ tells_start self.old }
         ensures tells { tells self.new ≡ tells self.old };
 }

@@ -38,6 +38,8 @@ impl<D: DiskBlocks> Bench<D> for BoardBench {
 
     ghost parted = { λ b. b.parted };
 
+    ghost tells_start = { λ b. false };
+
     ghost tells = { λ b. false };
 
     ghost began = { λ b. None };

@@ -57,6 +57,8 @@ impl<H: Host> Bench<HostDisk<H>> for KeepBench {
 
     ghost parted = { λ b. is_some b.left };
 
+    ghost tells_start = { λ b. true };
+
     ghost tells = { λ b. true };
 
     ghost began = { λ b. option_map began_of b.began };
