@@ -1,11 +1,10 @@
 -- How work on a pair ends, by what each of its parts left.
-use Rattle.std.proofs.Common.{◌≡◌, ◌≢◌, ◌≤◌, ℕ, ◌/◌, Bool, true, false, List, ◌++◌, length, Option, Some, None, ◌⊎◌, inl, inr, refl, sym, ap, subst, ◌∙◌, arith}
+use Rattle.std.proofs.Common.{◌≡◌, ◌≢◌, ◌<◌, ◌≤◌, ℕ, Bool, true, false, List, ◌++◌, length, Option, Some, None, ◌⊎◌, inl, inr, refl, sym, ap, subst, ◌∙◌, arith}
 use Rattle.rio_base.specs.Blocks.{Causes}
 use Rattle.rio_base.specs.Bytes.{bytes_of}
 use Rattle.rio_base.specs.Counts.{Rose}
-use Rattle.rio_base.specs.Disks.{blocks_of, is_pending}
-use Rattle.rio_base.specs.Hosts.{Files, IsFile, with_file}
-use Rattle.rio_base.specs.Image.{HasHeader}
+use Rattle.rio_base.specs.Disks.{block_at, is_pending}
+use Rattle.rio_base.specs.Hosts.{Files, with_file}
 use Rattle.rio_base.specs.Machine.{Contents, Running}
 use Rattle.rio_base.specs.Rules.{none_some, true_false}
 use Rattle.rio_base.specs.Volume.{StopCause}
@@ -16,6 +15,7 @@ use Rattle.rio_bench.specs.Benches.{Leaving, left_by}
 use Rattle.rio_model.specs.declared.state.State.{State}
 use Rattle.rio_model.specs.Cover.{MayLeave, causes_of}
 use Rattle.rio_model.specs.Standing.{StandsFor}
+use Rattle.rio_model.proofs.StandingStates.{stands_for_stopped}
 use Rattle.registry.specs.Views.{Viewed}
 use Rattle.warm_reboot.specs.declared.report.BootFail.{BootFail}
 use Rattle.warm_reboot.specs.declared.report.BootFail.TheVariants.{BadImage as BootImage, BadVolume as BootVolume, Fault as BootFaulted, Memory as BootMemory, Stopped as BootStop}
@@ -26,16 +26,15 @@ use Rattle.pair_files.specs.declared.ends.PairEnd.TheVariants.{Absent as NoFile,
 use Rattle.pair_files.specs.declared.failures.LoadFail.{LoadFail}
 use Rattle.pair_files.specs.declared.failures.LoadFail.TheVariants.{Absent, BadImage, BadLength, Fault, Memory as LoadMemory}
 use Rattle.pair_files.specs.declared.names.PairFile.TheVariants.{Image, Disk}
-use Rattle.pair_files.specs.Ends.{AreFound, EndedEarly, Ended, EndsEarly, EndsNoBreach, EndsSound, IsPairOrKept, IsSaved, IsSomePair, IsUnsaved, KeepsPair, LeftRunning, Outcome, Outset, PairEnds, Untouched}
-use Rattle.pair_files.specs.Images.{HoldsImage, IsImageOf}
-use Rattle.pair_files.specs.Loads.{IsDiskLoaded, Misses, TellsNoBreach}
-use Rattle.pair_files.specs.Pairs.{AreBlocksIn, BreaksVolume, HasPair, file_of}
-use Rattle.pair_files.specs.Saves.{Leaves, disk_of}
+use Rattle.pair_files.specs.Ends.{AreFound, EndedEarly, Ended, EndsEarly, EndsNoBreach, EndsSound, IsPairOrKept, IsSomePair, IsUnsaved, KeepsMemory, KeepsPair, LeftRunning, Outcome, Outset, PairEnds, Untouched}
+use Rattle.pair_files.specs.Loads.{Misses, TellsNoBreach}
+use Rattle.pair_files.specs.Pairs.{BreaksVolume, file_of}
+use Rattle.pair_files.specs.Saves.{Leaves}
 use Rattle.pair_files.specs.Scenes.{Scene}
 use Rattle.pair_files.specs.Stages.{IsFailed, IsMade, SavedAs, SavedOrNot, UnsavedAs, end_of}
-use Rattle.pair_files.proofs.BytesIn.{blocks_of_in}
-use Rattle.pair_files.proofs.LeftFiles.{disk_left, file_known, files_kept, files_told, left_blocks, left_told, one_file, others_left, with_beside, with_here, with_here_told, with_same}
-use Rattle.pair_files.proofs.PairRules.{fails_pair, file_blocks, head_same, image_of, machine_pair, pair_loads, pair_stands, volume_none}
+use Rattle.pair_files.proofs.LeftFiles.{files_told, with_same}
+use Rattle.pair_files.proofs.LeftMachines.{HasDisk, kept_files, made_found, made_header, made_holds, made_in, made_pair, made_stands, others_saved, others_unsaved, saved_is, saved_memory, saved_pair, unsaved_memory}
+use Rattle.pair_files.proofs.PairRules.{fails_pair, pair_loads, volume_none}
 
 -- ---- ends without a work
 
@@ -99,109 +98,13 @@ unloaded {E} o fail x u none counted h = record {
 pub ended_unloaded : {E : Type 0} (o : Outset) (does : E → Scene → Scene → Type 0) (fail : LoadFail) (told : PairEnd E) (x : Outcome) → told ≡ end_of fail → Untouched o x → x.pages ≡ None → o.faults ≤ x.faults → Misses fail o.image o.disk (Rose o.faults x.faults) o.told → Ended o does told x
 ended_unloaded {E} o does fail told x is u none counted h = subst (λ (end : PairEnd E). Ended o does end x) (sym is) (ended_early o does (end_of fail) x (unloaded o fail x u none counted h))
 
--- ---- the machine has what was loaded
+-- ---- no machine was made
 
--- a machine's disk is the one that was loaded
-abbrev HasDisk : Outset → Contents → Type 0
-HasDisk o c = IsDiskLoaded o.told o.disk (disk_of c)
-
--- nothing was written: the files are those of before
-kept_files : (o : Outset) (c d : Contents) (left : Option Files) → HasDisk o c → d.disk ≡ c.disk → d.pending ≡ c.pending → Leaves o.told o.disk d left → left ≡ o.told
-kept_files o c d left on disk pending h =
-    files_kept o.told left o.disk d on.words (length on.words / 512) on.file.bytes (file_blocks on.words on.file.long) (disk ∙ on.blocks) (λ b. ap (λ (marks : List Bool). is_pending marks b) pending ∙ on.settled b) h
-
--- no machine was made of what was loaded
+-- of what was loaded
 pub unmade : {E : Type 0} (o : Outset) (c : Contents) (x : Outcome) → HasDisk o c → Leaves o.told o.disk c x.told → x.streams ≡ o.streams → x.pages ≡ None → o.faults ≤ x.faults → EndedEarly {E = E} o Memory x
 unmade o c x on h streams none counted =
     let u : Untouched o x = record { files = kept_files o c c x.told on refl refl h; unread = streams } in
     record { ends = (u, inl none, none_left x none); every = record { sound = λ i k s pair. tt; others = λ name image disk. same_others o x name u; counted = counted } }
-
--- a machine that was made of a pair stands for the pair's state
-pub made_stands : (o : Outset) (c : Contents) (r : Running) (i k : List ℕ) (s : State) → IsMade o c r → HasPair o.told o.image o.disk i k s → StandsFor c (length r.scratch) s
-made_stands o c r i k s m h =
-    pair_stands i k s c.words r.scratch (blocks_of m.disk.words) c (length r.scratch) h.pair
-    (subst (λ (bs : List ℕ). IsImageOf bs (c.words ++ r.scratch)) (one_file o.told o.image i m.bytes h.image_file m.file) m.are) m.layout
-    (subst (λ (bs : List ℕ). AreBlocksIn bs (blocks_of m.disk.words)) (one_file o.told o.disk k (bytes_of m.disk.words) h.disk_file m.disk.file.bytes) (made_blocks o c r m))
-    refl m.disk.blocks m.disk.settled refl
-  where
-    made_blocks : (o : Outset) (c : Contents) (r : Running) (m : IsMade o c r) → AreBlocksIn (bytes_of m.disk.words) (blocks_of m.disk.words)
-    made_blocks o c r m = blocks_of_in m.disk.words (length m.disk.words / 512) (file_blocks m.disk.words m.disk.file.long) m.disk.file.fit
-
-pub made_in : (o : Outset) (c : Contents) (r : Running) (m : IsMade o c r) → AreBlocksIn (bytes_of m.disk.words) c.disk
-made_in o c r m = subst (AreBlocksIn (bytes_of m.disk.words)) (sym m.disk.blocks) (blocks_of_in m.disk.words (length m.disk.words / 512) (file_blocks m.disk.words m.disk.file.long) m.disk.file.fit)
-
--- and if it stands for one, the files are a pair
-pub made_pair : (o : Outset) (c : Contents) (r : Running) (s : State) → IsMade o c r → StandsFor c (length r.scratch) s → IsSomePair o
-made_pair o c r s m h = λ files e. (
-  m.bytes,
-  bytes_of m.disk.words,
-  s,
-  record {
-    image_file = file_known o.told files o.image m.bytes e m.file;
-    disk_file = file_known o.told files o.disk (bytes_of m.disk.words) e m.disk.file.bytes;
-    pair = machine_pair m.bytes (bytes_of m.disk.words) s c.words r.scratch c.disk c (length r.scratch) m.are (made_in o c r m) (record { count = refl; whole = (made_in o c r m).whole; kept = λ b clear. refl }) refl refl h;
-  },
-)
-
--- its image keeps its rules
-made_holds : (o : Outset) (c : Contents) (r : Running) → IsMade o c r → HoldsImage o.told o.image c.words
-made_holds o c r m = record { scratch = r.scratch; holds = record { bytes = m.bytes; file = m.file; are = m.are }; layout = m.layout; keeps = m.keeps }
-
-made_header : (o : Outset) (c : Contents) (r : Running) → IsMade o c r → HasHeader c.words
-made_header o c r m =
-    let long = m.layout.protected in
-    let own = m.are.image.header in
-    record { magic = sym (head_same c.words r.scratch 0 (omega (arith, long))) ∙ own.magic; version = sym (head_same c.words r.scratch 1 (omega (arith, long))) ∙ own.version }
-
--- it was made of files that were found
-pub made_found : (o : Outset) (c : Contents) (r : Running) → IsMade o c r → AreFound o
-made_found o c r m = record { words = c.words; disk_words = m.disk.words; image_file = made_holds o c r m; disk_file = m.disk.file }
-
--- ---- a machine was taken back
-
--- the files but the two are as before
-pub others_unsaved : (o : Outset) (c : Contents) (left : Option Files) (name : List ℕ) → Leaves o.told o.disk c left → name ≢ o.disk → file_of left name ≡ file_of o.told name
-others_unsaved o c left name h ne = others_left o.told left o.disk name h.around ne
-
-others_saved : (o : Outset) (c : Contents) (r : Running) (x : Outcome) (name : List ℕ) → SavedAs o c r x → name ≢ o.image → name ≢ o.disk → file_of x.told name ≡ file_of o.told name
-others_saved o c r x name h image disk =
-    ap (λ (t : Option Files). file_of t name) h.files ∙ with_beside h.left o.image (bytes_of (c.words ++ r.scratch)) name image ∙ others_unsaved o c h.left name h.leaves disk
-
--- the image's file has the words of memory
-pub saved_is : (o : Outset) (c : Contents) (r : Running) (x : Outcome) → SavedAs o c r x → IsSaved o x
-saved_is o c r x h = record {
-  made = h.made;
-  saved = λ e. (left_by c r, h.told e, subst (λ (t : Option Files). IsFile t o.image (bytes_of (c.words ++ r.scratch))) (sym h.files) (with_here h.left o.image (bytes_of (c.words ++ r.scratch))));
-}
-
--- what the machine stood for the files are a pair of
-pub record PairNow (o : Outset) (c : Contents) (x : Outcome) (s : State) : Type 0 where
-  pub image_now : List ℕ
-  pub disk_now : List ℕ
-  pub pair : HasPair x.told o.image o.disk image_now disk_now s
-  pub blocks : List (List ℕ)
-  pub in_disk : AreBlocksIn disk_now blocks
-  pub leaves : MayLeave c blocks
-
-pub saved_pair : (o : Outset) (c : Contents) (r : Running) (x : Outcome) (files : Files) (s : State) → o.told ≡ Some files → o.image ≢ o.disk → SavedAs o c r x → StandsFor c (length r.scratch) s → PairNow o c x s
-saved_pair o c r x files s e two h st = by (left_told o.told h.left o.disk files h.leaves.around e)
-  where
-    by : (now : Files) × (h.left ≡ Some now) → PairNow o c x s
-    by (now, is) =
-        let own = disk_left h.left now o.disk c is h.leaves.settled in
-        let all = left_blocks c own.0 own.2 h.leaves.fit in
-        record {
-          image_now = bytes_of (c.words ++ r.scratch);
-          disk_now = own.0;
-          pair = record {
-            image_file = ap (λ (t : Option Files). file_of t o.image) h.files ∙ with_here_told h.left now o.image (bytes_of (c.words ++ r.scratch)) is;
-            disk_file = ap (λ (t : Option Files). file_of t o.disk) h.files ∙ with_beside h.left o.image (bytes_of (c.words ++ r.scratch)) o.disk (λ same. two (sym same)) ∙ own.1;
-            pair = machine_pair (bytes_of (c.words ++ r.scratch)) own.0 s c.words r.scratch all.0 c (length r.scratch) (record { fits = h.fit; bytes_are = refl; image = image_of c r.scratch st.image }) all.1 all.2 refl refl st;
-          };
-          blocks = all.0;
-          in_disk = all.1;
-          leaves = all.2;
-        }
 
 -- ---- a reboot that failed
 
@@ -252,6 +155,23 @@ pair_or_kept : (V : Type 0) (o : Outset) (x : Outcome) → (V → x.told ≡ o.t
 pair_or_kept V o x same (inl pair) = inl pair
 pair_or_kept V o x same (inr v) = inr (same v)
 
+-- nor of what the machine stood for
+viewed_survives : (o : Outset) (old c : Contents) (run r : Running) (s : State) → IsMade o old run → Viewed old c run r → StandsFor old (length run.scratch) s → StandsFor c (length r.scratch) s
+viewed_survives o old c run r s m viewed h =
+    stands_for_stopped old c (length run.scratch) (length r.scratch) s (ap (λ (y : Contents). y.words) viewed.rest) leaves
+    (λ b. ap (λ (y : Contents). is_pending y.pending b) viewed.rest ∙ m.disk.settled b)
+    (ap (λ (q : Running). length q.scratch) viewed.run) h
+  where
+    disk : c.disk ≡ old.disk
+    disk = ap (λ (y : Contents). y.disk) viewed.rest
+
+    leaves : MayLeave old c.disk
+    leaves = record {
+      count = ap (λ (ds : List (List ℕ)). length ds) disk;
+      whole = subst (λ (ds : List (List ℕ)). (b : ℕ) → b < length ds → length (block_at ds b) ≡ 512) (sym disk) (made_in o old run m).whole;
+      kept = λ b clear. ap (λ (ds : List (List ℕ)). block_at ds b) disk;
+    }
+
 not_bad : (o : Outset) (c : Contents) (r : Running) (rule : ℕ) → IsFailed o c r (BootImage rule) → ⊥
 not_bad o c r rule h = none_registry h.old.words rule h.made.keeps h.unbooted.0
 
@@ -294,17 +214,30 @@ every_saved o c r x end counted h none = record { sound = λ i k s pair. none; o
 failed_counted : (o : Outset) (c : Contents) (r : Running) (fail : BootFail) → IsFailed o c r fail → o.faults ≤ c.faults.count
 failed_counted o c r fail h = omega (arith, h.runs.later, h.made.counted)
 
-ended_unsaved : {E : Type 0} (o : Outset) (c : Contents) (r : Running) (fail : BootFail) (x : Outcome) → IsFailed o c r fail → o.image ≢ o.disk → x.streams ≡ o.streams → UnsavedAs o c r x → EndedEarly {E = E} o (Unsaved None) x
-ended_unsaved o c r fail x h two streams unsaved = record {
-  ends = (unsaved_is o c r x (made_found o h.old h.run h.made) two counted unsaved, streams, pair_or_kept (Viewed h.old c h.run r) o x (λ viewed. viewed_files o h.old c h.run r x.told h.made viewed unsaved.leaves) (looked_pair o c r fail h));
+-- whatever the machine stood for before its reboot it stands for
+abbrev Stays : (o : Outset) (c : Contents) (r : Running) (fail : BootFail) → IsFailed o c r fail → Type 0
+Stays o c r fail h = (s : State) → StandsFor h.old (length h.run.scratch) s → StandsFor c (length r.scratch) s
+
+unsaved_keeps : (o : Outset) (c : Contents) (r : Running) (fail : BootFail) (x : Outcome) → (h : IsFailed o c r fail) → Stays o c r fail h → UnsavedAs o c r x → KeepsMemory o x
+unsaved_keeps o c r fail x h stays unsaved = λ i k s pair. let files = files_told o.told o.image i pair.image_file in unsaved_memory o c r x files.0 s files.1 unsaved (stays s (made_stands o h.old h.run i k s h.made pair))
+
+saved_keeps : (o : Outset) (c : Contents) (r : Running) (fail : BootFail) (x : Outcome) → (h : IsFailed o c r fail) → o.image ≢ o.disk → Stays o c r fail h → SavedAs o c r x → KeepsMemory o x
+saved_keeps o c r fail x h two stays saved = λ i k s pair. let files = files_told o.told o.image i pair.image_file in saved_memory o c r x files.0 s files.1 two saved (stays s (made_stands o h.old h.run i k s h.made pair))
+
+ended_unsaved : {E : Type 0} (o : Outset) (c : Contents) (r : Running) (fail : BootFail) (x : Outcome) → (h : IsFailed o c r fail) → o.image ≢ o.disk → x.streams ≡ o.streams → Stays o c r fail h → UnsavedAs o c r x → EndedEarly {E = E} o (Unsaved None) x
+ended_unsaved o c r fail x h two streams stays unsaved = record {
+  ends = (unsaved_is o c r x (made_found o h.old h.run h.made) two counted unsaved, streams, pair_or_kept (Viewed h.old c h.run r) o x (λ viewed. viewed_files o h.old c h.run r x.told h.made viewed unsaved.leaves) (looked_pair o c r fail h), unsaved_keeps o c r fail x h stays unsaved);
   every = record { sound = λ i k s pair. tt; others = λ name image disk. others_unsaved o c x.told name unsaved.leaves disk; counted = omega (arith, counted, unsaved.counted) };
 }
   where
     counted : o.faults ≤ c.faults.count
     counted = failed_counted o c r fail h
 
-ended_memory : {E : Type 0} (o : Outset) (c : Contents) (r : Running) (x : Outcome) → IsFailed o c r BootMemory → x.streams ≡ o.streams → SavedAs o c r x → EndedEarly {E = E} o Memory x
-ended_memory o c r x h streams saved = record { ends = (u, inr (saved_is o c r x saved), left_running c r x (viewed_runs o h.old c h.run r m viewed) saved.told); every = every_saved o c r x Memory (failed_counted o c r BootMemory h) saved tt }
+memory_stays : (o : Outset) (c : Contents) (r : Running) (h : IsFailed o c r BootMemory) → Stays o c r BootMemory h
+memory_stays o c r h = λ s st. viewed_survives o h.old c h.run r s h.made h.unbooted st
+
+ended_memory : {E : Type 0} (o : Outset) (c : Contents) (r : Running) (x : Outcome) → IsFailed o c r BootMemory → o.image ≢ o.disk → x.streams ≡ o.streams → SavedAs o c r x → EndedEarly {E = E} o Memory x
+ended_memory o c r x h two streams saved = record { ends = (u, inr (saved_is o c r x saved, saved_keeps o c r BootMemory x h two (memory_stays o c r h) saved), left_running c r x (viewed_runs o h.old c h.run r m viewed) saved.told); every = every_saved o c r x Memory (failed_counted o c r BootMemory h) saved tt }
   where
     m : IsMade o h.old h.run
     m = h.made
@@ -316,14 +249,15 @@ ended_memory o c r x h streams saved = record { ends = (u, inr (saved_is o c r x
     u = record { files = viewed_saved o h.old c h.run r x m viewed saved; unread = streams }
 
 -- what was stood for is stood for
-kept_pair : (o : Outset) (c : Contents) (r : Running) (fail : BootFail) (x : Outcome) → (h : IsFailed o c r fail) → o.image ≢ o.disk → x.streams ≡ o.streams → SavedAs o c r x → ((s : State) → StandsFor h.old (length h.run.scratch) s → StandsFor c (length r.scratch) s) → KeepsPair o x
-kept_pair o c r fail x h two streams saved survives = record {
+kept_pair : (o : Outset) (c : Contents) (r : Running) (fail : BootFail) (x : Outcome) → (h : IsFailed o c r fail) → o.image ≢ o.disk → x.streams ≡ o.streams → SavedAs o c r x → Stays o c r fail h → KeepsPair o x
+kept_pair o c r fail x h two streams saved stays = record {
   found = made_found o h.old h.run h.made;
   unread = streams;
   is_saved = saved_is o c r x saved;
   pair = λ i k s pair.
       let files = files_told o.told o.image i pair.image_file in
-      let now = saved_pair o c r x files.0 s files.1 two saved (survives s (made_stands o h.old h.run i k s h.made pair)) in (now.image_now, now.disk_now, now.pair);
+      let now = saved_pair o c r x files.0 s files.1 two saved (stays s (made_stands o h.old h.run i k s h.made pair)) in (now.image_now, now.disk_now, now.pair);
+  memory = saved_keeps o c r fail x h two stays saved;
 }
 
 ended_fault : {E : Type 0} (o : Outset) (c : Contents) (r : Running) (x : Outcome) → IsFailed o c r BootFaulted → o.image ≢ o.disk → x.streams ≡ o.streams → SavedAs o c r x → EndedEarly {E = E} o BootFault x
@@ -365,15 +299,15 @@ ended_stopped o c r x h two streams saved = record {
     cause = stop_given (causes_of h.run) (causes_of r) h.run.stopped r.stopped h.made.running h.unbooted.0 h.made.unarmed h.runs.cause
 
 -- either the image was saved, or it was not
-either : {E : Type 0} (o : Outset) (c : Contents) (r : Running) (fail : BootFail) (x : Outcome) (end told : PairEnd E) → o.image ≢ o.disk → x.streams ≡ o.streams → IsFailed o c r fail → (SavedAs o c r x → EndedEarly o end x) → SavedOrNot end told o c r x → EndedEarly o told x
-either {E} o c r fail x end told two streams h on (inl (is, saved)) = subst (λ (y : PairEnd E). EndedEarly o y x) (sym is) (on saved)
-either {E} o c r fail x end told two streams h on (inr (is, unsaved)) = subst (λ (y : PairEnd E). EndedEarly o y x) (sym is) (ended_unsaved o c r fail x h two streams unsaved)
+either : {E : Type 0} (o : Outset) (c : Contents) (r : Running) (fail : BootFail) (x : Outcome) (end told : PairEnd E) → o.image ≢ o.disk → x.streams ≡ o.streams → (h : IsFailed o c r fail) → Stays o c r fail h → (SavedAs o c r x → EndedEarly o end x) → SavedOrNot end told o c r x → EndedEarly o told x
+either {E} o c r fail x end told two streams h stays on (inl (is, saved)) = subst (λ (y : PairEnd E). EndedEarly o y x) (sym is) (on saved)
+either {E} o c r fail x end told two streams h stays on (inr (is, unsaved)) = subst (λ (y : PairEnd E). EndedEarly o y x) (sym is) (ended_unsaved o c r fail x h two streams stays unsaved)
 
 pub either_memory : {E : Type 0} (o : Outset) (c : Contents) (r : Running) (x : Outcome) (told : PairEnd E) → o.image ≢ o.disk → x.streams ≡ o.streams → IsFailed o c r BootMemory → SavedOrNot Memory told o c r x → EndedEarly o told x
-either_memory o c r x told two streams h = either o c r BootMemory x Memory told two streams h (ended_memory o c r x h streams)
+either_memory o c r x told two streams h = either o c r BootMemory x Memory told two streams h (memory_stays o c r h) (ended_memory o c r x h two streams)
 
 pub either_fault : {E : Type 0} (o : Outset) (c : Contents) (r : Running) (x : Outcome) (told : PairEnd E) → o.image ≢ o.disk → x.streams ≡ o.streams → IsFailed o c r BootFaulted → SavedOrNot BootFault told o c r x → EndedEarly o told x
-either_fault o c r x told two streams h = either o c r BootFaulted x BootFault told two streams h (ended_fault o c r x h two streams)
+either_fault o c r x told two streams h = either o c r BootFaulted x BootFault told two streams h h.unbooted.1.state (ended_fault o c r x h two streams)
 
 pub either_stopped : {E : Type 0} (o : Outset) (c : Contents) (r : Running) (x : Outcome) (told : PairEnd E) → o.image ≢ o.disk → x.streams ≡ o.streams → IsFailed o c r BootStop → SavedOrNot BootStopped told o c r x → EndedEarly o told x
-either_stopped o c r x told two streams h = either o c r BootStop x BootStopped told two streams h (ended_stopped o c r x h two streams)
+either_stopped o c r x told two streams h = either o c r BootStop x BootStopped told two streams h h.unbooted.1.state (ended_stopped o c r x h two streams)

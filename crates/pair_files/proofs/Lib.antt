@@ -2,6 +2,7 @@ pub mod BytesIn
 pub mod Endings
 pub mod ImageLayouts
 pub mod LeftFiles
+pub mod LeftMachines
 pub mod LoadRules
 pub mod PairRules
 pub mod StageRules

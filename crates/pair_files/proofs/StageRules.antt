@@ -170,9 +170,10 @@ saved_by o c r x name answer done image is (left, leaves, replaced) fit cause ma
   told = told;
 }
 
-pub unsaved_by : (o : Outset) (c : Contents) (r : Running) (x : Outcome) (name : List ℕ) (answer : Result (Unit {0}) Failed) (failed : Failed) → answer ≡ Err failed → ((left : Option Files) × Leaves o.told o.disk c left × Replaces answer name (bytes_of (c.words ++ r.scratch)) left x.told) → HasCause answer c.faults.count x.faults → ((n : ℕ) × (x.pages ≡ Some n)) → (x.tells ≡ true → x.left ≡ Some (left_by c r)) → UnsavedAs o c r x
-unsaved_by o c r x name answer failed is (left, leaves, replaced) cause made told = record {
+pub unsaved_by : (o : Outset) (c : Contents) (r : Running) (x : Outcome) (name : List ℕ) (answer : Result (Unit {0}) Failed) (failed : Failed) → answer ≡ Err failed → ((left : Option Files) × Leaves o.told o.disk c left × Replaces answer name (bytes_of (c.words ++ r.scratch)) left x.told) → AreWords (c.words ++ r.scratch) → HasCause answer c.faults.count x.faults → ((n : ℕ) × (x.pages ≡ Some n)) → (x.tells ≡ true → x.left ≡ Some (left_by c r)) → UnsavedAs o c r x
+unsaved_by o c r x name answer failed is (left, leaves, replaced) fit cause made told = record {
   leaves = subst (λ (t : Option Files). Leaves o.told o.disk c t) (sym (subst (λ (a : Result (Unit {0}) Failed). Replaces a name (bytes_of (c.words ++ r.scratch)) left x.told) is replaced)) leaves;
+  fit = fit;
   rose = rose_of answer is cause;
   counted = cause.later;
   made = made;

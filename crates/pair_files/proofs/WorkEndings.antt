@@ -25,7 +25,8 @@ use Rattle.pair_files.specs.Scenes.{IsBooted, LastsBelow, Scene, Streams, scene_
 use Rattle.pair_files.specs.Stages.{IsMade, IsStarted, SavedAs, UnsavedAs}
 use Rattle.pair_files.proofs.BytesIn.{word_back}
 use Rattle.pair_files.proofs.LeftFiles.{files_told, one_file}
-use Rattle.pair_files.proofs.Endings.{PairNow, every_saved, made_found, made_in, made_pair, made_stands, others_unsaved, saved_is, saved_pair, unsaved_is}
+use Rattle.pair_files.proofs.Endings.{every_saved, unsaved_is}
+use Rattle.pair_files.proofs.LeftMachines.{PairNow, made_found, made_in, made_pair, made_stands, others_unsaved, saved_is, saved_memory, saved_pair, unsaved_memory}
 
 -- ---- where it begins
 
@@ -168,6 +169,7 @@ ended_worked o does e shape c d r q t x streams whole two given h done lasts sav
           image_now = now.image_now;
           disk_now = now.disk_now;
           pair = now.pair;
+          memory = saved_memory o d q x files.0 led.0 files.1 two saved led.2;
           roomy = λ roomy. h.runs.roomy ∙ made_roomy o h.old h.run i k s h.made pair roomy;
           restored = λ roomy home same. restored o shape c d r q t x i k s led.0 whole h booted pair now led.2 roomy home same;
           counted = saved.counted;
@@ -180,9 +182,17 @@ ended_unsaved_work o does e shape c d r q t x streams two given h done lasts uns
     made_pair o h.old h.run h.found.0 h.made h.found.1,
     gone,
     λ i k s pair.
+        let files = files_told o.told o.image i pair.image_file in
         let booted = h.booted s (made_stands o h.old h.run i k s h.made pair) in
         let led = done s booted in
-        record { begin = scene_of s c r streams; after = scene_of led.0 d q x.streams; goes = goes o does e shape c d r q t x streams s led.0 h given booted led.1 lasts unsaved.told; rose = unsaved.rose },
+        record {
+          begin = scene_of s c r streams;
+          after = scene_of led.0 d q x.streams;
+          goes = goes o does e shape c d r q t x streams s led.0 h given booted led.1 lasts unsaved.told;
+          memory = unsaved_memory o d q x files.0 led.0 files.1 unsaved led.2;
+          counted = unsaved.counted;
+          rose = unsaved.rose;
+        },
   );
   every = record { sound = λ i k s pair. tt; others = λ name image disk. others_unsaved o d x.told name unsaved.leaves disk; counted = omega (arith, counted, unsaved.counted) };
 }

@@ -11,7 +11,7 @@ use Rattle.pair_files.specs.declared.ends.PairEnd.{PairEnd}
 use Rattle.pair_files.specs.declared.ends.PairEnd.TheVariants.{Absent, BadImage, BadVolume, BootFault, BootStopped, HostFault, Memory, Unsaved, Worked}
 use Rattle.pair_files.specs.declared.names.PairFile.TheVariants.{Image, Disk}
 use Rattle.pair_files.specs.Images.{Breaks, HoldsImage, HoldsWords}
-use Rattle.pair_files.specs.Pairs.{BreaksVolume, HasPair, IsRestored, IsRoomy, file_of}
+use Rattle.pair_files.specs.Pairs.{BreaksVolume, HasPair, IsPair, IsRestored, IsRoomy, file_of}
 use Rattle.pair_files.specs.Scenes.{LastsBelow, Scene, Streams}
 
 -- ---- before and after
@@ -54,6 +54,16 @@ pub record IsSaved (o : Outset) (x : Outcome) : Type 0 where
   pub made : (n : ℕ) × (x.pages ≡ Some n)
   pub saved : x.tells ≡ true → (l : Leaving) × (x.left ≡ Some l) × IsFile x.told o.image (bytes_of l.words)
 
+-- the words with which memory was left are, with the disk's file, a pair for s: a file that holds them needs no save
+pub record LeavesMemory (o : Outset) (x : Outcome) (s : State) : Type 0 where
+  pub disk_now : List ℕ
+  pub disk_file : file_of x.told o.disk ≡ Some disk_now
+  pub pair : x.tells ≡ true → (l : Leaving) × (x.left ≡ Some l) × IsPair (bytes_of l.words) disk_now s
+
+-- memory and the disk's file stand for what the files stood for
+abbrev pub KeepsMemory : Outset → Outcome → Type 0
+KeepsMemory o x = (i k : List ℕ) (s : State) → HasPair o.told o.image o.disk i k s → LeavesMemory o x s
+
 -- the bench does not tell of a machine that it made that it was stopped
 abbrev pub LeftRunning : Outcome → Type 0
 LeftRunning x = (n : ℕ) (l : Leaving) → x.pages ≡ Some n → x.tells ≡ true → x.left ≡ Some l → l.stopped ≡ false
@@ -73,6 +83,7 @@ pub record KeepsPair (o : Outset) (x : Outcome) : Type 0 where
   pub unread : x.streams ≡ o.streams
   pub is_saved : IsSaved o x
   pub pair : (i k : List ℕ) (s : State) → HasPair o.told o.image o.disk i k s → (j l : List ℕ) × HasPair x.told o.image o.disk j l s
+  pub memory : KeepsMemory o x
 
 -- ---- a work
 
@@ -122,15 +133,18 @@ pub record Works (o : Outset) (does : Scene → Scene → Type 0) (x : Outcome) 
   pub image_now : List ℕ
   pub disk_now : List ℕ
   pub pair : HasPair x.told o.image o.disk image_now disk_now after.state
+  pub memory : LeavesMemory o x after.state
   pub roomy : IsRoomy i k → begin.below.roomy ≡ true
   pub restored : IsRoomy i k → after.below.home ≡ begin.below.home → after.state.shape ≡ s.shape → IsRestored i k disk_now s
   pub counted : after.health.faults ≤ x.faults
 
--- the same where the image could not be saved, so that nothing is said of the pair
+-- the same where the image could not be saved, so that nothing is said of its file
 pub record WorksUnsaved (o : Outset) (does : Scene → Scene → Type 0) (x : Outcome) (s : State) : Type 0 where
   pub begin : Scene
   pub after : Scene
   pub goes : Goes o does x s begin after
+  pub memory : LeavesMemory o x after.state
+  pub counted : after.health.faults ≤ x.faults
   pub rose : Rose after.health.faults x.faults
 
 -- a machine was made of the files, the image is as before, and the count of faults rose since the machine was left
@@ -159,11 +173,11 @@ EndsEarly o (BadImage rule) x = Untouched o x × Breaks o.told o.image rule × L
 EndsEarly o (BadVolume rule b) x = Untouched o x × BreaksVolume o.told o.image o.disk rule b.0 × LeftRunning x
 EndsEarly o (HostFault Image) x = Untouched o x × (x.pages ≡ None) × Rose o.faults x.faults
 EndsEarly o (HostFault Disk) x = Untouched o x × (x.pages ≡ None) × Rose o.faults x.faults × (words : List ℕ) × HoldsImage o.told o.image words
-EndsEarly o Memory x = Untouched o x × ((x.pages ≡ None) ⊎ IsSaved o x) × LeftRunning x
+EndsEarly o Memory x = Untouched o x × ((x.pages ≡ None) ⊎ (IsSaved o x × KeepsMemory o x)) × LeftRunning x
 EndsEarly o BootFault x = KeepsPair o x × Rose o.faults x.faults × IsPairOrKept o x × LeftRunning x
 EndsEarly o BootStopped x = KeepsPair o x × (is_some o.stop ≡ true) × (x.tells ≡ true → (l : Leaving) × (x.left ≡ Some l) × (l.stopped ≡ true) × (l.trapped ≡ None)) × IsSomePair o
 EndsEarly o (Worked e) x = ⊥
-EndsEarly o (Unsaved None) x = IsUnsaved o x × (x.streams ≡ o.streams) × IsPairOrKept o x
+EndsEarly o (Unsaved None) x = IsUnsaved o x × (x.streams ≡ o.streams) × IsPairOrKept o x × KeepsMemory o x
 EndsEarly o (Unsaved (Some e)) x = ⊥
 
 abbrev pub PairEnds : {E : Type 0} → Outset → (E → Scene → Scene → Type 0) → PairEnd E → Outcome → Type 0

@@ -103,6 +103,7 @@ pub record SavedAs (o : Outset) (c : Contents) (r : Running) (x : Outcome) : Typ
 -- it was taken back, and its image could not be saved
 pub record UnsavedAs (o : Outset) (c : Contents) (r : Running) (x : Outcome) : Type 0 where
   pub leaves : Leaves o.told o.disk c x.told
+  pub fit : (i : ℕ) → slice_index (c.words ++ r.scratch) i < 2 ^ 64
   pub rose : Rose c.faults.count x.faults
   pub counted : c.faults.count ≤ x.faults
   pub made : (n : ℕ) × (x.pages ≡ Some n)

@@ -47,8 +47,9 @@ pub fn work_on_pair<H: Host, B: Bench<HostDisk<H>>, S: Source, K: Sink, W: Work>
     requires two { string_bytes names.now.image.now ≢ string_bytes names.now.disk.now }
     requires asks { AsksUnarmed (W.asks work.old) (is_some stop) }
     ensures ended { Ended (outset_of (H.files host) (H.faults host) (string_bytes names.now.image.now) (string_bytes names.now.disk.now) stop (streams_of (S.left source.old) (K.written sink.old) (S.faults source.old) (K.faults sink.old))) (λ end before after. W.does work.old before end after) result.0 (outcome_of (H.files result.1) (H.faults result.1) (streams_of (S.left source.new) (K.written sink.new) (S.faults source.new) (K.faults sink.new)) (B.pages bench.new) (B.tells bench.new) (B.left bench.new)) }
-    ensures began { (n : ℕ) → B.pages bench.new ≡ Some n → B.tells bench.new ≡ true → HasBegun (outset_of (H.files host) (H.faults host) (string_bytes names.now.image.now) (string_bytes names.now.disk.now) stop (streams_of (S.left source.old) (K.written sink.old) (S.faults source.old) (K.faults sink.old))) (B.began bench.new) }
+    ensures began { (n : ℕ) → B.pages bench.new ≡ Some n → B.tells_start bench.new ≡ true → HasBegun (outset_of (H.files host) (H.faults host) (string_bytes names.now.image.now) (string_bytes names.now.disk.now) stop (streams_of (S.left source.old) (K.written sink.old) (S.faults source.old) (K.faults sink.old))) (B.began bench.new) }
     ensures parted { (n : ℕ) → B.pages bench.new ≡ Some n → B.parted bench.new ≡ true }
+    ensures tells_start { B.tells_start bench.new ≡ B.tells_start bench.old }
     ensures tells { B.tells bench.new ≡ B.tells bench.old }
     ensures source_later { S.faults source.old ≤ S.faults source.new }
     ensures sink_later { K.faults sink.old ≤ K.faults sink.new }
@@ -88,8 +89,9 @@ fn work_loaded<H: Host, B: Bench<HostDisk<H>>, S: Source, K: Sink, W: Work>(
     requires unmade { B.pages bench.old ≡ None }
     requires asks { AsksUnarmed (W.asks work.old) (is_some stop) }
     ensures ended { (o : Outset) → IsOf o (string_bytes image.now) (streams_of (S.left source.old) (K.written sink.old) (S.faults source.old) (K.faults sink.old)) → IsFound o loaded.image.bytes.items loaded.image.words.items loaded.image.scratch (⟦<HostDisk<H> as DiskBlocks>⟧.contents loaded.disk) stop → Ended o (λ end before after. W.does work.old before end after) result.0 (outcome_of (H.files result.1) (H.faults result.1) (streams_of (S.left source.new) (K.written sink.new) (S.faults source.new) (K.faults sink.new)) (B.pages bench.new) (B.tells bench.new) (B.left bench.new)) }
-    ensures began { (o : Outset) → IsFound o loaded.image.bytes.items loaded.image.words.items loaded.image.scratch (⟦<HostDisk<H> as DiskBlocks>⟧.contents loaded.disk) stop → (n : ℕ) → B.pages bench.new ≡ Some n → B.tells bench.new ≡ true → HasBegun o (B.began bench.new) }
+    ensures began { (o : Outset) → IsFound o loaded.image.bytes.items loaded.image.words.items loaded.image.scratch (⟦<HostDisk<H> as DiskBlocks>⟧.contents loaded.disk) stop → (n : ℕ) → B.pages bench.new ≡ Some n → B.tells_start bench.new ≡ true → HasBegun o (B.began bench.new) }
     ensures parted { (n : ℕ) → B.pages bench.new ≡ Some n → B.parted bench.new ≡ true }
+    ensures tells_start { B.tells_start bench.new ≡ B.tells_start bench.old }
     ensures tells { B.tells bench.new ≡ B.tells bench.old }
     ensures source_later { S.faults source.old ≤ S.faults source.new }
     ensures sink_later { K.faults sink.old ≤ K.faults sink.new }
@@ -124,7 +126,8 @@ fn make_machine<H: Host, B: Bench<HostDisk<H>>>(
     ensures run { IfOk result (λ m. B.M.run m ≡ made_run words.items scratch stop) }
     ensures pages { IfOk result (λ m. (n : ℕ) × (B.pages bench.new ≡ Some n) × (512 * n ≡ length (B.M.contents m).words + length (B.M.run m).scratch)) }
     ensures unparted { OnOk result (B.parted bench.new ≡ false) }
-    ensures began { OnOk result (B.tells bench.old ≡ true → B.began bench.new ≡ Some (record { words = words.items; blocks = (⟦<HostDisk<H> as DiskBlocks>⟧.contents disk).blocks; scratch = scratch; stop = stop })) }
+    ensures began { OnOk result (B.tells_start bench.old ≡ true → B.began bench.new ≡ Some (record { words = words.items; blocks = (⟦<HostDisk<H> as DiskBlocks>⟧.contents disk).blocks; scratch = scratch; stop = stop })) }
+    ensures tells_start { B.tells_start bench.new ≡ B.tells_start bench.old }
     ensures tells { B.tells bench.new ≡ B.tells bench.old }
     ensures back { IfErr result (λ back. ⟦<HostDisk<H> as DiskBlocks>⟧.contents back ≡ ⟦<HostDisk<H> as DiskBlocks>⟧.contents disk) }
     ensures same { OnErr result (bench.new ≡ bench.old) }
@@ -159,6 +162,7 @@ fn work_made<H: Host, B: Bench<HostDisk<H>>, S: Source, K: Sink, W: Work>(
     ensures ended { (o : Outset) → IsOf o (string_bytes image.now) (streams_of (S.left source.old) (K.written sink.old) (S.faults source.old) (K.faults sink.old)) → IsMade o (B.M.contents machine) (B.M.run machine) → Ended o (λ end before after. W.does work.old before end after) result.0 (outcome_of (H.files result.1) (H.faults result.1) (streams_of (S.left source.new) (K.written sink.new) (S.faults source.new) (K.faults sink.new)) (B.pages bench.new) (B.tells bench.new) (B.left bench.new)) }
     ensures parted { B.parted bench.new ≡ true }
     ensures began { B.began bench.new ≡ B.began bench.old }
+    ensures tells_start { B.tells_start bench.new ≡ B.tells_start bench.old }
     ensures tells { B.tells bench.new ≡ B.tells bench.old }
     ensures pages { B.pages bench.new ≡ B.pages bench.old }
     ensures source_later { S.faults source.old ≤ S.faults source.new }
@@ -203,6 +207,7 @@ fn work_booted<H: Host, B: Bench<HostDisk<H>>, S: Source, K: Sink, W: Work>(
     ensures ended { (o : Outset) → IsOf o (string_bytes image.now) (streams_of (S.left source.old) (K.written sink.old) (S.faults source.old) (K.faults sink.old)) → IsStarted o shape (B.M.contents cache.machine) (B.M.run cache.machine) cache.tables → Ended o (λ end before after. W.does work.old before end after) result.0 (outcome_of (H.files result.1) (H.faults result.1) (streams_of (S.left source.new) (K.written sink.new) (S.faults source.new) (K.faults sink.new)) (B.pages bench.new) (B.tells bench.new) (B.left bench.new)) }
     ensures parted { B.parted bench.new ≡ true }
     ensures began { B.began bench.new ≡ B.began bench.old }
+    ensures tells_start { B.tells_start bench.new ≡ B.tells_start bench.old }
     ensures tells { B.tells bench.new ≡ B.tells bench.old }
     ensures pages { B.pages bench.new ≡ B.pages bench.old }
     ensures source_later { S.faults source.old ≤ S.faults source.new }
@@ -230,6 +235,7 @@ fn end_unbooted<H: Host, B: Bench<HostDisk<H>>, E: Drop>(
     ensures ended { (o : Outset) (streams : Streams) → IsOf o (string_bytes image.now) streams → IsFailed o (B.M.contents machine) (B.M.run machine) fail → EndedEarly o result.0 (outcome_of (H.files result.1) (H.faults result.1) streams (B.pages bench.new) (B.tells bench.new) (B.left bench.new)) }
     ensures parted { B.parted bench.new ≡ true }
     ensures began { B.began bench.new ≡ B.began bench.old }
+    ensures tells_start { B.tells_start bench.new ≡ B.tells_start bench.old }
     ensures tells { B.tells bench.new ≡ B.tells bench.old }
     ensures pages { B.pages bench.new ≡ B.pages bench.old }
 {
@@ -258,6 +264,7 @@ fn end_saved<H: Host, B: Bench<HostDisk<H>>, E: Drop>(
     ensures saved { (o : Outset) (streams : Streams) → o.image ≡ string_bytes image.now → (B.M.contents machine).around ≡ around_of o.told o.disk → SavedOrNot end result.0 o (B.M.contents machine) (B.M.run machine) (outcome_of (H.files result.1) (H.faults result.1) streams (B.pages bench.new) (B.tells bench.new) (B.left bench.new)) }
     ensures parted { B.parted bench.new ≡ true }
     ensures began { B.began bench.new ≡ B.began bench.old }
+    ensures tells_start { B.tells_start bench.new ≡ B.tells_start bench.old }
     ensures tells { B.tells bench.new ≡ B.tells bench.old }
     ensures pages { B.pages bench.new ≡ B.pages bench.old }
 {

@@ -35,6 +35,7 @@ pub(crate) fn save<H: Host, B: Bench<HostDisk<H>>>(
     ensures parted { B.parted bench.new ≡ true }
     ensures began { B.began bench.new ≡ B.began bench.old }
     ensures left { B.tells bench.old ≡ true → B.left bench.new ≡ Some (left_by (B.M.contents machine) (B.M.run machine)) }
+    ensures tells_start { B.tells_start bench.new ≡ B.tells_start bench.old }
     ensures tells { B.tells bench.new ≡ B.tells bench.old }
 {
     let mut bytes = bytes;
@@ -54,6 +55,7 @@ pub(crate) fn hand_back<H: Host, B: Bench<HostDisk<H>>>(machine: B::M, bench: &m
     ensures parted { B.parted bench.new ≡ true }
     ensures began { B.began bench.new ≡ B.began bench.old }
     ensures left { B.tells bench.old ≡ true → B.left bench.new ≡ Some (left_by (B.M.contents machine) (B.M.run machine)) }
+    ensures tells_start { B.tells_start bench.new ≡ B.tells_start bench.old }
     ensures tells { B.tells bench.new ≡ B.tells bench.old }
 {
     bench.part(machine).into_host()

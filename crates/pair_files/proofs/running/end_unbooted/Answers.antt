@@ -85,6 +85,9 @@ returns-in-BadImage-clause-began g c = c.hand_back.ensures.began
 pub returns-in-BadImage-clause-tells : goal.returns-in-BadImage-clause-tells
 returns-in-BadImage-clause-tells g c = c.hand_back.ensures.tells
 
+pub returns-in-BadImage-clause-tells_start : goal.returns-in-BadImage-clause-tells_start
+returns-in-BadImage-clause-tells_start g c = c.hand_back.ensures.tells_start
+
 pub returns-in-BadImage-clause-pages : goal.returns-in-BadImage-clause-pages
 returns-in-BadImage-clause-pages g c = c.hand_back.ensures.pages
 
@@ -96,6 +99,9 @@ returns-in-BadVolume-clause-began g c = c.hand_back-in-BadVolume.ensures.began
 
 pub returns-in-BadVolume-clause-tells : goal.returns-in-BadVolume-clause-tells
 returns-in-BadVolume-clause-tells g c = c.hand_back-in-BadVolume.ensures.tells
+
+pub returns-in-BadVolume-clause-tells_start : goal.returns-in-BadVolume-clause-tells_start
+returns-in-BadVolume-clause-tells_start g c = c.hand_back-in-BadVolume.ensures.tells_start
 
 pub returns-in-BadVolume-clause-pages : goal.returns-in-BadVolume-clause-pages
 returns-in-BadVolume-clause-pages g c = c.hand_back-in-BadVolume.ensures.pages
@@ -109,6 +115,9 @@ returns-in-Memory-clause-began g c = c.end_saved.ensures.began
 pub returns-in-Memory-clause-tells : goal.returns-in-Memory-clause-tells
 returns-in-Memory-clause-tells g c = c.end_saved.ensures.tells
 
+pub returns-in-Memory-clause-tells_start : goal.returns-in-Memory-clause-tells_start
+returns-in-Memory-clause-tells_start g c = c.end_saved.ensures.tells_start
+
 pub returns-in-Memory-clause-pages : goal.returns-in-Memory-clause-pages
 returns-in-Memory-clause-pages g c = c.end_saved.ensures.pages
 
@@ -121,6 +130,9 @@ returns-in-Fault-clause-began g c = c.end_saved-in-Fault.ensures.began
 pub returns-in-Fault-clause-tells : goal.returns-in-Fault-clause-tells
 returns-in-Fault-clause-tells g c = c.end_saved-in-Fault.ensures.tells
 
+pub returns-in-Fault-clause-tells_start : goal.returns-in-Fault-clause-tells_start
+returns-in-Fault-clause-tells_start g c = c.end_saved-in-Fault.ensures.tells_start
+
 pub returns-in-Fault-clause-pages : goal.returns-in-Fault-clause-pages
 returns-in-Fault-clause-pages g c = c.end_saved-in-Fault.ensures.pages
 
@@ -132,6 +144,9 @@ returns-in-Stopped-clause-began g c = c.end_saved-in-Stopped.ensures.began
 
 pub returns-in-Stopped-clause-tells : goal.returns-in-Stopped-clause-tells
 returns-in-Stopped-clause-tells g c = c.end_saved-in-Stopped.ensures.tells
+
+pub returns-in-Stopped-clause-tells_start : goal.returns-in-Stopped-clause-tells_start
+returns-in-Stopped-clause-tells_start g c = c.end_saved-in-Stopped.ensures.tells_start
 
 pub returns-in-Stopped-clause-pages : goal.returns-in-Stopped-clause-pages
 returns-in-Stopped-clause-pages g c = c.end_saved-in-Stopped.ensures.pages

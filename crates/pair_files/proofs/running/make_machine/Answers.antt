@@ -30,8 +30,14 @@ returns-in-Ok-clause-began g c = c.in-Ok.ensures.began
 pub returns-in-Ok-clause-tells : goal.returns-in-Ok-clause-tells
 returns-in-Ok-clause-tells g c = c.make.ensures.tells
 
+pub returns-in-Ok-clause-tells_start : goal.returns-in-Ok-clause-tells_start
+returns-in-Ok-clause-tells_start g c = c.make.ensures.tells_start
+
 pub returns-clause-tells : goal.returns-clause-tells
 returns-clause-tells g c = c.make.ensures.tells
+
+pub returns-clause-tells_start : goal.returns-clause-tells_start
+returns-clause-tells_start g c = c.make.ensures.tells_start
 
 pub returns-clause-back : goal.returns-clause-back
 returns-clause-back g c = seen_same c.in-Err.disk c.args.disk c.in-Err.ensures.back (λ d. file_contents (g.H.Host.files d.host) (g.H.Host.faults d.host) (string_bytes d.name) d.words.items d.pending.marks.items d.writes)

@@ -104,6 +104,9 @@ returns-in-Ok-clause-began g c = c.work_booted.ensures.began
 pub returns-in-Ok-clause-tells : goal.returns-in-Ok-clause-tells
 returns-in-Ok-clause-tells g c = c.work_booted.ensures.tells
 
+pub returns-in-Ok-clause-tells_start : goal.returns-in-Ok-clause-tells_start
+returns-in-Ok-clause-tells_start g c = c.work_booted.ensures.tells_start
+
 pub returns-in-Ok-clause-pages : goal.returns-in-Ok-clause-pages
 returns-in-Ok-clause-pages g c = c.work_booted.ensures.pages
 
@@ -121,6 +124,9 @@ returns-in-Err-clause-began g c = c.end_unbooted.ensures.began
 
 pub returns-in-Err-clause-tells : goal.returns-in-Err-clause-tells
 returns-in-Err-clause-tells g c = c.end_unbooted.ensures.tells
+
+pub returns-in-Err-clause-tells_start : goal.returns-in-Err-clause-tells_start
+returns-in-Err-clause-tells_start g c = c.end_unbooted.ensures.tells_start
 
 pub returns-in-Err-clause-pages : goal.returns-in-Err-clause-pages
 returns-in-Err-clause-pages g c = c.end_unbooted.ensures.pages
