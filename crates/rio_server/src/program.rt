@@ -77,7 +77,7 @@ pub fn run<S: Source, K: Sink, H: Host, B: Bench<HostDisk<H>>>(
     ensures told { result.0 ≡ 2 → WritesLine (Rose (K.faults sink.old) (K.faults sink.new)) (K.written sink.old) usage_line (K.written sink.new) }
 
     // What each command does.
-    ensures served { (image disk : List ℕ) (stop : Option ℕ) → Reads (texts_of words.now.items) (Serve image disk stop) → ServeRuns image disk stop result.0 (outside (H.files host) (H.faults host) (S.left source.old) (S.faults source.old) (K.written sink.old) (K.faults sink.old)) (outside (H.files result.1) (H.faults result.1) (S.left source.new) (S.faults source.new) (K.written sink.new) (K.faults sink.new)) (benched (B.pages bench.new) (B.parted bench.new) (B.tells bench.new) (B.began bench.new) (B.left bench.new)) }
+    ensures served { (image disk : List ℕ) (stop : Option ℕ) → Reads (texts_of words.now.items) (Serve image disk stop) → ServeRuns image disk stop result.0 (outside (H.files host) (H.faults host) (S.left source.old) (S.faults source.old) (K.written sink.old) (K.faults sink.old)) (outside (H.files result.1) (H.faults result.1) (S.left source.new) (S.faults source.new) (K.written sink.new) (K.faults sink.new)) (benched (B.pages bench.new) (B.parted bench.new) (B.tells_start bench.new) (B.tells bench.new) (B.began bench.new) (B.left bench.new)) }
     ensures formatted { (image disk : List ℕ) (frames blocks inodes scratch : ℕ) → Reads (texts_of words.now.items) (Format image disk frames blocks inodes scratch) → FormatRuns image disk (format_sizes frames blocks inodes scratch) result.0 (outside (H.files host) (H.faults host) (S.left source.old) (S.faults source.old) (K.written sink.old) (K.faults sink.old)) (outside (H.files result.1) (H.faults result.1) (S.left source.new) (S.faults source.new) (K.written sink.new) (K.faults sink.new)) }
     ensures listed { (image : List ℕ) → Reads (texts_of words.now.items) (Registry image) → RegistryRuns image result.0 (outside (H.files host) (H.faults host) (S.left source.old) (S.faults source.old) (K.written sink.old) (K.faults sink.old)) (outside (H.files result.1) (H.faults result.1) (S.left source.new) (S.faults source.new) (K.written sink.new) (K.faults sink.new)) }
     ensures checked { (image disk : List ℕ) → Reads (texts_of words.now.items) (Check image disk) → CheckRuns image disk result.0 (outside (H.files host) (H.faults host) (S.left source.old) (S.faults source.old) (K.written sink.old) (K.faults sink.old)) (outside (H.files result.1) (H.faults result.1) (S.left source.new) (S.faults source.new) (K.written sink.new) (K.faults sink.new)) }
@@ -86,6 +86,7 @@ pub fn run<S: Source, K: Sink, H: Host, B: Bench<HostDisk<H>>>(
     // Nothing but `serve` reads the source, and nothing but it uses the bench.
     ensures unread { ((image disk : List ℕ) (stop : Option ℕ) → Reads (texts_of words.now.items) (Serve image disk stop) → ⊥) → S.left source.new ≡ S.left source.old }
     ensures unused { ((image disk : List ℕ) (stop : Option ℕ) → Reads (texts_of words.now.items) (Serve image disk stop) → ⊥) → bench.new ≡ bench.old }
+    ensures tells_start { B.tells_start bench.new ≡ B.tells_start bench.old }
     ensures tells { B.tells bench.new ≡ B.tells bench.old }
 
     // The cause of each status, whatever the words are.
@@ -112,8 +113,9 @@ fn obey<S: Source, K: Sink, H: Host, B: Bench<HostDisk<H>>>(
 ) -> (u8, H)
     requires read { (words : List Text) × Reads words command.now }
     requires unmade { B.pages bench.old ≡ None }
-    ensures obeyed { Obeyed command.now result.0 (outside (H.files host) (H.faults host) (S.left source.old) (S.faults source.old) (K.written sink.old) (K.faults sink.old)) (outside (H.files result.1) (H.faults result.1) (S.left source.new) (S.faults source.new) (K.written sink.new) (K.faults sink.new)) (benched (B.pages bench.new) (B.parted bench.new) (B.tells bench.new) (B.began bench.new) (B.left bench.new)) }
+    ensures obeyed { Obeyed command.now result.0 (outside (H.files host) (H.faults host) (S.left source.old) (S.faults source.old) (K.written sink.old) (K.faults sink.old)) (outside (H.files result.1) (H.faults result.1) (S.left source.new) (S.faults source.new) (K.written sink.new) (K.faults sink.new)) (benched (B.pages bench.new) (B.parted bench.new) (B.tells_start bench.new) (B.tells bench.new) (B.began bench.new) (B.left bench.new)) }
     ensures unused { (IsServe command.now → ⊥) → bench.new ≡ bench.old }
+    ensures tells_start { B.tells_start bench.new ≡ B.tells_start bench.old }
     ensures tells { B.tells bench.new ≡ B.tells bench.old }
 {
     let mut host = host;

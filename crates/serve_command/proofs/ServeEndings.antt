@@ -9,7 +9,7 @@ use Rattle.rio_bench.specs.Benches.{Leaving}
 use Rattle.rio_model.specs.declared.state.State.{State}
 use Rattle.rio_serving.specs.declared.ends.ServeEnd.{ServeEnd}
 use Rattle.rio_serving.specs.declared.ends.ServeEnd.TheVariants.{End, SourceFault, SinkFault, InputLimit, Memory as NoMemory, Stopped}
-use Rattle.pair_files.specs.Ends.{Ended, HasBegun, IsDone, IsSaved, Outcome, Outset}
+use Rattle.pair_files.specs.Ends.{Ended, HasBegun, IsDone, IsSaved, KeepsMemory, Outcome, Outset}
 use Rattle.pair_files.specs.Images.{Breaks}
 use Rattle.pair_files.specs.Pairs.{BreaksVolume, HasPair, file_of}
 use Rattle.pair_files.specs.Scenes.{Streams}
@@ -27,7 +27,7 @@ use Rattle.command_lines.specs.ServeLines.{lines_status, loop_line, serve_line, 
 use Rattle.serve_command.specs.Serve.{MadeStatus, ServeCauses, ServeRuns, Stops, StopsAt, Untouched, does_serve, outcome_at, outset_at, trap_told}
 use Rattle.serve_command.proofs.InputLines.{given_all}
 use Rattle.serve_command.proofs.ServeRefusals.{refusals}
-use Rattle.serve_command.proofs.ServedPairs.{leaves_pair, scene_with, served_as, stops_at, streams_before, streams_behind}
+use Rattle.serve_command.proofs.ServedPairs.{leaves_pair, memory_kept, scene_with, served_as, stops_at, streams_before, streams_behind}
 use Rattle.serve_command.proofs.StoppedMachines.{stopped_told}
 use Rattle.serve_command.proofs.StopCauses.{calm_at, no_trap, stop_given}
 
@@ -349,9 +349,9 @@ module _ (image disk : List ℕ) (stop : Option ℕ) (status : ℕ) (old new : O
   abbrev SavedOrUnmade : Type 0
   SavedOrUnmade = IsSaved Found Left ⊎ ((bench.pages ≡ None) × (new.files ≡ old.files))
 
-  either_way : (bench.pages ≡ None) ⊎ IsSaved Found Left → new.files ≡ old.files → SavedOrUnmade
+  either_way : (bench.pages ≡ None) ⊎ (IsSaved Found Left × KeepsMemory Found Left) → new.files ≡ old.files → SavedOrUnmade
   either_way (inl none) files = inr (none, files)
-  either_way (inr saved) files = inl saved
+  either_way (inr saved) files = inl saved.0
 
   out_of_memory : (end : PairEnd LinesEnd) → status ≡ serve_status end → Ends end → status ≡ 6 → SavedOrUnmade
   out_of_memory Memory is h told = either_way h.ends.1 h.ends.0.files
@@ -385,7 +385,7 @@ module _ (image disk : List ℕ) (stop : Option ℕ) (status : ℕ) (old new : O
   -- ---- the run
 
   pub serve_runs_as : (end : PairEnd LinesEnd) → status ≡ serve_status end → Ends end → (status ≡ 0 → new.sink_faults ≡ faults) → faults ≤ new.sink_faults → WritesLine (Rose faults new.sink_faults) replied (serve_line end image disk stop) new.written
-      → ((n : ℕ) → bench.pages ≡ Some n → bench.tells ≡ true → HasBegun Found bench.began) → ((n : ℕ) → bench.pages ≡ Some n → bench.parted ≡ true) → ServeRuns image disk stop status old new bench
+      → ((n : ℕ) → bench.pages ≡ Some n → bench.tells_start ≡ true → HasBegun Found bench.began) → ((n : ℕ) → bench.pages ≡ Some n → bench.parted ≡ true) → ServeRuns image disk stop status old new bench
   serve_runs_as end is h line later told began parted = record {
     end = end;
     replied = replied;
@@ -393,6 +393,7 @@ module _ (image disk : List ℕ) (stop : Option ℕ) (status : ℕ) (old new : O
     status_is = is;
     told = told;
     pair = λ i k s pair fine. leaves_pair image disk stop old new replied faults bench end i k s h pair (λ seven. fine (is ∙ seven));
+    memory = λ i k s pair n l made tells left. memory_kept image disk stop old new replied faults bench end i k s n l h pair made tells left;
     causes = causes end is h line later;
     refusals = λ files told_files. refusals image disk stop status old new replied faults bench files told_files end is h;
     complete = λ i k s input pair none has few quiet no_host no_source no_sink. complete end is h later i k s input pair none has few quiet no_host no_source no_sink;

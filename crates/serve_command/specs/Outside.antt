@@ -26,14 +26,15 @@ SourceRose old new = Rose old.source_faults new.source_faults
 abbrev pub SinkRose : Outside → Outside → Type 0
 SinkRose old new = Rose old.sink_faults new.sink_faults
 
--- how many pages the machine has that the bench made, if it made one, and whether it was taken back; whether the bench tells, what
--- the machine began with, and how it was left
+-- how many pages the machine has that the bench made, if it made one, and whether it was taken back; whether the bench tells what
+-- the machine began with, and whether it tells how that was left; and these two, where they are told
 pub record Benched : Type 0 where
   pub pages : Option ℕ
   pub parted : Bool
+  pub tells_start : Bool
   pub tells : Bool
   pub began : Option Began
   pub left : Option Leaving
 
-abbrev pub benched : Option ℕ → Bool → Bool → Option Began → Option Leaving → Benched
-benched pages parted tells began left = record { pages = pages; parted = parted; tells = tells; began = began; left = left }
+abbrev pub benched : Option ℕ → Bool → Bool → Bool → Option Began → Option Leaving → Benched
+benched pages parted tells_start tells began left = record { pages = pages; parted = parted; tells_start = tells_start; tells = tells; began = began; left = left }

@@ -1,5 +1,6 @@
 -- What a run of `serve` leaves of a pair of files, and what its status tells.
 use Rattle.std.specs.Prelude.{◌≡◌, ◌≢◌, ◌≤◌, ◌<◌, ◌^◌, ◌⊎◌, ℕ, true, List, length, Option, Some, None}
+use Rattle.rio_base.specs.Bytes.{bytes_of}
 use Rattle.rio_base.specs.Counts.{Rose, RoseBy}
 use Rattle.rio_base.specs.Hosts.{Files, IsAbsent}
 use Rattle.rio_bench.specs.Benches.{Leaving}
@@ -14,10 +15,10 @@ use Rattle.rio_serving.specs.declared.ends.ServeEnd.{ServeEnd}
 use Rattle.rio_serving.specs.declared.ends.ServeEnd.TheVariants.{End, SourceFault, SinkFault, InputLimit, Memory as NoMemory, Stopped}
 use Rattle.pair_files.specs.Ends.{Ended, HasBegun, IsSaved, Outcome, Outset, outcome_of, outset_of}
 use Rattle.pair_files.specs.Images.{Breaks, HoldsImage}
-use Rattle.pair_files.specs.Pairs.{BreaksVolume, HasPair, IsRestored, IsRoomy, file_of}
+use Rattle.pair_files.specs.Pairs.{BreaksVolume, HasPair, IsPair, IsRestored, IsRoomy, file_of}
 use Rattle.pair_files.specs.Scenes.{Scene, streams_of}
 use Rattle.pair_files.specs.declared.ends.PairEnd.{PairEnd}
-use Rattle.pair_files.specs.declared.ends.PairEnd.TheVariants.{Absent, BootFault, BootStopped, HostFault, Memory, Worked}
+use Rattle.pair_files.specs.declared.ends.PairEnd.TheVariants.{Absent, BootFault, BootStopped, HostFault, Memory, Unsaved, Worked}
 use Rattle.pair_files.specs.declared.names.PairFile.TheVariants.{Image, Disk}
 use Rattle.rio_serving.specs.LinesEnds.{trap_of}
 use Rattle.pair_serving.specs.ServedScenes.{AsksNoFlush, Served}
@@ -69,11 +70,17 @@ pub record ServesNone (s after : State) (old new : Outside) (replied : Option (L
   pub unread : new.left ≡ old.left
   pub unwritten : replied ≡ old.written
 
--- by the end
+-- by the end of the lines
+abbrev pub LinesServe : LinesEnd → State → State → Outside → Outside → Option (List ℕ) → Type 0
+LinesServe (Trapped at) s after old new replied = StopsLines (Trapped at) s after old new replied
+LinesServe (LoopEnded Stopped) s after old new replied = StopsLines (LoopEnded Stopped) s after old new replied
+LinesServe (LoopEnded end) s after old new replied = ServesLines end s after old new replied
+
+-- by the end. Where the image could not be saved, the lines were served all the same
 abbrev pub RunServes : PairEnd LinesEnd → State → State → Outside → Outside → Option (List ℕ) → Type 0
-RunServes (Worked (Trapped at)) s after old new replied = StopsLines (Trapped at) s after old new replied
-RunServes (Worked (LoopEnded Stopped)) s after old new replied = StopsLines (LoopEnded Stopped) s after old new replied
-RunServes (Worked (LoopEnded end)) s after old new replied = ServesLines end s after old new replied
+RunServes (Worked end) s after old new replied = LinesServe end s after old new replied
+RunServes (Unsaved (Some end)) s after old new replied = LinesServe end s after old new replied
+RunServes (Unsaved None) s after old new replied = ServesNone s after old new replied
 RunServes Memory s after old new replied = ServesNone s after old new replied
 RunServes BootFault s after old new replied = ServesNone s after old new replied
 RunServes BootStopped s after old new replied = ServesNone s after old new replied
@@ -99,6 +106,15 @@ pub record LeavesPair (end : PairEnd LinesEnd) (image disk image_was disk_was : 
   pub pair : HasPair new.files image disk image_now disk_now after
   pub serves : RunServes end s after old new replied
   pub restored : IsRoomy image_was disk_was → ReadsNoFlush end s after old new replied serves → IsRestored image_was disk_was disk_now s
+
+-- of files that are a pair, which stands for s: the words with which memory was left are, with the disk's file, a pair of what the
+-- lines led to. So a file that holds them needs no save
+pub record KeepsServed (end : PairEnd LinesEnd) (disk : List ℕ) (s : State) (old new : Outside) (replied : Option (List ℕ)) (l : Leaving) : Type 0 where
+  pub after : State
+  pub disk_now : List ℕ
+  pub disk_file : file_of new.files disk ≡ Some disk_now
+  pub pair : IsPair (bytes_of l.words) disk_now after
+  pub serves : RunServes end s after old new replied
 
 -- ---- what a status tells
 
@@ -174,7 +190,7 @@ abbrev pub MadeStatus : ℕ → Type 0
 MadeStatus status = (status ≡ 0) ⊎ (status ≡ 5) ⊎ (status ≡ 8) ⊎ (status ≡ 9) ⊎ (status ≡ 10) ⊎ (status ≡ 11)
 
 pub record ServeBench (o : Outset) (x : Outcome) (status : ℕ) (bench : Benched) : Type 0 where
-  pub began : (n : ℕ) → bench.pages ≡ Some n → bench.tells ≡ true → HasBegun o bench.began
+  pub began : (n : ℕ) → bench.pages ≡ Some n → bench.tells_start ≡ true → HasBegun o bench.began
   pub parted : (n : ℕ) → bench.pages ≡ Some n → bench.parted ≡ true
   pub saved : MadeStatus status → IsSaved o x
   -- 6 may also come before a machine is made
@@ -193,6 +209,8 @@ pub record ServeRuns (image disk : List ℕ) (stop : Option ℕ) (status : ℕ) 
   pub told : WritesLine (Rose replied_faults new.sink_faults) replied (serve_line end image disk stop) new.written
   -- of files that are a pair, also of one that the last run left, they are one again, but where the image could not be saved
   pub pair : (image_was disk_was : List ℕ) (s : State) → HasPair old.files image disk image_was disk_was s → status ≢ 7 → LeavesPair end image disk image_was disk_was s old new replied
+  -- and whatever the status, also where the image could not be saved: memory, as it was left, is a pair with the disk's file
+  pub memory : (image_was disk_was : List ℕ) (s : State) → HasPair old.files image disk image_was disk_was s → (n : ℕ) (l : Leaving) → bench.pages ≡ Some n → bench.tells ≡ true → bench.left ≡ Some l → KeepsServed end disk s old new replied l
   pub causes : ServeCauses end image disk stop status old new replied bench
   pub refusals : (files : Files) → old.files ≡ Some files → ServeRefusals end image disk status old new
   -- of a pair, where nothing fails, no stop is asked for and no line asks for a wild store on a protected word, it ends with 0, or for

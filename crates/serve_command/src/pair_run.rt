@@ -27,7 +27,8 @@ pub fn serve_pair<S: Source, K: Sink, H: Host, B: Bench<HostDisk<H>>>(
 ) -> (u8, H)
     requires unmade { B.pages bench.old ≡ None }
     requires two { string_bytes names.now.image.now ≢ string_bytes names.now.disk.now }
-    ensures runs { ServeRuns (string_bytes names.now.image.now) (string_bytes names.now.disk.now) stop result.0 (outside (H.files host) (H.faults host) (S.left source.old) (S.faults source.old) (K.written sink.old) (K.faults sink.old)) (outside (H.files result.1) (H.faults result.1) (S.left source.new) (S.faults source.new) (K.written sink.new) (K.faults sink.new)) (benched (B.pages bench.new) (B.parted bench.new) (B.tells bench.new) (B.began bench.new) (B.left bench.new)) }
+    ensures runs { ServeRuns (string_bytes names.now.image.now) (string_bytes names.now.disk.now) stop result.0 (outside (H.files host) (H.faults host) (S.left source.old) (S.faults source.old) (K.written sink.old) (K.faults sink.old)) (outside (H.files result.1) (H.faults result.1) (S.left source.new) (S.faults source.new) (K.written sink.new) (K.faults sink.new)) (benched (B.pages bench.new) (B.parted bench.new) (B.tells_start bench.new) (B.tells bench.new) (B.began bench.new) (B.left bench.new)) }
+    ensures tells_start { B.tells_start bench.new ≡ B.tells_start bench.old }
     ensures tells { B.tells bench.new ≡ B.tells bench.old }
 {
     let mut work = Serving {

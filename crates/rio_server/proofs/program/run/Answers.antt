@@ -74,20 +74,20 @@ returns-in-Err-Usage-clause-drilled g c = λ seed boots requests reads. absurd (
 
 pub returns-in-Err-Memory-clause-served : goal.returns-in-Err-Memory-clause-served
 returns-in-Err-Memory-clause-served g c = λ image disk stop reads.
-    starved_obeys (Serve image disk stop) _ _ _ (benched (g.B.Bench.pages c.args.bench.now) (g.B.Bench.parted c.args.bench.now) (g.B.Bench.tells c.args.bench.now) (g.B.Bench.began c.args.bench.now) (g.B.Bench.left c.args.bench.now)) (record { is = c.end_without_memory.ensures.status; kept = refl; unread = refl; source = refl; host = refl; later = c.end_without_memory.ensures.later; unmade = c.requires.unmade; told = c.end_without_memory.ensures.told })
+    starved_obeys (Serve image disk stop) _ _ _ (benched (g.B.Bench.pages c.args.bench.now) (g.B.Bench.parted c.args.bench.now) (g.B.Bench.tells_start c.args.bench.now) (g.B.Bench.tells c.args.bench.now) (g.B.Bench.began c.args.bench.now) (g.B.Bench.left c.args.bench.now)) (record { is = c.end_without_memory.ensures.status; kept = refl; unread = refl; source = refl; host = refl; later = c.end_without_memory.ensures.later; unmade = c.requires.unmade; told = c.end_without_memory.ensures.told })
 
 pub returns-in-Err-Memory-clause-formatted : goal.returns-in-Err-Memory-clause-formatted
 returns-in-Err-Memory-clause-formatted g c = λ image disk frames blocks inodes scratch reads.
-    starved_obeys (Format image disk frames blocks inodes scratch) _ _ _ (benched (g.B.Bench.pages c.args.bench.now) (g.B.Bench.parted c.args.bench.now) (g.B.Bench.tells c.args.bench.now) (g.B.Bench.began c.args.bench.now) (g.B.Bench.left c.args.bench.now)) (record { is = c.end_without_memory.ensures.status; kept = refl; unread = refl; source = refl; host = refl; later = c.end_without_memory.ensures.later; unmade = c.requires.unmade; told = c.end_without_memory.ensures.told })
+    starved_obeys (Format image disk frames blocks inodes scratch) _ _ _ (benched (g.B.Bench.pages c.args.bench.now) (g.B.Bench.parted c.args.bench.now) (g.B.Bench.tells_start c.args.bench.now) (g.B.Bench.tells c.args.bench.now) (g.B.Bench.began c.args.bench.now) (g.B.Bench.left c.args.bench.now)) (record { is = c.end_without_memory.ensures.status; kept = refl; unread = refl; source = refl; host = refl; later = c.end_without_memory.ensures.later; unmade = c.requires.unmade; told = c.end_without_memory.ensures.told })
 
 pub returns-in-Err-Memory-clause-listed : goal.returns-in-Err-Memory-clause-listed
 returns-in-Err-Memory-clause-listed g c = λ image reads.
-    starved_obeys (Registry image) _ _ _ (benched (g.B.Bench.pages c.args.bench.now) (g.B.Bench.parted c.args.bench.now) (g.B.Bench.tells c.args.bench.now) (g.B.Bench.began c.args.bench.now) (g.B.Bench.left c.args.bench.now)) (record { is = c.end_without_memory.ensures.status; kept = refl; unread = refl; source = refl; host = refl; later = c.end_without_memory.ensures.later; unmade = c.requires.unmade; told = c.end_without_memory.ensures.told })
+    starved_obeys (Registry image) _ _ _ (benched (g.B.Bench.pages c.args.bench.now) (g.B.Bench.parted c.args.bench.now) (g.B.Bench.tells_start c.args.bench.now) (g.B.Bench.tells c.args.bench.now) (g.B.Bench.began c.args.bench.now) (g.B.Bench.left c.args.bench.now)) (record { is = c.end_without_memory.ensures.status; kept = refl; unread = refl; source = refl; host = refl; later = c.end_without_memory.ensures.later; unmade = c.requires.unmade; told = c.end_without_memory.ensures.told })
 
 pub returns-in-Err-Memory-clause-checked : goal.returns-in-Err-Memory-clause-checked
 returns-in-Err-Memory-clause-checked g c = λ image disk reads.
-    starved_obeys (Check image disk) _ _ _ (benched (g.B.Bench.pages c.args.bench.now) (g.B.Bench.parted c.args.bench.now) (g.B.Bench.tells c.args.bench.now) (g.B.Bench.began c.args.bench.now) (g.B.Bench.left c.args.bench.now)) (record { is = c.end_without_memory.ensures.status; kept = refl; unread = refl; source = refl; host = refl; later = c.end_without_memory.ensures.later; unmade = c.requires.unmade; told = c.end_without_memory.ensures.told })
+    starved_obeys (Check image disk) _ _ _ (benched (g.B.Bench.pages c.args.bench.now) (g.B.Bench.parted c.args.bench.now) (g.B.Bench.tells_start c.args.bench.now) (g.B.Bench.tells c.args.bench.now) (g.B.Bench.began c.args.bench.now) (g.B.Bench.left c.args.bench.now)) (record { is = c.end_without_memory.ensures.status; kept = refl; unread = refl; source = refl; host = refl; later = c.end_without_memory.ensures.later; unmade = c.requires.unmade; told = c.end_without_memory.ensures.told })
 
 pub returns-in-Err-Memory-clause-drilled : goal.returns-in-Err-Memory-clause-drilled
 returns-in-Err-Memory-clause-drilled g c = λ seed boots requests reads.
-    starved_obeys (Drill seed boots requests) _ _ _ (benched (g.B.Bench.pages c.args.bench.now) (g.B.Bench.parted c.args.bench.now) (g.B.Bench.tells c.args.bench.now) (g.B.Bench.began c.args.bench.now) (g.B.Bench.left c.args.bench.now)) (record { is = c.end_without_memory.ensures.status; kept = refl; unread = refl; source = refl; host = refl; later = c.end_without_memory.ensures.later; unmade = c.requires.unmade; told = c.end_without_memory.ensures.told })
+    starved_obeys (Drill seed boots requests) _ _ _ (benched (g.B.Bench.pages c.args.bench.now) (g.B.Bench.parted c.args.bench.now) (g.B.Bench.tells_start c.args.bench.now) (g.B.Bench.tells c.args.bench.now) (g.B.Bench.began c.args.bench.now) (g.B.Bench.left c.args.bench.now)) (record { is = c.end_without_memory.ensures.status; kept = refl; unread = refl; source = refl; host = refl; later = c.end_without_memory.ensures.later; unmade = c.requires.unmade; told = c.end_without_memory.ensures.told })
