@@ -7,12 +7,12 @@ use Rattle.rio_base.specs.Machine.{Contents, Lasts, Running, StepEnds}
 use Rattle.rio_base.proofs.MachineRules.{ends_after, lasts_trans}
 use Rattle.rio_model.specs.Registry.{HasLayout, OneEntry, frames_of, tag_at}
 use Rattle.registry.specs.Changes.{CanChange, ChangesEntry}
-use Rattle.registry.specs.Entries.{entry_of, with_entry, with_name, with_word}
+use Rattle.registry.specs.Entries.{entry_of, with_entry, with_word}
 use Rattle.registry.specs.declared.entry.Entry.{Entry}
 use Rattle.registry.proofs.Places.{behind_header, one_word}
 
 -- an entry by its words
-abbrev entry_by : ℕ → ℕ → ℕ → ℕ → ℕ → Entry
+abbrev pub entry_by : ℕ → ℕ → ℕ → ℕ → ℕ → Entry
 entry_by t f i s h = record { tag = t; file = f; index = i; size = s; shadow = h }
 
 one_entry_trans : (k : ℕ) (a b c : List ℕ) → OneEntry k a b → OneEntry k b c → OneEntry k a c
@@ -40,7 +40,7 @@ frames_kept : (k : ℕ) (old new : List ℕ) → OneEntry k old new → frames_o
 frames_kept k old new one = one.before 2 (omega (arith, behind_header k))
 
 -- a change of entry k, by what it did to the words
-changed : (k : ℕ) (old new : Contents) (old_run new_run : Running) (stop : Type 0) → CanChange k old old_run → new ≡ record old { words = new.words } → OneEntry k old.words new.words → Lasts old new
+pub changed : (k : ℕ) (old new : Contents) (old_run new_run : Running) (stop : Type 0) → CanChange k old old_run → new ≡ record old { words = new.words } → OneEntry k old.words new.words → Lasts old new
     → (old_run.stopped ≡ true → stop) → StepEnds old_run new_run stop → ChangesEntry k old new old_run new_run stop
 changed k old new old_run new_run stop can rest one lasts halted ends = record {
   rest = rest;
@@ -132,19 +132,6 @@ entry_put old new k e f same stored = stored ∙ ap (λ (x : Entry). record old 
 pub tag_kept : (k t : ℕ) (old new : Contents) → tag_at old.words k ≡ t → new ≡ old → tag_at new.words k ≡ t
 tag_kept k t old new was same = ap (λ (c : Contents). tag_at c.words k) same ∙ was
 
--- file, index and size of an entry, stored one after the other
-pub name_stored : (k : ℕ) (e : Entry) (a b c d : Contents) → b ≡ record a { words = slice_set a.words (entry_at k + 1) e.file } → c ≡ record b { words = slice_set b.words (entry_at k + 2) e.index } → d ≡ record c { words = slice_set c.words (entry_at k + 3) e.size } → d ≡ record a { words = with_name a.words k e }
-name_stored k e a b c d file index size = size
-    ∙ ap (λ (m : Contents). record m { words = slice_set m.words (entry_at k + 3) e.size }) (index
-    ∙ ap (λ (m : Contents). record m { words = slice_set m.words (entry_at k + 2) e.index }) file)
-
--- then its shadow and its tag
-pub all_stored : (k : ℕ) (e : Entry) (a b c d : Contents) → b ≡ record a { words = with_name a.words k e } → c ≡ record b { words = slice_set b.words (entry_at k + 4) e.shadow } → d ≡ record c { words = slice_set c.words (entry_at k + 0) e.tag } → d ≡ record a { words = with_entry a.words k e }
-all_stored k e a b c d name shadow tag = tag
-    ∙ ap (λ n. record c { words = slice_set c.words n e.tag }) (omega arith)
-    ∙ ap (λ (m : Contents). record m { words = slice_set m.words (entry_at k) e.tag }) (shadow
-    ∙ ap (λ (m : Contents). record m { words = slice_set m.words (entry_at k + 4) e.shadow }) name)
-
 -- ---- the entry after a store
 
 word_with : (words : List ℕ) (p w i v : ℕ) → p + 5 ≤ length words → i < 5 → (w ≡ i) ⊎ (w ≢ i) → slice_index (slice_set words (p + w) v) (p + i) ≡ (if w == i then v else slice_index words (p + i))
@@ -155,7 +142,7 @@ word_with words p w i v room small (inr n) = get_or-set_other words (p + w) (p +
 first_with : (words : List ℕ) (p w v : ℕ) → p + 5 ≤ length words → slice_index (slice_set words (p + w) v) p ≡ (if w == 0 then v else slice_index words p)
 first_with words p w v room = subst (λ (n : ℕ). slice_index (slice_set words (p + w) v) n ≡ (if w == 0 then v else slice_index words n)) (omega arith) (word_with words p w 0 v room (omega arith) (cases_eq w 0))
 
-entry_equal : (t f i s h t2 f2 i2 s2 h2 : ℕ) → t ≡ t2 → f ≡ f2 → i ≡ i2 → s ≡ s2 → h ≡ h2 → entry_by t f i s h ≡ entry_by t2 f2 i2 s2 h2
+pub entry_equal : (t f i s h t2 f2 i2 s2 h2 : ℕ) → t ≡ t2 → f ≡ f2 → i ≡ i2 → s ≡ s2 → h ≡ h2 → entry_by t f i s h ≡ entry_by t2 f2 i2 s2 h2
 entry_equal t f i s h t2 f2 i2 s2 h2 a b c d e = rw (a, b, c, d, e) refl
 
 pub entry_with : (words : List ℕ) (k w v : ℕ) → entry_at k + 5 ≤ length words → entry_of (slice_set words (entry_at k + w) v) k ≡ with_word (entry_of words k) w v
@@ -169,12 +156,6 @@ entry_with words k w v room =
 
 pub entry_stored : (old new : Contents) (k w v at : ℕ) → at ≡ entry_at k + w → entry_at k + 5 ≤ length old.words → new ≡ record old { words = slice_set old.words at v } → entry_of new.words k ≡ with_word (entry_of old.words k) w v
 entry_stored old new k w v at place room stored = ap (λ (c : Contents). entry_of c.words k) (word_stored old new k w v at place stored) ∙ entry_with old.words k w v room
-
-pub entry_named : (k : ℕ) (e : Entry) (a b c d : List ℕ) → entry_of b k ≡ with_word (entry_of a k) 1 e.file → entry_of c k ≡ with_word (entry_of b k) 2 e.index → entry_of d k ≡ with_word (entry_of c k) 3 e.size → entry_of d k ≡ record (entry_of a k) { file = e.file; index = e.index; size = e.size }
-entry_named k e a b c d file index size = size ∙ ap (λ (x : Entry). with_word x 3 e.size) (index ∙ ap (λ (x : Entry). with_word x 2 e.index) file)
-
-pub entry_filled : (k : ℕ) (e : Entry) (a b c d : List ℕ) → entry_of b k ≡ record (entry_of a k) { file = e.file; index = e.index; size = e.size } → entry_of c k ≡ with_word (entry_of b k) 4 e.shadow → entry_of d k ≡ with_word (entry_of c k) 0 e.tag → entry_of d k ≡ e
-entry_filled k e a b c d name shadow tag = tag ∙ ap (λ (x : Entry). with_word x 0 e.tag) (shadow ∙ ap (λ (x : Entry). with_word x 4 e.shadow) name)
 
 -- an entry read word by word
 pub entry_read : (words : List ℕ) (k place t f i s h : ℕ) → place ≡ entry_at k → t ≡ slice_index words place → f ≡ slice_index words (place + 1) → i ≡ slice_index words (place + 2) → s ≡ slice_index words (place + 3) → h ≡ slice_index words (place + 4) → entry_by t f i s h ≡ entry_of words k

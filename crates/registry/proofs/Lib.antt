@@ -1,4 +1,5 @@
 pub mod Changes
+mod EntryRuns
 pub mod Exits
 pub mod Flags
 pub mod ImageRules

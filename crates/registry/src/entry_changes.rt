@@ -8,7 +8,7 @@ ghost use Rattle.registry.specs.Entries.{IsFree, entry_of, new_entry, with_entry
 
 use crate::entry::{Entry, load_tag, place_of};
 use crate::tag::Tag;
-use page_protect::put_word;
+use page_protect::{put_run, put_word};
 use rio_base::{Block, Machine, PAGE_WORDS, Page, PageName, Stopped};
 
 /// Stores word `w` of entry `k`, `w` below 5. `Stopped` changes nothing.
@@ -130,20 +130,21 @@ fn entry_for(b: Block, name: Option<PageName>, dirty: bool) -> Entry
     }
 }
 
-/// Stores the words of an entry that say what its page is of.
-fn put_name<M: Machine>(m: &mut M, k: u32, entry: &Entry) -> Result<(), Stopped>
+/// Stores the words of an entry behind its tag, as one run. `Stopped` leaves a front of them stored.
+fn put_behind_tag<M: Machine>(m: &mut M, k: u32, entry: &Entry) -> Result<(), Stopped>
     requires can { CanChange k (M.contents m.old) (M.run m.old) }
-    ensures stored { OnOk result (M.contents m.new ≡ record (M.contents m.old) { words = with_name (M.contents m.old).words k entry.now }) }
-    ensures entry { OnOk result (entry_of (M.contents m.new).words k ≡ record (entry_of (M.contents m.old).words k) { file = entry.now.file; index = entry.now.index; size = entry.now.size }) }
+    ensures stored { OnOk result (M.contents m.new ≡ record (M.contents m.old) { words = slice_set (with_name (M.contents m.old).words k entry.now) (entry_at k + 4) entry.now.shadow }) }
+    ensures entry { OnOk result (entry_of (M.contents m.new).words k ≡ record entry.now { tag = tag_at (M.contents m.old).words k }) }
     ensures begun { OnErr result (tag_at (M.contents m.new).words k ≡ tag_at (M.contents m.old).words k) }
     ensures changes { ChangesEntry k (M.contents m.old) (M.contents m.new) (M.run m.old) (M.run m.new) (IsErr result) }
 {
-    put_entry_word(m, k, 1, entry.file)?;
-    put_entry_word(m, k, 2, entry.index)?;
-    put_entry_word(m, k, 3, entry.size)
+    let first = place_of(k) + 1;
+    let page = Page(first / PAGE_WORDS);
+    let words = [entry.file, entry.index, entry.size, entry.shadow];
+    put_run(m, page, (first % PAGE_WORDS) as u16, &words)
 }
 
-/// Stores the words of an entry, the tag last.
+/// Stores the words of an entry, the tag last, since it is what makes an entry valid.
 fn put_entry<M: Machine>(m: &mut M, k: u32, entry: &Entry) -> Result<(), Stopped>
     requires can { CanChange k (M.contents m.old) (M.run m.old) }
     ensures stored { OnOk result (M.contents m.new ≡ record (M.contents m.old) { words = with_entry (M.contents m.old).words k entry.now }) }
@@ -151,7 +152,6 @@ fn put_entry<M: Machine>(m: &mut M, k: u32, entry: &Entry) -> Result<(), Stopped
     ensures begun { OnErr result (tag_at (M.contents m.new).words k ≡ tag_at (M.contents m.old).words k) }
     ensures changes { ChangesEntry k (M.contents m.old) (M.contents m.new) (M.run m.old) (M.run m.new) (IsErr result) }
 {
-    put_name(m, k, entry)?;
-    put_entry_word(m, k, 4, entry.shadow)?;
+    put_behind_tag(m, k, entry)?;
     put_entry_word(m, k, 0, entry.tag)
 }
