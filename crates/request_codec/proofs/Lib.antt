@@ -1,6 +1,7 @@
 pub mod Cuts
 pub mod Digits
 pub mod FarSteps
+mod FewDigits
 pub mod Gathering
 pub mod Held
 pub mod HeldLines

@@ -1,4 +1,4 @@
-//! Hexadecimal digits, decoded with no branch that depends on one of them.
+//! Hexadecimal digits, decoded. Where they are many, no branch depends on one of them.
 
 ghost use Rattle.std.specs.Prelude.{◌≡◌, ◌≤◌, ◌*◌, ◌<◌, ℕ, List, length, IfOk, MatchOption, MatchBool};
 ghost use Rattle.request_codec.specs.Digits.{IsNone, Reads, Sees, byte_of};
@@ -7,6 +7,9 @@ ghost use Rattle.request_codec.specs.Form.{IsHexOf};
 use crate::hex_runs::{NO_CASE, decode_runs};
 use rio_base::Octets;
 use std::alloc::AllocError;
+
+/// So many digits are worth vectors. Fewer are decoded one by one.
+const MANY_DIGITS: usize = 32;
 
 /// A byte as a digit. It is one where its value is below 16 and its rank 7 or more.
 #[derive(Clone, Copy)]
@@ -73,9 +76,20 @@ fn byte_of(high: Digit, low: Digit) -> u8
     high.value.wrapping_mul(16).wrapping_add(low.value)
 }
 
-/// Decodes two digits into each byte, and tells whether all of them are digits: first the runs of 32 digits, and then what is
-/// left behind them.
+/// Decodes two digits into each byte, and tells whether all of them are digits: few by the crate `hex`, many by vectors.
 pub fn decode_into(digits: &[u8], out: &mut [u8]) -> bool
+    requires { length digits.now ≡ 2 * length out.old }
+    ensures { MatchBool result (IsHexOf digits.now out.new) ((bytes : List ℕ) → IsHexOf digits.now bytes → ⊥) }
+{
+    if digits.len() < MANY_DIGITS {
+        hex::decode_to_slice(digits, out).is_ok()
+    } else {
+        decode_long(digits, out)
+    }
+}
+
+/// Decodes many digits: first the runs of 64, and then what is left behind them.
+fn decode_long(digits: &[u8], out: &mut [u8]) -> bool
     requires { length digits.now ≡ 2 * length out.old }
     ensures { MatchBool result (IsHexOf digits.now out.new) ((bytes : List ℕ) → IsHexOf digits.now bytes → ⊥) }
 {

@@ -1,6 +1,6 @@
 //! Bytes as hexadecimal digits, written straight to where they are wanted.
 
-ghost use Rattle.std.specs.Prelude.{◌≡◌, ◌≤◌, ◌<◌, ◌*◌, ◌/◌, ◌%◌, ◌++◌, drop, length, map, slice_index, take};
+ghost use Rattle.std.specs.Prelude.{◌≡◌, ◌≤◌, ◌*◌, ◌/◌, ◌%◌, ◌++◌, drop, length, map, slice_index, take};
 ghost use Rattle.hex.specs.Hex.{encode_lower, lower_digits};
 
 use std::simd::prelude::*;
@@ -56,25 +56,13 @@ fn encode_runs(input: &[u8], output: &mut [u8]) -> usize
     done
 }
 
-/// The lower-case digit of a number below 16.
-#[inline(always)]
-fn digit(n: u8) -> u8
-    requires { n < 16 }
-    ensures { result ≡ slice_index lower_digits n }
-{
-    let over = (n > 9) as u8;
-    n + 48 + over * 39
-}
-
-/// Writes two lower-case digits for each byte, the high four bits first.
+/// Writes two lower-case digits for each byte, the high four bits first: whole runs by vectors, and the few bytes behind them by
+/// the crate `hex`.
 pub(crate) fn encode_hex(input: &[u8], output: &mut [u8])
     requires { length output.old ≡ 2 * length input.now }
     ensures { output.new ≡ encode_lower input.now }
 {
     let done = encode_runs(input, output);
-    'bytes: for i in done..input.len() {
-        let byte = input[i];
-        output[2 * i] = digit(byte >> 4);
-        output[2 * i + 1] = digit(byte & 15);
-    }
+    // It fails only where the room is not twice as long.
+    let _ = hex::encode_to_slice(&input[done..], &mut output[2 * done..]);
 }
