@@ -3,7 +3,7 @@
 use crate::calls::call;
 use block_disk::{HostDisk, HostDiskFail};
 use rio_base::{DiskBlocks, Host};
-use rio_os::OsHost;
+use rio_os::{HostFile, OsHost};
 use std::alloc::{AllocError, Global};
 use std::fs;
 use std::io::{self, Read};
@@ -19,7 +19,10 @@ pub fn tell_script<F: Files + Copy + Drop>(
     files: F,
     script: &str,
     out: &mut Vec<u8>,
-) -> Result<(), AllocError> {
+) -> Result<(), AllocError>
+where
+    F::File: HostFile,
+{
     let mut disk = None;
     remove(&files);
     tell_lines(files, &mut disk, script, out)
@@ -30,7 +33,10 @@ fn tell_lines<F: Files + Copy + Drop>(
     disk: &mut Option<HostDisk<OsHost<F>>>,
     script: &str,
     out: &mut Vec<u8>,
-) -> Result<(), AllocError> {
+) -> Result<(), AllocError>
+where
+    F::File: HostFile,
+{
     for line in script.lines() {
         if !line.is_empty() && !line.starts_with('#') {
             step(files, disk, line, out)?;
@@ -45,7 +51,10 @@ fn step<F: Files + Copy + Drop>(
     disk: &mut Option<HostDisk<OsHost<F>>>,
     line: &str,
     out: &mut Vec<u8>,
-) -> Result<(), AllocError> {
+) -> Result<(), AllocError>
+where
+    F::File: HostFile,
+{
     out.extend_from_slice(line.as_bytes())?;
     out.push(b'\n')?;
     let (word, rest) = first_word(line);
@@ -60,7 +69,10 @@ fn open<F: Files + Drop>(
     files: F,
     disk: &mut Option<HostDisk<OsHost<F>>>,
     out: &mut Vec<u8>,
-) -> Result<(), AllocError> {
+) -> Result<(), AllocError>
+where
+    F::File: HostFile,
+{
     let alloc = *out.allocator();
     let name = String::from_str(alloc, FILE)?;
     open_over(OsHost::new(alloc, files), name, disk, out)

@@ -3,7 +3,7 @@
 use crate::runs::{push_words, tell_run};
 use crate::words::{NameWord, ReadWord, Word};
 use rio_fakes::MemSource;
-use rio_os::OsHost;
+use rio_os::{FileLock, HostFile, host_for};
 use std::alloc::AllocError;
 use std::fs::{self, File};
 use std::io::{self, Read};
@@ -28,10 +28,12 @@ pub struct Session<'a> {
     held: Option<File>,
     /// The bytes that it had then.
     old: Vec<u8>,
+    /// The files whose locks are held.
+    locked: Vec<File>,
 }
 
 impl<'a> Session<'a> {
-    /// No line, and no file that is held open.
+    /// No line, no file that is held open, and no lock.
     pub fn new(rt: HostRuntime, pipe: &'a str) -> Session<'a> {
         Session {
             rt,
@@ -39,6 +41,7 @@ impl<'a> Session<'a> {
             input: Vec::new(rt.alloc()),
             held: None,
             old: Vec::new(rt.alloc()),
+            locked: Vec::new(rt.alloc()),
         }
     }
 
@@ -59,19 +62,21 @@ impl<'a> Session<'a> {
             Word::Run => return self.run(rest, out),
             Word::Fresh => return self.run(FRESH, out),
             Word::Held => return self.tell_held(out),
+            Word::Free => self.locked.clear(),
             Word::Name(word) => return self.act_on(word, rest, out),
             Word::Unknown => return tell_line(out, b"no such word"),
         }
         Ok(())
     }
 
-    /// Begins anew: nothing under the names of the pair, no line, and no file that is held open.
+    /// Begins anew: nothing under the names of the pair, no line, no file that is held open, and no lock.
     fn begin(&mut self) {
         remove(self.rt, "m");
         remove(self.rt, "d");
         self.input.clear();
         self.held = None;
         self.old.clear();
+        self.locked.clear();
     }
 
     /// Takes a line of input.
@@ -92,7 +97,7 @@ impl<'a> Session<'a> {
     fn run_on(&self, words: &Vec<String>, out: &mut Vec<u8>) -> Result<(), AllocError> {
         let alloc = self.rt.alloc();
         let mut source = MemSource::new(alloc, self.input.as_slice(), PIECE)?;
-        tell_run(OsHost::new(alloc, self.rt), words, &mut source, out)
+        tell_run(host_for(alloc, self.rt, words)?, words, &mut source, out)
     }
 
     /// Does what a word says of the name behind it.
@@ -106,6 +111,7 @@ impl<'a> Session<'a> {
             NameWord::Folder => tell_failure(self.rt.create_dir(name), out),
             NameWord::Link => tell_failure(self.rt.symlink(rest, name), out),
             NameWord::Pipe => tell_failure(self.rt.symlink(self.pipe, name), out),
+            NameWord::Lock(lock) => tell_failure(self.lock(lock, name), out),
             NameWord::Read(word) => self.read(word, name, out),
         }
     }
@@ -131,6 +137,13 @@ impl<'a> Session<'a> {
             ReadWord::Same => tell_whether_same(bytes, self.old.as_slice(), out),
             ReadWord::Size => tell_number(out, "", bytes.len() as u64),
         }
+    }
+
+    /// Takes the lock of a file, and holds it.
+    fn lock(&mut self, lock: FileLock, name: &str) -> io::Result<()> {
+        let file = fs::open(&self.rt, name)?;
+        file.take_lock(lock)?;
+        Ok(self.locked.push(file)?)
     }
 
     /// Opens a file that has these bytes, and holds it open.

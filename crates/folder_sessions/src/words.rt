@@ -1,5 +1,7 @@
 //! The words of the script.
 
+use rio_os::FileLock;
+
 /// What a word says.
 #[derive(Clone, Copy)]
 pub enum Word {
@@ -15,6 +17,8 @@ pub enum Word {
     Fresh,
     /// Whether the file that is held open still reads as it did.
     Held,
+    /// The lock that is held is let go of.
+    Free,
     /// Something is done with what stands under a name.
     Name(NameWord),
     /// There is no such word.
@@ -32,6 +36,8 @@ pub enum NameWord {
     Link,
     /// A link to a pipe is made there.
     Pipe,
+    /// Its lock is taken and held, as another run would.
+    Lock(FileLock),
     /// It is read.
     Read(ReadWord),
 }
@@ -48,17 +54,20 @@ pub enum ReadWord {
 }
 
 /// Each word, and what it says.
-static WORDS: [(&str, Word); 13] = [
+static WORDS: [(&str, Word); 16] = [
     ("run", Word::Run),
     (">", Word::Line),
     ("fresh", Word::Fresh),
     ("==", Word::Begin),
     ("next", Word::Next),
     ("held", Word::Held),
+    ("free", Word::Free),
     ("gone", Word::Name(NameWord::Gone)),
     ("folder", Word::Name(NameWord::Folder)),
     ("link", Word::Name(NameWord::Link)),
     ("pipe", Word::Name(NameWord::Pipe)),
+    ("lock", Word::Name(NameWord::Lock(FileLock::Exclusive))),
+    ("share", Word::Name(NameWord::Lock(FileLock::Shared))),
     ("hold", Word::Name(NameWord::Read(ReadWord::Hold))),
     ("same", Word::Name(NameWord::Read(ReadWord::Same))),
     ("size", Word::Name(NameWord::Read(ReadWord::Size))),

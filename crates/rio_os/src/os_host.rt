@@ -3,78 +3,212 @@
 ghost use Rattle.std.specs.Prelude.{◌≡◌, ◌≤◌, ℕ, None, Result, IfOk, length};
 ghost use Rattle.rio_base.specs.Counts.{HasCause, Rose};
 
-use crate::streams::read_retrying;
+use crate::file_lock::{FileLock, HostFile};
+use crate::open_files::OpenFiles;
+use crate::opening::{FileId, looked_at, open_locked};
+use crate::pieces::read_from;
+use crate::replacing::{NewFile, replace_file};
 use rio_base::{Failed, Host};
 use std::alloc::Global;
-use std::fs::{self, OpenFile, OpenOptions};
-use std::io::{self, ErrorKind, Seek, SeekFrom, Write};
+use std::fs::{Metadata, OpenFile};
+use std::io::{self, ErrorKind};
+use std::os::unix::fs::FileExt;
 use std::rt::Files;
 
-/// How many names are tried for a new file beside an old one. A run that is killed leaves one of them behind.
-const TRIES: u32 = 1_000_000;
-
-/// A file that is open to be written, and the name under which it was opened.
-#[derive(Drop)]
-struct Written<F: Drop> {
-    name: String,
-    file: F,
-}
-
-/// A host over real files. It tells no content, and counts each call that failed. The file that was written last stays open for the
-/// next write of it. It is let go of where a write of it fails, where another file is written, and at each sync and replacement.
+/// A host over real files. It tells no content, and counts each call that failed.
+///
+/// The first call on a file opens it, and takes its lock. It stays open and locked until the host is dropped, so that another run has
+/// no call on it meanwhile, but for two whose locks are shared. A lock that is refused is a call that failed, and from then on
+/// this host replaces no file.
+///
+/// A file that somebody else removed or replaced is no longer the one of its name. Then no call on that name is done any
+/// more, also where another file has it. A file that was only moved is read and written where it is, and all other calls fail.
 #[derive(Drop)]
 pub struct OsHost<R: Files + Drop> {
     alloc: Global,
     files: R,
+    /// The lock that is taken of each file, or `None` where another host of this run has the locks.
+    lock: Option<FileLock>,
     faults: u64,
-    written: Option<Written<R::File>>,
+    kept: OpenFiles<R::File>,
+    /// The name of the file whose lock was refused last.
+    in_use: Option<String>,
 }
 
-impl<R: Files + Drop> OsHost<R> {
-    /// A host over the files that `files` reaches, none of whose calls has failed yet.
+impl<R: Files + Drop> OsHost<R>
+where
+    R::File: HostFile,
+{
+    /// A host over the files that `files` reaches, none of whose calls has failed yet. It takes exclusive locks.
     pub fn new(alloc: Global, files: R) -> OsHost<R>
+        ensures { ⟦<OsHost<R> as Host>⟧.faults result ≡ 0 }
+    {
+        OsHost::with_lock(alloc, files, Some(FileLock::Exclusive))
+    }
+
+    /// A host that takes shared locks. It can write no file.
+    pub fn sharing(alloc: Global, files: R) -> OsHost<R>
+        ensures { ⟦<OsHost<R> as Host>⟧.faults result ≡ 0 }
+    {
+        OsHost::with_lock(alloc, files, Some(FileLock::Shared))
+    }
+
+    /// A host that takes no locks. This is for files of which another host of the same run has the locks, and for no others: two hosts
+    /// of one run would refuse each other. A write goes to the file that was opened, also where that lost its name meanwhile; `size`
+    /// fails then.
+    pub fn beside_locked(alloc: Global, files: R) -> OsHost<R>
+        ensures { ⟦<OsHost<R> as Host>⟧.faults result ≡ 0 }
+    {
+        OsHost::with_lock(alloc, files, None)
+    }
+
+    fn with_lock(alloc: Global, files: R, lock: Option<FileLock>) -> OsHost<R>
         ensures { ⟦<OsHost<R> as Host>⟧.faults result ≡ 0 }
     {
         OsHost {
             alloc,
             files,
+            lock,
             faults: 0,
-            written: None,
+            kept: OpenFiles::new(alloc),
+            in_use: None,
         }
     }
 
-    /// The file that was written last, if it was opened under this name. Either way none is kept afterwards.
-    fn take_written(&mut self, name: &String) -> Option<Written<R::File>>
+    /// The name of the file whose lock was refused last: another run has it.
+    pub fn in_use(&self) -> Option<&String> {
+        self.in_use.as_ref()
+    }
+
+    /// Takes the lock of a file now, if there is such a file. What replaces two files reserves both before.
+    pub fn reserve(&mut self, name: &String) -> Result<(), Failed>
+        ensures { HasCause result self.old.faults self.new.faults }
+    {
+        let outcome = self.hold(name);
+        self.counted(outcome)
+    }
+
+    /// Opens the file of a name, unless it is open or not there.
+    fn hold(&mut self, name: &String) -> io::Result<()>
         ensures { self.new.faults ≡ self.old.faults }
     {
-        match self.written.take() {
-            Some(written) if written.name == *name => Some(written),
-            _ => None,
+        if self.kept.has(name) {
+            return Ok(());
         }
+        match looked_at(&self.files, name)? {
+            Some(found) => self.open_found(name, &found),
+            None => Ok(()),
+        }
+    }
+
+    /// Opens what was found under a name, which has to be a file. One that is open under another name is the same file.
+    fn open_found(&mut self, name: &String, found: &Metadata) -> io::Result<()>
+        ensures { self.new.faults ≡ self.old.faults }
+    {
+        if !found.is_file() {
+            return Err(io::Error::from(ErrorKind::InvalidInput));
+        }
+        if self.kept.rename(FileId::of(found), name)? {
+            return Ok(());
+        }
+        match open_locked(&self.files, name, self.lock) {
+            Ok(opened) => Ok(self.kept.keep(name.clone()?, opened)?),
+            Err(error) => Err(self.noted(name, error)),
+        }
+    }
+
+    /// Takes note of a file that could not be opened, where that is for its lock.
+    fn noted(&mut self, name: &String, error: io::Error) -> io::Error
+        ensures { self.new.faults ≡ self.old.faults }
+    {
+        if error.kind() == ErrorKind::WouldBlock {
+            // Without memory for its name the file is noted all the same.
+            self.in_use = match name.clone() {
+                Ok(name) => Some(name),
+                Err(_) => Some(String::new(self.alloc)),
+            };
+        }
+        error
+    }
+
+    /// The size of a file, or `None` where the file or its folder isn't there. A folder of that name is an error. What is neither is
+    /// not opened, since that might wait.
+    fn size_of(&mut self, name: &String) -> io::Result<Option<u64>>
+        ensures { self.new.faults ≡ self.old.faults }
+    {
+        if !self.kept.has(name) {
+            match looked_at(&self.files, name)? {
+                None => return Ok(None),
+                Some(found) if found.is_dir() => {
+                    return Err(io::Error::from(ErrorKind::IsADirectory));
+                }
+                Some(found) if !found.is_file() => return Ok(Some(found.len())),
+                Some(found) => self.open_found(name, &found)?,
+            }
+        }
+        let file = self.kept.named(&self.files, name)?;
+        Ok(Some(file.metadata()?.len()))
+    }
+
+    /// Reads bytes from byte `off` on. None before the end is an error.
+    fn read_piece(&mut self, name: &String, off: u64, into: &mut [u8]) -> io::Result<usize>
+        ensures bound { IfOk result (λ n. n ≤ length into.new) }
+        ensures faults { self.new.faults ≡ self.old.faults }
+    {
+        self.hold(name)?;
+        read_from(self.kept.current(&self.files, name)?, off, into)
     }
 
     /// Writes all of `from` from byte `off` on into a file that is there.
     fn write_piece(&mut self, name: &String, off: u64, from: &[u8]) -> io::Result<()>
         ensures { self.new.faults ≡ self.old.faults }
     {
-        let Some(mut written) = self.take_written(name) else {
-            return self.open_and_write(name, off, from);
+        self.hold(name)?;
+        let file = match self.lock {
+            Some(_) => self.kept.current(&self.files, name)?,
+            // To ask for the name costs a call of the system. Beside another host `size` alone asks.
+            None => self.kept.open(name)?,
         };
-        write_from(&mut written.file, off, from)?;
-        self.written = Some(written);
-        Ok(())
+        file.write_all_at(from, off)
     }
 
-    /// The same of a file that is not open. It stays open where there is memory for its name.
-    fn open_and_write(&mut self, name: &String, off: u64, from: &[u8]) -> io::Result<()>
+    /// Brings a file's bytes to the device.
+    fn sync_file(&mut self, name: &String) -> io::Result<()>
         ensures { self.new.faults ≡ self.old.faults }
     {
-        let mut file = OpenOptions::new()
-            .write(true)
-            .open(&self.files, name.as_str())?;
-        write_from(&mut file, off, from)?;
-        if let Ok(name) = name.clone() {
-            self.written = Some(Written { name, file });
+        self.hold(name)?;
+        self.kept.named(&self.files, name)?.sync_all()
+    }
+
+    /// Replaces a file, if there is one, and keeps the new one open. Answers the folder, opened.
+    fn replace_whole(&mut self, name: &String, from: &[u8]) -> io::Result<R::File>
+        ensures { self.new.faults ≡ self.old.faults }
+    {
+        self.hold_replaced(name)?;
+        // All memory is taken before the old file goes.
+        let name_kept = name.clone()?;
+        self.kept.make_room()?;
+        let NewFile { opened, folder } = replace_file(
+            self.alloc,
+            &self.files,
+            name,
+            from,
+            self.lock,
+        )?;
+        let _ = self.kept.keep(name_kept, opened);
+        Ok(folder)
+    }
+
+    /// Opens the file that is to be replaced, if there is one. Nothing is replaced once a lock was refused.
+    fn hold_replaced(&mut self, name: &String) -> io::Result<()>
+        ensures { self.new.faults ≡ self.old.faults }
+    {
+        if self.in_use.is_some() {
+            return Err(io::Error::from(ErrorKind::WouldBlock));
+        }
+        self.hold(name)?;
+        if self.kept.has(name) {
+            self.kept.named(&self.files, name)?;
         }
         Ok(())
     }
@@ -94,18 +228,21 @@ impl<R: Files + Drop> OsHost<R> {
     }
 }
 
-impl<R: Files + Drop> Host for OsHost<R> {
+impl<R: Files + Drop> Host for OsHost<R>
+where
+    R::File: HostFile,
+{
     ghost files = { λ _. None };
 
     ghost faults = { λ host. host.faults };
 
     fn size(&mut self, name: &String) -> Result<Option<u64>, Failed> {
-        let outcome = size_of(&self.files, name);
+        let outcome = self.size_of(name);
         self.counted(outcome)
     }
 
     fn read_at(&mut self, name: &String, off: u64, into: &mut [u8]) -> Result<usize, Failed> {
-        let outcome = read_piece(&self.files, name, off, into);
+        let outcome = self.read_piece(name, off, into);
         self.counted(outcome)
     }
 
@@ -115,14 +252,12 @@ impl<R: Files + Drop> Host for OsHost<R> {
     }
 
     fn sync(&mut self, name: &String) -> Result<(), Failed> {
-        self.written = None;
-        let outcome = sync_file(&self.files, name);
+        let outcome = self.sync_file(name);
         self.counted(outcome)
     }
 
     fn replace(&mut self, name: &String, from: &[u8]) -> Result<(), Failed> {
-        self.written = None;
-        let outcome = replace_file(self.alloc, &self.files, name, from);
+        let outcome = self.replace_whole(name, from);
         let folder = self.counted(outcome)?;
         // The new file is there. That its folder cannot be synced is counted, and doesn't bring the old one back.
         let synced = folder.sync_all();
@@ -133,109 +268,4 @@ impl<R: Files + Drop> Host for OsHost<R> {
     fn faults(&self) -> u64 {
         self.faults
     }
-}
-
-/// The size of a file, or `None` where the file or its folder isn't there. A folder of that name is an error.
-fn size_of<R: Files>(files: &R, name: &String) -> io::Result<Option<u64>> {
-    match files.metadata(name.as_str()) {
-        Ok(metadata) if metadata.is_dir() => Err(io::Error::from(ErrorKind::IsADirectory)),
-        Ok(metadata) => Ok(Some(metadata.len())),
-        Err(error) if is_absence(error.kind()) => Ok(None),
-        Err(error) => Err(error),
-    }
-}
-
-/// Whether an error says that a file or its folder isn't there.
-fn is_absence(kind: ErrorKind) -> bool {
-    matches!(kind, ErrorKind::NotFound | ErrorKind::NotADirectory)
-}
-
-/// Reads bytes from byte `off` on. None before the end is an error.
-fn read_piece<R: Files>(files: &R, name: &String, off: u64, into: &mut [u8]) -> io::Result<usize>
-    ensures { IfOk result (λ n. n ≤ length into.new) }
-{
-    let mut file = fs::open(files, name.as_str())?;
-    file.seek(SeekFrom::Start(off))?;
-    let n = read_retrying(&mut file, into)?;
-    if n == 0 && !into.is_empty() && off < file.metadata()?.len() {
-        return Err(io::Error::from(ErrorKind::UnexpectedEof));
-    }
-    Ok(n)
-}
-
-/// Writes all of `from` from byte `off` of a file on.
-fn write_from<F: Write + Seek>(file: &mut F, off: u64, from: &[u8]) -> io::Result<()> {
-    file.seek(SeekFrom::Start(off))?;
-    file.write_all(from)
-}
-
-/// Brings a file's bytes to the device.
-fn sync_file<R: Files>(files: &R, name: &String) -> io::Result<()> {
-    fs::open(files, name.as_str())?.sync_all()
-}
-
-/// Writes a new file beside the old one, brings it to the device, and gives it the old one's name. Where this fails the
-/// old file is as it was, and the new one is gone. Answers the folder, opened.
-fn replace_file<R: Files>(
-    alloc: Global,
-    files: &R,
-    name: &String,
-    from: &[u8],
-) -> io::Result<R::File> {
-    refuse_no_file(files, name)?;
-    let folder = folder_of(name);
-    let opened = fs::open(files, folder)?;
-    let (beside, file) = new_file(alloc, files, folder)?;
-    let mut outcome = write_whole(file, from);
-    if outcome.is_ok() {
-        outcome = files.rename(beside.as_str(), name.as_str());
-    }
-    if let Err(error) = outcome {
-        let _ = files.remove_file(beside.as_str());
-        return Err(error);
-    }
-    Ok(opened)
-}
-
-/// Refuses a name under which there is no file but something else: a folder, a pipe, a device, or what cannot be looked
-/// at.
-fn refuse_no_file<R: Files>(files: &R, name: &String) -> io::Result<()> {
-    match files.metadata(name.as_str()) {
-        Ok(metadata) if !metadata.is_file() => Err(io::Error::from(ErrorKind::InvalidInput)),
-        Ok(_) => Ok(()),
-        Err(error) if is_absence(error.kind()) => Ok(()),
-        Err(error) => Err(error),
-    }
-}
-
-/// The folder of a file, as a path.
-pub fn folder_of(name: &String) -> &str {
-    match name.as_str().rsplit_once('/') {
-        None => ".",
-        Some(("", _)) => "/",
-        Some((folder, _)) => folder,
-    }
-}
-
-/// A file that was made in a folder where none of its name was, and its path.
-fn new_file<R: Files>(alloc: Global, files: &R, folder: &str) -> io::Result<(String, R::File)> {
-    for number in 0..TRIES {
-        let path = format!(in alloc; "{folder}/.rio-new-{number}")?;
-        match OpenOptions::new()
-            .write(true)
-            .create_new(true)
-            .open(files, path.as_str())
-        {
-            Ok(file) => return Ok((path, file)),
-            Err(error) if error.kind() == ErrorKind::AlreadyExists => {}
-            Err(error) => return Err(error),
-        }
-    }
-    Err(io::Error::from(ErrorKind::AlreadyExists))
-}
-
-/// Writes the bytes of a new file, and brings them to the device.
-fn write_whole<F: Write + OpenFile + Drop>(mut file: F, from: &[u8]) -> io::Result<()> {
-    file.write_all(from)?;
-    file.sync_all()
 }

@@ -4,6 +4,7 @@
 
 mod folder;
 mod host_calls;
+mod other_hosts;
 mod place;
 mod session;
 mod streams;

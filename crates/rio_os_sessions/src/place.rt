@@ -1,13 +1,16 @@
 //! What a session has beside its host: what stands in its folder, what came of it, and what needs neither.
 
 use crate::folder::tell_names;
-use crate::streams::{read_as_said, write_as_said};
+use crate::host_calls::tell_both;
+use crate::other_hosts::OtherHosts;
+use crate::streams::{Input, read_as_said, write_as_said};
 use crate::watch::{Call, Trouble, Watch};
 use rio_os::folder_of;
 use std::alloc::{AllocError, Global};
 use std::fs::{self, File};
 use std::io::{self, Read};
 use std::rt::Files;
+use std::str::from_utf8;
 use test_scripts::{first_word, tell_line};
 
 /// The folder of a session.
@@ -21,6 +24,8 @@ pub struct Place<'a> {
     watch: &'a Watch,
     /// The file that is held open.
     held: Option<File>,
+    /// The hosts of other runs.
+    others: OtherHosts,
 }
 
 impl<'a> Place<'a> {
@@ -32,6 +37,7 @@ impl<'a> Place<'a> {
             folder,
             watch,
             held: None,
+            others: OtherHosts::new(rt),
         }
     }
 
@@ -56,19 +62,67 @@ impl<'a> Place<'a> {
     pub fn act(&mut self, word: &str, rest: &str, out: &mut Vec<u8>) -> Result<(), AllocError> {
         match word {
             "==" => Ok(()),
-            "source" => read_as_said(self.rt.alloc(), rest, out),
+            "source" => read_as_said(self.rt.alloc(), Input::Bare, rest, out),
+            "typed" => read_as_said(self.rt.alloc(), Input::Terminal, rest, out),
+            "piped" => read_as_said(self.rt.alloc(), Input::Pipe, rest, out),
             "sink" => write_as_said(self.rt.alloc(), rest, out),
             "folder-of" => tell_folder(self.rt.alloc(), rest, out),
             "watch" => {
                 self.watch.begin();
                 Ok(())
             }
+            "overtake" => {
+                self.watch.plan_overtaking();
+                Ok(())
+            }
+            "begin" => self.others.begin(rest, out),
+            "end" => {
+                self.others.end(rest);
+                Ok(())
+            }
+            "launch" => self.launch(rest),
+            "complaint" => self.tell_complaint(rest, out),
+            "by" => self.call_other(rest, out),
             "trouble" => add_trouble(self.watch, rest, out),
             "calls" => self.watch.tell_calls(out),
             "names" => tell_names(self.rt, self.folder, out),
             "held" => self.tell_held(out),
             _ => self.act_on(word, rest, out),
         }
+    }
+
+    /// Begins the host for a command: the host's name, and the words of the command. A word behind `@` names a file.
+    fn launch(&mut self, rest: &str) -> Result<(), AllocError> {
+        let (host, rest) = first_word(rest);
+        let mut words = Vec::new(self.rt.alloc());
+        for word in rest.split(' ') {
+            words.push(match word.strip_prefix('@') {
+                Some(name) => self.path_of(name)?,
+                None => String::from_str(self.rt.alloc(), word)?,
+            })?;
+        }
+        self.others.launch(host, &words)
+    }
+
+    /// Tells what a run over another host would say of a file in use, with the folder left out.
+    fn tell_complaint(&mut self, host: &str, out: &mut Vec<u8>) -> Result<(), AllocError> {
+        let text = self.others.complaint(host);
+        let Ok(text) = from_utf8(text.as_slice()) else {
+            return tell_line(out, b"no text");
+        };
+        match text.trim_end().split_once(self.folder) {
+            Some((before, behind)) => tell_both(before.as_bytes(), behind.as_bytes(), out),
+            None => tell_line(out, text.as_bytes()),
+        }
+    }
+
+    /// Makes the call of another host that a line says: the host, the call, and the rest as in a call of the first host.
+    fn call_other(&mut self, rest: &str, out: &mut Vec<u8>) -> Result<(), AllocError> {
+        let (host, rest) = first_word(rest);
+        let (word, rest) = first_word(rest);
+        let (name, rest) = first_word(rest);
+        let path = self.path_of(name)?;
+        self.others.call(host, word, &path, rest, out)
     }
 
     /// Does what a word says of the file that is named behind it.
@@ -92,6 +146,8 @@ impl<'a> Place<'a> {
             "link" => tell_failure(self.rt.symlink(rest, path), out),
             "pipe" => self.link_pipe(path, out),
             "hold" => self.hold(path, out),
+            "gone" => tell_failure(self.rt.remove_file(path), out),
+            "move" => self.give_name(path, rest, out),
             "bytes" => tell_bytes(self.rt, path, out),
             "is-file" => tell_whether_file(self.rt, path, out),
             _ => tell_line(out, b"no such word"),
@@ -102,6 +158,12 @@ impl<'a> Place<'a> {
     fn link_pipe(&self, path: &str, out: &mut Vec<u8>) -> Result<(), AllocError> {
         let target = format!(in self.rt.alloc(); "/proc/self/fd/{}", self.pipe)?;
         tell_failure(self.rt.symlink(target.as_str(), path), out)
+    }
+
+    /// Gives a file another name.
+    fn give_name(&self, path: &str, name: &str, out: &mut Vec<u8>) -> Result<(), AllocError> {
+        let to = self.path_of(name)?;
+        tell_failure(self.rt.rename(path, to.as_str()), out)
     }
 
     /// Opens a file, and holds it open.

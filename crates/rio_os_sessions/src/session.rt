@@ -6,7 +6,7 @@ use crate::place::Place;
 use crate::watch::Watch;
 use crate::watched_files::WatchedFiles;
 use rio_base::Host;
-use rio_os::OsHost;
+use rio_os::{HostFile, OsHost};
 use std::alloc::AllocError;
 use std::os::fd::AsRawFd;
 use std::rt::Files;
@@ -67,7 +67,10 @@ fn tell_over<F: Files + Drop>(
     mut place: Place<'_>,
     lines: &str,
     out: &mut Vec<u8>,
-) -> Result<(), AllocError> {
+) -> Result<(), AllocError>
+where
+    F::File: HostFile,
+{
     let mut host = OsHost::new(*out.allocator(), files);
     tell_lines(&mut host, &mut place, lines, out)
 }

@@ -4,9 +4,9 @@ use crate::host_calls::{dashes, tell_both};
 use crate::watch::{Call, Watch};
 use crate::watched_files::Watched;
 use rio_base::{Failed, Sink, Source};
-use rio_os::{InputSource, OutputSink};
+use rio_os::{InputSource, OutputSink, TerminalInput};
 use std::alloc::{AllocError, Global};
-use std::io::{Read, Write};
+use std::io::{self, IsTerminal, Read, Write};
 use test_scripts::{expanded, number, tell_line};
 
 /// What stands before the first ` / ` of a line, and behind it.
@@ -17,36 +17,92 @@ fn first_part(line: &str) -> (&str, &str) {
     }
 }
 
+/// What a source reads from.
+#[derive(Clone, Copy, PartialEq, Eq)]
+pub enum Input {
+    /// A reader as it is.
+    Bare,
+    /// A reader that is a terminal, as the input of a program.
+    Terminal,
+    /// One that is no terminal, as the input of a program.
+    Pipe,
+}
+
+/// A reader of which it is said whether it is a terminal.
+#[derive(Drop)]
+struct SaidInput<R> {
+    reader: R,
+    is_terminal: bool,
+}
+
+impl<R: Read> Read for SaidInput<R> {
+    fn read(&mut self, into: &mut [u8]) -> io::Result<usize> {
+        self.reader.read(into)
+    }
+}
+
+impl<R> IsTerminal for SaidInput<R> {
+    fn is_terminal(&self) -> bool {
+        self.is_terminal
+    }
+}
+
 /// Reads from a source as a line says: the reader's bytes, its steps, and how many bytes are asked for at each call. Tells
 /// what each call answered, the piece that it was passed and the faults so far, then how often the reader was asked and what
 /// is left of its bytes.
-pub fn read_as_said(alloc: Global, rest: &str, out: &mut Vec<u8>) -> Result<(), AllocError> {
+pub fn read_as_said(
+    alloc: Global,
+    input: Input,
+    rest: &str,
+    out: &mut Vec<u8>,
+) -> Result<(), AllocError> {
     let (bytes, rest) = first_part(rest);
     let bytes = expanded(alloc, bytes)?;
-    tell_source(bytes.as_slice(), rest, out)
+    tell_source(bytes.as_slice(), input, rest, out)
 }
 
 /// The same over these bytes, and the rest of the line.
-fn tell_source(bytes: &[u8], rest: &str, out: &mut Vec<u8>) -> Result<(), AllocError> {
+fn tell_source(
+    bytes: &[u8],
+    input: Input,
+    rest: &str,
+    out: &mut Vec<u8>,
+) -> Result<(), AllocError> {
     let (steps, sizes) = first_part(rest);
     let mut watch = Watch::of_stream(*out.allocator(), Call::Read, steps)?;
-    let left = tell_reads(bytes, &watch, sizes, out)?;
+    let mut reader = Watched::new(bytes, &watch);
+    tell_reads(&mut reader, input, sizes, out)?;
+    let left = reader.stream.len();
     tell_asked(watch.count(), left, out)
 }
 
-/// Reads pieces of these sizes. Answers how many bytes the reader has left.
-fn tell_reads(
-    bytes: &[u8],
-    watch: &Watch,
+/// Reads pieces of these sizes from a reader that is such an input.
+fn tell_reads<R: Read>(
+    reader: &mut R,
+    input: Input,
     sizes: &str,
     out: &mut Vec<u8>,
-) -> Result<usize, AllocError> {
-    let mut reader = Watched::new(bytes, watch);
-    let mut source = InputSource::new(&mut reader);
-    for size in sizes.split(' ') {
-        tell_read(&mut source, number(size)? as usize, out)?;
+) -> Result<(), AllocError> {
+    if input == Input::Bare {
+        return tell_pieces(&mut InputSource::new(reader), sizes, out);
     }
-    Ok(reader.stream.len())
+    let said = SaidInput {
+        reader,
+        is_terminal: input == Input::Terminal,
+    };
+    tell_pieces(&mut InputSource::new(TerminalInput::new(said)), sizes, out)
+}
+
+/// Reads pieces of these sizes from a source.
+fn tell_pieces<R: Read>(
+    source: &mut InputSource<R>,
+    sizes: &str,
+    out: &mut Vec<u8>,
+) -> Result<(), AllocError> {
+    for size in sizes.split(' ') {
+        tell_read(source, number(size)? as usize, out)?;
+    }
+    Ok(())
 }
 
 /// Reads once into a piece of dashes, and tells the piece, the answer and the faults so far.

@@ -16,6 +16,8 @@ pub enum Call {
     OpenFile,
     /// It makes a file where there was none, and opens it.
     MakeFile,
+    /// It takes a file's lock.
+    Lock,
     /// It goes to a place in a file.
     Seek,
     /// It reads.
@@ -37,11 +39,12 @@ pub enum Call {
 }
 
 /// The calls, each behind its name.
-static NAMED: [(&str, Call); 13] = [
+static NAMED: [(&str, Call); 14] = [
     ("Look", Call::Look),
     ("OpenFolder", Call::OpenFolder),
     ("OpenFile", Call::OpenFile),
     ("MakeFile", Call::MakeFile),
+    ("Lock", Call::Lock),
     ("Seek", Call::Seek),
     ("Read", Call::Read),
     ("Write", Call::Write),
@@ -80,9 +83,14 @@ impl Call {
 pub enum Trouble {
     /// It does nothing and fails.
     Fails(ErrorKind),
+    /// It does nothing and fails as a call of a closed terminal does.
+    HangsUp,
     /// It reads or writes at most this many bytes.
     Moves(usize),
 }
+
+/// The number of the system's failure where a terminal was closed.
+const HUNG_UP: i32 = 5;
 
 /// Words for kinds of failure.
 static KINDS: [(&str, ErrorKind); 8] = [
@@ -99,6 +107,9 @@ static KINDS: [(&str, ErrorKind); 8] = [
 impl Trouble {
     /// The trouble that a word says: a kind of failure, or else the number of bytes that are moved at most.
     pub fn said(word: &str) -> Result<Trouble, AllocError> {
+        if word == "hang-up" {
+            return Ok(Trouble::HangsUp);
+        }
         for (name, kind) in KINDS.iter() {
             if *name == word {
                 return Ok(Trouble::Fails(*kind));
@@ -178,6 +189,8 @@ impl Log {
 #[derive(Drop)]
 pub struct Watch {
     is_on: Cell<bool>,
+    /// Whether the next file that is opened loses its name to another one.
+    overtakes: Cell<bool>,
     log: RefCell<Log>,
 }
 
@@ -186,6 +199,7 @@ impl Watch {
     pub fn of_files(alloc: Global) -> Watch {
         Watch {
             is_on: Cell::new(false),
+            overtakes: Cell::new(false),
             log: RefCell::new(Log::new(alloc, usize::MAX)),
         }
     }
@@ -196,6 +210,7 @@ impl Watch {
         log.plan(call, words)?;
         Ok(Watch {
             is_on: Cell::new(true),
+            overtakes: Cell::new(false),
             log: RefCell::new(log),
         })
     }
@@ -203,6 +218,16 @@ impl Watch {
     /// Begins.
     pub fn begin(&self) {
         self.is_on.set(true);
+    }
+
+    /// The next file that is opened loses its name.
+    pub fn plan_overtaking(&self) {
+        self.overtakes.set(true);
+    }
+
+    /// Whether the file that was opened now loses its name. The one behind it does not.
+    pub fn overtakes(&self) -> bool {
+        self.overtakes.replace(false)
     }
 
     /// One more trouble, behind those before.
@@ -225,6 +250,7 @@ impl Watch {
         }
         match self.next(call, given) {
             Trouble::Fails(kind) => Err(io::Error::from(kind)),
+            Trouble::HangsUp => Err(io::Error::from_raw_os_error(HUNG_UP)),
             Trouble::Moves(most) => Ok(most),
         }
     }

@@ -1,10 +1,12 @@
 //! Files of the system and streams under a watch.
 
 use crate::watch::{Call, Watch};
+use rio_os::{FileLock, HostFile};
 use std::alloc::Allocator;
 use std::fs::{File, Metadata, OpenFile, OpenOptions, Permissions};
 use std::io::{self, PipeReader, PipeWriter, Read, Seek, SeekFrom, Write};
 use std::os::fd::BorrowedFd;
+use std::os::unix::fs::FileExt;
 use std::os::unix::net::SocketAddr;
 use std::path::PathBuf;
 use std::rt::Files;
@@ -79,6 +81,25 @@ impl<'a, S: OpenFile> OpenFile for Watched<'a, S> {
     }
 }
 
+impl<'a, S: FileExt> FileExt for Watched<'a, S> {
+    fn read_at(&self, buf: &mut [u8], offset: u64) -> io::Result<usize> {
+        let most = self.watch.record(Call::Read)?.min(buf.len());
+        self.stream.read_at(&mut buf[..most], offset)
+    }
+
+    fn write_at(&self, buf: &[u8], offset: u64) -> io::Result<usize> {
+        let most = self.watch.record_given(Call::Write, buf)?.min(buf.len());
+        self.stream.write_at(&buf[..most], offset)
+    }
+}
+
+impl<'a, S: HostFile> HostFile for Watched<'a, S> {
+    fn take_lock(&self, lock: FileLock) -> io::Result<()> {
+        self.watch.record(Call::Lock)?;
+        self.stream.take_lock(lock)
+    }
+}
+
 /// The files of the system, watched.
 #[derive(Drop)]
 pub struct WatchedFiles<'a> {
@@ -90,6 +111,12 @@ impl<'a> WatchedFiles<'a> {
     /// The calls of these files are recorded by `watch`.
     pub fn new(rt: HostRuntime, watch: &'a Watch) -> WatchedFiles<'a> {
         WatchedFiles { rt, watch }
+    }
+
+    /// Gives the name of a file to the one that stands beside it as its next.
+    fn overtake(&self, path: &str) -> io::Result<()> {
+        let next = format!(in self.rt.alloc(); "{path}.next")?;
+        self.rt.rename(next.as_str(), path)
     }
 
     /// Whether there is a folder of this name.
@@ -114,8 +141,12 @@ impl<'a> Files for WatchedFiles<'a> {
             (false, false) => Call::OpenFile,
         };
         self.watch.record(call)?;
+        let stream = self.rt.open_file(how, path)?;
+        if self.watch.overtakes() {
+            self.overtake(path)?;
+        }
         Ok(Watched {
-            stream: self.rt.open_file(how, path)?,
+            stream,
             is_folder,
             watch: self.watch,
         })
