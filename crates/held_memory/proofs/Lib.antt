@@ -1,0 +1,5 @@
+mod Filling
+mod HostWrites
+pub mod Passing
+mod RunFronts
+pub mod WordBytes

@@ -1,0 +1,4 @@
+pub mod Held
+pub mod HeldEnds
+pub mod Moments
+pub mod WordFiles
