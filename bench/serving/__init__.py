@@ -1,0 +1,1 @@
+"""The parts of `bench/served`: its streams, and runs of the program of which it is counted what they take."""
