@@ -5,6 +5,7 @@
 
 #include <errno.h>
 #include <fcntl.h>
+#include <poll.h>
 #include <signal.h>
 #include <stdbool.h>
 #include <stdio.h>
@@ -21,25 +22,49 @@ enum {
     WORD_DIGITS = 16,
     /* A word, two paths or a path and two numbers, and data. */
     LINE_ROOM = 2 * RIO_MOST_BYTES + 2 * MOST_NAMES * (MOST_NAME_BYTES + 1) + 100,
+    /* Lines are kept until there are so many bytes of them, and one more, or until so many replies are awaited. */
+    QUEUE_ROOM = 65536,
+    MOST_AWAITED = 1024,
     /* The longest reply, with its line end, is one of bytes; a last line may bear a file's name. */
     REPLY_ROOM = 2 * RIO_MOST_BYTES + 100000
 };
 
+/* What a request is answered by, behind `ok`. */
+enum form { NOTHING, NUMBER, COUNT, BYTES, ALL_BYTES, STAT, NAMES, INODES };
+
+/* Where the answer to a request goes. */
+struct wanted {
+    enum form form;
+    uint64_t *number; /* a number, or the count of bytes done; it may be NULL */
+    void *into;       /* bytes, what stands at a path, or the array of items */
+    size_t most;      /* for so many bytes there is room */
+    size_t *count;    /* how many bytes or items there are */
+    int *result;      /* what the call comes to; it may be NULL */
+    bool queued;
+};
+
 struct rio {
     pid_t program;
-    int requests; /* the pipe to the program, -1 once it is closed */
+    int requests; /* the pipe to the program, -1 once it is closed; a write to it does not wait */
     int replies;  /* the pipe from it */
+    bool over;    /* no reply comes any more */
     bool ended;
     int status;
+    bool queues_next; /* the next call is queued, with this place for its result */
+    int *next_result;
+    int failure;         /* the first result of a queued call that is not RIO_OK, since it was told */
     uint64_t fault_done; /* the bytes done of a RIO_DEVICE_FAULT */
     bool invalid;        /* the line that is being made is no request */
+    size_t sent;         /* bytes at the front of line that were sent */
+    size_t line_start;   /* where the line begins that is being made */
     size_t line_length;
-    size_t taken; /* bytes at the front of reply that belong to an earlier reply */
+    size_t first_awaited;
+    size_t awaited_count;
+    size_t taken; /* bytes at the front of reply that belong to earlier replies */
     size_t got;   /* bytes in reply */
-    const char *text;
-    size_t text_length; /* what the reply has after "ok" */
     const char *last_line;
-    char line[LINE_ROOM];
+    struct wanted awaited[MOST_AWAITED];
+    char line[QUEUE_ROOM + LINE_ROOM];
     char reply[REPLY_ROOM + 1];
 };
 
@@ -58,6 +83,7 @@ const char *rio_refusal_name(int refusal)
     case RIO_INVALID: return "invalid argument";
     case RIO_SYSTEM: return "no memory for the answer";
     case RIO_WRONG_REPLY: return "wrong reply";
+    case RIO_PENDING: return "no reply yet";
     default: return "unknown refusal";
     }
 }
@@ -97,6 +123,13 @@ static bool open_pipe(struct pipe_ends *made)
     return made->out >= 0 && made->into >= 0;
 }
 
+/* Makes writes to a pipe not wait. The program's end of it waits as before. */
+static bool set_unwaiting(int end)
+{
+    int flags = fcntl(end, F_GETFL);
+    return flags >= 0 && fcntl(end, F_SETFL, flags | O_NONBLOCK) == 0;
+}
+
 /* In the child: becomes the program, or tells the parent why not. */
 static _Noreturn void become(const char *const words[], int requests, int replies, int trouble)
 {
@@ -133,7 +166,7 @@ static bool start(rio *r, const char *const words[], struct pipe_ends *requests,
     struct pipe_ends trouble = {-1, -1};
     int error = 0;
     pid_t program = -1;
-    if (open_pipe(requests) && open_pipe(replies) && open_pipe(&trouble)) program = fork();
+    if (open_pipe(requests) && set_unwaiting(requests->into) && open_pipe(replies) && open_pipe(&trouble)) program = fork();
     if (program < 0) error = errno;
     if (program == 0) become(words, requests->out, replies->into, trouble.into);
     close_end(&trouble.into);
@@ -237,16 +270,39 @@ static bool read_more(rio *r)
     return true;
 }
 
-int rio_end(rio *r)
+/* Gives a request that was awaited its result. */
+static void settle(rio *r, const struct wanted *wanted, int result)
 {
-    if (r->ended) return r->status;
+    if (wanted->queued && r->failure == RIO_OK) r->failure = result;
+    if (wanted->form == COUNT && wanted->number != NULL && result != RIO_OK) {
+        *wanted->number = result == RIO_DEVICE_FAULT ? r->fault_done : 0;
+    }
+    if (wanted->result != NULL) *wanted->result = result;
+}
+
+/* The request whose reply comes next, which is awaited no more. */
+static struct wanted take_awaited(rio *r)
+{
+    struct wanted wanted = r->awaited[r->first_awaited];
+    r->first_awaited = (r->first_awaited + 1) % MOST_AWAITED;
+    r->awaited_count--;
+    return wanted;
+}
+
+/* Ends the input, waits for the program, and tells those that await a reply. */
+static void finish(rio *r)
+{
     close_end(&r->requests);
     while (read_more(r)) continue;
     close_end(&r->replies);
     r->status = awaited(r->program);
+    r->over = true;
     r->ended = true;
     take_last_line(r);
-    return r->status;
+    while (r->awaited_count > 0) {
+        struct wanted wanted = take_awaited(r);
+        settle(r, &wanted, RIO_ENDED);
+    }
 }
 
 const char *rio_last_line(const rio *r)
@@ -261,7 +317,7 @@ void rio_close(rio *r)
     free(r);
 }
 
-/* ---- Making a line ---- */
+/* ---- Making a line, behind those that are queued ---- */
 
 static void add_text(rio *r, const char *text, size_t length)
 {
@@ -269,12 +325,6 @@ static void add_text(rio *r, const char *text, size_t length)
     r->line_length += length;
 }
 
-static void begin_line(rio *r, const char *word)
-{
-    r->invalid = false;
-    r->line_length = 0;
-    add_text(r, word, strlen(word));
-}
 
 /* The length of the name at the front, or 0 where there is none that a path may have. */
 static size_t name_length(const char *text)
@@ -337,21 +387,239 @@ static void add_word(rio *r, uint64_t value)
     add_text(r, digits, WORD_DIGITS + 1);
 }
 
-/* ---- Sending it, and its reply ---- */
+/* ---- What a reply says ---- */
 
-static bool write_line(rio *r)
+/* A text of which the front is taken bit by bit. */
+struct text {
+    const char *at;
+    size_t length;
+};
+
+/* Takes a number of 1 to 20 digits off the front of a text. */
+static bool take_number(struct text *text, uint64_t *number)
 {
-    size_t sent = 0;
-    while (sent < r->line_length) {
-        ssize_t count = write(r->requests, r->line + sent, r->line_length - sent);
-        if (count < 0 && errno != EINTR) return false;
-        if (count > 0) sent += (size_t)count;
+    size_t count = 0;
+    uint64_t value = 0;
+    while (count < text->length && text->at[count] >= '0' && text->at[count] <= '9') {
+        uint64_t digit = (uint64_t)(text->at[count] - '0');
+        if (value > (UINT64_MAX - digit) / 10) return false;
+        value = 10 * value + digit;
+        count++;
+    }
+    text->at += count;
+    text->length -= count;
+    *number = value;
+    return count > 0;
+}
+
+static bool take_space(struct text *text)
+{
+    if (text->length == 0 || *text->at != ' ') return false;
+    text->at++;
+    text->length--;
+    return true;
+}
+
+/* The refusal that follows "err ", with the bytes done of a fault. */
+static int take_refusal(rio *r, struct text text)
+{
+    uint64_t number = 0;
+    uint64_t done = 0;
+    bool known = take_number(&text, &number) && ((number >= 1 && number <= 22) || number == 30 || number == 31);
+    if (known && number == RIO_DEVICE_FAULT) known = take_space(&text) && take_number(&text, &done);
+    if (!known || text.length != 0) return RIO_WRONG_REPLY;
+    r->fault_done = done;
+    return (int)number;
+}
+
+static int take_only_number(struct text text, uint64_t *number)
+{
+    uint64_t told = 0;
+    if (!take_space(&text) || !take_number(&text, &told) || text.length != 0) return RIO_WRONG_REPLY;
+    if (number != NULL) *number = told;
+    return RIO_OK;
+}
+
+/* The value of a digit, or -1 where it is none that a reply has. */
+static int digit_value(char digit)
+{
+    if (digit >= '0' && digit <= '9') return digit - '0';
+    return digit >= 'a' && digit <= 'f' ? digit - 'a' + 10 : -1;
+}
+
+/* Bytes go where there is room for them: all that there is room for, where the form says so. */
+static int take_bytes(struct text text, const struct wanted *wanted)
+{
+    unsigned char *into = wanted->into;
+    if (!take_space(&text) || text.length % 2 != 0 || text.length / 2 > wanted->most) return RIO_WRONG_REPLY;
+    size_t count = text.length / 2;
+    if (wanted->form == ALL_BYTES && count != wanted->most) return RIO_WRONG_REPLY;
+    for (size_t i = 0; i < count; i++) {
+        int high = digit_value(text.at[2 * i]);
+        int low = digit_value(text.at[2 * i + 1]);
+        if (high < 0 || low < 0) return RIO_WRONG_REPLY;
+        into[i] = (unsigned char)(16 * high + low);
+    }
+    if (wanted->count != NULL) *wanted->count = count;
+    return RIO_OK;
+}
+
+/* Takes the word of a kind off the front of a text. */
+static bool take_kind(struct text *text, enum rio_kind *kind)
+{
+    static const char *const words[] = {"dir", "file", "region"};
+    for (int i = 0; i < 3; i++) {
+        if (begins(text->at, text->length, words[i])) {
+            text->at += strlen(words[i]);
+            text->length -= strlen(words[i]);
+            *kind = (enum rio_kind)(RIO_DIRECTORY + i);
+            return true;
+        }
+    }
+    return false;
+}
+
+static int take_stat(struct text text, struct rio_stat *found)
+{
+    struct rio_stat told = {0, RIO_FILE, 0};
+    bool whole = take_space(&text) && take_number(&text, &told.inode) && take_space(&text) && take_kind(&text, &told.kind)
+        && take_space(&text) && take_number(&text, &told.size);
+    if (!whole || text.length != 0) return RIO_WRONG_REPLY;
+    *found = told;
+    return RIO_OK;
+}
+
+/* Takes the count of items off the front of a text, which leaves each of them with a space before it. */
+static bool take_count(struct text *text, size_t *count)
+{
+    uint64_t told = 0;
+    uint64_t spaces = 0;
+    if (!take_space(text) || !take_number(text, &told)) return false;
+    for (size_t i = 0; i < text->length; i++) spaces += text->at[i] == ' ';
+    *count = (size_t)told;
+    return spaces == told && (text->length == 0 || text->at[0] == ' ');
+}
+
+/* An array of the items of a text, each with a space before it, in one block with them. */
+static char **split(struct text text, size_t count)
+{
+    char **items = malloc(count * sizeof *items + text.length + 1);
+    if (items == NULL) return NULL;
+    char *at = (char *)(items + count);
+    char *end = at + text.length;
+    memcpy(at, text.at, text.length);
+    *end = '\0';
+    for (size_t i = 0; i < count; i++) {
+        *at = '\0';
+        items[i] = at + 1;
+        char *space = memchr(at + 1, ' ', (size_t)(end - at - 1));
+        at = space != NULL ? space : end;
+    }
+    return items;
+}
+
+static int take_names(struct text text, char ***names, size_t *count)
+{
+    size_t told = 0;
+    char **items = NULL;
+    if (!take_count(&text, &told)) return RIO_WRONG_REPLY;
+    if (told > 0) {
+        items = split(text, told);
+        if (items == NULL) return RIO_SYSTEM;
+    }
+    *names = items;
+    *count = told;
+    return RIO_OK;
+}
+
+static int take_inodes(struct text text, uint64_t **inodes, size_t *count)
+{
+    size_t told = 0;
+    uint64_t *items = NULL;
+    if (!take_count(&text, &told)) return RIO_WRONG_REPLY;
+    if (told > 0) {
+        items = malloc(told * sizeof *items);
+        if (items == NULL) return RIO_SYSTEM;
+    }
+    for (size_t i = 0; i < told; i++) {
+        if (!take_space(&text) || !take_number(&text, &items[i])) {
+            free(items);
+            return RIO_WRONG_REPLY;
+        }
+    }
+    *inodes = items;
+    *count = told;
+    return RIO_OK;
+}
+
+/* Puts what a reply says where it is wanted, and returns what the call comes to. */
+static int take_reply(rio *r, const struct wanted *wanted, const char *line, size_t length)
+{
+    if (line[0] == 'e') return take_refusal(r, (struct text){line + 4, length - 4});
+    struct text text = {line + 2, length - 2};
+    switch (wanted->form) {
+    case NOTHING: return text.length == 0 ? RIO_OK : RIO_WRONG_REPLY;
+    case NUMBER:
+    case COUNT: return take_only_number(text, wanted->number);
+    case BYTES:
+    case ALL_BYTES: return take_bytes(text, wanted);
+    case STAT: return take_stat(text, wanted->into);
+    case NAMES: return take_names(text, wanted->into, wanted->count);
+    case INODES: return take_inodes(text, wanted->into, wanted->count);
+    }
+    return RIO_WRONG_REPLY;
+}
+
+/* ---- Sending lines, and reading their replies ---- */
+
+/* Gives each whole line among the replies to the request that awaits it, up to one that is no reply. */
+static void give_lines(rio *r, size_t seen)
+{
+    char *end = memchr(r->reply + seen, '\n', r->got - seen);
+    while (end != NULL) {
+        const char *line = r->reply + r->taken;
+        size_t length = (size_t)(end - line);
+        r->over = r->awaited_count == 0 || !is_reply(line, length);
+        if (r->over) return;
+        struct wanted wanted = take_awaited(r);
+        settle(r, &wanted, take_reply(r, &wanted, line, length));
+        r->taken += length + 1;
+        end = memchr(r->reply + r->taken, '\n', r->got - r->taken);
+    }
+    memmove(r->reply, r->reply + r->taken, r->got - r->taken);
+    r->got -= r->taken;
+    r->taken = 0;
+}
+
+/* Reads what has come, or waits for it. */
+static void receive(rio *r)
+{
+    size_t seen = r->got;
+    r->over = !read_more(r);
+    if (!r->over) give_lines(r, seen);
+}
+
+/* Waits until more can be written, and reads where something has come. */
+static void await_room(rio *r)
+{
+    struct pollfd pipes[] = {{r->requests, POLLOUT, 0}, {r->replies, POLLIN, 0}};
+    if (poll(pipes, 2, -1) > 0 && pipes[1].revents != 0) receive(r);
+}
+
+/* Writes what is not sent, and reads what comes meanwhile. False where the program has ended already, so that nobody takes it. */
+static bool write_lines(rio *r)
+{
+    while (r->sent < r->line_length && !r->over) {
+        ssize_t count = write(r->requests, r->line + r->sent, r->line_length - r->sent);
+        if (count > 0) r->sent += (size_t)count;
+        if (count < 0 && (errno == EAGAIN || errno == EWOULDBLOCK)) await_room(r);
+        else if (count < 0 && errno != EINTR) return false;
     }
     return true;
 }
 
-/* Writes the line whole. Where the program has ended already nobody takes it, and the signal of that goes no further. */
-static void send_line(rio *r)
+/* Sends all lines. Where the program has ended already, the signal of that goes no further. */
+static void send_lines(rio *r)
 {
     sigset_t broken_pipe;
     sigset_t old;
@@ -362,150 +630,106 @@ static void send_line(rio *r)
     sigpending(&pending);
     bool was_pending = sigismember(&pending, SIGPIPE) == 1;
     pthread_sigmask(SIG_BLOCK, &broken_pipe, &old);
-    bool sent = write_line(r);
+    bool sent = write_lines(r);
     sigpending(&pending);
     if (!sent && !was_pending && sigismember(&pending, SIGPIPE) == 1) sigwait(&broken_pipe, &number);
     pthread_sigmask(SIG_SETMASK, &old, NULL);
+    r->sent = 0;
+    r->line_length = 0;
 }
 
-/* The end of the next line, which begins at `taken`; NULL where the program writes no more lines. */
-static char *await_line(rio *r)
+/* Sends all lines, and reads replies until at most so many are awaited. */
+static void exchange(rio *r, size_t most)
 {
-    memmove(r->reply, r->reply + r->taken, r->got - r->taken);
-    r->got -= r->taken;
-    r->taken = 0;
-    char *end = memchr(r->reply, '\n', r->got);
-    while (end == NULL) {
-        size_t seen = r->got;
-        if (!read_more(r)) return NULL;
-        end = memchr(r->reply + seen, '\n', r->got - seen);
+    if (r->line_length > 0) send_lines(r);
+    while (r->awaited_count > most && !r->over) receive(r);
+    if (r->over && !r->ended) finish(r);
+}
+
+int rio_end(rio *r)
+{
+    if (!r->ended) exchange(r, 0);
+    if (!r->ended) finish(r);
+    return r->status;
+}
+
+/* Begins a line, for which room is made. */
+static void begin_line(rio *r, const char *word)
+{
+    if (!r->ended && (r->line_length > QUEUE_ROOM || r->awaited_count == MOST_AWAITED)) exchange(r, MOST_AWAITED / 2);
+    r->invalid = false;
+    r->line_start = r->line_length;
+    add_text(r, word, strlen(word));
+}
+
+/* Makes the request of the line that was made: now, or later where it is queued. */
+static int make(rio *r, struct wanted wanted)
+{
+    int result = RIO_PENDING;
+    wanted.queued = r->queues_next;
+    wanted.result = wanted.queued ? r->next_result : &result;
+    r->queues_next = false;
+    if (r->invalid || r->ended) {
+        int failed = r->invalid ? RIO_INVALID : RIO_ENDED;
+        r->line_length = r->line_start;
+        settle(r, &wanted, failed);
+        return failed;
     }
-    return end;
-}
-
-/* Takes a number of 1 to 20 digits off the front of a text. */
-static bool take_number(const char **text, size_t *length, uint64_t *number)
-{
-    size_t count = 0;
-    uint64_t value = 0;
-    while (count < *length && (*text)[count] >= '0' && (*text)[count] <= '9') {
-        uint64_t digit = (uint64_t)((*text)[count] - '0');
-        if (value > (UINT64_MAX - digit) / 10) return false;
-        value = 10 * value + digit;
-        count++;
-    }
-    *text += count;
-    *length -= count;
-    *number = value;
-    return count > 0;
-}
-
-static bool take_space(const char **text, size_t *length)
-{
-    if (*length == 0 || **text != ' ') return false;
-    ++*text;
-    --*length;
-    return true;
-}
-
-/* The refusal that follows "err ", with the bytes done of a fault. */
-static int take_refusal(rio *r, const char *text, size_t length)
-{
-    uint64_t number = 0;
-    uint64_t done = 0;
-    bool known = take_number(&text, &length, &number) && ((number >= 1 && number <= 22) || number == 30 || number == 31);
-    if (known && number == RIO_DEVICE_FAULT) known = take_space(&text, &length) && take_number(&text, &length, &done);
-    if (!known || length != 0) return RIO_WRONG_REPLY;
-    r->fault_done = done;
-    return (int)number;
-}
-
-/* Sends the line that was made and takes its reply, which is in text and text_length at RIO_OK. */
-static int ask(rio *r)
-{
-    if (r->invalid) return RIO_INVALID;
-    if (r->ended) return RIO_ENDED;
     r->line[r->line_length++] = '\n';
-    send_line(r);
-    char *end = await_line(r);
-    if (end == NULL || !is_reply(r->reply, (size_t)(end - r->reply))) {
-        rio_end(r);
-        return RIO_ENDED;
-    }
-    size_t length = (size_t)(end - r->reply);
-    r->taken = length + 1;
-    if (r->reply[0] == 'e') return take_refusal(r, r->reply + 4, length - 4);
-    r->text = r->reply + 2;
-    r->text_length = length - 2;
-    return RIO_OK;
+    r->awaited[(r->first_awaited + r->awaited_count++) % MOST_AWAITED] = wanted;
+    if (wanted.queued) return RIO_OK;
+    exchange(r, 0);
+    return result;
+}
+
+void rio_queue(rio *r, int *result)
+{
+    if (result != NULL) *result = RIO_PENDING;
+    r->queues_next = true;
+    r->next_result = result;
+}
+
+int rio_wait(rio *r, const int *result)
+{
+    if (r->line_length > 0) send_lines(r);
+    while (*result == RIO_PENDING && r->awaited_count > 0 && !r->over) receive(r);
+    if (r->over && !r->ended) finish(r);
+    return *result;
+}
+
+int rio_wait_all(rio *r)
+{
+    if (!r->ended) exchange(r, 0);
+    int failure = r->failure;
+    r->failure = RIO_OK;
+    return failure;
+}
+
+/* For the calls that make several requests, which cannot be queued. */
+static bool is_queued(rio *r)
+{
+    if (!r->queues_next) return false;
+    r->queues_next = false;
+    settle(r, &(struct wanted){.result = r->next_result, .queued = true}, RIO_INVALID);
+    return true;
 }
 
 /* For the requests that are answered `ok` alone. */
 static int ask_done(rio *r)
 {
-    int failed = ask(r);
-    return failed == RIO_OK && r->text_length != 0 ? RIO_WRONG_REPLY : failed;
+    return make(r, (struct wanted){.form = NOTHING});
 }
 
 /* For those that are answered `ok` and a number, which goes to number where that is not NULL. */
 static int ask_number(rio *r, uint64_t *number)
 {
-    uint64_t told = 0;
-    int failed = ask(r);
-    if (failed != RIO_OK) return failed;
-    if (!take_space(&r->text, &r->text_length) || !take_number(&r->text, &r->text_length, &told) || r->text_length != 0) {
-        return RIO_WRONG_REPLY;
-    }
-    if (number != NULL) *number = told;
-    return RIO_OK;
+    return make(r, (struct wanted){.form = NUMBER, .number = number});
 }
 
 /* For those that change bytes, and tell also of a fault how many stand. */
 static int ask_count(rio *r, uint64_t *done)
 {
-    uint64_t count = 0;
-    int failed = ask_number(r, &count);
-    if (failed == RIO_DEVICE_FAULT) count = r->fault_done;
-    if (done != NULL) *done = count;
-    return failed;
-}
-
-/* The value of a digit, or -1 where it is none that a reply has. */
-static int digit_value(char digit)
-{
-    if (digit >= '0' && digit <= '9') return digit - '0';
-    return digit >= 'a' && digit <= 'f' ? digit - 'a' + 10 : -1;
-}
-
-/* For those that are answered by bytes, of which there is room for most. */
-static int ask_bytes(rio *r, unsigned char *into, size_t most, size_t *got)
-{
-    int failed = ask(r);
-    if (failed != RIO_OK) return failed;
-    if (!take_space(&r->text, &r->text_length) || r->text_length % 2 != 0 || r->text_length / 2 > most) return RIO_WRONG_REPLY;
-    size_t count = r->text_length / 2;
-    for (size_t i = 0; i < count; i++) {
-        int high = digit_value(r->text[2 * i]);
-        int low = digit_value(r->text[2 * i + 1]);
-        if (high < 0 || low < 0) return RIO_WRONG_REPLY;
-        into[i] = (unsigned char)(16 * high + low);
-    }
-    *got = count;
-    return RIO_OK;
-}
-
-/* For those that are answered by a count of items: leaves each item with a space before it in text. */
-static int ask_items(rio *r, size_t *count)
-{
-    uint64_t told = 0;
-    uint64_t spaces = 0;
-    int failed = ask(r);
-    if (failed != RIO_OK) return failed;
-    if (!take_space(&r->text, &r->text_length) || !take_number(&r->text, &r->text_length, &told)) return RIO_WRONG_REPLY;
-    for (size_t i = 0; i < r->text_length; i++) spaces += r->text[i] == ' ';
-    if (spaces != told || (r->text_length > 0 && r->text[0] != ' ')) return RIO_WRONG_REPLY;
-    *count = (size_t)told;
-    return RIO_OK;
+    return make(r, (struct wanted){.form = COUNT, .number = done});
 }
 
 /* ---- Files and directories ---- */
@@ -554,7 +778,7 @@ int rio_write(rio *r, const char *path, uint64_t off, const void *data, size_t l
 int rio_read(rio *r, const char *path, uint64_t off, size_t length, void *into, size_t *got)
 {
     bytes_line(r, "read", path, off, length, RIO_MOST_BYTES);
-    return ask_bytes(r, into, length, got);
+    return make(r, (struct wanted){.form = BYTES, .into = into, .most = length, .count = got});
 }
 
 int rio_truncate(rio *r, const char *path, uint64_t length)
@@ -575,68 +799,16 @@ int rio_rename(rio *r, const char *path, const char *to)
     return ask_done(r);
 }
 
-/* Takes the word of a kind off the front of a text. */
-static bool take_kind(const char **text, size_t *length, enum rio_kind *kind)
-{
-    static const char *const words[] = {"dir", "file", "region"};
-    for (int i = 0; i < 3; i++) {
-        if (begins(*text, *length, words[i])) {
-            *text += strlen(words[i]);
-            *length -= strlen(words[i]);
-            *kind = (enum rio_kind)(RIO_DIRECTORY + i);
-            return true;
-        }
-    }
-    return false;
-}
-
 int rio_stat(rio *r, const char *path, struct rio_stat *found)
 {
-    struct rio_stat told = {0, RIO_FILE, 0};
     path_line(r, "stat", path);
-    int failed = ask(r);
-    if (failed != RIO_OK) return failed;
-    const char *text = r->text;
-    size_t length = r->text_length;
-    bool whole = take_space(&text, &length) && take_number(&text, &length, &told.inode) && take_space(&text, &length)
-        && take_kind(&text, &length, &told.kind) && take_space(&text, &length) && take_number(&text, &length, &told.size);
-    if (!whole || length != 0) return RIO_WRONG_REPLY;
-    *found = told;
-    return RIO_OK;
-}
-
-/* An array of the items of a text, each with a space before it, in one block with them. */
-static char **split(const char *text, size_t length, size_t count)
-{
-    char **items = malloc(count * sizeof *items + length + 1);
-    if (items == NULL) return NULL;
-    char *at = (char *)(items + count);
-    char *end = at + length;
-    memcpy(at, text, length);
-    *end = '\0';
-    for (size_t i = 0; i < count; i++) {
-        *at = '\0';
-        items[i] = at + 1;
-        char *space = memchr(at + 1, ' ', (size_t)(end - at - 1));
-        at = space != NULL ? space : end;
-    }
-    return items;
+    return make(r, (struct wanted){.form = STAT, .into = found});
 }
 
 int rio_list(rio *r, const char *path, char ***names, size_t *count)
 {
-    size_t told = 0;
-    char **items = NULL;
     path_line(r, "list", path);
-    int failed = ask_items(r, &told);
-    if (failed != RIO_OK) return failed;
-    if (told > 0) {
-        items = split(r->text, r->text_length, told);
-        if (items == NULL) return RIO_SYSTEM;
-    }
-    *names = items;
-    *count = told;
-    return RIO_OK;
+    return make(r, (struct wanted){.form = NAMES, .into = names, .count = count});
 }
 
 int rio_sync(rio *r)
@@ -671,6 +843,7 @@ int rio_read_all(rio *r, const char *path, unsigned char **data, size_t *length)
 {
     unsigned char *block = NULL;
     size_t got = 0;
+    if (is_queued(r)) return RIO_INVALID;
     int failed = read_pieces(r, path, &block, &got);
     if (failed != RIO_OK || got == 0) {
         free(block);
@@ -685,7 +858,7 @@ int rio_read_all(rio *r, const char *path, unsigned char **data, size_t *length)
 int rio_write_all(rio *r, const char *path, const void *data, size_t length)
 {
     const unsigned char *bytes = data;
-    if (data == NULL && length > 0) return RIO_INVALID;
+    if (is_queued(r) || (data == NULL && length > 0)) return RIO_INVALID;
     int failed = rio_create(r, path, NULL);
     if (failed == RIO_OK || failed == RIO_EXISTS) failed = rio_truncate(r, path, length);
     for (size_t off = 0; failed == RIO_OK && off < length; off += RIO_MOST_BYTES) {
@@ -723,11 +896,8 @@ int rio_put(rio *r, const char *path, uint64_t off, const void *data, size_t len
 
 int rio_get(rio *r, const char *path, uint64_t off, size_t length, void *into)
 {
-    size_t got = 0;
     bytes_line(r, "get", path, off, length, RIO_MOST_BYTES);
-    int failed = ask_bytes(r, into, length, &got);
-    if (failed == RIO_OK && got != length) return RIO_WRONG_REPLY;
-    return failed;
+    return make(r, (struct wanted){.form = ALL_BYTES, .into = into, .most = length});
 }
 
 int rio_alloc(rio *r, const char *path, uint64_t units, uint64_t *at)
@@ -750,24 +920,8 @@ int rio_abort(rio *r, const char *path) { return path_done(r, "abort", path); }
 
 int rio_txns(rio *r, uint64_t **inodes, size_t *count)
 {
-    size_t told = 0;
-    uint64_t *items = NULL;
     begin_line(r, "txns");
-    int failed = ask_items(r, &told);
-    if (failed != RIO_OK) return failed;
-    if (told > 0) {
-        items = malloc(told * sizeof *items);
-        if (items == NULL) return RIO_SYSTEM;
-    }
-    for (size_t i = 0; i < told; i++) {
-        if (!take_space(&r->text, &r->text_length) || !take_number(&r->text, &r->text_length, &items[i])) {
-            free(items);
-            return RIO_WRONG_REPLY;
-        }
-    }
-    *inodes = items;
-    *count = told;
-    return RIO_OK;
+    return make(r, (struct wanted){.form = INODES, .into = inodes, .count = count});
 }
 
 /* ---- Stores of a program gone wild ---- */

@@ -28,11 +28,26 @@
  * '/', and is neither "." nor "..". Data are a pointer and a length in bytes; the pointer may be NULL where the length is 0.
  * Offsets, lengths and counts are from 0 to RIO_MOST_NUMBER. A call with a value outside of these is RIO_INVALID.
  *
+ * Several at once. rio_queue makes the next call one that is sent later, together with others, which is many times faster:
+ *
+ *     int results[2] = {RIO_PENDING, RIO_PENDING};
+ *     rio_queue(r, &results[0]);
+ *     rio_create(r, "/a", NULL);
+ *     rio_queue(r, &results[1]);
+ *     rio_create(r, "/b", NULL);
+ *     if (rio_wait_all(r) != RIO_OK) fprintf(stderr, "%s, %s\n", rio_refusal_name(results[0]), rio_refusal_name(results[1]));
+ *
+ * Requests are made in the order of their calls, also where some are queued and some are not. What is under way is bounded: at most
+ * 1,024 requests wait for their replies, and a call that comes when there are more waits first. Replies are read while requests
+ * are sent, so that the two never wait for each other.
+ *
  * Memory. What a caller passes stays the caller's, and is not kept. What a call has allocated for the caller is one block,
  * which the caller gives to free. A rio has some 4 MB of its own, and makes no other allocation while a request is on its way.
  *
- * The end. rio_end tells the program's status, and docs/FORMATS.md which there are. After a status 7 because the image could
- * not be saved, and where a signal killed the program, nothing is promised of the pair.
+ * The end. rio_end tells the program's status, and docs/FORMATS.md which there are. Where a signal killed the program, the pair
+ * stands for all that was answered, and of the request on its way for nothing, all, or of a write a front of it. So it does
+ * after a status 7 because the image could not be saved, unless the standard error tells that IMAGE could not be kept in step
+ * with memory. With RIO_MEMORY=plain nothing is promised of the pair after either.
  *
  * Signals and threads. The program runs in a session of its own, so Ctrl-C reaches the client alone. No call leaves a
  * SIGPIPE behind, and calls that a signal interrupts go on. Where the client ends or is killed, the program meets the end of
@@ -91,7 +106,8 @@ enum rio_refusal {
     RIO_ENDED = -1,
     RIO_INVALID = -2,    /* an argument is outside of what its call allows; nothing was sent */
     RIO_SYSTEM = -3,     /* the request is done, and there was no memory for what it answers: see errno */
-    RIO_WRONG_REPLY = -4 /* the reply is none that the request can have */
+    RIO_WRONG_REPLY = -4, /* the reply is none that the request can have */
+    RIO_PENDING = -5      /* the call is queued, and its reply was not read yet */
 };
 
 /* What stands at a path. */
@@ -130,6 +146,28 @@ const char *rio_last_line(const rio *r);
 
 /* Ends the program, as rio_end, where it has not ended, and frees r, which may be NULL. */
 void rio_close(rio *r);
+
+/* ---- Several requests at once ---- */
+
+/*
+ * Makes the next call that makes a request a queued one. That returns RIO_OK once the request is queued, or RIO_INVALID or RIO_ENDED
+ * where it is not. What it comes to is put in *result, which is RIO_PENDING until the reply is read; result may be NULL. What
+ * the call gives by pointers is put there at that time too, so all of them have to stay until then. The data that it is passed
+ * are copied. rio_read_all and rio_write_all make several requests, and are RIO_INVALID as queued calls.
+ *
+ * A request is sent before the replies to those in front of it are known: a commit keeps what its transaction changed until then,
+ * also where a put before it was refused.
+ */
+void rio_queue(rio *r, int *result);
+
+/* Sends what is queued, reads replies until that is there whose call was queued with this result, and returns it. */
+int rio_wait(rio *r, const int *result);
+
+/*
+ * Sends what is queued and reads all replies. Returns RIO_OK where each queued call since the last rio_wait_all came to that, else
+ * what the first of the others came to. A call that is not queued, and rio_end, wait in the same way, and leave this to be told.
+ */
+int rio_wait_all(rio *r);
 
 /* ---- Files and directories ---- */
 

@@ -10,6 +10,7 @@ from rio import MOST_BYTES
 from setting import FAKE, HERE, Differs, every_line, refused_pairs, same, sent, shown
 
 WARNINGS = ["-std=c11", "-Wall", "-Wextra", "-Wpedantic", "-Werror"]
+MOST_UNDER_WAY = 1024
 VALGRIND = ["valgrind", "-q", "--error-exitcode=3", "--leak-check=full", "--child-silent-after-fork=yes"]
 
 
@@ -112,6 +113,25 @@ def two_at_once(setting):
     run(setting, "two", setting.program, first, watched=True)
 
 
+def queued(setting):
+    run(setting, "queued", setting.program, setting.pair(), watched=True)
+
+
+def queued_large(setting):
+    run(setting, "queued_large", setting.program, setting.pair("large"))
+
+
+def queued_many(setting):
+    files = setting.script(*["gather"] * 20)
+    run(setting, "queued_many", FAKE, files)
+    counts = [int(line.split()[1]) for line in sent(files[1])]
+    same((sum(counts), max(counts) <= MOST_UNDER_WAY, min(counts[:2]) > 100), (3000, True, True))
+
+
+def queued_ended(setting):
+    run(setting, "queued_ended", FAKE, setting.script("err 30 8", "err 2", "exit 8 source fault"), watched=True)
+
+
 def names(setting):
     run(setting, "names", setting.program, setting.script(), watched=True)
 
@@ -134,4 +154,8 @@ def parts():
         "rio.c: the largest file": large,
         "rio.c: two programs at once": two_at_once,
         "rio.c: names, and no program": names,
+        "rio.c: queued calls": queued,
+        "rio.c: queued calls of a megabyte": queued_large,
+        "rio.c: queued calls are bounded": queued_many,
+        "rio.c: queued calls at the end": queued_ended,
     }

@@ -465,6 +465,150 @@ static void slow(struct setting *s)
     free(bytes);
 }
 
+/* Queued calls on the program: what they give is there once they were waited for. */
+static void queued_calls(struct setting *s, rio *r)
+{
+    enum { CALLS = 9 };
+    int results[CALLS];
+    uint64_t inode = 7;
+    uint64_t done = 7;
+    size_t got = 7;
+    size_t count = 7;
+    char text[8] = "";
+    char **names = NULL;
+    struct rio_stat found = {7, RIO_FILE, 7};
+    rio_queue(r, &results[0]);
+    SAME(rio_mkdir(r, "/a", &inode), RIO_OK);
+    rio_queue(r, &results[1]);
+    SAME(rio_create(r, "/a/f", NULL), RIO_OK);
+    rio_queue(r, &results[2]);
+    SAME(rio_write(r, "/a/f", 0, "hello", 5, &done), RIO_OK);
+    rio_queue(r, &results[3]);
+    SAME(rio_read(r, "/a/f", 1, sizeof text, text, &got), RIO_OK);
+    rio_queue(r, &results[4]);
+    SAME(rio_stat(r, "/a/f", &found), RIO_OK);
+    rio_queue(r, &results[5]);
+    SAME(rio_list(r, "/a", &names, &count), RIO_OK);
+    rio_queue(r, &results[6]);
+    SAME(rio_create(r, "/a", NULL), RIO_OK);
+    rio_queue(r, &results[7]);
+    SAME(rio_create(r, "a", NULL), RIO_INVALID);
+    rio_queue(r, &results[8]);
+    SAME(rio_rmdir(r, "/a"), RIO_OK);
+    SAME(inode == 7 && done == 7 && got == 7 && names == NULL, true);
+    SAME(results[6], RIO_PENDING);
+    SAME(rio_wait(r, &results[6]), RIO_EXISTS);
+    SAME(rio_wait_all(r), RIO_INVALID);
+    for (int i = 0; i < 6; i++) SAME(results[i], RIO_OK);
+    SAME(results[7], RIO_INVALID);
+    SAME(results[8], RIO_NOT_EMPTY);
+    SAME(inode == 2 && done == 5 && got == 4 && found.size == 5 && count == 1, true);
+    SAME_BYTES(text, "ello", 4);
+    if (count == 1) SAME_TEXT(names[0], "f");
+    free(names);
+}
+
+static void queued(struct setting *s)
+{
+    rio *r = opened(s);
+    int result = RIO_OK;
+    uint64_t *inodes = NULL;
+    size_t count = 7;
+    queued_calls(s, r);
+    SAME(rio_wait_all(r), RIO_OK);
+    rio_queue(r, NULL);
+    SAME(rio_region(r, "/r", 1, 1, NULL), RIO_OK);
+    rio_queue(r, NULL);
+    SAME(rio_begin(r, "/r"), RIO_OK);
+    rio_queue(r, &result);
+    SAME(rio_txns(r, &inodes, &count), RIO_OK);
+    SAME(rio_abort(r, "/r"), RIO_OK);
+    SAME(result, RIO_OK);
+    SAME(count == 1 && inodes[0] == 4, true);
+    free(inodes);
+    rio_queue(r, &result);
+    SAME(rio_write_all(r, "/f", "x", 1), RIO_INVALID);
+    SAME(result, RIO_INVALID);
+    rio_queue(r, NULL);
+    SAME(rio_create(r, "/last", NULL), RIO_OK);
+    SAME(rio_end(r), 0);
+    SAME(rio_wait_all(r), RIO_INVALID);
+    rio_close(r);
+    r = opened(s);
+    SAME(rio_unlink(r, "/last"), RIO_OK);
+    ENDS(r, 0, "");
+}
+
+/* Queued writes and reads of a megabyte, so that both pipes are full: each reply is that to its request. */
+static void queued_large(struct setting *s)
+{
+    enum { ROUNDS = 8 };
+    rio *r = opened(s);
+    unsigned char *bytes = pattern(RIO_MOST_BYTES + ROUNDS);
+    unsigned char *back[ROUNDS];
+    size_t got[ROUNDS];
+    if (bytes == NULL) exit(1);
+    SAME(rio_create(r, "/f", NULL), RIO_OK);
+    for (int i = 0; i < ROUNDS; i++) {
+        back[i] = malloc(RIO_MOST_BYTES);
+        if (back[i] == NULL) exit(1);
+        rio_queue(r, NULL);
+        SAME(rio_write(r, "/f", 0, bytes + i, RIO_MOST_BYTES, NULL), RIO_OK);
+        rio_queue(r, NULL);
+        SAME(rio_read(r, "/f", 0, RIO_MOST_BYTES, back[i], &got[i]), RIO_OK);
+    }
+    SAME(rio_wait_all(r), RIO_OK);
+    for (int i = 0; i < ROUNDS; i++) {
+        SAME(got[i], RIO_MOST_BYTES);
+        SAME_BYTES(back[i], bytes + i, RIO_MOST_BYTES);
+        free(back[i]);
+    }
+    free(bytes);
+    ENDS(r, 0, "");
+}
+
+/* Over a fake that answers nothing for a while: what it took is looked at from outside. */
+static void queued_many(struct setting *s)
+{
+    enum { CALLS = 3000 };
+    static int results[CALLS];
+    rio *r = opened(s);
+    for (int i = 0; i < CALLS; i++) {
+        rio_queue(r, &results[i]);
+        SAME(rio_sync(r), RIO_OK);
+    }
+    SAME(rio_wait_all(r), RIO_OK);
+    for (int i = 0; i < CALLS; i++) SAME(results[i], RIO_OK);
+    ENDS(r, 0, "");
+}
+
+/* Over a fake that answers `err 30 8` and `err 2`, and ends at the third request. */
+static void queued_ended(struct setting *s)
+{
+    rio *r = opened(s);
+    uint64_t done[2] = {7, 7};
+    int results[4];
+    for (int i = 0; i < 2; i++) {
+        rio_queue(r, &results[i]);
+        SAME(rio_write(r, "/f", 0, "0123456789abcdef", 16, &done[i]), RIO_OK);
+    }
+    for (int i = 2; i < 4; i++) {
+        rio_queue(r, &results[i]);
+        SAME(rio_sync(r), RIO_OK);
+    }
+    SAME(rio_wait(r, &results[3]), RIO_ENDED);
+    SAME(rio_wait_all(r), RIO_DEVICE_FAULT);
+    SAME(results[0], RIO_DEVICE_FAULT);
+    SAME(done[0], 8);
+    SAME(results[1], RIO_NOT_FOUND);
+    SAME(done[1], 0);
+    SAME(results[2], RIO_ENDED);
+    rio_queue(r, &results[0]);
+    SAME(rio_sync(r), RIO_ENDED);
+    SAME(results[0], RIO_ENDED);
+    ENDS(r, 8, "source fault");
+}
+
 /* No program of that name; and the names of all that a call returns. */
 static void names(struct setting *s)
 {
@@ -490,6 +634,7 @@ int main(int argc, char **argv)
         {"requests", requests}, {"refusals", refusals}, {"lines", lines}, {"answers", answers},
         {"wrong_answers", wrong_answers}, {"invalid", invalid}, {"large", large}, {"two", two},
         {"refused", refused}, {"ended", ended}, {"broken_pipe", broken_pipe}, {"stops", stops}, {"slow", slow}, {"names", names},
+        {"queued", queued}, {"queued_large", queued_large}, {"queued_many", queued_many}, {"queued_ended", queued_ended},
     };
     struct setting s = {argv[argc > 2 ? 2 : 0], argv[argc > 3 ? 3 : 0], argv[argc > 4 ? 4 : 0], 0};
     for (size_t i = 0; argc == 5 && i < sizeof parts / sizeof parts[0]; i++) {

@@ -2,7 +2,6 @@
 import contextlib
 import os
 import signal
-import time
 
 import rio as client
 from rio import Census, CutOff, Ended, End, Formatted, Rio, Stat, WrongReply, check, format_pair
@@ -386,18 +385,14 @@ def two_at_once(setting):
 
 
 def dropped(setting):
-    """A client that is killed: the program meets the end of its input, and saves what was answered."""
+    """A client that is killed: the program meets the end of its input, and what was answered stands."""
     image, disk = setting.pair()
     child = os.fork()
     if child == 0:
         Rio(image, disk, program=setting.program).create("/f")
         os.kill(os.getpid(), signal.SIGKILL)
     os.waitpid(child, 0)
-    wanted, limit = Census(1, 1, 0, 1, 251), time.monotonic() + 60
-    while check(image, disk, program=setting.program) != wanted:
-        if time.monotonic() > limit:
-            same(check(image, disk, program=setting.program), wanted)
-        time.sleep(0.05)
+    same(setting.settled((image, disk)), Census(1, 1, 0, 1, 251))
 
 
 def parts():

@@ -1,11 +1,16 @@
 """What the parts of the test work with: the program, a folder, fresh pairs, and scripts for `fake`."""
 import os
 import shutil
+import time
 
-from rio import format_pair
+from rio import Ended, check, format_pair
 
 HERE = os.path.dirname(os.path.abspath(__file__))
 FAKE = os.path.join(HERE, "fake")
+
+# How long a run may take to end, in seconds, and the status of one whose pair another run has.
+LONGEST = 60
+IN_USE = 7
 
 # By name: frames, blocks, inodes and scratch pages. In memory the large one has a page for each block.
 SIZES = {"small": (64, 256, 64, 1), "large": (2048, 2048, 64, 1)}
@@ -13,6 +18,10 @@ SIZES = {"small": (64, 256, 64, 1), "large": (2048, 2048, 64, 1)}
 
 class Differs(Exception):
     """Something is not as expected."""
+
+
+class Skipped(Exception):
+    """This machine lacks something that the part takes."""
 
 
 class Setting:
@@ -37,6 +46,17 @@ class Setting:
         for source, copy in zip(first, copies):
             shutil.copyfile(source, copy)
         return copies
+
+    def settled(self, files):
+        """What there is on a pair as soon as no run has it any more: one whose input has ended still saves."""
+        limit = time.monotonic() + LONGEST
+        while True:
+            try:
+                return check(*files, program=self.program)
+            except Ended as ended:
+                if ended.status != IN_USE or time.monotonic() > limit:
+                    raise
+            time.sleep(0.05)
 
     def script(self, *lines):
         """The two files of a fake that answers by these lines. The second gets the requests that it takes."""

@@ -7,11 +7,10 @@ import subprocess
 import sys
 import time
 
-from rio import Census, Rio, check
-from setting import FAKE, HERE, Differs, content, refused_pairs, same
+from rio import Census, Rio
+from setting import FAKE, HERE, LONGEST, Differs, content, refused_pairs, same
 
 TALK = os.path.join(os.path.dirname(HERE), "talk")
-LONGEST = 60
 
 
 def talk_words(program, files, *options):
@@ -21,7 +20,8 @@ def talk_words(program, files, *options):
 def talked(program, files, lines, *options):
     """Talks these lines over a pipe, and returns the status and the lines that come back."""
     words = talk_words(program, files, *options)
-    ended = subprocess.run(words, input="\n".join(lines).encode(), stdout=subprocess.PIPE, timeout=LONGEST, check=False)
+    said = {"stdout": subprocess.PIPE, "stderr": subprocess.DEVNULL}
+    ended = subprocess.run(words, input="\n".join(lines).encode(), **said, timeout=LONGEST, check=False)
     return ended.returncode, ended.stdout.decode().splitlines()
 
 
@@ -90,7 +90,7 @@ def own_lines(setting):
         ('write /notes "\\xff"', "1 bytes to /notes"), ("get /notes", "ff"),
     ]
     lines = [line for line, _ in rows if line is not None]
-    same(talked(setting.program, setting.pair(), lines), (0, [reply for _, reply in rows]))
+    same(talked(setting.program, setting.pair(), lines), (1, [reply for _, reply in rows]))
     same(content(back) == data, True)
     same(content(spaced), b"Jello\n\tit's \"x\\y!\"")
 
@@ -129,7 +129,7 @@ def started(setting, files, **streams):
 
 def saved(setting, files):
     """Whether the image has the file that `started` made."""
-    same(check(*files, program=setting.program), Census(1, 1, 0, 1, 251))
+    same(setting.settled(files), Census(1, 1, 0, 1, 251))
 
 
 def signals(setting):
@@ -163,19 +163,17 @@ def killed(setting):
     talk = started(setting, files)
     talk.kill()
     talk.communicate(timeout=LONGEST)
-    limit = time.monotonic() + LONGEST
-    while check(*files, program=setting.program).files != 1 and time.monotonic() < limit:
-        time.sleep(0.05)
     saved(setting, files)
 
 
 class Terminal:
-    """A terminal of its own that runs talk."""
+    """A terminal of its own that runs talk, which keeps its lines in a folder for state."""
 
-    def __init__(self, words):
+    def __init__(self, words, state):
         self.pid, self.screen = pty.fork()
         if self.pid == 0:
             os.environ["TERM"] = "dumb"
+            os.environ["XDG_STATE_HOME"] = state
             os.execv(words[0], words)
         self.seen = b""
 
@@ -210,7 +208,7 @@ def terminals(setting):
     """At a terminal: a prompt, and an end by Ctrl-D or by Ctrl-C, which reaches all that the terminal runs in front."""
     for keys, status in ((b"\x04", 0), (b"\x03", 130), (b"sync\x03", 130)):
         files = setting.pair()
-        terminal = Terminal(talk_words(setting.program, files))
+        terminal = Terminal(talk_words(setting.program, files), setting.path("state"))
         terminal.types(b"", b"rio> ")
         terminal.types(b"create /f\n", b"ok 2")
         terminal.types(b"create /f\n", b"err 3  exists\r\nrio> ")
