@@ -1,0 +1,14 @@
+pub mod Depths
+pub mod RuleLevels
+pub mod ListLaws
+pub mod ListMaps
+pub mod Turned
+pub mod Heights
+pub mod Inserted
+pub mod Settled
+pub mod Removed
+pub mod LookUps
+pub mod Times
+pub mod Sizes
+pub mod Standing
+pub mod MapWords
