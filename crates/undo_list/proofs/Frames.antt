@@ -1,12 +1,12 @@
 -- Laws of a record that is written, published, put back and dropped.
-use Rattle.std.proofs.Common.{◌≡◌, ℕ, ◌+◌, ◌-◌, ◌*◌, ◌<◌, ◌≤◌, List, [], ◌∷◌, ◌++◌, length, slice_index, take, length-take, refl, sym, ap, subst, ◌∙◌, arith, inl, inr, ◌⊎◌, true, false}
+use Rattle.std.proofs.Common.{◌≡◌, ℕ, ◌+◌, ◌-◌, ◌*◌, ◌<◌, ◌≤◌, List, [], ◌∷◌, ◌++◌, length, slice_index, take, length-take, refl, sym, ap, subst, ◌∙◌, arith, inl, inr, ◌⊎◌, false}
 use Rattle.std.proofs.lemmas.Bool.Decides.{nat_tests}
 use Rattle.std.proofs.lemmas.List.{get_or-append-add, get_or-take, get_or_append_left, length-append, length-take-le}
 use Rattle.std.proofs.lemmas.List.FromFn.{get_or-map-range_with_len, length-map-range_with_len}
 use Rattle.rio_base.specs.Rules.{true_false}
 use Rattle.rio_base.specs.Regions.{AreWords, RegionContent, put_word, put_words, OldOrPutWord, OldOrPutWords}
-use Rattle.rio_model.specs.Undo.{UndoRecord, taken, undo_word, undo_words, undo_records, is_covered, IsRecord, places, live, map_from, saving, IsRegion, SameSizes, Rests, Gains, Undoes, Dropped, Sets, Puts, CoversAll}
-use Rattle.rio_model.proofs.UndoRules.{Saves, keeps_refl, rests_refl, rests_undoes, gains_undoes, undoes_trans, sizes_trans, head_sizes, head_live, gains_by, region_same, covered_keeps, covered_by, newest_dropped, dropped_by, sets_covered, puts_covered}
+use Rattle.rio_model.specs.Undo.{UndoRecord, taken, undo_word, undo_words, undo_records, is_covered, IsRecord, places, live, map_from, saving, IsRegion, SameSizes, Rests, Gains, Undoes, Dropped, Puts, CoversAll}
+use Rattle.rio_model.proofs.UndoRules.{Saves, keeps_refl, rests_refl, rests_undoes, gains_undoes, undoes_trans, sizes_trans, head_sizes, head_live, gains_by, region_same, covered_keeps, covered_by, newest_dropped, dropped_by, puts_covered}
 use Rattle.undo_list.specs.Copies.{CopiedFront, copied}
 use Rattle.undo_list.specs.Stages.{Off, Staged, PutsFront}
 use Rattle.undo_list.specs.declared.records.SavedAt.{SavedAt}
@@ -244,13 +244,6 @@ pub drop_ends : (n : ℕ) (f g : RegionContent) → IsRegion n f → OldOrPutWor
 drop_ends n f g h (inl same) = inl same
 drop_ends n f g h (inr put) = inr (dropped_by n f g h put)
 
-pub set_at : (n : ℕ) (f f1 g : RegionContent) (at place v : ℕ) → f1 ≡ f → IsRegion n f → is_covered (undo_records f) place ≡ true → at ≡ map_from f + place → g ≡ put_word f1 at v → Sets n f g place v
-set_at n f f1 g at place v same h covered is put = sets_covered n f g place v h covered (put ∙ ap (λ w. put_word w at v) same ∙ ap (λ x. put_word f x v) is)
-
-pub set_ends : (n : ℕ) (f f1 g : RegionContent) (at place v : ℕ) → f1 ≡ f → IsRegion n f → is_covered (undo_records f) place ≡ true → at ≡ map_from f + place → OldOrPutWord f1 g at v → (g ≡ f) ⊎ Sets n f g place v
-set_ends n f f1 g at place v same h covered is (inl kept) = inl (kept ∙ same)
-set_ends n f f1 g at place v same h covered is (inr put) = inr (set_at n f f1 g at place v same h covered is put)
-
 pub puts_at : (n : ℕ) (f f1 g : RegionContent) (at place k most : ℕ) (words : List ℕ) → f1 ≡ f → IsRegion n f → k ≤ most → CoversAll (undo_records f) place most → at ≡ map_from f + place → g ≡ put_words f1 at k words → Puts n f g place k words
 puts_at n f f1 g at place k most words same h small covered is put = puts_covered n f g place k words h (λ q low high. covered q low (omega arith)) (put ∙ ap (λ w. put_words w at k words) same ∙ ap (λ x. put_words f x k words) is)
 
@@ -264,17 +257,10 @@ puts_none n f g place words h same = subst (λ w. Puts n f w place 0 words) (sym
     none : (q : ℕ) → live f q ≡ put_words (live f) place 0 words q
     none q = grind (arith, nat_tests)
 
-pub puts_from : (n m : ℕ) (f1 f g : RegionContent) (place k : ℕ) (words : List ℕ) → f1 ≡ f → m ≡ n → Puts m f1 g place k words → Puts n f g place k words
-puts_from n m f1 f g place k words same size h = subst (λ j. Puts j f g place k words) size (subst (λ w. Puts m w g place k words) same h)
-
 -- ---- the region at a later state
 
 pub region_at : (n k : ℕ) (f g : RegionContent) → IsRegion n f → k ≡ n → g ≡ f → IsRegion k g
 region_at n k f g h size same = subst (λ j. IsRegion j g) (sym size) (subst (λ w. IsRegion n w) (sym same) h)
-
-pub set_region : (n k : ℕ) (f g : RegionContent) (place v : ℕ) → IsRegion n f → k ≡ n → (g ≡ f) ⊎ Sets n f g place v → IsRegion k g
-set_region n k f g place v h size (inl same) = region_at n k f g h size same
-set_region n k f g place v h size (inr s) = subst (λ j. IsRegion j g) (sym size) s.keeps.undoes.region
 
 pub puts_region : (n k : ℕ) (f g : RegionContent) (place : ℕ) (words : List ℕ) → k ≡ n → PutsFront n f g place words → IsRegion k g
 puts_region n k f g place words size p = subst (λ j. IsRegion j g) (sym size) p.2.keeps.undoes.region

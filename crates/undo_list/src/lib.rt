@@ -15,10 +15,7 @@ mod runs;
 pub use bits::{ones_from, with_bits, zeros_from};
 pub use covering::{covered, covered_with};
 pub use failures::{UndoFail, uncounted};
-pub use places::{
-    data_pages, put_covered, put_covered_run, put_covered_run_with, read_places, read_places_with,
-    word_at,
-};
+pub use places::{data_pages, put_covered_run_with, read_places, read_places_with, word_at};
 pub use ranges::{room, set_pair_with, set_range, set_range_with};
 pub use records::{Header, read_header};
 pub use rewinding::{drop_all, rewind};

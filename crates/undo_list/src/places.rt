@@ -1,9 +1,9 @@
 //! The words at a region's places: those of its heap map, and behind them those of its data.
 
-ghost use Rattle.std.specs.Prelude.{◌≡◌, ◌+◌, ◌<◌, ◌≤◌, ◌⊎◌, true, IfOk, IsErrOf, OnOk, length};
+ghost use Rattle.std.specs.Prelude.{◌≡◌, ◌+◌, ◌<◌, ◌≤◌, IfOk, OnOk, length};
 ghost use Rattle.rio_base.specs.Blocks.{Ends, FaultAt, as_word};
 ghost use Rattle.rio_base.specs.Regions.{AreWords, Stays};
-ghost use Rattle.rio_model.specs.Undo.{CoversAll, IsRegion, Puts, Sets, is_covered, live, places, undo_records};
+ghost use Rattle.rio_model.specs.Undo.{CoversAll, IsRegion, Puts, live, places, undo_records};
 ghost use Rattle.undo_list.specs.Stages.{PutsFront};
 
 use crate::records::{DATA, UNDO};
@@ -75,46 +75,9 @@ pub fn read_places_with<R: RegionWords>(
     r.read_run(512 * (1 + undo) + place, into)
 }
 
-/// Stores the word at a place that a record covers. The words of before stay the same; `Fault` changes nothing.
-pub fn put_covered<R: RegionWords>(r: &mut R, place: u32, value: u64) -> Result<(), VolFail>
-    requires ready { R.ready r.old }
-    requires region { IsRegion (R.count r.old) (R.words r.old) }
-    requires place { place < places (R.words r.old) }
-    requires covered { is_covered (undo_records (R.words r.old)) place ≡ true }
-    ensures ok { OnOk result (Sets (R.count r.old) (R.words r.old) (R.words r.new) place value) }
-    ensures fault { IsErrOf result VolFail.Fault → R.words r.new ≡ R.words r.old }
-    ensures either { (R.words r.new ≡ R.words r.old) ⊎ Sets (R.count r.old) (R.words r.old) (R.words r.new) place value }
-    ensures region { IsRegion (R.count r.new) (R.words r.new) }
-    ensures stays { Stays R.keeps_rest R.ready R.count R.health R.below r.old r.new }
-    ensures ends { Ends (R.health r.old) (R.health r.new) result }
-{
-    let undo = r.word(UNDO)?;
-    r.set(512 * (1 + undo as u32) + place, value)
-}
-
-/// Stores the words at a run of places from `place` on that records cover, in rising order. The words of before stay the
-/// same; `Fault` says how many words were stored, and `Stopped` leaves a front of them stored.
-pub fn put_covered_run<R: RegionWords>(r: &mut R, place: u32, words: &[u64]) -> Result<(), RunFail>
-    requires ready { R.ready r.old }
-    requires region { IsRegion (R.count r.old) (R.words r.old) }
-    requires place { place + length words.now ≤ places (R.words r.old) }
-    requires covered { CoversAll (undo_records (R.words r.old)) place (length words.now) }
-    ensures ok { OnOk result (Puts (R.count r.old) (R.words r.old) (R.words r.new) place (length words.now) words.now) }
-    ensures fault { FaultAt result (λ n. (n ≤ length words.now) × Puts (R.count r.old) (R.words r.old) (R.words r.new) place n words.now) }
-    ensures front { PutsFront (R.count r.old) (R.words r.old) (R.words r.new) place words.now }
-    ensures region { IsRegion (R.count r.new) (R.words r.new) }
-    ensures stays { Stays R.keeps_rest R.ready R.count R.health R.below r.old r.new }
-    ensures ends { Ends (R.health r.old) (R.health r.new) (as_word result) }
-{
-    let undo = match r.word(UNDO) {
-        Ok(undo) => undo as u32,
-        Err(VolFail::Fault) => return Err(RunFail::Fault(0)),
-        Err(VolFail::Stopped) => return Err(RunFail::Stopped),
-    };
-    put_covered_run_with(r, undo, place, words)
-}
-
-/// `put_covered_run`, for a caller that has read the header: `undo` is how many undo pages there are.
+/// Stores the words at a run of places from `place` on that records cover, in rising order, for a caller that has read the
+/// header: `undo` is how many undo pages there are. The words of before stay the same; `Fault` says how many words were
+/// stored, and `Stopped` leaves a front of them stored.
 pub fn put_covered_run_with<R: RegionWords>(
     r: &mut R,
     undo: u32,

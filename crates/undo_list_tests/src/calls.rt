@@ -1,17 +1,20 @@
 //! Calls on a region and its undo list, and what each answers.
 
-ghost use Rattle.std.specs.Prelude.{◌≤◌, ◌+◌, length};
+ghost use Rattle.std.specs.Prelude.{◌<◌, ◌≤◌, ◌+◌, length};
 ghost use Rattle.rio_base.specs.Regions.{Stays};
-ghost use Rattle.rio_model.specs.Undo.{IsRegion};
+ghost use Rattle.rio_model.specs.Undo.{CoversAll, IsRegion, places, undo_records};
 
 use rio_base::{RegionWords, RunFail, VolFail};
 use undo_list::{
-    UndoFail, covered, covered_with, drop_all, put_covered, put_covered_run_with, read_header,
-    rewind, room, set_range, set_range_with, word_at,
+    UndoFail, covered, covered_with, drop_all, put_covered_run_with, read_header, rewind, room,
+    set_range, set_range_with, uncounted, word_at,
 };
 
 /// The place of the first data word of a region of one map page.
 pub(crate) const DATA: u32 = 512;
+
+/// The place of the number of undo pages in a region's header.
+const UNDO: u32 = 1;
 
 /// How many places each region of these tests has at least: those of one page of map and one of data.
 const PLACES: u32 = 1024;
@@ -97,6 +100,19 @@ pub(crate) fn is_covered<R: RegionWords>(r: &mut R, first: u32, count: u32) -> R
     covered(r, first, count.min(PLACES - first))
 }
 
+/// Stores a word at a place that a record covers.
+fn put_word<R: RegionWords>(r: &mut R, place: u32, value: u64) -> Result<(), VolFail>
+    requires ready { R.ready r.old }
+    requires region { IsRegion (R.count r.old) (R.words r.old) }
+    requires place { place < places (R.words r.old) }
+    requires covered { CoversAll (undo_records (R.words r.old)) place 1 }
+    ensures region { IsRegion (R.count r.new) (R.words r.new) }
+    ensures stays { Stays R.keeps_rest R.ready R.count R.health R.below r.old r.new }
+{
+    let undo = r.word(UNDO)?;
+    uncounted(put_covered_run_with(r, undo as u32, place, &[value]))
+}
+
 /// Saves `count` places from `place` on, and stores a word at the first of them.
 fn change<R: RegionWords>(r: &mut R, place: u32, count: u32, value: u64) -> Result<(), UndoFail>
     requires ready { R.ready r.old }
@@ -107,7 +123,7 @@ fn change<R: RegionWords>(r: &mut R, place: u32, count: u32, value: u64) -> Resu
     ensures stays { Stays R.keeps_rest R.ready R.count R.health R.below r.old r.new }
 {
     set_range(r, place, count)?;
-    put_covered(r, place, value)?;
+    put_word(r, place, value)?;
     Ok(())
 }
 

@@ -2,5 +2,5 @@ use Rattle.std.proofs.Common.{arith}
 use Rattle.rio_model.proofs.UndoRules.{gains_covers}
 use Rattle.undo_list_tests.proofs.calls.change.Goals as goal
 
-pub put_covered-requires-clause-covered : goal.put_covered-requires-clause-covered
-put_covered-requires-clause-covered g c = gains_covers (g.R.RegionWords.count c.args.r.now) (g.R.RegionWords.words c.args.r.now) (g.R.RegionWords.words c.set_range.new.r) c.args.place c.args.count c.in_ok-set_range.ensures.ok c.args.place (omega arith) (omega (arith, c.requires.some))
+pub put_word-requires-clause-covered : goal.put_word-requires-clause-covered
+put_word-requires-clause-covered g c = λ q low high. gains_covers (g.R.RegionWords.count c.args.r.now) (g.R.RegionWords.words c.args.r.now) (g.R.RegionWords.words c.set_range.new.r) c.args.place c.args.count c.in_ok-set_range.ensures.ok q low (omega (arith, high, c.requires.some))
