@@ -1,13 +1,12 @@
 //! The requests by a caller who holds nothing in memory of the volume.
 
-ghost use Rattle.std.specs.Prelude.{◌≡◌, ◌≤◌, IfOk, IsErrOf, OnErr, OnOk};
+ghost use Rattle.std.specs.Prelude.{◌≡◌, ◌≤◌, IfOk, IsErrOf, OnOk};
 ghost use Rattle.rio_base.specs.Blocks.{EndsBy};
 ghost use Rattle.rio_base.specs.Volume.{Goes};
 ghost use Rattle.rio_model.specs.Held.{held_of};
 ghost use Rattle.rio_model.specs.Placed.{volume_layout};
 ghost use Rattle.rio_model.specs.VolumeReads.{ReadsAs};
-ghost use Rattle.rio_model.specs.VolumeReady.{LeavesInUse, Ready};
-ghost use Rattle.region_view.specs.Views.{KeepsInode, OnRegion};
+ghost use Rattle.rio_model.specs.VolumeReady.{LeavesInUse};
 ghost use Rattle.rio_model.specs.declared.state.State.{State};
 ghost use Rattle.rio_requests.specs.Answers.{stat as stat_of, list as list_of, write as write_of, truncate as truncate_of, read as read_of, mkdir as mkdir_of, create as create_of, make_region as make_region_of, unlink as unlink_of, rmdir as rmdir_of, rename as rename_of};
 ghost use Rattle.rio_requests.specs.Parts.{NoneDone, WriteDone};
@@ -23,11 +22,8 @@ use file_data::{read_with, truncate_with, write_with};
 use file_ends::FileFail;
 use file_tree::Memo;
 use name_list::NameList;
-use node_making::{
-    create_with, list_with, make_region_with, mkdir_with, region_of_with, stand_at_with, stat_with,
-};
+use node_making::{create_with, list_with, make_region_with, mkdir_with, region_at, stat_with};
 use node_moving::{rename_with, rmdir_with, unlink_with};
-use region_view::RegionView;
 use rio_base::{Ino, InoList, Octets, Volume, VolumeShape};
 use std::alloc::Global;
 
@@ -112,28 +108,8 @@ pub fn region_of<V: Volume>(v: &mut V, shape: &VolumeShape, path: &[u8]) -> Resu
     ensures sound { V.sound v.new }
 {
     let mut memo = Memo::none();
-    region_of_with(v, shape, &mut memo, path)
-}
-
-/// Makes a view stand on the region at a path. After a failure it stands on the region that it stood on, if any.
-pub fn stand_at<V: Volume>(view: &mut RegionView<V>, path: &[u8]) -> Result<Ino, FileFail>
-    requires sound { V.sound view.old.v }
-    requires can { CanServe view.old.shape (V.seen view.old.v) (V.kept view.old.v) }
-    requires path { IsPath path.now }
-    ensures found { (s : State) → ReadsAs view.old.shape (V.seen view.old.v).words s → FindsRegion s path.now result }
-    ensures on { OnOk result (OnRegion view.new.shape (V.seen view.new.v) (V.kept view.new.v) view.new.ino.0 view.new.words) }
-    ensures inode { OnOk result (KeepsInode (V.seen view.new.v).words view.new.ino.0 view.new.inode) }
-    ensures ino { IfOk result (λ i. view.new.ino ≡ i) }
-    ensures kept { OnErr result ((view.new.ino ≡ view.old.ino) × (view.new.words ≡ view.old.words) × (view.new.inode ≡ view.old.inode)) }
-    ensures shape { view.new.shape ≡ view.old.shape }
-    ensures words { (V.seen view.new.v).words ≡ (V.seen view.old.v).words }
-    ensures ready { Ready view.new.shape (V.seen view.new.v) (V.kept view.new.v) }
-    ensures goes { Goes (V.health view.old.v) (V.below view.old.v) (V.health view.new.v) (V.below view.new.v) }
-    ensures ends { EndsBy (V.health view.old.v) (V.health view.new.v) (Faulted result) (IsErrOf result FileFail.Stopped) }
-    ensures sound { V.sound view.new.v }
-{
-    let mut memo = Memo::none();
-    stand_at_with(view, &mut memo, path)
+    let (i, _) = region_at(v, shape, &mut memo, path)?;
+    Ok(i)
 }
 
 /// Writes bytes to a file from byte `off` on.

@@ -13,9 +13,7 @@ use crate::asks::{Ask, Row, Want, numbered, path_of};
 use crate::calls::{block_as, free_as};
 use file_data::{read_with, truncate_with, write_with};
 use file_tree::Memo;
-use node_making::{
-    create_with, list_with, make_region_with, mkdir_with, region_of_with, stat_with,
-};
+use node_making::{create_with, list_with, make_region_with, mkdir_with, region_at, stat_with};
 use node_moving::{rename_with, rmdir_with, unlink_with};
 use request_codec::is_path;
 use rio_base::{InoList, Stopped, VolumeShape};
@@ -176,7 +174,11 @@ fn region_of_held(
     ensures in_step { InStep shape.now (list_seen v.new).words memo.new }
     ensures sound { ListSound v.new }
 {
-    match node_is_due(region_of_with(v, shape, memo, path), want) {
+    let found = match region_at(v, shape, memo, path) {
+        Ok((i, _)) => Ok(i),
+        Err(fail) => Err(fail),
+    };
+    match node_is_due(found, want) {
         Ok(due) => due,
         Err(Stopped) => false,
     }

@@ -4,9 +4,10 @@ ghost use Rattle.rio_fakes.specs.ListVolumes.{ListSound, list_kept, list_seen};
 ghost use Rattle.file_ends.specs.Ends.{CanServe};
 
 use crate::asks::{Ask, Row, Want};
-use crate::views::{Call, Due, MAGIC, failing, on_words, start_again, view_after, view_of};
+use crate::views::{
+    Call, Due, MAGIC, failing, on_words, stand_on, start_again, view_after, view_of,
+};
 use file_ends::FileFail;
-use file_store::stand_at;
 use region_view::RegionView;
 use request_codec::is_path;
 use rio_base::{Ino, RegionWords};
@@ -42,7 +43,7 @@ fn a_view_stays_where_it_stands_after_a_refusal(rt: HostRuntime) {
     if !is_path(b"/d") {
         panic!(rt; "no path");
     }
-    let Err(FileFail::Refused(8)) = stand_at(&mut view, b"/d") else {
+    let Err(FileFail::Refused(8)) = stand_on(&mut view, b"/d") else {
         panic!(rt; "a directory is no region");
     };
     if view.len() != 0 {

@@ -1,13 +1,18 @@
 //! Views of regions on volumes in memory, and calls on their words, each of which must answer as its row says.
 
-ghost use Rattle.std.specs.Prelude.{◌≡◌, ◌+◌, ◌≤◌, true};
+ghost use Rattle.std.specs.Prelude.{◌≡◌, ◌+◌, ◌≤◌, true, OnOk};
 ghost use Rattle.rio_fakes.specs.ListVolumes.{ListSound, list_kept, list_seen};
 ghost use Rattle.rio_model.specs.Heap.{IsSoundRegion};
+ghost use Rattle.rio_model.specs.Paths.{IsPath};
+ghost use Rattle.rio_model.specs.VolumeReady.{Ready};
+ghost use Rattle.region_view.specs.Views.{KeepsInode, OnRegion};
 ghost use Rattle.file_ends.specs.Ends.{CanServe};
 
 use crate::asks::Row;
 use crate::playing::volume_after;
-use file_store::stand_at;
+use file_ends::FileFail;
+use file_tree::Memo;
+use node_making::stand_at_with;
 use region_view::RegionView;
 use request_codec::is_path;
 use rio_base::{Ino, RegionWords, RunFail, VolFail};
@@ -57,6 +62,22 @@ pub(crate) fn view_after(rt: &impl Abort, alloc: Global, rows: &[Row]) -> Region
     RegionView::over(v, SHAPE)
 }
 
+/// Makes a view stand on the region at a path, where no name is held.
+pub(crate) fn stand_on(view: &mut RegionView<ListVolume>, path: &[u8]) -> Result<Ino, FileFail>
+    requires sound { ListSound view.old.v }
+    requires can { CanServe view.old.shape (list_seen view.old.v) (list_kept view.old.v) }
+    requires path { IsPath path.now }
+    ensures on { OnOk result (OnRegion view.new.shape (list_seen view.new.v) (list_kept view.new.v) view.new.ino.0 view.new.words) }
+    ensures inode { OnOk result (KeepsInode (list_seen view.new.v).words view.new.ino.0 view.new.inode) }
+    ensures shape { view.new.shape ≡ view.old.shape }
+    ensures words { (list_seen view.new.v).words ≡ (list_seen view.old.v).words }
+    ensures ready { Ready view.new.shape (list_seen view.new.v) (list_kept view.new.v) }
+    ensures sound { ListSound view.new.v }
+{
+    let mut memo = Memo::none();
+    stand_at_with(view, &mut memo, path)
+}
+
 /// A view that stands on the region at a path, which must be this node.
 pub(crate) fn view_of(
     rt: &impl Abort,
@@ -72,7 +93,7 @@ pub(crate) fn view_of(
     if !is_path(path) {
         panic!(rt; "no path");
     }
-    let ino = match stand_at(&mut view, path) {
+    let ino = match stand_on(&mut view, path) {
         Ok(ino) => ino,
         Err(_fail) => panic!(rt; "no region"),
     };

@@ -11,5 +11,5 @@ mod standing;
 
 pub use looking::{list_with, stat_with};
 pub use making::{create_with, mkdir_with};
-pub use regions::{make_region_with, region_of_with};
+pub use regions::{make_region_with, region_at};
 pub use standing::stand_at_with;

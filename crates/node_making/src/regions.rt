@@ -238,30 +238,3 @@ pub fn region_at<V: Volume>(
     }
     Ok((i, inode))
 }
-
-/// The inode of the region at a path. Never answers want of memory: names that do not fit are not held.
-pub fn region_of_with<V: Volume>(
-    v: &mut V,
-    shape: &VolumeShape,
-    memo: &mut Memo,
-    path: &[u8],
-) -> Result<Ino, FileFail>
-    requires sound { V.sound v.old }
-    requires can { CanServe shape.now (V.seen v.old) (V.kept v.old) }
-    requires in_step { InStep shape.now (V.seen v.old).words memo.old }
-    requires path { IsPath path.now }
-    ensures found { (s : State) → ReadsAs shape.now (V.seen v.old).words s → FindsRegion s path.now result }
-    ensures region { IfOk result (λ i. (held_of shape.now (V.seen v.old).words i.0).kind ≡ 3) }
-    ensures ino { IfOk result (λ i. IsIno shape.now i.0) }
-    ensures in_step { InStep shape.now (V.seen v.old).words memo.new }
-    ensures leaves { LeavesInUse (volume_layout shape.now (V.seen v.old).words) (V.seen v.old) (V.kept v.old) (V.seen v.new) (V.kept v.new) }
-    ensures words { (V.seen v.new).words ≡ (V.seen v.old).words }
-    ensures can { CanServe shape.now (V.seen v.new) (V.kept v.new) }
-    ensures memory { IsErrOf result FileFail.Memory → ⊥ }
-    ensures goes { Goes (V.health v.old) (V.below v.old) (V.health v.new) (V.below v.new) }
-    ensures ends { EndsBy (V.health v.old) (V.health v.new) (Faulted result) (IsErrOf result FileFail.Stopped) }
-    ensures sound { V.sound v.new }
-{
-    let (i, _) = region_at(v, shape, memo, path)?;
-    Ok(i)
-}
