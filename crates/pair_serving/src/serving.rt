@@ -37,32 +37,7 @@ pub fn serve<M: Machine, S: Source, K: Sink>(
     ensures later { S.faults source.old ≤ S.faults source.new }
     ensures sink_later { K.faults sink.old ≤ K.faults sink.new }
 {
-    serve_gathering(alloc, core, source, sink, false)
-}
-
-/// The same. With `gathers` replies to requests that change nothing may wait for each other, as long as the next line is held.
-fn serve_gathering<M: Machine, S: Source, K: Sink>(
-    alloc: Global,
-    core: &mut Core<M>,
-    source: &mut S,
-    sink: &mut K,
-    gathers: bool,
-) -> ServeEnd
-    requires sound { ⟦<Core<M> as Server>⟧.sound core.old }
-    requires holds { (s : State) × ⟦<Core<M> as Server>⟧.holds core.old s }
-    requires calm { gathers ≡ true → IsCalm (⟦<Core<M> as Server>⟧.below core.old) }
-    ensures run { (s : State) → ⟦<Core<M> as Server>⟧.holds core.old s → RunEnds core_protocol (⟦<Core<M> as Server>⟧.holds core.new) (⟦<Core<M> as Server>⟧.stands core.new) s result (S.left source.old) (S.left source.new) (K.written sink.old) (K.written sink.new) (⟦<Core<M> as Server>⟧.health core.old) (⟦<Core<M> as Server>⟧.below core.old) (⟦<Core<M> as Server>⟧.health core.new) (⟦<Core<M> as Server>⟧.below core.new) }
-    ensures lasts { LastsBelow (⟦<Core<M> as Server>⟧.health core.old) (⟦<Core<M> as Server>⟧.below core.old) (⟦<Core<M> as Server>⟧.health core.new) (⟦<Core<M> as Server>⟧.below core.new) }
-    ensures limited { (most : ℕ) → (⟦<Core<M> as Server>⟧.below core.old).limit ≡ Some most → (⟦<Core<M> as Server>⟧.health core.new).faults ≤ most }
-    ensures sound { ⟦<Core<M> as Server>⟧.sound core.new }
-    ensures source_fault { result ≡ ServeEnd.SourceFault → Rose (S.faults source.old) (S.faults source.new) }
-    ensures sink_fault { result ≡ ServeEnd.SinkFault → Rose (K.faults sink.old) (K.faults sink.new) }
-    ensures stopped { result ≡ ServeEnd.Stopped → (⟦<Core<M> as Server>⟧.health core.new).stopped ≡ true }
-    ensures steady { result ≢ ServeEnd.SinkFault → K.faults sink.new ≡ K.faults sink.old }
-    ensures later { S.faults source.old ≤ S.faults source.new }
-    ensures sink_later { K.faults sink.old ≤ K.faults sink.new }
-{
-    serve_with(alloc, core, source, sink, gathers)
+    serve_with(alloc, core, source, sink, false)
 }
 
 /// Serves lines over a core, and takes its machine back, which tells whether a wild store trapped. Memory and disk then stand
@@ -83,7 +58,7 @@ pub(crate) fn serve_core<M: Machine, S: Source, K: Sink>(
     ensures sink_later { K.faults sink.old ≤ K.faults sink.new }
 {
     let mut core = core;
-    let end = serve_gathering(alloc, &mut core, source, sink, gathers);
+    let end = serve_with(alloc, &mut core, source, sink, gathers);
     let machine = core.into_machine();
     let trapped = machine.trapped();
     (machine, end_of(end, trapped))
