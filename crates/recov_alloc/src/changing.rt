@@ -10,7 +10,7 @@ ghost use Rattle.recov_alloc.specs.Marks.{ChangesMap};
 
 use crate::marking::{mark_block, mark_words};
 use rio_base::RegionWords;
-use undo_list::{Header, UndoFail, read_places_with, set_pair_with, set_range_with};
+use undo_list::{Header, UndoFail, read_places_behind, set_pair, set_range_by_header};
 
 /// Saves the map words of the pages that a block touches.
 fn save_map<R: RegionWords>(r: &mut R, header: Header, at: u32, units: u32) -> Result<(), UndoFail>
@@ -29,7 +29,7 @@ fn save_map<R: RegionWords>(r: &mut R, header: Header, at: u32, units: u32) -> R
 {
     let first = at / 64;
     let last = (at + units - 1) / 64;
-    set_range_with(r, header, 2 * first, 2 * (last - first + 1))
+    set_range_by_header(r, header, 2 * first, 2 * (last - first + 1))
 }
 
 /// `change_map`, for a block in one page: its two map words are read once, for the record and for what is stored.
@@ -56,8 +56,8 @@ fn change_page<R: RegionWords>(
 {
     let place = 2 * (at / 64);
     let mut words = [0; 2];
-    read_places_with(r, header.undo, place, &mut words)?;
-    set_pair_with(r, header, place, words[0], words[1])?;
+    read_places_behind(r, header.undo, place, &mut words)?;
+    set_pair(r, header, place, words[0], words[1])?;
     mark_words(r, header.undo, &words, at, units, true, on)?;
     Ok(())
 }

@@ -12,7 +12,7 @@ ghost use Rattle.recov_alloc.specs.Extents.{BlockAt, Within};
 
 use crate::bits::units_on;
 use rio_base::{RegionWords, VolFail};
-use undo_list::{Header, read_places, read_places_with};
+use undo_list::{Header, read_places, read_places_behind};
 
 /// Whether a block starts at a unit, by the starts of its page.
 fn is_start(starts: u64, unit: u32) -> bool
@@ -101,7 +101,7 @@ fn units_at<R: RegionWords>(
     ensures ends { Ends (R.health r.old) (R.health r.new) result }
 {
     let mut words = [0; 2];
-    read_places_with(r, undo, 2 * (unit / 64), &mut words)?;
+    read_places_behind(r, undo, 2 * (unit / 64), &mut words)?;
     let starts = words[1];
     if !is_start(starts, unit) {
         return Ok(None);

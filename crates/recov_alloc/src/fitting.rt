@@ -9,7 +9,7 @@ ghost use Rattle.undo_list.specs.Headers.{IsHeader};
 ghost use Rattle.recov_alloc.specs.Scans.{AllFull, Before, RunFits, ScanEnds};
 
 use rio_base::{RegionWords, VolFail};
-use undo_list::{Header, ones_from, read_places_with, zeros_from};
+use undo_list::{Header, ones_from, read_places_behind, zeros_from};
 
 /// Data pages whose map words the first call of a search reads. Each search clears a room for them, so they are few.
 const FIRST_PAGES: u32 = 8;
@@ -153,7 +153,7 @@ fn look_in_pages<R: RegionWords>(
     ensures stays { Stays R.keeps_rest R.ready R.count R.health R.below r.old r.new }
     ensures ends { Ends (R.health r.old) (R.health r.new) result }
 {
-    read_places_with(r, undo, 2 * page, words)?;
+    read_places_behind(r, undo, 2 * page, words)?;
     Ok(look_in_run(words, page, count, before, units))
 }
 

@@ -8,7 +8,7 @@ ghost use Rattle.rio_model.specs.Heap.{units_of};
 ghost use Rattle.recov_alloc.specs.Marks.{MapCovered, MarksBlock, StoresPair};
 
 use rio_base::{RegionWords, VolFail};
-use undo_list::{put_covered_run_with, read_places_with, uncounted, with_bits};
+use undo_list::{put_covered_run, read_places_behind, uncounted, with_bits};
 
 /// Makes units of one page from `at` on used or free, and the start of a block at the first of them set or cleared where
 /// `start` says so: the page's two map words lie side by side, and are stored by one call. The caller has read them, and
@@ -39,7 +39,7 @@ pub(crate) fn mark_words<R: RegionWords>(
     let bit = at % 64;
     let used = with_bits(words[0], bit, bit + units, on);
     let starts = with_bits(words[1], bit, bit + u32::from(start), on);
-    uncounted(put_covered_run_with(r, undo, 2 * (at / 64), &[used, starts]))
+    uncounted(put_covered_run(r, undo, 2 * (at / 64), &[used, starts]))
 }
 
 /// `mark_words`, which reads the map words.
@@ -64,7 +64,7 @@ fn mark_page<R: RegionWords>(
     ensures ends { Ends (R.health r.old) (R.health r.new) result }
 {
     let mut words = [0; 2];
-    read_places_with(r, undo, 2 * (at / 64), &mut words)?;
+    read_places_behind(r, undo, 2 * (at / 64), &mut words)?;
     mark_words(r, undo, &words, at, units, start, on)
 }
 

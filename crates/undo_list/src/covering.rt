@@ -202,11 +202,11 @@ pub fn covered<R: RegionWords>(r: &mut R, place: u32, count: u32) -> Result<bool
         return Ok(true);
     }
     let head = r.word(UNDO_HEAD)?;
-    covered_with(r, head, place, count)
+    covered_from_head(r, head, place, count)
 }
 
 /// `covered`, for a caller that has read the header: `head` is what names the newest record.
-pub fn covered_with<R: RegionWords>(
+pub fn covered_from_head<R: RegionWords>(
     r: &mut R,
     head: u64,
     place: u32,

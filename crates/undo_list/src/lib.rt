@@ -13,9 +13,9 @@ mod rewinding;
 mod runs;
 
 pub use bits::{ones_from, with_bits, zeros_from};
-pub use covering::{covered, covered_with};
+pub use covering::{covered, covered_from_head};
 pub use failures::{UndoFail, uncounted};
-pub use places::{data_pages, put_covered_run_with, read_places, read_places_with, word_at};
-pub use ranges::{room, set_pair_with, set_range, set_range_with};
+pub use places::{data_pages, put_covered_run, read_places, read_places_behind, word_at};
+pub use ranges::{room, set_pair, set_range, set_range_by_header};
 pub use records::{Header, read_header};
 pub use rewinding::{drop_all, rewind};

@@ -51,11 +51,11 @@ pub fn read_places<R: RegionWords>(r: &mut R, place: u32, into: &mut [u64]) -> R
     ensures ends { Ends (R.health r.old) (R.health r.new) result }
 {
     let undo = r.word(UNDO)?;
-    read_places_with(r, undo as u32, place, into)
+    read_places_behind(r, undo as u32, place, into)
 }
 
 /// `read_places`, for a caller that has read the header: `undo` is how many undo pages there are.
-pub fn read_places_with<R: RegionWords>(
+pub fn read_places_behind<R: RegionWords>(
     r: &mut R,
     undo: u32,
     place: u32,
@@ -78,7 +78,7 @@ pub fn read_places_with<R: RegionWords>(
 /// Stores the words at a run of places from `place` on that records cover, in rising order, for a caller that has read the
 /// header: `undo` is how many undo pages there are. The words of before stay the same; `Fault` says how many words were
 /// stored, and `Stopped` leaves a front of them stored.
-pub fn put_covered_run_with<R: RegionWords>(
+pub fn put_covered_run<R: RegionWords>(
     r: &mut R,
     undo: u32,
     place: u32,

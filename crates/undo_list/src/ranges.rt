@@ -194,11 +194,11 @@ pub fn set_range<R: RegionWords>(r: &mut R, place: u32, count: u32) -> Result<()
     ensures ends { EndsBy (R.health r.old) (R.health r.new) (IsErrOf result UndoFail.Fault) (IsErrOf result UndoFail.Stopped) }
 {
     let header = read_header(r)?;
-    set_range_with(r, header, place, count)
+    set_range_by_header(r, header, place, count)
 }
 
 /// `set_range`, for a caller that has read the header.
-pub fn set_range_with<R: RegionWords>(
+pub fn set_range_by_header<R: RegionWords>(
     r: &mut R,
     header: Header,
     place: u32,
@@ -227,8 +227,8 @@ pub fn set_range_with<R: RegionWords>(
     Ok(())
 }
 
-/// `set_range_with` of two places, for a caller that has read their words, `first` and `second`, too.
-pub fn set_pair_with<R: RegionWords>(
+/// `set_range_by_header` of two places, for a caller that has read their words, `first` and `second`, too.
+pub fn set_pair<R: RegionWords>(
     r: &mut R,
     header: Header,
     place: u32,

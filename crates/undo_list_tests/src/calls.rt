@@ -6,8 +6,8 @@ ghost use Rattle.rio_model.specs.Undo.{CoversAll, IsRegion, places, undo_records
 
 use rio_base::{RegionWords, RunFail, VolFail};
 use undo_list::{
-    UndoFail, covered, covered_with, drop_all, put_covered_run_with, read_header, rewind, room,
-    set_range, set_range_with, uncounted, word_at,
+    UndoFail, covered, covered_from_head, drop_all, put_covered_run, read_header, rewind, room,
+    set_range, set_range_by_header, uncounted, word_at,
 };
 
 /// The place of the first data word of a region of one map page.
@@ -110,7 +110,7 @@ fn put_word<R: RegionWords>(r: &mut R, place: u32, value: u64) -> Result<(), Vol
     ensures stays { Stays R.keeps_rest R.ready R.count R.health R.below r.old r.new }
 {
     let undo = r.word(UNDO)?;
-    uncounted(put_covered_run_with(r, undo as u32, place, &[value]))
+    uncounted(put_covered_run(r, undo as u32, place, &[value]))
 }
 
 /// Saves `count` places from `place` on, and stores a word at the first of them.
@@ -137,12 +137,12 @@ fn change_by_headers<R: RegionWords>(r: &mut R, place: u32, words: &[u64]) -> Re
 {
     let count = words.len() as u32;
     let before = read_header(r)?;
-    set_range_with(r, before, place, count)?;
+    set_range_by_header(r, before, place, count)?;
     let header = read_header(r)?;
-    if !covered_with(r, header.head, place, count)? {
+    if !covered_from_head(r, header.head, place, count)? {
         return Err(Said::NotCovered);
     }
-    put_covered_run_with(r, header.undo, place, words)?;
+    put_covered_run(r, header.undo, place, words)?;
     Ok(Said::Header(header.undo, header.data, header.head))
 }
 

@@ -17,7 +17,7 @@ use crate::open_table::OpenTable;
 use crate::runs::{push_bytes, put_bytes};
 use rio_base::{Ino, Octets, RegionWords, RunFail};
 use std::alloc::Global;
-use undo_list::{Header, covered_with, data_pages, read_header, set_range_with};
+use undo_list::{Header, covered_from_head, data_pages, read_header, set_range_by_header};
 
 /// Places of data words.
 #[derive(Clone, Copy)]
@@ -97,7 +97,7 @@ impl OpenTable {
         whole_words(off, len)?;
         let header = read_header(r)?;
         let span = data_span(header, off, len)?;
-        set_range_with(r, header, span.place, span.count)?;
+        set_range_by_header(r, header, span.place, span.count)?;
         Ok(())
     }
 
@@ -127,7 +127,7 @@ impl OpenTable {
         whole_words(off, len)?;
         let header = read_header(r)?;
         let span = data_span(header, off, len)?;
-        if !covered_with(r, header.head, span.place, span.count)? {
+        if !covered_from_head(r, header.head, span.place, span.count)? {
             return Err(TxnFail::NotCovered);
         }
         match put_bytes(r, header.undo, span.place, bytes) {

@@ -12,7 +12,7 @@ use crate::failures::GetFail;
 use byteorder::{ByteOrder, LittleEndian};
 use rio_base::{RegionWords, RunFail};
 use std::alloc::AllocError;
-use undo_list::{put_covered_run_with, read_places};
+use undo_list::{put_covered_run, read_places};
 
 /// Words that one call reads or stores, as long as a page.
 const RUN_WORDS: usize = 512;
@@ -45,7 +45,7 @@ fn put_through<R: RegionWords>(
     ensures ends { Ends (R.health r.old) (R.health r.new) (as_word result) }
 {
     LittleEndian::read_u64_into(bytes, room);
-    put_covered_run_with(r, undo, place, room)
+    put_covered_run(r, undo, place, room)
 }
 
 /// `put_through`, for any run.

@@ -45,29 +45,29 @@ returns-then-count-eq0-clause-ends g c = record { later = le_refl (g.R.RegionWor
 pub returns-then-count-eq0-clause-value : goal.returns-then-count-eq0-clause-value
 returns-then-count-eq0-clause-value g c = λ q low high. absurd (omega (arith, c.if-count-eq0.true))
 
-pub covered_with-requires-clause-ready : goal.covered_with-requires-clause-ready
-covered_with-requires-clause-ready g c = c.word.ensures.stays.ready
+pub covered_from_head-requires-clause-ready : goal.covered_from_head-requires-clause-ready
+covered_from_head-requires-clause-ready g c = c.word.ensures.stays.ready
 
-pub covered_with-requires-clause-region : goal.covered_with-requires-clause-region
-covered_with-requires-clause-region g c = region_at _ _ _ _ c.requires.region c.word.ensures.stays.count c.word.ensures.words
+pub covered_from_head-requires-clause-region : goal.covered_from_head-requires-clause-region
+covered_from_head-requires-clause-region g c = region_at _ _ _ _ c.requires.region c.word.ensures.stays.count c.word.ensures.words
 
-pub covered_with-requires-clause-head : goal.covered_with-requires-clause-head
-covered_with-requires-clause-head g c = c.in_ok-head.ensures.value ∙ sym (ap (λ (w : ℕ → ℕ). w 3) c.word.ensures.words)
+pub covered_from_head-requires-clause-head : goal.covered_from_head-requires-clause-head
+covered_from_head-requires-clause-head g c = c.in_ok-head.ensures.value ∙ sym (ap (λ (w : ℕ → ℕ). w 3) c.word.ensures.words)
 
-pub covered_with-requires-clause-place : goal.covered_with-requires-clause-place
-covered_with-requires-clause-place g c = subst (λ (w : ℕ → ℕ). c.args.place + c.args.count ≤ places w) (sym c.word.ensures.words) c.requires.place
+pub covered_from_head-requires-clause-place : goal.covered_from_head-requires-clause-place
+covered_from_head-requires-clause-place g c = subst (λ (w : ℕ → ℕ). c.args.place + c.args.count ≤ places w) (sym c.word.ensures.words) c.requires.place
 
 pub returns-clause-words : goal.returns-clause-words
-returns-clause-words g c = c.covered_with.ensures.words ∙ c.word.ensures.words
+returns-clause-words g c = c.covered_from_head.ensures.words ∙ c.word.ensures.words
 
 pub returns-clause-region : goal.returns-clause-region
-returns-clause-region g c = c.covered_with.ensures.region
+returns-clause-region g c = c.covered_from_head.ensures.region
 
 pub returns-clause-stays : goal.returns-clause-stays
-returns-clause-stays g c = stays_trans g.met.R.RegionWords.rest_trans c.word.ensures.stays c.covered_with.ensures.stays
+returns-clause-stays g c = stays_trans g.met.R.RegionWords.rest_trans c.word.ensures.stays c.covered_from_head.ensures.stays
 
 pub returns-clause-ends : goal.returns-clause-ends
-returns-clause-ends g c = ends_later _ _ _ _ c.word.ensures.ends.later c.in_ok-head.ensures.ends.cause c.covered_with.ensures.ends
+returns-clause-ends g c = ends_later _ _ _ _ c.word.ensures.ends.later c.in_ok-head.ensures.ends.cause c.covered_from_head.ensures.ends
 
 pub returns-clause-value : goal.returns-clause-value
-returns-clause-value g c = told_at (g.R.RegionWords.words c.args.r.now) (g.R.RegionWords.words c.word.new.self) c.args.place c.args.count c.covered_with.result c.word.ensures.words c.covered_with.ensures.value
+returns-clause-value g c = told_at (g.R.RegionWords.words c.args.r.now) (g.R.RegionWords.words c.word.new.self) c.args.place c.args.count c.covered_from_head.result c.word.ensures.words c.covered_from_head.ensures.value

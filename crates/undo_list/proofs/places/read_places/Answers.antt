@@ -33,33 +33,33 @@ word-requires-clause-place g c = omega (arith, g.met.R.RegionWords.small c.args.
 pub overflow_cast-undo : goal.overflow_cast-undo
 overflow_cast-undo g c = omega (arith, g.met.R.RegionWords.small c.args.r.now c.requires.ready, c.requires.region.size, c.in_ok-undo.ensures.value)
 
-pub read_places_with-requires-clause-ready : goal.read_places_with-requires-clause-ready
-read_places_with-requires-clause-ready g c = c.word.ensures.stays.ready
+pub read_places_behind-requires-clause-ready : goal.read_places_behind-requires-clause-ready
+read_places_behind-requires-clause-ready g c = c.word.ensures.stays.ready
 
-pub read_places_with-requires-clause-region : goal.read_places_with-requires-clause-region
-read_places_with-requires-clause-region g c = region_at _ _ _ _ c.requires.region c.word.ensures.stays.count c.word.ensures.words
+pub read_places_behind-requires-clause-region : goal.read_places_behind-requires-clause-region
+read_places_behind-requires-clause-region g c = region_at _ _ _ _ c.requires.region c.word.ensures.stays.count c.word.ensures.words
 
-pub read_places_with-requires-clause-undo : goal.read_places_with-requires-clause-undo
-read_places_with-requires-clause-undo g c = c.in_ok-undo.ensures.value ∙ sym (ap (λ (w : ℕ → ℕ). w 1) c.word.ensures.words)
+pub read_places_behind-requires-clause-undo : goal.read_places_behind-requires-clause-undo
+read_places_behind-requires-clause-undo g c = c.in_ok-undo.ensures.value ∙ sym (ap (λ (w : ℕ → ℕ). w 1) c.word.ensures.words)
 
-pub read_places_with-requires-clause-place : goal.read_places_with-requires-clause-place
-read_places_with-requires-clause-place g c = subst (λ (w : ℕ → ℕ). c.args.place + length c.args.into.now ≤ places w) (sym c.word.ensures.words) c.requires.place
+pub read_places_behind-requires-clause-place : goal.read_places_behind-requires-clause-place
+read_places_behind-requires-clause-place g c = subst (λ (w : ℕ → ℕ). c.args.place + length c.args.into.now ≤ places w) (sym c.word.ensures.words) c.requires.place
 
 pub returns-clause-len : goal.returns-clause-len
-returns-clause-len g c = c.read_places_with.ensures.len
+returns-clause-len g c = c.read_places_behind.ensures.len
 
 pub returns-clause-region : goal.returns-clause-region
-returns-clause-region g c = c.read_places_with.ensures.region
+returns-clause-region g c = c.read_places_behind.ensures.region
 
 pub returns-clause-words : goal.returns-clause-words
-returns-clause-words g c = c.read_places_with.ensures.words ∙ c.word.ensures.words
+returns-clause-words g c = c.read_places_behind.ensures.words ∙ c.word.ensures.words
 
 pub returns-clause-stays : goal.returns-clause-stays
-returns-clause-stays g c = stays_trans g.met.R.RegionWords.rest_trans c.word.ensures.stays c.read_places_with.ensures.stays
+returns-clause-stays g c = stays_trans g.met.R.RegionWords.rest_trans c.word.ensures.stays c.read_places_behind.ensures.stays
 
 pub returns-clause-ends : goal.returns-clause-ends
-returns-clause-ends g c = ends_later _ _ _ _ c.word.ensures.ends.later c.in_ok-undo.ensures.ends.cause c.read_places_with.ensures.ends
+returns-clause-ends g c = ends_later _ _ _ _ c.word.ensures.ends.later c.in_ok-undo.ensures.ends.cause c.read_places_behind.ensures.ends
 
 pub returns-clause-value : goal.returns-clause-value
 returns-clause-value g c =
-    IfOk-weaker c.read_places_with.result _ _ (λ v is. subst (λ (w : ℕ → ℕ). AreWords (live w) c.args.place (length c.args.into.now) c.read_places_with.new.into) c.word.ensures.words is) c.read_places_with.ensures.value
+    IfOk-weaker c.read_places_behind.result _ _ (λ v is. subst (λ (w : ℕ → ℕ). AreWords (live w) c.args.place (length c.args.into.now) c.read_places_behind.new.into) c.word.ensures.words is) c.read_places_behind.ensures.value

@@ -16,17 +16,17 @@ read_header-requires-clause-ready g c = c.requires.ready
 pub read_header-requires-clause-region : goal.read_header-requires-clause-region
 read_header-requires-clause-region g c = c.requires.region
 
-pub set_range_with-requires-clause-ready : goal.set_range_with-requires-clause-ready
-set_range_with-requires-clause-ready g c = c.read_header.ensures.stays.ready
+pub set_range_by_header-requires-clause-ready : goal.set_range_by_header-requires-clause-ready
+set_range_by_header-requires-clause-ready g c = c.read_header.ensures.stays.ready
 
-pub set_range_with-requires-clause-region : goal.set_range_with-requires-clause-region
-set_range_with-requires-clause-region g c = c.read_header.ensures.region
+pub set_range_by_header-requires-clause-region : goal.set_range_by_header-requires-clause-region
+set_range_by_header-requires-clause-region g c = c.read_header.ensures.region
 
-pub set_range_with-requires-clause-header : goal.set_range_with-requires-clause-header
-set_range_with-requires-clause-header g c = subst (λ (w : ℕ → ℕ). IsHeader w c.in_ok-header.header) (sym c.read_header.ensures.words) c.in_ok-header.ensures.header
+pub set_range_by_header-requires-clause-header : goal.set_range_by_header-requires-clause-header
+set_range_by_header-requires-clause-header g c = subst (λ (w : ℕ → ℕ). IsHeader w c.in_ok-header.header) (sym c.read_header.ensures.words) c.in_ok-header.ensures.header
 
-pub set_range_with-requires-clause-place : goal.set_range_with-requires-clause-place
-set_range_with-requires-clause-place g c = subst (λ (w : ℕ → ℕ). c.args.place + c.args.count ≤ places w) (sym c.read_header.ensures.words) c.requires.place
+pub set_range_by_header-requires-clause-place : goal.set_range_by_header-requires-clause-place
+set_range_by_header-requires-clause-place g c = subst (λ (w : ℕ → ℕ). c.args.place + c.args.count ≤ places w) (sym c.read_header.ensures.words) c.requires.place
 
 pub returns-in_err-header-clause-ok : goal.returns-in_err-header-clause-ok
 returns-in_err-header-clause-ok g c =
@@ -69,34 +69,34 @@ returns-in_err-header-clause-ends g c =
 
 pub returns-clause-ok : goal.returns-clause-ok
 returns-clause-ok g c =
-    on_ok c.set_range_with.result _ _ (gains_from (g.R.RegionWords.count c.args.r.now) (g.R.RegionWords.count c.read_header.new.r) (g.R.RegionWords.words c.read_header.new.r) (g.R.RegionWords.words c.args.r.now) (g.R.RegionWords.words c.set_range_with.new.r) c.args.place c.args.count c.read_header.ensures.words c.read_header.ensures.stays.count) c.set_range_with.ensures.ok
+    on_ok c.set_range_by_header.result _ _ (gains_from (g.R.RegionWords.count c.args.r.now) (g.R.RegionWords.count c.read_header.new.r) (g.R.RegionWords.words c.read_header.new.r) (g.R.RegionWords.words c.args.r.now) (g.R.RegionWords.words c.set_range_by_header.new.r) c.args.place c.args.count c.read_header.ensures.words c.read_header.ensures.stays.count) c.set_range_by_header.ensures.ok
 
 pub returns-clause-room : goal.returns-clause-room
-returns-clause-room g c = subst (λ (w : ℕ → ℕ). OnOk c.set_range_with.result (taken (undo_records w) + 3 + c.args.count ≤ undo_words w)) c.read_header.ensures.words c.set_range_with.ensures.room
+returns-clause-room g c = subst (λ (w : ℕ → ℕ). OnOk c.set_range_by_header.result (taken (undo_records w) + 3 + c.args.count ≤ undo_words w)) c.read_header.ensures.words c.set_range_by_header.ensures.room
 
 pub returns-clause-full : goal.returns-clause-full
-returns-clause-full g c = λ full. subst (λ (w : ℕ → ℕ). undo_words w < taken (undo_records w) + 3 + c.args.count) c.read_header.ensures.words (c.set_range_with.ensures.full full)
+returns-clause-full g c = λ full. subst (λ (w : ℕ → ℕ). undo_words w < taken (undo_records w) + 3 + c.args.count) c.read_header.ensures.words (c.set_range_by_header.ensures.full full)
 
 pub returns-clause-refused : goal.returns-clause-refused
-returns-clause-refused g c = λ full. c.set_range_with.ensures.refused full ∙ c.read_header.ensures.words
+returns-clause-refused g c = λ full. c.set_range_by_header.ensures.refused full ∙ c.read_header.ensures.words
 
 pub returns-clause-fault : goal.returns-clause-fault
 returns-clause-fault g c =
-    λ fault. rests_from (g.R.RegionWords.count c.args.r.now) (g.R.RegionWords.count c.read_header.new.r) (g.R.RegionWords.words c.read_header.new.r) (g.R.RegionWords.words c.args.r.now) (g.R.RegionWords.words c.set_range_with.new.r) c.read_header.ensures.words c.read_header.ensures.stays.count (c.set_range_with.ensures.fault fault)
+    λ fault. rests_from (g.R.RegionWords.count c.args.r.now) (g.R.RegionWords.count c.read_header.new.r) (g.R.RegionWords.words c.read_header.new.r) (g.R.RegionWords.words c.args.r.now) (g.R.RegionWords.words c.set_range_by_header.new.r) c.read_header.ensures.words c.read_header.ensures.stays.count (c.set_range_by_header.ensures.fault fault)
 
 pub returns-clause-either : goal.returns-clause-either
 returns-clause-either g c =
-    either_from (g.R.RegionWords.count c.args.r.now) (g.R.RegionWords.count c.read_header.new.r) (g.R.RegionWords.words c.read_header.new.r) (g.R.RegionWords.words c.args.r.now) (g.R.RegionWords.words c.set_range_with.new.r) c.args.place c.args.count c.read_header.ensures.words c.read_header.ensures.stays.count c.set_range_with.ensures.either
+    either_from (g.R.RegionWords.count c.args.r.now) (g.R.RegionWords.count c.read_header.new.r) (g.R.RegionWords.words c.read_header.new.r) (g.R.RegionWords.words c.args.r.now) (g.R.RegionWords.words c.set_range_by_header.new.r) c.args.place c.args.count c.read_header.ensures.words c.read_header.ensures.stays.count c.set_range_by_header.ensures.either
 
 pub returns-clause-before : goal.returns-clause-before
 returns-clause-before g c =
-    undoes_from (g.R.RegionWords.count c.args.r.now) (g.R.RegionWords.count c.read_header.new.r) (g.R.RegionWords.words c.read_header.new.r) (g.R.RegionWords.words c.args.r.now) (g.R.RegionWords.words c.set_range_with.new.r) c.read_header.ensures.words c.read_header.ensures.stays.count c.set_range_with.ensures.before
+    undoes_from (g.R.RegionWords.count c.args.r.now) (g.R.RegionWords.count c.read_header.new.r) (g.R.RegionWords.words c.read_header.new.r) (g.R.RegionWords.words c.args.r.now) (g.R.RegionWords.words c.set_range_by_header.new.r) c.read_header.ensures.words c.read_header.ensures.stays.count c.set_range_by_header.ensures.before
 
 pub returns-clause-region : goal.returns-clause-region
-returns-clause-region g c = c.set_range_with.ensures.region
+returns-clause-region g c = c.set_range_by_header.ensures.region
 
 pub returns-clause-stays : goal.returns-clause-stays
-returns-clause-stays g c = stays_trans g.met.R.RegionWords.rest_trans c.read_header.ensures.stays c.set_range_with.ensures.stays
+returns-clause-stays g c = stays_trans g.met.R.RegionWords.rest_trans c.read_header.ensures.stays c.set_range_by_header.ensures.stays
 
 pub returns-clause-ends : goal.returns-clause-ends
-returns-clause-ends g c = ends_by_after _ _ _ _ _ c.read_header.ensures.ends.later c.in_ok-header.ensures.ends.cause c.set_range_with.ensures.ends
+returns-clause-ends g c = ends_by_after _ _ _ _ _ c.read_header.ensures.ends.later c.in_ok-header.ensures.ends.cause c.set_range_by_header.ensures.ends

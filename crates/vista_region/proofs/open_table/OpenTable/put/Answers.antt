@@ -56,16 +56,16 @@ returns-then-not-branch-clause-ends g c =
     let bytes = c.args.bytes.now in
     let span = c.in_ok-span.span in
     let m = is_open marks i c.active.result c.in_ok-active.field-0 c.in_ok-active.was c.active.ensures in
-    let none = is_no c.in_ok-covered_with.field-0 _ _ c.if-not-branch.true c.in_ok-covered_with.ensures.value in
+    let none = is_no c.in_ok-covered_from_head.field-0 _ _ c.if-not-branch.true c.in_ok-covered_from_head.ensures.value in
     let at = in_data f c.args.off (length bytes) c.in_ok-header.header.«data» c.whole_words.result c.in_ok-whole_words.field-0 c.in_ok-span.span c.in_ok-whole_words.was c.whole_words.ensures c.in_ok-header.ensures.header.data_pages c.in_ok-span.ensures in
-    (put_refused marks i f c.args.off bytes span m at.0 at.1 (subst (λ (w : RegionContent). CoversAll (undo_records w) span.place span.count → ⊥) c.in_ok-header.ensures.words none), c.in_ok-covered_with.ensures.words ∙ c.in_ok-header.ensures.words, refl)
+    (put_refused marks i f c.args.off bytes span m at.0 at.1 (subst (λ (w : RegionContent). CoversAll (undo_records w) span.place span.count → ⊥) c.in_ok-header.ensures.words none), c.in_ok-covered_from_head.ensures.words ∙ c.in_ok-header.ensures.words, refl)
 
 pub put_bytes-requires-clause-whole : goal.put_bytes-requires-clause-whole
 put_bytes-requires-clause-whole g c = whole_len c.args.off (length c.args.bytes.now) c.whole_words.result c.in_ok-whole_words.field-0 c.in_ok-whole_words.was c.whole_words.ensures
 
 pub returns-in-Ok-clause-ends : goal.returns-in-Ok-clause-ends
 returns-in-Ok-clause-ends g c =
-    let n = g.R.RegionWords.count c.covered_with.new.r in
+    let n = g.R.RegionWords.count c.covered_from_head.new.r in
     let f = g.R.RegionWords.words c.args.r.now in
     let last = g.R.RegionWords.words c.put_bytes.new.r in
     let marks = c.args.self.now in
@@ -73,8 +73,8 @@ returns-in-Ok-clause-ends g c =
     let bytes = c.args.bytes.now in
     let span = c.in_ok-span.span in
     let m = is_open marks i c.active.result c.in_ok-active.field-0 c.in_ok-active.was c.active.ensures in
-    let all = is_yes c.in_ok-covered_with.field-0 _ _ c.if-not-branch.false c.in_ok-covered_with.ensures.value in
-    let same = c.in_ok-covered_with.ensures.words ∙ c.in_ok-header.ensures.words in
+    let all = is_yes c.in_ok-covered_from_head.field-0 _ _ c.if-not-branch.false c.in_ok-covered_from_head.ensures.value in
+    let same = c.in_ok-covered_from_head.ensures.words ∙ c.in_ok-header.ensures.words in
     let at = in_data f c.args.off (length bytes) c.in_ok-header.header.«data» c.whole_words.result c.in_ok-whole_words.field-0 c.in_ok-span.span c.in_ok-whole_words.was c.whole_words.ensures c.in_ok-header.ensures.header.data_pages c.in_ok-span.ensures in
     put_done marks i n f last c.args.off bytes span m at.0 at.1 (subst (λ (w : RegionContent). CoversAll (undo_records w) span.place span.count) c.in_ok-header.ensures.words all)
     (whole_len c.args.off (length bytes) c.whole_words.result c.in_ok-whole_words.field-0 c.in_ok-whole_words.was c.whole_words.ensures)
@@ -82,7 +82,7 @@ returns-in-Ok-clause-ends g c =
 
 pub returns-in-Ok-clause-fits : goal.returns-in-Ok-clause-fits
 returns-in-Ok-clause-fits g c runs =
-    let n = g.R.RegionWords.count c.covered_with.new.r in
+    let n = g.R.RegionWords.count c.covered_from_head.new.r in
     let f = g.R.RegionWords.words c.args.r.now in
     let last = g.R.RegionWords.words c.put_bytes.new.r in
     let marks = c.args.self.now in
@@ -90,14 +90,14 @@ returns-in-Ok-clause-fits g c runs =
     let bytes = c.args.bytes.now in
     let span = c.in_ok-span.span in
     let m = is_open marks i c.active.result c.in_ok-active.field-0 c.in_ok-active.was c.active.ensures in
-    let same = c.in_ok-covered_with.ensures.words ∙ c.in_ok-header.ensures.words in
+    let same = c.in_ok-covered_from_head.ensures.words ∙ c.in_ok-header.ensures.words in
     let at = in_data f c.args.off (length bytes) c.in_ok-header.header.«data» c.whole_words.result c.in_ok-whole_words.field-0 c.in_ok-span.span c.in_ok-whole_words.was c.whole_words.ensures c.in_ok-header.ensures.header.data_pages c.in_ok-span.ensures in
     put_fits marks i (g.R.RegionWords.count c.args.r.now) n (g.R.RegionWords.count c.put_bytes.new.r) f last c.args.off (length bytes) (length bytes / 8) span (words_of bytes) m c.requires.fits c.in-Ok.ensures.stays.count at.0
     (subst (λ (w : RegionContent). Puts n w last span.place (length bytes / 8) (words_of bytes)) same c.in-Ok.ensures.ok)
 
 pub returns-in-Err-Fault-clause-fault : goal.returns-in-Err-Fault-clause-fault
 returns-in-Err-Fault-clause-fault g c =
-    let n = g.R.RegionWords.count c.covered_with.new.r in
+    let n = g.R.RegionWords.count c.covered_from_head.new.r in
     let f = g.R.RegionWords.words c.args.r.now in
     let last = g.R.RegionWords.words c.put_bytes.new.r in
     let marks = c.args.self.now in
@@ -105,9 +105,9 @@ returns-in-Err-Fault-clause-fault g c =
     let bytes = c.args.bytes.now in
     let span = c.in_ok-span.span in
     let m = is_open marks i c.active.result c.in_ok-active.field-0 c.in_ok-active.was c.active.ensures in
-    let all = is_yes c.in_ok-covered_with.field-0 _ _ c.if-not-branch.false c.in_ok-covered_with.ensures.value in
-    let same = c.in_ok-covered_with.ensures.words ∙ c.in_ok-header.ensures.words in
-    let fault : (c.in-Err-Fault.words ≤ length bytes / 8) × Puts n (g.R.RegionWords.words c.covered_with.new.r) last span.place c.in-Err-Fault.words (words_of bytes) = subst (λ (e : RunFail). FaultAt {T = Unit {0}} (Err e) (λ k. (k ≤ length bytes / 8) × Puts n (g.R.RegionWords.words c.covered_with.new.r) last span.place k (words_of bytes))) c.in-Err-Fault.field-0-is c.in-Err-Fault.ensures.fault in
+    let all = is_yes c.in_ok-covered_from_head.field-0 _ _ c.if-not-branch.false c.in_ok-covered_from_head.ensures.value in
+    let same = c.in_ok-covered_from_head.ensures.words ∙ c.in_ok-header.ensures.words in
+    let fault : (c.in-Err-Fault.words ≤ length bytes / 8) × Puts n (g.R.RegionWords.words c.covered_from_head.new.r) last span.place c.in-Err-Fault.words (words_of bytes) = subst (λ (e : RunFail). FaultAt {T = Unit {0}} (Err e) (λ k. (k ≤ length bytes / 8) × Puts n (g.R.RegionWords.words c.covered_from_head.new.r) last span.place k (words_of bytes))) c.in-Err-Fault.field-0-is c.in-Err-Fault.ensures.fault in
     let at = in_data f c.args.off (length bytes) c.in_ok-header.header.«data» c.whole_words.result c.in_ok-whole_words.field-0 c.in_ok-span.span c.in_ok-whole_words.was c.whole_words.ensures c.in_ok-header.ensures.header.data_pages c.in_ok-span.ensures in
     subst (λ k. PutPart (put_on (region_now f) (txn_in marks i f) c.args.off bytes) marks i f last c.args.off bytes (8 * k)) (sym c.from.ensures)
     (put_part marks i n f last c.args.off c.in-Err-Fault.words bytes span m at.0 at.1 (subst (λ (w : RegionContent). CoversAll (undo_records w) span.place span.count) c.in_ok-header.ensures.words all) fault.0
@@ -115,7 +115,7 @@ returns-in-Err-Fault-clause-fault g c =
 
 pub returns-in-Err-Fault-clause-fits : goal.returns-in-Err-Fault-clause-fits
 returns-in-Err-Fault-clause-fits g c runs =
-    let n = g.R.RegionWords.count c.covered_with.new.r in
+    let n = g.R.RegionWords.count c.covered_from_head.new.r in
     let f = g.R.RegionWords.words c.args.r.now in
     let last = g.R.RegionWords.words c.put_bytes.new.r in
     let marks = c.args.self.now in
@@ -123,8 +123,8 @@ returns-in-Err-Fault-clause-fits g c runs =
     let bytes = c.args.bytes.now in
     let span = c.in_ok-span.span in
     let m = is_open marks i c.active.result c.in_ok-active.field-0 c.in_ok-active.was c.active.ensures in
-    let same = c.in_ok-covered_with.ensures.words ∙ c.in_ok-header.ensures.words in
-    let fault : (c.in-Err-Fault.words ≤ length bytes / 8) × Puts n (g.R.RegionWords.words c.covered_with.new.r) last span.place c.in-Err-Fault.words (words_of bytes) = subst (λ (e : RunFail). FaultAt {T = Unit {0}} (Err e) (λ k. (k ≤ length bytes / 8) × Puts n (g.R.RegionWords.words c.covered_with.new.r) last span.place k (words_of bytes))) c.in-Err-Fault.field-0-is c.in-Err-Fault.ensures.fault in
+    let same = c.in_ok-covered_from_head.ensures.words ∙ c.in_ok-header.ensures.words in
+    let fault : (c.in-Err-Fault.words ≤ length bytes / 8) × Puts n (g.R.RegionWords.words c.covered_from_head.new.r) last span.place c.in-Err-Fault.words (words_of bytes) = subst (λ (e : RunFail). FaultAt {T = Unit {0}} (Err e) (λ k. (k ≤ length bytes / 8) × Puts n (g.R.RegionWords.words c.covered_from_head.new.r) last span.place k (words_of bytes))) c.in-Err-Fault.field-0-is c.in-Err-Fault.ensures.fault in
     let at = in_data f c.args.off (length bytes) c.in_ok-header.header.«data» c.whole_words.result c.in_ok-whole_words.field-0 c.in_ok-span.span c.in_ok-whole_words.was c.whole_words.ensures c.in_ok-header.ensures.header.data_pages c.in_ok-span.ensures in
     put_fits marks i (g.R.RegionWords.count c.args.r.now) n (g.R.RegionWords.count c.put_bytes.new.r) f last c.args.off (length bytes) c.in-Err-Fault.words span (words_of bytes) m c.requires.fits c.in-Err-Fault.ensures.stays.count at.0
     (subst (λ (w : RegionContent). Puts n w last span.place c.in-Err-Fault.words (words_of bytes)) same fault.1)
@@ -231,44 +231,44 @@ returns-in_err-span-clause-causes g c =
     let p = err_from_is_err_and c.from_residual-in_err-span.result c.from_residual-in_err-span.ensures.1 in
     told_ends _ _ c.from_residual-in_err-span.result (told_past c.from_residual-in_err-span.result _ _ p.1 p.2 c.in_err-span.ensures.0) c.read_header.ensures.ends.later c.in_ok-header.ensures.ends.cause
 
-pub covered_with-requires-clause-ready : goal.covered_with-requires-clause-ready
-covered_with-requires-clause-ready g c = c.read_header.ensures.stays.ready
+pub covered_from_head-requires-clause-ready : goal.covered_from_head-requires-clause-ready
+covered_from_head-requires-clause-ready g c = c.read_header.ensures.stays.ready
 
-pub covered_with-requires-clause-region : goal.covered_with-requires-clause-region
-covered_with-requires-clause-region g c = c.read_header.ensures.region
+pub covered_from_head-requires-clause-region : goal.covered_from_head-requires-clause-region
+covered_from_head-requires-clause-region g c = c.read_header.ensures.region
 
-pub covered_with-requires-clause-head : goal.covered_with-requires-clause-head
-covered_with-requires-clause-head g c = c.in_ok-header.ensures.header.head ∙ sym (ap (λ (w : RegionContent). w 3) c.read_header.ensures.words)
+pub covered_from_head-requires-clause-head : goal.covered_from_head-requires-clause-head
+covered_from_head-requires-clause-head g c = c.in_ok-header.ensures.header.head ∙ sym (ap (λ (w : RegionContent). w 3) c.read_header.ensures.words)
 
-pub covered_with-requires-clause-place : goal.covered_with-requires-clause-place
-covered_with-requires-clause-place g c = subst (λ (w : RegionContent). c.in_ok-span.span.place + c.in_ok-span.span.count ≤ places w) (sym c.read_header.ensures.words) (subst (λ d. c.in_ok-span.span.place + c.in_ok-span.span.count ≤ 512 * (map_pages d + d)) c.in_ok-header.ensures.header.data_pages c.in_ok-span.ensures.within)
+pub covered_from_head-requires-clause-place : goal.covered_from_head-requires-clause-place
+covered_from_head-requires-clause-place g c = subst (λ (w : RegionContent). c.in_ok-span.span.place + c.in_ok-span.span.count ≤ places w) (sym c.read_header.ensures.words) (subst (λ d. c.in_ok-span.span.place + c.in_ok-span.span.count ≤ 512 * (map_pages d + d)) c.in_ok-header.ensures.header.data_pages c.in_ok-span.ensures.within)
 
-pub returns-in_err-covered_with-clause-ends : goal.returns-in_err-covered_with-clause-ends
-returns-in_err-covered_with-clause-ends g c =
-    let p = err_from_is_err_and c.from_residual-in_err-covered_with.result c.from_residual-in_err-covered_with.ensures.1 in
-    handed_ends _ says_number c.args.self.now c.args.self.now c.args.i.0 (g.R.RegionWords.words c.args.r.now) (g.R.RegionWords.words c.covered_with.new.r) c.from_residual-in_err-covered_with.result _ _ p.1 p.2
+pub returns-in_err-covered_from_head-clause-ends : goal.returns-in_err-covered_from_head-clause-ends
+returns-in_err-covered_from_head-clause-ends g c =
+    let p = err_from_is_err_and c.from_residual-in_err-covered_from_head.result c.from_residual-in_err-covered_from_head.ensures.1 in
+    handed_ends _ says_number c.args.self.now c.args.self.now c.args.i.0 (g.R.RegionWords.words c.args.r.now) (g.R.RegionWords.words c.covered_from_head.new.r) c.from_residual-in_err-covered_from_head.result _ _ p.1 p.2
 
-pub returns-in_err-covered_with-clause-fault : goal.returns-in_err-covered_with-clause-fault
-returns-in_err-covered_with-clause-fault g c =
-    let p = err_from_is_err_and c.from_residual-in_err-covered_with.result c.from_residual-in_err-covered_with.ensures.1 in
-    handed_fault c.covered_with.result c.from_residual-in_err-covered_with.result _ _ (λ k. PutPart (put_on (region_now (g.R.RegionWords.words c.args.r.now)) (txn_in c.args.self.now c.args.i.0 (g.R.RegionWords.words c.args.r.now)) c.args.off c.args.bytes.now) c.args.self.now c.args.i.0 (g.R.RegionWords.words c.args.r.now) (g.R.RegionWords.words c.covered_with.new.r) c.args.off c.args.bytes.now k) c.in_err-covered_with.was p.1 p.2 (λ fault. none_put _ c.args.self.now c.args.i.0 (g.R.RegionWords.words c.args.r.now) (g.R.RegionWords.words c.covered_with.new.r) c.args.off c.args.bytes.now (c.covered_with.ensures.words ∙ c.read_header.ensures.words) 0 refl)
+pub returns-in_err-covered_from_head-clause-fault : goal.returns-in_err-covered_from_head-clause-fault
+returns-in_err-covered_from_head-clause-fault g c =
+    let p = err_from_is_err_and c.from_residual-in_err-covered_from_head.result c.from_residual-in_err-covered_from_head.ensures.1 in
+    handed_fault c.covered_from_head.result c.from_residual-in_err-covered_from_head.result _ _ (λ k. PutPart (put_on (region_now (g.R.RegionWords.words c.args.r.now)) (txn_in c.args.self.now c.args.i.0 (g.R.RegionWords.words c.args.r.now)) c.args.off c.args.bytes.now) c.args.self.now c.args.i.0 (g.R.RegionWords.words c.args.r.now) (g.R.RegionWords.words c.covered_from_head.new.r) c.args.off c.args.bytes.now k) c.in_err-covered_from_head.was p.1 p.2 (λ fault. none_put _ c.args.self.now c.args.i.0 (g.R.RegionWords.words c.args.r.now) (g.R.RegionWords.words c.covered_from_head.new.r) c.args.off c.args.bytes.now (c.covered_from_head.ensures.words ∙ c.read_header.ensures.words) 0 refl)
 
-pub returns-in_err-covered_with-clause-table : goal.returns-in_err-covered_with-clause-table
-returns-in_err-covered_with-clause-table g c = refl
+pub returns-in_err-covered_from_head-clause-table : goal.returns-in_err-covered_from_head-clause-table
+returns-in_err-covered_from_head-clause-table g c = refl
 
-pub returns-in_err-covered_with-clause-before : goal.returns-in_err-covered_with-clause-before
-returns-in_err-covered_with-clause-before g c = undoes_same (g.R.RegionWords.count c.args.r.now) (g.R.RegionWords.words c.args.r.now) (g.R.RegionWords.words c.covered_with.new.r) c.requires.fits.region (c.covered_with.ensures.words ∙ c.read_header.ensures.words)
+pub returns-in_err-covered_from_head-clause-before : goal.returns-in_err-covered_from_head-clause-before
+returns-in_err-covered_from_head-clause-before g c = undoes_same (g.R.RegionWords.count c.args.r.now) (g.R.RegionWords.words c.args.r.now) (g.R.RegionWords.words c.covered_from_head.new.r) c.requires.fits.region (c.covered_from_head.ensures.words ∙ c.read_header.ensures.words)
 
-pub returns-in_err-covered_with-clause-fits : goal.returns-in_err-covered_with-clause-fits
-returns-in_err-covered_with-clause-fits g c = λ runs. fits_same c.args.self.now c.args.i.0 (g.R.RegionWords.count c.args.r.now) (g.R.RegionWords.count c.covered_with.new.r) (g.R.RegionWords.words c.args.r.now) (g.R.RegionWords.words c.covered_with.new.r) (c.covered_with.ensures.stays.count ∙ c.read_header.ensures.stays.count) (c.covered_with.ensures.words ∙ c.read_header.ensures.words) c.requires.fits
+pub returns-in_err-covered_from_head-clause-fits : goal.returns-in_err-covered_from_head-clause-fits
+returns-in_err-covered_from_head-clause-fits g c = λ runs. fits_same c.args.self.now c.args.i.0 (g.R.RegionWords.count c.args.r.now) (g.R.RegionWords.count c.covered_from_head.new.r) (g.R.RegionWords.words c.args.r.now) (g.R.RegionWords.words c.covered_from_head.new.r) (c.covered_from_head.ensures.stays.count ∙ c.read_header.ensures.stays.count) (c.covered_from_head.ensures.words ∙ c.read_header.ensures.words) c.requires.fits
 
-pub returns-in_err-covered_with-clause-stays : goal.returns-in_err-covered_with-clause-stays
-returns-in_err-covered_with-clause-stays g c = stays_trans g.met.R.RegionWords.rest_trans c.read_header.ensures.stays c.covered_with.ensures.stays
+pub returns-in_err-covered_from_head-clause-stays : goal.returns-in_err-covered_from_head-clause-stays
+returns-in_err-covered_from_head-clause-stays g c = stays_trans g.met.R.RegionWords.rest_trans c.read_header.ensures.stays c.covered_from_head.ensures.stays
 
-pub returns-in_err-covered_with-clause-causes : goal.returns-in_err-covered_with-clause-causes
-returns-in_err-covered_with-clause-causes g c =
-    let p = err_from_is_err_and c.from_residual-in_err-covered_with.result c.from_residual-in_err-covered_with.ensures.1 in
-    ends_by_after _ _ _ _ _ c.read_header.ensures.ends.later c.in_ok-header.ensures.ends.cause (ends_handed _ _ c.covered_with.result c.from_residual-in_err-covered_with.result _ _ c.in_err-covered_with.was p.1 p.2 c.covered_with.ensures.ends)
+pub returns-in_err-covered_from_head-clause-causes : goal.returns-in_err-covered_from_head-clause-causes
+returns-in_err-covered_from_head-clause-causes g c =
+    let p = err_from_is_err_and c.from_residual-in_err-covered_from_head.result c.from_residual-in_err-covered_from_head.ensures.1 in
+    ends_by_after _ _ _ _ _ c.read_header.ensures.ends.later c.in_ok-header.ensures.ends.cause (ends_handed _ _ c.covered_from_head.result c.from_residual-in_err-covered_from_head.result _ _ c.in_err-covered_from_head.was p.1 p.2 c.covered_from_head.ensures.ends)
 
 pub returns-then-not-branch-clause-fault : goal.returns-then-not-branch-clause-fault
 returns-then-not-branch-clause-fault g c = tt
@@ -277,60 +277,60 @@ pub returns-then-not-branch-clause-table : goal.returns-then-not-branch-clause-t
 returns-then-not-branch-clause-table g c = refl
 
 pub returns-then-not-branch-clause-before : goal.returns-then-not-branch-clause-before
-returns-then-not-branch-clause-before g c = undoes_same (g.R.RegionWords.count c.args.r.now) (g.R.RegionWords.words c.args.r.now) (g.R.RegionWords.words c.covered_with.new.r) c.requires.fits.region (c.covered_with.ensures.words ∙ c.read_header.ensures.words)
+returns-then-not-branch-clause-before g c = undoes_same (g.R.RegionWords.count c.args.r.now) (g.R.RegionWords.words c.args.r.now) (g.R.RegionWords.words c.covered_from_head.new.r) c.requires.fits.region (c.covered_from_head.ensures.words ∙ c.read_header.ensures.words)
 
 pub returns-then-not-branch-clause-fits : goal.returns-then-not-branch-clause-fits
-returns-then-not-branch-clause-fits g c = λ runs. fits_same c.args.self.now c.args.i.0 (g.R.RegionWords.count c.args.r.now) (g.R.RegionWords.count c.covered_with.new.r) (g.R.RegionWords.words c.args.r.now) (g.R.RegionWords.words c.covered_with.new.r) (c.covered_with.ensures.stays.count ∙ c.read_header.ensures.stays.count) (c.covered_with.ensures.words ∙ c.read_header.ensures.words) c.requires.fits
+returns-then-not-branch-clause-fits g c = λ runs. fits_same c.args.self.now c.args.i.0 (g.R.RegionWords.count c.args.r.now) (g.R.RegionWords.count c.covered_from_head.new.r) (g.R.RegionWords.words c.args.r.now) (g.R.RegionWords.words c.covered_from_head.new.r) (c.covered_from_head.ensures.stays.count ∙ c.read_header.ensures.stays.count) (c.covered_from_head.ensures.words ∙ c.read_header.ensures.words) c.requires.fits
 
 pub returns-then-not-branch-clause-stays : goal.returns-then-not-branch-clause-stays
-returns-then-not-branch-clause-stays g c = stays_trans g.met.R.RegionWords.rest_trans c.read_header.ensures.stays c.covered_with.ensures.stays
+returns-then-not-branch-clause-stays g c = stays_trans g.met.R.RegionWords.rest_trans c.read_header.ensures.stays c.covered_from_head.ensures.stays
 
 pub returns-then-not-branch-clause-causes : goal.returns-then-not-branch-clause-causes
-returns-then-not-branch-clause-causes g c = told_ends {T = ℕ} _ _ (Err NotCovered) tt (le_trans c.read_header.ensures.ends.later c.covered_with.ensures.ends.later) (c.in_ok-covered_with.ensures.ends.cause ∙ c.in_ok-header.ensures.ends.cause)
+returns-then-not-branch-clause-causes g c = told_ends {T = ℕ} _ _ (Err NotCovered) tt (le_trans c.read_header.ensures.ends.later c.covered_from_head.ensures.ends.later) (c.in_ok-covered_from_head.ensures.ends.cause ∙ c.in_ok-header.ensures.ends.cause)
 
 pub put_bytes-requires-clause-ready : goal.put_bytes-requires-clause-ready
-put_bytes-requires-clause-ready g c = c.covered_with.ensures.stays.ready
+put_bytes-requires-clause-ready g c = c.covered_from_head.ensures.stays.ready
 
 pub put_bytes-requires-clause-region : goal.put_bytes-requires-clause-region
-put_bytes-requires-clause-region g c = c.covered_with.ensures.region
+put_bytes-requires-clause-region g c = c.covered_from_head.ensures.region
 
 pub put_bytes-requires-clause-undo : goal.put_bytes-requires-clause-undo
-put_bytes-requires-clause-undo g c = c.in_ok-header.ensures.header.undo ∙ sym (ap (λ (w : RegionContent). w 1) (c.covered_with.ensures.words ∙ c.read_header.ensures.words))
+put_bytes-requires-clause-undo g c = c.in_ok-header.ensures.header.undo ∙ sym (ap (λ (w : RegionContent). w 1) (c.covered_from_head.ensures.words ∙ c.read_header.ensures.words))
 
 pub put_bytes-requires-clause-place : goal.put_bytes-requires-clause-place
-put_bytes-requires-clause-place g c = subst (λ (w : RegionContent). c.in_ok-span.span.place + length c.args.bytes.now / 8 ≤ places w) (sym (c.covered_with.ensures.words ∙ c.read_header.ensures.words)) (subst (λ k. c.in_ok-span.span.place + k ≤ places (g.R.RegionWords.words c.args.r.now)) c.in_ok-span.ensures.count (subst (λ d. c.in_ok-span.span.place + c.in_ok-span.span.count ≤ 512 * (map_pages d + d)) c.in_ok-header.ensures.header.data_pages c.in_ok-span.ensures.within))
+put_bytes-requires-clause-place g c = subst (λ (w : RegionContent). c.in_ok-span.span.place + length c.args.bytes.now / 8 ≤ places w) (sym (c.covered_from_head.ensures.words ∙ c.read_header.ensures.words)) (subst (λ k. c.in_ok-span.span.place + k ≤ places (g.R.RegionWords.words c.args.r.now)) c.in_ok-span.ensures.count (subst (λ d. c.in_ok-span.span.place + c.in_ok-span.span.count ≤ 512 * (map_pages d + d)) c.in_ok-header.ensures.header.data_pages c.in_ok-span.ensures.within))
 
 pub put_bytes-requires-clause-covered : goal.put_bytes-requires-clause-covered
 put_bytes-requires-clause-covered g c =
-    let all = is_yes c.in_ok-covered_with.field-0 _ _ c.if-not-branch.false c.in_ok-covered_with.ensures.value in
-    subst (λ k. CoversAll (undo_records (g.R.RegionWords.words c.covered_with.new.r)) c.in_ok-span.span.place k) c.in_ok-span.ensures.count (subst (λ (w : RegionContent). CoversAll (undo_records w) c.in_ok-span.span.place c.in_ok-span.span.count) (sym c.covered_with.ensures.words) all)
+    let all = is_yes c.in_ok-covered_from_head.field-0 _ _ c.if-not-branch.false c.in_ok-covered_from_head.ensures.value in
+    subst (λ k. CoversAll (undo_records (g.R.RegionWords.words c.covered_from_head.new.r)) c.in_ok-span.span.place k) c.in_ok-span.ensures.count (subst (λ (w : RegionContent). CoversAll (undo_records w) c.in_ok-span.span.place c.in_ok-span.span.count) (sym c.covered_from_head.ensures.words) all)
 
 pub returns-in-Ok-clause-table : goal.returns-in-Ok-clause-table
 returns-in-Ok-clause-table g c = refl
 
 pub returns-in-Ok-clause-before : goal.returns-in-Ok-clause-before
-returns-in-Ok-clause-before g c = undoes_from (g.R.RegionWords.count c.args.r.now) (g.R.RegionWords.count c.covered_with.new.r) (g.R.RegionWords.words c.covered_with.new.r) (g.R.RegionWords.words c.args.r.now) (g.R.RegionWords.words c.put_bytes.new.r) (c.covered_with.ensures.words ∙ c.read_header.ensures.words) (c.covered_with.ensures.stays.count ∙ c.read_header.ensures.stays.count) c.put_bytes.ensures.keeps.undoes
+returns-in-Ok-clause-before g c = undoes_from (g.R.RegionWords.count c.args.r.now) (g.R.RegionWords.count c.covered_from_head.new.r) (g.R.RegionWords.words c.covered_from_head.new.r) (g.R.RegionWords.words c.args.r.now) (g.R.RegionWords.words c.put_bytes.new.r) (c.covered_from_head.ensures.words ∙ c.read_header.ensures.words) (c.covered_from_head.ensures.stays.count ∙ c.read_header.ensures.stays.count) c.put_bytes.ensures.keeps.undoes
 
 pub returns-in-Ok-clause-stays : goal.returns-in-Ok-clause-stays
-returns-in-Ok-clause-stays g c = stays_trans g.met.R.RegionWords.rest_trans (stays_trans g.met.R.RegionWords.rest_trans c.read_header.ensures.stays c.covered_with.ensures.stays) c.put_bytes.ensures.stays
+returns-in-Ok-clause-stays g c = stays_trans g.met.R.RegionWords.rest_trans (stays_trans g.met.R.RegionWords.rest_trans c.read_header.ensures.stays c.covered_from_head.ensures.stays) c.put_bytes.ensures.stays
 
 pub returns-in-Err-Fault-clause-table : goal.returns-in-Err-Fault-clause-table
 returns-in-Err-Fault-clause-table g c = refl
 
 pub returns-in-Err-Fault-clause-before : goal.returns-in-Err-Fault-clause-before
-returns-in-Err-Fault-clause-before g c = undoes_from (g.R.RegionWords.count c.args.r.now) (g.R.RegionWords.count c.covered_with.new.r) (g.R.RegionWords.words c.covered_with.new.r) (g.R.RegionWords.words c.args.r.now) (g.R.RegionWords.words c.put_bytes.new.r) (c.covered_with.ensures.words ∙ c.read_header.ensures.words) (c.covered_with.ensures.stays.count ∙ c.read_header.ensures.stays.count) c.put_bytes.ensures.keeps.undoes
+returns-in-Err-Fault-clause-before g c = undoes_from (g.R.RegionWords.count c.args.r.now) (g.R.RegionWords.count c.covered_from_head.new.r) (g.R.RegionWords.words c.covered_from_head.new.r) (g.R.RegionWords.words c.args.r.now) (g.R.RegionWords.words c.put_bytes.new.r) (c.covered_from_head.ensures.words ∙ c.read_header.ensures.words) (c.covered_from_head.ensures.stays.count ∙ c.read_header.ensures.stays.count) c.put_bytes.ensures.keeps.undoes
 
 pub returns-in-Err-Fault-clause-stays : goal.returns-in-Err-Fault-clause-stays
-returns-in-Err-Fault-clause-stays g c = stays_trans g.met.R.RegionWords.rest_trans (stays_trans g.met.R.RegionWords.rest_trans c.read_header.ensures.stays c.covered_with.ensures.stays) c.put_bytes.ensures.stays
+returns-in-Err-Fault-clause-stays g c = stays_trans g.met.R.RegionWords.rest_trans (stays_trans g.met.R.RegionWords.rest_trans c.read_header.ensures.stays c.covered_from_head.ensures.stays) c.put_bytes.ensures.stays
 
 pub returns-in-Err-Stopped-clause-table : goal.returns-in-Err-Stopped-clause-table
 returns-in-Err-Stopped-clause-table g c = refl
 
 pub returns-in-Err-Stopped-clause-before : goal.returns-in-Err-Stopped-clause-before
-returns-in-Err-Stopped-clause-before g c = undoes_from (g.R.RegionWords.count c.args.r.now) (g.R.RegionWords.count c.covered_with.new.r) (g.R.RegionWords.words c.covered_with.new.r) (g.R.RegionWords.words c.args.r.now) (g.R.RegionWords.words c.put_bytes.new.r) (c.covered_with.ensures.words ∙ c.read_header.ensures.words) (c.covered_with.ensures.stays.count ∙ c.read_header.ensures.stays.count) c.put_bytes.ensures.keeps.undoes
+returns-in-Err-Stopped-clause-before g c = undoes_from (g.R.RegionWords.count c.args.r.now) (g.R.RegionWords.count c.covered_from_head.new.r) (g.R.RegionWords.words c.covered_from_head.new.r) (g.R.RegionWords.words c.args.r.now) (g.R.RegionWords.words c.put_bytes.new.r) (c.covered_from_head.ensures.words ∙ c.read_header.ensures.words) (c.covered_from_head.ensures.stays.count ∙ c.read_header.ensures.stays.count) c.put_bytes.ensures.keeps.undoes
 
 pub returns-in-Err-Stopped-clause-stays : goal.returns-in-Err-Stopped-clause-stays
-returns-in-Err-Stopped-clause-stays g c = stays_trans g.met.R.RegionWords.rest_trans (stays_trans g.met.R.RegionWords.rest_trans c.read_header.ensures.stays c.covered_with.ensures.stays) c.put_bytes.ensures.stays
+returns-in-Err-Stopped-clause-stays g c = stays_trans g.met.R.RegionWords.rest_trans (stays_trans g.met.R.RegionWords.rest_trans c.read_header.ensures.stays c.covered_from_head.ensures.stays) c.put_bytes.ensures.stays
 
 pub returns-in-Ok-clause-fault : goal.returns-in-Ok-clause-fault
 returns-in-Ok-clause-fault g c = tt
@@ -348,10 +348,10 @@ pub returns-in-Err-Stopped-clause-fits : goal.returns-in-Err-Stopped-clause-fits
 returns-in-Err-Stopped-clause-fits g c = λ runs. absurd (runs refl)
 
 pub returns-in-Ok-clause-causes : goal.returns-in-Ok-clause-causes
-returns-in-Ok-clause-causes g c = told_ends {T = ℕ} _ _ (Ok _) tt (le_trans c.read_header.ensures.ends.later (le_trans c.covered_with.ensures.ends.later c.put_bytes.ensures.ends.later)) (c.in-Ok.ensures.ends.cause ∙ (c.in_ok-covered_with.ensures.ends.cause ∙ c.in_ok-header.ensures.ends.cause))
+returns-in-Ok-clause-causes g c = told_ends {T = ℕ} _ _ (Ok _) tt (le_trans c.read_header.ensures.ends.later (le_trans c.covered_from_head.ensures.ends.later c.put_bytes.ensures.ends.later)) (c.in-Ok.ensures.ends.cause ∙ (c.in_ok-covered_from_head.ensures.ends.cause ∙ c.in_ok-header.ensures.ends.cause))
 
 pub returns-in-Err-Fault-clause-causes : goal.returns-in-Err-Fault-clause-causes
-returns-in-Err-Fault-clause-causes g c = ends_by_after _ _ _ _ _ (le_trans c.read_header.ensures.ends.later c.covered_with.ensures.ends.later) (c.in_ok-covered_with.ensures.ends.cause ∙ c.in_ok-header.ensures.ends.cause) (ends_fault {T = Unit {0}} _ _ c.in-Err-Fault.field-0 c.in-Err-Fault.words _ c.in-Err-Fault.field-0-is c.in-Err-Fault.ensures.ends)
+returns-in-Err-Fault-clause-causes g c = ends_by_after _ _ _ _ _ (le_trans c.read_header.ensures.ends.later c.covered_from_head.ensures.ends.later) (c.in_ok-covered_from_head.ensures.ends.cause ∙ c.in_ok-header.ensures.ends.cause) (ends_fault {T = Unit {0}} _ _ c.in-Err-Fault.field-0 c.in-Err-Fault.words _ c.in-Err-Fault.field-0-is c.in-Err-Fault.ensures.ends)
 
 pub returns-in-Err-Stopped-clause-causes : goal.returns-in-Err-Stopped-clause-causes
-returns-in-Err-Stopped-clause-causes g c = ends_by_after _ _ _ _ _ (le_trans c.read_header.ensures.ends.later c.covered_with.ensures.ends.later) (c.in_ok-covered_with.ensures.ends.cause ∙ c.in_ok-header.ensures.ends.cause) (ends_stop {T = Unit {0}} _ _ c.in-Err-Stopped.field-0 c.in-Err-Stopped.field-0-is c.in-Err-Stopped.ensures.ends)
+returns-in-Err-Stopped-clause-causes g c = ends_by_after _ _ _ _ _ (le_trans c.read_header.ensures.ends.later c.covered_from_head.ensures.ends.later) (c.in_ok-covered_from_head.ensures.ends.cause ∙ c.in_ok-header.ensures.ends.cause) (ends_stop {T = Unit {0}} _ _ c.in-Err-Stopped.field-0 c.in-Err-Stopped.field-0-is c.in-Err-Stopped.ensures.ends)

@@ -35,45 +35,45 @@ returns-in_err-span-clause-ends g c =
     let p = err_from_is_err_and c.from_residual-in_err-span.result c.from_residual-in_err-span.ensures.1 in
     refused_at (range_on (region_now f) (txn_in marks i f) c.args.off c.args.len) says_done marks marks i f (g.R.RegionWords.words c.read_header.new.r) c.from_residual-in_err-span.result p.0 c.in_err-span.field-0.0 p.1 p.2 (λ number is. (range_stops marks i f c.args.off c.args.len number m (past_data f c.args.off c.args.len c.in_ok-header.header.«data» c.whole_words.result c.in_ok-whole_words.field-0 c.in_err-span.field-0.0 number c.in_ok-whole_words.was c.whole_words.ensures c.in_ok-header.ensures.header.data_pages c.in_err-span.ensures is), c.in_ok-header.ensures.words, refl))
 
-pub returns-in_err-set_range_with-clause-ends : goal.returns-in_err-set_range_with-clause-ends
-returns-in_err-set_range_with-clause-ends g c =
+pub returns-in_err-set_range_by_header-clause-ends : goal.returns-in_err-set_range_by_header-clause-ends
+returns-in_err-set_range_by_header-clause-ends g c =
     let n = g.R.RegionWords.count c.args.r.now in
     let f = g.R.RegionWords.words c.args.r.now in
     let h = g.R.RegionWords.words c.read_header.new.r in
-    let last = g.R.RegionWords.words c.set_range_with.new.r in
+    let last = g.R.RegionWords.words c.set_range_by_header.new.r in
     let marks = c.args.self.now in
     let i = c.args.i.0 in
     let m = is_open marks i c.active.result c.in_ok-active.field-0 c.in_ok-active.was c.active.ensures in
-    let p = err_from_is_err_and c.from_residual-in_err-set_range_with.result c.from_residual-in_err-set_range_with.ensures.1 in
+    let p = err_from_is_err_and c.from_residual-in_err-set_range_by_header.result c.from_residual-in_err-set_range_by_header.ensures.1 in
     let same : h ≡ f = c.in_ok-header.ensures.words in
-    let call = c.in_err-set_range_with.ensures in
+    let call = c.in_err-set_range_by_header.ensures in
     let at = in_data f c.args.off c.args.len c.in_ok-header.header.«data» c.whole_words.result c.in_ok-whole_words.field-0 c.in_ok-span.span c.in_ok-whole_words.was c.whole_words.ensures c.in_ok-header.ensures.header.data_pages c.in_ok-span.ensures in
     subst (λ r. TxnEnds (range_on (region_now f) (txn_in marks i f) c.args.off c.args.len) says_done marks marks i f last r) (ap (λ z. Err z) (sym p.2) ∙ sym p.1)
-    (range_fails marks i n f last c.args.off c.args.len c.in_ok-span.span c.in_err-set_range_with.field-0.0 m at.0 at.1
+    (range_fails marks i n f last c.args.off c.args.len c.in_ok-span.span c.in_err-set_range_by_header.field-0.0 m at.0 at.1
     (λ full. subst (λ (w : RegionContent). undo_words w < taken (undo_records w) + 3 + c.in_ok-span.span.count) same (call.full full)) (λ full. call.refused full ∙ same))
 
-pub returns-in_err-set_range_with-clause-fault : goal.returns-in_err-set_range_with-clause-fault
-returns-in_err-set_range_with-clause-fault g c =
+pub returns-in_err-set_range_by_header-clause-fault : goal.returns-in_err-set_range_by_header-clause-fault
+returns-in_err-set_range_by_header-clause-fault g c =
     let n = g.R.RegionWords.count c.args.r.now in
     let f = g.R.RegionWords.words c.args.r.now in
-    let last = g.R.RegionWords.words c.set_range_with.new.r in
+    let last = g.R.RegionWords.words c.set_range_by_header.new.r in
     let marks = c.args.self.now in
     let i = c.args.i.0 in
-    let p = err_from_is_err_and c.from_residual-in_err-set_range_with.result c.from_residual-in_err-set_range_with.ensures.1 in
+    let p = err_from_is_err_and c.from_residual-in_err-set_range_by_header.result c.from_residual-in_err-set_range_by_header.ensures.1 in
     subst (λ r. OnFault r (λ k. (k ≡ 0) × (region_now last ≡ region_now f) × (txn_in marks i last ≡ txn_in marks i f))) (ap (λ z. Err z) (sym p.2) ∙ sym p.1)
-    (range_faults marks i (g.R.RegionWords.count c.read_header.new.r) f last c.in_err-set_range_with.field-0.0 (λ fault. subst (λ (w : RegionContent). Rests (g.R.RegionWords.count c.read_header.new.r) w last) c.in_ok-header.ensures.words (c.in_err-set_range_with.ensures.fault fault)))
+    (range_faults marks i (g.R.RegionWords.count c.read_header.new.r) f last c.in_err-set_range_by_header.field-0.0 (λ fault. subst (λ (w : RegionContent). Rests (g.R.RegionWords.count c.read_header.new.r) w last) c.in_ok-header.ensures.words (c.in_err-set_range_by_header.ensures.fault fault)))
 
 pub returns-clause-ends : goal.returns-clause-ends
 returns-clause-ends g c =
     let n = g.R.RegionWords.count c.read_header.new.r in
     let f = g.R.RegionWords.words c.args.r.now in
-    let last = g.R.RegionWords.words c.set_range_with.new.r in
+    let last = g.R.RegionWords.words c.set_range_by_header.new.r in
     let marks = c.args.self.now in
     let i = c.args.i.0 in
     let m = is_open marks i c.active.result c.in_ok-active.field-0 c.in_ok-active.was c.active.ensures in
     let span = c.in_ok-span.span in
     let same = c.in_ok-header.ensures.words in
-    let call = c.in_ok-set_range_with.ensures in
+    let call = c.in_ok-set_range_by_header.ensures in
     let at = in_data f c.args.off c.args.len c.in_ok-header.header.«data» c.whole_words.result c.in_ok-whole_words.field-0 c.in_ok-span.span c.in_ok-whole_words.was c.whole_words.ensures c.in_ok-header.ensures.header.data_pages c.in_ok-span.ensures in
     range_done marks i n f last c.args.off c.args.len span m at.0 at.1
     (subst (λ (w : RegionContent). Gains n w last span.place span.count) same call.ok)
@@ -186,49 +186,49 @@ returns-in_err-span-clause-causes g c =
     let p = err_from_is_err_and c.from_residual-in_err-span.result c.from_residual-in_err-span.ensures.1 in
     told_ends _ _ c.from_residual-in_err-span.result (told_past c.from_residual-in_err-span.result _ _ p.1 p.2 c.in_err-span.ensures.0) c.read_header.ensures.ends.later c.in_ok-header.ensures.ends.cause
 
-pub set_range_with-requires-clause-ready : goal.set_range_with-requires-clause-ready
-set_range_with-requires-clause-ready g c = c.read_header.ensures.stays.ready
+pub set_range_by_header-requires-clause-ready : goal.set_range_by_header-requires-clause-ready
+set_range_by_header-requires-clause-ready g c = c.read_header.ensures.stays.ready
 
-pub set_range_with-requires-clause-region : goal.set_range_with-requires-clause-region
-set_range_with-requires-clause-region g c = c.read_header.ensures.region
+pub set_range_by_header-requires-clause-region : goal.set_range_by_header-requires-clause-region
+set_range_by_header-requires-clause-region g c = c.read_header.ensures.region
 
-pub set_range_with-requires-clause-header : goal.set_range_with-requires-clause-header
-set_range_with-requires-clause-header g c = subst (λ (w : RegionContent). IsHeader w c.in_ok-header.header) (sym c.read_header.ensures.words) c.in_ok-header.ensures.header
+pub set_range_by_header-requires-clause-header : goal.set_range_by_header-requires-clause-header
+set_range_by_header-requires-clause-header g c = subst (λ (w : RegionContent). IsHeader w c.in_ok-header.header) (sym c.read_header.ensures.words) c.in_ok-header.ensures.header
 
-pub set_range_with-requires-clause-place : goal.set_range_with-requires-clause-place
-set_range_with-requires-clause-place g c = subst (λ (w : RegionContent). c.in_ok-span.span.place + c.in_ok-span.span.count ≤ places w) (sym c.read_header.ensures.words) (subst (λ d. c.in_ok-span.span.place + c.in_ok-span.span.count ≤ 512 * (map_pages d + d)) c.in_ok-header.ensures.header.data_pages c.in_ok-span.ensures.within)
+pub set_range_by_header-requires-clause-place : goal.set_range_by_header-requires-clause-place
+set_range_by_header-requires-clause-place g c = subst (λ (w : RegionContent). c.in_ok-span.span.place + c.in_ok-span.span.count ≤ places w) (sym c.read_header.ensures.words) (subst (λ d. c.in_ok-span.span.place + c.in_ok-span.span.count ≤ 512 * (map_pages d + d)) c.in_ok-header.ensures.header.data_pages c.in_ok-span.ensures.within)
 
-pub returns-in_err-set_range_with-clause-table : goal.returns-in_err-set_range_with-clause-table
-returns-in_err-set_range_with-clause-table g c = refl
+pub returns-in_err-set_range_by_header-clause-table : goal.returns-in_err-set_range_by_header-clause-table
+returns-in_err-set_range_by_header-clause-table g c = refl
 
-pub returns-in_err-set_range_with-clause-before : goal.returns-in_err-set_range_with-clause-before
-returns-in_err-set_range_with-clause-before g c = undoes_from (g.R.RegionWords.count c.args.r.now) (g.R.RegionWords.count c.read_header.new.r) (g.R.RegionWords.words c.read_header.new.r) (g.R.RegionWords.words c.args.r.now) (g.R.RegionWords.words c.set_range_with.new.r) c.read_header.ensures.words c.read_header.ensures.stays.count c.set_range_with.ensures.before
+pub returns-in_err-set_range_by_header-clause-before : goal.returns-in_err-set_range_by_header-clause-before
+returns-in_err-set_range_by_header-clause-before g c = undoes_from (g.R.RegionWords.count c.args.r.now) (g.R.RegionWords.count c.read_header.new.r) (g.R.RegionWords.words c.read_header.new.r) (g.R.RegionWords.words c.args.r.now) (g.R.RegionWords.words c.set_range_by_header.new.r) c.read_header.ensures.words c.read_header.ensures.stays.count c.set_range_by_header.ensures.before
 
-pub returns-in_err-set_range_with-clause-fits : goal.returns-in_err-set_range_with-clause-fits
-returns-in_err-set_range_with-clause-fits g c = λ runs. fits_range c.args.self.now c.args.i.0 (g.R.RegionWords.count c.args.r.now) (g.R.RegionWords.count c.set_range_with.new.r) (g.R.RegionWords.words c.args.r.now) (g.R.RegionWords.words c.set_range_with.new.r) c.in_ok-span.span.place c.in_ok-span.span.count (is_open c.args.self.now c.args.i.0 c.active.result c.in_ok-active.field-0 c.in_ok-active.was c.active.ensures) c.requires.fits (c.set_range_with.ensures.stays.count ∙ c.read_header.ensures.stays.count) (either_from (g.R.RegionWords.count c.args.r.now) (g.R.RegionWords.count c.read_header.new.r) (g.R.RegionWords.words c.read_header.new.r) (g.R.RegionWords.words c.args.r.now) (g.R.RegionWords.words c.set_range_with.new.r) c.in_ok-span.span.place c.in_ok-span.span.count c.read_header.ensures.words c.read_header.ensures.stays.count c.set_range_with.ensures.either)
+pub returns-in_err-set_range_by_header-clause-fits : goal.returns-in_err-set_range_by_header-clause-fits
+returns-in_err-set_range_by_header-clause-fits g c = λ runs. fits_range c.args.self.now c.args.i.0 (g.R.RegionWords.count c.args.r.now) (g.R.RegionWords.count c.set_range_by_header.new.r) (g.R.RegionWords.words c.args.r.now) (g.R.RegionWords.words c.set_range_by_header.new.r) c.in_ok-span.span.place c.in_ok-span.span.count (is_open c.args.self.now c.args.i.0 c.active.result c.in_ok-active.field-0 c.in_ok-active.was c.active.ensures) c.requires.fits (c.set_range_by_header.ensures.stays.count ∙ c.read_header.ensures.stays.count) (either_from (g.R.RegionWords.count c.args.r.now) (g.R.RegionWords.count c.read_header.new.r) (g.R.RegionWords.words c.read_header.new.r) (g.R.RegionWords.words c.args.r.now) (g.R.RegionWords.words c.set_range_by_header.new.r) c.in_ok-span.span.place c.in_ok-span.span.count c.read_header.ensures.words c.read_header.ensures.stays.count c.set_range_by_header.ensures.either)
 
-pub returns-in_err-set_range_with-clause-stays : goal.returns-in_err-set_range_with-clause-stays
-returns-in_err-set_range_with-clause-stays g c = stays_trans g.met.R.RegionWords.rest_trans c.read_header.ensures.stays c.set_range_with.ensures.stays
+pub returns-in_err-set_range_by_header-clause-stays : goal.returns-in_err-set_range_by_header-clause-stays
+returns-in_err-set_range_by_header-clause-stays g c = stays_trans g.met.R.RegionWords.rest_trans c.read_header.ensures.stays c.set_range_by_header.ensures.stays
 
-pub returns-in_err-set_range_with-clause-causes : goal.returns-in_err-set_range_with-clause-causes
-returns-in_err-set_range_with-clause-causes g c =
-    let p = err_from_is_err_and c.from_residual-in_err-set_range_with.result c.from_residual-in_err-set_range_with.ensures.1 in
-    ends_by_after _ _ _ _ _ c.read_header.ensures.ends.later c.in_ok-header.ensures.ends.cause (ends_undo _ _ c.set_range_with.result c.from_residual-in_err-set_range_with.result _ _ c.in_err-set_range_with.was p.1 p.2 c.set_range_with.ensures.ends)
+pub returns-in_err-set_range_by_header-clause-causes : goal.returns-in_err-set_range_by_header-clause-causes
+returns-in_err-set_range_by_header-clause-causes g c =
+    let p = err_from_is_err_and c.from_residual-in_err-set_range_by_header.result c.from_residual-in_err-set_range_by_header.ensures.1 in
+    ends_by_after _ _ _ _ _ c.read_header.ensures.ends.later c.in_ok-header.ensures.ends.cause (ends_undo _ _ c.set_range_by_header.result c.from_residual-in_err-set_range_by_header.result _ _ c.in_err-set_range_by_header.was p.1 p.2 c.set_range_by_header.ensures.ends)
 
 pub returns-clause-table : goal.returns-clause-table
 returns-clause-table g c = refl
 
 pub returns-clause-before : goal.returns-clause-before
-returns-clause-before g c = undoes_from (g.R.RegionWords.count c.args.r.now) (g.R.RegionWords.count c.read_header.new.r) (g.R.RegionWords.words c.read_header.new.r) (g.R.RegionWords.words c.args.r.now) (g.R.RegionWords.words c.set_range_with.new.r) c.read_header.ensures.words c.read_header.ensures.stays.count c.set_range_with.ensures.before
+returns-clause-before g c = undoes_from (g.R.RegionWords.count c.args.r.now) (g.R.RegionWords.count c.read_header.new.r) (g.R.RegionWords.words c.read_header.new.r) (g.R.RegionWords.words c.args.r.now) (g.R.RegionWords.words c.set_range_by_header.new.r) c.read_header.ensures.words c.read_header.ensures.stays.count c.set_range_by_header.ensures.before
 
 pub returns-clause-fits : goal.returns-clause-fits
-returns-clause-fits g c = λ runs. fits_range c.args.self.now c.args.i.0 (g.R.RegionWords.count c.args.r.now) (g.R.RegionWords.count c.set_range_with.new.r) (g.R.RegionWords.words c.args.r.now) (g.R.RegionWords.words c.set_range_with.new.r) c.in_ok-span.span.place c.in_ok-span.span.count (is_open c.args.self.now c.args.i.0 c.active.result c.in_ok-active.field-0 c.in_ok-active.was c.active.ensures) c.requires.fits (c.set_range_with.ensures.stays.count ∙ c.read_header.ensures.stays.count) (either_from (g.R.RegionWords.count c.args.r.now) (g.R.RegionWords.count c.read_header.new.r) (g.R.RegionWords.words c.read_header.new.r) (g.R.RegionWords.words c.args.r.now) (g.R.RegionWords.words c.set_range_with.new.r) c.in_ok-span.span.place c.in_ok-span.span.count c.read_header.ensures.words c.read_header.ensures.stays.count c.set_range_with.ensures.either)
+returns-clause-fits g c = λ runs. fits_range c.args.self.now c.args.i.0 (g.R.RegionWords.count c.args.r.now) (g.R.RegionWords.count c.set_range_by_header.new.r) (g.R.RegionWords.words c.args.r.now) (g.R.RegionWords.words c.set_range_by_header.new.r) c.in_ok-span.span.place c.in_ok-span.span.count (is_open c.args.self.now c.args.i.0 c.active.result c.in_ok-active.field-0 c.in_ok-active.was c.active.ensures) c.requires.fits (c.set_range_by_header.ensures.stays.count ∙ c.read_header.ensures.stays.count) (either_from (g.R.RegionWords.count c.args.r.now) (g.R.RegionWords.count c.read_header.new.r) (g.R.RegionWords.words c.read_header.new.r) (g.R.RegionWords.words c.args.r.now) (g.R.RegionWords.words c.set_range_by_header.new.r) c.in_ok-span.span.place c.in_ok-span.span.count c.read_header.ensures.words c.read_header.ensures.stays.count c.set_range_by_header.ensures.either)
 
 pub returns-clause-stays : goal.returns-clause-stays
-returns-clause-stays g c = stays_trans g.met.R.RegionWords.rest_trans c.read_header.ensures.stays c.set_range_with.ensures.stays
+returns-clause-stays g c = stays_trans g.met.R.RegionWords.rest_trans c.read_header.ensures.stays c.set_range_by_header.ensures.stays
 
 pub returns-clause-fault : goal.returns-clause-fault
 returns-clause-fault g c = tt
 
 pub returns-clause-causes : goal.returns-clause-causes
-returns-clause-causes g c = told_ends {T = Unit {0}} _ _ (Ok tt) tt (le_trans c.read_header.ensures.ends.later c.set_range_with.ensures.ends.later) (c.in_ok-set_range_with.ensures.ends.runs (ok_apart c.in_ok-set_range_with.field-0 UndoStopped) ∙ c.in_ok-header.ensures.ends.cause)
+returns-clause-causes g c = told_ends {T = Unit {0}} _ _ (Ok tt) tt (le_trans c.read_header.ensures.ends.later c.set_range_by_header.ensures.ends.later) (c.in_ok-set_range_by_header.ensures.ends.runs (ok_apart c.in_ok-set_range_by_header.field-0 UndoStopped) ∙ c.in_ok-header.ensures.ends.cause)

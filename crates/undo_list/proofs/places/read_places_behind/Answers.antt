@@ -1,7 +1,7 @@
 use Rattle.std.proofs.Common.{ap, arith, ◌∙◌}
 use Rattle.std.proofs.lemmas.Result.{IfOk-weaker}
 use Rattle.undo_list.proofs.Frames.{region_at}
-use Rattle.undo_list.proofs.places.read_places_with.Goals as goal
+use Rattle.undo_list.proofs.places.read_places_behind.Goals as goal
 
 pub read_run-requires-clause-ready : goal.read_run-requires-clause-ready
 read_run-requires-clause-ready g c = c.requires.ready

@@ -1,7 +1,7 @@
 use Rattle.std.proofs.Common.{◌≡◌, ◌≤◌, ◌-◌}
 use Rattle.rio_base.specs.Regions.{Stays}
 use Rattle.rio_model.specs.Undo.{CoversAll, IsRegion, undo_records}
-use Rattle.undo_list.proofs.covering.covered_with.Given as goal
+use Rattle.undo_list.proofs.covering.covered_from_head.Given as goal
 
 abbrev pub invariant-loop-done : goal.invariant-loop-done
 invariant-loop-done g l =

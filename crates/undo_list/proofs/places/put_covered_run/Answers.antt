@@ -3,7 +3,7 @@ use Rattle.rio_base.specs.Regions.{put_words}
 use Rattle.rio_model.specs.Undo.{map_from, Puts}
 use Rattle.undo_list.proofs.Outcomes.{on_ok, on_fault}
 use Rattle.undo_list.proofs.Frames.{puts_at, puts_front, puts_region}
-use Rattle.undo_list.proofs.places.put_covered_run_with.Goals as goal
+use Rattle.undo_list.proofs.places.put_covered_run.Goals as goal
 
 pub returns-clause-ok : goal.returns-clause-ok
 returns-clause-ok g c =

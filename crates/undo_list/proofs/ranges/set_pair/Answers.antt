@@ -6,7 +6,7 @@ use Rattle.rio_model.proofs.UndoRules.{rests_undoes}
 use Rattle.rio_model.specs.Undo.{live, places, taken, undo_records, undo_words}
 use Rattle.undo_list.proofs.Frames.{undoes_from, either_undoes, either_from, either_region, gains_from, region_at, rests_from, rests_same}
 use Rattle.undo_list.proofs.Outcomes.{ends_did, ends_full, ends_handed, is_fault, never_full, no_err}
-use Rattle.undo_list.proofs.ranges.set_pair_with.Goals as goal
+use Rattle.undo_list.proofs.ranges.set_pair.Goals as goal
 
 pub publish_pair-requires-clause-first : goal.publish_pair-requires-clause-first
 publish_pair-requires-clause-first g c = c.requires.first ∙ sym (ap (λ (w : ℕ → ℕ). live w c.args.place) c.taken.ensures.words)

@@ -6,7 +6,7 @@ use Rattle.rio_model.proofs.UndoRules.{rests_undoes}
 use Rattle.rio_model.specs.Undo.{places, taken, undo_records, undo_words}
 use Rattle.undo_list.proofs.Frames.{undoes_from, either_undoes, either_from, either_region, gains_from, region_at, rests_from, rests_same}
 use Rattle.undo_list.proofs.Outcomes.{ends_did, ends_full, ends_handed, is_fault, never_full, no_err}
-use Rattle.undo_list.proofs.ranges.set_range_with.Goals as goal
+use Rattle.undo_list.proofs.ranges.set_range_by_header.Goals as goal
 
 pub returns-in_err-publish-clause-before : goal.returns-in_err-publish-clause-before
 returns-in_err-publish-clause-before g c =

@@ -6,7 +6,7 @@ use Rattle.rio_model.specs.Undo.{CoversAll, places, undo_records}
 use Rattle.undo_list.proofs.Covers.{covers_front, covers_hole}
 use Rattle.undo_list.proofs.Frames.{region_at}
 use Rattle.undo_list.proofs.Outcomes.{ends_err, stays_none}
-use Rattle.undo_list.proofs.covering.covered_with.Goals as goal
+use Rattle.undo_list.proofs.covering.covered_from_head.Goals as goal
 
 pub returns-then-not-branch-clause-stays : goal.returns-then-not-branch-clause-stays
 returns-then-not-branch-clause-stays g c = stays_trans g.met.R.RegionWords.rest_trans c.loop-done.invariant.stays c.covers.ensures.stays
