@@ -69,7 +69,7 @@ impl FullBlocks {
 
 /// The least free inode, or `None` where none is free, as `least_free` answers it: blocks that are known to be full are not looked
 /// at, and those that are found to be so are known from then on. `Fault` and `Stopped` are those of reading the inodes.
-pub fn least_free_with<V: Blocks>(
+pub fn least_free_past_full<V: Blocks>(
     v: &mut V,
     shape: &VolumeShape,
     full: &mut FullBlocks,

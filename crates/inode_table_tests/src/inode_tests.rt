@@ -8,7 +8,7 @@ ghost use Rattle.inode_table.specs.Known.{KnowsFull, StayUsed};
 
 use crate::same::same;
 use inode_table::{
-    FullBlocks, Inode, edit_inode, inode_block, least_free, least_free_with, read_inode,
+    FullBlocks, Inode, edit_inode, inode_block, least_free, least_free_past_full, read_inode,
 };
 use rio_base::{Block, Blocks, Ino, RunFail, Stopped, VolFail, Volume, VolumeShape};
 use rio_fakes::{FaultyVolume, ListVolume};
@@ -182,7 +182,7 @@ fn the_first_free_inode_is_found(rt: HostRuntime) -> Result<(), Fail> {
         let mut v = with_used(rt.alloc(), used)?;
         let due = if used < 64 { Some(Ino(used + 1)) } else { None };
         let least = least_free(&mut v, &SHAPE)?;
-        let known = least_free_with(&mut v, &SHAPE, &mut FullBlocks::new())?;
+        let known = least_free_past_full(&mut v, &SHAPE, &mut FullBlocks::new())?;
         let mut asked = FaultyVolume::new(v, 0);
         let word_by_word = least_free(&mut asked, &SHAPE)?;
         same(
@@ -207,7 +207,7 @@ fn least_known<V: Volume>(v: &mut V, full: &mut FullBlocks) -> Result<Option<Ino
     ensures idle { (V.kept v.new).updating ≡ (V.kept v.old).updating }
     ensures sound { V.sound v.new }
 {
-    least_free_with(v, &SHAPE, full)
+    least_free_past_full(v, &SHAPE, full)
 }
 
 #[test]

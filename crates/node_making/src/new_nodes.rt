@@ -23,7 +23,7 @@ use crate::making::make_row;
 use crate::regions::{RegionSizes, make_region_row};
 use file_ends::{FileFail, NO_INODE};
 use file_tree::Memo;
-use inode_table::least_free_with;
+use inode_table::least_free_past_full;
 use rio_base::{Ino, Volume, VolumeShape};
 use std::alloc::Global;
 
@@ -90,7 +90,7 @@ pub fn make_new<V: Volume>(
     ensures ends { EndsBy (V.health v.old) (V.health v.new) (Faulted result) (IsErrOf result FileFail.Stopped) }
     ensures sound { V.sound v.new }
 {
-    let Some(i) = least_free_with(v, shape, &mut memo.full)? else {
+    let Some(i) = least_free_past_full(v, shape, &mut memo.full)? else {
         return Err(FileFail::Refused(NO_INODE));
     };
     make_node(alloc, v, shape, dir, name, i, node)?;

@@ -6,7 +6,7 @@ use Rattle.rio_base.proofs.Rules.{looks_refl, looks_trans}
 use Rattle.inode_table.specs.Inodes.{AreUsed}
 use Rattle.inode_table.proofs.Exits.{below_as, caches_more, ends_err, ends_none, not_ok}
 use Rattle.inode_table.proofs.PassedBlocks.{all_past, found_past, none_before, used_more, used_past}
-use Rattle.inode_table.proofs.full_blocks.least_free_with.Goals as goal
+use Rattle.inode_table.proofs.full_blocks.least_free_past_full.Goals as goal
 
 pub loop-k-init : goal.loop-k-init
 loop-k-init g c = record {

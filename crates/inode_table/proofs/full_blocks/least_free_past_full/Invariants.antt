@@ -5,7 +5,7 @@ use Rattle.rio_base.specs.Shapes.{HasShape}
 use Rattle.inode_table.specs.Inodes.{IsMetadata}
 use Rattle.inode_table.specs.Known.{KnowsFull}
 use Rattle.inode_table.proofs.PassedBlocks.{UsedBefore}
-use Rattle.inode_table.proofs.full_blocks.least_free_with.Given as goal
+use Rattle.inode_table.proofs.full_blocks.least_free_past_full.Given as goal
 
 -- all inodes before block k are used
 abbrev pub invariant-loop-k : goal.invariant-loop-k
