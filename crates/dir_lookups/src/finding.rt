@@ -173,7 +173,7 @@ fn find_in_pages<V: Blocks>(
 
 /// What a name of a directory, which has this inode, names, and the slot of its entry; `None` exactly where the directory has
 /// no such name. Any bytes may be asked for. `Fault` and `Stopped` are those of reading the directory.
-pub fn find_with<V: Blocks>(
+pub fn find_at_inode<V: Blocks>(
     v: &mut V,
     shape: &VolumeShape,
     dir: Ino,
@@ -227,7 +227,7 @@ pub fn find<V: Blocks>(
     ensures sound { V.sound v.new }
 {
     let inode = dir_inode(v, shape, dir)?;
-    find_with(v, shape, dir, &inode, name)
+    find_at_inode(v, shape, dir, &inode, name)
 }
 
 /// What the entry in slot `slot` of a directory, which has this inode, names, where it has this name; `None` where it has another

@@ -5,6 +5,6 @@ mod finding;
 mod holding;
 mod listing;
 
-pub use finding::{find, find_with, row_at};
+pub use finding::{find, find_at_inode, row_at};
 pub use holding::hold_names;
 pub use listing::names;

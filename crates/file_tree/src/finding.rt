@@ -19,7 +19,7 @@ ghost use Rattle.file_tree.specs.Memos.{InStep};
 
 use crate::memo::Memo;
 use crate::walking::inode_of;
-use dir_lookups::{find_with, hold_names, row_at};
+use dir_lookups::{find_at_inode, hold_names, row_at};
 use file_ends::FileFail;
 use inode_table::Inode;
 use name_index::{DirNames, Lookup};
@@ -51,7 +51,7 @@ fn scan<V: Blocks>(
     ensures ends { EndsBy (V.health v.old) (V.health v.new) (Faulted result) (IsErrOf result FileFail.Stopped) }
     ensures sound { V.sound v.new }
 {
-    let found = find_with(v, shape, dir, inode, name)?;
+    let found = find_at_inode(v, shape, dir, inode, name)?;
     Ok(found)
 }
 

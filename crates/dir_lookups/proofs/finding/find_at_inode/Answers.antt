@@ -3,7 +3,7 @@ use Rattle.std.proofs.Common.{le_refl}
 use Rattle.rio_base.proofs.Rules.{looks_refl}
 use Rattle.dir_entries.proofs.CanRead.{can_read}
 use Rattle.dir_entries.proofs.Common.{named_on, refl, arith, held_of}
-use Rattle.dir_lookups.proofs.finding.find_with.Goals as goal
+use Rattle.dir_lookups.proofs.finding.find_at_inode.Goals as goal
 
 pub returns-clause-named : goal.returns-clause-named
 returns-clause-named g c = named_on c.args.shape.now (g.V.Blocks.seen c.args.v.now) _ c.requires.mapped c.requires.named c.find_in_pages.ensures.looks
