@@ -23,7 +23,7 @@ mod text_room;
 mod words;
 
 pub use lines::{INPUT_LIMIT, LineFail, LineReader, NextLine};
-pub use parse::{long_lines_mean_nothing, one_meaning, parse_line, parse_line_with};
+pub use parse::{long_lines_mean_nothing, one_meaning, parse_line, parse_line_reusing};
 pub use path::is_path;
 pub use reply_text::{ROOM_BYTES, put_name, put_reply, write_reply, write_reply_in, write_text};
 pub use spare::Spare;

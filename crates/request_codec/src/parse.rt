@@ -20,11 +20,11 @@ pub fn parse_line(alloc: Global, line: &[u8]) -> Result<Option<Request>, AllocEr
     ensures { IfOk result (λ found. Means line.now found) }
 {
     let mut spare = Spare::new(alloc);
-    parse_line_with(line, &mut spare)
+    parse_line_reusing(line, &mut spare)
 }
 
-/// The same with memory that earlier requests left.
-pub fn parse_line_with(line: &[u8], spare: &mut Spare) -> Result<Option<Request>, AllocError>
+/// Reads a line into memory that earlier requests left. `None` is the answer to a line that is no request.
+pub fn parse_line_reusing(line: &[u8], spare: &mut Spare) -> Result<Option<Request>, AllocError>
     ensures { IfOk result (λ found. Means line.now found) }
 {
     let Some((word, text)) = at_space(line) else {

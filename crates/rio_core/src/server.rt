@@ -12,7 +12,7 @@ ghost use Rattle.rio_core.specs.Serving.{Holds};
 use crate::replies::BAD_REQUEST;
 use crate::running_core::{Core, answer_one};
 use page_cache::PageCache;
-use request_codec::{Spare, parse_line_with, put_reply, write_reply_in};
+use request_codec::{Spare, parse_line_reusing, put_reply, write_reply_in};
 use rio_base::{Blocks, Failed, Machine, Sink, Stopped, Volume};
 use rio_requests::{Reply, Request};
 use rio_serving::{Effect, Server};
@@ -64,7 +64,7 @@ impl<M: Machine> Server for Core<M> {
     }
 
     fn parse(line: &[u8], spare: &mut Spare) -> Result<Option<Request>, AllocError> {
-        parse_line_with(line, spare)
+        parse_line_reusing(line, spare)
     }
 
     fn keep(request: Request, spare: &mut Spare) {

@@ -1,5 +1,5 @@
 use Rattle.request_codec.proofs.Meanings.{unknown_word}
-use Rattle.request_codec.proofs.parse.parse_line_with.Goals as goal
+use Rattle.request_codec.proofs.parse.parse_line_reusing.Goals as goal
 
 pub returns : goal.returns
 returns c = unknown_word c.args.line.now c.in-Some.word.now c.in-Some.text.now c.in-Some.ensures (record {
