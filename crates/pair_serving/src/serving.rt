@@ -14,7 +14,7 @@ ghost use Rattle.pair_serving.specs.ServedScenes.{Served};
 use crate::ends::end_of;
 use rio_base::{Machine, Sink, Source};
 use rio_core::Core;
-use rio_serving::{LinesEnd, ServeEnd, Server, serve_with};
+use rio_serving::{LinesEnd, ServeEnd, Server, serve_until_end};
 use std::alloc::Global;
 
 /// Serves lines until the input ends, each reply written before the next line is asked for.
@@ -37,7 +37,7 @@ pub fn serve<M: Machine, S: Source, K: Sink>(
     ensures later { S.faults source.old ≤ S.faults source.new }
     ensures sink_later { K.faults sink.old ≤ K.faults sink.new }
 {
-    serve_with(alloc, core, source, sink, false)
+    serve_until_end(alloc, core, source, sink, false)
 }
 
 /// Serves lines over a core, and takes its machine back, which tells whether a wild store trapped. Memory and disk then stand
@@ -58,7 +58,7 @@ pub(crate) fn serve_core<M: Machine, S: Source, K: Sink>(
     ensures sink_later { K.faults sink.old ≤ K.faults sink.new }
 {
     let mut core = core;
-    let end = serve_with(alloc, &mut core, source, sink, gathers);
+    let end = serve_until_end(alloc, &mut core, source, sink, gathers);
     let machine = core.into_machine();
     let trapped = machine.trapped();
     (machine, end_of(end, trapped))

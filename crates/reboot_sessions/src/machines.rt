@@ -14,7 +14,7 @@ use rio_base::{Block, DiskBlocks, Machine, WordAt};
 use rio_core::Core;
 use rio_fakes::{MemSink, MemSource};
 use rio_model::Census;
-use rio_serving::{Server, serve_with};
+use rio_serving::{Server, serve_until_end};
 use std::alloc::{AllocError, Global};
 use warm_reboot::{BootError, BootFail, BootReport, boot, examine};
 
@@ -444,6 +444,6 @@ fn served<M: Machine>(alloc: Global, core: Core<M>, source: &mut MemSource, sink
     requires holds { (s : State) × ⟦<Core<M> as Server>⟧.holds core s }
 {
     let mut core = core;
-    let _end = serve_with(alloc, &mut core, source, sink, false);
+    let _end = serve_until_end(alloc, &mut core, source, sink, false);
     core.into_machine()
 }

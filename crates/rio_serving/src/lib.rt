@@ -10,4 +10,4 @@ mod waiting;
 pub use effects::Effect;
 pub use ends::{LinesEnd, ServeEnd};
 pub use server::Server;
-pub use serving::serve_with;
+pub use serving::serve_until_end;

@@ -22,7 +22,7 @@ use std::alloc::Global;
 /// requests that do nothing may wait, as long as the next line is held already, for further ones to be written with them: until
 /// a request that may do something, and always before the source is asked for more. That needs a machine that stops none of
 /// them, so it ends at the first request that may arm a store.
-pub fn serve_with<C: Server, S: Source, K: Sink>(
+pub fn serve_until_end<C: Server, S: Source, K: Sink>(
     alloc: Global,
     core: &mut C,
     source: &mut S,

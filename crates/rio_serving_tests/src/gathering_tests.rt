@@ -5,7 +5,7 @@ use crate::bounded::Bounded;
 use crate::lamp::Lamp;
 use crate::same::same;
 use rio_fakes::MemSource;
-use rio_serving::{ServeEnd, serve_with};
+use rio_serving::{ServeEnd, serve_until_end};
 use std::alloc::Global;
 use std::process::Abort;
 use std::test::Fail;
@@ -113,7 +113,7 @@ fn served(
     let mut lamp = Lamp::new();
     let mut source = MemSource::new(alloc, input, piece.max(1))?;
     let mut sink = Bounded::new(alloc, most);
-    let end = serve_with(alloc, &mut lamp, &mut source, &mut sink, gathers);
+    let end = serve_until_end(alloc, &mut lamp, &mut source, &mut sink, gathers);
     Ok(Came { end, sink })
 }
 

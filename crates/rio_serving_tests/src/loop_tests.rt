@@ -3,7 +3,7 @@
 use crate::lamp::Lamp;
 use crate::same::same;
 use rio_fakes::{MemSink, MemSource};
-use rio_serving::{ServeEnd, serve_with};
+use rio_serving::{ServeEnd, serve_until_end};
 use std::alloc::Global;
 use std::process::Abort;
 use std::test::Fail;
@@ -66,7 +66,7 @@ fn served(alloc: Global, row: &Row, gathers: bool) -> Result<(ServeEnd, Vec<u8>)
     if row.3 > 0 {
         sink.fail_call(row.3)?;
     }
-    let end = serve_with(alloc, &mut lamp, &mut source, &mut sink, gathers);
+    let end = serve_until_end(alloc, &mut lamp, &mut source, &mut sink, gathers);
     Ok((end, sink.bytes().clone()?))
 }
 

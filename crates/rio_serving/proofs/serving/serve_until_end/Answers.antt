@@ -2,7 +2,7 @@ use Rattle.std.proofs.Common.{refl, le_refl}
 use Rattle.rio_base.specs.Rules.{limit_refl}
 use Rattle.rio_serving.proofs.Leaving.{memory_no_sink, memory_no_source, memory_no_stop, stop_no_sink, stop_no_source}
 use Rattle.rio_serving.proofs.Turns.{each_none, limit_kept}
-use Rattle.rio_serving.proofs.serving.serve_with.Goals as goal
+use Rattle.rio_serving.proofs.serving.serve_until_end.Goals as goal
 
 pub returns-in_default-clause-run : goal.returns-in_default-clause-run
 returns-in_default-clause-run g c =
