@@ -55,7 +55,7 @@ fn walk_to_file<V: Volume>(
 }
 
 /// Writes bytes to a file from byte `off` on.
-pub fn write_with<V: Volume>(
+pub fn write<V: Volume>(
     alloc: Global,
     v: &mut V,
     shape: &VolumeShape,
@@ -75,12 +75,12 @@ pub fn write_with<V: Volume>(
     ensures sound { V.sound v.new }
 {
     let (i, inode) = walk_to_file(v, shape, memo, path)?;
-    let count = file_pages::write_with(alloc, v, shape, i, &inode, off, bytes)?;
+    let count = file_pages::write_at_inode(alloc, v, shape, i, &inode, off, bytes)?;
     Ok(count)
 }
 
 /// Gives a file another size.
-pub fn truncate_with<V: Volume>(
+pub fn truncate<V: Volume>(
     alloc: Global,
     v: &mut V,
     shape: &VolumeShape,
@@ -100,12 +100,12 @@ pub fn truncate_with<V: Volume>(
     ensures sound { V.sound v.new }
 {
     let (i, inode) = walk_to_file(v, shape, memo, path)?;
-    file_pages::resize_with(alloc, v, shape, i, &inode, len)?;
+    file_pages::resize_at_inode(alloc, v, shape, i, &inode, len)?;
     Ok(())
 }
 
 /// Bytes of a file from byte `off` on.
-pub fn read_with<V: Volume>(
+pub fn read<V: Volume>(
     alloc: Global,
     v: &mut V,
     shape: &VolumeShape,
@@ -125,6 +125,6 @@ pub fn read_with<V: Volume>(
     ensures sound { V.sound v.new }
 {
     let (i, inode) = walk_to_file(v, shape, memo, path)?;
-    let bytes = file_pages::read_with(alloc, v, shape, i, &inode, off, len)?;
+    let bytes = file_pages::read_at_inode(alloc, v, shape, i, &inode, off, len)?;
     Ok(bytes)
 }

@@ -15,6 +15,6 @@ mod updating;
 mod writing;
 
 pub use pieces::{fill_words, stored_bytes};
-pub use reading::{read, read_with};
-pub use resizing::{resize, resize_with};
-pub use writing::{write, write_with};
+pub use reading::{read, read_at_inode};
+pub use resizing::{resize, resize_at_inode};
+pub use writing::{write, write_at_inode};

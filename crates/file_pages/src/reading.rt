@@ -293,7 +293,7 @@ fn read_bytes<V: Blocks>(
 }
 
 /// Bytes of file `i`, which has this inode, from `off` on: `len` of them, or as many as it has.
-pub fn read_with<V: Blocks>(
+pub fn read_at_inode<V: Blocks>(
     alloc: Global,
     v: &mut V,
     shape: &VolumeShape,
@@ -343,5 +343,5 @@ pub fn read<V: Blocks>(
     ensures sound { V.sound v.new }
 {
     let inode = look_inode(v, shape, i)?;
-    read_with(alloc, v, shape, i, &inode, off, len)
+    read_at_inode(alloc, v, shape, i, &inode, off, len)
 }

@@ -123,7 +123,7 @@ fn size_at<V: Volume>(
 /// `NoSpace` comes exactly where fewer blocks are free than the file would take, and blocks that it frees itself are not
 /// among them; `TooLarge` exactly where no file can have so many bytes. After these and `Memory` nothing has changed, and
 /// after `Fault` the file has its old bytes. `Stopped` leaves all of the change standing, or nothing of it.
-pub fn resize_with<V: Volume>(
+pub fn resize_at_inode<V: Volume>(
     alloc: Global,
     v: &mut V,
     shape: &VolumeShape,
@@ -182,5 +182,5 @@ pub fn resize<V: Volume>(
         return Err(SizeFail::TooLarge);
     }
     let inode = look_inode(v, shape, i)?;
-    resize_with(alloc, v, shape, i, &inode, len)
+    resize_at_inode(alloc, v, shape, i, &inode, len)
 }

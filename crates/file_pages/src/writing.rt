@@ -60,7 +60,7 @@ fn write_at<V: Volume>(
 /// `NoSpace` comes exactly where fewer blocks are free than the file would take, and `TooLarge` exactly where no file can
 /// have so many bytes. After these and `Memory` nothing has changed. `Fault` leaves the first `done` bytes, all of them over
 /// bytes that the file had; `Stopped` leaves such a leading part, or all, or nothing of the write.
-pub fn write_with<V: Volume>(
+pub fn write_at_inode<V: Volume>(
     alloc: Global,
     v: &mut V,
     shape: &VolumeShape,
@@ -130,5 +130,5 @@ pub fn write<V: Volume>(
         return Err(WriteFail::TooLarge);
     }
     let inode = look_inode(v, shape, i)?;
-    write_with(alloc, v, shape, i, &inode, off, bytes)
+    write_at_inode(alloc, v, shape, i, &inode, off, bytes)
 }

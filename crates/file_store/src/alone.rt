@@ -18,12 +18,10 @@ ghost use Rattle.file_tree.specs.Walks.{ino_numbers};
 ghost use Rattle.rio_base.specs.Layout.{IsIno};
 ghost use Rattle.node_making.specs.NewRegions.{FindsRegion};
 
-use file_data::{read_with, truncate_with, write_with};
 use file_ends::FileFail;
 use file_tree::Memo;
 use name_list::NameList;
-use node_making::{create_with, list_with, make_region_with, mkdir_with, region_at, stat_with};
-use node_moving::{rename_with, rmdir_with, unlink_with};
+use node_making::region_at;
 use rio_base::{Ino, InoList, Octets, Volume, VolumeShape};
 use std::alloc::Global;
 
@@ -44,7 +42,7 @@ pub fn mkdir<V: Volume>(
     ensures sound { V.sound v.new }
 {
     let mut memo = Memo::none();
-    mkdir_with(alloc, v, shape, &mut memo, path)
+    node_making::mkdir(alloc, v, shape, &mut memo, path)
 }
 
 /// Makes a file without bytes.
@@ -64,7 +62,7 @@ pub fn create<V: Volume>(
     ensures sound { V.sound v.new }
 {
     let mut memo = Memo::none();
-    create_with(alloc, v, shape, &mut memo, path)
+    node_making::create(alloc, v, shape, &mut memo, path)
 }
 
 /// Makes a region of so many data pages of zeros and undo pages, at a path.
@@ -88,7 +86,7 @@ pub fn make_region<V: Volume>(
     ensures sound { V.sound v.new }
 {
     let mut memo = Memo::none();
-    make_region_with(alloc, v, shape, &mut memo, path, data_pages, undo_pages)
+    node_making::make_region(alloc, v, shape, &mut memo, path, data_pages, undo_pages)
 }
 
 /// The inode of the region at a path. Takes no memory.
@@ -130,7 +128,7 @@ pub fn write<V: Volume>(
     ensures sound { V.sound v.new }
 {
     let mut memo = Memo::none();
-    write_with(alloc, v, shape, &mut memo, path, off, bytes)
+    file_data::write(alloc, v, shape, &mut memo, path, off, bytes)
 }
 
 /// Bytes of a file from byte `off` on.
@@ -151,7 +149,7 @@ pub fn read<V: Volume>(
     ensures sound { V.sound v.new }
 {
     let mut memo = Memo::none();
-    read_with(alloc, v, shape, &mut memo, path, off, len)
+    file_data::read(alloc, v, shape, &mut memo, path, off, len)
 }
 
 /// Gives a file another size.
@@ -172,7 +170,7 @@ pub fn truncate<V: Volume>(
     ensures sound { V.sound v.new }
 {
     let mut memo = Memo::none();
-    truncate_with(alloc, v, shape, &mut memo, path, len)
+    file_data::truncate(alloc, v, shape, &mut memo, path, len)
 }
 
 /// Removes a file or a region.
@@ -193,7 +191,7 @@ pub fn unlink<V: Volume>(
     ensures sound { V.sound v.new }
 {
     let mut memo = Memo::none();
-    unlink_with(alloc, v, shape, &mut memo, path, busy)
+    node_moving::unlink(alloc, v, shape, &mut memo, path, busy)
 }
 
 /// Removes a directory without names.
@@ -213,7 +211,7 @@ pub fn rmdir<V: Volume>(
     ensures sound { V.sound v.new }
 {
     let mut memo = Memo::none();
-    rmdir_with(alloc, v, shape, &mut memo, path)
+    node_moving::rmdir(alloc, v, shape, &mut memo, path)
 }
 
 /// Moves a name to another path. A file or region that has it is removed, and its blocks become free.
@@ -236,7 +234,7 @@ pub fn rename<V: Volume>(
     ensures sound { V.sound v.new }
 {
     let mut memo = Memo::none();
-    rename_with(alloc, v, shape, &mut memo, path, to, busy)
+    node_moving::rename(alloc, v, shape, &mut memo, path, to, busy)
 }
 
 /// Inode number, kind and size of the node at a path.
@@ -255,7 +253,7 @@ pub fn stat<V: Volume>(
     ensures sound { V.sound v.new }
 {
     let mut memo = Memo::none();
-    stat_with(alloc, v, shape, &mut memo, path)
+    node_making::stat(alloc, v, shape, &mut memo, path)
 }
 
 /// All names of the directory at a path, in byte order.
@@ -274,5 +272,5 @@ pub fn list<V: Volume>(
     ensures sound { V.sound v.new }
 {
     let mut memo = Memo::none();
-    list_with(alloc, v, shape, &mut memo, path)
+    node_making::list(alloc, v, shape, &mut memo, path)
 }

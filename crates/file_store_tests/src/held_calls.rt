@@ -11,10 +11,10 @@ use crate::answers::{
 };
 use crate::asks::{Ask, Row, Want, numbered, path_of};
 use crate::calls::{block_as, free_as};
-use file_data::{read_with, truncate_with, write_with};
+use file_data::{read, truncate, write};
 use file_tree::Memo;
-use node_making::{create_with, list_with, make_region_with, mkdir_with, region_at, stat_with};
-use node_moving::{rename_with, rmdir_with, unlink_with};
+use node_making::{create, list, make_region, mkdir, region_at, stat};
+use node_moving::{rename, rmdir, unlink};
 use request_codec::is_path;
 use rio_base::{InoList, Stopped, VolumeShape};
 use rio_fakes::ListVolume;
@@ -37,7 +37,7 @@ fn create_held(
     if !is_path(path) {
         return Ok(false);
     }
-    let answer = create_with(alloc, v, shape, memo, path);
+    let answer = create(alloc, v, shape, memo, path);
     node_is_due(answer, want)
 }
 
@@ -58,7 +58,7 @@ fn write_held(
     ensures follows { FollowsHeld shape.now (list_seen v.new) (list_kept v.new) memo.new result }
     ensures sound { ListSound v.new }
 {
-    let answer = write_with(alloc, v, shape, memo, path, off, bytes);
+    let answer = write(alloc, v, shape, memo, path, off, bytes);
     count_is_due(answer, want)
 }
 
@@ -103,7 +103,7 @@ fn unlink_held(
     ensures sound { ListSound v.new }
 {
     let busy = InoList::from(Vec::new(alloc));
-    let answer = unlink_with(alloc, v, shape, memo, path, &busy);
+    let answer = unlink(alloc, v, shape, memo, path, &busy);
     done_is_due(answer, want)
 }
 
@@ -130,7 +130,7 @@ fn region_held(
     if undo_pages == 0 {
         return Ok(false);
     }
-    let answer = make_region_with(alloc, v, shape, memo, path, data_pages, undo_pages);
+    let answer = make_region(alloc, v, shape, memo, path, data_pages, undo_pages);
     node_is_due(answer, want)
 }
 
@@ -154,7 +154,7 @@ fn rename_held(
         return Ok(false);
     }
     let busy = InoList::from(Vec::new(alloc));
-    let answer = rename_with(alloc, v, shape, memo, path, to, &busy);
+    let answer = rename(alloc, v, shape, memo, path, to, &busy);
     done_is_due(answer, want)
 }
 
@@ -203,10 +203,10 @@ fn names_held(
     ensures sound { ListSound v.new }
 {
     match ask {
-        Ask::Mkdir(_) => node_is_due(mkdir_with(alloc, v, shape, memo, path), want),
+        Ask::Mkdir(_) => node_is_due(mkdir(alloc, v, shape, memo, path), want),
         Ask::Create(_) => create_held(alloc, v, shape, memo, path, want),
-        Ask::Rmdir(_) => done_is_due(rmdir_with(alloc, v, shape, memo, path), want),
-        Ask::List(_) => names_are_due(list_with(alloc, v, shape, memo, path), want),
+        Ask::Rmdir(_) => done_is_due(rmdir(alloc, v, shape, memo, path), want),
+        Ask::List(_) => names_are_due(list(alloc, v, shape, memo, path), want),
         // Not reached: other requests are made elsewhere.
         _ => Ok(false),
     }
@@ -232,10 +232,10 @@ fn bytes_held(
     match ask {
         Ask::Write(_, off, bytes) => write_held(alloc, v, shape, memo, path, off, bytes, want),
         Ask::Read(_, off, len) => {
-            bytes_are_due(read_with(alloc, v, shape, memo, path, off, len), want)
+            bytes_are_due(read(alloc, v, shape, memo, path, off, len), want)
         }
-        Ask::Truncate(_, len) => done_is_due(truncate_with(alloc, v, shape, memo, path, len), want),
-        Ask::Stat(_) => stat_is_due(stat_with(alloc, v, shape, memo, path), want),
+        Ask::Truncate(_, len) => done_is_due(truncate(alloc, v, shape, memo, path, len), want),
+        Ask::Stat(_) => stat_is_due(stat(alloc, v, shape, memo, path), want),
         _ => names_held(alloc, v, shape, memo, path, ask, want),
     }
 }

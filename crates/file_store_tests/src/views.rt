@@ -12,7 +12,7 @@ use crate::asks::Row;
 use crate::playing::volume_after;
 use file_ends::FileFail;
 use file_tree::Memo;
-use node_making::stand_at_with;
+use node_making::stand_at;
 use region_view::RegionView;
 use request_codec::is_path;
 use rio_base::{Ino, RegionWords, RunFail, VolFail};
@@ -75,7 +75,7 @@ pub(crate) fn stand_on(view: &mut RegionView<ListVolume>, path: &[u8]) -> Result
     ensures sound { ListSound view.new.v }
 {
     let mut memo = Memo::none();
-    stand_at_with(view, &mut memo, path)
+    stand_at(view, &mut memo, path)
 }
 
 /// A view that stands on the region at a path, which must be this node.

@@ -51,7 +51,7 @@ fn region_bytes<V: Volume>(v: &mut V, shape: &VolumeShape, i: Ino) -> Result<u64
 }
 
 /// Inode number, kind and size of the node at a path.
-pub fn stat_with<V: Volume>(
+pub fn stat<V: Volume>(
     alloc: Global,
     v: &mut V,
     shape: &VolumeShape,
@@ -79,7 +79,7 @@ pub fn stat_with<V: Volume>(
 }
 
 /// All names of the directory at a path, in byte order.
-pub fn list_with<V: Volume>(
+pub fn list<V: Volume>(
     alloc: Global,
     v: &mut V,
     shape: &VolumeShape,

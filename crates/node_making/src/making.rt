@@ -84,7 +84,7 @@ fn make<V: Volume>(
 }
 
 /// Makes a directory without names.
-pub fn mkdir_with<V: Volume>(
+pub fn mkdir<V: Volume>(
     alloc: Global,
     v: &mut V,
     shape: &VolumeShape,
@@ -106,7 +106,7 @@ pub fn mkdir_with<V: Volume>(
 }
 
 /// Makes a file without bytes.
-pub fn create_with<V: Volume>(
+pub fn create<V: Volume>(
     alloc: Global,
     v: &mut V,
     shape: &VolumeShape,

@@ -174,7 +174,7 @@ pub fn make_region_row<V: Volume>(
 }
 
 /// Makes a region of so many data pages of zeros and undo pages, at a path.
-pub fn make_region_with<V: Volume>(
+pub fn make_region<V: Volume>(
     alloc: Global,
     v: &mut V,
     shape: &VolumeShape,

@@ -21,7 +21,7 @@ use rio_base::{Ino, Volume};
 
 /// Makes a view stand on the region at a path: reads its inode once, and looks names up where they are held. After a failure it
 /// stands on the region that it stood on, if any.
-pub fn stand_at_with<V: Volume>(
+pub fn stand_at<V: Volume>(
     view: &mut RegionView<V>,
     memo: &mut Memo,
     path: &[u8],

@@ -103,7 +103,7 @@ fn take_row<V: Volume>(
 }
 
 /// Removes a file or a region.
-pub fn unlink_with<V: Volume>(
+pub fn unlink<V: Volume>(
     alloc: Global,
     v: &mut V,
     shape: &VolumeShape,
@@ -138,7 +138,7 @@ pub fn unlink_with<V: Volume>(
 }
 
 /// Removes a directory without names.
-pub fn rmdir_with<V: Volume>(
+pub fn rmdir<V: Volume>(
     alloc: Global,
     v: &mut V,
     shape: &VolumeShape,

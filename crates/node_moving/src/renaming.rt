@@ -142,7 +142,7 @@ fn rename_row<V: Volume>(
 }
 
 /// Moves a name to another path. A file or region that has it is removed, and its blocks become free.
-pub fn rename_with<V: Volume>(
+pub fn rename<V: Volume>(
     alloc: Global,
     v: &mut V,
     shape: &VolumeShape,

@@ -14,10 +14,10 @@ use crate::replies::{
     BAD_REQUEST, NO_MEMORY, bytes_reply, count_reply, done_reply, ino_reply, names_reply,
     stat_reply,
 };
-use file_data::{read_with, truncate_with, write_with};
+use file_data::{read, truncate, write};
 use file_tree::Memo;
-use node_making::{create_with, list_with, make_region_with, mkdir_with, stat_with};
-use node_moving::{rename_with, rmdir_with, unlink_with};
+use node_making::{create, list, make_region, mkdir, stat};
+use node_moving::{rename, rmdir, unlink};
 use rio_base::{Stopped, Volume, VolumeShape};
 use rio_requests::{Reply, Request};
 use std::alloc::Global;
@@ -45,9 +45,9 @@ fn answer_on<V: Volume>(
     ensures sound { V.sound v.new }
 {
     match request {
-        Request::Mkdir { path } => ino_reply(mkdir_with(alloc, v, shape, memo, path.as_slice())),
-        Request::Create { path } => ino_reply(create_with(alloc, v, shape, memo, path.as_slice())),
-        Request::Write { path, off, bytes } => count_reply(write_with(
+        Request::Mkdir { path } => ino_reply(mkdir(alloc, v, shape, memo, path.as_slice())),
+        Request::Create { path } => ino_reply(create(alloc, v, shape, memo, path.as_slice())),
+        Request::Write { path, off, bytes } => count_reply(write(
             alloc,
             v,
             shape,
@@ -57,16 +57,16 @@ fn answer_on<V: Volume>(
             bytes.as_slice(),
         )),
         Request::Read { path, off, len } => {
-            bytes_reply(read_with(alloc, v, shape, memo, path.as_slice(), *off, *len))
+            bytes_reply(read(alloc, v, shape, memo, path.as_slice(), *off, *len))
         }
         Request::Truncate { path, len } => {
-            done_reply(truncate_with(alloc, v, shape, memo, path.as_slice(), *len))
+            done_reply(truncate(alloc, v, shape, memo, path.as_slice(), *len))
         }
         Request::Region {
             path,
             data_pages,
             undo_pages,
-        } => ino_reply(make_region_with(
+        } => ino_reply(make_region(
             alloc,
             v,
             shape,
@@ -75,7 +75,7 @@ fn answer_on<V: Volume>(
             *data_pages,
             *undo_pages,
         )),
-        Request::Stat { path } => stat_reply(stat_with(alloc, v, shape, memo, path.as_slice())),
+        Request::Stat { path } => stat_reply(stat(alloc, v, shape, memo, path.as_slice())),
         _ => answer_by_name(alloc, v, shape, memo, table, request),
     }
 }
@@ -103,12 +103,12 @@ fn answer_by_name<V: Volume>(
 {
     match request {
         Request::Unlink { path } => match table.open_list(alloc) {
-            Ok(busy) => done_reply(unlink_with(alloc, v, shape, memo, path.as_slice(), &busy)),
+            Ok(busy) => done_reply(unlink(alloc, v, shape, memo, path.as_slice(), &busy)),
             Err(_) => Ok(Reply::Err(NO_MEMORY)),
         },
-        Request::Rmdir { path } => done_reply(rmdir_with(alloc, v, shape, memo, path.as_slice())),
+        Request::Rmdir { path } => done_reply(rmdir(alloc, v, shape, memo, path.as_slice())),
         Request::Rename { path, to } => match table.open_list(alloc) {
-            Ok(busy) => done_reply(rename_with(
+            Ok(busy) => done_reply(rename(
                 alloc,
                 v,
                 shape,
@@ -119,7 +119,7 @@ fn answer_by_name<V: Volume>(
             )),
             Err(_) => Ok(Reply::Err(NO_MEMORY)),
         },
-        Request::List { path } => names_reply(list_with(alloc, v, shape, memo, path.as_slice())),
+        Request::List { path } => names_reply(list(alloc, v, shape, memo, path.as_slice())),
         // Not reached: other requests are answered elsewhere.
         _ => Ok(Reply::Err(BAD_REQUEST)),
     }

@@ -17,7 +17,7 @@ ghost use Rattle.rio_core.specs.Serving.{RequestEnds, Serves, TellsFault};
 
 use crate::replies::{BAD_REQUEST, begin_reply, fail_reply, get_reply, number_reply, txn_reply};
 use file_tree::Memo;
-use node_making::stand_at_with;
+use node_making::stand_at;
 use region_view::RegionView;
 use rio_base::{Stopped, Volume};
 use rio_requests::{Reply, Request};
@@ -46,7 +46,7 @@ pub fn answer_region<V: Volume>(
     ensures ends { EndsBy (V.health view.old.v) (V.health view.new.v) (TellsFault result) (IsErr result) }
     ensures sound { V.sound view.new.v }
 {
-    match stand_at_with(view, memo, path) {
+    match stand_at(view, memo, path) {
         Ok(_) => answer_at(alloc, view, table, request),
         Err(fail) => fail_reply(fail),
     }

@@ -7,33 +7,33 @@ use Rattle.file_pages.proofs.reading.read.Goals as goal
 pub returns-in_err-inode-clause-named : goal.returns-in_err-inode-clause-named
 returns-in_err-inode-clause-named g c = named_on c.args.shape.now (g.V.Blocks.seen c.args.v.now) _ c.requires.mapped c.requires.named c.look_inode.ensures.looks
 
-pub read_with-requires-clause-mapped : goal.read_with-requires-clause-mapped
-read_with-requires-clause-mapped g c = subst (IsMapped c.args.shape.now) (sym c.look_inode.ensures.looks.looks.words) c.requires.mapped
+pub read_at_inode-requires-clause-mapped : goal.read_at_inode-requires-clause-mapped
+read_at_inode-requires-clause-mapped g c = subst (IsMapped c.args.shape.now) (sym c.look_inode.ensures.looks.looks.words) c.requires.mapped
 
-pub read_with-requires-clause-named : goal.read_with-requires-clause-named
-read_with-requires-clause-named g c =
+pub read_at_inode-requires-clause-named : goal.read_at_inode-requires-clause-named
+read_at_inode-requires-clause-named g c =
     let shape = c.args.shape.now in
     let y = g.V.Blocks.seen c.look_inode.new.v in
     let looks = c.look_inode.ensures.looks in
     subst (λ f. AllNamed (volume_layout shape f) y) (sym looks.looks.words) (named_on shape (g.V.Blocks.seen c.args.v.now) y c.requires.mapped c.requires.named looks)
 
-pub read_with-requires-clause-file : goal.read_with-requires-clause-file
-read_with-requires-clause-file g c = subst (λ f. (held_of c.args.shape.now f c.args.i.0).kind ≡ 2) (sym c.look_inode.ensures.looks.looks.words) c.requires.file
+pub read_at_inode-requires-clause-file : goal.read_at_inode-requires-clause-file
+read_at_inode-requires-clause-file g c = subst (λ f. (held_of c.args.shape.now f c.args.i.0).kind ≡ 2) (sym c.look_inode.ensures.looks.looks.words) c.requires.file
 
-pub read_with-requires-clause-inode : goal.read_with-requires-clause-inode
-read_with-requires-clause-inode g c = subst (λ f. IsInode f c.args.i.0 c.in_ok-inode.inode) (sym c.look_inode.ensures.looks.looks.words) c.in_ok-inode.ensures.value
+pub read_at_inode-requires-clause-inode : goal.read_at_inode-requires-clause-inode
+read_at_inode-requires-clause-inode g c = subst (λ f. IsInode f c.args.i.0 c.in_ok-inode.inode) (sym c.look_inode.ensures.looks.looks.words) c.in_ok-inode.ensures.value
 
 pub returns-clause-value : goal.returns-clause-value
-returns-clause-value g c = subst (λ f. IfOk c.read_with.result (λ bytes. bytes ≡ take c.args.len (drop c.args.off (file_bytes c.args.shape.now f c.args.i.0)))) c.look_inode.ensures.looks.looks.words c.read_with.ensures.value
+returns-clause-value g c = subst (λ f. IfOk c.read_at_inode.result (λ bytes. bytes ≡ take c.args.len (drop c.args.off (file_bytes c.args.shape.now f c.args.i.0)))) c.look_inode.ensures.looks.looks.words c.read_at_inode.ensures.value
 
 pub returns-clause-looks : goal.returns-clause-looks
-returns-clause-looks g c = looks_trans _ _ _ c.look_inode.ensures.looks.looks c.read_with.ensures.looks
+returns-clause-looks g c = looks_trans _ _ _ c.look_inode.ensures.looks.looks c.read_at_inode.ensures.looks
 
 pub returns-clause-named : goal.returns-clause-named
-returns-clause-named g c = subst (λ f. AllNamed (volume_layout c.args.shape.now f) (g.V.Blocks.seen c.read_with.new.v)) c.look_inode.ensures.looks.looks.words c.read_with.ensures.named
+returns-clause-named g c = subst (λ f. AllNamed (volume_layout c.args.shape.now f) (g.V.Blocks.seen c.read_at_inode.new.v)) c.look_inode.ensures.looks.looks.words c.read_at_inode.ensures.named
 
 pub returns-clause-passes : goal.returns-clause-passes
-returns-clause-passes g c = g.met.V.Blocks.passes_trans _ _ _ c.look_inode.ensures.passes c.read_with.ensures.passes
+returns-clause-passes g c = g.met.V.Blocks.passes_trans _ _ _ c.look_inode.ensures.passes c.read_at_inode.ensures.passes
 
 pub returns-clause-ends : goal.returns-clause-ends
-returns-clause-ends g c = ends_by_after _ _ _ _ _ c.look_inode.ensures.ends.later c.in_ok-inode.ensures.ends.cause c.read_with.ensures.ends
+returns-clause-ends g c = ends_by_after _ _ _ _ _ c.look_inode.ensures.ends.later c.in_ok-inode.ensures.ends.cause c.read_at_inode.ensures.ends

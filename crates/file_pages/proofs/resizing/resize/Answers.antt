@@ -56,11 +56,11 @@ look_inode-requires-clause-ino g c = file_ino c.args.shape.now (g.V.Blocks.seen 
 pub look_inode-requires-clause-can : goal.look_inode-requires-clause-can
 look_inode-requires-clause-can g c = can_look_up c.args.shape.now _ c.requires.ready.order.has_shape c.requires.ready.order.mapped c.requires.ready.order.named
 
-pub resize_with-requires-clause-sound : goal.resize_with-requires-clause-sound
-resize_with-requires-clause-sound g c = c.look_inode.ensures.sound
+pub resize_at_inode-requires-clause-sound : goal.resize_at_inode-requires-clause-sound
+resize_at_inode-requires-clause-sound g c = c.look_inode.ensures.sound
 
-pub resize_with-requires-clause-ready : goal.resize_with-requires-clause-ready
-resize_with-requires-clause-ready g c =
+pub resize_at_inode-requires-clause-ready : goal.resize_at_inode-requires-clause-ready
+resize_at_inode-requires-clause-ready g c =
     let shape = c.args.shape.now in
     let x = g.V.Blocks.seen c.args.v.now in
     let k = g.V.Volume.kept c.args.v.now in
@@ -69,11 +69,11 @@ resize_with-requires-clause-ready g c =
     let looked : LeavesInUse (volume_layout shape x.words) x k z l = leaves_looked shape _ _ _ _ x z k l c.requires.ready c.look_inode.ensures.looks (g.met.V.Volume.passes_keeps _ _ c.look_inode.ensures.passes) in
     ready_left shape x k z l c.requires.ready looked
 
-pub resize_with-requires-clause-inode : goal.resize_with-requires-clause-inode
-resize_with-requires-clause-inode g c = subst (λ f. IsInode f c.args.i.0 c.in_ok-inode.inode) (sym c.look_inode.ensures.looks.looks.words) c.in_ok-inode.ensures.value
+pub resize_at_inode-requires-clause-inode : goal.resize_at_inode-requires-clause-inode
+resize_at_inode-requires-clause-inode g c = subst (λ f. IsInode f c.args.i.0 c.in_ok-inode.inode) (sym c.look_inode.ensures.looks.looks.words) c.in_ok-inode.ensures.value
 
-pub resize_with-requires-clause-file : goal.resize_with-requires-clause-file
-resize_with-requires-clause-file g c = subst (λ f. (held_of c.args.shape.now f c.args.i.0).kind ≡ 2) (sym c.look_inode.ensures.looks.looks.words) c.requires.file
+pub resize_at_inode-requires-clause-file : goal.resize_at_inode-requires-clause-file
+resize_at_inode-requires-clause-file g c = subst (λ f. (held_of c.args.shape.now f c.args.i.0).kind ≡ 2) (sym c.look_inode.ensures.looks.looks.words) c.requires.file
 
 pub returns-in_err-inode-clause-ok : goal.returns-in_err-inode-clause-ok
 returns-in_err-inode-clause-ok g c = if_err c.from_residual.result _ c.from_residual.ensures.0
@@ -148,16 +148,16 @@ pub returns-in_err-inode-clause-sound : goal.returns-in_err-inode-clause-sound
 returns-in_err-inode-clause-sound g c = c.look_inode.ensures.sound
 
 pub returns-clause-ok : goal.returns-clause-ok
-returns-clause-ok g c = subst (λ f. OnOk c.resize_with.result (SetsBoth c.args.shape.now f (g.V.Blocks.seen c.resize_with.new.v) (g.V.Volume.kept c.resize_with.new.v) c.args.i.0 (resized (file_bytes c.args.shape.now f c.args.i.0) c.args.len))) c.look_inode.ensures.looks.looks.words c.resize_with.ensures.ok
+returns-clause-ok g c = subst (λ f. OnOk c.resize_at_inode.result (SetsBoth c.args.shape.now f (g.V.Blocks.seen c.resize_at_inode.new.v) (g.V.Volume.kept c.resize_at_inode.new.v) c.args.i.0 (resized (file_bytes c.args.shape.now f c.args.i.0) c.args.len))) c.look_inode.ensures.looks.looks.words c.resize_at_inode.ensures.ok
 
 pub returns-clause-space : goal.returns-clause-space
-returns-clause-space g c = subst (λ f. OnOk c.resize_with.result (HasSpace c.args.shape.now f (length (file_bytes c.args.shape.now f c.args.i.0)) c.args.len)) c.look_inode.ensures.looks.looks.words c.resize_with.ensures.space
+returns-clause-space g c = subst (λ f. OnOk c.resize_at_inode.result (HasSpace c.args.shape.now f (length (file_bytes c.args.shape.now f c.args.i.0)) c.args.len)) c.look_inode.ensures.looks.looks.words c.resize_at_inode.ensures.space
 
 pub returns-clause-too_large : goal.returns-clause-too_large
-returns-clause-too_large g c = c.resize_with.ensures.too_large
+returns-clause-too_large g c = c.resize_at_inode.ensures.too_large
 
 pub returns-clause-no_space : goal.returns-clause-no_space
-returns-clause-no_space g c = λ is. subst (λ f. (c.args.len ≤ largest_size) × (length (free_blocks c.args.shape.now f) < wanted_blocks (length (file_bytes c.args.shape.now f c.args.i.0)) c.args.len)) c.look_inode.ensures.looks.looks.words (c.resize_with.ensures.no_space is)
+returns-clause-no_space g c = λ is. subst (λ f. (c.args.len ≤ largest_size) × (length (free_blocks c.args.shape.now f) < wanted_blocks (length (file_bytes c.args.shape.now f c.args.i.0)) c.args.len)) c.look_inode.ensures.looks.looks.words (c.resize_at_inode.ensures.no_space is)
 
 pub returns-clause-refused : goal.returns-clause-refused
 returns-clause-refused g c =
@@ -167,25 +167,25 @@ returns-clause-refused g c =
     let z = g.V.Blocks.seen c.look_inode.new.v in
     let l = g.V.Volume.kept c.look_inode.new.v in
     let looked : LeavesInUse (volume_layout shape x.words) x k z l = leaves_looked shape _ _ _ _ x z k l c.requires.ready c.look_inode.ensures.looks (g.met.V.Volume.passes_keeps _ _ c.look_inode.ensures.passes) in
-    λ is. leaves_trans shape x k z l (g.V.Blocks.seen c.resize_with.new.v) (g.V.Volume.kept c.resize_with.new.v) c.requires.ready looked (c.resize_with.ensures.refused is)
+    λ is. leaves_trans shape x k z l (g.V.Blocks.seen c.resize_at_inode.new.v) (g.V.Volume.kept c.resize_at_inode.new.v) c.requires.ready looked (c.resize_at_inode.ensures.refused is)
 
 pub returns-clause-fault : goal.returns-clause-fault
-returns-clause-fault g c = λ is. subst (λ f. SetsBoth c.args.shape.now f (g.V.Blocks.seen c.resize_with.new.v) (g.V.Volume.kept c.resize_with.new.v) c.args.i.0 (file_bytes c.args.shape.now f c.args.i.0)) c.look_inode.ensures.looks.looks.words (c.resize_with.ensures.fault is)
+returns-clause-fault g c = λ is. subst (λ f. SetsBoth c.args.shape.now f (g.V.Blocks.seen c.resize_at_inode.new.v) (g.V.Volume.kept c.resize_at_inode.new.v) c.args.i.0 (file_bytes c.args.shape.now f c.args.i.0)) c.look_inode.ensures.looks.looks.words (c.resize_at_inode.ensures.fault is)
 
 pub returns-clause-stopped : goal.returns-clause-stopped
-returns-clause-stopped g c = λ is. subst (λ f. StopsAs c.args.shape.now f (g.V.Blocks.seen c.resize_with.new.v) (g.V.Volume.kept c.resize_with.new.v) c.args.i.0 (ResizeStops c.args.shape.now f c.args.i.0 c.args.len)) c.look_inode.ensures.looks.looks.words (c.resize_with.ensures.stopped is)
+returns-clause-stopped g c = λ is. subst (λ f. StopsAs c.args.shape.now f (g.V.Blocks.seen c.resize_at_inode.new.v) (g.V.Volume.kept c.resize_at_inode.new.v) c.args.i.0 (ResizeStops c.args.shape.now f c.args.i.0 c.args.len)) c.look_inode.ensures.looks.looks.words (c.resize_at_inode.ensures.stopped is)
 
 pub returns-clause-ready : goal.returns-clause-ready
-returns-clause-ready g c = c.resize_with.ensures.ready
+returns-clause-ready g c = c.resize_at_inode.ensures.ready
 
 pub returns-clause-forgets : goal.returns-clause-forgets
-returns-clause-forgets g c = subst (λ f. OnOk c.resize_with.result (Forgets (volume_layout c.args.shape.now f) (volume_layout c.args.shape.now (g.V.Blocks.seen c.resize_with.new.v).words) (g.V.Blocks.seen c.resize_with.new.v))) c.look_inode.ensures.looks.looks.words c.resize_with.ensures.forgets
+returns-clause-forgets g c = subst (λ f. OnOk c.resize_at_inode.result (Forgets (volume_layout c.args.shape.now f) (volume_layout c.args.shape.now (g.V.Blocks.seen c.resize_at_inode.new.v).words) (g.V.Blocks.seen c.resize_at_inode.new.v))) c.look_inode.ensures.looks.looks.words c.resize_at_inode.ensures.forgets
 
 pub returns-clause-goes : goal.returns-clause-goes
-returns-clause-goes g c = (g.met.V.Volume.passes_keeps _ _ c.look_inode.ensures.passes).goes then c.resize_with.ensures.goes
+returns-clause-goes g c = (g.met.V.Volume.passes_keeps _ _ c.look_inode.ensures.passes).goes then c.resize_at_inode.ensures.goes
 
 pub returns-clause-ends : goal.returns-clause-ends
-returns-clause-ends g c = ends_by_after _ _ _ _ _ c.look_inode.ensures.ends.later c.in_ok-inode.ensures.ends.cause c.resize_with.ensures.ends
+returns-clause-ends g c = ends_by_after _ _ _ _ _ c.look_inode.ensures.ends.later c.in_ok-inode.ensures.ends.cause c.resize_at_inode.ensures.ends
 
 pub returns-clause-sound : goal.returns-clause-sound
-returns-clause-sound g c = c.resize_with.ensures.sound
+returns-clause-sound g c = c.resize_at_inode.ensures.sound

@@ -89,11 +89,11 @@ look_inode-requires-clause-ino g c = file_ino c.args.shape.now (g.V.Blocks.seen 
 pub look_inode-requires-clause-can : goal.look_inode-requires-clause-can
 look_inode-requires-clause-can g c = can_look_up c.args.shape.now _ c.requires.ready.order.has_shape c.requires.ready.order.mapped c.requires.ready.order.named
 
-pub write_with-requires-clause-sound : goal.write_with-requires-clause-sound
-write_with-requires-clause-sound g c = c.look_inode.ensures.sound
+pub write_at_inode-requires-clause-sound : goal.write_at_inode-requires-clause-sound
+write_at_inode-requires-clause-sound g c = c.look_inode.ensures.sound
 
-pub write_with-requires-clause-ready : goal.write_with-requires-clause-ready
-write_with-requires-clause-ready g c =
+pub write_at_inode-requires-clause-ready : goal.write_at_inode-requires-clause-ready
+write_at_inode-requires-clause-ready g c =
     let shape = c.args.shape.now in
     let x = g.V.Blocks.seen c.args.v.now in
     let k = g.V.Volume.kept c.args.v.now in
@@ -102,11 +102,11 @@ write_with-requires-clause-ready g c =
     let looked : LeavesInUse (volume_layout shape x.words) x k z l = leaves_looked shape _ _ _ _ x z k l c.requires.ready c.look_inode.ensures.looks (g.met.V.Volume.passes_keeps _ _ c.look_inode.ensures.passes) in
     ready_left shape x k z l c.requires.ready looked
 
-pub write_with-requires-clause-inode : goal.write_with-requires-clause-inode
-write_with-requires-clause-inode g c = subst (λ f. IsInode f c.args.i.0 c.in_ok-inode.inode) (sym c.look_inode.ensures.looks.looks.words) c.in_ok-inode.ensures.value
+pub write_at_inode-requires-clause-inode : goal.write_at_inode-requires-clause-inode
+write_at_inode-requires-clause-inode g c = subst (λ f. IsInode f c.args.i.0 c.in_ok-inode.inode) (sym c.look_inode.ensures.looks.looks.words) c.in_ok-inode.ensures.value
 
-pub write_with-requires-clause-file : goal.write_with-requires-clause-file
-write_with-requires-clause-file g c = subst (λ f. (held_of c.args.shape.now f c.args.i.0).kind ≡ 2) (sym c.look_inode.ensures.looks.looks.words) c.requires.file
+pub write_at_inode-requires-clause-file : goal.write_at_inode-requires-clause-file
+write_at_inode-requires-clause-file g c = subst (λ f. (held_of c.args.shape.now f c.args.i.0).kind ≡ 2) (sym c.look_inode.ensures.looks.looks.words) c.requires.file
 
 pub returns-in_err-inode-clause-ok : goal.returns-in_err-inode-clause-ok
 returns-in_err-inode-clause-ok g c = if_err c.from_residual.result _ c.from_residual.ensures.0
@@ -177,19 +177,19 @@ pub returns-in_err-inode-clause-sound : goal.returns-in_err-inode-clause-sound
 returns-in_err-inode-clause-sound g c = c.look_inode.ensures.sound
 
 pub returns-clause-value : goal.returns-clause-value
-returns-clause-value g c = c.write_with.ensures.value
+returns-clause-value g c = c.write_at_inode.ensures.value
 
 pub returns-clause-ok : goal.returns-clause-ok
-returns-clause-ok g c = subst (λ f. OnOk c.write_with.result (SetsBoth c.args.shape.now f (g.V.Blocks.seen c.write_with.new.v) (g.V.Volume.kept c.write_with.new.v) c.args.i.0 (written (file_bytes c.args.shape.now f c.args.i.0) c.args.off c.args.bytes.now))) c.look_inode.ensures.looks.looks.words c.write_with.ensures.ok
+returns-clause-ok g c = subst (λ f. OnOk c.write_at_inode.result (SetsBoth c.args.shape.now f (g.V.Blocks.seen c.write_at_inode.new.v) (g.V.Volume.kept c.write_at_inode.new.v) c.args.i.0 (written (file_bytes c.args.shape.now f c.args.i.0) c.args.off c.args.bytes.now))) c.look_inode.ensures.looks.looks.words c.write_at_inode.ensures.ok
 
 pub returns-clause-space : goal.returns-clause-space
-returns-clause-space g c = subst (λ f. OnOk c.write_with.result (HasSpaceFor c.args.shape.now f (length (file_bytes c.args.shape.now f c.args.i.0)) c.args.off c.args.bytes.now)) c.look_inode.ensures.looks.looks.words c.write_with.ensures.space
+returns-clause-space g c = subst (λ f. OnOk c.write_at_inode.result (HasSpaceFor c.args.shape.now f (length (file_bytes c.args.shape.now f c.args.i.0)) c.args.off c.args.bytes.now)) c.look_inode.ensures.looks.looks.words c.write_at_inode.ensures.space
 
 pub returns-clause-too_large : goal.returns-clause-too_large
-returns-clause-too_large g c = c.write_with.ensures.too_large
+returns-clause-too_large g c = c.write_at_inode.ensures.too_large
 
 pub returns-clause-no_space : goal.returns-clause-no_space
-returns-clause-no_space g c = λ is. subst (λ f. (0 < length c.args.bytes.now) × (c.args.off + length c.args.bytes.now ≤ largest_size) × (length (free_blocks c.args.shape.now f) < wanted_blocks (length (file_bytes c.args.shape.now f c.args.i.0)) (c.args.off + length c.args.bytes.now))) c.look_inode.ensures.looks.looks.words (c.write_with.ensures.no_space is)
+returns-clause-no_space g c = λ is. subst (λ f. (0 < length c.args.bytes.now) × (c.args.off + length c.args.bytes.now ≤ largest_size) × (length (free_blocks c.args.shape.now f) < wanted_blocks (length (file_bytes c.args.shape.now f c.args.i.0)) (c.args.off + length c.args.bytes.now))) c.look_inode.ensures.looks.looks.words (c.write_at_inode.ensures.no_space is)
 
 pub returns-clause-refused : goal.returns-clause-refused
 returns-clause-refused g c =
@@ -199,22 +199,22 @@ returns-clause-refused g c =
     let z = g.V.Blocks.seen c.look_inode.new.v in
     let l = g.V.Volume.kept c.look_inode.new.v in
     let looked : LeavesInUse (volume_layout shape x.words) x k z l = leaves_looked shape _ _ _ _ x z k l c.requires.ready c.look_inode.ensures.looks (g.met.V.Volume.passes_keeps _ _ c.look_inode.ensures.passes) in
-    λ is. leaves_trans shape x k z l (g.V.Blocks.seen c.write_with.new.v) (g.V.Volume.kept c.write_with.new.v) c.requires.ready looked (c.write_with.ensures.refused is)
+    λ is. leaves_trans shape x k z l (g.V.Blocks.seen c.write_at_inode.new.v) (g.V.Volume.kept c.write_at_inode.new.v) c.requires.ready looked (c.write_at_inode.ensures.refused is)
 
 pub returns-clause-fault : goal.returns-clause-fault
-returns-clause-fault g c = λ n is. subst (λ f. FaultsAfter c.args.shape.now f (g.V.Blocks.seen c.write_with.new.v) (g.V.Volume.kept c.write_with.new.v) c.args.i.0 c.args.off c.args.bytes.now n) c.look_inode.ensures.looks.looks.words (c.write_with.ensures.fault n is)
+returns-clause-fault g c = λ n is. subst (λ f. FaultsAfter c.args.shape.now f (g.V.Blocks.seen c.write_at_inode.new.v) (g.V.Volume.kept c.write_at_inode.new.v) c.args.i.0 c.args.off c.args.bytes.now n) c.look_inode.ensures.looks.looks.words (c.write_at_inode.ensures.fault n is)
 
 pub returns-clause-stopped : goal.returns-clause-stopped
-returns-clause-stopped g c = λ is. subst (λ f. StopsAs c.args.shape.now f (g.V.Blocks.seen c.write_with.new.v) (g.V.Volume.kept c.write_with.new.v) c.args.i.0 (WriteStops c.args.shape.now f c.args.i.0 c.args.off c.args.bytes.now)) c.look_inode.ensures.looks.looks.words (c.write_with.ensures.stopped is)
+returns-clause-stopped g c = λ is. subst (λ f. StopsAs c.args.shape.now f (g.V.Blocks.seen c.write_at_inode.new.v) (g.V.Volume.kept c.write_at_inode.new.v) c.args.i.0 (WriteStops c.args.shape.now f c.args.i.0 c.args.off c.args.bytes.now)) c.look_inode.ensures.looks.looks.words (c.write_at_inode.ensures.stopped is)
 
 pub returns-clause-ready : goal.returns-clause-ready
-returns-clause-ready g c = c.write_with.ensures.ready
+returns-clause-ready g c = c.write_at_inode.ensures.ready
 
 pub returns-clause-goes : goal.returns-clause-goes
-returns-clause-goes g c = (g.met.V.Volume.passes_keeps _ _ c.look_inode.ensures.passes).goes then c.write_with.ensures.goes
+returns-clause-goes g c = (g.met.V.Volume.passes_keeps _ _ c.look_inode.ensures.passes).goes then c.write_at_inode.ensures.goes
 
 pub returns-clause-ends : goal.returns-clause-ends
-returns-clause-ends g c = ends_by_after _ _ _ _ _ c.look_inode.ensures.ends.later c.in_ok-inode.ensures.ends.cause c.write_with.ensures.ends
+returns-clause-ends g c = ends_by_after _ _ _ _ _ c.look_inode.ensures.ends.later c.in_ok-inode.ensures.ends.cause c.write_at_inode.ensures.ends
 
 pub returns-clause-sound : goal.returns-clause-sound
-returns-clause-sound g c = c.write_with.ensures.sound
+returns-clause-sound g c = c.write_at_inode.ensures.sound

@@ -1,4 +1,4 @@
 use Rattle.file_store.proofs.alone.rename.Goals as goal
 
-pub rename_with-requires-clause-in_step : goal.rename_with-requires-clause-in_step
-rename_with-requires-clause-in_step g c = c.none-memo.ensures _ _
+pub rename-requires-clause-in_step : goal.rename-requires-clause-in_step
+rename-requires-clause-in_step g c = c.none-memo.ensures _ _

@@ -1,4 +1,4 @@
 use Rattle.file_store.proofs.alone.stat.Goals as goal
 
-pub stat_with-requires-clause-in_step : goal.stat_with-requires-clause-in_step
-stat_with-requires-clause-in_step g c = c.none-memo.ensures _ _
+pub stat-requires-clause-in_step : goal.stat-requires-clause-in_step
+stat-requires-clause-in_step g c = c.none-memo.ensures _ _

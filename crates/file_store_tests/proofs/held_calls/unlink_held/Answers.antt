@@ -7,19 +7,19 @@ use Rattle.file_store_tests.proofs.Played.{held_end}
 use Rattle.file_store_tests.proofs.held_calls.unlink_held.Goals as goal
 
 pub returns-clause-follows : goal.returns-clause-follows
-returns-clause-follows c = held_end SaysDone c.args.shape.now (list_seen c.args.v.now) (list_kept c.args.v.now) (list_seen c.unlink_with-answer.new.v) (list_kept c.unlink_with-answer.new.v) c.unlink_with-answer.new.memo (λ s. unlink_of s c.args.path.now (ino_numbers c.from-busy.result)) (λ s. NoneDone s) c.unlink_with-answer.result c.done_is_due.result c.requires.can c.unlink_with-answer.ensures.leaves c.unlink_with-answer.ensures.in_step c.done_is_due.ensures
+returns-clause-follows c = held_end SaysDone c.args.shape.now (list_seen c.args.v.now) (list_kept c.args.v.now) (list_seen c.unlink-answer.new.v) (list_kept c.unlink-answer.new.v) c.unlink-answer.new.memo (λ s. unlink_of s c.args.path.now (ino_numbers c.from-busy.result)) (λ s. NoneDone s) c.unlink-answer.result c.done_is_due.result c.requires.can c.unlink-answer.ensures.leaves c.unlink-answer.ensures.in_step c.done_is_due.ensures
 
-pub unlink_with-answer-requires-clause-can : goal.unlink_with-answer-requires-clause-can
-unlink_with-answer-requires-clause-can c = c.requires.can
+pub unlink-answer-requires-clause-can : goal.unlink-answer-requires-clause-can
+unlink-answer-requires-clause-can c = c.requires.can
 
-pub unlink_with-answer-requires-clause-sound : goal.unlink_with-answer-requires-clause-sound
-unlink_with-answer-requires-clause-sound c = c.requires.sound
+pub unlink-answer-requires-clause-sound : goal.unlink-answer-requires-clause-sound
+unlink-answer-requires-clause-sound c = c.requires.sound
 
-pub unlink_with-answer-requires-clause-path : goal.unlink_with-answer-requires-clause-path
-unlink_with-answer-requires-clause-path c = c.requires.path
+pub unlink-answer-requires-clause-path : goal.unlink-answer-requires-clause-path
+unlink-answer-requires-clause-path c = c.requires.path
 
-pub unlink_with-answer-requires-clause-in_step : goal.unlink_with-answer-requires-clause-in_step
-unlink_with-answer-requires-clause-in_step c = c.requires.in_step
+pub unlink-answer-requires-clause-in_step : goal.unlink-answer-requires-clause-in_step
+unlink-answer-requires-clause-in_step c = c.requires.in_step
 
 pub returns-clause-sound : goal.returns-clause-sound
-returns-clause-sound c = c.unlink_with-answer.ensures.sound
+returns-clause-sound c = c.unlink-answer.ensures.sound

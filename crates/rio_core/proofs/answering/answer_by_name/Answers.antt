@@ -15,32 +15,32 @@ use Rattle.rio_core.proofs.ReplyEnds.{not_stopped, no_done, no_names, reply_ends
 use Rattle.rio_core.proofs.Standing.{serves_can}
 use Rattle.rio_core.proofs.answering.answer_by_name.Goals as goal
 
-pub unlink_with-requires-clause-can : goal.unlink_with-requires-clause-can
-unlink_with-requires-clause-can g c = serves_can c.args.shape.now (g.V.Blocks.seen c.args.v.now) (g.V.Volume.kept c.args.v.now) c.args.table.now c.requires.serves.0 c.requires.serves.1
+pub unlink-requires-clause-can : goal.unlink-requires-clause-can
+unlink-requires-clause-can g c = serves_can c.args.shape.now (g.V.Blocks.seen c.args.v.now) (g.V.Volume.kept c.args.v.now) c.args.table.now c.requires.serves.0 c.requires.serves.1
 
-pub rmdir_with-requires-clause-can : goal.rmdir_with-requires-clause-can
-rmdir_with-requires-clause-can g c = serves_can c.args.shape.now (g.V.Blocks.seen c.args.v.now) (g.V.Volume.kept c.args.v.now) c.args.table.now c.requires.serves.0 c.requires.serves.1
+pub rmdir-requires-clause-can : goal.rmdir-requires-clause-can
+rmdir-requires-clause-can g c = serves_can c.args.shape.now (g.V.Blocks.seen c.args.v.now) (g.V.Volume.kept c.args.v.now) c.args.table.now c.requires.serves.0 c.requires.serves.1
 
-pub rename_with-requires-clause-can : goal.rename_with-requires-clause-can
-rename_with-requires-clause-can g c = serves_can c.args.shape.now (g.V.Blocks.seen c.args.v.now) (g.V.Volume.kept c.args.v.now) c.args.table.now c.requires.serves.0 c.requires.serves.1
+pub rename-requires-clause-can : goal.rename-requires-clause-can
+rename-requires-clause-can g c = serves_can c.args.shape.now (g.V.Blocks.seen c.args.v.now) (g.V.Volume.kept c.args.v.now) c.args.table.now c.requires.serves.0 c.requires.serves.1
 
-pub list_with-requires-clause-can : goal.list_with-requires-clause-can
-list_with-requires-clause-can g c = serves_can c.args.shape.now (g.V.Blocks.seen c.args.v.now) (g.V.Volume.kept c.args.v.now) c.args.table.now c.requires.serves.0 c.requires.serves.1
+pub list-requires-clause-can : goal.list-requires-clause-can
+list-requires-clause-can g c = serves_can c.args.shape.now (g.V.Blocks.seen c.args.v.now) (g.V.Volume.kept c.args.v.now) c.args.table.now c.requires.serves.0 c.requires.serves.1
 
 pub returns-in-Ok-clause-answered : goal.returns-in-Ok-clause-answered
 returns-in-Ok-clause-answered g c =
     let shape = c.args.shape.now in
     let x = g.V.Blocks.seen c.args.v.now in
     let k = g.V.Volume.kept c.args.v.now in
-    let y = g.V.Blocks.seen c.unlink_with.new.v in
-    let j = g.V.Volume.kept c.unlink_with.new.v in
+    let y = g.V.Blocks.seen c.unlink.new.v in
+    let j = g.V.Volume.kept c.unlink.new.v in
     let p = c.as_slice.result.now in
     let r = Unlink p in
     let is : c.args.request.now ≡ r = c.in-Unlink.is ∙ ap Unlink (sym c.as_slice.ensures) in
-    λ s serves. subst (λ a. RequestEnds shape y j c.args.table.now s a c.done_reply.result) (sym is) (request_ends {T = Unit {0}} SaysDone shape x k y j c.args.table.now s r c.unlink_with.result c.done_reply.result (λ v a b h i. h ∙ sym i) tt tt serves (subst (λ busy. FileEnds {T = Unit {0}} SaysDone shape x k y j (crashed s) (unlink (crashed s) p busy) (NoneDone (crashed s)) c.unlink_with.result) (c.in-Ok.ensures ∙ rows_open c.args.table.now s serves.regions.marked) (c.unlink_with.ensures.leaves (crashed s) serves.reads)) c.done_reply.ensures)
+    λ s serves. subst (λ a. RequestEnds shape y j c.args.table.now s a c.done_reply.result) (sym is) (request_ends {T = Unit {0}} SaysDone shape x k y j c.args.table.now s r c.unlink.result c.done_reply.result (λ v a b h i. h ∙ sym i) tt tt serves (subst (λ busy. FileEnds {T = Unit {0}} SaysDone shape x k y j (crashed s) (unlink (crashed s) p busy) (NoneDone (crashed s)) c.unlink.result) (c.in-Ok.ensures ∙ rows_open c.args.table.now s serves.regions.marked) (c.unlink.ensures.leaves (crashed s) serves.reads)) c.done_reply.ensures)
 
 pub returns-in-Ok-clause-ends : goal.returns-in-Ok-clause-ends
-returns-in-Ok-clause-ends g c = reply_ends {T = Unit {0}} SaysDone _ _ c.unlink_with.result c.done_reply.result (λ v n h. no_done h) c.done_reply.ensures c.unlink_with.ensures.ends
+returns-in-Ok-clause-ends g c = reply_ends {T = Unit {0}} SaysDone _ _ c.unlink.result c.done_reply.result (λ v n h. no_done h) c.done_reply.ensures c.unlink.ensures.ends
 
 pub returns-in-Err-clause-answered : goal.returns-in-Err-clause-answered
 returns-in-Err-clause-answered g c =
@@ -54,31 +54,31 @@ returns-in-Rmdir-clause-answered g c =
     let shape = c.args.shape.now in
     let x = g.V.Blocks.seen c.args.v.now in
     let k = g.V.Volume.kept c.args.v.now in
-    let y = g.V.Blocks.seen c.rmdir_with.new.v in
-    let j = g.V.Volume.kept c.rmdir_with.new.v in
+    let y = g.V.Blocks.seen c.rmdir.new.v in
+    let j = g.V.Volume.kept c.rmdir.new.v in
     let p = c.as_slice-in-Rmdir.result.now in
     let r = Rmdir p in
     let is : c.args.request.now ≡ r = c.in-Rmdir.is ∙ ap Rmdir (sym c.as_slice-in-Rmdir.ensures) in
-    λ s serves. subst (λ a. RequestEnds shape y j c.args.table.now s a c.done_reply-in-Rmdir.result) (sym is) (request_ends {T = Unit {0}} SaysDone shape x k y j c.args.table.now s r c.rmdir_with.result c.done_reply-in-Rmdir.result (λ v a b h i. h ∙ sym i) tt tt serves (c.rmdir_with.ensures.leaves (crashed s) serves.reads) c.done_reply-in-Rmdir.ensures)
+    λ s serves. subst (λ a. RequestEnds shape y j c.args.table.now s a c.done_reply-in-Rmdir.result) (sym is) (request_ends {T = Unit {0}} SaysDone shape x k y j c.args.table.now s r c.rmdir.result c.done_reply-in-Rmdir.result (λ v a b h i. h ∙ sym i) tt tt serves (c.rmdir.ensures.leaves (crashed s) serves.reads) c.done_reply-in-Rmdir.ensures)
 
 pub returns-in-Rmdir-clause-ends : goal.returns-in-Rmdir-clause-ends
-returns-in-Rmdir-clause-ends g c = reply_ends {T = Unit {0}} SaysDone _ _ c.rmdir_with.result c.done_reply-in-Rmdir.result (λ v n h. no_done h) c.done_reply-in-Rmdir.ensures c.rmdir_with.ensures.ends
+returns-in-Rmdir-clause-ends g c = reply_ends {T = Unit {0}} SaysDone _ _ c.rmdir.result c.done_reply-in-Rmdir.result (λ v n h. no_done h) c.done_reply-in-Rmdir.ensures c.rmdir.ensures.ends
 
 pub returns-in-Ok-open_list-clause-answered : goal.returns-in-Ok-open_list-clause-answered
 returns-in-Ok-open_list-clause-answered g c =
     let shape = c.args.shape.now in
     let x = g.V.Blocks.seen c.args.v.now in
     let k = g.V.Volume.kept c.args.v.now in
-    let y = g.V.Blocks.seen c.rename_with.new.v in
-    let j = g.V.Volume.kept c.rename_with.new.v in
+    let y = g.V.Blocks.seen c.rename.new.v in
+    let j = g.V.Volume.kept c.rename.new.v in
     let p = c.as_slice-in-Ok-open_list.result.now in
     let q = c.as_slice-in-Ok-open_list-2.result.now in
     let r = Rename p q in
     let is : c.args.request.now ≡ r = c.in-Rename.is ∙ ap (λ a. Rename a c.in-Rename.to) (sym c.as_slice-in-Ok-open_list.ensures) ∙ ap (Rename p) (sym c.as_slice-in-Ok-open_list-2.ensures) in
-    λ s serves. subst (λ a. RequestEnds shape y j c.args.table.now s a c.done_reply-in-Ok-open_list.result) (sym is) (request_ends {T = Unit {0}} SaysDone shape x k y j c.args.table.now s r c.rename_with.result c.done_reply-in-Ok-open_list.result (λ v a b h i. h ∙ sym i) tt tt serves (subst (λ busy. FileEnds {T = Unit {0}} SaysDone shape x k y j (crashed s) (rename (crashed s) p q busy) (NoneDone (crashed s)) c.rename_with.result) (c.in-Ok-open_list.ensures ∙ rows_open c.args.table.now s serves.regions.marked) (c.rename_with.ensures.leaves (crashed s) serves.reads)) c.done_reply-in-Ok-open_list.ensures)
+    λ s serves. subst (λ a. RequestEnds shape y j c.args.table.now s a c.done_reply-in-Ok-open_list.result) (sym is) (request_ends {T = Unit {0}} SaysDone shape x k y j c.args.table.now s r c.rename.result c.done_reply-in-Ok-open_list.result (λ v a b h i. h ∙ sym i) tt tt serves (subst (λ busy. FileEnds {T = Unit {0}} SaysDone shape x k y j (crashed s) (rename (crashed s) p q busy) (NoneDone (crashed s)) c.rename.result) (c.in-Ok-open_list.ensures ∙ rows_open c.args.table.now s serves.regions.marked) (c.rename.ensures.leaves (crashed s) serves.reads)) c.done_reply-in-Ok-open_list.ensures)
 
 pub returns-in-Ok-open_list-clause-ends : goal.returns-in-Ok-open_list-clause-ends
-returns-in-Ok-open_list-clause-ends g c = reply_ends {T = Unit {0}} SaysDone _ _ c.rename_with.result c.done_reply-in-Ok-open_list.result (λ v n h. no_done h) c.done_reply-in-Ok-open_list.ensures c.rename_with.ensures.ends
+returns-in-Ok-open_list-clause-ends g c = reply_ends {T = Unit {0}} SaysDone _ _ c.rename.result c.done_reply-in-Ok-open_list.result (λ v n h. no_done h) c.done_reply-in-Ok-open_list.ensures c.rename.ensures.ends
 
 pub returns-in-Err-open_list-clause-answered : goal.returns-in-Err-open_list-clause-answered
 returns-in-Err-open_list-clause-answered g c =
@@ -92,15 +92,15 @@ returns-in-List-clause-answered g c =
     let shape = c.args.shape.now in
     let x = g.V.Blocks.seen c.args.v.now in
     let k = g.V.Volume.kept c.args.v.now in
-    let y = g.V.Blocks.seen c.list_with.new.v in
-    let j = g.V.Volume.kept c.list_with.new.v in
+    let y = g.V.Blocks.seen c.list.new.v in
+    let j = g.V.Volume.kept c.list.new.v in
     let p = c.as_slice-in-List.result.now in
     let r = ListOf p in
     let is : c.args.request.now ≡ r = c.in-List.is ∙ ap ListOf (sym c.as_slice-in-List.ensures) in
-    λ s serves. subst (λ a. RequestEnds shape y j c.args.table.now s a c.names_reply.result) (sym is) (request_ends SaysNames shape x k y j c.args.table.now s r c.list_with.result c.names_reply.result (λ v a b h i. h ∙ sym i) tt tt serves (c.list_with.ensures.leaves (crashed s) serves.reads) c.names_reply.ensures)
+    λ s serves. subst (λ a. RequestEnds shape y j c.args.table.now s a c.names_reply.result) (sym is) (request_ends SaysNames shape x k y j c.args.table.now s r c.list.result c.names_reply.result (λ v a b h i. h ∙ sym i) tt tt serves (c.list.ensures.leaves (crashed s) serves.reads) c.names_reply.ensures)
 
 pub returns-in-List-clause-ends : goal.returns-in-List-clause-ends
-returns-in-List-clause-ends g c = reply_ends SaysNames _ _ c.list_with.result c.names_reply.result (λ v n h. no_names h) c.names_reply.ensures c.list_with.ensures.ends
+returns-in-List-clause-ends g c = reply_ends SaysNames _ _ c.list.result c.names_reply.result (λ v n h. no_names h) c.names_reply.ensures c.list.ensures.ends
 
 pub returns-in_default : goal.returns-in_default
 returns-in_default g c =
@@ -108,79 +108,79 @@ returns-in_default g c =
     absurd (none_by_name c.args.request.now (record { unlink = d.not-Unlink; rmdir = d.not-Rmdir; rename = d.not-Rename; list = d.not-List }) c.requires.by_name)
 
 pub returns-in-Ok-clause-in_step : goal.returns-in-Ok-clause-in_step
-returns-in-Ok-clause-in_step g c = λ on. c.unlink_with.ensures.in_step (not_stopped {T = Unit {0}} SaysDone c.unlink_with.result c.done_reply.result c.done_reply.ensures on)
+returns-in-Ok-clause-in_step g c = λ on. c.unlink.ensures.in_step (not_stopped {T = Unit {0}} SaysDone c.unlink.result c.done_reply.result c.done_reply.ensures on)
 
 pub returns-in-Rmdir-clause-in_step : goal.returns-in-Rmdir-clause-in_step
-returns-in-Rmdir-clause-in_step g c = λ on. c.rmdir_with.ensures.in_step (not_stopped {T = Unit {0}} SaysDone c.rmdir_with.result c.done_reply-in-Rmdir.result c.done_reply-in-Rmdir.ensures on)
+returns-in-Rmdir-clause-in_step g c = λ on. c.rmdir.ensures.in_step (not_stopped {T = Unit {0}} SaysDone c.rmdir.result c.done_reply-in-Rmdir.result c.done_reply-in-Rmdir.ensures on)
 
 pub returns-in-Ok-open_list-clause-in_step : goal.returns-in-Ok-open_list-clause-in_step
-returns-in-Ok-open_list-clause-in_step g c = λ on. c.rename_with.ensures.in_step (not_stopped {T = Unit {0}} SaysDone c.rename_with.result c.done_reply-in-Ok-open_list.result c.done_reply-in-Ok-open_list.ensures on)
+returns-in-Ok-open_list-clause-in_step g c = λ on. c.rename.ensures.in_step (not_stopped {T = Unit {0}} SaysDone c.rename.result c.done_reply-in-Ok-open_list.result c.done_reply-in-Ok-open_list.ensures on)
 
 pub returns-in-List-clause-in_step : goal.returns-in-List-clause-in_step
-returns-in-List-clause-in_step g c = λ on. c.list_with.ensures.in_step (not_stopped SaysNames c.list_with.result c.names_reply.result c.names_reply.ensures on)
+returns-in-List-clause-in_step g c = λ on. c.list.ensures.in_step (not_stopped SaysNames c.list.result c.names_reply.result c.names_reply.ensures on)
 
-pub unlink_with-requires-clause-sound : goal.unlink_with-requires-clause-sound
-unlink_with-requires-clause-sound g c = c.requires.sound
+pub unlink-requires-clause-sound : goal.unlink-requires-clause-sound
+unlink-requires-clause-sound g c = c.requires.sound
 
-pub unlink_with-requires-clause-in_step : goal.unlink_with-requires-clause-in_step
-unlink_with-requires-clause-in_step g c = c.requires.in_step
+pub unlink-requires-clause-in_step : goal.unlink-requires-clause-in_step
+unlink-requires-clause-in_step g c = c.requires.in_step
 
-pub unlink_with-requires-clause-path : goal.unlink_with-requires-clause-path
-unlink_with-requires-clause-path g c = subst IsPath (sym c.as_slice.ensures) (subst IsRequest c.in-Unlink.is c.requires.request)
+pub unlink-requires-clause-path : goal.unlink-requires-clause-path
+unlink-requires-clause-path g c = subst IsPath (sym c.as_slice.ensures) (subst IsRequest c.in-Unlink.is c.requires.request)
 
 pub returns-in-Ok-clause-goes : goal.returns-in-Ok-clause-goes
-returns-in-Ok-clause-goes g c = c.unlink_with.ensures.goes
+returns-in-Ok-clause-goes g c = c.unlink.ensures.goes
 
 pub returns-in-Ok-clause-sound : goal.returns-in-Ok-clause-sound
-returns-in-Ok-clause-sound g c = c.unlink_with.ensures.sound
+returns-in-Ok-clause-sound g c = c.unlink.ensures.sound
 
-pub rmdir_with-requires-clause-sound : goal.rmdir_with-requires-clause-sound
-rmdir_with-requires-clause-sound g c = c.requires.sound
+pub rmdir-requires-clause-sound : goal.rmdir-requires-clause-sound
+rmdir-requires-clause-sound g c = c.requires.sound
 
-pub rmdir_with-requires-clause-in_step : goal.rmdir_with-requires-clause-in_step
-rmdir_with-requires-clause-in_step g c = c.requires.in_step
+pub rmdir-requires-clause-in_step : goal.rmdir-requires-clause-in_step
+rmdir-requires-clause-in_step g c = c.requires.in_step
 
-pub rmdir_with-requires-clause-path : goal.rmdir_with-requires-clause-path
-rmdir_with-requires-clause-path g c = subst IsPath (sym c.as_slice-in-Rmdir.ensures) (subst IsRequest c.in-Rmdir.is c.requires.request)
+pub rmdir-requires-clause-path : goal.rmdir-requires-clause-path
+rmdir-requires-clause-path g c = subst IsPath (sym c.as_slice-in-Rmdir.ensures) (subst IsRequest c.in-Rmdir.is c.requires.request)
 
 pub returns-in-Rmdir-clause-goes : goal.returns-in-Rmdir-clause-goes
-returns-in-Rmdir-clause-goes g c = c.rmdir_with.ensures.goes
+returns-in-Rmdir-clause-goes g c = c.rmdir.ensures.goes
 
 pub returns-in-Rmdir-clause-sound : goal.returns-in-Rmdir-clause-sound
-returns-in-Rmdir-clause-sound g c = c.rmdir_with.ensures.sound
+returns-in-Rmdir-clause-sound g c = c.rmdir.ensures.sound
 
-pub rename_with-requires-clause-sound : goal.rename_with-requires-clause-sound
-rename_with-requires-clause-sound g c = c.requires.sound
+pub rename-requires-clause-sound : goal.rename-requires-clause-sound
+rename-requires-clause-sound g c = c.requires.sound
 
-pub rename_with-requires-clause-in_step : goal.rename_with-requires-clause-in_step
-rename_with-requires-clause-in_step g c = c.requires.in_step
+pub rename-requires-clause-in_step : goal.rename-requires-clause-in_step
+rename-requires-clause-in_step g c = c.requires.in_step
 
-pub rename_with-requires-clause-path : goal.rename_with-requires-clause-path
-rename_with-requires-clause-path g c = subst IsPath (sym c.as_slice-in-Ok-open_list.ensures) (subst IsRequest c.in-Rename.is c.requires.request).0
+pub rename-requires-clause-path : goal.rename-requires-clause-path
+rename-requires-clause-path g c = subst IsPath (sym c.as_slice-in-Ok-open_list.ensures) (subst IsRequest c.in-Rename.is c.requires.request).0
 
 pub returns-in-Ok-open_list-clause-goes : goal.returns-in-Ok-open_list-clause-goes
-returns-in-Ok-open_list-clause-goes g c = c.rename_with.ensures.goes
+returns-in-Ok-open_list-clause-goes g c = c.rename.ensures.goes
 
 pub returns-in-Ok-open_list-clause-sound : goal.returns-in-Ok-open_list-clause-sound
-returns-in-Ok-open_list-clause-sound g c = c.rename_with.ensures.sound
+returns-in-Ok-open_list-clause-sound g c = c.rename.ensures.sound
 
-pub list_with-requires-clause-sound : goal.list_with-requires-clause-sound
-list_with-requires-clause-sound g c = c.requires.sound
+pub list-requires-clause-sound : goal.list-requires-clause-sound
+list-requires-clause-sound g c = c.requires.sound
 
-pub list_with-requires-clause-in_step : goal.list_with-requires-clause-in_step
-list_with-requires-clause-in_step g c = c.requires.in_step
+pub list-requires-clause-in_step : goal.list-requires-clause-in_step
+list-requires-clause-in_step g c = c.requires.in_step
 
-pub list_with-requires-clause-path : goal.list_with-requires-clause-path
-list_with-requires-clause-path g c = subst IsPath (sym c.as_slice-in-List.ensures) (subst IsRequest c.in-List.is c.requires.request)
+pub list-requires-clause-path : goal.list-requires-clause-path
+list-requires-clause-path g c = subst IsPath (sym c.as_slice-in-List.ensures) (subst IsRequest c.in-List.is c.requires.request)
 
 pub returns-in-List-clause-goes : goal.returns-in-List-clause-goes
-returns-in-List-clause-goes g c = c.list_with.ensures.goes
+returns-in-List-clause-goes g c = c.list.ensures.goes
 
 pub returns-in-List-clause-sound : goal.returns-in-List-clause-sound
-returns-in-List-clause-sound g c = c.list_with.ensures.sound
+returns-in-List-clause-sound g c = c.list.ensures.sound
 
-pub rename_with-requires-clause-to : goal.rename_with-requires-clause-to
-rename_with-requires-clause-to g c = subst IsPath (sym c.as_slice-in-Ok-open_list-2.ensures) (subst IsRequest c.in-Rename.is c.requires.request).1
+pub rename-requires-clause-to : goal.rename-requires-clause-to
+rename-requires-clause-to g c = subst IsPath (sym c.as_slice-in-Ok-open_list-2.ensures) (subst IsRequest c.in-Rename.is c.requires.request).1
 
 pub returns-in-Err-clause-in_step : goal.returns-in-Err-clause-in_step
 returns-in-Err-clause-in_step g c = λ on. c.requires.in_step

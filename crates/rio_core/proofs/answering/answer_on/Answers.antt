@@ -9,153 +9,153 @@ use Rattle.rio_core.proofs.ReplyEnds.{not_stopped, no_bytes, no_done, no_number,
 use Rattle.rio_core.proofs.Standing.{serves_can}
 use Rattle.rio_core.proofs.answering.answer_on.Goals as goal
 
-pub mkdir_with-requires-clause-can : goal.mkdir_with-requires-clause-can
-mkdir_with-requires-clause-can g c = serves_can c.args.shape.now (g.V.Blocks.seen c.args.v.now) (g.V.Volume.kept c.args.v.now) c.args.table.now c.requires.serves.0 c.requires.serves.1
+pub mkdir-requires-clause-can : goal.mkdir-requires-clause-can
+mkdir-requires-clause-can g c = serves_can c.args.shape.now (g.V.Blocks.seen c.args.v.now) (g.V.Volume.kept c.args.v.now) c.args.table.now c.requires.serves.0 c.requires.serves.1
 
-pub create_with-requires-clause-can : goal.create_with-requires-clause-can
-create_with-requires-clause-can g c = serves_can c.args.shape.now (g.V.Blocks.seen c.args.v.now) (g.V.Volume.kept c.args.v.now) c.args.table.now c.requires.serves.0 c.requires.serves.1
+pub create-requires-clause-can : goal.create-requires-clause-can
+create-requires-clause-can g c = serves_can c.args.shape.now (g.V.Blocks.seen c.args.v.now) (g.V.Volume.kept c.args.v.now) c.args.table.now c.requires.serves.0 c.requires.serves.1
 
-pub write_with-requires-clause-can : goal.write_with-requires-clause-can
-write_with-requires-clause-can g c = serves_can c.args.shape.now (g.V.Blocks.seen c.args.v.now) (g.V.Volume.kept c.args.v.now) c.args.table.now c.requires.serves.0 c.requires.serves.1
+pub write-requires-clause-can : goal.write-requires-clause-can
+write-requires-clause-can g c = serves_can c.args.shape.now (g.V.Blocks.seen c.args.v.now) (g.V.Volume.kept c.args.v.now) c.args.table.now c.requires.serves.0 c.requires.serves.1
 
-pub read_with-requires-clause-can : goal.read_with-requires-clause-can
-read_with-requires-clause-can g c = serves_can c.args.shape.now (g.V.Blocks.seen c.args.v.now) (g.V.Volume.kept c.args.v.now) c.args.table.now c.requires.serves.0 c.requires.serves.1
+pub read-requires-clause-can : goal.read-requires-clause-can
+read-requires-clause-can g c = serves_can c.args.shape.now (g.V.Blocks.seen c.args.v.now) (g.V.Volume.kept c.args.v.now) c.args.table.now c.requires.serves.0 c.requires.serves.1
 
-pub truncate_with-requires-clause-can : goal.truncate_with-requires-clause-can
-truncate_with-requires-clause-can g c = serves_can c.args.shape.now (g.V.Blocks.seen c.args.v.now) (g.V.Volume.kept c.args.v.now) c.args.table.now c.requires.serves.0 c.requires.serves.1
+pub truncate-requires-clause-can : goal.truncate-requires-clause-can
+truncate-requires-clause-can g c = serves_can c.args.shape.now (g.V.Blocks.seen c.args.v.now) (g.V.Volume.kept c.args.v.now) c.args.table.now c.requires.serves.0 c.requires.serves.1
 
-pub make_region_with-requires-clause-can : goal.make_region_with-requires-clause-can
-make_region_with-requires-clause-can g c = serves_can c.args.shape.now (g.V.Blocks.seen c.args.v.now) (g.V.Volume.kept c.args.v.now) c.args.table.now c.requires.serves.0 c.requires.serves.1
+pub make_region-requires-clause-can : goal.make_region-requires-clause-can
+make_region-requires-clause-can g c = serves_can c.args.shape.now (g.V.Blocks.seen c.args.v.now) (g.V.Volume.kept c.args.v.now) c.args.table.now c.requires.serves.0 c.requires.serves.1
 
-pub stat_with-requires-clause-can : goal.stat_with-requires-clause-can
-stat_with-requires-clause-can g c = serves_can c.args.shape.now (g.V.Blocks.seen c.args.v.now) (g.V.Volume.kept c.args.v.now) c.args.table.now c.requires.serves.0 c.requires.serves.1
+pub stat-requires-clause-can : goal.stat-requires-clause-can
+stat-requires-clause-can g c = serves_can c.args.shape.now (g.V.Blocks.seen c.args.v.now) (g.V.Volume.kept c.args.v.now) c.args.table.now c.requires.serves.0 c.requires.serves.1
 
 pub returns-in-Mkdir-clause-answered : goal.returns-in-Mkdir-clause-answered
 returns-in-Mkdir-clause-answered g c =
     let shape = c.args.shape.now in
     let x = g.V.Blocks.seen c.args.v.now in
     let k = g.V.Volume.kept c.args.v.now in
-    let y = g.V.Blocks.seen c.mkdir_with.new.v in
-    let j = g.V.Volume.kept c.mkdir_with.new.v in
+    let y = g.V.Blocks.seen c.mkdir.new.v in
+    let j = g.V.Volume.kept c.mkdir.new.v in
     let p = c.as_slice.result.now in
     let r = Mkdir p in
     let is : c.args.request.now ≡ r = c.in-Mkdir.is ∙ ap Mkdir (sym c.as_slice.ensures) in
-    λ s serves. subst (λ a. RequestEnds shape y j c.args.table.now s a c.ino_reply.result) (sym is) (request_ends SaysIno shape x k y j c.args.table.now s r c.mkdir_with.result c.ino_reply.result (λ v a b h i. h ∙ sym i) tt tt serves (c.mkdir_with.ensures.leaves (crashed s) serves.reads) c.ino_reply.ensures)
+    λ s serves. subst (λ a. RequestEnds shape y j c.args.table.now s a c.ino_reply.result) (sym is) (request_ends SaysIno shape x k y j c.args.table.now s r c.mkdir.result c.ino_reply.result (λ v a b h i. h ∙ sym i) tt tt serves (c.mkdir.ensures.leaves (crashed s) serves.reads) c.ino_reply.ensures)
 
 pub returns-in-Mkdir-clause-ends : goal.returns-in-Mkdir-clause-ends
-returns-in-Mkdir-clause-ends g c = reply_ends SaysIno _ _ c.mkdir_with.result c.ino_reply.result (λ v n h. no_number h) c.ino_reply.ensures c.mkdir_with.ensures.ends
+returns-in-Mkdir-clause-ends g c = reply_ends SaysIno _ _ c.mkdir.result c.ino_reply.result (λ v n h. no_number h) c.ino_reply.ensures c.mkdir.ensures.ends
 
 pub returns-in-Create-clause-answered : goal.returns-in-Create-clause-answered
 returns-in-Create-clause-answered g c =
     let shape = c.args.shape.now in
     let x = g.V.Blocks.seen c.args.v.now in
     let k = g.V.Volume.kept c.args.v.now in
-    let y = g.V.Blocks.seen c.create_with.new.v in
-    let j = g.V.Volume.kept c.create_with.new.v in
+    let y = g.V.Blocks.seen c.create.new.v in
+    let j = g.V.Volume.kept c.create.new.v in
     let p = c.as_slice-in-Create.result.now in
     let r = Create p in
     let is : c.args.request.now ≡ r = c.in-Create.is ∙ ap Create (sym c.as_slice-in-Create.ensures) in
-    λ s serves. subst (λ a. RequestEnds shape y j c.args.table.now s a c.ino_reply-in-Create.result) (sym is) (request_ends SaysIno shape x k y j c.args.table.now s r c.create_with.result c.ino_reply-in-Create.result (λ v a b h i. h ∙ sym i) tt tt serves (c.create_with.ensures.leaves (crashed s) serves.reads) c.ino_reply-in-Create.ensures)
+    λ s serves. subst (λ a. RequestEnds shape y j c.args.table.now s a c.ino_reply-in-Create.result) (sym is) (request_ends SaysIno shape x k y j c.args.table.now s r c.create.result c.ino_reply-in-Create.result (λ v a b h i. h ∙ sym i) tt tt serves (c.create.ensures.leaves (crashed s) serves.reads) c.ino_reply-in-Create.ensures)
 
 pub returns-in-Create-clause-ends : goal.returns-in-Create-clause-ends
-returns-in-Create-clause-ends g c = reply_ends SaysIno _ _ c.create_with.result c.ino_reply-in-Create.result (λ v n h. no_number h) c.ino_reply-in-Create.ensures c.create_with.ensures.ends
+returns-in-Create-clause-ends g c = reply_ends SaysIno _ _ c.create.result c.ino_reply-in-Create.result (λ v n h. no_number h) c.ino_reply-in-Create.ensures c.create.ensures.ends
 
 pub returns-in-Write-clause-answered : goal.returns-in-Write-clause-answered
 returns-in-Write-clause-answered g c =
     let shape = c.args.shape.now in
     let x = g.V.Blocks.seen c.args.v.now in
     let k = g.V.Volume.kept c.args.v.now in
-    let y = g.V.Blocks.seen c.write_with.new.v in
-    let j = g.V.Volume.kept c.write_with.new.v in
+    let y = g.V.Blocks.seen c.write.new.v in
+    let j = g.V.Volume.kept c.write.new.v in
     let p = c.as_slice-in-Write.result.now in
     let q = c.as_slice-in-Write-2.result.now in
     let r = Write p c.in-Write.off q in
     let is : c.args.request.now ≡ r = c.in-Write.is ∙ ap (λ a. Write a c.in-Write.off c.in-Write.bytes) (sym c.as_slice-in-Write.ensures) ∙ ap (Write p c.in-Write.off) (sym c.as_slice-in-Write-2.ensures) in
-    λ s serves. subst (λ a. RequestEnds shape y j c.args.table.now s a c.count_reply.result) (sym is) (request_ends SaysCount shape x k y j c.args.table.now s r c.write_with.result c.count_reply.result (λ v a b h i. h ∙ sym i) tt tt serves (c.write_with.ensures.leaves (crashed s) serves.reads) c.count_reply.ensures)
+    λ s serves. subst (λ a. RequestEnds shape y j c.args.table.now s a c.count_reply.result) (sym is) (request_ends SaysCount shape x k y j c.args.table.now s r c.write.result c.count_reply.result (λ v a b h i. h ∙ sym i) tt tt serves (c.write.ensures.leaves (crashed s) serves.reads) c.count_reply.ensures)
 
 pub returns-in-Write-clause-ends : goal.returns-in-Write-clause-ends
-returns-in-Write-clause-ends g c = reply_ends SaysCount _ _ c.write_with.result c.count_reply.result (λ v n h. no_number h) c.count_reply.ensures c.write_with.ensures.ends
+returns-in-Write-clause-ends g c = reply_ends SaysCount _ _ c.write.result c.count_reply.result (λ v n h. no_number h) c.count_reply.ensures c.write.ensures.ends
 
 pub returns-in-Read-clause-answered : goal.returns-in-Read-clause-answered
 returns-in-Read-clause-answered g c =
     let shape = c.args.shape.now in
     let x = g.V.Blocks.seen c.args.v.now in
     let k = g.V.Volume.kept c.args.v.now in
-    let y = g.V.Blocks.seen c.read_with.new.v in
-    let j = g.V.Volume.kept c.read_with.new.v in
+    let y = g.V.Blocks.seen c.read.new.v in
+    let j = g.V.Volume.kept c.read.new.v in
     let p = c.as_slice-in-Read.result.now in
     let r = Read p c.in-Read.off c.in-Read.len in
     let is : c.args.request.now ≡ r = c.in-Read.is ∙ ap (λ a. Read a c.in-Read.off c.in-Read.len) (sym c.as_slice-in-Read.ensures) in
-    λ s serves. subst (λ a. RequestEnds shape y j c.args.table.now s a c.bytes_reply.result) (sym is) (request_ends SaysBytes shape x k y j c.args.table.now s r c.read_with.result c.bytes_reply.result (λ v a b h i. h ∙ sym i) tt tt serves (c.read_with.ensures.leaves (crashed s) serves.reads) c.bytes_reply.ensures)
+    λ s serves. subst (λ a. RequestEnds shape y j c.args.table.now s a c.bytes_reply.result) (sym is) (request_ends SaysBytes shape x k y j c.args.table.now s r c.read.result c.bytes_reply.result (λ v a b h i. h ∙ sym i) tt tt serves (c.read.ensures.leaves (crashed s) serves.reads) c.bytes_reply.ensures)
 
 pub returns-in-Read-clause-ends : goal.returns-in-Read-clause-ends
-returns-in-Read-clause-ends g c = reply_ends SaysBytes _ _ c.read_with.result c.bytes_reply.result (λ v n h. no_bytes h) c.bytes_reply.ensures c.read_with.ensures.ends
+returns-in-Read-clause-ends g c = reply_ends SaysBytes _ _ c.read.result c.bytes_reply.result (λ v n h. no_bytes h) c.bytes_reply.ensures c.read.ensures.ends
 
 pub returns-in-Truncate-clause-answered : goal.returns-in-Truncate-clause-answered
 returns-in-Truncate-clause-answered g c =
     let shape = c.args.shape.now in
     let x = g.V.Blocks.seen c.args.v.now in
     let k = g.V.Volume.kept c.args.v.now in
-    let y = g.V.Blocks.seen c.truncate_with.new.v in
-    let j = g.V.Volume.kept c.truncate_with.new.v in
+    let y = g.V.Blocks.seen c.truncate.new.v in
+    let j = g.V.Volume.kept c.truncate.new.v in
     let p = c.as_slice-in-Truncate.result.now in
     let r = Truncate p c.in-Truncate.len in
     let is : c.args.request.now ≡ r = c.in-Truncate.is ∙ ap (λ a. Truncate a c.in-Truncate.len) (sym c.as_slice-in-Truncate.ensures) in
-    λ s serves. subst (λ a. RequestEnds shape y j c.args.table.now s a c.done_reply.result) (sym is) (request_ends {T = Unit {0}} SaysDone shape x k y j c.args.table.now s r c.truncate_with.result c.done_reply.result (λ v a b h i. h ∙ sym i) tt tt serves (c.truncate_with.ensures.leaves (crashed s) serves.reads) c.done_reply.ensures)
+    λ s serves. subst (λ a. RequestEnds shape y j c.args.table.now s a c.done_reply.result) (sym is) (request_ends {T = Unit {0}} SaysDone shape x k y j c.args.table.now s r c.truncate.result c.done_reply.result (λ v a b h i. h ∙ sym i) tt tt serves (c.truncate.ensures.leaves (crashed s) serves.reads) c.done_reply.ensures)
 
 pub returns-in-Truncate-clause-ends : goal.returns-in-Truncate-clause-ends
-returns-in-Truncate-clause-ends g c = reply_ends {T = Unit {0}} SaysDone _ _ c.truncate_with.result c.done_reply.result (λ v n h. no_done h) c.done_reply.ensures c.truncate_with.ensures.ends
+returns-in-Truncate-clause-ends g c = reply_ends {T = Unit {0}} SaysDone _ _ c.truncate.result c.done_reply.result (λ v n h. no_done h) c.done_reply.ensures c.truncate.ensures.ends
 
 pub returns-in-Region-clause-answered : goal.returns-in-Region-clause-answered
 returns-in-Region-clause-answered g c =
     let shape = c.args.shape.now in
     let x = g.V.Blocks.seen c.args.v.now in
     let k = g.V.Volume.kept c.args.v.now in
-    let y = g.V.Blocks.seen c.make_region_with.new.v in
-    let j = g.V.Volume.kept c.make_region_with.new.v in
+    let y = g.V.Blocks.seen c.make_region.new.v in
+    let j = g.V.Volume.kept c.make_region.new.v in
     let p = c.as_slice-in-Region.result.now in
     let r = MakeRegion p c.in-Region.data_pages c.in-Region.undo_pages in
     let is : c.args.request.now ≡ r = c.in-Region.is ∙ ap (λ a. MakeRegion a c.in-Region.data_pages c.in-Region.undo_pages) (sym c.as_slice-in-Region.ensures) in
-    λ s serves. subst (λ a. RequestEnds shape y j c.args.table.now s a c.ino_reply-in-Region.result) (sym is) (request_ends SaysIno shape x k y j c.args.table.now s r c.make_region_with.result c.ino_reply-in-Region.result (λ v a b h i. h ∙ sym i) tt tt serves (c.make_region_with.ensures.leaves (crashed s) serves.reads) c.ino_reply-in-Region.ensures)
+    λ s serves. subst (λ a. RequestEnds shape y j c.args.table.now s a c.ino_reply-in-Region.result) (sym is) (request_ends SaysIno shape x k y j c.args.table.now s r c.make_region.result c.ino_reply-in-Region.result (λ v a b h i. h ∙ sym i) tt tt serves (c.make_region.ensures.leaves (crashed s) serves.reads) c.ino_reply-in-Region.ensures)
 
 pub returns-in-Region-clause-ends : goal.returns-in-Region-clause-ends
-returns-in-Region-clause-ends g c = reply_ends SaysIno _ _ c.make_region_with.result c.ino_reply-in-Region.result (λ v n h. no_number h) c.ino_reply-in-Region.ensures c.make_region_with.ensures.ends
+returns-in-Region-clause-ends g c = reply_ends SaysIno _ _ c.make_region.result c.ino_reply-in-Region.result (λ v n h. no_number h) c.ino_reply-in-Region.ensures c.make_region.ensures.ends
 
 pub returns-in-Stat-clause-answered : goal.returns-in-Stat-clause-answered
 returns-in-Stat-clause-answered g c =
     let shape = c.args.shape.now in
     let x = g.V.Blocks.seen c.args.v.now in
     let k = g.V.Volume.kept c.args.v.now in
-    let y = g.V.Blocks.seen c.stat_with.new.v in
-    let j = g.V.Volume.kept c.stat_with.new.v in
+    let y = g.V.Blocks.seen c.stat.new.v in
+    let j = g.V.Volume.kept c.stat.new.v in
     let p = c.as_slice-in-Stat.result.now in
     let r = StatOf p in
     let is : c.args.request.now ≡ r = c.in-Stat.is ∙ ap StatOf (sym c.as_slice-in-Stat.ensures) in
-    λ s serves. subst (λ a. RequestEnds shape y j c.args.table.now s a c.stat_reply.result) (sym is) (request_ends SaysStat shape x k y j c.args.table.now s r c.stat_with.result c.stat_reply.result (λ v a b h i. h ∙ sym i) tt tt serves (c.stat_with.ensures.leaves (crashed s) serves.reads) c.stat_reply.ensures)
+    λ s serves. subst (λ a. RequestEnds shape y j c.args.table.now s a c.stat_reply.result) (sym is) (request_ends SaysStat shape x k y j c.args.table.now s r c.stat.result c.stat_reply.result (λ v a b h i. h ∙ sym i) tt tt serves (c.stat.ensures.leaves (crashed s) serves.reads) c.stat_reply.ensures)
 
 pub returns-in-Stat-clause-ends : goal.returns-in-Stat-clause-ends
-returns-in-Stat-clause-ends g c = reply_ends SaysStat _ _ c.stat_with.result c.stat_reply.result (λ v n h. no_stat h) c.stat_reply.ensures c.stat_with.ensures.ends
+returns-in-Stat-clause-ends g c = reply_ends SaysStat _ _ c.stat.result c.stat_reply.result (λ v n h. no_stat h) c.stat_reply.ensures c.stat.ensures.ends
 
 pub returns-in-Mkdir-clause-in_step : goal.returns-in-Mkdir-clause-in_step
-returns-in-Mkdir-clause-in_step g c = λ on. c.mkdir_with.ensures.in_step (not_stopped SaysIno c.mkdir_with.result c.ino_reply.result c.ino_reply.ensures on)
+returns-in-Mkdir-clause-in_step g c = λ on. c.mkdir.ensures.in_step (not_stopped SaysIno c.mkdir.result c.ino_reply.result c.ino_reply.ensures on)
 
 pub returns-in-Create-clause-in_step : goal.returns-in-Create-clause-in_step
-returns-in-Create-clause-in_step g c = λ on. c.create_with.ensures.in_step (not_stopped SaysIno c.create_with.result c.ino_reply-in-Create.result c.ino_reply-in-Create.ensures on)
+returns-in-Create-clause-in_step g c = λ on. c.create.ensures.in_step (not_stopped SaysIno c.create.result c.ino_reply-in-Create.result c.ino_reply-in-Create.ensures on)
 
 pub returns-in-Write-clause-in_step : goal.returns-in-Write-clause-in_step
-returns-in-Write-clause-in_step g c = λ on. c.write_with.ensures.in_step (not_stopped SaysCount c.write_with.result c.count_reply.result c.count_reply.ensures on)
+returns-in-Write-clause-in_step g c = λ on. c.write.ensures.in_step (not_stopped SaysCount c.write.result c.count_reply.result c.count_reply.ensures on)
 
 pub returns-in-Read-clause-in_step : goal.returns-in-Read-clause-in_step
-returns-in-Read-clause-in_step g c = λ on. c.read_with.ensures.in_step (not_stopped SaysBytes c.read_with.result c.bytes_reply.result c.bytes_reply.ensures on)
+returns-in-Read-clause-in_step g c = λ on. c.read.ensures.in_step (not_stopped SaysBytes c.read.result c.bytes_reply.result c.bytes_reply.ensures on)
 
 pub returns-in-Truncate-clause-in_step : goal.returns-in-Truncate-clause-in_step
-returns-in-Truncate-clause-in_step g c = λ on. c.truncate_with.ensures.in_step (not_stopped {T = Unit {0}} SaysDone c.truncate_with.result c.done_reply.result c.done_reply.ensures on)
+returns-in-Truncate-clause-in_step g c = λ on. c.truncate.ensures.in_step (not_stopped {T = Unit {0}} SaysDone c.truncate.result c.done_reply.result c.done_reply.ensures on)
 
 pub returns-in-Region-clause-in_step : goal.returns-in-Region-clause-in_step
-returns-in-Region-clause-in_step g c = λ on. c.make_region_with.ensures.in_step (not_stopped SaysIno c.make_region_with.result c.ino_reply-in-Region.result c.ino_reply-in-Region.ensures on)
+returns-in-Region-clause-in_step g c = λ on. c.make_region.ensures.in_step (not_stopped SaysIno c.make_region.result c.ino_reply-in-Region.result c.ino_reply-in-Region.ensures on)
 
 pub returns-in-Stat-clause-in_step : goal.returns-in-Stat-clause-in_step
-returns-in-Stat-clause-in_step g c = λ on. c.stat_with.ensures.in_step (not_stopped SaysStat c.stat_with.result c.stat_reply.result c.stat_reply.ensures on)
+returns-in-Stat-clause-in_step g c = λ on. c.stat.ensures.in_step (not_stopped SaysStat c.stat.result c.stat_reply.result c.stat_reply.ensures on)
 
 pub answer_by_name-requires-clause-by_name : goal.answer_by_name-requires-clause-by_name
 answer_by_name-requires-clause-by_name g c =
@@ -177,116 +177,116 @@ returns-in_default-clause-goes g c = c.answer_by_name.ensures.goes
 pub returns-in_default-clause-ends : goal.returns-in_default-clause-ends
 returns-in_default-clause-ends g c = c.answer_by_name.ensures.ends
 
-pub mkdir_with-requires-clause-sound : goal.mkdir_with-requires-clause-sound
-mkdir_with-requires-clause-sound g c = c.requires.sound
+pub mkdir-requires-clause-sound : goal.mkdir-requires-clause-sound
+mkdir-requires-clause-sound g c = c.requires.sound
 
-pub mkdir_with-requires-clause-in_step : goal.mkdir_with-requires-clause-in_step
-mkdir_with-requires-clause-in_step g c = c.requires.in_step
+pub mkdir-requires-clause-in_step : goal.mkdir-requires-clause-in_step
+mkdir-requires-clause-in_step g c = c.requires.in_step
 
-pub mkdir_with-requires-clause-path : goal.mkdir_with-requires-clause-path
-mkdir_with-requires-clause-path g c = subst IsPath (sym c.as_slice.ensures) (subst IsRequest c.in-Mkdir.is c.requires.request)
+pub mkdir-requires-clause-path : goal.mkdir-requires-clause-path
+mkdir-requires-clause-path g c = subst IsPath (sym c.as_slice.ensures) (subst IsRequest c.in-Mkdir.is c.requires.request)
 
 pub returns-in-Mkdir-clause-goes : goal.returns-in-Mkdir-clause-goes
-returns-in-Mkdir-clause-goes g c = c.mkdir_with.ensures.goes
+returns-in-Mkdir-clause-goes g c = c.mkdir.ensures.goes
 
 pub returns-in-Mkdir-clause-sound : goal.returns-in-Mkdir-clause-sound
-returns-in-Mkdir-clause-sound g c = c.mkdir_with.ensures.sound
+returns-in-Mkdir-clause-sound g c = c.mkdir.ensures.sound
 
-pub create_with-requires-clause-sound : goal.create_with-requires-clause-sound
-create_with-requires-clause-sound g c = c.requires.sound
+pub create-requires-clause-sound : goal.create-requires-clause-sound
+create-requires-clause-sound g c = c.requires.sound
 
-pub create_with-requires-clause-in_step : goal.create_with-requires-clause-in_step
-create_with-requires-clause-in_step g c = c.requires.in_step
+pub create-requires-clause-in_step : goal.create-requires-clause-in_step
+create-requires-clause-in_step g c = c.requires.in_step
 
-pub create_with-requires-clause-path : goal.create_with-requires-clause-path
-create_with-requires-clause-path g c = subst IsPath (sym c.as_slice-in-Create.ensures) (subst IsRequest c.in-Create.is c.requires.request)
+pub create-requires-clause-path : goal.create-requires-clause-path
+create-requires-clause-path g c = subst IsPath (sym c.as_slice-in-Create.ensures) (subst IsRequest c.in-Create.is c.requires.request)
 
 pub returns-in-Create-clause-goes : goal.returns-in-Create-clause-goes
-returns-in-Create-clause-goes g c = c.create_with.ensures.goes
+returns-in-Create-clause-goes g c = c.create.ensures.goes
 
 pub returns-in-Create-clause-sound : goal.returns-in-Create-clause-sound
-returns-in-Create-clause-sound g c = c.create_with.ensures.sound
+returns-in-Create-clause-sound g c = c.create.ensures.sound
 
-pub write_with-requires-clause-sound : goal.write_with-requires-clause-sound
-write_with-requires-clause-sound g c = c.requires.sound
+pub write-requires-clause-sound : goal.write-requires-clause-sound
+write-requires-clause-sound g c = c.requires.sound
 
-pub write_with-requires-clause-in_step : goal.write_with-requires-clause-in_step
-write_with-requires-clause-in_step g c = c.requires.in_step
+pub write-requires-clause-in_step : goal.write-requires-clause-in_step
+write-requires-clause-in_step g c = c.requires.in_step
 
-pub write_with-requires-clause-path : goal.write_with-requires-clause-path
-write_with-requires-clause-path g c = subst IsPath (sym c.as_slice-in-Write.ensures) (subst IsRequest c.in-Write.is c.requires.request).0
+pub write-requires-clause-path : goal.write-requires-clause-path
+write-requires-clause-path g c = subst IsPath (sym c.as_slice-in-Write.ensures) (subst IsRequest c.in-Write.is c.requires.request).0
 
 pub returns-in-Write-clause-goes : goal.returns-in-Write-clause-goes
-returns-in-Write-clause-goes g c = c.write_with.ensures.goes
+returns-in-Write-clause-goes g c = c.write.ensures.goes
 
 pub returns-in-Write-clause-sound : goal.returns-in-Write-clause-sound
-returns-in-Write-clause-sound g c = c.write_with.ensures.sound
+returns-in-Write-clause-sound g c = c.write.ensures.sound
 
-pub read_with-requires-clause-sound : goal.read_with-requires-clause-sound
-read_with-requires-clause-sound g c = c.requires.sound
+pub read-requires-clause-sound : goal.read-requires-clause-sound
+read-requires-clause-sound g c = c.requires.sound
 
-pub read_with-requires-clause-in_step : goal.read_with-requires-clause-in_step
-read_with-requires-clause-in_step g c = c.requires.in_step
+pub read-requires-clause-in_step : goal.read-requires-clause-in_step
+read-requires-clause-in_step g c = c.requires.in_step
 
-pub read_with-requires-clause-path : goal.read_with-requires-clause-path
-read_with-requires-clause-path g c = subst IsPath (sym c.as_slice-in-Read.ensures) (subst IsRequest c.in-Read.is c.requires.request).0
+pub read-requires-clause-path : goal.read-requires-clause-path
+read-requires-clause-path g c = subst IsPath (sym c.as_slice-in-Read.ensures) (subst IsRequest c.in-Read.is c.requires.request).0
 
 pub returns-in-Read-clause-goes : goal.returns-in-Read-clause-goes
-returns-in-Read-clause-goes g c = c.read_with.ensures.goes
+returns-in-Read-clause-goes g c = c.read.ensures.goes
 
 pub returns-in-Read-clause-sound : goal.returns-in-Read-clause-sound
-returns-in-Read-clause-sound g c = c.read_with.ensures.sound
+returns-in-Read-clause-sound g c = c.read.ensures.sound
 
-pub truncate_with-requires-clause-sound : goal.truncate_with-requires-clause-sound
-truncate_with-requires-clause-sound g c = c.requires.sound
+pub truncate-requires-clause-sound : goal.truncate-requires-clause-sound
+truncate-requires-clause-sound g c = c.requires.sound
 
-pub truncate_with-requires-clause-in_step : goal.truncate_with-requires-clause-in_step
-truncate_with-requires-clause-in_step g c = c.requires.in_step
+pub truncate-requires-clause-in_step : goal.truncate-requires-clause-in_step
+truncate-requires-clause-in_step g c = c.requires.in_step
 
-pub truncate_with-requires-clause-path : goal.truncate_with-requires-clause-path
-truncate_with-requires-clause-path g c = subst IsPath (sym c.as_slice-in-Truncate.ensures) (subst IsRequest c.in-Truncate.is c.requires.request)
+pub truncate-requires-clause-path : goal.truncate-requires-clause-path
+truncate-requires-clause-path g c = subst IsPath (sym c.as_slice-in-Truncate.ensures) (subst IsRequest c.in-Truncate.is c.requires.request)
 
 pub returns-in-Truncate-clause-goes : goal.returns-in-Truncate-clause-goes
-returns-in-Truncate-clause-goes g c = c.truncate_with.ensures.goes
+returns-in-Truncate-clause-goes g c = c.truncate.ensures.goes
 
 pub returns-in-Truncate-clause-sound : goal.returns-in-Truncate-clause-sound
-returns-in-Truncate-clause-sound g c = c.truncate_with.ensures.sound
+returns-in-Truncate-clause-sound g c = c.truncate.ensures.sound
 
-pub make_region_with-requires-clause-sound : goal.make_region_with-requires-clause-sound
-make_region_with-requires-clause-sound g c = c.requires.sound
+pub make_region-requires-clause-sound : goal.make_region-requires-clause-sound
+make_region-requires-clause-sound g c = c.requires.sound
 
-pub make_region_with-requires-clause-in_step : goal.make_region_with-requires-clause-in_step
-make_region_with-requires-clause-in_step g c = c.requires.in_step
+pub make_region-requires-clause-in_step : goal.make_region-requires-clause-in_step
+make_region-requires-clause-in_step g c = c.requires.in_step
 
-pub make_region_with-requires-clause-path : goal.make_region_with-requires-clause-path
-make_region_with-requires-clause-path g c = subst IsPath (sym c.as_slice-in-Region.ensures) (subst IsRequest c.in-Region.is c.requires.request).0
+pub make_region-requires-clause-path : goal.make_region-requires-clause-path
+make_region-requires-clause-path g c = subst IsPath (sym c.as_slice-in-Region.ensures) (subst IsRequest c.in-Region.is c.requires.request).0
 
 pub returns-in-Region-clause-goes : goal.returns-in-Region-clause-goes
-returns-in-Region-clause-goes g c = c.make_region_with.ensures.goes
+returns-in-Region-clause-goes g c = c.make_region.ensures.goes
 
 pub returns-in-Region-clause-sound : goal.returns-in-Region-clause-sound
-returns-in-Region-clause-sound g c = c.make_region_with.ensures.sound
+returns-in-Region-clause-sound g c = c.make_region.ensures.sound
 
-pub stat_with-requires-clause-sound : goal.stat_with-requires-clause-sound
-stat_with-requires-clause-sound g c = c.requires.sound
+pub stat-requires-clause-sound : goal.stat-requires-clause-sound
+stat-requires-clause-sound g c = c.requires.sound
 
-pub stat_with-requires-clause-in_step : goal.stat_with-requires-clause-in_step
-stat_with-requires-clause-in_step g c = c.requires.in_step
+pub stat-requires-clause-in_step : goal.stat-requires-clause-in_step
+stat-requires-clause-in_step g c = c.requires.in_step
 
-pub stat_with-requires-clause-path : goal.stat_with-requires-clause-path
-stat_with-requires-clause-path g c = subst IsPath (sym c.as_slice-in-Stat.ensures) (subst IsRequest c.in-Stat.is c.requires.request)
+pub stat-requires-clause-path : goal.stat-requires-clause-path
+stat-requires-clause-path g c = subst IsPath (sym c.as_slice-in-Stat.ensures) (subst IsRequest c.in-Stat.is c.requires.request)
 
 pub returns-in-Stat-clause-goes : goal.returns-in-Stat-clause-goes
-returns-in-Stat-clause-goes g c = c.stat_with.ensures.goes
+returns-in-Stat-clause-goes g c = c.stat.ensures.goes
 
 pub returns-in-Stat-clause-sound : goal.returns-in-Stat-clause-sound
-returns-in-Stat-clause-sound g c = c.stat_with.ensures.sound
+returns-in-Stat-clause-sound g c = c.stat.ensures.sound
 
-pub make_region_with-requires-clause-pages : goal.make_region_with-requires-clause-pages
-make_region_with-requires-clause-pages g c = (subst IsRequest c.in-Region.is c.requires.request).1
+pub make_region-requires-clause-pages : goal.make_region-requires-clause-pages
+make_region-requires-clause-pages g c = (subst IsRequest c.in-Region.is c.requires.request).1
 
-pub make_region_with-requires-clause-undo : goal.make_region_with-requires-clause-undo
-make_region_with-requires-clause-undo g c = (subst IsRequest c.in-Region.is c.requires.request).2
+pub make_region-requires-clause-undo : goal.make_region-requires-clause-undo
+make_region-requires-clause-undo g c = (subst IsRequest c.in-Region.is c.requires.request).2
 
 pub answer_by_name-requires-clause-sound : goal.answer_by_name-requires-clause-sound
 answer_by_name-requires-clause-sound g c = c.requires.sound

@@ -9,7 +9,7 @@ use Rattle.file_ends.proofs.CallEnds.{after_well, ends_ok, ends_on, well}
 use Rattle.file_tree.proofs.MemoSteps.{same_step}
 use Rattle.node_making.proofs.StatAnswered.{stat_answer}
 use Rattle.file_ends.proofs.Unchanged.{leaves_then, leaves_read}
-use Rattle.node_making.proofs.looking.stat_with.Goals as goal
+use Rattle.node_making.proofs.looking.stat.Goals as goal
 
 pub returns-in_err-i-clause-leaves : goal.returns-in_err-i-clause-leaves
 returns-in_err-i-clause-leaves g c =

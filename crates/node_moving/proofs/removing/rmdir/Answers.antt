@@ -2,18 +2,17 @@ use Rattle.file_ends.proofs.Failed.{never_ok}
 use Rattle.file_ends.proofs.Common.{◌≡◌, ◌<◌, ◌∙◌, le_refl, refl, sym, ap, subst, err_from_is_err_and, ◌then◌, ends_by_well, answered, last_of, held_of, names_of, volume_layout, ReadsAs, LeavesInUse, IsInode, leaves_refl, NoneDone, Forgets, goes_refl}
 use Rattle.std.specs.Prelude.{OnOk}
 use Rattle.rio_requests.specs.declared.reply.Reply.TheVariants.{Ok as Done}
-use Rattle.rio_requests.specs.Answers.{unlink as unlink_of, unlink_at, without}
+use Rattle.rio_requests.specs.Answers.{rmdir as rmdir_of, rmdir_at, without}
 use Rattle.file_ends.specs.Ends.{FileEnds, SaysDone}
-use Rattle.file_tree.specs.Walks.{IsRow, ino_numbers}
+use Rattle.file_tree.specs.Walks.{IsRow}
 use Rattle.file_ends.specs.declared.failures.FileFail.TheVariants.{Refused}
-use Rattle.node_moving.proofs.AmongInodes.{open_read}
 use Rattle.file_ends.proofs.AnsweredAt.{ends_after, ends_look, fails_unrefused, ends_as}
-use Rattle.node_moving.proofs.AnsweredRows.{fails_unlink, unlinked_at, unlinked_dir, unlinked_leaf, unlinked_open}
+use Rattle.node_moving.proofs.AnsweredRows.{dir_bare, dir_full, fails_rmdir, inode_size_held, rmdir_bare, rmdir_full, rmdir_leaf, rmdir_taken}
 use Rattle.file_ends.proofs.CallEnds.{after_well, ends_on, ends_refused, well}
 use Rattle.file_tree.proofs.LookedAt.{dir_read, inode_kind_held, leaf_read}
 use Rattle.file_tree.proofs.MemoSteps.{same_step}
 use Rattle.file_ends.proofs.Unchanged.{can_again, leaves_then, leaves_read}
-use Rattle.node_moving.proofs.removing.unlink_with.Goals as goal
+use Rattle.node_moving.proofs.removing.rmdir.Goals as goal
 
 pub returns-then-is_root-clause-leaves : goal.returns-then-is_root-clause-leaves
 returns-then-is_root-clause-leaves g c =
@@ -21,8 +20,7 @@ returns-then-is_root-clause-leaves g c =
     let x = g.V.Blocks.seen c.args.v.now in
     let k = g.V.Volume.kept c.args.v.now in
     let names = names_of c.args.path.now in
-    let busy = ino_numbers c.args.busy.now in
-    λ s reads. ends_look {T = Unit {0}} SaysDone shape x k x k s (unlink_of s c.args.path.now busy) (NoneDone s) _ (Refused 9) (Refused 9) refl refl c.requires.can.ready (g.met.V.Volume.settled _ c.requires.sound) (leaves_refl shape x k c.requires.can.ready) reads (refl, refl) (ap (λ ns. unlink_at s busy ns) (c.is_root.ensures.root c.if-is_root.true))
+    λ s reads. ends_look {T = Unit {0}} SaysDone shape x k x k s (rmdir_of s c.args.path.now) (NoneDone s) _ (Refused 9) (Refused 9) refl refl c.requires.can.ready (g.met.V.Volume.settled _ c.requires.sound) (leaves_refl shape x k c.requires.can.ready) reads (refl, refl) (ap (λ ns. rmdir_at s ns) (c.is_root.ensures.root c.if-is_root.true))
 
 pub returns-then-is_root-clause-ends : goal.returns-then-is_root-clause-ends
 returns-then-is_root-clause-ends g c = ends_refused _ _ 9 (ends_by_well _ _ _ _ (le_refl _) refl (λ a. a) (λ a. a))
@@ -36,11 +34,10 @@ returns-in_err-row-clause-leaves g c =
     let x = g.V.Blocks.seen c.args.v.now in
     let k = g.V.Volume.kept c.args.v.now in
     let names = names_of c.args.path.now in
-    let busy = ino_numbers c.args.busy.now in
     let m = g.V.Blocks.seen c.walk_to_row.new.v in
     let l = g.V.Volume.kept c.walk_to_row.new.v in
     let p = err_from_is_err_and c.from_residual.result c.from_residual.ensures.1 in
-    λ s reads. ends_look {T = Unit {0}} SaysDone shape x k m l s (unlink_of s c.args.path.now busy) (NoneDone s) c.from_residual.result _ p.0 p.1 p.2 c.requires.can.ready (g.met.V.Volume.settled _ c.requires.sound) c.walk_to_row.ensures.leaves reads (refl, refl) (fails_unlink s busy names c.walk_to_row.result _ (c.is_root.ensures.not c.if-is_root.false) c.in_err-row.was (c.walk_to_row.ensures.value s reads))
+    λ s reads. ends_look {T = Unit {0}} SaysDone shape x k m l s (rmdir_of s c.args.path.now) (NoneDone s) c.from_residual.result _ p.0 p.1 p.2 c.requires.can.ready (g.met.V.Volume.settled _ c.requires.sound) c.walk_to_row.ensures.leaves reads (refl, refl) (fails_rmdir s names c.walk_to_row.result _ (c.is_root.ensures.not c.if-is_root.false) c.in_err-row.was (c.walk_to_row.ensures.value s reads))
 
 pub returns-in_err-row-clause-ends : goal.returns-in_err-row-clause-ends
 returns-in_err-row-clause-ends g c =
@@ -56,14 +53,13 @@ returns-in_err-inode-clause-leaves g c =
     let x = g.V.Blocks.seen c.args.v.now in
     let k = g.V.Volume.kept c.args.v.now in
     let names = names_of c.args.path.now in
-    let busy = ino_numbers c.args.busy.now in
     let m = g.V.Blocks.seen c.walk_to_row.new.v in
     let l = g.V.Volume.kept c.walk_to_row.new.v in
     let n = g.V.Blocks.seen c.node_inode.new.v in
     let q = g.V.Volume.kept c.node_inode.new.v in
     let leaves : LeavesInUse (volume_layout shape x.words) x k n q = leaves_then shape x k m l n q c.walk_to_row.ensures.leaves c.walk_to_row.ensures.words (leaves_read c.args.shape.now _ _ _ _ _ _ _ _ c.walk_to_row.ensures.can.ready c.node_inode.ensures.looks c.node_inode.ensures.shape c.node_inode.ensures.named (g.met.V.Volume.passes_keeps _ _ c.node_inode.ensures.passes)) in
     let p = err_from_is_err_and c.from_residual-in_err-inode.result c.from_residual-in_err-inode.ensures.1 in
-    λ s reads. ends_look {T = Unit {0}} SaysDone shape x k n q s (unlink_of s c.args.path.now busy) (NoneDone s) c.from_residual-in_err-inode.result _ p.0 p.1 p.2 c.requires.can.ready (g.met.V.Volume.settled _ c.requires.sound) leaves reads (refl, refl) (fails_unrefused s (unlink_of s c.args.path.now busy) c.node_inode.result _ c.in_err-inode.was c.node_inode.ensures.other)
+    λ s reads. ends_look {T = Unit {0}} SaysDone shape x k n q s (rmdir_of s c.args.path.now) (NoneDone s) c.from_residual-in_err-inode.result _ p.0 p.1 p.2 c.requires.can.ready (g.met.V.Volume.settled _ c.requires.sound) leaves reads (refl, refl) (fails_unrefused s (rmdir_of s c.args.path.now) c.node_inode.result _ c.in_err-inode.was c.node_inode.ensures.other)
 
 pub returns-in_err-inode-clause-goes : goal.returns-in_err-inode-clause-goes
 returns-in_err-inode-clause-goes g c = c.walk_to_row.ensures.goes then (g.met.V.Volume.passes_keeps _ _ c.node_inode.ensures.passes).goes
@@ -73,13 +69,12 @@ returns-in_err-inode-clause-ends g c =
     let p = err_from_is_err_and c.from_residual-in_err-inode.result c.from_residual-in_err-inode.ensures.1 in
     after_well _ _ _ _ _ (well _ _ c.walk_to_row.result _ c.in_ok-row.was c.walk_to_row.ensures.ends) (ends_on _ _ c.node_inode.result c.from_residual-in_err-inode.result _ p.0 c.in_err-inode.was p.1 p.2 c.node_inode.ensures.ends)
 
-pub returns-then-inode-eq-DIRECTORY-clause-leaves : goal.returns-then-inode-eq-DIRECTORY-clause-leaves
-returns-then-inode-eq-DIRECTORY-clause-leaves g c =
+pub returns-then-inode-ne-DIRECTORY-clause-leaves : goal.returns-then-inode-ne-DIRECTORY-clause-leaves
+returns-then-inode-ne-DIRECTORY-clause-leaves g c =
     let shape = c.args.shape.now in
     let x = g.V.Blocks.seen c.args.v.now in
     let k = g.V.Volume.kept c.args.v.now in
     let names = names_of c.args.path.now in
-    let busy = ino_numbers c.args.busy.now in
     let m = g.V.Blocks.seen c.walk_to_row.new.v in
     let l = g.V.Volume.kept c.walk_to_row.new.v in
     let n = g.V.Blocks.seen c.node_inode.new.v in
@@ -91,21 +86,21 @@ returns-then-inode-eq-DIRECTORY-clause-leaves g c =
     let used = c.in_ok-row.ensures.used in
     let is : IsInode x.words i inode = subst (λ f. IsInode f i inode) c.walk_to_row.ensures.words c.in_ok-inode.ensures.value in
     let kind : inode.kind ≡ (held_of shape x.words i).kind = inode_kind_held shape x.words i inode used is in
-    λ s reads. ends_look {T = Unit {0}} SaysDone shape x k n q s (unlink_of s c.args.path.now busy) (NoneDone s) _ (Refused 5) (Refused 5) refl refl c.requires.can.ready (g.met.V.Volume.settled _ c.requires.sound) leaves reads (refl, refl) (unlinked_at s busy names row (c.is_root.ensures.not c.if-is_root.false) (c.in_ok-row.ensures.value s reads) ∙ unlinked_dir s busy row.dir.0 (last_of names) i (dir_read shape x.words s i reads (sym kind ∙ c.if-inode-eq-DIRECTORY.true)))
+    let size : inode.size ≡ (held_of shape x.words i).size = inode_size_held shape x.words i inode used is in
+    λ s reads. ends_look {T = Unit {0}} SaysDone shape x k n q s (rmdir_of s c.args.path.now) (NoneDone s) _ (Refused 4) (Refused 4) refl refl c.requires.can.ready (g.met.V.Volume.settled _ c.requires.sound) leaves reads (refl, refl) (rmdir_taken s names row (c.is_root.ensures.not c.if-is_root.false) (c.in_ok-row.ensures.value s reads) ∙ rmdir_leaf s row.dir.0 (last_of names) i (leaf_read shape x.words s i reads (λ dir. c.if-inode-ne-DIRECTORY.true (kind ∙ dir))))
 
-pub returns-then-inode-eq-DIRECTORY-clause-goes : goal.returns-then-inode-eq-DIRECTORY-clause-goes
-returns-then-inode-eq-DIRECTORY-clause-goes g c = c.walk_to_row.ensures.goes then (g.met.V.Volume.passes_keeps _ _ c.node_inode.ensures.passes).goes
+pub returns-then-inode-ne-DIRECTORY-clause-goes : goal.returns-then-inode-ne-DIRECTORY-clause-goes
+returns-then-inode-ne-DIRECTORY-clause-goes g c = c.walk_to_row.ensures.goes then (g.met.V.Volume.passes_keeps _ _ c.node_inode.ensures.passes).goes
 
-pub returns-then-inode-eq-DIRECTORY-clause-ends : goal.returns-then-inode-eq-DIRECTORY-clause-ends
-returns-then-inode-eq-DIRECTORY-clause-ends g c = ends_refused _ _ 5 (after_well _ _ _ _ _ (well _ _ c.walk_to_row.result _ c.in_ok-row.was c.walk_to_row.ensures.ends) (well _ _ c.node_inode.result _ c.in_ok-inode.was c.node_inode.ensures.ends))
+pub returns-then-inode-ne-DIRECTORY-clause-ends : goal.returns-then-inode-ne-DIRECTORY-clause-ends
+returns-then-inode-ne-DIRECTORY-clause-ends g c = ends_refused _ _ 4 (after_well _ _ _ _ _ (well _ _ c.walk_to_row.result _ c.in_ok-row.was c.walk_to_row.ensures.ends) (well _ _ c.node_inode.result _ c.in_ok-inode.was c.node_inode.ensures.ends))
 
-pub returns-then-is_open-clause-leaves : goal.returns-then-is_open-clause-leaves
-returns-then-is_open-clause-leaves g c =
+pub returns-then-inode-ne0-clause-leaves : goal.returns-then-inode-ne0-clause-leaves
+returns-then-inode-ne0-clause-leaves g c =
     let shape = c.args.shape.now in
     let x = g.V.Blocks.seen c.args.v.now in
     let k = g.V.Volume.kept c.args.v.now in
     let names = names_of c.args.path.now in
-    let busy = ino_numbers c.args.busy.now in
     let m = g.V.Blocks.seen c.walk_to_row.new.v in
     let l = g.V.Volume.kept c.walk_to_row.new.v in
     let n = g.V.Blocks.seen c.node_inode.new.v in
@@ -117,13 +112,14 @@ returns-then-is_open-clause-leaves g c =
     let used = c.in_ok-row.ensures.used in
     let is : IsInode x.words i inode = subst (λ f. IsInode f i inode) c.walk_to_row.ensures.words c.in_ok-inode.ensures.value in
     let kind : inode.kind ≡ (held_of shape x.words i).kind = inode_kind_held shape x.words i inode used is in
-    λ s reads. ends_look {T = Unit {0}} SaysDone shape x k n q s (unlink_of s c.args.path.now busy) (NoneDone s) _ (Refused 13) (Refused 13) refl refl c.requires.can.ready (g.met.V.Volume.settled _ c.requires.sound) leaves reads (refl, refl) (unlinked_at s busy names row (c.is_root.ensures.not c.if-is_root.false) (c.in_ok-row.ensures.value s reads) ∙ unlinked_open s busy row.dir.0 (last_of names) i (leaf_read shape x.words s i reads (λ dir. c.if-inode-eq-DIRECTORY.false (kind ∙ dir))) (open_read shape x.words s busy i inode.kind reads used kind ∙ sym c.is_open.ensures ∙ c.if-is_open.true))
+    let size : inode.size ≡ (held_of shape x.words i).size = inode_size_held shape x.words i inode used is in
+    λ s reads. ends_look {T = Unit {0}} SaysDone shape x k n q s (rmdir_of s c.args.path.now) (NoneDone s) _ (Refused 6) (Refused 6) refl refl c.requires.can.ready (g.met.V.Volume.settled _ c.requires.sound) leaves reads (refl, refl) (rmdir_taken s names row (c.is_root.ensures.not c.if-is_root.false) (c.in_ok-row.ensures.value s reads) ∙ rmdir_full s row.dir.0 (last_of names) i (dir_read shape x.words s i reads (sym kind ∙ c.if-inode-ne-DIRECTORY.false)) (dir_full shape x.words s i reads (sym kind ∙ c.if-inode-ne-DIRECTORY.false) (λ none. c.if-inode-ne0.true (size ∙ none))))
 
-pub returns-then-is_open-clause-goes : goal.returns-then-is_open-clause-goes
-returns-then-is_open-clause-goes g c = c.walk_to_row.ensures.goes then (g.met.V.Volume.passes_keeps _ _ c.node_inode.ensures.passes).goes
+pub returns-then-inode-ne0-clause-goes : goal.returns-then-inode-ne0-clause-goes
+returns-then-inode-ne0-clause-goes g c = c.walk_to_row.ensures.goes then (g.met.V.Volume.passes_keeps _ _ c.node_inode.ensures.passes).goes
 
-pub returns-then-is_open-clause-ends : goal.returns-then-is_open-clause-ends
-returns-then-is_open-clause-ends g c = ends_refused _ _ 13 (after_well _ _ _ _ _ (well _ _ c.walk_to_row.result _ c.in_ok-row.was c.walk_to_row.ensures.ends) (well _ _ c.node_inode.result _ c.in_ok-inode.was c.node_inode.ensures.ends))
+pub returns-then-inode-ne0-clause-ends : goal.returns-then-inode-ne0-clause-ends
+returns-then-inode-ne0-clause-ends g c = ends_refused _ _ 6 (after_well _ _ _ _ _ (well _ _ c.walk_to_row.result _ c.in_ok-row.was c.walk_to_row.ensures.ends) (well _ _ c.node_inode.result _ c.in_ok-inode.was c.node_inode.ensures.ends))
 
 pub take_row-requires-clause-can : goal.take_row-requires-clause-can
 take_row-requires-clause-can g c =
@@ -131,7 +127,6 @@ take_row-requires-clause-can g c =
     let x = g.V.Blocks.seen c.args.v.now in
     let k = g.V.Volume.kept c.args.v.now in
     let names = names_of c.args.path.now in
-    let busy = ino_numbers c.args.busy.now in
     let m = g.V.Blocks.seen c.walk_to_row.new.v in
     let l = g.V.Volume.kept c.walk_to_row.new.v in
     let n = g.V.Blocks.seen c.node_inode.new.v in
@@ -155,7 +150,6 @@ take_row-requires-clause-bare g c =
     let x = g.V.Blocks.seen c.args.v.now in
     let k = g.V.Volume.kept c.args.v.now in
     let names = names_of c.args.path.now in
-    let busy = ino_numbers c.args.busy.now in
     let m = g.V.Blocks.seen c.walk_to_row.new.v in
     let l = g.V.Volume.kept c.walk_to_row.new.v in
     let row = c.in_ok-row.row in
@@ -164,7 +158,8 @@ take_row-requires-clause-bare g c =
     let used = c.in_ok-row.ensures.used in
     let is : IsInode x.words i inode = subst (λ f. IsInode f i inode) c.walk_to_row.ensures.words c.in_ok-inode.ensures.value in
     let kind : inode.kind ≡ (held_of shape x.words i).kind = inode_kind_held shape x.words i inode used is in
-    subst (λ f. (held_of shape f i).kind ≡ 1 → (held_of shape f i).size ≡ 0) (sym (c.node_inode.ensures.looks.words ∙ c.walk_to_row.ensures.words)) (λ dir. absurd (c.if-inode-eq-DIRECTORY.false (kind ∙ dir)))
+    let size : inode.size ≡ (held_of shape x.words i).size = inode_size_held shape x.words i inode used is in
+    subst (λ f. (held_of shape f i).kind ≡ 1 → (held_of shape f i).size ≡ 0) (sym (c.node_inode.ensures.looks.words ∙ c.walk_to_row.ensures.words)) (λ dir. sym size ∙ c.if-inode-ne0.false)
 
 pub returns-clause-leaves : goal.returns-clause-leaves
 returns-clause-leaves g c =
@@ -172,7 +167,6 @@ returns-clause-leaves g c =
     let x = g.V.Blocks.seen c.args.v.now in
     let k = g.V.Volume.kept c.args.v.now in
     let names = names_of c.args.path.now in
-    let busy = ino_numbers c.args.busy.now in
     let m = g.V.Blocks.seen c.walk_to_row.new.v in
     let l = g.V.Volume.kept c.walk_to_row.new.v in
     let n = g.V.Blocks.seen c.node_inode.new.v in
@@ -184,10 +178,11 @@ returns-clause-leaves g c =
     let used = c.in_ok-row.ensures.used in
     let is : IsInode x.words i inode = subst (λ f. IsInode f i inode) c.walk_to_row.ensures.words c.in_ok-inode.ensures.value in
     let kind : inode.kind ≡ (held_of shape x.words i).kind = inode_kind_held shape x.words i inode used is in
+    let size : inode.size ≡ (held_of shape x.words i).size = inode_size_held shape x.words i inode used is in
     let y = g.V.Blocks.seen c.take_row.new.v in
     let j = g.V.Volume.kept c.take_row.new.v in
-    λ s reads. ends_after SaysDone shape x k n q y j s (unlink_of s c.args.path.now busy) (NoneDone s) c.take_row.result leaves (c.node_inode.ensures.looks.words ∙ c.walk_to_row.ensures.words)
-    (ends_as SaysDone shape n q y j s (unlink_of s c.args.path.now busy) (answered (without s row.dir.0 (last_of names) i) Done) (NoneDone s) c.take_row.result (unlinked_at s busy names row (c.is_root.ensures.not c.if-is_root.false) (c.in_ok-row.ensures.value s reads) ∙ unlinked_leaf s busy row.dir.0 (last_of names) i (leaf_read shape x.words s i reads (λ dir. c.if-inode-eq-DIRECTORY.false (kind ∙ dir))) (open_read shape x.words s busy i inode.kind reads used kind ∙ sym c.is_open.ensures ∙ c.if-is_open.false))
+    λ s reads. ends_after SaysDone shape x k n q y j s (rmdir_of s c.args.path.now) (NoneDone s) c.take_row.result leaves (c.node_inode.ensures.looks.words ∙ c.walk_to_row.ensures.words)
+    (ends_as SaysDone shape n q y j s (rmdir_of s c.args.path.now) (answered (without s row.dir.0 (last_of names) i) Done) (NoneDone s) c.take_row.result (rmdir_taken s names row (c.is_root.ensures.not c.if-is_root.false) (c.in_ok-row.ensures.value s reads) ∙ rmdir_bare s row.dir.0 (last_of names) i (dir_read shape x.words s i reads (sym kind ∙ c.if-inode-ne-DIRECTORY.false)) (dir_bare shape x.words s i reads (sym kind ∙ c.if-inode-ne-DIRECTORY.false) (sym size ∙ c.if-inode-ne0.false)))
     (subst (λ a. FileEnds SaysDone shape n q y j s (answered (without s row.dir.0 a i) Done) (NoneDone s) c.take_row.result) (sym c.cut_last.ensures.last) (c.take_row.ensures.leaves s (subst (λ f. ReadsAs shape f s) (sym (c.node_inode.ensures.looks.words ∙ c.walk_to_row.ensures.words)) reads))))
 
 pub returns-clause-forgets : goal.returns-clause-forgets
@@ -208,11 +203,11 @@ returns-in_err-row-clause-in_step g c = λ on. same_step c.args.shape.now _ _ _ 
 pub returns-in_err-inode-clause-in_step : goal.returns-in_err-inode-clause-in_step
 returns-in_err-inode-clause-in_step g c = λ on. same_step c.args.shape.now _ _ _ (c.node_inode.ensures.looks.words ∙ c.walk_to_row.ensures.words) c.walk_to_row.ensures.in_step
 
-pub returns-then-inode-eq-DIRECTORY-clause-in_step : goal.returns-then-inode-eq-DIRECTORY-clause-in_step
-returns-then-inode-eq-DIRECTORY-clause-in_step g c = λ on. same_step c.args.shape.now _ _ _ (c.node_inode.ensures.looks.words ∙ c.walk_to_row.ensures.words) c.walk_to_row.ensures.in_step
+pub returns-then-inode-ne-DIRECTORY-clause-in_step : goal.returns-then-inode-ne-DIRECTORY-clause-in_step
+returns-then-inode-ne-DIRECTORY-clause-in_step g c = λ on. same_step c.args.shape.now _ _ _ (c.node_inode.ensures.looks.words ∙ c.walk_to_row.ensures.words) c.walk_to_row.ensures.in_step
 
-pub returns-then-is_open-clause-in_step : goal.returns-then-is_open-clause-in_step
-returns-then-is_open-clause-in_step g c = λ on. same_step c.args.shape.now _ _ _ (c.node_inode.ensures.looks.words ∙ c.walk_to_row.ensures.words) c.walk_to_row.ensures.in_step
+pub returns-then-inode-ne0-clause-in_step : goal.returns-then-inode-ne0-clause-in_step
+returns-then-inode-ne0-clause-in_step g c = λ on. same_step c.args.shape.now _ _ _ (c.node_inode.ensures.looks.words ∙ c.walk_to_row.ensures.words) c.walk_to_row.ensures.in_step
 
 pub cut_last-requires-clause-some : goal.cut_last-requires-clause-some
 cut_last-requires-clause-some g c = c.is_root.ensures.not c.if-is_root.false
@@ -247,17 +242,17 @@ returns-in_err-inode-clause-sound g c = c.node_inode.ensures.sound
 pub returns-in_err-inode-clause-forgets : goal.returns-in_err-inode-clause-forgets
 returns-in_err-inode-clause-forgets g c = let p = err_from_is_err_and c.from_residual-in_err-inode.result c.from_residual-in_err-inode.ensures.1 in never_ok _ _ p.0 p.1
 
-pub returns-then-inode-eq-DIRECTORY-clause-sound : goal.returns-then-inode-eq-DIRECTORY-clause-sound
-returns-then-inode-eq-DIRECTORY-clause-sound g c = c.node_inode.ensures.sound
+pub returns-then-inode-ne-DIRECTORY-clause-sound : goal.returns-then-inode-ne-DIRECTORY-clause-sound
+returns-then-inode-ne-DIRECTORY-clause-sound g c = c.node_inode.ensures.sound
 
-pub returns-then-inode-eq-DIRECTORY-clause-forgets : goal.returns-then-inode-eq-DIRECTORY-clause-forgets
-returns-then-inode-eq-DIRECTORY-clause-forgets g c = tt
+pub returns-then-inode-ne-DIRECTORY-clause-forgets : goal.returns-then-inode-ne-DIRECTORY-clause-forgets
+returns-then-inode-ne-DIRECTORY-clause-forgets g c = tt
 
-pub returns-then-is_open-clause-sound : goal.returns-then-is_open-clause-sound
-returns-then-is_open-clause-sound g c = c.node_inode.ensures.sound
+pub returns-then-inode-ne0-clause-sound : goal.returns-then-inode-ne0-clause-sound
+returns-then-inode-ne0-clause-sound g c = c.node_inode.ensures.sound
 
-pub returns-then-is_open-clause-forgets : goal.returns-then-is_open-clause-forgets
-returns-then-is_open-clause-forgets g c = tt
+pub returns-then-inode-ne0-clause-forgets : goal.returns-then-inode-ne0-clause-forgets
+returns-then-inode-ne0-clause-forgets g c = tt
 
 pub returns-clause-in_step : goal.returns-clause-in_step
 returns-clause-in_step g c = c.take_row.ensures.in_step

@@ -10,7 +10,7 @@ use Rattle.file_ends.proofs.CallEnds.{after_well, ends_on, ends_refused, well}
 use Rattle.file_tree.proofs.MemoSteps.{same_step}
 use Rattle.node_moving.proofs.RenamedAs.{Walked, ends_by_call, ends_no, fails_from, fails_row, fails_to, rename_inside, rename_moves, rename_new_root, rename_old_root, rename_out}
 use Rattle.file_ends.proofs.Unchanged.{leaves_then}
-use Rattle.node_moving.proofs.renaming.rename_with.Goals as goal
+use Rattle.node_moving.proofs.renaming.rename.Goals as goal
 
 pub returns-in_err-walk-clause-leaves : goal.returns-in_err-walk-clause-leaves
 returns-in_err-walk-clause-leaves g c =

@@ -11,7 +11,7 @@ use Rattle.file_tree.specs.Walks.{ino_in}
 use Rattle.file_data.proofs.MemoData.{write_parts, write_same}
 use Rattle.file_tree.proofs.MemoEnds.{step_untold}
 use Rattle.file_tree.proofs.MemoSteps.{same_step}
-use Rattle.file_data.proofs.data.write_with.Goals as goal
+use Rattle.file_data.proofs.data.write.Goals as goal
 
 pub returns-in_err-i-clause-leaves : goal.returns-in_err-i-clause-leaves
 returns-in_err-i-clause-leaves g c =
@@ -27,11 +27,11 @@ returns-in_err-i-clause-ends g c =
     let p = err_from_is_err_and c.from_residual.result c.from_residual.ensures.1 in
     ends_on _ _ c.walk_to_file.result c.from_residual.result _ p.0 c.in_err-i.was p.1 p.2 c.walk_to_file.ensures.ends
 
-pub write_with-requires-clause-inode : goal.write_with-requires-clause-inode
-write_with-requires-clause-inode g c = subst (λ f. IsInode f c.in_ok-i.i.0 c.in_ok-i.inode) (sym c.walk_to_file.ensures.words) c.in_ok-i.ensures.inode
+pub write_at_inode-requires-clause-inode : goal.write_at_inode-requires-clause-inode
+write_at_inode-requires-clause-inode g c = subst (λ f. IsInode f c.in_ok-i.i.0 c.in_ok-i.inode) (sym c.walk_to_file.ensures.words) c.in_ok-i.ensures.inode
 
-pub write_with-requires-clause-file : goal.write_with-requires-clause-file
-write_with-requires-clause-file g c = subst (λ f. (held_of c.args.shape.now f c.in_ok-i.i.0).kind ≡ 2) (sym c.walk_to_file.ensures.words) c.in_ok-i.ensures.file
+pub write_at_inode-requires-clause-file : goal.write_at_inode-requires-clause-file
+write_at_inode-requires-clause-file g c = subst (λ f. (held_of c.args.shape.now f c.in_ok-i.i.0).kind ≡ 2) (sym c.walk_to_file.ensures.words) c.in_ok-i.ensures.file
 
 pub returns-in_err-count-clause-leaves : goal.returns-in_err-count-clause-leaves
 returns-in_err-count-clause-leaves g c =
@@ -41,24 +41,24 @@ returns-in_err-count-clause-leaves g c =
     let bytes = c.args.bytes.now in
     let m = g.V.Blocks.seen c.walk_to_file.new.v in
     let l = g.V.Volume.kept c.walk_to_file.new.v in
-    let y = g.V.Blocks.seen c.write_with.new.v in
-    let j = g.V.Volume.kept c.write_with.new.v in
+    let y = g.V.Blocks.seen c.write_at_inode.new.v in
+    let j = g.V.Volume.kept c.write_at_inode.new.v in
     let i = c.in_ok-i.i.0 in
     let way = c.walk_to_file.ensures in
-    let call = c.write_with.ensures in
+    let call = c.write_at_inode.ensures in
     let p = err_from_is_err_and c.from_residual-in_err-count.result c.from_residual-in_err-count.ensures.1 in
     λ s reads. ends_after SaysCount shape (g.V.Blocks.seen c.args.v.now) (g.V.Volume.kept c.args.v.now) m l y j s (write_of s path off bytes) (WriteDone s path off bytes (write_of s path off bytes)) c.from_residual-in_err-count.result way.leaves way.words
-    (write_ends_err shape m l y j s path off bytes i c.write_with.result c.from_residual-in_err-count.result _ p.0 c.in_err-count.was p.1 p.2
+    (write_ends_err shape m l y j s path off bytes i c.write_at_inode.result c.from_residual-in_err-count.result _ p.0 c.in_err-count.was p.1 p.2
     (subst (λ f. ReadsAs shape f s) (sym way.words) reads) (c.in_ok-i.ensures.value s reads) (subst (λ f. (held_of shape f i).kind ≡ 2) (sym way.words) c.in_ok-i.ensures.file)
     (record { value = call.value; ok = call.ok; space = call.space; too_large = call.too_large; no_space = call.no_space; refused = call.refused; fault = call.fault; stopped = call.stopped; ready = call.ready }))
 
 pub returns-in_err-count-clause-goes : goal.returns-in_err-count-clause-goes
-returns-in_err-count-clause-goes g c = c.walk_to_file.ensures.goes then c.write_with.ensures.goes
+returns-in_err-count-clause-goes g c = c.walk_to_file.ensures.goes then c.write_at_inode.ensures.goes
 
 pub returns-in_err-count-clause-ends : goal.returns-in_err-count-clause-ends
 returns-in_err-count-clause-ends g c =
     let p = err_from_is_err_and c.from_residual-in_err-count.result c.from_residual-in_err-count.ensures.1 in
-    after_well _ _ _ _ _ (well _ _ c.walk_to_file.result _ c.in_ok-i.was c.walk_to_file.ensures.ends) (ends_write _ _ c.write_with.result c.from_residual-in_err-count.result _ p.0 c.in_err-count.was p.1 p.2 c.write_with.ensures.ends)
+    after_well _ _ _ _ _ (well _ _ c.walk_to_file.result _ c.in_ok-i.was c.walk_to_file.ensures.ends) (ends_write _ _ c.write_at_inode.result c.from_residual-in_err-count.result _ p.0 c.in_err-count.was p.1 p.2 c.write_at_inode.ensures.ends)
 
 pub returns-clause-leaves : goal.returns-clause-leaves
 returns-clause-leaves g c =
@@ -68,21 +68,21 @@ returns-clause-leaves g c =
     let bytes = c.args.bytes.now in
     let m = g.V.Blocks.seen c.walk_to_file.new.v in
     let l = g.V.Volume.kept c.walk_to_file.new.v in
-    let y = g.V.Blocks.seen c.write_with.new.v in
-    let j = g.V.Volume.kept c.write_with.new.v in
+    let y = g.V.Blocks.seen c.write_at_inode.new.v in
+    let j = g.V.Volume.kept c.write_at_inode.new.v in
     let i = c.in_ok-i.i.0 in
     let way = c.walk_to_file.ensures in
-    let call = c.write_with.ensures in
+    let call = c.write_at_inode.ensures in
     λ s reads. ends_after SaysCount shape (g.V.Blocks.seen c.args.v.now) (g.V.Volume.kept c.args.v.now) m l y j s (write_of s path off bytes) (WriteDone s path off bytes (write_of s path off bytes)) (Ok c.in_ok-count.count) way.leaves way.words
-    (write_ends_ok shape m l y j s path off bytes i _ c.write_with.result c.in_ok-count.was
+    (write_ends_ok shape m l y j s path off bytes i _ c.write_at_inode.result c.in_ok-count.was
     (subst (λ f. ReadsAs shape f s) (sym way.words) reads) (c.in_ok-i.ensures.value s reads) (subst (λ f. (held_of shape f i).kind ≡ 2) (sym way.words) c.in_ok-i.ensures.file)
     (record { value = call.value; ok = call.ok; space = call.space; too_large = call.too_large; no_space = call.no_space; refused = call.refused; fault = call.fault; stopped = call.stopped; ready = call.ready }))
 
 pub returns-clause-goes : goal.returns-clause-goes
-returns-clause-goes g c = c.walk_to_file.ensures.goes then c.write_with.ensures.goes
+returns-clause-goes g c = c.walk_to_file.ensures.goes then c.write_at_inode.ensures.goes
 
 pub returns-clause-ends : goal.returns-clause-ends
-returns-clause-ends g c = ends_ok _ _ _ (after_well _ _ _ _ _ (well _ _ c.walk_to_file.result _ c.in_ok-i.was c.walk_to_file.ensures.ends) (well_write _ _ c.write_with.result _ c.in_ok-count.was c.write_with.ensures.ends))
+returns-clause-ends g c = ends_ok _ _ _ (after_well _ _ _ _ _ (well _ _ c.walk_to_file.result _ c.in_ok-i.was c.walk_to_file.ensures.ends) (well_write _ _ c.write_at_inode.result _ c.in_ok-count.was c.write_at_inode.ensures.ends))
 
 pub returns-in_err-i-clause-in_step : goal.returns-in_err-i-clause-in_step
 returns-in_err-i-clause-in_step g c = λ on. same_step c.args.shape.now _ _ _ (c.walk_to_file.ensures.words) c.walk_to_file.ensures.in_step
@@ -92,8 +92,8 @@ returns-in_err-count-clause-in_step g c = λ on.
     let shape = c.args.shape.now in
     let x = g.V.Blocks.seen c.args.v.now in
     let k = g.V.Volume.kept c.args.v.now in
-    let y = g.V.Blocks.seen c.write_with.new.v in
-    let j = g.V.Volume.kept c.write_with.new.v in
+    let y = g.V.Blocks.seen c.write_at_inode.new.v in
+    let j = g.V.Volume.kept c.write_at_inode.new.v in
     let s = c.requires.can.state in
     let reads = c.requires.can.reads in
     step_untold SaysCount shape x k y j s (write_of s c.args.path.now c.args.off c.args.bytes.now) (WriteDone s c.args.path.now c.args.off c.args.bytes.now (write_of s c.args.path.now c.args.off c.args.bytes.now)) c.walk_to_file.new.memo c.from_residual-in_err-count.result c.walk_to_file.ensures.in_step reads (write_parts s c.args.path.now c.args.off c.args.bytes.now (write_of s c.args.path.now c.args.off c.args.bytes.now)) (write_same s c.args.path.now c.args.off c.args.bytes.now) (returns-in_err-count-clause-leaves g c s reads) on
@@ -103,8 +103,8 @@ returns-clause-in_step g c = λ on.
     let shape = c.args.shape.now in
     let x = g.V.Blocks.seen c.args.v.now in
     let k = g.V.Volume.kept c.args.v.now in
-    let y = g.V.Blocks.seen c.write_with.new.v in
-    let j = g.V.Volume.kept c.write_with.new.v in
+    let y = g.V.Blocks.seen c.write_at_inode.new.v in
+    let j = g.V.Volume.kept c.write_at_inode.new.v in
     let s = c.requires.can.state in
     let reads = c.requires.can.reads in
     step_untold SaysCount shape x k y j s (write_of s c.args.path.now c.args.off c.args.bytes.now) (WriteDone s c.args.path.now c.args.off c.args.bytes.now (write_of s c.args.path.now c.args.off c.args.bytes.now)) c.walk_to_file.new.memo (Ok c.in_ok-count.count) c.walk_to_file.ensures.in_step reads (write_parts s c.args.path.now c.args.off c.args.bytes.now (write_of s c.args.path.now c.args.off c.args.bytes.now)) (write_same s c.args.path.now c.args.off c.args.bytes.now) (returns-clause-leaves g c s reads) on

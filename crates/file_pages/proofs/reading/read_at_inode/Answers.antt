@@ -4,7 +4,7 @@ use Rattle.node_pages.proofs.LookingUpRules.{named_on}
 use Rattle.file_pages.proofs.PageRead.{read_value}
 use Rattle.file_pages.proofs.Left.{bytes_sized, file_node}
 use Rattle.file_pages.proofs.Resized.{file_ino, file_placed}
-use Rattle.file_pages.proofs.reading.read_with.Goals as goal
+use Rattle.file_pages.proofs.reading.read_at_inode.Goals as goal
 
 pub read_bytes-requires-clause-ino : goal.read_bytes-requires-clause-ino
 read_bytes-requires-clause-ino g c = file_ino c.args.shape.now (g.V.Blocks.seen c.args.v.now).words c.args.i.0 c.requires.file

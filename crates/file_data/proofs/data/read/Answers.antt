@@ -12,7 +12,7 @@ use Rattle.file_tree.proofs.MemoSteps.{same_step}
 use Rattle.file_ends.proofs.Unchanged.{leaves_read, leaves_then}
 use Rattle.inode_table.specs.Inodes.{IsInode}
 use Rattle.file_tree.specs.Walks.{ino_in}
-use Rattle.file_data.proofs.data.read_with.Goals as goal
+use Rattle.file_data.proofs.data.read.Goals as goal
 
 pub returns-in_err-i-clause-leaves : goal.returns-in_err-i-clause-leaves
 returns-in_err-i-clause-leaves g c =
@@ -28,21 +28,21 @@ returns-in_err-i-clause-ends g c =
     let p = err_from_is_err_and c.from_residual.result c.from_residual.ensures.1 in
     ends_on _ _ c.walk_to_file.result c.from_residual.result _ p.0 c.in_err-i.was p.1 p.2 c.walk_to_file.ensures.ends
 
-pub read_with-requires-clause-inode : goal.read_with-requires-clause-inode
-read_with-requires-clause-inode g c = subst (λ f. IsInode f c.in_ok-i.i.0 c.in_ok-i.inode) (sym c.walk_to_file.ensures.words) c.in_ok-i.ensures.inode
+pub read_at_inode-requires-clause-inode : goal.read_at_inode-requires-clause-inode
+read_at_inode-requires-clause-inode g c = subst (λ f. IsInode f c.in_ok-i.i.0 c.in_ok-i.inode) (sym c.walk_to_file.ensures.words) c.in_ok-i.ensures.inode
 
-pub read_with-requires-clause-file : goal.read_with-requires-clause-file
-read_with-requires-clause-file g c = subst (λ f. (held_of c.args.shape.now f c.in_ok-i.i.0).kind ≡ 2) (sym c.walk_to_file.ensures.words) c.in_ok-i.ensures.file
+pub read_at_inode-requires-clause-file : goal.read_at_inode-requires-clause-file
+read_at_inode-requires-clause-file g c = subst (λ f. (held_of c.args.shape.now f c.in_ok-i.i.0).kind ≡ 2) (sym c.walk_to_file.ensures.words) c.in_ok-i.ensures.file
 
 pub returns-in_err-bytes-clause-leaves : goal.returns-in_err-bytes-clause-leaves
 returns-in_err-bytes-clause-leaves g c =
     let shape = c.args.shape.now in
     let x = g.V.Blocks.seen c.args.v.now in
     let k = g.V.Volume.kept c.args.v.now in
-    let y = g.V.Blocks.seen c.read_with.new.v in
-    let j = g.V.Volume.kept c.read_with.new.v in
+    let y = g.V.Blocks.seen c.read_at_inode.new.v in
+    let j = g.V.Volume.kept c.read_at_inode.new.v in
     let way = c.walk_to_file.ensures in
-    let call = c.read_with.ensures in
+    let call = c.read_at_inode.ensures in
     let leaves = leaves_then shape x k _ _ y j way.leaves way.words (leaves_read shape _ _ _ _ _ _ _ _ way.can.ready call.looks call.shape call.named (g.met.V.Volume.passes_keeps _ _ call.passes)) in
     let fail = c.from_residual-in_err-bytes in
     let p = err_from_is_err_and fail.result fail.ensures.1 in
@@ -50,22 +50,22 @@ returns-in_err-bytes-clause-leaves g c =
     c.requires.can.ready (g.met.V.Volume.settled _ c.requires.sound) leaves reads (refl, refl) (fails_read s (read_of s c.args.path.now c.args.off c.args.len) _)
 
 pub returns-in_err-bytes-clause-goes : goal.returns-in_err-bytes-clause-goes
-returns-in_err-bytes-clause-goes g c = c.walk_to_file.ensures.goes then (g.met.V.Volume.passes_keeps _ _ c.read_with.ensures.passes).goes
+returns-in_err-bytes-clause-goes g c = c.walk_to_file.ensures.goes then (g.met.V.Volume.passes_keeps _ _ c.read_at_inode.ensures.passes).goes
 
 pub returns-in_err-bytes-clause-ends : goal.returns-in_err-bytes-clause-ends
 returns-in_err-bytes-clause-ends g c =
     let p = err_from_is_err_and c.from_residual-in_err-bytes.result c.from_residual-in_err-bytes.ensures.1 in
-    after_well _ _ _ _ _ (well _ _ c.walk_to_file.result _ c.in_ok-i.was c.walk_to_file.ensures.ends) (ends_read _ _ c.read_with.result c.from_residual-in_err-bytes.result _ p.0 c.in_err-bytes.was p.1 p.2 c.read_with.ensures.ends)
+    after_well _ _ _ _ _ (well _ _ c.walk_to_file.result _ c.in_ok-i.was c.walk_to_file.ensures.ends) (ends_read _ _ c.read_at_inode.result c.from_residual-in_err-bytes.result _ p.0 c.in_err-bytes.was p.1 p.2 c.read_at_inode.ensures.ends)
 
 pub returns-clause-leaves : goal.returns-clause-leaves
 returns-clause-leaves g c =
     let shape = c.args.shape.now in
     let x = g.V.Blocks.seen c.args.v.now in
     let k = g.V.Volume.kept c.args.v.now in
-    let y = g.V.Blocks.seen c.read_with.new.v in
-    let j = g.V.Volume.kept c.read_with.new.v in
+    let y = g.V.Blocks.seen c.read_at_inode.new.v in
+    let j = g.V.Volume.kept c.read_at_inode.new.v in
     let way = c.walk_to_file.ensures in
-    let call = c.read_with.ensures in
+    let call = c.read_at_inode.ensures in
     let leaves = leaves_then shape x k _ _ y j way.leaves way.words (leaves_read shape _ _ _ _ _ _ _ _ way.can.ready call.looks call.shape call.named (g.met.V.Volume.passes_keeps _ _ call.passes)) in
     let path = c.args.path.now in
     let off = c.args.off in
@@ -77,16 +77,16 @@ returns-clause-leaves g c =
     (read_answer shape x.words s path off len i _ reads (c.in_ok-i.ensures.value s reads) c.in_ok-i.ensures.file value) refl
 
 pub returns-clause-goes : goal.returns-clause-goes
-returns-clause-goes g c = c.walk_to_file.ensures.goes then (g.met.V.Volume.passes_keeps _ _ c.read_with.ensures.passes).goes
+returns-clause-goes g c = c.walk_to_file.ensures.goes then (g.met.V.Volume.passes_keeps _ _ c.read_at_inode.ensures.passes).goes
 
 pub returns-clause-ends : goal.returns-clause-ends
-returns-clause-ends g c = ends_ok _ _ _ (after_well _ _ _ _ _ (well _ _ c.walk_to_file.result _ c.in_ok-i.was c.walk_to_file.ensures.ends) (well_read _ _ c.read_with.result _ c.in_ok-bytes.was c.read_with.ensures.ends))
+returns-clause-ends g c = ends_ok _ _ _ (after_well _ _ _ _ _ (well _ _ c.walk_to_file.result _ c.in_ok-i.was c.walk_to_file.ensures.ends) (well_read _ _ c.read_at_inode.result _ c.in_ok-bytes.was c.read_at_inode.ensures.ends))
 
 pub returns-in_err-i-clause-in_step : goal.returns-in_err-i-clause-in_step
 returns-in_err-i-clause-in_step g c = λ on. same_step c.args.shape.now _ _ _ (c.walk_to_file.ensures.words) c.walk_to_file.ensures.in_step
 
 pub returns-in_err-bytes-clause-in_step : goal.returns-in_err-bytes-clause-in_step
-returns-in_err-bytes-clause-in_step g c = λ on. same_step c.args.shape.now _ _ _ (c.read_with.ensures.looks.words ∙ c.walk_to_file.ensures.words) c.walk_to_file.ensures.in_step
+returns-in_err-bytes-clause-in_step g c = λ on. same_step c.args.shape.now _ _ _ (c.read_at_inode.ensures.looks.words ∙ c.walk_to_file.ensures.words) c.walk_to_file.ensures.in_step
 
 pub returns-clause-in_step : goal.returns-clause-in_step
-returns-clause-in_step g c = λ on. same_step c.args.shape.now _ _ _ (c.read_with.ensures.looks.words ∙ c.walk_to_file.ensures.words) c.walk_to_file.ensures.in_step
+returns-clause-in_step g c = λ on. same_step c.args.shape.now _ _ _ (c.read_at_inode.ensures.looks.words ∙ c.walk_to_file.ensures.words) c.walk_to_file.ensures.in_step

@@ -5,7 +5,7 @@ use Rattle.file_pages.proofs.Common.{◌≡◌, ◌<◌, ◌⊎◌, length, sym,
 use Rattle.node_pages.specs.Changes.{wanted_blocks}
 use Rattle.file_pages.specs.Files.{HasSpace, file_bytes}
 use Rattle.file_pages.proofs.Resized.{file_ino, file_placed, file_size, size_fault, size_ok, size_ready, size_refused, size_stopped}
-use Rattle.file_pages.proofs.resizing.resize_with.Goals as goal
+use Rattle.file_pages.proofs.resizing.resize_at_inode.Goals as goal
 
 pub size_at-requires-clause-inode : goal.size_at-requires-clause-inode
 size_at-requires-clause-inode g c = c.requires.inode

@@ -8,7 +8,7 @@ use Rattle.file_pages.proofs.Written.{ends_same, ends_write_ok, leaves_same, no_
 use Rattle.node_pages.proofs.EndsOn.{if_err}
 use Rattle.node_pages.proofs.OrderRules.{leaves_refl}
 use Rattle.rio_base.specs.Rules.{goes_refl}
-use Rattle.file_pages.proofs.writing.write_with.Goals as goal
+use Rattle.file_pages.proofs.writing.write_at_inode.Goals as goal
 
 pub returns-then-is_empty-clause-ok : goal.returns-then-is_empty-clause-ok
 returns-then-is_empty-clause-ok g c =

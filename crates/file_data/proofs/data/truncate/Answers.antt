@@ -13,7 +13,7 @@ use Rattle.file_tree.specs.Walks.{ino_in}
 use Rattle.file_data.proofs.MemoData.{truncate_same}
 use Rattle.file_tree.proofs.MemoEnds.{none_same, step_untold}
 use Rattle.file_tree.proofs.MemoSteps.{same_step}
-use Rattle.file_data.proofs.data.truncate_with.Goals as goal
+use Rattle.file_data.proofs.data.truncate.Goals as goal
 
 pub returns-in_err-i-clause-leaves : goal.returns-in_err-i-clause-leaves
 returns-in_err-i-clause-leaves g c =
@@ -29,37 +29,37 @@ returns-in_err-i-clause-ends g c =
     let p = err_from_is_err_and c.from_residual.result c.from_residual.ensures.1 in
     ends_on _ _ c.walk_to_file.result c.from_residual.result _ p.0 c.in_err-i.was p.1 p.2 c.walk_to_file.ensures.ends
 
-pub resize_with-requires-clause-inode : goal.resize_with-requires-clause-inode
-resize_with-requires-clause-inode g c = subst (λ f. IsInode f c.in_ok-i.i.0 c.in_ok-i.inode) (sym c.walk_to_file.ensures.words) c.in_ok-i.ensures.inode
+pub resize_at_inode-requires-clause-inode : goal.resize_at_inode-requires-clause-inode
+resize_at_inode-requires-clause-inode g c = subst (λ f. IsInode f c.in_ok-i.i.0 c.in_ok-i.inode) (sym c.walk_to_file.ensures.words) c.in_ok-i.ensures.inode
 
-pub resize_with-requires-clause-file : goal.resize_with-requires-clause-file
-resize_with-requires-clause-file g c = subst (λ f. (held_of c.args.shape.now f c.in_ok-i.i.0).kind ≡ 2) (sym c.walk_to_file.ensures.words) c.in_ok-i.ensures.file
+pub resize_at_inode-requires-clause-file : goal.resize_at_inode-requires-clause-file
+resize_at_inode-requires-clause-file g c = subst (λ f. (held_of c.args.shape.now f c.in_ok-i.i.0).kind ≡ 2) (sym c.walk_to_file.ensures.words) c.in_ok-i.ensures.file
 
-pub returns-in_err-resize_with-clause-leaves : goal.returns-in_err-resize_with-clause-leaves
-returns-in_err-resize_with-clause-leaves g c =
+pub returns-in_err-resize_at_inode-clause-leaves : goal.returns-in_err-resize_at_inode-clause-leaves
+returns-in_err-resize_at_inode-clause-leaves g c =
     let shape = c.args.shape.now in
     let path = c.args.path.now in
     let len = c.args.len in
     let m = g.V.Blocks.seen c.walk_to_file.new.v in
     let l = g.V.Volume.kept c.walk_to_file.new.v in
-    let y = g.V.Blocks.seen c.resize_with.new.v in
-    let j = g.V.Volume.kept c.resize_with.new.v in
+    let y = g.V.Blocks.seen c.resize_at_inode.new.v in
+    let j = g.V.Volume.kept c.resize_at_inode.new.v in
     let i = c.in_ok-i.i.0 in
     let way = c.walk_to_file.ensures in
-    let call = c.resize_with.ensures in
-    let p = err_from_is_err_and c.from_residual-in_err-resize_with.result c.from_residual-in_err-resize_with.ensures.1 in
-    λ s reads. ends_after {T = Unit {0}} SaysDone shape (g.V.Blocks.seen c.args.v.now) (g.V.Volume.kept c.args.v.now) m l y j s (truncate_of s path len) (NoneDone s) c.from_residual-in_err-resize_with.result way.leaves way.words
-    (size_ends_err shape m l y j s path i len c.resize_with.result c.from_residual-in_err-resize_with.result _ p.0 c.in_err-resize_with.was p.1 p.2
+    let call = c.resize_at_inode.ensures in
+    let p = err_from_is_err_and c.from_residual-in_err-resize_at_inode.result c.from_residual-in_err-resize_at_inode.ensures.1 in
+    λ s reads. ends_after {T = Unit {0}} SaysDone shape (g.V.Blocks.seen c.args.v.now) (g.V.Volume.kept c.args.v.now) m l y j s (truncate_of s path len) (NoneDone s) c.from_residual-in_err-resize_at_inode.result way.leaves way.words
+    (size_ends_err shape m l y j s path i len c.resize_at_inode.result c.from_residual-in_err-resize_at_inode.result _ p.0 c.in_err-resize_at_inode.was p.1 p.2
     (subst (λ f. ReadsAs shape f s) (sym way.words) reads) (c.in_ok-i.ensures.value s reads) (subst (λ f. (held_of shape f i).kind ≡ 2) (sym way.words) c.in_ok-i.ensures.file)
     (record { ok = call.ok; space = call.space; too_large = call.too_large; no_space = call.no_space; refused = call.refused; fault = call.fault; stopped = call.stopped; ready = call.ready }))
 
-pub returns-in_err-resize_with-clause-goes : goal.returns-in_err-resize_with-clause-goes
-returns-in_err-resize_with-clause-goes g c = c.walk_to_file.ensures.goes then c.resize_with.ensures.goes
+pub returns-in_err-resize_at_inode-clause-goes : goal.returns-in_err-resize_at_inode-clause-goes
+returns-in_err-resize_at_inode-clause-goes g c = c.walk_to_file.ensures.goes then c.resize_at_inode.ensures.goes
 
-pub returns-in_err-resize_with-clause-ends : goal.returns-in_err-resize_with-clause-ends
-returns-in_err-resize_with-clause-ends g c =
-    let p = err_from_is_err_and c.from_residual-in_err-resize_with.result c.from_residual-in_err-resize_with.ensures.1 in
-    after_well _ _ _ _ _ (well _ _ c.walk_to_file.result _ c.in_ok-i.was c.walk_to_file.ensures.ends) (ends_size _ _ c.resize_with.result c.from_residual-in_err-resize_with.result _ p.0 c.in_err-resize_with.was p.1 p.2 c.resize_with.ensures.ends)
+pub returns-in_err-resize_at_inode-clause-ends : goal.returns-in_err-resize_at_inode-clause-ends
+returns-in_err-resize_at_inode-clause-ends g c =
+    let p = err_from_is_err_and c.from_residual-in_err-resize_at_inode.result c.from_residual-in_err-resize_at_inode.ensures.1 in
+    after_well _ _ _ _ _ (well _ _ c.walk_to_file.result _ c.in_ok-i.was c.walk_to_file.ensures.ends) (ends_size _ _ c.resize_at_inode.result c.from_residual-in_err-resize_at_inode.result _ p.0 c.in_err-resize_at_inode.was p.1 p.2 c.resize_at_inode.ensures.ends)
 
 pub returns-clause-leaves : goal.returns-clause-leaves
 returns-clause-leaves g c =
@@ -68,49 +68,49 @@ returns-clause-leaves g c =
     let len = c.args.len in
     let m = g.V.Blocks.seen c.walk_to_file.new.v in
     let l = g.V.Volume.kept c.walk_to_file.new.v in
-    let y = g.V.Blocks.seen c.resize_with.new.v in
-    let j = g.V.Volume.kept c.resize_with.new.v in
+    let y = g.V.Blocks.seen c.resize_at_inode.new.v in
+    let j = g.V.Volume.kept c.resize_at_inode.new.v in
     let i = c.in_ok-i.i.0 in
     let way = c.walk_to_file.ensures in
-    let call = c.resize_with.ensures in
+    let call = c.resize_at_inode.ensures in
     λ s reads. ends_after {T = Unit {0}} SaysDone shape (g.V.Blocks.seen c.args.v.now) (g.V.Volume.kept c.args.v.now) m l y j s (truncate_of s path len) (NoneDone s) (Ok tt) way.leaves way.words
-    (size_ends_ok shape m l y j s path i len c.resize_with.result _ tt c.in_ok-resize_with.was
+    (size_ends_ok shape m l y j s path i len c.resize_at_inode.result _ tt c.in_ok-resize_at_inode.was
     (subst (λ f. ReadsAs shape f s) (sym way.words) reads) (c.in_ok-i.ensures.value s reads) (subst (λ f. (held_of shape f i).kind ≡ 2) (sym way.words) c.in_ok-i.ensures.file)
     (record { ok = call.ok; space = call.space; too_large = call.too_large; no_space = call.no_space; refused = call.refused; fault = call.fault; stopped = call.stopped; ready = call.ready }))
 
 pub returns-clause-forgets : goal.returns-clause-forgets
 returns-clause-forgets g c =
     let shape = c.args.shape.now in
-    let z = g.V.Blocks.seen c.resize_with.new.v in
-    subst (λ f. Forgets (volume_layout shape f) (volume_layout shape z.words) z) c.walk_to_file.ensures.words c.in_ok-resize_with.ensures.forgets
+    let z = g.V.Blocks.seen c.resize_at_inode.new.v in
+    subst (λ f. Forgets (volume_layout shape f) (volume_layout shape z.words) z) c.walk_to_file.ensures.words c.in_ok-resize_at_inode.ensures.forgets
 
 pub returns-clause-goes : goal.returns-clause-goes
-returns-clause-goes g c = c.walk_to_file.ensures.goes then c.resize_with.ensures.goes
+returns-clause-goes g c = c.walk_to_file.ensures.goes then c.resize_at_inode.ensures.goes
 
 pub returns-clause-ends : goal.returns-clause-ends
-returns-clause-ends g c = ends_ok _ _ _ (after_well _ _ _ _ _ (well _ _ c.walk_to_file.result _ c.in_ok-i.was c.walk_to_file.ensures.ends) (well_size _ _ c.resize_with.result _ c.in_ok-resize_with.was c.resize_with.ensures.ends))
+returns-clause-ends g c = ends_ok _ _ _ (after_well _ _ _ _ _ (well _ _ c.walk_to_file.result _ c.in_ok-i.was c.walk_to_file.ensures.ends) (well_size _ _ c.resize_at_inode.result _ c.in_ok-resize_at_inode.was c.resize_at_inode.ensures.ends))
 
 pub returns-in_err-i-clause-in_step : goal.returns-in_err-i-clause-in_step
 returns-in_err-i-clause-in_step g c = λ on. same_step c.args.shape.now _ _ _ (c.walk_to_file.ensures.words) c.walk_to_file.ensures.in_step
 
-pub returns-in_err-resize_with-clause-in_step : goal.returns-in_err-resize_with-clause-in_step
-returns-in_err-resize_with-clause-in_step g c = λ on.
+pub returns-in_err-resize_at_inode-clause-in_step : goal.returns-in_err-resize_at_inode-clause-in_step
+returns-in_err-resize_at_inode-clause-in_step g c = λ on.
     let shape = c.args.shape.now in
     let x = g.V.Blocks.seen c.args.v.now in
     let k = g.V.Volume.kept c.args.v.now in
-    let y = g.V.Blocks.seen c.resize_with.new.v in
-    let j = g.V.Volume.kept c.resize_with.new.v in
+    let y = g.V.Blocks.seen c.resize_at_inode.new.v in
+    let j = g.V.Volume.kept c.resize_at_inode.new.v in
     let s = c.requires.can.state in
     let reads = c.requires.can.reads in
-    step_untold SaysDone shape x k y j s (truncate_of s c.args.path.now c.args.len) (NoneDone s) c.walk_to_file.new.memo c.from_residual-in_err-resize_with.result c.walk_to_file.ensures.in_step reads (none_same s) (truncate_same s c.args.path.now c.args.len) (returns-in_err-resize_with-clause-leaves g c s reads) on
+    step_untold SaysDone shape x k y j s (truncate_of s c.args.path.now c.args.len) (NoneDone s) c.walk_to_file.new.memo c.from_residual-in_err-resize_at_inode.result c.walk_to_file.ensures.in_step reads (none_same s) (truncate_same s c.args.path.now c.args.len) (returns-in_err-resize_at_inode-clause-leaves g c s reads) on
 
 pub returns-clause-in_step : goal.returns-clause-in_step
 returns-clause-in_step g c = λ on.
     let shape = c.args.shape.now in
     let x = g.V.Blocks.seen c.args.v.now in
     let k = g.V.Volume.kept c.args.v.now in
-    let y = g.V.Blocks.seen c.resize_with.new.v in
-    let j = g.V.Volume.kept c.resize_with.new.v in
+    let y = g.V.Blocks.seen c.resize_at_inode.new.v in
+    let j = g.V.Volume.kept c.resize_at_inode.new.v in
     let s = c.requires.can.state in
     let reads = c.requires.can.reads in
     step_untold {T = Unit {0}} SaysDone shape x k y j s (truncate_of s c.args.path.now c.args.len) (NoneDone s) c.walk_to_file.new.memo (Ok tt) c.walk_to_file.ensures.in_step reads (none_same s) (truncate_same s c.args.path.now c.args.len) (returns-clause-leaves g c s reads) on

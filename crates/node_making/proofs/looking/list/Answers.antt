@@ -9,7 +9,7 @@ use Rattle.node_making.proofs.NamesListed.{list_answer}
 use Rattle.file_ends.proofs.CallEnds.{after_well, ends_ok, ends_on, ends_read, well, well_read}
 use Rattle.file_tree.proofs.MemoSteps.{same_step}
 use Rattle.file_ends.proofs.Unchanged.{leaves_read, leaves_then}
-use Rattle.node_making.proofs.looking.list_with.Goals as goal
+use Rattle.node_making.proofs.looking.list.Goals as goal
 
 pub returns-in_err-dir-clause-leaves : goal.returns-in_err-dir-clause-leaves
 returns-in_err-dir-clause-leaves g c =

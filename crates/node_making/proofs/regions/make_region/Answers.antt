@@ -11,7 +11,7 @@ use Rattle.file_ends.proofs.AnsweredAt.{ends_after, ends_look, ends_as}
 use Rattle.file_ends.proofs.CallEnds.{after_well, ends_on, ends_refused, well}
 use Rattle.node_making.proofs.RowsMade.{fails_region, region_large, region_new}
 use Rattle.file_tree.proofs.MemoSteps.{same_step}
-use Rattle.node_making.proofs.regions.make_region_with.Goals as goal
+use Rattle.node_making.proofs.regions.make_region.Goals as goal
 
 pub returns-then-is_root-clause-leaves : goal.returns-then-is_root-clause-leaves
 returns-then-is_root-clause-leaves g c =
