@@ -3,28 +3,13 @@
 ghost use Rattle.std.specs.Prelude.{◌≡◌, ◌≢◌, ◌<◌, ℕ, true, None, OnOk, OnErr, IsErr, length, slice_index};
 ghost use Rattle.rio_base.specs.Machine.{Lasts, StepEnds};
 ghost use Rattle.rio_model.specs.Cover.{Coherent, Keeps, SameNames, is_loose};
-ghost use Rattle.rio_model.specs.Registry.{IsValid, frames_of, gate_of};
+ghost use Rattle.rio_model.specs.Registry.{frames_of, gate_of};
 ghost use Rattle.shadow_pages.specs.Steps.{Clears, IsCleared, StoresWords};
 ghost use Rattle.shadow_pages.specs.Updates.{AreBare, AreEntries, ListsShadows, LosesShadows, Opened, SameShadows};
 
 use crate::gate::store_gate;
 use registry::{Tag, read_entry, set_shadow};
 use rio_base::{Machine, Stopped};
-
-/// Takes its shadow from entry `k`, while no update is open.
-#[tactic(auto, using(crate::proofs::Steps::layout_now, crate::proofs::Steps::clears_refl))]
-fn take_shadow<M: Machine>(m: &mut M, k: u32) -> Result<(), Stopped>
-    requires coherent { Coherent (M.contents m.old) (length (M.run m.old).scratch) }
-    requires closed { (M.contents m.old).open_page ≡ None }
-    requires shut { gate_of (M.contents m.old).words ≢ 1 }
-    requires valid { IsValid (M.contents m.old).words k }
-    ensures clears { Clears (M.contents m.old) (M.contents m.new) }
-    ensures cleared { OnOk result (IsCleared (M.contents m.new).words k) }
-    ensures ends { StepEnds (M.run m.old) (M.run m.new) (IsErr result) }
-{
-    set_shadow(m, k, 0)?;
-    Ok(())
-}
 
 /// Takes its shadow from entry `k`, if it is valid and has one, while no update is open.
 #[tactic(auto, using(crate::proofs::Steps::layout_now, crate::proofs::Steps::clears_refl, rio_base::proofs::MachineRules::ends_none))]
@@ -44,7 +29,8 @@ fn clear_shadow<M: Machine>(m: &mut M, k: u32) -> Result<(), Stopped>
     if entry.shadow == 0 {
         return Ok(());
     }
-    take_shadow(m, k)
+    set_shadow(m, k, 0)?;
+    Ok(())
 }
 
 /// Takes their shadows from the listed entries, while no update is open.

@@ -1,8 +1,10 @@
-use Rattle.std.proofs.Common.{◌∙◌, ap, sym}
+use Rattle.std.proofs.Common.{◌∙◌, ap, refl, sym}
 use Rattle.rio_base.specs.Rules.{true_false}
 use Rattle.rio_base.proofs.MachineRules.{ends_none}
 use Rattle.rio_model.specs.Registry.{is_valid}
 use Rattle.registry.specs.declared.entry.Entry.{Entry}
+use Rattle.shadow_pages.proofs.Exits.{clears_same, ends_told, not_ok, stores_entry}
+use Rattle.shadow_pages.proofs.Shadows.{clears_taken}
 use Rattle.shadow_pages.proofs.Steps.{clears_refl, layout_now}
 use Rattle.shadow_pages.proofs.opening.clear_shadow.Goals as goal
 
@@ -30,23 +32,28 @@ returns-then-entry-eq0-clause-cleared g c = record { bare = λ v. ap (λ (x : En
 pub returns-then-entry-eq0-clause-ends : goal.returns-then-entry-eq0-clause-ends
 returns-then-entry-eq0-clause-ends g c = ends_none _ _ (λ e. true_false (sym e))
 
-pub take_shadow-requires-clause-coherent : goal.take_shadow-requires-clause-coherent
-take_shadow-requires-clause-coherent g c = c.requires.coherent
+pub set_shadow-requires-clause-can : goal.set_shadow-requires-clause-can
+set_shadow-requires-clause-can g c = record { layout = layout_now _ _ c.requires.coherent; closed = c.requires.closed; entry = c.requires.entry }
 
-pub take_shadow-requires-clause-closed : goal.take_shadow-requires-clause-closed
-take_shadow-requires-clause-closed g c = c.requires.closed
+pub set_shadow-requires-clause-valid : goal.set_shadow-requires-clause-valid
+set_shadow-requires-clause-valid g c = ap (λ (x : Entry). is_valid x.tag) (sym c.read_entry-entry.ensures) ∙ sym c.is_valid.ensures ∙ c.if-not-is_valid.false
 
-pub take_shadow-requires-clause-shut : goal.take_shadow-requires-clause-shut
-take_shadow-requires-clause-shut g c = c.requires.shut
+pub returns-in_err-set_shadow-clause-clears : goal.returns-in_err-set_shadow-clause-clears
+returns-in_err-set_shadow-clause-clears g c = clears_same _ _ _ c.in_err-set_shadow.ensures.same (clears_refl _ c.requires.closed)
 
-pub take_shadow-requires-clause-valid : goal.take_shadow-requires-clause-valid
-take_shadow-requires-clause-valid g c = record { within = c.requires.entry; valid = ap (λ (x : Entry). is_valid x.tag) (sym c.read_entry-entry.ensures) ∙ sym c.is_valid.ensures ∙ c.if-not-is_valid.false }
+pub returns-in_err-set_shadow-clause-cleared : goal.returns-in_err-set_shadow-clause-cleared
+returns-in_err-set_shadow-clause-cleared g c = not_ok _ c.from_residual.result c.from_residual.ensures.0
+
+pub returns-in_err-set_shadow-clause-ends : goal.returns-in_err-set_shadow-clause-ends
+returns-in_err-set_shadow-clause-ends g c = ends_told _ _ _ _ refl c.from_residual.ensures.0 c.in_err-set_shadow.ensures.changes.ends
 
 pub returns-clause-clears : goal.returns-clause-clears
-returns-clause-clears g c = c.take_shadow.ensures.clears
+returns-clause-clears g c =
+    let valid = ap (λ (x : Entry). is_valid x.tag) (sym c.read_entry-entry.ensures) ∙ sym c.is_valid.ensures ∙ c.if-not-is_valid.false in
+    clears_taken c.args.k _ _ c.requires.shut (stores_entry _ _ _ _ _ _ c.requires.closed c.in_ok-set_shadow.ensures.changes) (record { within = c.requires.entry; valid = valid }) c.in_ok-set_shadow.ensures.changes.one_entry c.in_ok-set_shadow.ensures.entry
 
 pub returns-clause-cleared : goal.returns-clause-cleared
-returns-clause-cleared g c = c.take_shadow.ensures.cleared
+returns-clause-cleared g c = record { bare = λ v. ap (λ (x : Entry). x.shadow) c.in_ok-set_shadow.ensures.entry }
 
 pub returns-clause-ends : goal.returns-clause-ends
-returns-clause-ends g c = c.take_shadow.ensures.ends
+returns-clause-ends g c = c.in_ok-set_shadow.ensures.changes.ends
