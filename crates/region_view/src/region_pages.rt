@@ -3,17 +3,15 @@
 
 ghost use Rattle.std.specs.Prelude.{◌≡◌, ◌+◌, ◌*◌, ◌/◌, ◌%◌, ◌^◌, ◌<◌, ◌≤◌, IfOk, IsErrOf, OnOk, length};
 ghost use Rattle.rio_base.specs.Blocks.{Ends, FaultAt, as_word};
-ghost use Rattle.rio_base.specs.Layout.{IsIno};
 ghost use Rattle.rio_base.specs.Regions.{AreWords, OldOrPutWord, OldOrPutWords, put_word, put_words};
 ghost use Rattle.rio_base.specs.Volume.{Goes};
 ghost use Rattle.rio_model.specs.Held.{held_of};
-ghost use Rattle.rio_model.specs.Placed.{volume_layout};
-ghost use Rattle.rio_model.specs.VolumeReady.{LeavesInUse, Ready};
+ghost use Rattle.rio_model.specs.VolumeReady.{Ready};
 ghost use Rattle.inode_table.specs.Inodes.{IsInode};
 ghost use Rattle.region_view.specs.Views.{CanRead, IsWordName, IsWordPage};
 ghost use Rattle.rio_model.specs.RegionMoves.{RestHeld};
 
-use inode_table::{DIRECT_PAGES, Inode, read_inode};
+use inode_table::{DIRECT_PAGES, Inode};
 use node_pages::block_of;
 use rio_base::{
     Block, Blocks, Ino, PAGE_BYTES, PAGE_WORDS, PageName, RunFail, VolFail, Volume, VolumeShape,
@@ -21,23 +19,6 @@ use rio_base::{
 
 /// Bytes of a word.
 const WORD_BYTES: u64 = 8;
-
-/// The inode of region `i`.
-pub fn region_inode<V: Volume>(v: &mut V, shape: &VolumeShape, i: Ino) -> Result<Inode, VolFail>
-    requires sound { V.sound v.old }
-    requires ready { Ready shape.now (V.seen v.old) (V.kept v.old) }
-    requires ino { IsIno shape.now i.0 }
-    requires region { (held_of shape.now (V.seen v.old).words i.0).kind ≡ 3 }
-    ensures value { IfOk result (IsInode (V.seen v.old).words i.0) }
-    ensures words { (V.seen v.new).words ≡ (V.seen v.old).words }
-    ensures leaves { LeavesInUse (volume_layout shape.now (V.seen v.old).words) (V.seen v.old) (V.kept v.old) (V.seen v.new) (V.kept v.new) }
-    ensures ready { Ready shape.now (V.seen v.new) (V.kept v.new) }
-    ensures passes { V.passes v.old v.new }
-    ensures ends { Ends (V.health v.old) (V.health v.new) result }
-    ensures sound { V.sound v.new }
-{
-    read_inode(v, shape, i)
-}
 
 /// How many words a region with this inode has.
 pub fn region_words(inode: &Inode) -> u32

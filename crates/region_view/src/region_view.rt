@@ -9,10 +9,8 @@ ghost use Rattle.rio_model.specs.Placed.{volume_layout};
 ghost use Rattle.rio_model.specs.VolumeReady.{LeavesInUse, Ready};
 ghost use Rattle.region_view.specs.Views.{KeepsInode, OnRegion};
 
-use crate::region_pages::{
-    read_word, read_words, region_inode, region_words, store_word, store_words,
-};
-use inode_table::Inode;
+use crate::region_pages::{read_word, read_words, region_words, store_word, store_words};
+use inode_table::{Inode, read_inode};
 use rio_base::{Ino, RegionWords, RunFail, VolFail, Volume, VolumeShape};
 
 /// The words of one region's file, read and stored in place through a volume, which it owns. Its fields may be used between
@@ -71,7 +69,7 @@ impl<V: Volume> RegionView<V> {
         ensures ends { Ends (V.health self.old.v) (V.health self.new.v) result }
         ensures sound { V.sound self.new.v }
     {
-        let inode = region_inode(&mut self.v, &self.shape, i)?;
+        let inode = read_inode(&mut self.v, &self.shape, i)?;
         self.words = region_words(&inode);
         self.ino = i;
         self.inode = inode;
