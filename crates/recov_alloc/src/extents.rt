@@ -37,7 +37,12 @@ fn reach_in_page(used: u64, starts: u64, unit: u32) -> u32
 /// How many units the block has that starts at `unit` and goes on up to before `from` at least, of the heap of a region of
 /// `pages` data pages. It looks at the map words of the pages from that of `from` on that the block touches, and at those
 /// of the next one where the block ends with its last page.
-fn units_from<R: RegionWords>(r: &mut R, unit: u32, from: u32, pages: u32) -> Result<u32, VolFail>
+pub(crate) fn units_from<R: RegionWords>(
+    r: &mut R,
+    unit: u32,
+    from: u32,
+    pages: u32,
+) -> Result<u32, VolFail>
     requires ready { R.ready r.old }
     requires region { IsRegion (R.count r.old) (R.words r.old) }
     requires heap { OfBlocks (live (R.words r.old)) (R.words r.old 2) }
@@ -65,24 +70,8 @@ fn units_from<R: RegionWords>(r: &mut R, unit: u32, from: u32, pages: u32) -> Re
     Ok(next - unit)
 }
 
-/// How many units the block has that starts at `unit`, of the heap of a region of `pages` data pages.
-pub(crate) fn block_units<R: RegionWords>(r: &mut R, unit: u32, pages: u32) -> Result<u32, VolFail>
-    requires ready { R.ready r.old }
-    requires region { IsRegion (R.count r.old) (R.words r.old) }
-    requires heap { OfBlocks (live (R.words r.old)) (R.words r.old 2) }
-    requires pages { pages ≡ R.words r.old 2 }
-    requires unit { unit < 64 * pages }
-    requires start { starts (live (R.words r.old)) unit ≡ 1 }
-    ensures value { IfOk result (IsBlock (live (R.words r.old)) (units_of (R.words r.old)) unit) }
-    ensures words { R.words r.new ≡ R.words r.old }
-    ensures stays { Stays R.keeps_rest R.ready R.count R.health R.below r.old r.new }
-    ensures ends { Ends (R.health r.old) (R.health r.new) result }
-{
-    units_from(r, unit, unit + 1, pages)
-}
-
-/// The same where some block starts at `unit`, and `None` where none does: the map words of its first page are read once for
-/// both. The region has `undo` undo pages and `pages` data pages.
+/// How many units the block has that starts at `unit`, and `None` where none starts there: the map words of its first page are
+/// read once for both. The region has `undo` undo pages and `pages` data pages.
 fn units_at<R: RegionWords>(
     r: &mut R,
     undo: u32,

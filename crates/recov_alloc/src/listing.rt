@@ -6,7 +6,7 @@ ghost use Rattle.rio_base.specs.Regions.{Stays};
 ghost use Rattle.rio_model.specs.Undo.{IsRegion, live};
 ghost use Rattle.rio_model.specs.Heap.{OfBlocks, heap_blocks, units_of};
 
-use crate::extents::block_units;
+use crate::extents::units_from;
 use rio_base::{HeapList, ReadFail, RegionWords};
 use std::alloc::Global;
 use undo_list::{data_pages, word_at, zeros_from};
@@ -31,7 +31,7 @@ pub fn blocks<R: RegionWords>(alloc: Global, r: &mut R) -> Result<HeapList, Read
         let skipped = zeros_from(starts, bit);
         next += skipped;
         if bit + skipped < 64 {
-            let units = block_units(r, next, pages)?;
+            let units = units_from(r, next, next + 1, pages)?;
             found.push((next, units))?;
             next += units;
         }

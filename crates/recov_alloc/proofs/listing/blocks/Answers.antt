@@ -12,8 +12,8 @@ use Rattle.recov_alloc.proofs.listing.blocks.Goals as goal
 pub returns-in_err-starts-clause-stays : goal.returns-in_err-starts-clause-stays
 returns-in_err-starts-clause-stays g c = stays_trans g.met.R.RegionWords.rest_trans c.loop-next.invariant.stays c.word_at.ensures.stays
 
-pub block_units-requires-clause-start : goal.block_units-requires-clause-start
-block_units-requires-clause-start g c =
+pub units_from-requires-clause-start : goal.units_from-requires-clause-start
+units_from-requires-clause-start g c =
     let f = g.R.RegionWords.words in
     let is = c.in_ok-starts.ensures.value ∙ ap (λ w. live w (2 * (c.loop-next.next / 64) + 1)) (sym c.word_at.ensures.words) in
     next_starts (live (f c.word_at.new.r)) c.in_ok-starts.starts c.loop-next.next c.zeros_from-skipped.result is c.zeros_from-skipped.ensures c.if-bit-skipped-lt64.true
@@ -21,12 +21,12 @@ block_units-requires-clause-start g c =
 pub returns-in_err-units-clause-stays : goal.returns-in_err-units-clause-stays
 returns-in_err-units-clause-stays g c =
     let trans = g.met.R.RegionWords.rest_trans in
-    stays_trans trans c.loop-next.invariant.stays (stays_trans trans c.word_at.ensures.stays c.block_units.ensures.stays)
+    stays_trans trans c.loop-next.invariant.stays (stays_trans trans c.word_at.ensures.stays c.units_from.ensures.stays)
 
 pub returns-in_err-push-clause-stays : goal.returns-in_err-push-clause-stays
 returns-in_err-push-clause-stays g c =
     let trans = g.met.R.RegionWords.rest_trans in
-    stays_trans trans c.loop-next.invariant.stays (stays_trans trans c.word_at.ensures.stays c.block_units.ensures.stays)
+    stays_trans trans c.loop-next.invariant.stays (stays_trans trans c.word_at.ensures.stays c.units_from.ensures.stays)
 
 pub loop-next-preserved-then-bit-skipped-lt64 : goal.loop-next-preserved-then-bit-skipped-lt64
 loop-next-preserved-then-bit-skipped-lt64 g c =
@@ -38,7 +38,7 @@ loop-next-preserved-then-bit-skipped-lt64 g c =
     let j = c.zeros_from-skipped.result in
     let n = c.in_ok-units.units in
     let e = c.word_at.ensures in
-    let b = c.block_units.ensures in
+    let b = c.units_from.ensures in
     let same = b.words ∙ e.words ∙ inv.words in
     let is = c.in_ok-starts.ensures.value ∙ ap (λ w. live w (2 * (x / 64) + 1)) inv.words in
     let block = subst (λ w. IsBlock (live w) (64 * w 2) (x + j) n) (e.words ∙ inv.words) c.in_ok-units.ensures.value in
@@ -46,7 +46,7 @@ loop-next-preserved-then-bit-skipped-lt64 g c =
     let on = listed_on l c.in_ok-starts.starts (64 * c.in_ok-pages.pages) x j (heap_blocks l (64 * old 2)) c.loop-next.found.items is c.zeros_from-skipped.ensures (omega (arith, here.within)) inv.found in
     record {
       words = same;
-      region = subst (λ k. IsRegion k (f c.block_units.new.r)) (sym (b.stays.count ∙ e.stays.count)) (subst (λ w. IsRegion (g.R.RegionWords.count c.loop-next.r) w) (sym (b.words ∙ e.words)) inv.region);
+      region = subst (λ k. IsRegion k (f c.units_from.new.r)) (sym (b.stays.count ∙ e.stays.count)) (subst (λ w. IsRegion (g.R.RegionWords.count c.loop-next.r) w) (sym (b.words ∙ e.words)) inv.region);
       pages = inv.pages;
       most = here.within;
       found = listed_more l (64 * c.in_ok-pages.pages) (x + j) n (heap_blocks l (64 * old 2)) c.loop-next.found.items _ here c.in_ok-push.ensures.items on;
@@ -146,20 +146,17 @@ returns-in_err-starts-clause-ends g c =
     let p = err_from_is_err_and c.from_residual-in_err-starts.result c.from_residual-in_err-starts.ensures.1 in
     ends_by_after _ _ _ _ _ c.loop-next.invariant.later c.loop-next.invariant.running (ends_read _ _ c.word_at.result c.from_residual-in_err-starts.result _ _ c.in_err-starts.was p.1 p.2 c.word_at.ensures.ends)
 
-pub block_units-requires-clause-ready : goal.block_units-requires-clause-ready
-block_units-requires-clause-ready g c = c.word_at.ensures.stays.ready
+pub units_from-requires-clause-ready : goal.units_from-requires-clause-ready
+units_from-requires-clause-ready g c = c.word_at.ensures.stays.ready
 
-pub block_units-requires-clause-region : goal.block_units-requires-clause-region
-block_units-requires-clause-region g c = c.word_at.ensures.region
+pub units_from-requires-clause-region : goal.units_from-requires-clause-region
+units_from-requires-clause-region g c = c.word_at.ensures.region
 
-pub block_units-requires-clause-heap : goal.block_units-requires-clause-heap
-block_units-requires-clause-heap g c = subst (λ (w : ℕ → ℕ). OfBlocks (live w) (w 2)) (sym (c.word_at.ensures.words ∙ c.loop-next.invariant.words)) c.requires.heap
+pub units_from-requires-clause-heap : goal.units_from-requires-clause-heap
+units_from-requires-clause-heap g c = subst (λ (w : ℕ → ℕ). OfBlocks (live w) (w 2)) (sym (c.word_at.ensures.words ∙ c.loop-next.invariant.words)) c.requires.heap
 
-pub block_units-requires-clause-pages : goal.block_units-requires-clause-pages
-block_units-requires-clause-pages g c = c.loop-next.invariant.pages ∙ ap (λ (w : ℕ → ℕ). w 2) (sym (c.word_at.ensures.words ∙ c.loop-next.invariant.words))
-
-pub block_units-requires-clause-unit : goal.block_units-requires-clause-unit
-block_units-requires-clause-unit g c = omega (arith, c.loop-next-test.true, c.if-bit-skipped-lt64.true)
+pub units_from-requires-clause-pages : goal.units_from-requires-clause-pages
+units_from-requires-clause-pages g c = c.loop-next.invariant.pages ∙ ap (λ (w : ℕ → ℕ). w 2) (sym (c.word_at.ensures.words ∙ c.loop-next.invariant.words))
 
 pub returns-in_err-units-clause-value : goal.returns-in_err-units-clause-value
 returns-in_err-units-clause-value g c =
@@ -167,15 +164,15 @@ returns-in_err-units-clause-value g c =
     rw (p.1) tt
 
 pub returns-in_err-units-clause-words : goal.returns-in_err-units-clause-words
-returns-in_err-units-clause-words g c = c.block_units.ensures.words ∙ c.word_at.ensures.words ∙ c.loop-next.invariant.words
+returns-in_err-units-clause-words g c = c.units_from.ensures.words ∙ c.word_at.ensures.words ∙ c.loop-next.invariant.words
 
 pub returns-in_err-units-clause-region : goal.returns-in_err-units-clause-region
-returns-in_err-units-clause-region g c = region_at _ _ _ _ c.word_at.ensures.region c.block_units.ensures.stays.count c.block_units.ensures.words
+returns-in_err-units-clause-region g c = region_at _ _ _ _ c.word_at.ensures.region c.units_from.ensures.stays.count c.units_from.ensures.words
 
 pub returns-in_err-units-clause-ends : goal.returns-in_err-units-clause-ends
 returns-in_err-units-clause-ends g c =
     let p = err_from_is_err_and c.from_residual-in_err-units.result c.from_residual-in_err-units.ensures.1 in
-    ends_by_after _ _ _ _ _ (le_trans c.loop-next.invariant.later c.word_at.ensures.ends.later) (c.in_ok-starts.ensures.ends.cause ∙ c.loop-next.invariant.running) (ends_read _ _ c.block_units.result c.from_residual-in_err-units.result _ _ c.in_err-units.was p.1 p.2 c.block_units.ensures.ends)
+    ends_by_after _ _ _ _ _ (le_trans c.loop-next.invariant.later c.word_at.ensures.ends.later) (c.in_ok-starts.ensures.ends.cause ∙ c.loop-next.invariant.running) (ends_read _ _ c.units_from.result c.from_residual-in_err-units.result _ _ c.in_err-units.was p.1 p.2 c.units_from.ensures.ends)
 
 pub returns-in_err-push-clause-value : goal.returns-in_err-push-clause-value
 returns-in_err-push-clause-value g c =
@@ -183,15 +180,15 @@ returns-in_err-push-clause-value g c =
     rw (p.1) tt
 
 pub returns-in_err-push-clause-words : goal.returns-in_err-push-clause-words
-returns-in_err-push-clause-words g c = c.block_units.ensures.words ∙ c.word_at.ensures.words ∙ c.loop-next.invariant.words
+returns-in_err-push-clause-words g c = c.units_from.ensures.words ∙ c.word_at.ensures.words ∙ c.loop-next.invariant.words
 
 pub returns-in_err-push-clause-region : goal.returns-in_err-push-clause-region
-returns-in_err-push-clause-region g c = region_at _ _ _ _ c.word_at.ensures.region c.block_units.ensures.stays.count c.block_units.ensures.words
+returns-in_err-push-clause-region g c = region_at _ _ _ _ c.word_at.ensures.region c.units_from.ensures.stays.count c.units_from.ensures.words
 
 pub returns-in_err-push-clause-ends : goal.returns-in_err-push-clause-ends
 returns-in_err-push-clause-ends g c =
     let p = err_from_is_err_and c.from_residual-in_err-push.result c.from_residual-in_err-push.ensures.1 in
-    ends_memory _ _ c.from_residual-in_err-push.result _ p.1 p.2 (le_trans c.loop-next.invariant.later (le_trans c.word_at.ensures.ends.later c.block_units.ensures.ends.later)) (c.in_ok-units.ensures.ends.cause ∙ c.in_ok-starts.ensures.ends.cause ∙ c.loop-next.invariant.running)
+    ends_memory _ _ c.from_residual-in_err-push.result _ p.1 p.2 (le_trans c.loop-next.invariant.later (le_trans c.word_at.ensures.ends.later c.units_from.ensures.ends.later)) (c.in_ok-units.ensures.ends.cause ∙ c.in_ok-starts.ensures.ends.cause ∙ c.loop-next.invariant.running)
 
 pub returns-clause-words : goal.returns-clause-words
 returns-clause-words g c = c.loop-next.invariant.words
