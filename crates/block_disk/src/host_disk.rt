@@ -105,7 +105,7 @@ fn put_over(words: &mut [u64], b: usize, from: &[u64])
     words[at..at + BLOCK_WORDS].copy_from_slice(from);
 }
 
-/// The same in a vector.
+/// Puts words over those of a block, in a vector.
 fn put_block_words(words: &mut Vec<u64>, b: usize, from: &[u64])
     requires within { 512 * b + 512 ≤ length words.old.items }
     requires most { length words.old.items < 2 ^ 32 }

@@ -42,7 +42,7 @@ pub fn tell_end<K: Sink>(
     }
 }
 
-/// The same where lines were served.
+/// Writes the line of an end after lines were served, as far as the sink takes it, and answers the status.
 fn tell_served<K: Sink>(end: LinesEnd, stop: Option<u64>, room: &mut [u8], sink: &mut K) -> u8
     ensures status { result ≡ lines_status (loop_end end) }
     ensures line { WritesLine (Rose (K.faults sink.old) (K.faults sink.new)) (K.written sink.old) (lines_line end stop) (K.written sink.new) }
@@ -55,7 +55,7 @@ fn tell_served<K: Sink>(end: LinesEnd, stop: Option<u64>, room: &mut [u8], sink:
     }
 }
 
-/// The same as the loop of lines tells it.
+/// Writes the line of an end that the loop of lines tells, as far as the sink takes it, and answers the status.
 fn tell_loop<K: Sink>(end: ServeEnd, stop: Option<u64>, room: &mut [u8], sink: &mut K) -> u8
     ensures status { result ≡ lines_status end }
     ensures line { WritesLine (Rose (K.faults sink.old) (K.faults sink.new)) (K.written sink.old) (loop_line end stop) (K.written sink.new) }

@@ -64,7 +64,7 @@ fn find_in(words: &[u64], count: usize, name: &[u8], key: &NameKey) -> Option<(I
     None
 }
 
-/// The same in a block that is not lent.
+/// The first of the `count` entries in a block that has the name. The block is not lent, so its words are copied.
 fn find_in_copy<V: Blocks>(
     v: &mut V,
     b: Block,
@@ -89,7 +89,8 @@ fn find_in_copy<V: Blocks>(
     Ok(find_in(&words, count, name, key))
 }
 
-/// The same in a block. It is asked for first, so that it is fetched where it is not cached, and counts as used.
+/// The first of the `count` entries in a block that has the name. The block is asked for first, so that it is fetched where it is
+/// not cached, and counts as used.
 fn find_in_block<V: Blocks>(
     v: &mut V,
     b: Block,
@@ -143,7 +144,7 @@ fn find_in_page<V: Blocks>(
     find_in_block(v, b, count, name, key)
 }
 
-/// The same of all its pages, with the slot in the directory.
+/// The first entry of a directory that has the name, with its slot in the directory. Its pages are looked through in order.
 fn find_in_pages<V: Blocks>(
     v: &mut V,
     shape: &VolumeShape,
@@ -205,7 +206,8 @@ pub fn find_at_inode<V: Blocks>(
     find_in_pages(v, shape, dir, inode, name, &key)
 }
 
-/// The same of a directory whose inode is not read yet.
+/// What a name of a directory names, and the slot of its entry; `None` exactly where the directory has no such name. Its inode is
+/// read first. Any bytes may be asked for. `Fault` and `Stopped` are those of reading the directory.
 pub fn find<V: Blocks>(
     v: &mut V,
     shape: &VolumeShape,

@@ -57,7 +57,7 @@ fn push_names(words: &[u64], count: usize, names: &mut NameList) -> Result<(), A
     Ok(())
 }
 
-/// The same of a block that is not lent.
+/// Adds the names of the first `count` entries of a block. The block is not lent, so its words are copied.
 fn push_copied_names<V: Blocks>(
     v: &mut V,
     b: Block,
@@ -82,7 +82,8 @@ fn push_copied_names<V: Blocks>(
     Ok(())
 }
 
-/// The same of a block. It is asked for first, so that it is fetched where it is not cached, and counts as used.
+/// Adds the names of the first `count` entries of a block. The block is asked for first, so that it is fetched where it is not
+/// cached, and counts as used.
 fn push_block_names<V: Blocks>(
     v: &mut V,
     b: Block,

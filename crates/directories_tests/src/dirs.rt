@@ -314,7 +314,7 @@ fn plan_new(
     plan_add(alloc, v, shape, dir, name, i)
 }
 
-/// The same, where it has neither been tried whether the directory has the name, nor whether it has room.
+/// Prepares a row more, after it is tried whether the directory has the name already, and whether it has room.
 pub(crate) fn plan_row(
     alloc: Global,
     v: &mut ListVolume,

@@ -320,7 +320,7 @@ pub fn read_at_inode<V: Blocks>(
     read_bytes(alloc, v, shape, i, inode, off, end)
 }
 
-/// The same of a file whose inode is not read yet.
+/// Bytes of file `i`, whose inode is read first, from `off` on: `len` of them, or as many as it has.
 pub fn read<V: Blocks>(
     alloc: Global,
     v: &mut V,

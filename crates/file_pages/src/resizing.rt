@@ -154,7 +154,8 @@ pub fn resize_at_inode<V: Volume>(
     size_at(alloc, v, shape, i, inode, len)
 }
 
-/// The same of a file whose inode is not read yet.
+/// Gives file `i`, whose inode is read first, the size `len`: bytes past it are cut off, and zeros fill what is new. It ends as
+/// [`resize_with`] does.
 pub fn resize<V: Volume>(
     alloc: Global,
     v: &mut V,

@@ -97,7 +97,8 @@ pub fn write_at_inode<V: Volume>(
     Ok(count)
 }
 
-/// The same to a file whose inode is not read yet.
+/// Writes `bytes` to file `i`, whose inode is read first, from byte `off` on, and says how many they were. It ends as [`write_with`]
+/// does.
 pub fn write<V: Volume>(
     alloc: Global,
     v: &mut V,

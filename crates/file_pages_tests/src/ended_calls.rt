@@ -349,7 +349,7 @@ fn fail_each_of(rt: &impl Abort, alloc: Global, case: &Case, old: &[u8], new: &[
     MANY
 }
 
-/// The same of a call whose bytes are made here.
+/// Lets each call below that may need the disk fail in turn, in a call whose bytes are made here, and says how many there are.
 pub(crate) fn fail_each(rt: &impl Abort, alloc: Global, case: &Case) -> u64
     requires { IsTestShape case.now.shape }
 {
@@ -366,7 +366,7 @@ fn end_each_of(rt: &impl Abort, alloc: Global, case: &Case, old: &[u8], new: &[u
     fail_each_of(rt, alloc, case, old, new);
 }
 
-/// The same of a call whose bytes are made here.
+/// Stops a call, whose bytes are made here, at each of its steps, and lets each call below fail.
 pub(crate) fn end_each(rt: &impl Abort, alloc: Global, case: &Case)
     requires { IsTestShape case.now.shape }
 {

@@ -249,7 +249,7 @@ fn read_again<V: Volume>(alloc: Global, v: &mut V) -> Option<bool>
     Some(reads(alloc, v, &SMALL, FILE, 0, LARGEST_SIZE, EIGHT))
 }
 
-/// The same where the `n`th call below fails.
+/// Whether a read fails for the disk at the `n`th call below, and then reads the file of eight bytes. None where it does not fail.
 fn read_again_at(rt: &impl Abort, alloc: Global, n: u64) -> Option<bool> {
     let first = after(rt, alloc, &SMALL, Call::Write(0, 8, 0xaa));
     let mut v = FaultyVolume::new(first, n);

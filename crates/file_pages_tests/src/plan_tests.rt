@@ -79,7 +79,7 @@ const TWO_PAGES: Plan = Plan {
     numbers: &[(Number::Page(0), 4), (Number::Page(1), 5)],
 };
 
-/// The same behind three blocks that are skipped.
+/// A file of two pages, behind three blocks that are skipped.
 const TWO_PAGES_LATER: Plan = Plan {
     taken: (7, 2),
     freed: &[],

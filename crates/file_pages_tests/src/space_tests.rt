@@ -87,7 +87,7 @@ fn with_gaps<V: Volume>(alloc: Global, v: &mut V, free: u64) -> Option<usize>
     first_other_of(alloc, v, free)
 }
 
-/// The same on a volume of its own.
+/// Makes the calls on a volume of its own, where so many blocks are free, each between two of the file.
 fn check_gaps(rt: &impl Abort, alloc: Global, free: u64)
     requires { free ≤ 18 }
 {

@@ -107,7 +107,7 @@ pub(crate) fn done_is_due(answer: Result<(), FileFail>, want: Want) -> Result<bo
     }
 }
 
-/// The same of one that tells a node.
+/// Whether a request that tells a node answers as it must; or the stop that came in its place.
 pub(crate) fn node_is_due(answer: Result<Ino, FileFail>, want: Want) -> Result<bool, Stopped>
     ensures { IsErr result ↔ IsErrOf answer FileFail.Stopped }
 {
@@ -117,7 +117,7 @@ pub(crate) fn node_is_due(answer: Result<Ino, FileFail>, want: Want) -> Result<b
     }
 }
 
-/// The same of one that tells a count of bytes.
+/// Whether a request that tells a count of bytes answers as it must; or the stop that came in its place.
 pub(crate) fn count_is_due(answer: Result<u64, FileFail>, want: Want) -> Result<bool, Stopped>
     ensures { IsErr result ↔ IsErrOf answer FileFail.Stopped }
 {
@@ -135,7 +135,7 @@ fn is_stat(i: Ino, kind: u8, size: u64, want: Want) -> bool {
     }
 }
 
-/// The same of one that tells what a node is.
+/// Whether a request that tells inode, kind and size answers as it must; or the stop that came in its place.
 pub(crate) fn stat_is_due(
     answer: Result<(Ino, u8, u64), FileFail>,
     want: Want,
@@ -156,7 +156,7 @@ fn are_read(bytes: &[u8], want: Want) -> bool {
     }
 }
 
-/// The same of one that tells bytes.
+/// Whether a request that tells bytes answers as it must; or the stop that came in its place.
 pub(crate) fn bytes_are_due(answer: Result<Octets, FileFail>, want: Want) -> Result<bool, Stopped>
     ensures { IsErr result ↔ IsErrOf answer FileFail.Stopped }
 {
@@ -166,7 +166,7 @@ pub(crate) fn bytes_are_due(answer: Result<Octets, FileFail>, want: Want) -> Res
     }
 }
 
-/// The same of one that tells names.
+/// Whether a request that tells names answers as it must; or the stop that came in its place.
 pub(crate) fn names_are_due(answer: Result<NameList, FileFail>, want: Want) -> Result<bool, Stopped>
     ensures { IsErr result ↔ IsErrOf answer FileFail.Stopped }
 {

@@ -237,7 +237,8 @@ fn names_as(
     }
 }
 
-/// The same of a request for what a file has, or for a change of it; or of one of those above.
+/// Whether a request for what a file has, a request for a change of it, or one of [`names_as`] answers as it must; or the stop that
+/// came in its place.
 fn bytes_as(
     alloc: Global,
     v: &mut ListVolume,
@@ -261,7 +262,7 @@ fn bytes_as(
     }
 }
 
-/// The same of any request at a path.
+/// Whether any request at a path answers as it must; or the stop that came in its place.
 fn answers_at(
     alloc: Global,
     v: &mut ListVolume,

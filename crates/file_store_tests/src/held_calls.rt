@@ -1,4 +1,4 @@
-//! The same requests by one who holds names and full blocks of inodes in memory, in a memo that is kept from call to call.
+//! Requests at paths by one who holds names and full blocks of inodes in memory, in a memo that is kept from call to call.
 
 ghost use Rattle.rio_fakes.specs.ListVolumes.{ListSound, list_kept, list_seen};
 ghost use Rattle.rio_model.specs.Paths.{IsPath};
@@ -212,7 +212,8 @@ fn names_held(
     }
 }
 
-/// The same of a request for what a file has, or for a change of it; or of one of those above.
+/// Whether a request for what a file has, a request for a change of it, or one of [`names_held`] answers as it must; or the stop that
+/// came in its place.
 fn bytes_held(
     alloc: Global,
     v: &mut ListVolume,
@@ -240,7 +241,7 @@ fn bytes_held(
     }
 }
 
-/// The same of any request at a path.
+/// Whether any request at a path answers as it must; or the stop that came in its place.
 fn answers_at(
     alloc: Global,
     v: &mut ListVolume,

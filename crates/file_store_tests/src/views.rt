@@ -116,7 +116,7 @@ pub(crate) fn start_again(view: &mut RegionView<ListVolume>, stop_after: Option<
     view.v.restart(stop_after);
 }
 
-/// The same region on a volume whose `n`th call from now fails.
+/// The region of a view, on a volume whose `n`th call from now fails.
 pub(crate) fn failing(view: RegionView<ListVolume>, n: u64) -> RegionView<FaultyVolume>
     requires ready { ⟦<RegionView<ListVolume> as RegionWords>⟧.ready view }
     ensures ready { ⟦<RegionView<FaultyVolume> as RegionWords>⟧.ready result }

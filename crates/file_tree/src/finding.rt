@@ -222,7 +222,8 @@ pub fn look_up<V: Blocks>(
     }
 }
 
-/// The same of a directory whose inode is not read yet.
+/// What a name of a directory names, and the slot of its row; `None` where it has no such name. The directory's inode is read first,
+/// and then the name is looked for as [`look_up`] does.
 pub fn look_up_in<V: Volume>(
     v: &mut V,
     shape: &VolumeShape,

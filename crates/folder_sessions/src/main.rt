@@ -34,7 +34,7 @@ fn tell_script(rt: HostRuntime, script: &str, out: &mut Vec<u8>) -> Result<(), A
     }
 }
 
-/// The same beside the pipe of this descriptor.
+/// Tells what the sessions of a script come to, beside the pipe of this descriptor.
 fn tell_beside(
     rt: HostRuntime,
     pipe: i32,
@@ -45,7 +45,7 @@ fn tell_beside(
     tell_sessions(rt, path.as_str(), script, out)
 }
 
-/// The same, where the pipe has this path.
+/// Tells what the sessions of a script come to, beside the pipe that has this path.
 fn tell_sessions(
     rt: HostRuntime,
     pipe: &str,

@@ -93,7 +93,7 @@ impl<'a> Session<'a> {
         self.run_on(&words, out)
     }
 
-    /// The same on these words.
+    /// Runs the program on these words, and tells what it wrote and its status.
     fn run_on(&self, words: &Vec<String>, out: &mut Vec<u8>) -> Result<(), AllocError> {
         let alloc = self.rt.alloc();
         let mut source = MemSource::new(alloc, self.input.as_slice(), PIECE)?;
@@ -124,7 +124,7 @@ impl<'a> Session<'a> {
         }
     }
 
-    /// The same of the file that has these bytes.
+    /// Does what a word says of a file that has these bytes.
     fn act_with(
         &mut self,
         word: ReadWord,

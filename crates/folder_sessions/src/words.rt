@@ -13,7 +13,7 @@ pub enum Word {
     Next,
     /// The program is run, and what it wrote and its status are told.
     Run,
-    /// The same, for a fresh pair.
+    /// The program is run to make a fresh pair, and what it wrote and its status are told.
     Fresh,
     /// Whether the file that is held open still reads as it did.
     Held,

@@ -23,7 +23,7 @@ fn first_of_page(words: &[u64]) -> Option<u32>
     None
 }
 
-/// The same, asked for word by word.
+/// Which inode of a block is the first free one, asked for word by word. Inode `first` is the first in the block.
 fn first_of_words<V: Blocks>(
     v: &mut V,
     shape: &VolumeShape,

@@ -363,6 +363,10 @@ fn commit_changes<V: Volume>(
     ensures ends { Ends (V.health v.old) (V.health v.new) result }
     ensures sound { V.sound v.new }
 {
+    // The update comes first. Its commit is one store, that of the gate: a crash before it leaves nothing of the changes, and a crash
+    // behind it leaves all. Until then the old nodes still have the freed blocks, and a crash or a rollback needs their pages.
+    // A crash between the two steps leaves all changes, and entries of blocks that no node has. The reboot does not write
+    // such a page of a file or region, and any other goes to a block that is free.
     change_nodes(v, shape, changes)?;
     forget_freed(v, changes)?;
     Ok(())

@@ -38,6 +38,10 @@ pub fn restore<M: Machine>(
     ensures running { OnOk result ((M.run m.new).stopped ≡ false) }
     ensures ends { PhaseEnds (M.contents m.old) (M.contents m.new) (M.run m.old) (M.run m.new) (IsErrOf result VolFail.Fault) (IsErrOf result VolFail.Stopped) }
 {
+    // All pages are on the disk, and synced, before the first entry goes. A crash while they are written leaves all entries, so that
+    // each page still counts, whatever its block holds. A crash while entries go leaves some blocks to count by their page and
+    // others by the disk, which is the same but for stale pages. The gate is shut last: at gate 0 an entry with a shadow would count
+    // by its frame, and so by edits of an update that was not committed. So a restore may be made again after a crash at any step.
     let counts = bring_home(m, marks, block)?;
     empty_registry(m, marks)?;
     Ok(counts)

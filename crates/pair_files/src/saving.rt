@@ -70,7 +70,7 @@ fn refill<M: Machine>(m: &M, bytes: &mut Vec<u8>)
     fill_bytes(m, bytes);
 }
 
-/// The same over a slice.
+/// Puts the bytes of all words of a machine's memory in place of those of a slice, which has as many.
 fn fill_bytes<M: Machine>(m: &M, bytes: &mut [u8])
     requires { length bytes.old ≡ 8 * (length (M.contents m.now).words + length (M.run m.now).scratch) }
     ensures bytes { bytes.new ≡ bytes_of ((M.contents m.now).words ++ (M.run m.now).scratch) }

@@ -101,7 +101,7 @@ pub(crate) fn put_texts(alloc: Global, texts: &str, out: &mut String) -> Result<
     put_texts_over(alloc, texts, &mut sink, out)
 }
 
-/// The same over a sink that has nothing.
+/// Puts texts as they are written one behind the other, over a sink that has nothing.
 fn put_texts_over(
     alloc: Global,
     texts: &str,

@@ -60,7 +60,7 @@ pub(crate) fn put_writing(
     put_at(alloc, reply, kind, text_sent(ended, &whole), out)
 }
 
-/// The same of a reply with this text.
+/// Puts how the writing of a reply with this text ends, and how much of the text is then written, at a sink of this kind.
 fn put_at(
     alloc: Global,
     reply: &Reply,
@@ -112,7 +112,7 @@ fn put_failing(
     put_failing_over(reply, kind, text, &mut sink, out)
 }
 
-/// The same over a sink that has nothing.
+/// Puts what a sink, which has nothing before, has of a reply of which a call fails.
 fn put_failing_over(
     reply: &Reply,
     kind: &str,

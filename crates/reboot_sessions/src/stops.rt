@@ -110,8 +110,8 @@ impl Stops {
         Ok(())
     }
 
-    /// The same, and the lines are made of the plain definition too. Answers whether it has the same replies. There are no lines any
-    /// more.
+    /// Boots the machine of the pair, which this befalls, and makes the lines, of the plain definition too. Answers whether that has
+    /// the same replies. The pair is then as it was left, and there are no lines any more.
     pub fn run_as_defined(&mut self, cut: Cut) -> Result<bool, AllocError> {
         self.run(cut)?;
         let is_due = self.finder.follow(self.lines.as_str())?;

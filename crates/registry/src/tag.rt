@@ -78,7 +78,7 @@ impl Tag {
         Block((self.0 >> 32) as u32)
     }
 
-    /// The same tag, dirty.
+    /// This tag, marked dirty.
     #[tactic(auto, using(crate::proofs::Flags::or_dirty))]
     pub fn dirtied(self) -> Tag
         ensures { result.0 ≡ with_dirty self.0 }
@@ -88,7 +88,7 @@ impl Tag {
         tag
     }
 
-    /// The same tag, clean.
+    /// This tag, marked clean.
     #[tactic(auto, using(crate::proofs::Flags::and_not_dirty))]
     pub fn cleaned(self) -> Tag
         ensures { result.0 ≡ without_dirty self.0 }

@@ -16,7 +16,7 @@ pub(crate) fn digit_count(n: u64) -> usize
     count + last_count(left)
 }
 
-/// The same of a number of at most four digits.
+/// How many decimal digits a number has that has four at most.
 #[inline(always)]
 fn last_count(n: u64) -> usize
     requires { n < 10000 }

@@ -82,7 +82,7 @@ fn least_of_run(bytes: &[u8], at: usize) -> u8x32
     lesser(least_of_half(bytes, at), least_of_half(bytes, at + 128))
 }
 
-/// The same of half a run.
+/// The least of the bytes of half a run that lie 32 places or a multiple apart.
 #[inline(always)]
 fn least_of_half(bytes: &[u8], at: usize) -> u8x32
     requires { at + 128 ≤ length bytes.now }
@@ -94,7 +94,7 @@ fn least_of_half(bytes: &[u8], at: usize) -> u8x32
     )
 }
 
-/// The same of a quarter of one.
+/// The least of the bytes of a quarter of a run that lie 32 places or a multiple apart.
 #[inline(always)]
 fn least_of_quarter(bytes: &[u8], at: usize) -> u8x32
     requires { at + 64 ≤ length bytes.now }

@@ -26,7 +26,7 @@ pub fn first_byte(byte: u8, bytes: &[u8]) -> Option<usize>
     first_behind(byte, bytes)
 }
 
-/// The same as `first_byte` among fewer than 32 bytes: the first 16 of them and then the last 16.
+/// The place of the first such byte among fewer than 32: in the first 16 of them, and then in the last 16.
 #[inline(always)]
 fn first_of_short(byte: u8, bytes: &[u8]) -> Option<usize>
     requires { length bytes.now < 32 }
@@ -41,7 +41,7 @@ fn first_of_short(byte: u8, bytes: &[u8]) -> Option<usize>
     first_of::<HALF>(byte, bytes, bytes.len() - HALF)
 }
 
-/// The same among fewer than 16 bytes: the first 8 of them and then the last 8.
+/// The place of the first such byte among fewer than 16: in the first 8 of them, and then in the last 8.
 #[inline(always)]
 fn first_of_shorter(byte: u8, bytes: &[u8]) -> Option<usize>
     requires { length bytes.now < 16 }
@@ -56,7 +56,7 @@ fn first_of_shorter(byte: u8, bytes: &[u8]) -> Option<usize>
     first_of::<QUARTER>(byte, bytes, bytes.len() - QUARTER)
 }
 
-/// The same, looking at one byte after the other.
+/// The place of the first such byte, looking at one byte after the other.
 #[inline(always)]
 fn one_by_one(byte: u8, bytes: &[u8]) -> Option<usize>
     ensures { IsFirstByte (is_byte byte) bytes.now result }

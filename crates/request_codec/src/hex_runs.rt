@@ -67,9 +67,10 @@ pub fn decode_runs(digits: &[u8], out: &mut [u8]) -> Option<usize>
     decode_many(digits, out)
 }
 
-/// The same, where there is a run. It is no part of its caller, so that what each run is compared with is near. Numbers that the
-/// compiler does not know it keeps in registers; those that it knows it reads from memory in each run, and makes two steps of a product by
-/// 4097. So each is added to a length that is 0.
+/// Decodes all whole runs, of which there is one at least, and answers how many bytes these are. `None` is the answer where some
+/// are no digits. It is no part of its caller, so that what each run is compared with is near. Numbers that the compiler does not
+/// know it keeps in registers; those that it knows it reads from memory in each run, and makes two steps of a product by 4097. So each
+/// is added to a length that is 0.
 #[inline(never)]
 fn decode_many(digits: &[u8], out: &mut [u8]) -> Option<usize>
     requires { length digits.now ≡ 2 * length out.old }

@@ -40,8 +40,8 @@ pub fn write_reply<K: Sink>(reply: &Reply, sink: &mut K) -> Result<(), Failed>
     send_line(reply, &mut room, sink)
 }
 
-/// The same by way of a room that the caller keeps, which may hold anything: so a short reply costs little. A text
-/// that fits the room is given to the sink whole.
+/// Writes a reply as its line, by way of a room that the caller keeps, which may hold anything: so a short reply costs little. A
+/// text that fits the room is given to the sink whole.
 pub fn write_reply_in<K: Sink>(reply: &Reply, room: &mut [u8], sink: &mut K) -> Result<(), Failed>
     requires { 2 ≤ length room.old }
     ensures ok { OnOk result (K.written sink.new ≡ appended (K.written sink.old) (text_of reply.now)) }

@@ -97,7 +97,7 @@ pub fn put_number<K: Sink>(
     put_number_here(word, n, room, held, sink)
 }
 
-/// The same, compiled into its caller, so that a word that is known there costs a store or two.
+/// Puts a word and a number behind what is held. It is compiled into its caller: so a word that is known there costs a store or two.
 #[inline(always)]
 pub(crate) fn put_number_here<K: Sink>(
     word: &[u8],

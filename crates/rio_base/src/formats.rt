@@ -18,5 +18,5 @@ pub const PAGE_BYTES: u64 = 4096;
 /// Words of a page, and of a block: how far apart the first words of two pages in a row lie in memory.
 pub const PAGE_WORDS: u32 = 512;
 
-/// The same, as the length of a list of words.
+/// Words of a page, and of a block, as the length of a list of words.
 pub const BLOCK_WORDS: usize = 512;

@@ -53,7 +53,7 @@ fn read(host: &mut MemHost, name: &String, off: u64) -> Said {
     }
 }
 
-/// The same, until the room is full or the file ends.
+/// Reads on in a file, until a room of four bytes is full or the file ends.
 fn read_on(host: &mut MemHost, name: &String, off: u64) -> Said
     requires { off < 100 }
 {

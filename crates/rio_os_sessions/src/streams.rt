@@ -61,7 +61,7 @@ pub fn read_as_said(
     tell_source(bytes.as_slice(), input, rest, out)
 }
 
-/// The same over these bytes, and the rest of the line.
+/// Reads from a source over these bytes, as the rest of the line says, and tells what came of it.
 fn tell_source(
     bytes: &[u8],
     input: Input,

@@ -243,7 +243,7 @@ impl Watch {
         self.record_given(call, b"")
     }
 
-    /// The same of a call that was given bytes to write.
+    /// Records a call that was given bytes to write, and answers how many bytes it may move.
     pub fn record_given(&self, call: Call, given: &[u8]) -> io::Result<usize> {
         if !self.is_on.get() {
             return Ok(usize::MAX);

@@ -164,13 +164,13 @@ impl<'a> Session<'a> {
         Ok(())
     }
 
-    /// The same, and tells what it wrote and its status.
+    /// Runs the program on the words of a command, and tells what it wrote and its status.
     fn run_and_tell(&mut self, command: &str) -> Result<(), AllocError> {
         self.run(command)?;
         self.files.tell_run(&mut self.out)
     }
 
-    /// The same, and tells the status alone.
+    /// Runs the program on the words of a command, and tells its status alone.
     fn run_for_status(&mut self, command: &str) -> Result<(), AllocError> {
         self.run(command)?;
         self.files.tell_status(&mut self.out)

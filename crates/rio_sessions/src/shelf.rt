@@ -172,7 +172,7 @@ impl<'a> Shelf<'a> {
         self.status = status;
     }
 
-    /// The same over a bench that keeps what its machine began with and how it was left.
+    /// Runs the program over a bench that keeps what its machine began with and how it was left.
     pub fn run_kept(&mut self) -> KeepBench {
         let mut bench = KeepBench::new();
         let host = self.take();

@@ -26,7 +26,7 @@ const CHANGES: &[Row] = &[
     (Put(16, 22), Number(8)),
 ];
 
-/// The same, from its begin on.
+/// A transaction that changes two words and blocks, from its begin on.
 const CHANGED: &[Row] = &[
     (Begin, Done),
     (Range(8, 16), Done),
@@ -207,7 +207,7 @@ fn stop_on(
     Ok(done)
 }
 
-/// The same on a fresh region.
+/// The `at.cut`th call on the words of a fresh region stops, and the region is recovered. Answers whether all calls were done before.
 fn stop_at(rt: &impl process::Abort, at: At, alloc: Global, stops: &Stops) -> Result<bool, Fail> {
     let mut table = OpenTable::new(alloc)?;
     let mut r = fresh(alloc, &table, 1, 2)?;
@@ -269,7 +269,7 @@ fn fail_on(
     Ok(false)
 }
 
-/// The same on a fresh region.
+/// The `at.cut`th call on the words of a fresh region fails. Answers whether none failed.
 fn fail_at(rt: &impl process::Abort, at: At, alloc: Global, faults: &Faults) -> Result<bool, Fail> {
     let mut table = OpenTable::new(alloc)?;
     let mut r = fresh(alloc, &table, 1, 2)?;

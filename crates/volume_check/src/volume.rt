@@ -97,7 +97,8 @@ pub fn look_at_volume<V: Blocks>(
     Ok((count_volume(&inodes), owners))
 }
 
-/// The same, without the owners.
+/// Looks at the rules 1 to 11 of a volume, in their order. The answer is what there is on it. It ends as [`look_at_volume`] does, whose
+/// answer has the owners too.
 pub fn check_volume<V: Blocks>(alloc: Global, v: &mut V) -> Result<Census, CheckFail>
     requires sound { V.sound v.old }
     requires bare { (y : V) (b : ℕ) → V.passes v.old y → (V.seen y).cached b ≡ false }

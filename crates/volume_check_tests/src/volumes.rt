@@ -77,7 +77,7 @@ static WORDS: [Put; 45] = [
 /// What there is on it: directories, files, regions, and blocks that nodes have and that none has.
 pub(crate) const COUNTS: [u32; 5] = [2, 2, 1, 33, 27];
 
-/// The same of a census.
+/// What a census counts: directories, files, regions, and blocks that nodes have and that none has.
 pub(crate) fn counts_of(census: &Census) -> [u32; 5] {
     [
         census.dirs,

@@ -133,6 +133,10 @@ fn boot_examined<M: Machine>(
     ensures closed { IfErr result (λ e. (M.contents e.machine).open_page ≡ None) }
     ensures runs { MatchResult result (λ b. Runs (cache_health (M.contents machine) (M.run machine)) (cache_below (M.contents machine) (M.run machine)) (cache_health (M.contents b.0.machine) (M.run b.0.machine)) (cache_below (M.contents b.0.machine) (M.run b.0.machine))) (λ e. Runs (cache_health (M.contents machine) (M.run machine)) (cache_below (M.contents machine) (M.run machine)) (cache_health (M.contents e.machine) (M.run e.machine)) (cache_below (M.contents e.machine) (M.run e.machine))) }
 {
+    // Nothing was stored so far: the look at memory and disk, and all memory that a reboot takes, came first. So a refusal or want of
+    // memory leaves both as they were. Pages go to the disk next; a crash there leaves what stood, and the next boot looks again.
+    // Undo records come last, through the cache: they are words of the volume, and putting old words back is a change as any other.
+    // A record is dropped behind its words: a crash among these leaves it in the list, and the next boot puts it back anew.
     let Room { tables, block } = room;
     let mut block = block;
     let shape = examined.census.shape;
@@ -188,7 +192,7 @@ fn recover_cache<M: Machine>(
     }
 }
 
-/// The same over any volume, which is handed back at each exit.
+/// Puts the undo records of each region back, over any volume, which is handed back at each exit.
 fn recover_volume<V: Volume>(
     volume: V,
     shape: VolumeShape,

@@ -166,7 +166,7 @@ struct Case {
     fails: bool,
 }
 
-/// The same, where no call fails and no update is open.
+/// A memory with two entries, where no call fails and no update is open.
 fn pair(first: Entry, second: Entry) -> Case {
     Case {
         gate: 0,

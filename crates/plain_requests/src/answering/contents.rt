@@ -164,7 +164,7 @@ pub fn truncate(alloc: Global, s: &State, path: &[u8], len: u64) -> Result<Answe
     }
 }
 
-/// The same of an inode's file.
+/// Shrinks an inode's file, or grows it with zeros.
 fn truncate_in(alloc: Global, s: &State, ino: Ino, len: u64) -> Result<Answered, AllocError>
     ensures { IfOk result (λ a. a ≡ truncate_in_of s.now len ino.0) }
 {
@@ -176,7 +176,7 @@ fn truncate_in(alloc: Global, s: &State, ino: Ino, len: u64) -> Result<Answered,
     }
 }
 
-/// The same of an inode's file, whose bytes are these.
+/// Shrinks an inode's file, whose bytes are these, or grows it with zeros.
 fn truncate_file(
     alloc: Global,
     s: &State,

@@ -32,7 +32,7 @@ fn names_among(alloc: Global, rows: &[NameRow], dir: Ino) -> Result<Vec<Octets>,
     Ok(names)
 }
 
-/// The same names as a reply has them.
+/// Names of a directory as a reply has them.
 pub fn list_of_names(alloc: Global, names: &[Octets]) -> Result<NameList, AllocError>
     ensures { IfOk result (λ list. list ≡ names.now) }
 {

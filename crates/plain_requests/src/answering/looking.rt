@@ -25,7 +25,7 @@ pub fn stat(alloc: Global, s: &State, path: &[u8]) -> Result<Answered, AllocErro
     }
 }
 
-/// The same of an inode.
+/// Number, kind and size of an inode.
 fn stat_node(alloc: Global, s: &State, ino: Ino) -> Result<Answered, AllocError>
     ensures { IfOk result (λ a. a ≡ stat_node_of s.now ino.0 (get s.now.nodes ino.0)) }
 {

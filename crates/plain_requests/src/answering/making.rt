@@ -202,7 +202,7 @@ fn with_new(
     })
 }
 
-/// The same state, alone.
+/// The state with one more node, without a reply.
 fn state_with(
     s: &State,
     dir: Ino,

@@ -26,7 +26,7 @@ pub fn rename(alloc: Global, s: &State, path: &[u8], to: &[u8]) -> Result<Answer
     rename_at(alloc, s, from.as_slice(), to.as_slice())
 }
 
-/// The same of paths by their names.
+/// Moves a name to another path. Each path is given by its names.
 fn rename_at(
     alloc: Global,
     s: &State,
@@ -41,7 +41,7 @@ fn rename_at(
     }
 }
 
-/// The same where the old path leads to an inode.
+/// Moves a name to another path, where the old path leads to an inode.
 fn rename_ino(
     alloc: Global,
     s: &State,
@@ -61,7 +61,7 @@ fn rename_ino(
     }
 }
 
-/// The same where the directory is known that is to hold the new name.
+/// Moves a name to another path, where the directory is known that is to hold the new name.
 fn rename_to(
     alloc: Global,
     s: &State,
@@ -129,7 +129,7 @@ fn rename_row(
     }
 }
 
-/// The same where the new name names nothing.
+/// Lets a directory's name name an inode in place of another directory's name, where the new name names nothing.
 fn move_row(
     alloc: Global,
     s: &State,
@@ -180,7 +180,7 @@ fn moved(
     Ok(next)
 }
 
-/// The same where the new name names a node, which goes.
+/// Lets a directory's name name an inode in place of another directory's name, where the new name names a node, which goes.
 fn replace_row(
     s: &State,
     dir: Ino,
