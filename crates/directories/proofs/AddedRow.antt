@@ -1,5 +1,5 @@
 -- One entry more in a directory: where it goes, and the change that it is.
-use Rattle.dir_entries.proofs.Common.{◌≡◌, ℕ, ◌+◌, ◌-◌, ◌*◌, ◌/◌, ◌%◌, ◌<◌, ◌≤◌, ◌⊎◌, List, [], ◌∷◌, length, refl, sym, ap, subst, ◌∙◌, arith, inl, inr, cases_eq, cases_lt, Ino, VolumeShape, free_blocks, BlockWords, Health, Seen, Below, Kept, Passes, numbers, Inode, IsInode, PlansSize, free_beside, given_node, planned_node, wanted_blocks, LooksUp, leaves_looked, leaves_trans, ready_left, SizeChange, page_old, Held, held_of, IsName, AtPage, Placed, placed_at, volume_layout, LeavesInUse, Ready}
+use Rattle.directories.proofs.Common.{◌≡◌, ℕ, ◌+◌, ◌-◌, ◌*◌, ◌/◌, ◌%◌, ◌<◌, ◌≤◌, ◌⊎◌, List, [], ◌∷◌, length, refl, sym, ap, subst, ◌∙◌, arith, inl, inr, cases_eq, cases_lt, Ino, VolumeShape, free_blocks, BlockWords, Health, Seen, Below, Kept, Passes, numbers, Inode, IsInode, PlansSize, free_beside, given_node, planned_node, wanted_blocks, LooksUp, leaves_looked, leaves_trans, ready_left, SizeChange, page_old, Held, held_of, IsName, AtPage, Placed, placed_at, volume_layout, LeavesInUse, Ready}
 use Rattle.std.specs.Prelude.{not, slice_index}
 use Rattle.std.specs.List.{filter}
 use Rattle.node_pages.proofs.Planned.{wanted_count}
@@ -7,14 +7,14 @@ use Rattle.node_pages.specs.Changes.{is_among}
 use Rattle.rio_model.proofs.GrowthRules.{page_new}
 use Rattle.rio_model.specs.Sizes.{largest_size, pages, tables}
 use Rattle.directories.specs.Contents.{GoesInto, sized_to, with_entry}
-use Rattle.dir_entries.specs.Entries.{IsEntryOf}
-use Rattle.dir_entries.specs.Plans.{PlansDir}
-use Rattle.dir_entries.specs.Reading.{CanReadDir}
-use Rattle.dir_entries.specs.RowChanges.{AddsRow}
-use Rattle.dir_entries.specs.Rows.{HasRow}
-use Rattle.dir_entries.specs.declared.changes.DirChange.{DirChange}
+use Rattle.directories.specs.Entries.{IsEntryOf}
+use Rattle.directories.specs.Plans.{PlansDir}
+use Rattle.directories.specs.Reading.{CanReadDir}
+use Rattle.directories.specs.RowChanges.{AddsRow}
+use Rattle.directories.specs.Rows.{HasRow}
+use Rattle.directories.specs.declared.changes.DirChange.{DirChange}
 use Rattle.directories.specs.declared.storing.EntryWords.{EntryWords}
-use Rattle.dir_entries.proofs.CanRead.{dir_held, dir_size, sized}
+use Rattle.directories.proofs.CanRead.{dir_held, dir_size, sized}
 use Rattle.directories.proofs.EntriesHeld.{InSlots}
 use Rattle.directories.proofs.PlannedDir.{AddsEntries, dir_planned}
 use Rattle.directories.proofs.RowLaws.{Short, row_added}

@@ -1,6 +1,6 @@
 -- How a plan of a size ends, told by an answer of reading.
 use Rattle.node_pages.proofs.Ends.{EndsRead}
-use Rattle.dir_entries.proofs.Common.{◌≡◌, refl, subst, Result, Health}
+use Rattle.directories.proofs.Common.{◌≡◌, refl, subst, Result, Health}
 use Rattle.std.specs.Prelude.{Ok, Err, IsErrOf}
 use Rattle.rio_base.specs.declared.failures.ReadFail.{ReadFail}
 use Rattle.rio_base.specs.declared.failures.ReadFail.TheVariants.{Fault as ReadFault, Stopped as ReadStopped, Memory as ReadMemory}

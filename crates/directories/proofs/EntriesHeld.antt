@@ -1,5 +1,5 @@
 -- What a directory holds after edits that store entries.
-use Rattle.dir_entries.proofs.Common.{◌≡◌, ◌≢◌, ℕ, ◌+◌, ◌-◌, ◌*◌, ◌/◌, ◌%◌, ◌<◌, ◌≤◌, ◌⊎◌, ◌==◌, ◌&&◌, Bool, true, false, cond, List, [], ◌∷◌, refl, sym, ap, ◌∙◌, arith, inl, inr, slice_index, nat_lt, cases_eq, cases_lt, nat_tests, BlockWords, Held, held, Slot, AtPage, Placed, HasSlot, edited}
+use Rattle.directories.proofs.Common.{◌≡◌, ◌≢◌, ℕ, ◌+◌, ◌-◌, ◌*◌, ◌/◌, ◌%◌, ◌<◌, ◌≤◌, ◌⊎◌, ◌==◌, ◌&&◌, Bool, true, false, cond, List, [], ◌∷◌, refl, sym, ap, ◌∙◌, arith, inl, inr, slice_index, nat_lt, cases_eq, cases_lt, nat_tests, BlockWords, Held, held, Slot, AtPage, Placed, HasSlot, edited}
 use Rattle.rio_model.proofs.HeldRules.{same_held}
 use Rattle.rio_model.proofs.PlacedRules.{page_page}
 use Rattle.rio_model.proofs.UpdateRules.{edited_on, run_in, run_out}

@@ -1,6 +1,15 @@
 pub mod AddedRow
+pub mod CanRead
+pub mod Common
 pub mod EndsSized
 pub mod EntriesHeld
+pub mod EntryRead
+pub mod Found
+pub mod HeldRows
+pub mod Listed
+pub mod MakingOrder
+pub mod MakingRules
+pub mod NameWords
 pub mod PlannedDir
 pub mod PlannedOn
 pub mod PlannedRows
@@ -8,3 +17,4 @@ pub mod PlannedSizes
 pub mod PushedEdits
 pub mod RowLaws
 pub mod SlotRows
+pub mod WordBytes

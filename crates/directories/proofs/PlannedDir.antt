@@ -1,5 +1,5 @@
 -- From a prepared size of a directory, and entries that are to be stored in it, to a prepared change of the directory.
-use Rattle.dir_entries.proofs.Common.{◌≡◌, ◌≢◌, ℕ, zero, suc, ◌+◌, ◌-◌, ◌*◌, ◌/◌, ◌%◌, ◌<◌, ◌≤◌, ◌⊎◌, ◌++◌, true, false, cond, List, [], ◌∷◌, length, map, take, refl, sym, ap, subst, ◌∙◌, arith, inl, inr, None, Option, Some, Contains, Ino, PageName, VolumeShape, free_blocks, BlockWords, Seen, Kept, numbers, Inode, IsInode, inode_words, PlansSize, free_beside, given_node, planned_node, wanted_blocks, word_edit, Edit, SizeChange, page_old, Held, held, held_of, Slot, AtPage, AtTable, Placed, HasSlot, IsFree, placed_at, volume_layout, edited, run_edits, Bears, LeavesInUse, Ready}
+use Rattle.directories.proofs.Common.{◌≡◌, ◌≢◌, ℕ, zero, suc, ◌+◌, ◌-◌, ◌*◌, ◌/◌, ◌%◌, ◌<◌, ◌≤◌, ◌⊎◌, ◌++◌, true, false, cond, List, [], ◌∷◌, length, map, take, refl, sym, ap, subst, ◌∙◌, arith, inl, inr, None, Option, Some, Contains, Ino, PageName, VolumeShape, free_blocks, BlockWords, Seen, Kept, numbers, Inode, IsInode, inode_words, PlansSize, free_beside, given_node, planned_node, wanted_blocks, word_edit, Edit, SizeChange, page_old, Held, held, held_of, Slot, AtPage, AtTable, Placed, HasSlot, IsFree, placed_at, volume_layout, edited, run_edits, Bears, LeavesInUse, Ready}
 use Rattle.std.proofs.Common.{length-take}
 use Rattle.std.specs.Prelude.{not, slice_index}
 use Rattle.std.specs.List.{AllByRecursion, filter}
@@ -12,11 +12,11 @@ use Rattle.rio_model.proofs.PlacedRules.{first_table, table_page}
 use Rattle.rio_model.proofs.UpdateRules.{edited_on, edited_out}
 use Rattle.rio_model.specs.Updates.{EditsNode, Turns, Update, WordEdit}
 use Rattle.directories.specs.Contents.{AllGoInto, all_edits, entry_edits, sized_to, with_entries}
-use Rattle.dir_entries.specs.Plans.{InThreeBlocks, PlansDir, SameBlocks, TakesLowest, dir_update}
-use Rattle.dir_entries.specs.Reading.{CanReadDir}
-use Rattle.dir_entries.specs.declared.changes.DirChange.{DirChange}
+use Rattle.directories.specs.Plans.{InThreeBlocks, PlansDir, SameBlocks, TakesLowest, dir_update}
+use Rattle.directories.specs.Reading.{CanReadDir}
+use Rattle.directories.specs.declared.changes.DirChange.{DirChange}
 use Rattle.directories.specs.declared.storing.EntryWords.{EntryWords}
-use Rattle.dir_entries.proofs.CanRead.{dir_held}
+use Rattle.directories.proofs.CanRead.{dir_held}
 use Rattle.directories.proofs.EntriesHeld.{BlocksApart, InSlots, PagesHold, directory_held}
 
 -- a change of size with the words of entries that are to be stored

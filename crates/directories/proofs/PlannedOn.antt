@@ -1,5 +1,5 @@
 -- A change that is prepared after its directory was read, told of the volume as it was before.
-use Rattle.dir_entries.proofs.Common.{◌≡◌, ℕ, ◌+◌, ◌*◌, ◌/◌, ◌%◌, ◌<◌, List, subst, VolumeShape, BlockWords, Health, Seen, Below, Kept, Passes, LooksUp, leaves_looked, leaves_trans, ready_left, AtPage, placed_at, volume_layout, LeavesInUse, Ready}
+use Rattle.directories.proofs.Common.{◌≡◌, ℕ, ◌+◌, ◌*◌, ◌/◌, ◌%◌, ◌<◌, List, subst, VolumeShape, BlockWords, Health, Seen, Below, Kept, Passes, LooksUp, leaves_looked, leaves_trans, ready_left, AtPage, placed_at, volume_layout, LeavesInUse, Ready}
 use Rattle.std.specs.Prelude.{slice_index}
 use Rattle.directories.specs.Contents.{GoesInto}
 use Rattle.directories.specs.declared.storing.EntryWords.{EntryWords}

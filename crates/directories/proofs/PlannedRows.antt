@@ -1,19 +1,19 @@
 -- From entries that are to be stored in a directory to the rows that it then has.
-use Rattle.dir_entries.proofs.Common.{◌≡◌, ◌≢◌, ℕ, ◌+◌, ◌-◌, ◌*◌, ◌/◌, ◌%◌, ◌<◌, ◌≤◌, ◌==◌, Bool, true, false, cond, List, [], ◌∷◌, length, refl, sym, ap, subst, ◌∙◌, arith, inl, nat_lt, nat_tests, Ino, VolumeShape, BlockWords, Seen, Kept, numbers, Inode, IsInode, PlansSize, given_node, planned_node, SizeChange, LooksUp, page_old, HasEntry, Held, entry_name, held_of, IsName, AtPage, Placed, placed_at, volume_layout, EntryRule, LeavesInUse, Ready}
+use Rattle.directories.proofs.Common.{◌≡◌, ◌≢◌, ℕ, ◌+◌, ◌-◌, ◌*◌, ◌/◌, ◌%◌, ◌<◌, ◌≤◌, ◌==◌, Bool, true, false, cond, List, [], ◌∷◌, length, refl, sym, ap, subst, ◌∙◌, arith, inl, nat_lt, nat_tests, Ino, VolumeShape, BlockWords, Seen, Kept, numbers, Inode, IsInode, PlansSize, given_node, planned_node, SizeChange, LooksUp, page_old, HasEntry, Held, entry_name, held_of, IsName, AtPage, Placed, placed_at, volume_layout, EntryRule, LeavesInUse, Ready}
 use Rattle.std.specs.Prelude.{slice_index}
 use Rattle.rio_model.proofs.HeldRules.{counts_of, same_held}
 use Rattle.rio_model.specs.NodeChanges.{shrunk}
 use Rattle.rio_model.specs.Sizes.{pages}
 use Rattle.directories.specs.Contents.{AllGoInto, GoesInto, sized_to, with_entries, with_entry}
-use Rattle.dir_entries.specs.Entries.{IsEntryOf, name_in}
-use Rattle.dir_entries.specs.Plans.{PlansDir}
-use Rattle.dir_entries.specs.Reading.{CanReadDir}
-use Rattle.dir_entries.specs.RowChanges.{RemovesRow, ReplacesRow, SetsRow}
-use Rattle.dir_entries.specs.Rows.{InNoOther}
-use Rattle.dir_entries.specs.declared.changes.DirChange.{DirChange}
+use Rattle.directories.specs.Entries.{IsEntryOf, name_in}
+use Rattle.directories.specs.Plans.{PlansDir}
+use Rattle.directories.specs.Reading.{CanReadDir}
+use Rattle.directories.specs.RowChanges.{RemovesRow, ReplacesRow, SetsRow}
+use Rattle.directories.specs.Rows.{InNoOther}
+use Rattle.directories.specs.declared.changes.DirChange.{DirChange}
 use Rattle.directories.specs.declared.storing.EntryWords.{EntryWords}
-use Rattle.dir_entries.proofs.CanRead.{can_read, dir_held, dir_size}
-use Rattle.dir_entries.proofs.NameWords.{name_moved}
+use Rattle.directories.proofs.CanRead.{can_read, dir_held, dir_size}
+use Rattle.directories.proofs.NameWords.{name_moved}
 use Rattle.directories.proofs.PlannedDir.{AddsEntries, dir_planned}
 use Rattle.directories.proofs.RowLaws.{Itself, Other, Short, row_removed, row_replaced, row_set, word_beside, word_stored}
 

@@ -1,9 +1,9 @@
 -- What a plan of a directory's size supposes.
-use Rattle.dir_entries.proofs.Common.{◌≡◌, ℕ, ◌%◌, ◌<◌, ◌≤◌, List, [], length, arith, ap, inl, ◌∙◌, VolumeShape, Seen, Inode, IsInode}
+use Rattle.directories.proofs.Common.{◌≡◌, ℕ, ◌%◌, ◌<◌, ◌≤◌, List, [], length, arith, ap, inl, ◌∙◌, VolumeShape, Seen, Inode, IsInode}
 use Rattle.node_pages.specs.Changes.{Apart, PlansFor}
 use Rattle.rio_model.specs.Sizes.{largest_size}
 use Rattle.rio_model.specs.VolumeRules.{SizeFits}
-use Rattle.dir_entries.specs.Reading.{CanReadDir}
+use Rattle.directories.specs.Reading.{CanReadDir}
 
 pub dir_kind : (shape : VolumeShape) (x : Seen) (d : ℕ) (inode : Inode) → CanReadDir shape x d → IsInode x.words d inode → inode.kind ≡ 1
 dir_kind shape x d inode can is = is.kind ∙ can.dir

@@ -1,5 +1,5 @@
 -- Edits of entries, pushed one after the other.
-use Rattle.dir_entries.proofs.Common.{◌≡◌, ℕ, zero, suc, ◌+◌, ◌<◌, ◌≤◌, ◌++◌, List, [], ◌∷◌, length, map, take, slice_index_or, refl, subst, sym, ap, ◌∙◌, arith, Contains, append-nil, word_edit, Edit, run_edits}
+use Rattle.directories.proofs.Common.{◌≡◌, ℕ, zero, suc, ◌+◌, ◌<◌, ◌≤◌, ◌++◌, List, [], ◌∷◌, length, map, take, slice_index_or, refl, subst, sym, ap, ◌∙◌, arith, Contains, append-nil, word_edit, Edit, run_edits}
 use Rattle.std.proofs.lemmas.List.{append_assoc, get_or_default, map-append}
 use Rattle.std.proofs.lemmas.List.FromFn.{map-range_with_len_more}
 use Rattle.rio_model.specs.Updates.{WordEdit}

@@ -1,10 +1,10 @@
 -- What stored entries and another size make of the rows of a directory.
-use Rattle.dir_entries.proofs.Common.{◌≡◌, ◌≢◌, ℕ, ◌+◌, ◌-◌, ◌*◌, ◌/◌, ◌%◌, ◌^◌, ◌<◌, ◌≤◌, ◌⊎◌, ◌==◌, true, false, cond, List, length, refl, sym, ap, subst, ◌∙◌, arith, inl, inr, slice_index, nat_lt, cases_eq, nat_tests, Held, entry_ino, entry_name}
+use Rattle.directories.proofs.Common.{◌≡◌, ◌≢◌, ℕ, ◌+◌, ◌-◌, ◌*◌, ◌/◌, ◌%◌, ◌^◌, ◌<◌, ◌≤◌, ◌⊎◌, ◌==◌, true, false, cond, List, length, refl, sym, ap, subst, ◌∙◌, arith, inl, inr, slice_index, nat_lt, cases_eq, nat_tests, Held, entry_ino, entry_name}
 use Rattle.directories.specs.Contents.{sized_to, with_entry}
-use Rattle.dir_entries.specs.Entries.{IsEntryOf}
-use Rattle.dir_entries.specs.RowChanges.{AddsRow, NameAt, NoName, NoRow, RemovesRow, ReplacesRow, SetsRow, TheRow}
-use Rattle.dir_entries.specs.Rows.{HasRow, InNoOther}
-use Rattle.dir_entries.proofs.NameWords.{name_moved}
+use Rattle.directories.specs.Entries.{IsEntryOf}
+use Rattle.directories.specs.RowChanges.{AddsRow, NameAt, NoName, NoRow, RemovesRow, ReplacesRow, SetsRow, TheRow}
+use Rattle.directories.specs.Rows.{HasRow, InNoOther}
+use Rattle.directories.proofs.NameWords.{name_moved}
 use Rattle.directories.proofs.SlotRows.{KeepsRow, SlotsChange, rows_of}
 
 -- names lie within their entries

@@ -1,7 +1,7 @@
 -- Rows of a directory by its slots: where each slot of the changed directory has the row of a slot of before, or the new one.
-use Rattle.dir_entries.proofs.Common.{◌≡◌, ◌≢◌, ℕ, ◌*◌, ◌<◌, ◌⊎◌, List, sym, subst, ◌∙◌, inl, inr, Held, entry_ino, entry_name}
-use Rattle.dir_entries.specs.RowChanges.{ChangesRows}
-use Rattle.dir_entries.specs.Rows.{HasRow, IsEntry, NamesApart}
+use Rattle.directories.proofs.Common.{◌≡◌, ◌≢◌, ℕ, ◌*◌, ◌<◌, ◌⊎◌, List, sym, subst, ◌∙◌, inl, inr, Held, entry_ino, entry_name}
+use Rattle.directories.specs.RowChanges.{ChangesRows}
+use Rattle.directories.specs.Rows.{HasRow, IsEntry, NamesApart}
 
 -- slot b has the row that slot a had
 pub record KeepsRow (h k : Held) (a b : ℕ) : Type 0 where

@@ -8,9 +8,9 @@ ghost use Rattle.rio_base.specs.Volume.{Firm, Goes, SameUpdate};
 ghost use Rattle.rio_model.specs.Updates.{Applied};
 ghost use Rattle.block_alloc.specs.Bitmap.{numbers};
 ghost use Rattle.node_pages.specs.Updating.{CanUpdate, IsTouched};
-ghost use Rattle.dir_entries.specs.Plans.{dir_update};
+ghost use Rattle.directories.specs.Plans.{dir_update};
 
-use dir_entries::DirChange;
+use crate::DirChange;
 use node_pages::make_update;
 use rio_base::{Stopped, Volume, VolumeShape};
 

@@ -9,13 +9,13 @@ ghost use Rattle.rio_model.specs.VolumeReady.{LeavesInUse, Ready};
 ghost use Rattle.rio_model.specs.VolumeRules.{EntryRule};
 ghost use Rattle.inode_table.specs.Inodes.{IsInode};
 ghost use Rattle.directories.specs.Contents.{sized_to, with_entry};
-ghost use Rattle.dir_entries.specs.Plans.{PlansDir};
-ghost use Rattle.dir_entries.specs.Reading.{CanReadDir};
-ghost use Rattle.dir_entries.specs.RowChanges.{RemovesRow, ReplacesRow};
+ghost use Rattle.directories.specs.Plans.{PlansDir};
+ghost use Rattle.directories.specs.Reading.{CanReadDir};
+ghost use Rattle.directories.specs.RowChanges.{RemovesRow, ReplacesRow};
 
 use crate::planning::{plan_entries, plan_entry};
 use crate::storing::{SlotWords, moved_words, words_for_slot};
-use dir_entries::{DirChange, ENTRY_BYTES, dir_inode, read_entry, with_ino};
+use crate::{DirChange, ENTRY_BYTES, dir_inode, read_entry, with_ino};
 use inode_table::Inode;
 use rio_base::{Ino, ReadFail, Volume, VolumeShape};
 use std::alloc::Global;

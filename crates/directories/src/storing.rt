@@ -9,10 +9,10 @@ ghost use Rattle.inode_table.specs.Inodes.{IsInode};
 ghost use Rattle.node_pages.specs.Changes.{word_edit};
 ghost use Rattle.node_pages.specs.LookingUp.{LooksUp};
 ghost use Rattle.directories.specs.Contents.{GoesInto, all_edits, entry_edits};
-ghost use Rattle.dir_entries.specs.Reading.{CanReadDir};
+ghost use Rattle.directories.specs.Reading.{CanReadDir};
 ghost use Rattle.directories.specs.declared.storing.EntryWords.{EntryWords as EntryWordsOf};
 
-use dir_entries::{DirChange, ENTRY_WORDS, PAGE_ENTRIES, first_word, page_block, read_entry};
+use crate::{DirChange, ENTRY_WORDS, PAGE_ENTRIES, first_word, page_block, read_entry};
 use inode_table::Inode;
 use node_pages::{Edit, EditList, SizeChange};
 use rio_base::{Block, Blocks, Ino, VolFail, VolumeShape};

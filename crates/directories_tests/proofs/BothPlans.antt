@@ -1,16 +1,16 @@
 -- Two plans of two directories made in one update, of which the first takes no block.
-use Rattle.dir_entries.proofs.Common.{◌≡◌, ◌≢◌, ℕ, ◌≤◌, ◌⊎◌, true, false, List, [], length, map, refl, sym, ap, subst, ◌∙◌, arith, inl, inr, Option, None, Some, Contains, nat_tests, PageName, VolumeShape, free_blocks, CachesBy, BlockWords, Seen, Firm, Kept, numbers, Held, held, held_there, Change, Slot, AtPage, AtTable, Placed, HasSlot, placed_at, volume_layout, Applied, edited, Bears, LeavesInUse, wanted_blocks, word_edit, IsUpdated}
+use Rattle.directories.proofs.Common.{◌≡◌, ◌≢◌, ℕ, ◌≤◌, ◌⊎◌, true, false, List, [], length, map, refl, sym, ap, subst, ◌∙◌, arith, inl, inr, Option, None, Some, Contains, nat_tests, PageName, VolumeShape, free_blocks, CachesBy, BlockWords, Seen, Firm, Kept, numbers, Held, held, held_there, Change, Slot, AtPage, AtTable, Placed, HasSlot, placed_at, volume_layout, Applied, edited, Bears, LeavesInUse, wanted_blocks, word_edit, IsUpdated}
 use Rattle.std.specs.Prelude.{take}
 use Rattle.rio_model.specs.NodeChanges.{Available}
 use Rattle.rio_model.proofs.PlacedRules.{has_same}
-use Rattle.dir_entries.specs.Making.{MayBeMade}
-use Rattle.dir_entries.proofs.MakingRules.{DisjointNodes, may_after, may_still, plan_change}
-use Rattle.dir_entries.specs.Plans.{PlansDir, dir_update}
-use Rattle.dir_entries.specs.Reading.{CanReadDir}
-use Rattle.dir_entries.specs.RowChanges.{RemovesRow}
+use Rattle.directories.specs.Making.{MayBeMade}
+use Rattle.directories.proofs.MakingRules.{DisjointNodes, may_after, may_still, plan_change}
+use Rattle.directories.specs.Plans.{PlansDir, dir_update}
+use Rattle.directories.specs.Reading.{CanReadDir}
+use Rattle.directories.specs.RowChanges.{RemovesRow}
 use Rattle.directories_tests.specs.TestDirs.{CanMake, DirsOrder, DirsReady, KeepsRows}
-use Rattle.dir_entries.specs.declared.changes.DirChange.{DirChange}
-use Rattle.dir_entries.proofs.CanRead.{dir_held}
+use Rattle.directories.specs.declared.changes.DirChange.{DirChange}
+use Rattle.directories.proofs.CanRead.{dir_held}
 use Rattle.directories_tests.proofs.OpenPlans.{firm_false}
 use Rattle.directories_tests.proofs.PlansMade.{left_held}
 

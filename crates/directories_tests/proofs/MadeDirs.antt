@@ -9,8 +9,8 @@ use Rattle.rio_model.specs.Held.{Held, HasEntry, held_of}
 use Rattle.rio_model.specs.HeldRules.{held_ino}
 use Rattle.rio_model.specs.Placed.{volume_layout}
 use Rattle.rio_model.specs.VolumeReady.{Ready}
-use Rattle.dir_entries.proofs.CanRead.{dir_ino}
-use Rattle.test_volumes.specs.TestVolumes.{HasNodes}
+use Rattle.directories.proofs.CanRead.{dir_ino}
+use Rattle.test_objects.specs.TestVolumes.{HasNodes}
 use Rattle.directories_tests.specs.TestDirs.{DirsReady, IsTestDir}
 
 pub dirs_made : (shape : VolumeShape) (x : Seen) (k : Kept) → Ready shape x k → HasNodes shape x.words 1 9 → DirsReady shape x k

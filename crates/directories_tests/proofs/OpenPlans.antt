@@ -1,17 +1,17 @@
 -- Plans of tests while an update is open: how many blocks it touches, and that a plan lasts.
-use Rattle.dir_entries.proofs.Common.{Bool, true, false, ◌≡◌, ℕ, ◌+◌, ◌<◌, ◌≤◌, ◌⊎◌, ◌==◌, cond, List, length, refl, sym, ap, subst, ◌∙◌, arith, inl, inr, slice_index_or, None, Contains, cases_eq, VolumeShape, CachesBy, caches_by_one, caches_by_trans, BlockWords, Caches, Seen, inode_block, HasShape, Firm, Kept, held_of, placed_at, volume_layout, AllNamed, Bears, Firmly, EntryRule, IsMapped, firm_on, IsEdited, Edit}
+use Rattle.directories.proofs.Common.{Bool, true, false, ◌≡◌, ℕ, ◌+◌, ◌<◌, ◌≤◌, ◌⊎◌, ◌==◌, cond, List, length, refl, sym, ap, subst, ◌∙◌, arith, inl, inr, slice_index_or, None, Contains, cases_eq, VolumeShape, CachesBy, caches_by_one, caches_by_trans, BlockWords, Caches, Seen, inode_block, HasShape, Firm, Kept, held_of, placed_at, volume_layout, AllNamed, Bears, Firmly, EntryRule, IsMapped, firm_on, IsEdited, Edit}
 use Rattle.std.proofs.Common.{◌||◌}
 use Rattle.std.proofs.lemmas.List.{get_or_default}
 use Rattle.rio_base.specs.Blocks.{CanName, Drops, SamePage}
 use Rattle.rio_base.specs.Rules.{true_false}
 use Rattle.rio_base.specs.Volume.{Touches, with_block}
 use Rattle.rio_model.proofs.WordRules.{itself}
-use Rattle.dir_entries.specs.Making.{MayBeMade}
-use Rattle.dir_entries.proofs.MakingOrder.{plan_applies, plan_edits}
-use Rattle.dir_entries.specs.Plans.{InThreeBlocks, PlansDir}
-use Rattle.dir_entries.specs.Rows.{NamesApart}
+use Rattle.directories.specs.Making.{MayBeMade}
+use Rattle.directories.proofs.MakingOrder.{plan_applies, plan_edits}
+use Rattle.directories.specs.Plans.{InThreeBlocks, PlansDir}
+use Rattle.directories.specs.Rows.{NamesApart}
 use Rattle.directories_tests.specs.TestDirs.{CanMake, CanTouch, DirsOrder, KeepsRows}
-use Rattle.dir_entries.specs.declared.changes.DirChange.{DirChange}
+use Rattle.directories.specs.declared.changes.DirChange.{DirChange}
 
 -- ---- how many blocks are touched
 

@@ -1,19 +1,19 @@
 -- The calls of tests keep the volume's directories.
-use Rattle.dir_entries.proofs.Common.{◌≡◌, ◌≢◌, ℕ, ◌*◌, ◌<◌, ◌⊎◌, false, List, refl, sym, ap, subst, ◌∙◌, arith, inl, inr, cases_eq, VolumeShape, CachesBy, BlockWords, Health, Looks, Seen, IsIno, HasShape, Below, Firm, Kept, Passes, Inode, IsInode, Held, HasEntry, entry_ino, entry_name, held_of, held_ino, Change, IsName, Layout, volume_layout, lays_self, Applied, AllNamed, Firmly, LeavesInUse, EntryRule, IsMapped, LooksUp, named_on, firm_on, ready_left, IsUpdated}
+use Rattle.directories.proofs.Common.{◌≡◌, ◌≢◌, ℕ, ◌*◌, ◌<◌, ◌⊎◌, false, List, refl, sym, ap, subst, ◌∙◌, arith, inl, inr, cases_eq, VolumeShape, CachesBy, BlockWords, Health, Looks, Seen, IsIno, HasShape, Below, Firm, Kept, Passes, Inode, IsInode, Held, HasEntry, entry_ino, entry_name, held_of, held_ino, Change, IsName, Layout, volume_layout, lays_self, Applied, AllNamed, Firmly, LeavesInUse, EntryRule, IsMapped, LooksUp, named_on, firm_on, ready_left, IsUpdated}
 use Rattle.rio_model.proofs.HeldRules.{held_by, held_in_agree, same_all}
 use Rattle.rio_model.specs.Placed.{Agrees}
 use Rattle.rio_model.proofs.PlacedRules.{lays_agree}
 use Rattle.node_pages.proofs.OrderRules.{ready_order}
-use Rattle.dir_entries.proofs.MakingRules.{SetsDir, may_begin, plan_change, plan_made}
-use Rattle.dir_entries.proofs.MakingOrder.{order_made, plan_edits}
-use Rattle.dir_entries.specs.Plans.{PlansDir, dir_update}
-use Rattle.dir_entries.specs.Reading.{CanReadDir}
-use Rattle.dir_entries.specs.RowChanges.{AddsRow, RemovesRow, ReplacesRow, SetsRow}
-use Rattle.dir_entries.specs.Rows.{HasRow, NamesApart}
+use Rattle.directories.proofs.MakingRules.{SetsDir, may_begin, plan_change, plan_made}
+use Rattle.directories.proofs.MakingOrder.{order_made, plan_edits}
+use Rattle.directories.specs.Plans.{PlansDir, dir_update}
+use Rattle.directories.specs.Reading.{CanReadDir}
+use Rattle.directories.specs.RowChanges.{AddsRow, RemovesRow, ReplacesRow, SetsRow}
+use Rattle.directories.specs.Rows.{HasRow, NamesApart}
 use Rattle.directories_tests.specs.TestDirs.{CanMake, DirsOrder, DirsReady, IsTestDir, KeepsRows}
-use Rattle.dir_entries.specs.declared.changes.DirChange.{DirChange}
+use Rattle.directories.specs.declared.changes.DirChange.{DirChange}
 use Rattle.directories.proofs.AddedRow.{held_size}
-use Rattle.dir_entries.proofs.CanRead.{can_read}
+use Rattle.directories.proofs.CanRead.{can_read}
 
 -- ---- calls that change nothing in use
 

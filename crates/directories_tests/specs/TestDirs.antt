@@ -12,10 +12,10 @@ use Rattle.rio_model.specs.Placed.{placed_at}
 use Rattle.rio_model.specs.VolumeReady.{InOrder, Ready}
 use Rattle.rio_model.specs.VolumeRules.{EntryRule}
 use Rattle.node_pages.specs.declared.changes.Edit.{Edit}
-use Rattle.dir_entries.specs.Making.{MayBeMade}
-use Rattle.dir_entries.specs.Plans.{PlansDir}
-use Rattle.dir_entries.specs.Rows.{HasRow, NamesApart}
-use Rattle.dir_entries.specs.declared.changes.DirChange.{DirChange}
+use Rattle.directories.specs.Making.{MayBeMade}
+use Rattle.directories.specs.Plans.{PlansDir}
+use Rattle.directories.specs.Rows.{HasRow, NamesApart}
+use Rattle.directories.specs.declared.changes.DirChange.{DirChange}
 
 -- its directories
 pub record IsTestDir (i : ℕ) : Type 0 where

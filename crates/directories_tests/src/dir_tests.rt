@@ -3,7 +3,7 @@
 use crate::dirs::SMALL;
 use crate::rows::{Change, Dir, Row, check_rows};
 use rio_base::Ino;
-use test_volumes::SHAPE;
+use test_objects::SHAPE;
 
 /// The longest name.
 const LONG: [u8; 56] = [b'x'; 56];

@@ -5,33 +5,30 @@ ghost use Rattle.std.specs.List.{Contains};
 ghost use Rattle.rio_base.specs.BlockSets.{CachesBy};
 ghost use Rattle.rio_base.specs.Blocks.{Looks};
 ghost use Rattle.rio_base.specs.Layout.{IsIno};
-ghost use Rattle.rio_fakes.specs.ListVolumes.{ListSound, list_kept, list_seen};
+ghost use Rattle.test_objects.specs.ListVolumes.{ListSound, list_kept, list_seen};
 ghost use Rattle.rio_base.specs.Shapes.{HasShape};
 ghost use Rattle.rio_base.specs.Volume.{Firm};
 ghost use Rattle.rio_model.specs.Held.{held_of};
 ghost use Rattle.rio_model.specs.Paths.{IsName};
 ghost use Rattle.block_alloc.specs.Bitmap.{numbers};
 ghost use Rattle.inode_table.specs.Inodes.{IsInode};
-ghost use Rattle.test_volumes.specs.TestVolumes.{IsTestShape};
+ghost use Rattle.test_objects.specs.TestVolumes.{IsTestShape};
 ghost use Rattle.node_pages.specs.Updating.{IsEdited, IsTouched, IsUpdated};
 ghost use Rattle.node_pages.specs.declared.changes.Edit.{Edit as EditOf};
-ghost use Rattle.dir_entries.specs.Plans.{InThreeBlocks};
-ghost use Rattle.dir_entries.specs.Rows.{Finds, HasRow};
+ghost use Rattle.directories.specs.Plans.{InThreeBlocks};
+ghost use Rattle.directories.specs.Rows.{Finds, HasRow};
 ghost use Rattle.directories_tests.specs.TestDirs.{CanMake, CanTouch, DirsOrder, DirsReady, IsPlainByte, IsTestDir};
-ghost use Rattle.dir_entries.specs.declared.changes.DirChange.{DirChange as DirChangeOf};
+ghost use Rattle.directories.specs.declared.changes.DirChange.{DirChange as DirChangeOf};
 
 use block_alloc::free_count;
-use dir_entries::DirChange;
-use dir_lookups::{find, names};
-use directories::{apply, plan_add, plan_remove, plan_replace, plan_set};
+use directories::{DirChange, apply, find, names, plan_add, plan_remove, plan_replace, plan_set};
 use inode_table::{Inode, inode_block, read_inode};
 use name_list::NameList;
 use node_pages::{Edit, SizeFail};
 use rio_base::{Block, Failed, Ino, ReadFail, VolFail, Volume, VolumeShape};
-use rio_fakes::ListVolume;
 use std::alloc::Global;
 use std::process::Abort;
-use test_volumes::with_nodes;
+use test_objects::{ListVolume, with_nodes};
 
 /// A volume of six blocks, four of them reserved.
 pub(crate) const SMALL: VolumeShape = VolumeShape {

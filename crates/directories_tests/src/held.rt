@@ -3,7 +3,7 @@
 ghost use Rattle.directories_tests.specs.TestDirs.{DirsReady, IsTestDir};
 
 use crate::dirs::inode_in;
-use dir_lookups::{hold_names, row_at};
+use directories::{hold_names, row_at};
 use name_index::DirNames;
 use rio_base::{Ino, ReadFail, VolFail, Volume, VolumeShape};
 use std::alloc::Global;

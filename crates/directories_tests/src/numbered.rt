@@ -1,14 +1,14 @@
 //! Rows of many numbered names in the root.
 
 ghost use Rattle.std.specs.Prelude.{OnOk};
-ghost use Rattle.rio_fakes.specs.ListVolumes.{ListSound, list_kept, list_seen};
+ghost use Rattle.test_objects.specs.ListVolumes.{ListSound, list_kept, list_seen};
 ghost use Rattle.directories_tests.specs.TestDirs.{DirsReady};
 
 use crate::dirs::{ROOT, add, names_ino, remove};
 use crate::held::{hold, is_held};
 use rio_base::{Failed, Ino, VolumeShape};
-use rio_fakes::ListVolume;
 use std::alloc::Global;
+use test_objects::ListVolume;
 
 /// The name of number `n`.
 pub(crate) fn numbered(n: u32) -> [u8; 9] {

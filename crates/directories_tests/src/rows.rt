@@ -1,8 +1,8 @@
 //! Tables of calls on the directories of a test, each with what must come of it.
 
 ghost use Rattle.std.specs.Prelude.{◌≡◌, OnOk};
-ghost use Rattle.test_volumes.specs.TestVolumes.{IsTestShape};
-ghost use Rattle.rio_fakes.specs.ListVolumes.{ListSound, list_kept, list_seen};
+ghost use Rattle.test_objects.specs.TestVolumes.{IsTestShape};
+ghost use Rattle.test_objects.specs.ListVolumes.{ListSound, list_kept, list_seen};
 ghost use Rattle.directories_tests.specs.TestDirs.{DirsReady, IsTestDir};
 
 use crate::compare::all_answered;
@@ -15,9 +15,9 @@ use crate::numbered::{add_numbered, has_numbered, remove_numbered};
 use name_list::NameList;
 use node_pages::SizeFail;
 use rio_base::{Failed, Ino, VolFail, VolumeShape};
-use rio_fakes::ListVolume;
 use std::alloc::Global;
 use std::process::Abort;
+use test_objects::ListVolume;
 
 /// A directory of a test.
 #[derive(Clone, Copy)]

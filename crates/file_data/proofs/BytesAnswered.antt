@@ -1,5 +1,5 @@
 -- Requests on the bytes of a file at a path: how they end, by how the walk there and the call at its end did.
-use Rattle.file_ends.proofs.Common.{◌≡◌, ℕ, ◌+◌, ◌<◌, ◌≤◌, ◌⊎◌, List, refl, sym, ap, subst, ◌∙◌, inl, inr, Result, Ok, Err, IsErrOf, get, Ino, VolumeShape, free_blocks, BlockWords, Seen, Kept, Answered, State, answered, at_inode, refused, held_of, names_of, walk, volume_layout, largest_size, ReadsAs, LeavesInUse, Ready, wanted_blocks, SizeFail, NoneDone}
+use Rattle.request_ends.proofs.Common.{◌≡◌, ℕ, ◌+◌, ◌<◌, ◌≤◌, ◌⊎◌, List, refl, sym, ap, subst, ◌∙◌, inl, inr, Result, Ok, Err, IsErrOf, get, Ino, VolumeShape, free_blocks, BlockWords, Seen, Kept, Answered, State, answered, at_inode, refused, held_of, names_of, walk, volume_layout, largest_size, ReadsAs, LeavesInUse, Ready, wanted_blocks, SizeFail, NoneDone}
 use Rattle.rio_requests.specs.Parts.{WriteDone}
 use Rattle.rio_requests.specs.Answer.{on_file}
 use Rattle.std.specs.Prelude.{IfOk, length, take, drop, OnOk}
@@ -11,14 +11,14 @@ use Rattle.node_pages.specs.declared.failures.SizeFail.TheVariants.{NoSpace as S
 use Rattle.node_pages.specs.declared.failures.WriteFail.{WriteFail}
 use Rattle.node_pages.specs.declared.failures.WriteFail.TheVariants.{NoSpace as WriteNoSpace, TooLarge as WriteTooLarge, Fault as WriteFault, Stopped as WriteStopped, Memory as WriteMemory}
 use Rattle.rio_requests.specs.Answers.{read, read_in, truncate, write, write_in, truncate_in}
-use Rattle.file_ends.specs.Ends.{FileEnds, SaysCount, SaysDone}
-use Rattle.file_ends.specs.declared.failures.FileFail.{FileFail}
-use Rattle.file_ends.specs.declared.failures.FileFail.TheVariants.{Refused, Fault, Stopped, Memory}
-use Rattle.file_ends.specs.Failures.{fail_of_size, fail_of_write}
+use Rattle.request_ends.specs.Ends.{FileEnds, SaysCount, SaysDone}
+use Rattle.request_ends.specs.declared.failures.FileFail.{FileFail}
+use Rattle.request_ends.specs.declared.failures.FileFail.TheVariants.{Refused, Fault, Stopped, Memory}
+use Rattle.request_ends.specs.Failures.{fail_of_size, fail_of_write}
 use Rattle.file_tree.specs.Walks.{FileComes}
 use Rattle.file_data.proofs.FileData.{ends_resized, file_read}
 use Rattle.file_data.proofs.FileEnded.{ends_written, resize_fault, resize_no_space, resize_stopped, resize_too_large, write_fault, write_no_space, write_stopped, write_too_large}
-use Rattle.file_ends.proofs.AnsweredAt.{FailsBy}
+use Rattle.request_ends.proofs.AnsweredAt.{FailsBy}
 
 -- the walk ended at no file
 pub fails_file : (s : State) (walked : Result ℕ ℕ) (go : ℕ → List ℕ → Answered) (r : Result Ino FileFail) (e : FileFail) → r ≡ Err e → FileComes s walked r → FailsBy s (at_inode s walked (λ i. on_file s (get s.nodes i) (go i))) e

@@ -1,5 +1,5 @@
 -- The bytes of a file written or resized, as the answer of the state.
-use Rattle.file_ends.proofs.Common.{◌≡◌, ◌≢◌, ℕ, ◌<◌, ◌≤◌, ◌⊎◌, true, false, cond, List, refl, sym, ap, subst, ◌∙◌, arith, inl, inr, Ok, Some, nat_lt, get, insert, cases_eq, nat_tests, VolumeShape, free_blocks, BlockWords, Seen, Kept, Node, File, Answered, State, answered, refused, with_node, held_of, free_count, largest_size, reads_file, ReadsAs, Ready, free_by_state, get_here, get_there, wanted_blocks, with_room, NoneDone}
+use Rattle.request_ends.proofs.Common.{◌≡◌, ◌≢◌, ℕ, ◌<◌, ◌≤◌, ◌⊎◌, true, false, cond, List, refl, sym, ap, subst, ◌∙◌, arith, inl, inr, Ok, Some, nat_lt, get, insert, cases_eq, nat_tests, VolumeShape, free_blocks, BlockWords, Seen, Kept, Node, File, Answered, State, answered, refused, with_node, held_of, free_count, largest_size, reads_file, ReadsAs, Ready, free_by_state, get_here, get_there, wanted_blocks, with_room, NoneDone}
 use Rattle.rio_model.specs.FileParts.{resized}
 use Rattle.rio_requests.specs.Answer.{on_file}
 use Rattle.std.specs.Prelude.{length}
@@ -10,7 +10,7 @@ use Rattle.rio_model.proofs.NodeOrder.{same_nodes}
 use Rattle.rio_model.proofs.StateSteps.{file_set}
 use Rattle.file_pages.specs.Files.{HasSpace, SetsBoth, file_bytes}
 use Rattle.rio_requests.specs.Answers.{wanted, truncate_in, with_size}
-use Rattle.file_ends.specs.Ends.{FileEnds, Left, SaysDone, Stands}
+use Rattle.request_ends.specs.Ends.{FileEnds, Left, SaysDone, Stands}
 
 -- file i of a state
 pub file_read : (shape : VolumeShape) (f : BlockWords) (s : State) (i : ℕ) → ReadsAs shape f s → (held_of shape f i).kind ≡ 2 → get s.nodes i ≡ Some (File (file_bytes shape f i))

@@ -1,5 +1,5 @@
 -- Other ends of a truncate, and those of a write.
-use Rattle.file_ends.proofs.Common.{◌≡◌, ℕ, zero, suc, ◌+◌, ◌<◌, ◌≤◌, List, [], ◌∷◌, refl, sym, ap, subst, ◌∙◌, arith, inl, inr, append-nil, Ok, Err, Some, take-append-drop, get, VolumeShape, free_blocks, BlockWords, Seen, Kept, File, Answered, Reply, Number, State, answered, refused, with_node, held_of, names_of, walk, volume_layout, largest_size, ReadsAs, LeavesInUse, Ready, wanted_blocks, NoneDone}
+use Rattle.request_ends.proofs.Common.{◌≡◌, ℕ, zero, suc, ◌+◌, ◌<◌, ◌≤◌, List, [], ◌∷◌, refl, sym, ap, subst, ◌∙◌, arith, inl, inr, append-nil, Ok, Err, Some, take-append-drop, get, VolumeShape, free_blocks, BlockWords, Seen, Kept, File, Answered, Reply, Number, State, answered, refused, with_node, held_of, names_of, walk, volume_layout, largest_size, ReadsAs, LeavesInUse, Ready, wanted_blocks, NoneDone}
 use Rattle.rio_requests.specs.Answer.{on_file}
 use Rattle.std.specs.Prelude.{◌++◌, drop, length, take}
 use Rattle.rio_model.specs.FileParts.{IsLead, WritePart, put_at, written}
@@ -7,8 +7,8 @@ use Rattle.file_pages.specs.Files.{FaultsAfter, HasSpaceFor, ResizeStops, StopsA
 use Rattle.file_pages.specs.Writing.{WriteStops}
 use Rattle.rio_requests.specs.Answers.{write_file, write_in, truncate_in, with_size}
 use Rattle.rio_requests.specs.Parts.{PartOf, WriteDone}
-use Rattle.file_ends.specs.Ends.{FileEnds, Left, SaysCount, SaysDone}
-use Rattle.file_ends.specs.declared.failures.FileFail.TheVariants.{Refused, Fault, Stopped}
+use Rattle.request_ends.specs.Ends.{FileEnds, Left, SaysCount, SaysDone}
+use Rattle.request_ends.specs.declared.failures.FileFail.TheVariants.{Refused, Fault, Stopped}
 use Rattle.file_data.proofs.FileData.{file_read, left_set, no_space, room_true, stands_set, too_large, truncated, with_same}
 
 -- ---- truncate

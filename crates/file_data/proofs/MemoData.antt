@@ -1,5 +1,5 @@
 -- Bytes written and files resized change no name, and take no node away.
-use Rattle.file_ends.proofs.Common.{ℕ, ◌+◌, Bool, true, false, cond, List, [], ◌∷◌, length, refl, sym, subst, inl, inr, Result, Ok, Err, get, nat_lt, Node, File, Region, State, Answered, answered, at_inode, refused, with_node, with_room, largest_size, free_count, names_of, walk, Number}
+use Rattle.request_ends.proofs.Common.{ℕ, ◌+◌, Bool, true, false, cond, List, [], ◌∷◌, length, refl, sym, subst, inl, inr, Result, Ok, Err, get, nat_lt, Node, File, Region, State, Answered, answered, at_inode, refused, with_node, with_room, largest_size, free_count, names_of, walk, Number}
 use Rattle.rio_requests.specs.Parts.{WriteDone}
 use Rattle.rio_requests.specs.Answer.{on_file}
 use Rattle.std.specs.Prelude.{Option, Some, None}

@@ -12,15 +12,15 @@ ghost use Rattle.rio_model.specs.declared.state.State.{State};
 ghost use Rattle.rio_requests.specs.Answers.{write as write_of, truncate as truncate_of, read as read_of};
 ghost use Rattle.rio_requests.specs.Parts.{NoneDone, WriteDone};
 ghost use Rattle.node_pages.specs.Forgetting.{Forgets};
-ghost use Rattle.file_ends.specs.Ends.{CanServe, FileEnds, SaysBytes, SaysCount, SaysDone};
-ghost use Rattle.file_ends.specs.Failures.{Faulted};
+ghost use Rattle.request_ends.specs.Ends.{CanServe, FileEnds, SaysBytes, SaysCount, SaysDone};
+ghost use Rattle.request_ends.specs.Failures.{Faulted};
 ghost use Rattle.file_tree.specs.Memos.{InStep};
 ghost use Rattle.inode_table.specs.Inodes.{IsInode};
 ghost use Rattle.file_tree.specs.Walks.{FileComes, ino_in};
 
-use file_ends::{DIRECTORY, FileFail, IS_A_DIRECTORY, IS_A_REGION, REGION};
 use file_tree::{Memo, inode_of, walk};
 use inode_table::Inode;
+use request_ends::{DIRECTORY, FileFail, IS_A_DIRECTORY, IS_A_REGION, REGION};
 use rio_base::{Ino, Octets, Volume, VolumeShape};
 use std::alloc::Global;
 

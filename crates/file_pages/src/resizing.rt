@@ -155,7 +155,7 @@ pub fn resize_at_inode<V: Volume>(
 }
 
 /// Gives file `i`, whose inode is read first, the size `len`: bytes past it are cut off, and zeros fill what is new. It ends as
-/// [`resize_with`] does.
+/// [`resize_at_inode`] does.
 pub fn resize<V: Volume>(
     alloc: Global,
     v: &mut V,

@@ -97,7 +97,7 @@ pub fn write_at_inode<V: Volume>(
     Ok(count)
 }
 
-/// Writes `bytes` to file `i`, whose inode is read first, from byte `off` on, and says how many they were. It ends as [`write_with`]
+/// Writes `bytes` to file `i`, whose inode is read first, from byte `off` on, and says how many they were. It ends as [`write_at_inode`]
 /// does.
 pub fn write<V: Volume>(
     alloc: Global,

@@ -18,7 +18,7 @@ use Rattle.rio_base.specs.Rules.{true_false}
 use Rattle.node_pages.specs.Changes.{Apart}
 use Rattle.node_pages.proofs.FreeLists.{first_apart, first_free, lists_apart}
 use Rattle.node_pages.proofs.Listed.{as_many}
-use Rattle.test_volumes.specs.TestVolumes.{HasNodes}
+use Rattle.test_objects.specs.TestVolumes.{HasNodes}
 use Rattle.file_pages_tests.specs.TestFiles.{CanSkip, FilesReady, FilesStand, HasFiles, IsTestFile}
 use Rattle.rio_base.specs.Shapes.{HasShape}
 use Rattle.rio_model.specs.VolumeRules.{IsMapped}

@@ -1,7 +1,7 @@
 //! Calls that are stopped, or in which a call below fails: what of the file stands, or reads, then.
 
-ghost use Rattle.rio_fakes.specs.ListVolumes.{ListSound, list_kept, list_seen};
-ghost use Rattle.test_volumes.specs.TestVolumes.{IsTestShape};
+ghost use Rattle.test_objects.specs.ListVolumes.{ListSound, list_kept, list_seen};
+ghost use Rattle.test_objects.specs.TestVolumes.{IsTestShape};
 ghost use Rattle.file_pages_tests.specs.TestFiles.{FilesReady, FilesStand};
 
 use crate::calls::{Answer, Call, has_blocks, make, reads, some_of};
@@ -10,9 +10,9 @@ use crate::plain_file::{is_led, plain_call, same_up_to};
 use crate::volumes::{FILE, start_again, used_count, with_files};
 use inode_table::LARGEST_SIZE;
 use rio_base::{Stopped, Volume, VolumeShape};
-use rio_fakes::{FaultyVolume, ListVolume};
 use std::alloc::Global;
 use std::process::Abort;
+use test_objects::{FaultyVolume, ListVolume};
 
 /// More steps than any call here has.
 pub(crate) const MANY: u64 = 2000;

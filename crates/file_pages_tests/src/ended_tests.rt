@@ -13,10 +13,9 @@ use crate::plain_file::plain_call;
 use crate::volumes::{FILE, SMALL};
 use inode_table::LARGEST_SIZE;
 use rio_base::{ReadFail, Volume};
-use rio_fakes::FaultyVolume;
 use std::alloc::Global;
 use std::process::Abort;
-use test_volumes::SHAPE;
+use test_objects::{FaultyVolume, SHAPE};
 
 /// A write of 16 bytes at 4 to a file of 8.
 const OVER_THE_END: Case = Case {

@@ -1,7 +1,7 @@
 //! Changes of size that are prepared, row by row: what is taken, freed and edited, and what the inode becomes.
 
 ghost use Rattle.std.specs.Prelude.{◌≤◌};
-ghost use Rattle.test_volumes.specs.TestVolumes.{IsTestShape};
+ghost use Rattle.test_objects.specs.TestVolumes.{IsTestShape};
 ghost use Rattle.file_pages_tests.specs.TestFiles.{FilesReady};
 
 use crate::calls::{Answer, Call, make, put};
@@ -13,7 +13,7 @@ use node_pages::{Edit, SizeChange, SizeFail};
 use rio_base::{Block, VolFail, Volume, VolumeShape};
 use std::alloc::Global;
 use std::process::Abort;
-use test_volumes::SHAPE;
+use test_objects::SHAPE;
 
 /// The node that a change is prepared for.
 #[derive(Clone, Copy)]

@@ -1,15 +1,14 @@
 //! The volume that tests begin with: fresh, but for two files without bytes.
 
-ghost use Rattle.rio_fakes.specs.ListVolumes.{ListSound, list_kept, list_seen};
-ghost use Rattle.test_volumes.specs.TestVolumes.{IsTestShape};
+ghost use Rattle.test_objects.specs.ListVolumes.{ListSound, list_kept, list_seen};
+ghost use Rattle.test_objects.specs.TestVolumes.{IsTestShape};
 ghost use Rattle.file_pages_tests.specs.TestFiles.{FilesReady, FilesStand};
 
 use block_alloc::free_count;
 use rio_base::{Ino, Volume, VolumeShape};
-use rio_fakes::ListVolume;
 use std::alloc::Global;
 use std::process::Abort;
-use test_volumes::{LARGE, SHAPE, with_nodes};
+use test_objects::{LARGE, ListVolume, SHAPE, with_nodes};
 
 /// The file that tests change.
 pub(crate) const FILE: Ino = Ino(2);
@@ -67,7 +66,7 @@ pub(crate) fn start_again(v: &mut ListVolume, shape: &VolumeShape, stop_after: O
     ensures files { FilesReady shape.now (list_seen v.new) (list_kept v.new) }
     ensures stand { FilesStand shape.now (list_seen v.new) (list_kept v.new) }
 {
-    test_volumes::start_again(v, shape, stop_after);
+    test_objects::start_again(v, shape, stop_after);
 }
 
 /// How many blocks are not free. 0 where that cannot be told, which is never due.

@@ -11,17 +11,17 @@ ghost use Rattle.rio_model.specs.declared.state.State.{State};
 ghost use Rattle.rio_requests.specs.Answers.{stat as stat_of, list as list_of, write as write_of, truncate as truncate_of, read as read_of, mkdir as mkdir_of, create as create_of, make_region as make_region_of, unlink as unlink_of, rmdir as rmdir_of, rename as rename_of};
 ghost use Rattle.rio_requests.specs.Parts.{NoneDone, WriteDone};
 ghost use Rattle.rio_model.specs.Paths.{IsPath};
-ghost use Rattle.file_ends.specs.Ends.{CanServe, FileEnds, SaysNames, SaysStat, SaysBytes, SaysCount, SaysDone, SaysIno};
-ghost use Rattle.file_ends.specs.Failures.{Faulted};
+ghost use Rattle.request_ends.specs.Ends.{CanServe, FileEnds, SaysNames, SaysStat, SaysBytes, SaysCount, SaysDone, SaysIno};
+ghost use Rattle.request_ends.specs.Failures.{Faulted};
 ghost use Rattle.node_pages.specs.Forgetting.{Forgets};
 ghost use Rattle.file_tree.specs.Walks.{ino_numbers};
 ghost use Rattle.rio_base.specs.Layout.{IsIno};
 ghost use Rattle.node_making.specs.NewRegions.{FindsRegion};
 
-use file_ends::FileFail;
 use file_tree::Memo;
 use name_list::NameList;
 use node_making::region_at;
+use request_ends::FileFail;
 use rio_base::{Ino, InoList, Octets, Volume, VolumeShape};
 use std::alloc::Global;
 

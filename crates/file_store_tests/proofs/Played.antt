@@ -14,14 +14,14 @@ use Rattle.rio_model.specs.VolumeReads.{ReadsAs}
 use Rattle.rio_model.specs.VolumeReady.{Ready}
 use Rattle.node_pages.proofs.LookingUpRules.{can_look_up, looked_low}
 use Rattle.node_pages.proofs.OrderRules.{leaves_looked}
-use Rattle.file_ends.specs.declared.failures.FileFail.{FileFail}
-use Rattle.file_ends.specs.declared.failures.FileFail.TheVariants.{Refused, Fault, Stopped, Memory}
-use Rattle.file_ends.proofs.EndRules.{can_after}
-use Rattle.file_ends.specs.Ends.{CanServe, FileEnds}
+use Rattle.request_ends.specs.declared.failures.FileFail.{FileFail}
+use Rattle.request_ends.specs.declared.failures.FileFail.TheVariants.{Refused, Fault, Stopped, Memory}
+use Rattle.request_ends.proofs.EndRules.{can_after}
+use Rattle.request_ends.specs.Ends.{CanServe, FileEnds}
 use Rattle.file_tree.specs.Memos.{InStep}
 use Rattle.file_tree.specs.declared.memo.Memo.{Memo}
-use Rattle.file_ends.proofs.Unchanged.{can_again}
-use Rattle.test_volumes.specs.TestVolumes.{IsFresh}
+use Rattle.request_ends.proofs.Unchanged.{can_again}
+use Rattle.test_objects.specs.TestVolumes.{IsFresh}
 use Rattle.file_store_tests.specs.Playing.{CanStart, Follows, FollowsHeld}
 
 start_as : (T : Type 0) (says : T → Reply → Type 0) (shape : VolumeShape) (x : Seen) (k : Kept) (y : Seen) (j : Kept) (s : State) (a : Answered) (leads : ℕ → State → Type 0) (r : Result T FileFail) → FileEnds says shape x k y j s a leads r → IsErrOf r Stopped → CanStart shape y j

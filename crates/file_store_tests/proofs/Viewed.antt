@@ -2,10 +2,10 @@
 use Rattle.std.proofs.Common.{◌≡◌, ℕ, ◌*◌, ◌/◌, Bool, false, Some, List, refl, sym, ap, subst, ◌∙◌, arith}
 use Rattle.std.specs.Prelude.{Option}
 use Rattle.std.specs.Global.{Vec}
-use Rattle.rio_fakes.specs.declared.list_volume.ListVolume.{ListVolume}
+use Rattle.test_objects.specs.declared.list_volume.ListVolume.{ListVolume}
 use Rattle.rio_base.specs.declared.places.VolumeShape.{VolumeShape}
 use Rattle.rio_base.specs.Blocks.{BlockWords, Seen}
-use Rattle.rio_fakes.specs.ListVolumes.{IsRestarted, ListSound, flat, list_kept, list_seen, mark_of}
+use Rattle.test_objects.specs.ListVolumes.{IsRestarted, ListSound, flat, list_kept, list_seen, mark_of}
 use Rattle.rio_base.specs.Regions.{RegionContent}
 use Rattle.rio_base.specs.Rules.{true_false}
 use Rattle.rio_base.specs.Volume.{Kept}
@@ -18,7 +18,7 @@ use Rattle.rio_model.specs.VolumeReady.{Firmly}
 use Rattle.rio_model.specs.VolumeRules.{IsMapped}
 use Rattle.inode_table.specs.declared.inode.Inode.{Inode}
 use Rattle.inode_table.specs.Inodes.{IsInode}
-use Rattle.file_ends.specs.Ends.{CanServe}
+use Rattle.request_ends.specs.Ends.{CanServe}
 use Rattle.region_view.specs.Views.{OnRegion}
 use Rattle.vista_region.specs.Ends.{Fits}
 use Rattle.vista_region.specs.Marks.{Marks, set_mark}

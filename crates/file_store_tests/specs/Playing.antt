@@ -7,7 +7,7 @@ use Rattle.rio_base.specs.Volume.{Kept}
 use Rattle.rio_model.specs.declared.state.State.{State}
 use Rattle.rio_model.specs.VolumeReads.{ReadsAs}
 use Rattle.rio_model.specs.VolumeReady.{StandsReady}
-use Rattle.file_ends.specs.Ends.{CanServe}
+use Rattle.request_ends.specs.Ends.{CanServe}
 use Rattle.file_tree.specs.Memos.{InStep}
 use Rattle.file_tree.specs.declared.memo.Memo.{Memo}
 

@@ -3,8 +3,8 @@
 ghost use Rattle.std.specs.Prelude.{◌≡◌, ◌↔◌, IsErr, IsErrOf};
 
 use crate::asks::{Want, numbered};
-use file_ends::FileFail;
 use name_list::NameList;
+use request_ends::FileFail;
 use rio_base::{Ino, Octets, Stopped, VolFail};
 
 /// Whether a number is the one that must come.

@@ -1,9 +1,9 @@
 //! Requests made one after the other, each of which must answer as its row says.
 
 ghost use Rattle.std.specs.Prelude.{◌≡◌};
-ghost use Rattle.rio_fakes.specs.ListVolumes.{ListSound, list_kept, list_seen};
+ghost use Rattle.test_objects.specs.ListVolumes.{ListSound, list_kept, list_seen};
 ghost use Rattle.rio_model.specs.Paths.{IsPath};
-ghost use Rattle.file_ends.specs.Ends.{CanServe};
+ghost use Rattle.request_ends.specs.Ends.{CanServe};
 ghost use Rattle.file_store_tests.specs.Playing.{Follows};
 
 use crate::answers::{
@@ -17,8 +17,8 @@ use file_store::{
 };
 use request_codec::is_path;
 use rio_base::{Block, Blocks, InoList, Stopped, Volume, VolumeShape};
-use rio_fakes::ListVolume;
 use std::alloc::Global;
+use test_objects::ListVolume;
 
 fn create_as(
     alloc: Global,

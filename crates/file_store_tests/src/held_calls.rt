@@ -1,8 +1,8 @@
 //! Requests at paths by one who holds names and full blocks of inodes in memory, in a memo that is kept from call to call.
 
-ghost use Rattle.rio_fakes.specs.ListVolumes.{ListSound, list_kept, list_seen};
+ghost use Rattle.test_objects.specs.ListVolumes.{ListSound, list_kept, list_seen};
 ghost use Rattle.rio_model.specs.Paths.{IsPath};
-ghost use Rattle.file_ends.specs.Ends.{CanServe};
+ghost use Rattle.request_ends.specs.Ends.{CanServe};
 ghost use Rattle.file_tree.specs.Memos.{InStep};
 ghost use Rattle.file_store_tests.specs.Playing.{FollowsHeld};
 
@@ -17,8 +17,8 @@ use node_making::{create, list, make_region, mkdir, region_at, stat};
 use node_moving::{rename, rmdir, unlink};
 use request_codec::is_path;
 use rio_base::{InoList, Stopped, VolumeShape};
-use rio_fakes::ListVolume;
 use std::alloc::Global;
+use test_objects::ListVolume;
 
 fn create_held(
     alloc: Global,

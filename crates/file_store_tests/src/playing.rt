@@ -1,18 +1,17 @@
 //! Requests on a fresh volume, as they go and stopped at each of their steps.
 
 ghost use Rattle.std.specs.Prelude.{◌≤◌};
-ghost use Rattle.rio_fakes.specs.ListVolumes.{ListSound, list_kept, list_seen};
-ghost use Rattle.test_volumes.specs.TestVolumes.{IsTestShape};
-ghost use Rattle.file_ends.specs.Ends.{CanServe};
+ghost use Rattle.test_objects.specs.ListVolumes.{ListSound, list_kept, list_seen};
+ghost use Rattle.test_objects.specs.TestVolumes.{IsTestShape};
+ghost use Rattle.request_ends.specs.Ends.{CanServe};
 
 use crate::asks::Row;
 use crate::calls::first_other;
 use crate::held_calls::first_other_held;
 use rio_base::{Stopped, VolumeShape};
-use rio_fakes::ListVolume;
 use std::alloc::Global;
 use std::process::Abort;
-use test_volumes::{SHAPE, fresh, start_again};
+use test_objects::{ListVolume, SHAPE, fresh, start_again};
 
 /// A volume with one free block.
 const FULL: VolumeShape = VolumeShape {

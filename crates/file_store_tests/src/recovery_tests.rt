@@ -9,9 +9,9 @@ use crate::asks::{Ask, Row, Want};
 use crate::views::{start_again, view_of};
 use region_view::RegionView;
 use rio_base::{Ino, RegionWords, UNDO_HEAD, VolFail};
-use rio_fakes::ListVolume;
 use std::alloc::Global;
 use std::process::Abort;
+use test_objects::ListVolume;
 use vista_region::{OpenTable, recover};
 
 /// The place of the first data word: the header, the undo page and the page of the heap map are before it.

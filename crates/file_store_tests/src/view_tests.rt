@@ -1,19 +1,19 @@
 //! The words of a region, read and stored through a view of it.
 
-ghost use Rattle.rio_fakes.specs.ListVolumes.{ListSound, list_kept, list_seen};
-ghost use Rattle.file_ends.specs.Ends.{CanServe};
+ghost use Rattle.test_objects.specs.ListVolumes.{ListSound, list_kept, list_seen};
+ghost use Rattle.request_ends.specs.Ends.{CanServe};
 
 use crate::asks::{Ask, Row, Want};
 use crate::views::{
     Call, Due, MAGIC, failing, on_words, stand_on, start_again, view_after, view_of,
 };
-use file_ends::FileFail;
 use region_view::RegionView;
 use request_codec::is_path;
+use request_ends::FileFail;
 use rio_base::{Ino, RegionWords};
-use rio_fakes::ListVolume;
 use std::alloc::Global;
 use std::process::Abort;
+use test_objects::ListVolume;
 
 /// The words of the region of these tests. It has 30 pages, so that it has an indirect block.
 const WORDS: u32 = 15_360;

@@ -1,25 +1,24 @@
 //! Views of regions on volumes in memory, and calls on their words, each of which must answer as its row says.
 
 ghost use Rattle.std.specs.Prelude.{◌≡◌, ◌+◌, ◌≤◌, true, OnOk};
-ghost use Rattle.rio_fakes.specs.ListVolumes.{ListSound, list_kept, list_seen};
+ghost use Rattle.test_objects.specs.ListVolumes.{ListSound, list_kept, list_seen};
 ghost use Rattle.rio_model.specs.Heap.{IsSoundRegion};
 ghost use Rattle.rio_model.specs.Paths.{IsPath};
 ghost use Rattle.rio_model.specs.VolumeReady.{Ready};
 ghost use Rattle.region_view.specs.Views.{KeepsInode, OnRegion};
-ghost use Rattle.file_ends.specs.Ends.{CanServe};
+ghost use Rattle.request_ends.specs.Ends.{CanServe};
 
 use crate::asks::Row;
 use crate::playing::volume_after;
-use file_ends::FileFail;
 use file_tree::Memo;
 use node_making::stand_at;
 use region_view::RegionView;
 use request_codec::is_path;
+use request_ends::FileFail;
 use rio_base::{Ino, RegionWords, RunFail, VolFail};
-use rio_fakes::{FaultyVolume, ListVolume};
 use std::alloc::Global;
 use std::process::Abort;
-use test_volumes::SHAPE;
+use test_objects::{FaultyVolume, ListVolume, SHAPE};
 
 /// The text `VISTAREG` as a word.
 pub(crate) const MAGIC: u64 = 5_135_601_390_627_014_998;

@@ -1,5 +1,5 @@
 -- Paths that lie below another one, by their bytes.
-use Rattle.file_ends.proofs.Common.{◌≡◌, ◌==◌, ℕ, ◌+◌, ◌<◌, ◌≤◌, Bool, true, false, List, [], ◌∷◌, ◌++◌, ◌&&◌, length, take, drop, refl, sym, ap, subst, ◌∙◌, arith, append-nil, append_assoc, All, slice_index, Decides-eqb, drop_more, length-append, take-append-drop, pieces, true_false, IsName, IsPath, names_of, slashed, is_below}
+use Rattle.request_ends.proofs.Common.{◌≡◌, ◌==◌, ℕ, ◌+◌, ◌<◌, ◌≤◌, Bool, true, false, List, [], ◌∷◌, ◌++◌, ◌&&◌, length, take, drop, refl, sym, ap, subst, ◌∙◌, arith, append-nil, append_assoc, All, slice_index, Decides-eqb, drop_more, length-append, take-append-drop, pieces, true_false, IsName, IsPath, names_of, slashed, is_below}
 use Rattle.std.specs.Str.{bytes_eq}
 use Rattle.std.proofs.Math.Seq.{take-append_seam}
 use Rattle.std.proofs.lemmas.Slice.Eq.{bytes_eq-Decides}

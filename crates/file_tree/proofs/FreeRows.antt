@@ -1,12 +1,12 @@
 -- A name that is free in a directory: what the look-up of it answers.
-use Rattle.file_ends.proofs.Common.{◌≡◌, ℕ, true, List, refl, sym, ap, subst, ◌∙◌, inl, inr, Result, Ok, Err, None, Some, is_some, Ino, VolumeShape, BlockWords, true_false, State, held_of, walk_to_dir, ReadsAs}
-use Rattle.dir_entries.specs.Rows.{Finds}
+use Rattle.request_ends.proofs.Common.{◌≡◌, ℕ, true, List, refl, sym, ap, subst, ◌∙◌, inl, inr, Result, Ok, Err, None, Some, is_some, Ino, VolumeShape, BlockWords, true_false, State, held_of, walk_to_dir, ReadsAs}
+use Rattle.directories.specs.Rows.{Finds}
 use Rattle.std.specs.Prelude.{Option}
-use Rattle.file_ends.specs.Failures.{Unrefused}
+use Rattle.request_ends.specs.Failures.{Unrefused}
 use Rattle.file_tree.proofs.RowReads.{finds_some}
 use Rattle.file_tree.specs.Walks.{Comes, FreeRow}
-use Rattle.file_ends.specs.declared.failures.FileFail.{FileFail}
-use Rattle.file_ends.specs.declared.failures.FileFail.TheVariants.{Refused, Fault, Stopped, Memory}
+use Rattle.request_ends.specs.declared.failures.FileFail.{FileFail}
+use Rattle.request_ends.specs.declared.failures.FileFail.TheVariants.{Refused, Fault, Stopped, Memory}
 
 free_as : (s : State) (names : List (List ℕ)) (name : List ℕ) (e : FileFail) → Comes (walk_to_dir s names) (Err e) → FreeRow s names name (Err e)
 free_as s names name (Refused c) h = inl h

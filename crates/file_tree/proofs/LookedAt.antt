@@ -1,17 +1,17 @@
 -- What look-ups by name answer, by the state that the blocks read as.
-use Rattle.file_ends.proofs.Common.{◌≡◌, ℕ, ◌<◌, true, false, cond, List, [], ◌∷◌, refl, sym, ap, subst, ◌∙◌, arith, inl, inr, Result, Ok, Err, Some, None, get, cases_Bool, Ino, VolumeShape, BlockWords, State, front_of, last_of, entry_ino, held_of, from_found, is_dir, walk, walk_to_dir, reads_dir, reads_region, ReadsAs, region_in, Inode, IsInode, found, Answered, at_inode}
-use Rattle.dir_entries.specs.Rows.{HasRow, IsEntry}
+use Rattle.request_ends.proofs.Common.{◌≡◌, ℕ, ◌<◌, true, false, cond, List, [], ◌∷◌, refl, sym, ap, subst, ◌∙◌, arith, inl, inr, Result, Ok, Err, Some, None, get, cases_Bool, Ino, VolumeShape, BlockWords, State, front_of, last_of, entry_ino, held_of, from_found, is_dir, walk, walk_to_dir, reads_dir, reads_region, ReadsAs, region_in, Inode, IsInode, found, Answered, at_inode}
+use Rattle.directories.specs.Rows.{HasRow, IsEntry}
 use Rattle.region_view.proofs.UsedInodes.{kind_held, used_ino}
 use Rattle.std.specs.Prelude.{Option}
 use Rattle.rio_model.specs.Paths.{as_dir}
-use Rattle.file_ends.specs.declared.failures.FileFail.{FileFail}
-use Rattle.file_ends.specs.declared.failures.FileFail.TheVariants.{Refused, Fault, Stopped, Memory}
-use Rattle.file_ends.specs.Failures.{Refuses, Unrefused}
+use Rattle.request_ends.specs.declared.failures.FileFail.{FileFail}
+use Rattle.request_ends.specs.declared.failures.FileFail.TheVariants.{Refused, Fault, Stopped, Memory}
+use Rattle.request_ends.specs.Failures.{Refuses, Unrefused}
 use Rattle.file_tree.proofs.RowReads.{dir_kind}
 use Rattle.rio_model.proofs.Walks.{walk_on, walk_over}
 use Rattle.file_tree.specs.Walks.{Comes, FileComes, RowComes, ino_in}
 use Rattle.file_tree.specs.declared.walking.Row.{Row}
-use Rattle.file_ends.proofs.AnsweredAt.{FailsBy}
+use Rattle.request_ends.proofs.AnsweredAt.{FailsBy}
 
 -- ---- kinds, in the state
 

@@ -1,15 +1,15 @@
 -- Look-ups over blocks alone: what holds after them, of calls one after the other, and what that says of a volume.
-use Rattle.file_ends.proofs.Common.{◌≡◌, ◌<◌, ℕ, None, Err, Result, VolFail, refl, subst, can_look_up, held_of, inode_block, Below, BlockWords, Health, Kept, Looks, Passes, Seen, VolumeShape, HasShape, State, AllNamed, ReadsAs, volume_layout}
+use Rattle.request_ends.proofs.Common.{◌≡◌, ◌<◌, ℕ, None, Err, Result, VolFail, refl, subst, can_look_up, held_of, inode_block, Below, BlockWords, Health, Kept, Looks, Passes, Seen, VolumeShape, HasShape, State, AllNamed, ReadsAs, volume_layout}
 use Rattle.rio_base.specs.Blocks.{Caches}
 use Rattle.node_pages.proofs.LookingUpRules.{looked_inode, named_on}
 use Rattle.node_pages.specs.LookingUp.{LooksUp}
 use Rattle.region_view.proofs.UsedInodes.{used_ino}
-use Rattle.file_ends.specs.Ends.{CanServe}
-use Rattle.file_ends.specs.Failures.{Refuses, fail_of_vol}
-use Rattle.file_ends.specs.declared.failures.FileFail.{FileFail}
+use Rattle.request_ends.specs.Ends.{CanServe}
+use Rattle.request_ends.specs.Failures.{Refuses, fail_of_vol}
+use Rattle.request_ends.specs.declared.failures.FileFail.{FileFail}
 use Rattle.file_tree.proofs.LookedAt.{unrefused_on}
-use Rattle.file_ends.proofs.Failed.{unrefused_vol}
-use Rattle.file_ends.proofs.Unchanged.{can_again, leaves_read}
+use Rattle.request_ends.proofs.Failed.{unrefused_vol}
+use Rattle.request_ends.proofs.Unchanged.{can_again, leaves_read}
 
 pub named_then : (shape : VolumeShape) (f g : BlockWords) (z : Seen) → g ≡ f → AllNamed (volume_layout shape g) z → AllNamed (volume_layout shape f) z
 named_then shape f g z same h = subst (λ w. AllNamed (volume_layout shape w) z) same h

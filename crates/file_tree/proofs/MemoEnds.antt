@@ -1,11 +1,11 @@
 -- What is held in memory is in step with the blocks after a request, however it ends, unless the machine is stopped.
-use Rattle.file_ends.proofs.Common.{◌≡◌, ℕ, Bool, true, false, cond, List, refl, sym, ap, ◌∙◌, Result, Ok, Err, Some, IsErrOf, nat_lt, true_false, get, VolumeShape, BlockWords, Seen, Kept, Node, State, Answered, Reply, answered, refused, with_room, with_new, make_new, ReadsAs, reads_agree, free_count, Number}
+use Rattle.request_ends.proofs.Common.{◌≡◌, ℕ, Bool, true, false, cond, List, refl, sym, ap, ◌∙◌, Result, Ok, Err, Some, IsErrOf, nat_lt, true_false, get, VolumeShape, BlockWords, Seen, Kept, Node, State, Answered, Reply, answered, refused, with_room, with_new, make_new, ReadsAs, reads_agree, free_count, Number}
 use Rattle.std.specs.Prelude.{is_err}
 use Rattle.rio_requests.specs.declared.reply.Reply.TheVariants.{Err as RefusedBy}
-use Rattle.file_ends.specs.Ends.{FileEnds}
+use Rattle.request_ends.specs.Ends.{FileEnds}
 use Rattle.file_tree.specs.Memos.{InStep, StayThere}
-use Rattle.file_ends.specs.declared.failures.FileFail.{FileFail}
-use Rattle.file_ends.specs.declared.failures.FileFail.TheVariants.{Refused, Fault, Stopped, Memory}
+use Rattle.request_ends.specs.declared.failures.FileFail.{FileFail}
+use Rattle.request_ends.specs.declared.failures.FileFail.TheVariants.{Refused, Fault, Stopped, Memory}
 use Rattle.file_tree.specs.declared.memo.Memo.{Memo}
 use Rattle.file_tree.proofs.MemoSteps.{kept_step}
 

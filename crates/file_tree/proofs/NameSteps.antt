@@ -1,10 +1,10 @@
 -- Names of a state that come, and what changes of the names of one directory then.
-use Rattle.file_ends.proofs.Common.{◌≡◌, ◌≢◌, ℕ, ◌⊎◌, true, List, Option, refl, sym, ap, subst, ◌∙◌, inl, inr, get, insert, eq_by_cmp, is_eq, Ordering, Less, Equal, Greater, cases_Bool, cases_eq, none-some, true_false, Node, NameKey, Names, name_cmp, name_get_same, name_get_other, get_here, get_there}
+use Rattle.request_ends.proofs.Common.{◌≡◌, ◌≢◌, ℕ, ◌⊎◌, true, List, Option, refl, sym, ap, subst, ◌∙◌, inl, inr, get, insert, eq_by_cmp, is_eq, Ordering, Less, Equal, Greater, cases_Bool, cases_eq, none-some, true_false, Node, NameKey, Names, name_cmp, name_get_same, name_get_other, get_here, get_there}
 use Rattle.std.proofs.Common.{Some, None}
 use Rattle.std.proofs.lemmas.Option.{same_Some}
 use Rattle.rio_model.specs.Nodes.{Nodes}
 use Rattle.rio_model.proofs.NameOrder.{name_exact, name_itself}
-use Rattle.dir_entries.specs.RowChanges.{NoName, NoRow, TheRow}
+use Rattle.directories.specs.RowChanges.{NoName, NoRow, TheRow}
 
 -- ---- numbers and keys
 

@@ -1,5 +1,5 @@
 -- The names of a path, by its bytes.
-use Rattle.file_ends.proofs.Common.{◌≡◌, ◌≢◌, ◌==◌, ℕ, suc, ◌+◌, ◌-◌, ◌<◌, ◌≤◌, ◌⊎◌, true, List, [], ◌∷◌, ◌++◌, length, take, drop, get_or, Option, refl, sym, ap, subst, ◌∙◌, arith, inl, inr, append-nil, append_assoc, All, slice_index, Decides-eqb, drop_more, length-append, take-append-drop, pieces, front_of, last_of, IsName, IsPath, names_of, slashed, differs, found}
+use Rattle.request_ends.proofs.Common.{◌≡◌, ◌≢◌, ◌==◌, ℕ, suc, ◌+◌, ◌-◌, ◌<◌, ◌≤◌, ◌⊎◌, true, List, [], ◌∷◌, ◌++◌, length, take, drop, get_or, Option, refl, sym, ap, subst, ◌∙◌, arith, inl, inr, append-nil, append_assoc, All, slice_index, Decides-eqb, drop_more, length-append, take-append-drop, pieces, front_of, last_of, IsName, IsPath, names_of, slashed, differs, found}
 use Rattle.std.proofs.Common.{Some, None}
 use Rattle.std.specs.Option.{unwrap_or}
 use Rattle.std.proofs.Math.Seq.{drop-append-add, take-append_seam, get_or-append_seam}

@@ -1,5 +1,5 @@
 -- Where the laws of trees begin: what a volume reads as, and what requests look at before they change a row.
-use Rattle.file_ends.proofs.Common.{◌≡◌, ◌≢◌, ℕ, ◌%◌, ◌<◌, ◌≤◌, ◌==◌, ◌&&◌, Bool, false, true, cond, length, Option, refl, sym, ap, subst, ◌∙◌, arith, nat_le, nat_lt, get, nat_tests, Decides-eqb, true_false, VolumeShape, BlockWords, IsIno, Node, File, Region, State, names_in, Held, held, held_bytes, held_of, nothing, entry_ino, held_ino, is_dir, placed_at, volume_layout, node_in, region_in, Reads, ReadsAs, reads_dir, EntryRule, differs}
+use Rattle.request_ends.proofs.Common.{◌≡◌, ◌≢◌, ℕ, ◌%◌, ◌<◌, ◌≤◌, ◌==◌, ◌&&◌, Bool, false, true, cond, length, Option, refl, sym, ap, subst, ◌∙◌, arith, nat_le, nat_lt, get, nat_tests, Decides-eqb, true_false, VolumeShape, BlockWords, IsIno, Node, File, Region, State, names_in, Held, held, held_bytes, held_of, nothing, entry_ino, held_ino, is_dir, placed_at, volume_layout, node_in, region_in, Reads, ReadsAs, reads_dir, EntryRule, differs}
 use Rattle.std.proofs.Common.{Some, None}
 use Rattle.std.specs.Prelude.{if◌then◌else◌}
 use Rattle.rio_model.specs.declared.node.Node.TheVariants.{Dir}

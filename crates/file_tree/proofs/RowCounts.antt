@@ -1,5 +1,5 @@
 -- A directory has fewer rows than the volume has inodes: they name inodes that differ from each other, and from the root.
-use Rattle.file_ends.proofs.Common.{◌≡◌, ◌≢◌, ℕ, ◌+◌, ◌-◌, ◌*◌, ◌/◌, ◌%◌, ◌<◌, ◌≤◌, ◌==◌, false, true, List, length, map, get_or, sym, ap, ◌∙◌, arith, list_any, range_with_len, get, Decides-eqb, length-map-range_with_len, get_or-map-range_with_len, State, Held, entry_ino, entry_name, HasEntry, is_dir, Reads, reads_dir, NamesApartRule, TreeRule, differs}
+use Rattle.request_ends.proofs.Common.{◌≡◌, ◌≢◌, ℕ, ◌+◌, ◌-◌, ◌*◌, ◌/◌, ◌%◌, ◌<◌, ◌≤◌, ◌==◌, false, true, List, length, map, get_or, sym, ap, ◌∙◌, arith, list_any, range_with_len, get, Decides-eqb, length-map-range_with_len, get_or-map-range_with_len, State, Held, entry_ino, entry_name, HasEntry, is_dir, Reads, reads_dir, NamesApartRule, TreeRule, differs}
 use Rattle.std.proofs.Common.{Some, None}
 use Rattle.std.proofs.lemmas.List.Folds.{Any-from_list_any}
 use Rattle.std.proofs.lemmas.Map.Keys.{IsDistinct-from_apart}

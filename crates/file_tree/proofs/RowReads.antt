@@ -1,11 +1,11 @@
 -- Rows that are held, and the names of a state: one directory at a time, and what follows of the whole.
-use Rattle.file_ends.proofs.Common.{◌≡◌, ◌≢◌, ◌==◌, ℕ, ◌/◌, ◌<◌, ◌⊎◌, Bool, true, false, cond, List, [], Option, refl, sym, ap, subst, ◌∙◌, arith, inl, inr, get, cases_eq, none-some, true_false, Ino, VolumeShape, BlockWords, Node, File, Region, State, IsSoundRegion, Held, held_of, held_bytes, entry_ino, entry_name, HasEntry, Names, IsName, is_dir, node_in, region_in, Reads, ReadsAs, reads_none, reads_dir, EntryRule, IsMapped, NamesApartRule, TreeRule, differs, is_some, found}
-use Rattle.dir_entries.specs.Rows.{Finds, HasRow, IsEntry, NamesApart}
+use Rattle.request_ends.proofs.Common.{◌≡◌, ◌≢◌, ◌==◌, ℕ, ◌/◌, ◌<◌, ◌⊎◌, Bool, true, false, cond, List, [], Option, refl, sym, ap, subst, ◌∙◌, arith, inl, inr, get, cases_eq, none-some, true_false, Ino, VolumeShape, BlockWords, Node, File, Region, State, IsSoundRegion, Held, held_of, held_bytes, entry_ino, entry_name, HasEntry, Names, IsName, is_dir, node_in, region_in, Reads, ReadsAs, reads_none, reads_dir, EntryRule, IsMapped, NamesApartRule, TreeRule, differs, is_some, found}
+use Rattle.directories.specs.Rows.{Finds, HasRow, IsEntry, NamesApart}
 use Rattle.std.proofs.Common.{Some, None}
 use Rattle.std.proofs.lemmas.Option.{same_Some}
 use Rattle.rio_model.specs.declared.node.Node.TheVariants.{Dir}
 use Rattle.file_tree.proofs.NameSteps.{ChangesNames, no_value}
-use Rattle.dir_entries.specs.RowChanges.{ChangesRows}
+use Rattle.directories.specs.RowChanges.{ChangesRows}
 
 -- the rows of all directories are the names of a state
 pub record SameRows (h : ℕ → Held) (s : State) : Type 0 where

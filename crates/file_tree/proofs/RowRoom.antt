@@ -1,12 +1,12 @@
 -- Room for a row: blocks that are free, as the state counts them, and what a request answers that finds too few.
-use Rattle.file_ends.proofs.Common.{◌≡◌, ℕ, ◌+◌, ◌-◌, ◌*◌, ◌%◌, ◌<◌, ◌≤◌, true, false, cond, sym, ap, subst, ◌∙◌, arith, nat_lt, nat_tests, VolumeShape, free_blocks, BlockWords, IsIno, true_false, Answered, State, refused, names_in, Held, held_of, held_ino, is_dir, placed_at, volume_layout, blocks_for, free_count, largest_size, reads_dir, ReadsAs, IsMapped, free_by_state, wanted_blocks, row_wanted, with_room, Result, Err, IsErrOf, SizeFail, NoSpace, TooLarge, refl}
+use Rattle.request_ends.proofs.Common.{◌≡◌, ℕ, ◌+◌, ◌-◌, ◌*◌, ◌%◌, ◌<◌, ◌≤◌, true, false, cond, sym, ap, subst, ◌∙◌, arith, nat_lt, nat_tests, VolumeShape, free_blocks, BlockWords, IsIno, true_false, Answered, State, refused, names_in, Held, held_of, held_ino, is_dir, placed_at, volume_layout, blocks_for, free_count, largest_size, reads_dir, ReadsAs, IsMapped, free_by_state, wanted_blocks, row_wanted, with_room, Result, Err, IsErrOf, SizeFail, NoSpace, TooLarge, refl}
 use Rattle.std.specs.Prelude.{length}
 use Rattle.rio_model.proofs.FreeByState.{names_counted}
 use Rattle.file_tree.proofs.ReadTrees.{ino_of, names_few}
 use Rattle.region_view.proofs.UsedInodes.{kind_held}
 use Rattle.node_pages.specs.declared.failures.SizeFail.TheVariants.{Fault as SizeFault, Stopped as SizeStopped, Memory as SizeMemory}
-use Rattle.file_ends.specs.Failures.{fail_of_size}
-use Rattle.file_ends.proofs.AnsweredAt.{FailsBy}
+use Rattle.request_ends.specs.Failures.{fail_of_size}
+use Rattle.request_ends.proofs.AnsweredAt.{FailsBy}
 
 -- an inode that a kind is held of
 pub used_ino : (shape : VolumeShape) (f : BlockWords) (s : State) (d : ℕ) → ReadsAs shape f s → (held_of shape f d).kind ≡ 1 → IsIno shape d

@@ -1,5 +1,5 @@
 -- The names of a state are a tree, by its rows from each node up to the root.
-use Rattle.file_ends.proofs.Common.{◌≡◌, ◌≢◌, ℕ, true, List, [], ◌∷◌, Option, refl, sym, ap, ◌∙◌, get, true_false, Node, State, NameKey, is_dir, TreeRule}
+use Rattle.request_ends.proofs.Common.{◌≡◌, ◌≢◌, ℕ, true, List, [], ◌∷◌, Option, refl, sym, ap, ◌∙◌, get, true_false, Node, State, NameKey, is_dir, TreeRule}
 use Rattle.std.proofs.Common.{Some, None}
 use Rattle.rio_model.proofs.NameRules.{OneRow}
 use Rattle.rio_model.proofs.Walks.{Hangs, Up, turned, up_walk, walk_up}

@@ -1,5 +1,5 @@
 -- The path that is held leads where it led, as long as names stay, and it leads to a used inode.
-use Rattle.file_ends.proofs.Common.{◌≡◌, ℕ, ◌<◌, List, [], ◌∷◌, take, sym, ap, subst, ◌∙◌, Ok, Some, get, VolumeShape, BlockWords, State, Names, held_of, entry_ino, names_of, walk, ReadsAs}
+use Rattle.request_ends.proofs.Common.{◌≡◌, ℕ, ◌<◌, List, [], ◌∷◌, take, sym, ap, subst, ◌∙◌, Ok, Some, get, VolumeShape, BlockWords, State, Names, held_of, entry_ino, names_of, walk, ReadsAs}
 use Rattle.rio_model.proofs.Walks.{stepped, walk_step}
 use Rattle.file_tree.specs.Memos.{LeadsThere}
 use Rattle.file_tree.specs.declared.last_path.LastPath.{LastPath}

@@ -11,10 +11,10 @@ use Rattle.rio_model.specs.States.{front_of, last_of}
 use Rattle.rio_model.specs.Held.{held_of}
 use Rattle.rio_model.specs.Paths.{walk_to_dir}
 use Rattle.inode_table.specs.declared.inode.Inode.{Inode}
-use Rattle.dir_entries.specs.Rows.{IsEntry}
+use Rattle.directories.specs.Rows.{IsEntry}
 use Rattle.rio_requests.specs.Answers.{found}
-use Rattle.file_ends.specs.declared.failures.FileFail.{FileFail}
-use Rattle.file_ends.specs.declared.failures.FileFail.TheVariants.{Refused, Fault, Stopped, Memory}
+use Rattle.request_ends.specs.declared.failures.FileFail.{FileFail}
+use Rattle.request_ends.specs.declared.failures.FileFail.TheVariants.{Refused, Fault, Stopped, Memory}
 use Rattle.file_tree.specs.declared.walking.Row.{Row}
 
 -- a look-up that tells the inode of what it finds, without that

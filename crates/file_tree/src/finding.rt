@@ -11,18 +11,18 @@ ghost use Rattle.rio_model.specs.VolumeReads.{ReadsAs};
 ghost use Rattle.rio_model.specs.VolumeReady.{AllNamed, LeavesInUse};
 ghost use Rattle.rio_model.specs.declared.state.State.{State};
 ghost use Rattle.inode_table.specs.Inodes.{IsInode};
-ghost use Rattle.dir_lookups.specs.Holding.{HoldsRows};
-ghost use Rattle.dir_entries.specs.Rows.{Finds, IsEntry};
-ghost use Rattle.file_ends.specs.Ends.{CanServe};
-ghost use Rattle.file_ends.specs.Failures.{Faulted, Unrefused};
+ghost use Rattle.directories.specs.Holding.{HoldsRows};
+ghost use Rattle.directories.specs.Rows.{Finds, IsEntry};
+ghost use Rattle.request_ends.specs.Ends.{CanServe};
+ghost use Rattle.request_ends.specs.Failures.{Faulted, Unrefused};
 ghost use Rattle.file_tree.specs.Memos.{InStep};
 
 use crate::memo::Memo;
 use crate::walking::inode_of;
-use dir_lookups::{find_at_inode, hold_names, row_at};
-use file_ends::FileFail;
+use directories::{find_at_inode, hold_names, row_at};
 use inode_table::Inode;
 use name_index::{DirNames, Lookup};
+use request_ends::FileFail;
 use rio_base::{Blocks, Ino, ReadFail, Volume, VolumeShape};
 
 /// The bytes of the largest directory that is looked through all the same: one page.

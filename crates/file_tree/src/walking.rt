@@ -12,17 +12,17 @@ ghost use Rattle.rio_model.specs.VolumeReads.{ReadsAs};
 ghost use Rattle.rio_model.specs.VolumeReady.{AllNamed, LeavesInUse};
 ghost use Rattle.rio_model.specs.declared.state.State.{State};
 ghost use Rattle.inode_table.specs.Inodes.{IsInode};
-ghost use Rattle.dir_entries.specs.Rows.{HasRow, IsEntry};
-ghost use Rattle.file_ends.specs.Ends.{CanServe};
-ghost use Rattle.file_ends.specs.Failures.{Faulted, Refuses, Unrefused};
+ghost use Rattle.directories.specs.Rows.{HasRow, IsEntry};
+ghost use Rattle.request_ends.specs.Ends.{CanServe};
+ghost use Rattle.request_ends.specs.Failures.{Faulted, Refuses, Unrefused};
 ghost use Rattle.file_tree.specs.Memos.{InStep};
 ghost use Rattle.file_tree.specs.Walks.{Comes, FreeRow, IsRow, RowComes, ino_in};
 
 use crate::finding::look_up;
 use crate::memo::Memo;
 use crate::paths::{cut_last, name_end};
-use file_ends::{DIRECTORY, EXISTS, FileFail, NOT_A_DIRECTORY, NOT_FOUND};
 use inode_table::{Inode, read_inode};
+use request_ends::{DIRECTORY, EXISTS, FileFail, NOT_A_DIRECTORY, NOT_FOUND};
 use rio_base::{Blocks, Ino, Volume, VolumeShape};
 
 /// The root directory.

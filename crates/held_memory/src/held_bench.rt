@@ -1,16 +1,16 @@
 //! The bench whose machine's memory is in a file.
 
 ghost use Rattle.std.specs.Prelude.{◌≡◌, ◌<◌, true, false, None, Some, IfSome, is_some, length};
-ghost use Rattle.rio_bench.specs.Benches.{Leaving};
+ghost use Rattle.machine_bench.specs.Benches.{Leaving};
 ghost use Rattle.held_memory.specs.Held.{HasRisen, Holds, Misfits};
 
 use crate::held_words::HeldWords;
 use crate::word_file::WordFile;
 use block_disk::HostDisk;
 use board::Board;
+use machine_bench::Bench;
 use phys_memory::{Memory, memory_of};
 use rio_base::{BLOCK_WORDS, DiskBlocks, Host, Machine, MemWords, WordAt};
-use rio_bench::Bench;
 use std::alloc::{AllocError, Global};
 
 /// How a machine was left.

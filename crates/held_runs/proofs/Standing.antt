@@ -5,11 +5,11 @@ use Rattle.std.specs.Global.{Global}
 use Rattle.std.specs.Prelude.{String}
 use Rattle.std.specs.String.{string_bytes}
 use Rattle.rio_base.specs.Bytes.{bytes_of}
-use Rattle.rio_bench.specs.Benches.{Leaving}
+use Rattle.machine_bench.specs.Benches.{Leaving}
 use Rattle.rio_model.specs.declared.state.State.{State}
 use Rattle.pair_files.specs.Pairs.{HasPair}
-use Rattle.serve_command.specs.Outside.{Benched, Outside, benched}
-use Rattle.serve_command.specs.Serve.{ServeRuns}
+use Rattle.rio_commands.specs.Outside.{Benched, Outside, benched}
+use Rattle.rio_commands.specs.Serve.{ServeRuns}
 use Rattle.held_memory.specs.Held.{Holds}
 use Rattle.held_memory.specs.WordFiles.{FileBytes}
 use Rattle.held_runs.specs.HeldRuns.{HeldRuns, HeldStands, Kept}

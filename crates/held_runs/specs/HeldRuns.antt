@@ -1,14 +1,14 @@
 -- What a run leaves whose memory is held in the file IMAGE.
 use Rattle.std.specs.Prelude.{◌≡◌, ◌<◌, ℕ, Bool, true, List, Option, Some, is_some}
 use Rattle.rio_model.specs.declared.state.State.{State}
-use Rattle.rio_serving.specs.declared.ends.LinesEnd.{LinesEnd}
+use Rattle.line_loop.specs.declared.ends.LinesEnd.{LinesEnd}
 use Rattle.pair_files.specs.declared.ends.PairEnd.{PairEnd}
 use Rattle.pair_files.specs.Pairs.{HasPair, IsPair, file_of}
 use Rattle.held_memory.specs.WordFiles.{FileBytes}
 use Rattle.rio_words.specs.declared.command.RioCommand.{RioCommand}
 use Rattle.rio_server.specs.Commands.{Obeys}
-use Rattle.serve_command.specs.Outside.{Benched, Outside}
-use Rattle.serve_command.specs.Serve.{RunServes, ServeRuns}
+use Rattle.rio_commands.specs.Outside.{Benched, Outside}
+use Rattle.rio_commands.specs.Serve.{RunServes, ServeRuns}
 
 -- the file that memory was held in
 pub record Kept : Type 0 where

@@ -11,11 +11,11 @@ use crate::rig::{Call, Came, Memory};
 use crate::same::same;
 use crate::window_rows::WINDOWS;
 use block_disk::{DiskChoice, MemDisk};
-use machine_readers::{save, zeros};
 use phys_memory::ListMem;
 use rio_base::{Block, DiskBlocks, Machine, MemWords, Page, Wild, WordAt};
 use std::alloc::Global;
 use std::process::Abort;
+use test_objects::{save, zeros};
 
 /// Stops, traps, wild stores and a failed sync.
 static BOARDS: [Case; 8] = [

@@ -17,12 +17,12 @@ use crate::walk::{WalkEnd, walk_through};
 use block_disk::{DiskChoice, MemDisk};
 use board::Board;
 use image_codec::fresh_image;
-use machine_readers::BLOCKS;
 use page_cache::{CacheTables, PageCache};
 use phys_memory::ListMem;
 use rio_base::{Block, Blocks, Machine, Volume};
 use std::alloc::Global;
 use std::process::Abort;
+use test_objects::BLOCKS;
 
 /// The words of a fresh image with so many frames and one scratch page. The header is looked at, so that its sizes and its
 /// gate are known.

@@ -8,12 +8,12 @@ ghost use Rattle.machine_tests.specs.Ready.{IsTestHeader, NoneOrDirty, Ready};
 use crate::machines::{MemBoard, Mishap, board_on, disk_of};
 use block_disk::{DiskChoice, MemDisk};
 use board::Board;
-use machine_readers::zeros;
 use phys_memory::ListMem;
 use registry::{Tag, check_image, load_tag};
 use rio_base::{Block, DiskBlocks, IMAGE_MAGIC, Machine, MemWords, WordAt};
 use std::alloc::Global;
 use std::process::Abort;
+use test_objects::zeros;
 
 /// The words of a machine with 83 pages.
 pub(crate) const WORDS: usize = 42_496;

@@ -4,11 +4,11 @@ ghost use Rattle.std.specs.Prelude.{◌≡◌, length};
 
 use crate::plain_blocks::PlainBlocks;
 use block_disk::{DiskChoice, MemDisk};
-use machine_readers::{BLOCKS, standing_words};
 use phys_memory::ListMem;
 use rio_base::{Block, DiskBlocks};
 use std::alloc::Global;
 use std::process::Abort;
+use test_objects::{BLOCKS, standing_words};
 
 /// What memory of these words and a disk of 64 blocks stand for after the disk crashed so.
 pub(crate) fn crashed(

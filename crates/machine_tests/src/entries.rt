@@ -40,7 +40,7 @@ fn image_machine(rt: &impl Abort, alloc: Global, stop_after: Option<u64>) -> Mem
 }
 
 /// Makes entry 3 the entry of page 1 of file 2, in block 9: dirty and of 5 bytes, and then clean and of 7.
-#[tactic(auto, using(machine_readers::proofs::WorkedPair::valid_tag, crate::proofs::TestImages::still_valid))]
+#[tactic(auto, using(test_objects::proofs::WorkedPair::valid_tag, crate::proofs::TestImages::still_valid))]
 fn make<M: Machine>(m: &mut M) -> Result<(), Stopped>
     requires can { CanChange 3 (M.contents m.old) (M.run m.old) }
     requires invalid { is_valid (tag_at (M.contents m.old).words 3) ≡ false }

@@ -2,10 +2,10 @@
 
 ghost use Rattle.std.specs.Prelude.{◌≡◌, ◌+◌, ◌<◌, ◌≤◌, length};
 
-use machine_readers::{ALL_WORDS, BLOCKS, zeros};
 use rio_base::{BLOCK_WORDS, Block};
 use std::alloc::Global;
 use std::process::Abort;
+use test_objects::{ALL_WORDS, BLOCKS, zeros};
 
 /// How many of the stores of the running action may stand where a stop cuts it off.
 #[derive(Clone, Copy)]

@@ -15,12 +15,12 @@ use crate::same::same;
 use crate::walk::WalkEnd;
 use block_disk::MemDisk;
 use board::Board;
-use machine_readers::BLOCKS;
 use page_cache::PageCache;
 use phys_memory::PhysMem;
 use rio_base::{Blocks, Machine, MemWords, Page, Volume};
 use std::alloc::Global;
 use std::process::Abort;
+use test_objects::BLOCKS;
 
 /// A board in raw memory.
 type RawBoard = Board<PhysMem, MemDisk>;

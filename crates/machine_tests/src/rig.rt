@@ -7,12 +7,12 @@ ghost use Rattle.block_disk.specs.MemDisks.{state_of};
 use crate::machines::{MemBoard, Mishap, board_on, counted, disk_of};
 use block_disk::MemDisk;
 use board::Board;
-use machine_readers::zeros;
 use page_protect::{Window, put_run, put_word};
 use phys_memory::ListMem;
 use rio_base::{BLOCK_WORDS, Block, DiskFail, Machine, Page, Stopped, Wild, WordAt};
 use std::alloc::{AllocError, Global};
 use std::process::Abort;
+use test_objects::zeros;
 
 /// The most words that a board's memory has.
 const MOST_WORDS: usize = 42_496;

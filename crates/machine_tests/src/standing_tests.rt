@@ -9,10 +9,10 @@ use crate::plain_blocks::{PlainBlocks, Stands, all_zeros};
 use crate::same::same;
 use block_disk::{DiskChoice, MemDisk};
 use image_codec::fresh_image;
-use machine_readers::{Unread, reading_words, standing_words, zeros};
 use rio_base::{Block, DiskBlocks};
 use std::alloc::Global;
 use std::process::Abort;
+use test_objects::{Unread, reading_words, standing_words, zeros};
 
 /// An image of 32 frames, where entry 3 is of block 9 and has shadow 2, and entry 31 is of block 50.
 fn image(rt: &impl Abort, alloc: Global, gate: u64) -> Vec<u64>

@@ -1,17 +1,16 @@
 //! Walks over the volumes in memory: without a stop, with calls of the disk that fail, and stopped at each call.
 
 ghost use Rattle.std.specs.Prelude.{◌≡◌, length};
-ghost use Rattle.rio_fakes.specs.ListVolumes.{ListSound, list_seen};
+ghost use Rattle.test_objects.specs.ListVolumes.{ListSound, list_seen};
 
 use crate::draws::Draws;
 use crate::plain_blocks::{PlainBlocks, all_zeros};
 use crate::same::same;
 use crate::walk::{WalkEnd, read_all, walk, walk_through};
-use machine_readers::{BLOCKS, put_block};
 use rio_base::{Block, Blocks, Volume};
-use rio_fakes::{FaultyVolume, ListVolume};
 use std::alloc::Global;
 use std::process::Abort;
+use test_objects::{BLOCKS, FaultyVolume, ListVolume, put_block};
 
 /// What stands in a volume: what it reads as when it goes on.
 fn restarted(rt: &impl Abort, alloc: Global, v: &mut ListVolume) -> Vec<u64>

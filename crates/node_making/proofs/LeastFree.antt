@@ -1,10 +1,10 @@
 -- The least free inode that is found in the blocks is the one that the state has.
-use Rattle.file_ends.proofs.Common.{◌≡◌, ◌≢◌, ℕ, zero, suc, ◌+◌, ◌-◌, ◌<◌, ◌≤◌, ◌⊎◌, Bool, true, false, cond, refl, ap, ◌∙◌, arith, inl, inr, None, Some, range_with_len, get, cases_eq, VolumeShape, CachesBy, BlockWords, Health, Looks, Seen, IsIno, inode_kind, HasShape, Below, Kept, Passes, State, held_of, volume_layout, reads_none, ReadsAs, LeavesInUse, Ready}
+use Rattle.request_ends.proofs.Common.{◌≡◌, ◌≢◌, ℕ, zero, suc, ◌+◌, ◌-◌, ◌<◌, ◌≤◌, ◌⊎◌, Bool, true, false, cond, refl, ap, ◌∙◌, arith, inl, inr, None, Some, range_with_len, get, cases_eq, VolumeShape, CachesBy, BlockWords, Health, Looks, Seen, IsIno, inode_kind, HasShape, Below, Kept, Passes, State, held_of, volume_layout, reads_none, ReadsAs, LeavesInUse, Ready}
 use Rattle.rio_model.specs.States.{least_free}
 use Rattle.std.specs.Prelude.{find, is_none}
 use Rattle.inode_table.specs.Inodes.{AreUsed, IsMetadata}
 use Rattle.node_updates.proofs.Steps.{all_touched}
-use Rattle.file_ends.proofs.Unchanged.{leaves_read}
+use Rattle.request_ends.proofs.Unchanged.{leaves_read}
 use Rattle.file_tree.proofs.FreeFound.{used_node, free_held}
 
 find_none : (p : ℕ → Bool) (n a : ℕ) → ((i : ℕ) → a ≤ i → i < a + n → p i ≡ false) → find p (range_with_len a n) ≡ None

@@ -1,5 +1,5 @@
 -- The names of a directory's rows, in byte order, are those that the state has in it.
-use Rattle.file_ends.proofs.Common.{◌≡◌, ◌≢◌, ℕ, ◌+◌, ◌*◌, ◌/◌, ◌%◌, ◌<◌, Bool, true, false, cond, List, [], ◌∷◌, length, map, get_or, Option, refl, sym, ap, subst, ◌∙◌, arith, inl, inr, All, get, AllByRecursion, Contains, list_any, range_with_len, eq_by_cmp, is_eq, Ordering, Less, Equal, Greater, cases_Bool, length-map-range_with_len, get_or-map-range_with_len, none-some, true_false, State, names_in, Held, entry_name, Reads, NamesApartRule, Result, Ok, VolumeShape, BlockWords, answered, at_inode, held_of, names_of, walk_to_dir, ReadsAs}
+use Rattle.request_ends.proofs.Common.{◌≡◌, ◌≢◌, ℕ, ◌+◌, ◌*◌, ◌/◌, ◌%◌, ◌<◌, Bool, true, false, cond, List, [], ◌∷◌, length, map, get_or, Option, refl, sym, ap, subst, ◌∙◌, arith, inl, inr, All, get, AllByRecursion, Contains, list_any, range_with_len, eq_by_cmp, is_eq, Ordering, Less, Equal, Greater, cases_Bool, length-map-range_with_len, get_or-map-range_with_len, none-some, true_false, State, names_in, Held, entry_name, Reads, NamesApartRule, Result, Ok, VolumeShape, BlockWords, answered, at_inode, held_of, names_of, walk_to_dir, ReadsAs}
 use Rattle.std.proofs.Common.{Some, None}
 use Rattle.std.specs.Prelude.{◌||◌, ◌&&◌, T}
 use Rattle.std.specs.Cmp.{eq_by_cmp_equiv}
@@ -17,7 +17,7 @@ use Rattle.std.proofs.lemmas.Map.Lookups.{exact_bytes}
 use Rattle.std.proofs.lemmas.Map.Views.{Contains-from_any, list_any-from_Contains}
 use Rattle.rio_model.proofs.InDirectory.{names_in-is}
 use Rattle.file_tree.proofs.RowReads.{rows_of_reads}
-use Rattle.dir_entries.specs.Rows.{NamesApart, ListsNames}
+use Rattle.directories.specs.Rows.{NamesApart, ListsNames}
 use Rattle.rio_requests.specs.declared.reply.Reply.TheVariants.{Names as NamesOf}
 use Rattle.rio_requests.specs.Answers.{list}
 use Rattle.file_tree.proofs.ReadTrees.{dir_whole}

@@ -1,5 +1,5 @@
 -- The words of a new region keep the format, and read as a region of zeros without a block.
-use Rattle.file_ends.proofs.Common.{◌≡◌, ℕ, zero, suc, ◌+◌, ◌*◌, ◌/◌, ◌%◌, ◌≤◌, ◌==◌, cond, List, [], ◌∷◌, map, refl, sym, ap, subst, ◌∙◌, arith, Some, range_with_len, Region, IsSoundRegion, node_in, differs}
+use Rattle.request_ends.proofs.Common.{◌≡◌, ℕ, zero, suc, ◌+◌, ◌*◌, ◌/◌, ◌%◌, ◌≤◌, ◌==◌, cond, List, [], ◌∷◌, map, refl, sym, ap, subst, ◌∙◌, arith, Some, range_with_len, Region, IsSoundRegion, node_in, differs}
 use Rattle.rio_requests.specs.Answers.{new_region}
 use Rattle.std.specs.Int.{bit_at}
 use Rattle.std.specs.Prelude.{replicate}

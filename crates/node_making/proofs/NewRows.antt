@@ -1,13 +1,13 @@
 -- A node and its row, made in one update: that the changes can be made, and the state that they come to.
-use Rattle.file_ends.proofs.Common.{◌≡◌, ℕ, ◌+◌, ◌<◌, ◌⊎◌, List, [], ◌∷◌, refl, sym, ap, subst, ◌∙◌, arith, inl, inr, Result, Err, IsErrOf, Some, VolumeShape, BlockWords, Seen, IsIno, Kept, Settled, State, answered, with_new, held_of, IsName, volume_layout, ReadsAs, LeavesInUse, Ready, ready_left, make_new, row_wanted, with_room, Number, free_blocks, wanted_blocks, SizeFail, NoSpace, TooLarge}
-use Rattle.dir_entries.specs.Plans.{PlansDir}
-use Rattle.dir_entries.specs.Rows.{HasRow}
-use Rattle.dir_entries.specs.declared.changes.DirChange.{DirChange}
-use Rattle.dir_entries.specs.RowChanges.{AddsRow}
+use Rattle.request_ends.proofs.Common.{◌≡◌, ℕ, ◌+◌, ◌<◌, ◌⊎◌, List, [], ◌∷◌, refl, sym, ap, subst, ◌∙◌, arith, inl, inr, Result, Err, IsErrOf, Some, VolumeShape, BlockWords, Seen, IsIno, Kept, Settled, State, answered, with_new, held_of, IsName, volume_layout, ReadsAs, LeavesInUse, Ready, ready_left, make_new, row_wanted, with_room, Number, free_blocks, wanted_blocks, SizeFail, NoSpace, TooLarge}
+use Rattle.directories.specs.Plans.{PlansDir}
+use Rattle.directories.specs.Rows.{HasRow}
+use Rattle.directories.specs.declared.changes.DirChange.{DirChange}
+use Rattle.directories.specs.RowChanges.{AddsRow}
 use Rattle.std.specs.Prelude.{length}
 use Rattle.rio_requests.specs.Answers.{new_blocks, empty_node}
-use Rattle.file_ends.specs.Failures.{fail_of_size}
-use Rattle.file_ends.proofs.AnsweredAt.{FailsBy}
+use Rattle.request_ends.specs.Failures.{fail_of_size}
+use Rattle.request_ends.proofs.AnsweredAt.{FailsBy}
 use Rattle.node_updates.specs.Changes.{IsMade, of_dir}
 use Rattle.node_updates.specs.declared.changes.NodeChange.{NodeChange}
 use Rattle.file_tree.proofs.LookedAt.{no_row}

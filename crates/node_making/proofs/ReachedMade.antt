@@ -1,8 +1,8 @@
 -- The state that is read once a row and a node are made.
-use Rattle.file_ends.proofs.Common.{◌≡◌, ◌≢◌, ℕ, ◌≤◌, ◌⊎◌, true, List, [], ◌∷◌, map, sym, ap, subst, ◌∙◌, arith, inl, inr, None, get, cases_eq, VolumeShape, BlockWords, Seen, IsIno, Kept, State, with_new, Held, held_of, IsName, is_dir, placed_at, reads_dir, reads_none, ReadsAs, InOrder}
-use Rattle.dir_entries.specs.declared.changes.DirChange.{DirChange}
+use Rattle.request_ends.proofs.Common.{◌≡◌, ◌≢◌, ℕ, ◌≤◌, ◌⊎◌, true, List, [], ◌∷◌, map, sym, ap, subst, ◌∙◌, arith, inl, inr, None, get, cases_eq, VolumeShape, BlockWords, Seen, IsIno, Kept, State, with_new, Held, held_of, IsName, is_dir, placed_at, reads_dir, reads_none, ReadsAs, InOrder}
+use Rattle.directories.specs.declared.changes.DirChange.{DirChange}
 use Rattle.rio_requests.specs.Answers.{empty_node}
-use Rattle.dir_entries.specs.RowChanges.{AddsRow}
+use Rattle.directories.specs.RowChanges.{AddsRow}
 use Rattle.region_view.proofs.UsedInodes.{kind_held}
 use Rattle.node_updates.specs.Changes.{AllApplied, IsMade, IsTouchedBy, change_update, of_dir}
 use Rattle.node_updates.proofs.EmptyHeld.{empty_held}

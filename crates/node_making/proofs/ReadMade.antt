@@ -1,6 +1,6 @@
 -- A node that is made, and its row: the state that is read then, whose names stay a tree.
-use Rattle.file_ends.proofs.Common.{◌≡◌, ◌≢◌, ℕ, ◌⊎◌, List, refl, sym, ap, subst, ◌∙◌, arith, inl, inr, get, VolumeShape, BlockWords, State, with_new, Held, held_of, NameKey, IsName, node_in, ReadsAs, IsMapped, TreeRule, name_get_other, get_here, get_there, true, [], ◌∷◌, insert, cases_eq, Node, is_dir, walk, name_get_same}
-use Rattle.dir_entries.specs.RowChanges.{AddsRow}
+use Rattle.request_ends.proofs.Common.{◌≡◌, ◌≢◌, ℕ, ◌⊎◌, List, refl, sym, ap, subst, ◌∙◌, arith, inl, inr, get, VolumeShape, BlockWords, State, with_new, Held, held_of, NameKey, IsName, node_in, ReadsAs, IsMapped, TreeRule, name_get_other, get_here, get_there, true, [], ◌∷◌, insert, cases_eq, Node, is_dir, walk, name_get_same}
+use Rattle.directories.specs.RowChanges.{AddsRow}
 use Rattle.rio_requests.specs.Answers.{empty_node}
 use Rattle.std.proofs.Common.{Some, None, Ok}
 use Rattle.node_updates.proofs.EmptyHeld.{empty_held}

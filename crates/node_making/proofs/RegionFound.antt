@@ -1,11 +1,11 @@
 -- The region at the end of a walk, or what is told where none is.
-use Rattle.file_ends.proofs.Common.{◌≡◌, ◌≢◌, ℕ, ◌<◌, ◌⊎◌, List, refl, sym, ap, subst, ◌∙◌, arith, inl, inr, Result, Ok, Err, IsErrOf, Some, get, cases_eq, Ino, VolumeShape, BlockWords, Region, State, held_of, names_of, walk, reads_dir, reads_file, reads_region, ReadsAs, region_in, Inode}
+use Rattle.request_ends.proofs.Common.{◌≡◌, ◌≢◌, ℕ, ◌<◌, ◌⊎◌, List, refl, sym, ap, subst, ◌∙◌, arith, inl, inr, Result, Ok, Err, IsErrOf, Some, get, cases_eq, Ino, VolumeShape, BlockWords, Region, State, held_of, names_of, walk, reads_dir, reads_file, reads_region, ReadsAs, region_in, Inode}
 use Rattle.rio_model.specs.declared.node.RegionNode.{RegionNode}
-use Rattle.file_ends.specs.Failures.{Unrefused}
+use Rattle.request_ends.specs.Failures.{Unrefused}
 use Rattle.node_making.specs.NewRegions.{FindsRegion}
 use Rattle.file_tree.specs.Walks.{Comes, ino_in}
-use Rattle.file_ends.specs.declared.failures.FileFail.{FileFail}
-use Rattle.file_ends.specs.declared.failures.FileFail.TheVariants.{Refused, Fault, Stopped, Memory}
+use Rattle.request_ends.specs.declared.failures.FileFail.{FileFail}
+use Rattle.request_ends.specs.declared.failures.FileFail.TheVariants.{Refused, Fault, Stopped, Memory}
 use Rattle.region_view.proofs.UsedInodes.{kind_held, used_ino}
 
 walk_as : (s : State) (path : List ℕ) (e : FileFail) → Comes (walk s 1 (names_of path)) (Err e) → FindsRegion s path (Err e)

@@ -1,5 +1,5 @@
 -- A new region, prepared: its blocks are taken as zeros, and then its header is stored in the block of page 0.
-use Rattle.file_ends.proofs.Common.{◌≡◌, ◌≢◌, ℕ, zero, suc, ◌-◌, ◌*◌, ◌/◌, ◌%◌, ◌<◌, ◌≤◌, ◌&&◌, ◌⊎◌, Bool, true, false, cond, List, length, refl, sym, ap, subst, ◌∙◌, arith, inl, inr, slice_index_or, None, Some, nat_lt, slice_index, Contains, cases_eq, nat_tests, Block, Ino, PageName, VolumeShape, BlockWords, Seen, IsIno, inode_kind, true_false, HasShape, Firm, Kept, numbers, Inode, held, same_held, Slot, AtPage, AtTable, Placed, HasSlot, IsFree, Agrees, placed_at, volume_layout, SameLayout, lays_agree, lays_same, lays_self, pages, Bears, LeavesInUse, NamedNode, Ready, IsMapped, wanted_blocks, leaves_trans, ready_left, as_many, number_at}
+use Rattle.request_ends.proofs.Common.{◌≡◌, ◌≢◌, ℕ, zero, suc, ◌-◌, ◌*◌, ◌/◌, ◌%◌, ◌<◌, ◌≤◌, ◌&&◌, ◌⊎◌, Bool, true, false, cond, List, length, refl, sym, ap, subst, ◌∙◌, arith, inl, inr, slice_index_or, None, Some, nat_lt, slice_index, Contains, cases_eq, nat_tests, Block, Ino, PageName, VolumeShape, BlockWords, Seen, IsIno, inode_kind, true_false, HasShape, Firm, Kept, numbers, Inode, held, same_held, Slot, AtPage, AtTable, Placed, HasSlot, IsFree, Agrees, placed_at, volume_layout, SameLayout, lays_agree, lays_same, lays_self, pages, Bears, LeavesInUse, NamedNode, Ready, IsMapped, wanted_blocks, leaves_trans, ready_left, as_many, number_at}
 use Rattle.rio_model.proofs.WordRules.{run_same_but}
 use Rattle.rio_model.specs.VolumeReady.{NamesPage}
 use Rattle.rio_base.specs.Blocks.{CanName, SamePage}

@@ -1,6 +1,6 @@
 -- A region that is made, and its row, are so in the state that is read.
-use Rattle.file_ends.proofs.Common.{◌≡◌, ◌≢◌, ℕ, ◌/◌, ◌≤◌, List, sym, ap, subst, ◌∙◌, arith, inl, inr, get, none-some, VolumeShape, BlockWords, Node, Region, State, with_new, IsSoundRegion, Held, held_of, NameKey, IsName, node_in, ReadsAs, IsMapped, TreeRule, name_get_other, get_here, get_there}
-use Rattle.dir_entries.specs.RowChanges.{AddsRow}
+use Rattle.request_ends.proofs.Common.{◌≡◌, ◌≢◌, ℕ, ◌/◌, ◌≤◌, List, sym, ap, subst, ◌∙◌, arith, inl, inr, get, none-some, VolumeShape, BlockWords, Node, Region, State, with_new, IsSoundRegion, Held, held_of, NameKey, IsName, node_in, ReadsAs, IsMapped, TreeRule, name_get_other, get_here, get_there}
+use Rattle.directories.specs.RowChanges.{AddsRow}
 use Rattle.rio_requests.specs.Answers.{new_region}
 use Rattle.std.proofs.Common.{None}
 use Rattle.file_tree.proofs.NameSteps.{by_two, dirs_apart, insert_back, insert_some, row_comes}

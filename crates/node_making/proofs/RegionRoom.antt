@@ -1,9 +1,9 @@
 -- Room for a region and its row: blocks that are free, as the state counts them.
-use Rattle.file_ends.proofs.Common.{◌≡◌, ℕ, ◌+◌, ◌*◌, ◌<◌, ◌≤◌, true, false, cond, List, refl, sym, ap, subst, ◌∙◌, arith, Result, Err, IsErrOf, Some, nat_lt, slice_index, nat_tests, VolumeShape, free_blocks, BlockWords, Seen, Kept, numbers, Region, State, with_new, Held, held_of, IsFree, placed_at, volume_layout, blocks_for, free_count, reads_agree, ReadsAs, LeavesInUse, Ready, free_by_state, wanted_blocks, ready_left, SizeFail, NoSpace, TooLarge, as_many, Answered, Number, answered, refused, make_new, row_wanted, with_room}
-use Rattle.dir_entries.specs.Plans.{PlansDir}
-use Rattle.dir_entries.specs.declared.changes.DirChange.{DirChange}
+use Rattle.request_ends.proofs.Common.{◌≡◌, ℕ, ◌+◌, ◌*◌, ◌<◌, ◌≤◌, true, false, cond, List, refl, sym, ap, subst, ◌∙◌, arith, Result, Err, IsErrOf, Some, nat_lt, slice_index, nat_tests, VolumeShape, free_blocks, BlockWords, Seen, Kept, numbers, Region, State, with_new, Held, held_of, IsFree, placed_at, volume_layout, blocks_for, free_count, reads_agree, ReadsAs, LeavesInUse, Ready, free_by_state, wanted_blocks, ready_left, SizeFail, NoSpace, TooLarge, as_many, Answered, Number, answered, refused, make_new, row_wanted, with_room}
+use Rattle.directories.specs.Plans.{PlansDir}
+use Rattle.directories.specs.declared.changes.DirChange.{DirChange}
 use Rattle.rio_requests.specs.Answers.{new_region}
-use Rattle.dir_entries.specs.RowChanges.{AddsRow}
+use Rattle.directories.specs.RowChanges.{AddsRow}
 use Rattle.rio_model.specs.Undo.{region_words}
 use Rattle.rio_model.specs.Sizes.{data_pages}
 use Rattle.std.proofs.Common.{length-take-le}
@@ -12,10 +12,10 @@ use Rattle.std.proofs.lemmas.List.{length-replicate}
 use Rattle.node_pages.specs.Changes.{free_beside}
 use Rattle.node_pages.specs.declared.failures.SizeFail.TheVariants.{Fault as SizeFault, Stopped as SizeStopped, Memory as SizeMemory}
 use Rattle.node_pages.proofs.Skipped.{count_beside}
-use Rattle.file_ends.specs.Failures.{fail_of_size}
+use Rattle.request_ends.specs.Failures.{fail_of_size}
 use Rattle.node_making.specs.NewRegions.{FitRegion}
 use Rattle.node_making.specs.declared.regions.RegionSizes.{RegionSizes}
-use Rattle.file_ends.proofs.AnsweredAt.{FailsBy}
+use Rattle.request_ends.proofs.AnsweredAt.{FailsBy}
 use Rattle.region_view.proofs.RegionHeader.{used_size}
 use Rattle.node_making.proofs.RegionPlanned.{free_on}
 use Rattle.node_updates.proofs.Requested.{dir_ino}

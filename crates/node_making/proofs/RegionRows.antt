@@ -1,13 +1,13 @@
 -- A region and its row, made in one update: that the changes can be made, and the state that they come to.
-use Rattle.file_ends.proofs.Common.{◌≡◌, ◌≢◌, ℕ, zero, suc, ◌<◌, ◌≤◌, ◌⊎◌, Bool, true, false, List, [], ◌∷◌, map, refl, sym, ap, subst, ◌∙◌, arith, inl, inr, None, Some, get, AllByRecursion, Contains, cases_eq, PageName, VolumeShape, CachesBy, BlockWords, Seen, IsIno, inode_block, reserved, Kept, Settled, numbers, Region, State, with_new, Held, held_of, Available, Change, IsName, Slot, AtPage, AtTable, Placed, Agrees, HasSlot, IsFree, placed_at, volume_layout, SameLayout, inode_low, lays_agree, lays_same, lays_self, node_fits, owned_on, Applied, ReadsAs, Bears, LeavesInUse, NamedNode, Ready, IsMapped, NodeFits, leaves_trans, ready_left, InOrder, IsEdited, Edit}
-use Rattle.dir_entries.specs.Making.{MayBeMade}
-use Rattle.dir_entries.proofs.MakingOrder.{plan_edits}
-use Rattle.dir_entries.proofs.MakingRules.{plan_change, DisjointNodes, may_after, may_begin, may_still}
-use Rattle.dir_entries.specs.Plans.{PlansDir, SameBlocks}
-use Rattle.dir_entries.specs.Rows.{HasRow}
-use Rattle.dir_entries.specs.declared.changes.DirChange.{DirChange}
+use Rattle.request_ends.proofs.Common.{◌≡◌, ◌≢◌, ℕ, zero, suc, ◌<◌, ◌≤◌, ◌⊎◌, Bool, true, false, List, [], ◌∷◌, map, refl, sym, ap, subst, ◌∙◌, arith, inl, inr, None, Some, get, AllByRecursion, Contains, cases_eq, PageName, VolumeShape, CachesBy, BlockWords, Seen, IsIno, inode_block, reserved, Kept, Settled, numbers, Region, State, with_new, Held, held_of, Available, Change, IsName, Slot, AtPage, AtTable, Placed, Agrees, HasSlot, IsFree, placed_at, volume_layout, SameLayout, inode_low, lays_agree, lays_same, lays_self, node_fits, owned_on, Applied, ReadsAs, Bears, LeavesInUse, NamedNode, Ready, IsMapped, NodeFits, leaves_trans, ready_left, InOrder, IsEdited, Edit}
+use Rattle.directories.specs.Making.{MayBeMade}
+use Rattle.directories.proofs.MakingOrder.{plan_edits}
+use Rattle.directories.proofs.MakingRules.{plan_change, DisjointNodes, may_after, may_begin, may_still}
+use Rattle.directories.specs.Plans.{PlansDir, SameBlocks}
+use Rattle.directories.specs.Rows.{HasRow}
+use Rattle.directories.specs.declared.changes.DirChange.{DirChange}
 use Rattle.rio_requests.specs.Answers.{new_region}
-use Rattle.dir_entries.specs.RowChanges.{AddsRow}
+use Rattle.directories.specs.RowChanges.{AddsRow}
 use Rattle.std.specs.Prelude.{Option}
 use Rattle.rio_model.proofs.GrowthRules.{few_tables}
 use Rattle.rio_model.proofs.HeldRules.{held_agree}

@@ -1,15 +1,15 @@
 -- Requests that make a row: what they answer, by what the look-up of a free name comes to.
-use Rattle.file_ends.proofs.Common.{◌≡◌, ℕ, ◌*◌, ◌<◌, ◌≤◌, true, false, cond, List, [], ◌∷◌, refl, sym, ap, subst, ◌∙◌, arith, inl, inr, Result, Ok, Err, None, Some, nat_lt, get, nat_tests, Ino, Node, Region, State, front_of, last_of, walk_to_dir, largest_size, Answered, at_inode, refused, make_new}
+use Rattle.request_ends.proofs.Common.{◌≡◌, ℕ, ◌*◌, ◌<◌, ◌≤◌, true, false, cond, List, [], ◌∷◌, refl, sym, ap, subst, ◌∙◌, arith, inl, inr, Result, Ok, Err, None, Some, nat_lt, get, nat_tests, Ino, Node, Region, State, front_of, last_of, walk_to_dir, largest_size, Answered, at_inode, refused, make_new}
 use Rattle.rio_model.specs.Undo.{region_words}
 use Rattle.rio_model.specs.States.{least_free}
 use Rattle.std.specs.Prelude.{Option, length}
 use Rattle.rio_requests.specs.Answers.{make, make_row, region_at, region_row, at_row, new_region}
 use Rattle.node_making.specs.NewRegions.{FitRegion}
 use Rattle.file_tree.specs.Walks.{FreeRow}
-use Rattle.file_ends.specs.declared.failures.FileFail.{FileFail}
-use Rattle.file_ends.specs.declared.failures.FileFail.TheVariants.{Refused, Fault, Stopped, Memory}
+use Rattle.request_ends.specs.declared.failures.FileFail.{FileFail}
+use Rattle.request_ends.specs.declared.failures.FileFail.TheVariants.{Refused, Fault, Stopped, Memory}
 use Rattle.node_making.specs.declared.regions.RegionSizes.{RegionSizes}
-use Rattle.file_ends.proofs.AnsweredAt.{FailsBy}
+use Rattle.request_ends.proofs.AnsweredAt.{FailsBy}
 
 -- ---- a request that makes a row
 

@@ -1,5 +1,5 @@
 -- What is told of the node at a path, by its inode and the bytes that were counted.
-use Rattle.file_ends.proofs.Common.{◌≡◌, ◌≢◌, ℕ, ◌*◌, ◌<◌, ◌⊎◌, List, sym, ap, ◌∙◌, arith, inl, inr, Result, Ok, get, cases_eq, VolumeShape, BlockWords, IsIno, State, answered, at_inode, names_in, Held, held_bytes, held_of, names_of, walk, reads_dir, reads_file, reads_region, ReadsAs, node_in, region_in, Inode, IsInode, length-map-range_with_len}
+use Rattle.request_ends.proofs.Common.{◌≡◌, ◌≢◌, ℕ, ◌*◌, ◌<◌, ◌⊎◌, List, sym, ap, ◌∙◌, arith, inl, inr, Result, Ok, get, cases_eq, VolumeShape, BlockWords, IsIno, State, answered, at_inode, names_in, Held, held_bytes, held_of, names_of, walk, reads_dir, reads_file, reads_region, ReadsAs, node_in, region_in, Inode, IsInode, length-map-range_with_len}
 use Rattle.rio_model.specs.Sizes.{data_pages}
 use Rattle.std.specs.Prelude.{length}
 use Rattle.rio_requests.specs.declared.reply.Reply.TheVariants.{Stat}

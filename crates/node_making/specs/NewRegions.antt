@@ -21,8 +21,8 @@ use Rattle.rio_model.specs.VolumeReady.{NamedNode}
 use Rattle.node_pages.specs.Changes.{EditsTable, free_beside}
 use Rattle.node_updates.specs.Changes.{change_update}
 use Rattle.node_updates.specs.declared.changes.NodeChange.{NodeChange}
-use Rattle.file_ends.specs.declared.failures.FileFail.{FileFail}
-use Rattle.file_ends.specs.declared.failures.FileFail.TheVariants.{Refused, Fault, Stopped, Memory}
+use Rattle.request_ends.specs.declared.failures.FileFail.{FileFail}
+use Rattle.request_ends.specs.declared.failures.FileFail.TheVariants.{Refused, Fault, Stopped, Memory}
 use Rattle.node_making.specs.declared.regions.RegionSizes.{RegionSizes}
 
 -- ---- sizes

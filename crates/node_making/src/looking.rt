@@ -11,15 +11,15 @@ ghost use Rattle.rio_model.specs.declared.state.State.{State};
 ghost use Rattle.rio_requests.specs.Answers.{stat as stat_of, list as list_of};
 ghost use Rattle.rio_requests.specs.Parts.{NoneDone};
 ghost use Rattle.rio_model.specs.Paths.{IsPath};
-ghost use Rattle.file_ends.specs.Ends.{CanServe, FileEnds, SaysNames, SaysStat};
-ghost use Rattle.file_ends.specs.Failures.{Faulted, Unrefused};
+ghost use Rattle.request_ends.specs.Ends.{CanServe, FileEnds, SaysNames, SaysStat};
+ghost use Rattle.request_ends.specs.Failures.{Faulted, Unrefused};
 ghost use Rattle.file_tree.specs.Memos.{InStep};
 
-use dir_lookups::names;
-use file_ends::{FileFail, REGION};
+use directories::names;
 use file_tree::{Memo, node_inode, walk, walk_to_dir};
 use name_list::NameList;
 use node_pages::block_of;
+use request_ends::{FileFail, REGION};
 use rio_base::{Ino, PAGE_BYTES, PageName, Volume, VolumeShape};
 use std::alloc::Global;
 

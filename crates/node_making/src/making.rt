@@ -8,20 +8,20 @@ ghost use Rattle.rio_model.specs.Held.{held_of};
 ghost use Rattle.rio_model.specs.Paths.{IsName, IsPath, names_of};
 ghost use Rattle.rio_model.specs.VolumeReads.{ReadsAs};
 ghost use Rattle.rio_model.specs.declared.state.State.{State};
-ghost use Rattle.dir_entries.specs.Rows.{HasRow};
+ghost use Rattle.directories.specs.Rows.{HasRow};
 ghost use Rattle.rio_requests.specs.Answers.{empty_node, mkdir as mkdir_of, create as create_of, make as make_of, make_new as make_new_of};
 ghost use Rattle.rio_requests.specs.Parts.{NoneDone};
 ghost use Rattle.rio_model.specs.Placed.{volume_layout};
 ghost use Rattle.node_pages.specs.Forgetting.{Forgets};
-ghost use Rattle.file_ends.specs.Ends.{CanServe, FileEnds, SaysIno, SaysNumber};
-ghost use Rattle.file_ends.specs.Failures.{Faulted};
+ghost use Rattle.request_ends.specs.Ends.{CanServe, FileEnds, SaysIno, SaysNumber};
+ghost use Rattle.request_ends.specs.Failures.{Faulted};
 ghost use Rattle.file_tree.specs.Memos.{InStep};
 
 use crate::new_nodes::{NewNode, make_new};
 use directories::plan_add;
-use file_ends::{DIRECTORY, EXISTS, FILE, FileFail};
 use file_tree::{Memo, cut_last, dir_without, is_root};
 use node_updates::{NodeChange, commit_planned, node_made};
+use request_ends::{DIRECTORY, EXISTS, FILE, FileFail};
 use rio_base::{Ino, Volume, VolumeShape};
 use std::alloc::Global;
 

@@ -9,21 +9,21 @@ ghost use Rattle.rio_model.specs.Held.{held_of};
 ghost use Rattle.rio_model.specs.Paths.{IsName};
 ghost use Rattle.rio_model.specs.VolumeReads.{ReadsAs};
 ghost use Rattle.rio_model.specs.declared.state.State.{State};
-ghost use Rattle.dir_entries.specs.Rows.{HasRow};
+ghost use Rattle.directories.specs.Rows.{HasRow};
 ghost use Rattle.rio_requests.specs.Answers.{make_new as make_new_of};
 ghost use Rattle.rio_requests.specs.Parts.{NoneDone};
 ghost use Rattle.rio_model.specs.Placed.{volume_layout};
 ghost use Rattle.node_pages.specs.Forgetting.{Forgets};
-ghost use Rattle.file_ends.specs.Ends.{CanServe, FileEnds, SaysIno, SaysNumber};
-ghost use Rattle.file_ends.specs.Failures.{Faulted};
+ghost use Rattle.request_ends.specs.Ends.{CanServe, FileEnds, SaysIno, SaysNumber};
+ghost use Rattle.request_ends.specs.Failures.{Faulted};
 ghost use Rattle.file_tree.specs.Memos.{InStep};
 ghost use Rattle.node_making.specs.NewNodes.{FitsNode, node_made};
 
 use crate::making::make_row;
 use crate::regions::{RegionSizes, make_region_row};
-use file_ends::{FileFail, NO_INODE};
 use file_tree::Memo;
 use inode_table::least_free_past_full;
+use request_ends::{FileFail, NO_INODE};
 use rio_base::{Ino, Volume, VolumeShape};
 use std::alloc::Global;
 

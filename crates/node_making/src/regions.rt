@@ -16,22 +16,22 @@ ghost use Rattle.rio_model.specs.VolumeReady.{LeavesInUse, Ready};
 ghost use Rattle.inode_table.specs.Inodes.{IsInode};
 ghost use Rattle.node_pages.specs.Changes.{Apart, Spares, free_beside};
 ghost use Rattle.node_pages.specs.Forgetting.{Forgets};
-ghost use Rattle.dir_entries.specs.Rows.{HasRow};
+ghost use Rattle.directories.specs.Rows.{HasRow};
 ghost use Rattle.rio_requests.specs.Answers.{make_new as make_new_of, make_region as make_region_of, new_region, region_row};
 ghost use Rattle.rio_requests.specs.Parts.{NoneDone};
-ghost use Rattle.file_ends.specs.Ends.{CanServe, FileEnds, SaysIno, SaysNumber};
-ghost use Rattle.file_ends.specs.Failures.{Faulted};
+ghost use Rattle.request_ends.specs.Ends.{CanServe, FileEnds, SaysIno, SaysNumber};
+ghost use Rattle.request_ends.specs.Failures.{Faulted};
 ghost use Rattle.file_tree.specs.Memos.{InStep};
 ghost use Rattle.node_making.specs.NewRegions.{FindsRegion, FitRegion, PlansRegion, SizesRegion, header_name, header_words};
 ghost use Rattle.file_tree.specs.Walks.{FreeRow, ino_in};
 
 use crate::new_nodes::{NewNode, make_new};
 use directories::plan_add;
-use file_ends::{EXISTS, FileFail, NOT_A_REGION, REGION, TOO_LARGE};
 use file_tree::{Memo, cut_last, dir_without, is_root, node_inode, walk};
 use inode_table::Inode;
 use node_pages::{SizeFail, plan_size};
 use node_updates::{NodeChange, commit_planned, empty_inode, node_sized};
+use request_ends::{EXISTS, FileFail, NOT_A_REGION, REGION, TOO_LARGE};
 use rio_base::{
     Block, BlockList, Ino, PAGE_BYTES, PageName, REGION_MAGIC, RunFail, VolFail, Volume,
     VolumeShape,

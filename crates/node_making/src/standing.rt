@@ -8,15 +8,15 @@ ghost use Rattle.rio_model.specs.Paths.{IsPath};
 ghost use Rattle.rio_model.specs.VolumeReads.{ReadsAs};
 ghost use Rattle.rio_model.specs.VolumeReady.{Ready};
 ghost use Rattle.region_view.specs.Views.{KeepsInode, OnRegion};
-ghost use Rattle.file_ends.specs.Ends.{CanServe};
-ghost use Rattle.file_ends.specs.Failures.{Faulted};
+ghost use Rattle.request_ends.specs.Ends.{CanServe};
+ghost use Rattle.request_ends.specs.Failures.{Faulted};
 ghost use Rattle.file_tree.specs.Memos.{InStep};
 ghost use Rattle.node_making.specs.NewRegions.{FindsRegion};
 
 use crate::regions::region_at;
-use file_ends::FileFail;
 use file_tree::Memo;
 use region_view::{RegionView, region_words};
+use request_ends::FileFail;
 use rio_base::{Ino, Volume};
 
 /// Makes a view stand on the region at a path: reads its inode once, and looks names up where they are held. After a failure it

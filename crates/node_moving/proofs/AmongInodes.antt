@@ -1,5 +1,5 @@
 -- One inode among others, and whether it is an open region.
-use Rattle.file_ends.proofs.Common.{◌≡◌, ◌≢◌, ℕ, ◌<◌, ◌==◌, ◌&&◌, ◌⊎◌, Bool, true, false, List, [], ◌∷◌, refl, sym, ap, subst, ◌∙◌, arith, inl, inr, slice_index_or, slice_index, get, cases_eq, nat_tests, Ino, VolumeShape, BlockWords, State, held_of, reads_dir, reads_file, reads_region, ReadsAs}
+use Rattle.request_ends.proofs.Common.{◌≡◌, ◌≢◌, ℕ, ◌<◌, ◌==◌, ◌&&◌, ◌⊎◌, Bool, true, false, List, [], ◌∷◌, refl, sym, ap, subst, ◌∙◌, arith, inl, inr, slice_index_or, slice_index, get, cases_eq, nat_tests, Ino, VolumeShape, BlockWords, State, held_of, reads_dir, reads_file, reads_region, ReadsAs}
 use Rattle.std.proofs.Common.{◌||◌}
 use Rattle.std.specs.Prelude.{length}
 use Rattle.std.proofs.lemmas.List.{get_or-map, length-map}

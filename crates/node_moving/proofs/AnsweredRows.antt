@@ -1,13 +1,13 @@
 -- Requests that remove a row: what they answer, by what the look-ups before come to.
-use Rattle.file_ends.proofs.Common.{◌≡◌, ◌≢◌, ℕ, ◌<◌, true, false, cond, List, [], ◌∷◌, refl, sym, ap, subst, ◌∙◌, arith, inl, inr, Result, Ok, Err, Some, get, VolumeShape, BlockWords, Answered, State, answered, at_inode, refused, front_of, last_of, names_in, held_of, from_found, is_dir, walk_to_dir, ReadsAs, IsInode, Inode, found}
+use Rattle.request_ends.proofs.Common.{◌≡◌, ◌≢◌, ℕ, ◌<◌, true, false, cond, List, [], ◌∷◌, refl, sym, ap, subst, ◌∙◌, arith, inl, inr, Result, Ok, Err, Some, get, VolumeShape, BlockWords, Answered, State, answered, at_inode, refused, front_of, last_of, names_in, held_of, from_found, is_dir, walk_to_dir, ReadsAs, IsInode, Inode, found}
 use Rattle.std.specs.Prelude.{length, not}
 use Rattle.rio_requests.specs.declared.reply.Reply.TheVariants.{Ok as Done}
 use Rattle.rio_requests.specs.Answers.{is_empty, rmdir_at, rmdir_node, unlink_at, unlink_node, at_row, is_open, without}
 use Rattle.file_tree.specs.Walks.{RowComes}
-use Rattle.file_ends.specs.declared.failures.FileFail.{FileFail}
-use Rattle.file_ends.specs.declared.failures.FileFail.TheVariants.{Refused, Fault, Stopped, Memory}
+use Rattle.request_ends.specs.declared.failures.FileFail.{FileFail}
+use Rattle.request_ends.specs.declared.failures.FileFail.TheVariants.{Refused, Fault, Stopped, Memory}
 use Rattle.file_tree.specs.declared.walking.Row.{Row}
-use Rattle.file_ends.proofs.AnsweredAt.{FailsBy}
+use Rattle.request_ends.proofs.AnsweredAt.{FailsBy}
 use Rattle.region_view.proofs.UsedInodes.{kind_held, used_ino}
 use Rattle.region_view.proofs.RegionHeader.{used_size}
 use Rattle.file_tree.proofs.RowRoom.{dir_size}

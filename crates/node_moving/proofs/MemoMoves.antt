@@ -1,5 +1,5 @@
 -- The state after a request that moves a name and answers that it is done, names that differ, and nodes that stay.
-use Rattle.file_ends.proofs.Common.{◌≡◌, ◌≢◌, ℕ, ◌==◌, Bool, true, false, cond, List, refl, sym, ap, ◌∙◌, Some, None, none-some, Decides-eqb, get, NameKey, State, Answered, Reply, answered, refused, is_dir}
+use Rattle.request_ends.proofs.Common.{◌≡◌, ◌≢◌, ℕ, ◌==◌, Bool, true, false, cond, List, refl, sym, ap, ◌∙◌, Some, None, none-some, Decides-eqb, get, NameKey, State, Answered, Reply, answered, refused, is_dir}
 use Rattle.std.proofs.Common.{◌||◌}
 use Rattle.rio_requests.specs.declared.reply.Reply.TheVariants.{Ok as Done, Err as RefusedBy}
 use Rattle.rio_requests.specs.Answers.{move_row, replace_row, moved, replaced, is_open, without}

@@ -1,5 +1,5 @@
 -- Names and nodes that go, and the names of one directory once one goes or gives way to another.
-use Rattle.file_ends.proofs.Common.{◌≡◌, ◌≢◌, ℕ, ◌⊎◌, true, false, cond, List, refl, sym, ap, subst, ◌∙◌, inl, inr, get, insert, eq_by_cmp, none-some, NameKey, Names, name_cmp, differs, name_get_other}
+use Rattle.request_ends.proofs.Common.{◌≡◌, ◌≢◌, ℕ, ◌⊎◌, true, false, cond, List, refl, sym, ap, subst, ◌∙◌, inl, inr, get, insert, eq_by_cmp, none-some, NameKey, Names, name_cmp, differs, name_get_other}
 use Rattle.rio_model.proofs.WordRules.{itself}
 use Rattle.std.proofs.Common.{Some, None}
 use Rattle.std.specs.Cmp.{nat_cmp_total}
@@ -7,7 +7,7 @@ use Rattle.std.specs.FinMap.{get-remove, remove}
 use Rattle.std.specs.Ordering.{nat_cmp}
 use Rattle.rio_model.specs.Nodes.{Nodes}
 use Rattle.rio_model.proofs.NameOrder.{name_itself, name_apart, name_get-remove, nat_tied}
-use Rattle.dir_entries.specs.RowChanges.{NoName, NoRow, TheRow}
+use Rattle.directories.specs.RowChanges.{NoName, NoRow, TheRow}
 use Rattle.file_tree.proofs.NameSteps.{by_one, by_two, same_key, same_name, dirs_apart, insert_back, ChangesNames, rows_stay, row_inserted}
 
 pub by_three : (P : ℕ → Type 0) (a b c x : ℕ) → P a → P b → P c → (x ≢ a → x ≢ b → x ≢ c → P x) → P x

@@ -1,10 +1,10 @@
 -- The state that is read once a row and its node are gone, or once a row has another name in its slot.
-use Rattle.file_ends.proofs.Common.{◌≡◌, ◌≢◌, ℕ, ◌<◌, ◌≤◌, ◌⊎◌, true, List, [], ◌∷◌, map, refl, sym, ap, subst, ◌∙◌, arith, inl, inr, None, nat_lt, get, cases_eq, nat_tests, Block, VolumeShape, BlockWords, Seen, IsIno, Kept, numbers, State, Held, held_of, held_ino, IsName, is_dir, Placed, placed_at, volume_layout, SamePlaced, Applied, ReadsAs, TreeRule, node_blocks, InOrder}
-use Rattle.dir_entries.specs.Plans.{PlansDir}
-use Rattle.dir_entries.specs.Rows.{IsEntry}
-use Rattle.dir_entries.specs.declared.changes.DirChange.{DirChange}
+use Rattle.request_ends.proofs.Common.{◌≡◌, ◌≢◌, ℕ, ◌<◌, ◌≤◌, ◌⊎◌, true, List, [], ◌∷◌, map, refl, sym, ap, subst, ◌∙◌, arith, inl, inr, None, nat_lt, get, cases_eq, nat_tests, Block, VolumeShape, BlockWords, Seen, IsIno, Kept, numbers, State, Held, held_of, held_ino, IsName, is_dir, Placed, placed_at, volume_layout, SamePlaced, Applied, ReadsAs, TreeRule, node_blocks, InOrder}
+use Rattle.directories.specs.Plans.{PlansDir}
+use Rattle.directories.specs.Rows.{IsEntry}
+use Rattle.directories.specs.declared.changes.DirChange.{DirChange}
 use Rattle.rio_requests.specs.Answers.{moved, without}
-use Rattle.dir_entries.specs.RowChanges.{RemovesRow, ReplacesRow, SetsRow}
+use Rattle.directories.specs.RowChanges.{RemovesRow, ReplacesRow, SetsRow}
 use Rattle.region_view.proofs.UsedInodes.{kind_held}
 use Rattle.std.specs.Prelude.{cond}
 use Rattle.node_updates.specs.Changes.{AllApplied, IsGone, IsTouchedBy, change_update, of_dir}

@@ -1,12 +1,12 @@
 -- The state that is read once the changes of a rename are made, where two directories change or a node goes.
-use Rattle.file_ends.proofs.Common.{◌≡◌, ◌≢◌, ℕ, ◌<◌, ◌≤◌, ◌⊎◌, List, [], ◌∷◌, map, sym, ap, subst, ◌∙◌, arith, inl, inr, None, get, cases_eq, Block, VolumeShape, BlockWords, Seen, IsIno, Kept, numbers, State, Held, held_of, Available, IsName, Slot, Placed, HasSlot, Owns, placed_at, volume_layout, SamePlaced, has_same, Applied, ReadsAs, IsMapped, TreeRule, node_blocks, InOrder}
-use Rattle.dir_entries.specs.Making.{MayBeMade}
-use Rattle.dir_entries.proofs.MakingRules.{plan_change, DisjointNodes, may_still}
-use Rattle.dir_entries.specs.Plans.{dir_update}
-use Rattle.dir_entries.specs.Rows.{IsEntry}
-use Rattle.dir_entries.specs.declared.changes.DirChange.{DirChange}
+use Rattle.request_ends.proofs.Common.{◌≡◌, ◌≢◌, ℕ, ◌<◌, ◌≤◌, ◌⊎◌, List, [], ◌∷◌, map, sym, ap, subst, ◌∙◌, arith, inl, inr, None, get, cases_eq, Block, VolumeShape, BlockWords, Seen, IsIno, Kept, numbers, State, Held, held_of, Available, IsName, Slot, Placed, HasSlot, Owns, placed_at, volume_layout, SamePlaced, has_same, Applied, ReadsAs, IsMapped, TreeRule, node_blocks, InOrder}
+use Rattle.directories.specs.Making.{MayBeMade}
+use Rattle.directories.proofs.MakingRules.{plan_change, DisjointNodes, may_still}
+use Rattle.directories.specs.Plans.{dir_update}
+use Rattle.directories.specs.Rows.{IsEntry}
+use Rattle.directories.specs.declared.changes.DirChange.{DirChange}
 use Rattle.rio_requests.specs.Answers.{moved, replaced}
-use Rattle.dir_entries.specs.RowChanges.{AddsRow, RemovesRow, ReplacesRow, SetsRow}
+use Rattle.directories.specs.RowChanges.{AddsRow, RemovesRow, ReplacesRow, SetsRow}
 use Rattle.node_updates.specs.Changes.{AllApplied, IsGone, IsTouchedBy, change_update, of_dir}
 use Rattle.node_updates.proofs.EmptyHeld.{empty_held}
 use Rattle.node_moving.proofs.ReadSteps.{MovesRow, ReplacesAcross, ReplacesWithin, moved_as, replaced_across_as, replaced_within_as}

@@ -1,13 +1,13 @@
 -- A change of the rows of directories, and of the node that goes with them, is one of the state that is read.
-use Rattle.file_ends.proofs.Common.{◌≡◌, ◌≢◌, ℕ, ◌⊎◌, List, refl, sym, ap, subst, ◌∙◌, arith, inl, inr, get, VolumeShape, BlockWords, State, Held, held_of, entry_name, NameKey, IsName, node_in, ReadsAs, IsMapped, TreeRule}
-use Rattle.dir_entries.specs.Rows.{IsEntry}
+use Rattle.request_ends.proofs.Common.{◌≡◌, ◌≢◌, ℕ, ◌⊎◌, List, refl, sym, ap, subst, ◌∙◌, arith, inl, inr, get, VolumeShape, BlockWords, State, Held, held_of, entry_name, NameKey, IsName, node_in, ReadsAs, IsMapped, TreeRule}
+use Rattle.directories.specs.Rows.{IsEntry}
 use Rattle.rio_requests.specs.Answers.{moved, replaced, without}
 use Rattle.std.specs.FinMap.{remove}
 use Rattle.std.proofs.Common.{Some, None}
 use Rattle.node_updates.proofs.EmptyHeld.{empty_held}
 use Rattle.file_tree.proofs.NameSteps.{ChangesNames, by_one, by_two, dirs_apart, same_name}
 use Rattle.node_moving.proofs.NameMoves.{by_three, gone_here, gone_there, moved_back, moved_other, remove_back, remove_other, remove_some, row_arrives, row_changes, row_leaves, row_removed}
-use Rattle.dir_entries.specs.RowChanges.{NameAt, NoName, TheRow, AddsRow, RemovesRow, ReplacesRow, SetsRow}
+use Rattle.directories.specs.RowChanges.{NameAt, NoName, TheRow, AddsRow, RemovesRow, ReplacesRow, SetsRow}
 use Rattle.file_tree.proofs.RowReads.{EachReads, OneReads, SoundReads, Stays, bare_names, by_each, of_each, one_bare, one_changes, one_stays, reads_as, row_named, sound_of, dir_not_3}
 
 -- ---- what changes: all but the inodes that are named stay

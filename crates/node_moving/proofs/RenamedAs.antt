@@ -1,18 +1,18 @@
 -- What a request that moves a name answers, by what its calls found.
-use Rattle.file_ends.proofs.Common.{◌≡◌, ◌≢◌, ◌==◌, ◌&&◌, ◌⊎◌, ℕ, ◌<◌, Bool, true, false, cond, List, [], ◌∷◌, refl, sym, ap, subst, ◌∙◌, arith, inl, inr, Result, Ok, Err, get, Decides-eqb, Ino, VolumeShape, BlockWords, Seen, Kept, Answered, Reply, State, answered, at_inode, refused, front_of, last_of, held_of, is_dir, walk, walk_to_dir, volume_layout, ReadsAs, LeavesInUse, TreeRule, differs, IsInode, Inode, is_below}
+use Rattle.request_ends.proofs.Common.{◌≡◌, ◌≢◌, ◌==◌, ◌&&◌, ◌⊎◌, ℕ, ◌<◌, Bool, true, false, cond, List, [], ◌∷◌, refl, sym, ap, subst, ◌∙◌, arith, inl, inr, Result, Ok, Err, get, Decides-eqb, Ino, VolumeShape, BlockWords, Seen, Kept, Answered, Reply, State, answered, at_inode, refused, front_of, last_of, held_of, is_dir, walk, walk_to_dir, volume_layout, ReadsAs, LeavesInUse, TreeRule, differs, IsInode, Inode, is_below}
 use Rattle.std.proofs.Common.{◌||◌}
 use Rattle.std.specs.Prelude.{length}
 use Rattle.rio_requests.specs.declared.reply.Reply.TheVariants.{Ok as Done}
 use Rattle.rio_requests.specs.Answers.{is_among, rename_at, rename_row, rename_to, replace_row, at_row, is_open, replaced}
-use Rattle.file_ends.specs.Ends.{FileEnds}
+use Rattle.request_ends.specs.Ends.{FileEnds}
 use Rattle.node_moving.specs.WalkRules.{OutOfReach}
 use Rattle.node_moving.proofs.WalkRules.{out_of_reach, path_row, walk_last, walk_last_err}
 use Rattle.file_tree.specs.Walks.{Comes, RowComes}
-use Rattle.file_ends.specs.declared.failures.FileFail.{FileFail}
-use Rattle.file_ends.specs.declared.failures.FileFail.TheVariants.{Refused, Fault, Stopped, Memory}
+use Rattle.request_ends.specs.declared.failures.FileFail.{FileFail}
+use Rattle.request_ends.specs.declared.failures.FileFail.TheVariants.{Refused, Fault, Stopped, Memory}
 use Rattle.file_tree.specs.declared.walking.Row.{Row}
 use Rattle.node_moving.proofs.AmongInodes.{open_read}
-use Rattle.file_ends.proofs.AnsweredAt.{FailsBy, ends_after}
+use Rattle.request_ends.proofs.AnsweredAt.{FailsBy, ends_after}
 use Rattle.file_tree.proofs.LookedAt.{fails_walk, dir_read, inode_kind_held, leaf_read}
 
 -- ---- a row over another one

@@ -1,10 +1,10 @@
 -- Rows that are given another name: what is answered, that the changes can be made, and the state that they come to. x and k
 -- are before the request, w and p, u and q, y and j after one call after the other that only prepares.
-use Rattle.file_ends.proofs.Common.{◌≡◌, ◌≢◌, ℕ, ◌+◌, ◌<◌, ◌≤◌, false, cond, List, [], ◌∷◌, refl, sym, ap, subst, ◌∙◌, arith, Result, Err, IsErrOf, nat_lt, nat_tests, Block, VolumeShape, free_blocks, BlockWords, Seen, IsIno, Kept, Settled, numbers, State, answered, refused, Held, held_of, IsName, placed_at, volume_layout, free_count, held_of_agree, ReadsAs, LeavesInUse, Ready, TreeRule, differs, wanted_blocks, node_blocks, leaves_trans, ready_left, reads_agree, SizeFail, NoSpace, TooLarge, row_wanted, with_room}
-use Rattle.dir_entries.specs.Plans.{PlansDir}
-use Rattle.dir_entries.specs.Rows.{HasRow, IsEntry}
-use Rattle.dir_entries.specs.declared.changes.DirChange.{DirChange}
-use Rattle.dir_entries.specs.RowChanges.{AddsRow, RemovesRow, ReplacesRow, SetsRow}
+use Rattle.request_ends.proofs.Common.{◌≡◌, ◌≢◌, ℕ, ◌+◌, ◌<◌, ◌≤◌, false, cond, List, [], ◌∷◌, refl, sym, ap, subst, ◌∙◌, arith, Result, Err, IsErrOf, nat_lt, nat_tests, Block, VolumeShape, free_blocks, BlockWords, Seen, IsIno, Kept, Settled, numbers, State, answered, refused, Held, held_of, IsName, placed_at, volume_layout, free_count, held_of_agree, ReadsAs, LeavesInUse, Ready, TreeRule, differs, wanted_blocks, node_blocks, leaves_trans, ready_left, reads_agree, SizeFail, NoSpace, TooLarge, row_wanted, with_room}
+use Rattle.directories.specs.Plans.{PlansDir}
+use Rattle.directories.specs.Rows.{HasRow, IsEntry}
+use Rattle.directories.specs.declared.changes.DirChange.{DirChange}
+use Rattle.directories.specs.RowChanges.{AddsRow, RemovesRow, ReplacesRow, SetsRow}
 use Rattle.rio_model.proofs.WordRules.{itself}
 use Rattle.std.specs.Prelude.{length}
 use Rattle.rio_base.specs.Bitmap.{used_bit}
@@ -12,7 +12,7 @@ use Rattle.rio_model.proofs.LowestBlocks.{bits_agree}
 use Rattle.rio_requests.specs.declared.reply.Reply.TheVariants.{Ok as Done}
 use Rattle.rio_requests.specs.Answers.{move_row, moved, replaced}
 use Rattle.node_updates.specs.Changes.{IsGone, of_dir}
-use Rattle.file_ends.specs.Failures.{fail_of_size}
+use Rattle.request_ends.specs.Failures.{fail_of_size}
 use Rattle.node_updates.specs.Planned.{LeadsBy, Planned}
 use Rattle.file_tree.proofs.ReadTrees.{rows_fit}
 use Rattle.node_moving.proofs.TreeMoves.{tree_moved, tree_replaced}
@@ -20,7 +20,7 @@ use Rattle.node_moving.specs.WalkRules.{OutOfReach}
 use Rattle.file_tree.specs.Walks.{IsRow}
 use Rattle.node_updates.specs.declared.changes.NodeChange.{NodeChange}
 use Rattle.file_tree.specs.declared.walking.Row.{Row}
-use Rattle.file_ends.proofs.AnsweredAt.{FailsBy}
+use Rattle.request_ends.proofs.AnsweredAt.{FailsBy}
 use Rattle.node_updates.proofs.Ended.{Reaches}
 use Rattle.region_view.proofs.UsedInodes.{used_ino}
 use Rattle.file_tree.proofs.LookedAt.{dir_read, leaf_read, no_row, row_read}

@@ -1,10 +1,10 @@
 -- A row and its node removed in one update: that the changes can be made, and the state that they come to.
-use Rattle.file_ends.proofs.Common.{◌≡◌, ◌≢◌, ℕ, ◌<◌, List, [], ◌∷◌, arith, refl, sym, ap, subst, ◌∙◌, Some, get, Block, VolumeShape, BlockWords, Seen, Kept, Settled, numbers, State, held_of, placed_at, volume_layout, ReadsAs, LeavesInUse, Ready, TreeRule, node_blocks, leaves_trans, ready_left}
-use Rattle.dir_entries.specs.Plans.{PlansDir}
-use Rattle.dir_entries.specs.Rows.{IsEntry}
-use Rattle.dir_entries.specs.declared.changes.DirChange.{DirChange}
+use Rattle.request_ends.proofs.Common.{◌≡◌, ◌≢◌, ℕ, ◌<◌, List, [], ◌∷◌, arith, refl, sym, ap, subst, ◌∙◌, Some, get, Block, VolumeShape, BlockWords, Seen, Kept, Settled, numbers, State, held_of, placed_at, volume_layout, ReadsAs, LeavesInUse, Ready, TreeRule, node_blocks, leaves_trans, ready_left}
+use Rattle.directories.specs.Plans.{PlansDir}
+use Rattle.directories.specs.Rows.{IsEntry}
+use Rattle.directories.specs.declared.changes.DirChange.{DirChange}
 use Rattle.rio_requests.specs.Answers.{without}
-use Rattle.dir_entries.specs.RowChanges.{RemovesRow}
+use Rattle.directories.specs.RowChanges.{RemovesRow}
 use Rattle.node_updates.specs.Changes.{IsGone, of_dir}
 use Rattle.file_tree.proofs.RowReads.{bare_names, by_each, sound_of}
 use Rattle.node_moving.proofs.TreeMoves.{tree_without}

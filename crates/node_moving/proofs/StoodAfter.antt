@@ -1,12 +1,12 @@
 -- A plan of a directory that takes nothing still stands after another call that only prepares.
-use Rattle.file_ends.proofs.Common.{◌≡◌, ℕ, ◌<◌, ◌≤◌, ◌⊎◌, true, false, List, [], Option, refl, sym, ap, subst, ◌∙◌, arith, inl, inr, nat_lt, Contains, PageName, VolumeShape, BlockWords, Seen, IsIno, Kept, Held, Slot, AtPage, AtTable, HasSlot, placed_at, volume_layout, IsFree, has_same, pages, Bears, LeavesInUse, Ready, wanted_blocks}
-use Rattle.dir_entries.specs.Plans.{PlansDir}
-use Rattle.dir_entries.specs.declared.changes.DirChange.{DirChange}
+use Rattle.request_ends.proofs.Common.{◌≡◌, ℕ, ◌<◌, ◌≤◌, ◌⊎◌, true, false, List, [], Option, refl, sym, ap, subst, ◌∙◌, arith, inl, inr, nat_lt, Contains, PageName, VolumeShape, BlockWords, Seen, IsIno, Kept, Held, Slot, AtPage, AtTable, HasSlot, placed_at, volume_layout, IsFree, has_same, pages, Bears, LeavesInUse, Ready, wanted_blocks}
+use Rattle.directories.specs.Plans.{PlansDir}
+use Rattle.directories.specs.declared.changes.DirChange.{DirChange}
 use Rattle.rio_model.proofs.PlacedRules.{cases_lt}
 use Rattle.std.proofs.Common.{None, Some}
 use Rattle.std.specs.Prelude.{cond, take}
 use Rattle.rio_model.specs.Sizes.{tables}
-use Rattle.dir_entries.proofs.MakingRules.{may_after}
+use Rattle.directories.proofs.MakingRules.{may_after}
 use Rattle.node_updates.proofs.Stood.{Stood}
 
 -- ---- a plan that takes nothing has blocks of its directory alone

@@ -1,5 +1,5 @@
 -- The names of a state stay a tree: where a node goes, is moved, or is moved over another.
-use Rattle.file_ends.proofs.Common.{◌≡◌, ◌≢◌, ℕ, false, true, List, [], ◌∷◌, ◌++◌, sym, ap, ◌∙◌, inl, inr, get, true_false, State, NameKey, is_dir, TreeRule, name_get_same}
+use Rattle.request_ends.proofs.Common.{◌≡◌, ◌≢◌, ℕ, false, true, List, [], ◌∷◌, ◌++◌, sym, ap, ◌∙◌, inl, inr, get, true_false, State, NameKey, is_dir, TreeRule, name_get_same}
 use Rattle.rio_requests.specs.Answers.{moved, replaced, without}
 use Rattle.std.specs.FinMap.{remove}
 use Rattle.std.proofs.Common.{Some, None, Ok}

@@ -9,22 +9,22 @@ ghost use Rattle.rio_model.specs.Paths.{IsName};
 ghost use Rattle.rio_model.specs.VolumeReads.{ReadsAs};
 ghost use Rattle.rio_requests.specs.declared.reply.Reply.TheVariants.{Ok as Done};
 ghost use Rattle.rio_model.specs.declared.state.State.{State};
-ghost use Rattle.dir_entries.specs.Rows.{HasRow};
+ghost use Rattle.directories.specs.Rows.{HasRow};
 ghost use Rattle.rio_requests.specs.Answers.{replaced, move_row as move_row_of, replace_row as replace_row_of};
 ghost use Rattle.rio_requests.specs.Parts.{NoneDone};
 ghost use Rattle.rio_model.specs.Placed.{volume_layout};
 ghost use Rattle.node_pages.specs.Forgetting.{Forgets};
-ghost use Rattle.file_ends.specs.Ends.{CanServe, FileEnds, SaysDone};
-ghost use Rattle.file_ends.specs.Failures.{Faulted};
+ghost use Rattle.request_ends.specs.Ends.{CanServe, FileEnds, SaysDone};
+ghost use Rattle.request_ends.specs.Failures.{Faulted};
 ghost use Rattle.node_moving.specs.WalkRules.{OutOfReach};
 ghost use Rattle.file_tree.specs.Walks.{IsRow, ino_numbers};
 
 use crate::removing::is_open;
 use directories::{plan_add, plan_remove, plan_replace, plan_set};
-use file_ends::{BUSY, DIRECTORY, EXISTS, FileFail};
 use file_tree::{Row, inode_of};
 use node_pages::blocks_of;
 use node_updates::{NodeChange, commit_planned, node_gone};
+use request_ends::{BUSY, DIRECTORY, EXISTS, FileFail};
 use rio_base::{Ino, InoList, Volume, VolumeShape};
 use std::alloc::Global;
 

@@ -13,19 +13,19 @@ ghost use Rattle.rio_requests.specs.Parts.{NoneDone};
 ghost use Rattle.rio_model.specs.Paths.{IsPath};
 ghost use Rattle.rio_model.specs.Placed.{volume_layout};
 ghost use Rattle.node_pages.specs.Forgetting.{Forgets};
-ghost use Rattle.file_ends.specs.Ends.{CanServe, FileEnds, SaysDone};
-ghost use Rattle.file_ends.specs.Failures.{Faulted};
+ghost use Rattle.request_ends.specs.Ends.{CanServe, FileEnds, SaysDone};
+ghost use Rattle.request_ends.specs.Failures.{Faulted};
 ghost use Rattle.file_tree.specs.Memos.{InStep};
 ghost use Rattle.file_tree.specs.Walks.{IsRow, ino_numbers};
 
 use directories::plan_remove;
-use file_ends::{
-    BUSY, DIRECTORY, FileFail, IS_A_DIRECTORY, IS_ROOT, NOT_A_DIRECTORY, NOT_EMPTY, REGION,
-};
 use file_tree::{Memo, Row, cut_last, is_root, node_inode, walk_to_row};
 use inode_table::Inode;
 use node_pages::blocks_of;
 use node_updates::{NodeChange, commit_planned, node_gone};
+use request_ends::{
+    BUSY, DIRECTORY, FileFail, IS_A_DIRECTORY, IS_ROOT, NOT_A_DIRECTORY, NOT_EMPTY, REGION,
+};
 use rio_base::{Ino, InoList, Volume, VolumeShape};
 use std::alloc::Global;
 

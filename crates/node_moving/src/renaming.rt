@@ -8,22 +8,22 @@ ghost use Rattle.rio_model.specs.Held.{held_of};
 ghost use Rattle.rio_model.specs.Paths.{IsName, IsPath};
 ghost use Rattle.rio_model.specs.VolumeReads.{ReadsAs};
 ghost use Rattle.rio_model.specs.declared.state.State.{State};
-ghost use Rattle.dir_entries.specs.Rows.{HasRow};
+ghost use Rattle.directories.specs.Rows.{HasRow};
 ghost use Rattle.rio_requests.specs.Answers.{move_row as move_row_of, rename as rename_of, rename_row as rename_row_of, replace_row as replace_row_of};
 ghost use Rattle.rio_requests.specs.Parts.{NoneDone};
 ghost use Rattle.rio_model.specs.Placed.{volume_layout};
 ghost use Rattle.node_pages.specs.Forgetting.{Forgets};
-ghost use Rattle.file_ends.specs.Ends.{CanServe, FileEnds, SaysDone};
-ghost use Rattle.file_ends.specs.Failures.{Faulted};
+ghost use Rattle.request_ends.specs.Ends.{CanServe, FileEnds, SaysDone};
+ghost use Rattle.request_ends.specs.Failures.{Faulted};
 ghost use Rattle.file_tree.specs.Memos.{InStep};
 ghost use Rattle.node_moving.specs.WalkRules.{OutOfReach};
 ghost use Rattle.file_tree.specs.Walks.{IsRow, ino_numbers};
 
 use crate::moving::{move_row, replace_row};
-use file_ends::{FileFail, INSIDE_ITSELF, IS_ROOT};
 use file_tree::{
     Memo, Row, cut_last, is_below, is_root, look_up_in, walk, walk_to_dir, walk_to_row,
 };
+use request_ends::{FileFail, INSIDE_ITSELF, IS_ROOT};
 use rio_base::{Ino, InoList, Volume, VolumeShape};
 use std::alloc::Global;
 

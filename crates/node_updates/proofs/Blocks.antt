@@ -1,6 +1,6 @@
 -- All blocks of a node, as the list of them has them; and single changes that fit.
-use Rattle.file_ends.proofs.Common.{◌≡◌, ◌≢◌, ℕ, ◌+◌, ◌<◌, List, [], map, sym, subst, ◌∙◌, arith, inl, inr, Contains, range_with_len, get_or-map-range_with_len, length-map-range_with_len, Block, VolumeShape, BlockWords, Seen, IsIno, Kept, numbers, Held, Available, Slot, AtPage, AtTable, Placed, HasSlot, IsFree, Owned, placed_at, volume_layout, SamePlaced, has_same, pages, IsMapped, node_blocks, IsEdited}
-use Rattle.dir_entries.specs.declared.changes.DirChange.{DirChange}
+use Rattle.request_ends.proofs.Common.{◌≡◌, ◌≢◌, ℕ, ◌+◌, ◌<◌, List, [], map, sym, subst, ◌∙◌, arith, inl, inr, Contains, range_with_len, get_or-map-range_with_len, length-map-range_with_len, Block, VolumeShape, BlockWords, Seen, IsIno, Kept, numbers, Held, Available, Slot, AtPage, AtTable, Placed, HasSlot, IsFree, Owned, placed_at, volume_layout, SamePlaced, has_same, pages, IsMapped, node_blocks, IsEdited}
+use Rattle.directories.specs.declared.changes.DirChange.{DirChange}
 use Rattle.std.proofs.lemmas.List.Elements.{Contains-append_cases, Contains-append_left, Contains-append_right}
 use Rattle.rio_model.proofs.PlacedRules.{has_back}
 use Rattle.rio_model.specs.Sizes.{tables}

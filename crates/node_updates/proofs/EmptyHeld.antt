@@ -1,5 +1,5 @@
 -- A node that holds nothing but its kind.
-use Rattle.file_ends.proofs.Common.{ℕ, Held}
+use Rattle.request_ends.proofs.Common.{ℕ, Held}
 
 -- a node of this kind without bytes or rows; of kind 0, no node
 abbrev pub empty_held : ℕ → Held

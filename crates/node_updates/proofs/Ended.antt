@@ -1,5 +1,5 @@
 -- How a request on files ends, by how its one update ends.
-use Rattle.file_ends.proofs.Common.{◌≡◌, ℕ, ◌≤◌, false, List, map, refl, sym, subst, ◌∙◌, arith, inl, inr, Ok, Err, Some, None, true_false, PageName, VolumeShape, FirmOutside, SameOutside, BlockWords, Seen, reserved, Firm, Kept, Settled, Answered, Reply, State, held_of, volume_layout, Owned, Agrees, held_of_agree, reads_agree, ReadsAs, LeavesInUse, Ready, firm_on, ready_order, InOrder}
+use Rattle.request_ends.proofs.Common.{◌≡◌, ℕ, ◌≤◌, false, List, map, refl, sym, subst, ◌∙◌, arith, inl, inr, Ok, Err, Some, None, true_false, PageName, VolumeShape, FirmOutside, SameOutside, BlockWords, Seen, reserved, Firm, Kept, Settled, Answered, Reply, State, held_of, volume_layout, Owned, Agrees, held_of_agree, reads_agree, ReadsAs, LeavesInUse, Ready, firm_on, ready_order, InOrder}
 use Rattle.std.specs.Prelude.{Bool, true, Option}
 use Rattle.rio_base.specs.declared.failures.VolFail.TheVariants.{Fault as VolFault, Stopped as VolStopped}
 use Rattle.rio_model.proofs.LowestBlocks.{bits_agree, lowest_on}
@@ -7,11 +7,11 @@ use Rattle.rio_model.specs.NodeChanges.{UsesLowest}
 use Rattle.node_pages.proofs.OrderRules.{order_agree, order_left, stands_left}
 use Rattle.node_updates.specs.Changes.{AllApplied, IsFreed, IsTouchedBy, change_update}
 use Rattle.node_updates.specs.Committing.{Commits, Touched}
-use Rattle.file_ends.specs.Ends.{FileEnds, Spares}
+use Rattle.request_ends.specs.Ends.{FileEnds, Spares}
 use Rattle.node_updates.specs.declared.changes.NodeChange.{NodeChange}
-use Rattle.file_ends.specs.declared.failures.FileFail.TheVariants.{Fault, Stopped}
+use Rattle.request_ends.specs.declared.failures.FileFail.TheVariants.{Fault, Stopped}
 use Rattle.node_updates.proofs.Steps.{MayBeMetadata, order_start}
-use Rattle.file_ends.proofs.Unchanged.{left_planned}
+use Rattle.request_ends.proofs.Unchanged.{left_planned}
 
 -- what an update comes to that is made of blocks f, under names z: blocks g read as state t, in the lowest free blocks, and
 -- no freed block is in use

@@ -1,5 +1,5 @@
 -- Changes that are made in one update: what they may cache, and that no block which they free is in use afterwards.
-use Rattle.file_ends.proofs.Common.{◌≡◌, ℕ, zero, suc, ◌<◌, ◌≤◌, ◌⊎◌, List, [], ◌∷◌, map, sym, subst, ◌∙◌, arith, inl, inr, None, Contains, PageName, VolumeShape, used_bit, BlockWords, IsIno, reserved, numbers, IsFree, Owned, volume_layout, inode_low, owned_below, IsMapped, bitmap_bits, IsEdited}
+use Rattle.request_ends.proofs.Common.{◌≡◌, ℕ, zero, suc, ◌<◌, ◌≤◌, ◌⊎◌, List, [], ◌∷◌, map, sym, subst, ◌∙◌, arith, inl, inr, None, Contains, PageName, VolumeShape, used_bit, BlockWords, IsIno, reserved, numbers, IsFree, Owned, volume_layout, inode_low, owned_below, IsMapped, bitmap_bits, IsEdited}
 use Rattle.std.specs.Prelude.{Option}
 use Rattle.rio_model.proofs.LowestBlocks.{decided}
 use Rattle.rio_model.proofs.PlacedRules.{has_bit}

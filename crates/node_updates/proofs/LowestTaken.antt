@@ -1,6 +1,6 @@
 -- The blocks that the changes of one update take are the lowest free ones, all of them together.
-use Rattle.file_ends.proofs.Common.{◌≡◌, ℕ, zero, suc, ◌<◌, ◌⊎◌, Bool, true, false, List, [], ◌∷◌, map, length, refl, sym, ap, subst, ◌∙◌, arith, inl, inr, Contains, Block, VolumeShape, used_bit, BlockWords, Seen, Kept, numbers, Held, IsFree, placed_at, volume_layout, bitmap_bits}
-use Rattle.dir_entries.specs.declared.changes.DirChange.{DirChange}
+use Rattle.request_ends.proofs.Common.{◌≡◌, ℕ, zero, suc, ◌<◌, ◌⊎◌, Bool, true, false, List, [], ◌∷◌, map, length, refl, sym, ap, subst, ◌∙◌, arith, inl, inr, Contains, Block, VolumeShape, used_bit, BlockWords, Seen, Kept, numbers, Held, IsFree, placed_at, volume_layout, bitmap_bits}
+use Rattle.directories.specs.declared.changes.DirChange.{DirChange}
 use Rattle.std.proofs.Common.{◌&&◌, not}
 use Rattle.std.specs.List.{filter, range_with_len}
 use Rattle.std.specs.Prelude.{take}

@@ -1,15 +1,15 @@
 -- A request of one update while it is planned: the volume serves on, how the request ends where a call fails, that what is planned
 -- can be committed, and what a commit of it comes to.
-use Rattle.file_ends.proofs.Common.{◌≡◌, ◌≤◌, ◌<◌, ◌∙◌, ℕ, List, length, arith, refl, sym, ap, subst, Result, Ok, Err, VolFail, VolumeShape, Health, Seen, Below, Kept, Passes, Settled, Answered, Reply, State, answered, Held, held_of, placed_at, volume_layout, held_of_agree, reads_agree, ReadsAs, LeavesInUse, Ready, can_look_up, leaves_looked, leaves_trans, ready_left, NoneDone}
+use Rattle.request_ends.proofs.Common.{◌≡◌, ◌≤◌, ◌<◌, ◌∙◌, ℕ, List, length, arith, refl, sym, ap, subst, Result, Ok, Err, VolFail, VolumeShape, Health, Seen, Below, Kept, Passes, Settled, Answered, Reply, State, answered, Held, held_of, placed_at, volume_layout, held_of_agree, reads_agree, ReadsAs, LeavesInUse, Ready, can_look_up, leaves_looked, leaves_trans, ready_left, NoneDone}
 use Rattle.rio_base.specs.declared.failures.ReadFail.{ReadFail}
 use Rattle.node_pages.specs.LookingUp.{CanLookUp, LooksUp}
 use Rattle.node_updates.specs.Committing.{Commits, Touched}
-use Rattle.file_ends.specs.Ends.{CanServe, FileEnds}
-use Rattle.file_ends.specs.Failures.{fail_of_read, fail_of_vol}
+use Rattle.request_ends.specs.Ends.{CanServe, FileEnds}
+use Rattle.request_ends.specs.Failures.{fail_of_read, fail_of_vol}
 use Rattle.node_updates.specs.Planned.{LeadsBy, Planned, told}
 use Rattle.node_updates.specs.declared.changes.NodeChange.{NodeChange}
-use Rattle.file_ends.specs.declared.failures.FileFail.{FileFail}
-use Rattle.file_ends.proofs.AnsweredAt.{FailsBy, ends_look, fails_read}
+use Rattle.request_ends.specs.declared.failures.FileFail.{FileFail}
+use Rattle.request_ends.proofs.AnsweredAt.{FailsBy, ends_look, fails_read}
 use Rattle.node_updates.proofs.Forgotten.{forgets_committed}
 use Rattle.region_view.proofs.UsedInodes.{kind_held, used_ino}
 use Rattle.node_updates.proofs.Requested.{OrdersAll, ReachesAll, Requested, can_commit, committed, ends_committed, ends_uncommitted}

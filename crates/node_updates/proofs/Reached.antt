@@ -1,5 +1,5 @@
 -- What the changes of a request suppose once all is prepared and its blocks are touched, and what is reached by them.
-use Rattle.file_ends.proofs.Common.{◌≡◌, ◌≢◌, ℕ, ◌⊎◌, List, map, ap, inl, inr, None, PageName, VolumeShape, BlockWords, Seen, Kept, State, Held, held_of, volume_layout, held_of_agree, ReadsAs, LeavesInUse, Ready, IsMapped, ready_left, InOrder}
+use Rattle.request_ends.proofs.Common.{◌≡◌, ◌≢◌, ℕ, ◌⊎◌, List, map, ap, inl, inr, None, PageName, VolumeShape, BlockWords, Seen, Kept, State, Held, held_of, volume_layout, held_of_agree, ReadsAs, LeavesInUse, Ready, IsMapped, ready_left, InOrder}
 use Rattle.std.specs.Prelude.{Option}
 use Rattle.rio_model.proofs.LowestBlocks.{bits_agree}
 use Rattle.rio_model.specs.NodeChanges.{UsesLowest}

@@ -1,17 +1,17 @@
 -- A request of one update: what is known of it once all is prepared, that its changes can be made, and how it ends by how
 -- the call does that makes them. x and k are before the request, y and j when all is prepared, z and l after that call.
-use Rattle.file_ends.proofs.Common.{◌≡◌, ℕ, ◌<◌, ◌≤◌, true, List, [], ◌∷◌, map, zero, suc, refl, sym, ap, subst, ◌∙◌, arith, inl, inr, Result, Ok, Err, None, Contains, VolFail, Block, VolumeShape, BlockWords, Seen, IsIno, Kept, Settled, numbers, Answered, Reply, State, answered, Held, held_of, Slot, AtPage, AtTable, Placed, HasSlot, Owns, Agrees, placed_at, volume_layout, SameLayout, lays_agree, lays_same, lays_self, owned_below, owned_on, SamePlaced, ReadsAs, Bears, LeavesInUse, Ready, IsMapped, node_blocks, ready_left, InOrder, Edit}
-use Rattle.dir_entries.proofs.MakingOrder.{plan_edits, plan_applies}
-use Rattle.dir_entries.specs.declared.changes.DirChange.{DirChange}
+use Rattle.request_ends.proofs.Common.{◌≡◌, ℕ, ◌<◌, ◌≤◌, true, List, [], ◌∷◌, map, zero, suc, refl, sym, ap, subst, ◌∙◌, arith, inl, inr, Result, Ok, Err, None, Contains, VolFail, Block, VolumeShape, BlockWords, Seen, IsIno, Kept, Settled, numbers, Answered, Reply, State, answered, Held, held_of, Slot, AtPage, AtTable, Placed, HasSlot, Owns, Agrees, placed_at, volume_layout, SameLayout, lays_agree, lays_same, lays_self, owned_below, owned_on, SamePlaced, ReadsAs, Bears, LeavesInUse, Ready, IsMapped, node_blocks, ready_left, InOrder, Edit}
+use Rattle.directories.proofs.MakingOrder.{plan_edits, plan_applies}
+use Rattle.directories.specs.declared.changes.DirChange.{DirChange}
 use Rattle.std.specs.Prelude.{length}
 use Rattle.rio_base.specs.declared.failures.VolFail.TheVariants.{Fault as VolFault, Stopped as VolStopped}
 use Rattle.rio_model.proofs.PlacedRules.{owns_back}
 use Rattle.node_updates.specs.Changes.{AllApplied, CanCommit, CanMakeNode, IsGone, IsMade, change_update, of_dir}
 use Rattle.node_updates.specs.Committing.{Commits, Touched}
-use Rattle.file_ends.specs.Ends.{FileEnds}
-use Rattle.file_ends.specs.Failures.{fail_of_vol}
+use Rattle.request_ends.specs.Ends.{FileEnds}
+use Rattle.request_ends.specs.Failures.{fail_of_vol}
 use Rattle.node_updates.specs.declared.changes.NodeChange.{NodeChange}
-use Rattle.file_ends.specs.declared.failures.FileFail.{FileFail}
+use Rattle.request_ends.specs.declared.failures.FileFail.{FileFail}
 use Rattle.node_updates.proofs.Blocks.{gone_fits, made_fits, stood_fits}
 use Rattle.node_updates.proofs.Ended.{MayTouch, Reaches, ends_fault, ends_made, ends_stopped}
 use Rattle.node_updates.proofs.Fitting.{AllFit, Fits, may_touch}

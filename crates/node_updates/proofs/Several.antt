@@ -1,7 +1,7 @@
 -- Several changes of nodes in one update: the blocks that are touched, the changes that are made one after the other, and
 -- the blocks that are dropped.
-use Rattle.file_ends.proofs.Common.{◌≡◌, ◌≢◌, ℕ, zero, suc, ◌+◌, ◌<◌, ◌≤◌, ◌⊎◌, Bool, inl, inr, true, false, List, [], ◌∷◌, length, map, drop, refl, sym, ap, subst, ◌∙◌, arith, slice_index_or, slice_index, None, Result, Ok, Err, IsErrOf, Contains, cases_eq, VolFail, Block, PageName, VolumeShape, CachesBy, FirmOutside, SameOutside, caches_by_trans, firm_outside_trans, BlockWords, Caches, Drops, Seen, inode_block, true_false, HasShape, Firm, Kept, numbers, Applied, IsEdited, Edit, as_many, number_at}
-use Rattle.dir_entries.specs.Plans.{InThreeBlocks}
+use Rattle.request_ends.proofs.Common.{◌≡◌, ◌≢◌, ℕ, zero, suc, ◌+◌, ◌<◌, ◌≤◌, ◌⊎◌, Bool, inl, inr, true, false, List, [], ◌∷◌, length, map, drop, refl, sym, ap, subst, ◌∙◌, arith, slice_index_or, slice_index, None, Result, Ok, Err, IsErrOf, Contains, cases_eq, VolFail, Block, PageName, VolumeShape, CachesBy, FirmOutside, SameOutside, caches_by_trans, firm_outside_trans, BlockWords, Caches, Drops, Seen, inode_block, true_false, HasShape, Firm, Kept, numbers, Applied, IsEdited, Edit, as_many, number_at}
+use Rattle.directories.specs.Plans.{InThreeBlocks}
 use Rattle.std.specs.Prelude.{◌==◌, if◌then◌else◌, Option, IsErr}
 use Rattle.std.proofs.lemmas.Bool.{eqb-true}
 use Rattle.std.proofs.lemmas.List.{get_or_default, get_or-map}

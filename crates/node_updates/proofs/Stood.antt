@@ -1,11 +1,11 @@
 -- A plan of a directory as it stands when all of a request is prepared, and the change that it is once the update is made.
-use Rattle.file_ends.proofs.Common.{◌≡◌, ℕ, ◌<◌, true, false, Option, refl, sym, subst, ◌∙◌, inl, inr, PageName, VolumeShape, used_bit, CachesBy, BlockWords, Seen, IsIno, Kept, Held, held_of, Available, Slot, AtPage, AtTable, Placed, HasSlot, placed_at, volume_layout, Applied, Bears, LeavesInUse, NamedNode, Ready, IsMapped, InOrder, IsEdited}
-use Rattle.dir_entries.specs.Making.{MayBeMade}
-use Rattle.dir_entries.specs.Plans.{PlansDir, dir_update}
-use Rattle.dir_entries.specs.declared.changes.DirChange.{DirChange}
-use Rattle.dir_entries.proofs.MakingOrder.{plan_edits}
+use Rattle.request_ends.proofs.Common.{◌≡◌, ℕ, ◌<◌, true, false, Option, refl, sym, subst, ◌∙◌, inl, inr, PageName, VolumeShape, used_bit, CachesBy, BlockWords, Seen, IsIno, Kept, Held, held_of, Available, Slot, AtPage, AtTable, Placed, HasSlot, placed_at, volume_layout, Applied, Bears, LeavesInUse, NamedNode, Ready, IsMapped, InOrder, IsEdited}
+use Rattle.directories.specs.Making.{MayBeMade}
+use Rattle.directories.specs.Plans.{PlansDir, dir_update}
+use Rattle.directories.specs.declared.changes.DirChange.{DirChange}
+use Rattle.directories.proofs.MakingOrder.{plan_edits}
 use Rattle.std.proofs.Common.{None}
-use Rattle.dir_entries.proofs.MakingRules.{may_begin}
+use Rattle.directories.proofs.MakingRules.{may_begin}
 use Rattle.node_updates.proofs.Steps.{MayBeMetadata, Steps, dir_step}
 
 -- x is the volume before the request, y and j are it when all is prepared

@@ -1,7 +1,7 @@
 -- Changes of nodes that one update makes together.
 use Rattle.std.specs.Prelude.{◌≡◌, ℕ, ◌≤◌, ◌⊎◌, true, List, [], ◌∷◌, length, map, Option, None}
 use Rattle.std.specs.List.{Contains}
-use Rattle.dir_entries.specs.declared.changes.DirChange.{DirChange}
+use Rattle.directories.specs.declared.changes.DirChange.{DirChange}
 use Rattle.rio_base.specs.declared.places.Block.{Block}
 use Rattle.rio_base.specs.declared.places.Ino.{Ino}
 use Rattle.rio_base.specs.declared.places.PageName.{PageName}
@@ -15,7 +15,7 @@ use Rattle.node_pages.specs.declared.changes.SizeChange.{SizeChange}
 use Rattle.node_pages.specs.Changes.{node_update}
 use Rattle.node_pages.specs.Updating.{CanUpdate, IsEdited}
 use Rattle.rio_model.specs.Updates.{Applied, Update}
-use Rattle.dir_entries.specs.Plans.{InThreeBlocks}
+use Rattle.directories.specs.Plans.{InThreeBlocks}
 use Rattle.node_updates.specs.declared.changes.NodeChange.{NodeChange}
 
 -- the update that it is

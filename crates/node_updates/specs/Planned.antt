@@ -14,10 +14,10 @@ use Rattle.rio_model.specs.Placed.{volume_layout}
 use Rattle.node_pages.specs.Forgetting.{Forgets, Uncached}
 use Rattle.node_updates.specs.Changes.{CanCommit, IsFreed}
 use Rattle.node_updates.specs.Committing.{Commits, Touched}
-use Rattle.file_ends.specs.Ends.{FileEnds}
-use Rattle.file_ends.specs.Failures.{fail_of_vol}
+use Rattle.request_ends.specs.Ends.{FileEnds}
+use Rattle.request_ends.specs.Failures.{fail_of_vol}
 use Rattle.node_updates.specs.declared.changes.NodeChange.{NodeChange}
-use Rattle.file_ends.specs.declared.failures.FileFail.{FileFail}
+use Rattle.request_ends.specs.declared.failures.FileFail.{FileFail}
 
 -- its changes can be committed, and then no block is cached that lost its node
 pub record Planned (shape : VolumeShape) (x y : Seen) (j : Kept) (changes : List NodeChange) : Type 0 where

@@ -3,10 +3,10 @@
 ghost use Rattle.std.specs.Prelude.{◌≡◌};
 ghost use Rattle.node_updates.specs.Changes.{IsGone, IsMade, of_size};
 
-use dir_entries::DirChange;
-use file_ends::FREE;
+use directories::DirChange;
 use inode_table::Inode;
 use node_pages::{EditList, SizeChange};
+use request_ends::FREE;
 use rio_base::{BlockList, Ino};
 use std::alloc::Global;
 

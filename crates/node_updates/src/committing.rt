@@ -17,19 +17,19 @@ ghost use Rattle.rio_model.specs.Updates.{Applied};
 ghost use Rattle.node_pages.specs.Forgetting.{Forgets, Uncached};
 ghost use Rattle.node_pages.specs.Updating.{IsEdited, IsUpdated};
 ghost use Rattle.node_pages.specs.declared.changes.Edit.{Edit as EditOf};
-ghost use Rattle.dir_entries.specs.Plans.{InThreeBlocks};
+ghost use Rattle.directories.specs.Plans.{InThreeBlocks};
 ghost use Rattle.node_updates.specs.Changes.{AllApplied, AllTouched, BitmapTouched, CanCommit, CanMakeNode, ChangeTouched, IsFreed, IsTouchedBy, KeepsBlocks, MakesFit, edited_blocks, change_update};
 ghost use Rattle.node_updates.specs.Committing.{Commits, Touched};
-ghost use Rattle.file_ends.specs.Ends.{FileEnds};
-ghost use Rattle.file_ends.specs.Failures.{Faulted};
+ghost use Rattle.request_ends.specs.Ends.{FileEnds};
+ghost use Rattle.request_ends.specs.Failures.{Faulted};
 ghost use Rattle.node_updates.specs.Planned.{LeadsBy, Planned};
 ghost use Rattle.node_updates.specs.declared.changes.NodeChange.{NodeChange as NodeChangeOf};
 
 use crate::changes::NodeChange;
 use block_alloc::BITMAP;
-use file_ends::FileFail;
 use inode_table::{Inode, inode_block};
 use node_pages::{Edit, make_update, make_words};
+use request_ends::FileFail;
 use rio_base::{Block, Ino, Stopped, VolFail, Volume, VolumeShape};
 
 /// Whether edit `t` is in the same block as the edit before it.

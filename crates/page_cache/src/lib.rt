@@ -4,7 +4,9 @@
 mod ahead;
 mod cache;
 mod reading;
+mod storing;
 mod volume;
 
 pub use cache::PageCache;
 pub use cached_pages::CacheTables;
+pub use storing::store_word;

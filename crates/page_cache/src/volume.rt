@@ -12,13 +12,13 @@ ghost use Rattle.std.specs.Prelude.{IfOk, IsErr, IsErrOf, None, OnOk, Some, fals
 ghost use Rattle.write_back.specs.Flushing.{Flushed};
 
 use crate::cache::PageCache;
+use crate::store_word;
 use cached_pages::{
     bring_zeros, clear_list, drop_frame, fetch, listed, make_room, put_edit, put_frame_run, ready,
     shadow_frame, unpin_all,
 };
 use rio_base::{Block, Machine, Page, PageName, RunFail, Stopped, VolFail, Volume};
 use shadow_pages::{begin, commit, undo};
-use word_store::store_word;
 
 impl<M: Machine> Volume for PageCache<M> {
     ghost below = { λ x. cache_below (M.contents x.machine) (M.run x.machine) };

@@ -11,7 +11,7 @@ use Rattle.rio_base.specs.Volume.{StopCause}
 use Rattle.rio_base.specs.declared.places.Block.{Block}
 use Rattle.rio_base.proofs.Rules.{rose_later, rose_stays}
 use Rattle.block_disk.specs.HostDisks.{around_of}
-use Rattle.rio_bench.specs.Benches.{Leaving, left_by}
+use Rattle.machine_bench.specs.Benches.{Leaving, left_by}
 use Rattle.rio_model.specs.declared.state.State.{State}
 use Rattle.rio_model.specs.Cover.{MayLeave, causes_of}
 use Rattle.rio_model.specs.Standing.{StandsFor}

@@ -19,7 +19,7 @@ use Rattle.block_disk.specs.HostDisks.{HasSettled, around_of, file_bytes}
 use Rattle.block_disk.proofs.FileBlocks.{block_bytes}
 use Rattle.block_disk.proofs.HostFiles.{get_put}
 use Rattle.rio_model.specs.Cover.{MayLeave}
-use Rattle.rio_bench.specs.Benches.{HandsBack}
+use Rattle.machine_bench.specs.Benches.{HandsBack}
 use Rattle.pair_files.specs.Pairs.{AreBlocksIn, file_of}
 use Rattle.pair_files.specs.Saves.{Leaves, disk_of}
 use Rattle.pair_files.proofs.BytesIn.{block_is_long, block_read, blocks_in, words_in}

@@ -5,7 +5,7 @@ use Rattle.rio_base.specs.Disks.{blocks_of, is_pending}
 use Rattle.rio_base.specs.Hosts.{Files, IsFile}
 use Rattle.rio_base.specs.Image.{HasHeader}
 use Rattle.rio_base.specs.Machine.{Contents, Running}
-use Rattle.rio_bench.specs.Benches.{left_by}
+use Rattle.machine_bench.specs.Benches.{left_by}
 use Rattle.rio_model.specs.declared.state.State.{State}
 use Rattle.rio_model.specs.Cover.{MayLeave}
 use Rattle.rio_model.specs.Standing.{StandsFor}

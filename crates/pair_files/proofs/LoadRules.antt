@@ -14,7 +14,7 @@ use Rattle.board.specs.Boards.{protected_count, protected_of, scratch_of}
 use Rattle.block_disk.specs.HostDisks.{AreFileWords, FailsAs, file_contents}
 use Rattle.block_disk.specs.declared.host_disk_fail.HostDiskFail.{HostDiskFail}
 use Rattle.block_disk.specs.declared.host_disk_fail.HostDiskFail.TheVariants.{Absent as DiskAbsent, BadLength as DiskLength, Fault as DiskFault, Memory as DiskMemory}
-use Rattle.rio_bench.specs.Benches.{made_contents, made_run}
+use Rattle.machine_bench.specs.Benches.{made_contents, made_run}
 use Rattle.rio_model.specs.Registry.{FailsRegistry, HasLayout}
 use Rattle.pair_files.specs.declared.failures.LoadFail.{LoadFail}
 use Rattle.pair_files.specs.declared.failures.LoadFail.TheVariants.{Absent, BadImage, BadLength, Fault, Memory}

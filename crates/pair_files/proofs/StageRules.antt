@@ -16,7 +16,7 @@ use Rattle.rio_base.proofs.Bytes.{length-bytes_of}
 use Rattle.board.specs.BoardLaws.{count_protected}
 use Rattle.board.specs.Boards.{protected_count, protected_of, scratch_of}
 use Rattle.block_disk.specs.HostDisks.{HasSettled, around_of}
-use Rattle.rio_bench.specs.Benches.{Began, HandsBack, left_by, made_contents, made_run}
+use Rattle.machine_bench.specs.Benches.{Began, HandsBack, left_by, made_contents, made_run}
 use Rattle.rio_model.specs.declared.state.State.{State}
 use Rattle.rio_model.specs.Registry.{HasLayout, KeepsRegistry}
 use Rattle.rio_model.specs.Standing.{StandsFor}

@@ -7,7 +7,7 @@ use Rattle.rio_base.specs.Disks.{block_at, is_pending}
 use Rattle.rio_base.specs.Machine.{Contents, Running}
 use Rattle.rio_base.specs.Volume.{StopCause}
 use Rattle.rio_base.specs.declared.places.VolumeShape.{VolumeShape}
-use Rattle.rio_bench.specs.Benches.{left_by}
+use Rattle.machine_bench.specs.Benches.{left_by}
 use Rattle.rio_model.specs.declared.state.State.{State}
 use Rattle.rio_model.specs.Cover.{MayLeave, causes_of, home_of, stands}
 use Rattle.rio_model.specs.Placed.{volume_layout}

@@ -5,7 +5,7 @@ use Rattle.rio_base.specs.Counts.{Rose}
 use Rattle.rio_base.specs.Disks.{blocks_of}
 use Rattle.rio_base.specs.Hosts.{Files, IsAbsent, IsFile}
 use Rattle.block_disk.specs.HostDisks.{AreFileWords}
-use Rattle.rio_bench.specs.Benches.{Began, Leaving}
+use Rattle.machine_bench.specs.Benches.{Began, Leaving}
 use Rattle.rio_model.specs.declared.state.State.{State}
 use Rattle.pair_files.specs.declared.ends.PairEnd.{PairEnd}
 use Rattle.pair_files.specs.declared.ends.PairEnd.TheVariants.{Absent, BadImage, BadVolume, BootFault, BootStopped, HostFault, Memory, Unsaved, Worked}

@@ -18,4 +18,4 @@ pub use image_rules::board_of;
 pub use loading::{LoadedPair, load_pair};
 pub use names::{PairFile, PairNames};
 pub use running::work_on_pair;
-pub use work::Work;
+pub use work::PairWork;

@@ -8,7 +8,7 @@ ghost use Rattle.rio_base.specs.Image.{HasHeader};
 ghost use Rattle.rio_model.specs.declared.state.State.{State};
 ghost use Rattle.rio_model.specs.Registry.{HasLayout, KeepsRegistry};
 ghost use Rattle.cached_pages.specs.Caches.{CacheSound, cache_below};
-ghost use Rattle.rio_bench.specs.Benches.{made_contents, made_run};
+ghost use Rattle.machine_bench.specs.Benches.{made_contents, made_run};
 ghost use Rattle.pair_files.specs.Ends.{Ended, EndedEarly, HasBegun, Outset, outcome_of, outset_of};
 ghost use Rattle.pair_files.specs.Loads.{IsImageRead};
 ghost use Rattle.pair_files.specs.Scenes.{AsksUnarmed, IsBooted, Streams, streams_of};
@@ -20,11 +20,11 @@ use crate::image_file::PairImage;
 use crate::loading::{LoadedPair, load_pair};
 use crate::names::PairNames;
 use crate::saving::{hand_back, save};
-use crate::work::Work;
+use crate::work::PairWork;
 use block_disk::HostDisk;
+use machine_bench::Bench;
 use page_cache::PageCache;
 use rio_base::{Block, DiskBlocks, Host, Machine, Sink, Source, VolumeShape};
-use rio_bench::Bench;
 use std::alloc::Global;
 use warm_reboot::{BootError, BootFail, boot};
 
@@ -33,7 +33,7 @@ use warm_reboot::{BootError, BootFail, boot};
 /// of the volume. Then comes the work. Once the reboot began the image is saved at every end, but after a rule that fails.
 ///
 /// No end but `BootFault`, `BootStopped`, `Worked` and `Unsaved` changes a file.
-pub fn work_on_pair<H: Host, B: Bench<HostDisk<H>>, S: Source, K: Sink, W: Work>(
+pub fn work_on_pair<H: Host, B: Bench<HostDisk<H>>, S: Source, K: Sink, W: PairWork>(
     alloc: Global,
     names: &PairNames<'_>,
     stop: Option<u64>,
@@ -74,7 +74,7 @@ fn end_unloaded<E>(fail: LoadFail) -> PairEnd<E>
 }
 
 /// Works on a pair that was loaded, whose image is the file of this name.
-fn work_loaded<H: Host, B: Bench<HostDisk<H>>, S: Source, K: Sink, W: Work>(
+fn work_loaded<H: Host, B: Bench<HostDisk<H>>, S: Source, K: Sink, W: PairWork>(
     alloc: Global,
     image: &String,
     loaded: LoadedPair<H>,
@@ -139,7 +139,7 @@ fn make_machine<H: Host, B: Bench<HostDisk<H>>>(
 }
 
 /// Works over a machine that was made of a pair.
-fn work_made<H: Host, B: Bench<HostDisk<H>>, S: Source, K: Sink, W: Work>(
+fn work_made<H: Host, B: Bench<HostDisk<H>>, S: Source, K: Sink, W: PairWork>(
     alloc: Global,
     image: &String,
     bytes: Vec<u8>,
@@ -187,7 +187,7 @@ fn work_made<H: Host, B: Bench<HostDisk<H>>, S: Source, K: Sink, W: Work>(
 }
 
 /// Works over a cache that a reboot left, and saves the image.
-fn work_booted<H: Host, B: Bench<HostDisk<H>>, S: Source, K: Sink, W: Work>(
+fn work_booted<H: Host, B: Bench<HostDisk<H>>, S: Source, K: Sink, W: PairWork>(
     alloc: Global,
     image: &String,
     bytes: Vec<u8>,

@@ -6,13 +6,13 @@ ghost use Rattle.block_disk.specs.HostDisks.{around_of};
 ghost use Rattle.rio_base.specs.Bytes.{bytes_of};
 ghost use Rattle.rio_base.specs.Counts.{HasCause};
 ghost use Rattle.rio_base.specs.Hosts.{Files};
-ghost use Rattle.rio_bench.specs.Benches.{left_by};
+ghost use Rattle.machine_bench.specs.Benches.{left_by};
 ghost use Rattle.pair_files.specs.Saves.{Leaves, Replaces};
 
 use block_disk::HostDisk;
 use image_codec::fill_image;
+use machine_bench::Bench;
 use rio_base::{Failed, Host, Machine, Page};
-use rio_bench::Bench;
 
 /// The bytes of a page.
 const PAGE_BYTES: usize = 4096;

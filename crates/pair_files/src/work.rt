@@ -12,7 +12,7 @@ use rio_base::{Machine, Sink, Source, VolumeShape};
 use std::alloc::Global;
 
 /// What is done over the cache of a pair of files, between its reboot and the saving of its image.
-pub trait Work {
+pub trait PairWork {
     /// How it ends.
     type End: Drop;
 

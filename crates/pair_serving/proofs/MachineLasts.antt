@@ -8,9 +8,9 @@ use Rattle.rio_requests.specs.declared.reply.Reply.{Reply}
 use Rattle.rio_requests.specs.declared.request.Request.{Request}
 use Rattle.rio_requests.specs.Went.{StoppedOn, Went}
 use Rattle.rio_core.specs.Lines.{core_protocol}
-use Rattle.rio_serving.specs.declared.ends.ServeEnd.{ServeEnd}
-use Rattle.rio_serving.specs.declared.ends.ServeEnd.TheVariants.{End, SourceFault, SinkFault, InputLimit, Memory, Stopped}
-use Rattle.rio_serving.specs.ServeRun.{RunEnds}
+use Rattle.line_loop.specs.declared.ends.ServeEnd.{ServeEnd}
+use Rattle.line_loop.specs.declared.ends.ServeEnd.TheVariants.{End, SourceFault, SinkFault, InputLimit, Memory, Stopped}
+use Rattle.line_loop.specs.ServeRun.{RunEnds}
 use Rattle.pair_files.specs.Scenes.{LastsBelow}
 
 -- requests that were answered

@@ -10,9 +10,9 @@ use Rattle.rio_requests.specs.declared.request.Request.TheVariants.{Flush}
 use Rattle.rio_requests.specs.Went.{NoFlush, NoFlushes, StoppedOn, Went}
 use Rattle.request_codec.specs.Form.{Form, Means}
 use Rattle.request_codec.specs.Lines.{lines}
-use Rattle.rio_serving.specs.declared.ends.ServeEnd.{ServeEnd}
-use Rattle.rio_serving.specs.declared.ends.ServeEnd.TheVariants.{End, SourceFault, SinkFault, InputLimit, Memory, Stopped}
-use Rattle.rio_serving.specs.ServeRun.{AreFirst, EachMeans}
+use Rattle.line_loop.specs.declared.ends.ServeEnd.{ServeEnd}
+use Rattle.line_loop.specs.declared.ends.ServeEnd.TheVariants.{End, SourceFault, SinkFault, InputLimit, Memory, Stopped}
+use Rattle.line_loop.specs.ServeRun.{AreFirst, EachMeans}
 use Rattle.pair_files.specs.Scenes.{Scene}
 use Rattle.pair_serving.specs.ServedScenes.{AsksNoFlush, RunsFrom, taken_in}
 

@@ -12,15 +12,15 @@ use Rattle.rio_model.specs.declared.txn.Txn.{Txn}
 use Rattle.rio_model.specs.Standing.{StandsFor}
 use Rattle.rio_requests.proofs.WentRules.{went_none}
 use Rattle.rio_requests.specs.Crash.{crashed, undo_all}
-use Rattle.file_ends.specs.Ends.{Stands}
+use Rattle.request_ends.specs.Ends.{Stands}
 use Rattle.vista_region.specs.Marks.{Marks}
 use Rattle.cached_pages.specs.Caches.{CacheSound, Tells, cache_below, cache_health, cache_kept, cache_seen}
 use Rattle.page_cache.specs.Settled.{cache_settled}
 use Rattle.cached_pages.specs.declared.tables.CacheTables.{CacheTables}
-use Rattle.rio_serving.specs.declared.ends.ServeEnd.{ServeEnd}
-use Rattle.rio_serving.specs.declared.ends.ServeEnd.TheVariants.{End, SourceFault, SinkFault, InputLimit, Memory, Stopped}
-use Rattle.rio_serving.specs.ServeRun.{RunEnds}
-use Rattle.rio_serving.proofs.Running.{nothing_served}
+use Rattle.line_loop.specs.declared.ends.ServeEnd.{ServeEnd}
+use Rattle.line_loop.specs.declared.ends.ServeEnd.TheVariants.{End, SourceFault, SinkFault, InputLimit, Memory, Stopped}
+use Rattle.line_loop.specs.ServeRun.{RunEnds}
+use Rattle.line_loop.proofs.Running.{nothing_served}
 use Rattle.rio_core.specs.Lines.{core_protocol}
 use Rattle.rio_core.specs.Serving.{Holds}
 use Rattle.pair_files.proofs.StageRules.{booted_served}
@@ -28,9 +28,9 @@ use Rattle.pair_files.specs.Scenes.{IsBooted, LastsBelow, Scene, Streams, scene_
 use Rattle.rio_core.proofs.Machines.{holds_fits, recovered_holds, stands_held, stands_stopped}
 use Rattle.pair_serving.proofs.Quiet.{run_quiet}
 use Rattle.rio_core.proofs.Sizes.{FitsMemory, fits_then, keeps_then, part_keeps, run_keeps}
-use Rattle.rio_serving.specs.LinesEnds.{told_end}
+use Rattle.line_loop.specs.LinesEnds.{told_end}
 use Rattle.pair_serving.specs.ServedScenes.{IsLeftOf, RunsFrom, Served}
-use Rattle.rio_serving.specs.declared.ends.LinesEnd.TheVariants.{Ended}
+use Rattle.line_loop.specs.declared.ends.LinesEnd.TheVariants.{Ended}
 
 -- ---- a core over the cache that a reboot left
 

@@ -6,11 +6,11 @@ use Rattle.rio_requests.specs.Crash.{crashed}
 use Rattle.rio_requests.specs.declared.request.Request.TheVariants.{Flush}
 use Rattle.request_codec.specs.Form.{Form}
 use Rattle.request_codec.specs.Lines.{lines}
-use Rattle.rio_serving.specs.LinesEnds.{loop_end, trap_of}
-use Rattle.rio_serving.specs.declared.ends.LinesEnd.{LinesEnd}
-use Rattle.rio_serving.specs.declared.ends.ServeEnd.{ServeEnd}
-use Rattle.rio_serving.specs.declared.ends.ServeEnd.TheVariants.{End, SourceFault, SinkFault, InputLimit, Memory, Stopped}
-use Rattle.rio_serving.specs.ServeRun.{RunEnds}
+use Rattle.line_loop.specs.LinesEnds.{loop_end, trap_of}
+use Rattle.line_loop.specs.declared.ends.LinesEnd.{LinesEnd}
+use Rattle.line_loop.specs.declared.ends.ServeEnd.{ServeEnd}
+use Rattle.line_loop.specs.declared.ends.ServeEnd.TheVariants.{End, SourceFault, SinkFault, InputLimit, Memory, Stopped}
+use Rattle.line_loop.specs.ServeRun.{RunEnds}
 use Rattle.rio_core.specs.Lines.{core_protocol}
 use Rattle.pair_files.specs.Scenes.{Scene}
 

@@ -1,10 +1,10 @@
 //! How serving lines over a pair of files ends.
 
 ghost use Rattle.std.specs.Prelude.{◌≡◌};
-ghost use Rattle.rio_serving.specs.LinesEnds.{told_end};
+ghost use Rattle.line_loop.specs.LinesEnds.{told_end};
 
+use line_loop::{LinesEnd, ServeEnd};
 use rio_base::WordAt;
-use rio_serving::{LinesEnd, ServeEnd};
 
 /// How serving ended, by the end of the loop of lines and the place of the wild store that trapped, if one did.
 pub(crate) fn end_of(end: ServeEnd, trapped: Option<WordAt>) -> LinesEnd

@@ -5,6 +5,6 @@ mod ends;
 mod pair_work;
 mod serving;
 
+pub use line_loop::{LinesEnd, ServeEnd};
 pub use pair_work::Serving;
-pub use rio_serving::{LinesEnd, ServeEnd};
 pub use serving::serve;

@@ -3,11 +3,11 @@
 ghost use Rattle.std.specs.Prelude.{◌≤◌};
 
 use crate::serving::serve_core;
+use line_loop::{LinesEnd, ServeEnd};
 use page_cache::PageCache;
-use pair_files::Work;
+use pair_files::PairWork;
 use rio_base::{Machine, Sink, Source, VolumeShape};
 use rio_core::Core;
-use rio_serving::{LinesEnd, ServeEnd};
 use std::alloc::Global;
 
 /// The work of serving the lines of a source until it ends, each reply written to the sink before more of it is read.
@@ -18,7 +18,7 @@ pub struct Serving {
     pub gathers: bool,
 }
 
-impl Work for Serving {
+impl PairWork for Serving {
     ghost use Rattle.std.specs.Prelude.{◌≡◌, true, false, None};
     ghost use Rattle.pair_serving.specs.ServedScenes.{Served};
 

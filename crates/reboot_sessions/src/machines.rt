@@ -9,13 +9,13 @@ ghost use Rattle.rio_model.specs.Registry.{HasLayout};
 use crate::pairs::Pair;
 use block_disk::{DiskChoice, MemDisk};
 use board::Board;
+use line_loop::{LineServer, serve_until_end};
 use phys_memory::ListMem;
 use rio_base::{Block, DiskBlocks, Machine, WordAt};
 use rio_core::Core;
-use rio_fakes::{MemSink, MemSource};
 use rio_model::Census;
-use rio_serving::{Server, serve_until_end};
 use std::alloc::{AllocError, Global};
+use test_objects::{MemSink, MemSource};
 use warm_reboot::{BootError, BootFail, BootReport, boot, examine};
 
 /// A machine in memory, with one page of scratch.
@@ -398,8 +398,8 @@ fn core_of<M: Machine>(alloc: Global, machine: M) -> Result<(Core<M>, BootReport
     requires header { HasHeader (M.contents machine).words }
     requires layout { HasLayout (M.contents machine).words (M.run machine).scratch }
     requires closed { (M.contents machine).open_page ≡ None }
-    ensures sound { IfOk result (λ b. ⟦<Core<M> as Server>⟧.sound b.0) }
-    ensures holds { IfOk result (λ b. (s : State) × ⟦<Core<M> as Server>⟧.holds b.0 s) }
+    ensures sound { IfOk result (λ b. ⟦<Core<M> as LineServer>⟧.sound b.0) }
+    ensures holds { IfOk result (λ b. (s : State) × ⟦<Core<M> as LineServer>⟧.holds b.0 s) }
 {
     match boot(alloc, machine) {
         Ok((cache, report)) => match Core::new(alloc, cache, report.shape) {
@@ -440,8 +440,8 @@ fn looked_at<M: Machine>(alloc: Global, machine: M) -> (Result<Census, BootFail>
 
 /// Serves the lines of a source, and takes the machine back.
 fn served<M: Machine>(alloc: Global, core: Core<M>, source: &mut MemSource, sink: &mut MemSink) -> M
-    requires sound { ⟦<Core<M> as Server>⟧.sound core }
-    requires holds { (s : State) × ⟦<Core<M> as Server>⟧.holds core s }
+    requires sound { ⟦<Core<M> as LineServer>⟧.sound core }
+    requires holds { (s : State) × ⟦<Core<M> as LineServer>⟧.holds core s }
 {
     let mut core = core;
     let _end = serve_until_end(alloc, &mut core, source, sink, false);

@@ -1,7 +1,9 @@
 //! Reboots of pairs of memory and disk that are made by hand, stopped at each of their steps, and with each of their calls on
-//! the disk failing.
+//! the disk failing; and which rule of such a pair is told first.
 #![tactic(auto)]
 
+#[cfg(test)]
+mod examine_tests;
 #[cfg(test)]
 mod pairs;
 #[cfg(test)]

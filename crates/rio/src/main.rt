@@ -2,7 +2,7 @@
 //! standard output.
 #![tactic(auto)]
 
-use rio_bench::BoardBench;
+use machine_bench::BoardBench;
 use rio_os::{InputSource, OutputSink, TerminalInput, command_words, host_for, tell_in_use};
 use rio_server::{end_without_memory, run};
 use std::io;

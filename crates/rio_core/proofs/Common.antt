@@ -3,12 +3,12 @@ pub use Rattle.std.proofs.Common.{Bool, Err, List, None, Ok, Option, Result, Som
 pub use Rattle.std.proofs.lemmas.Bool.{cases_eq}
 pub use Rattle.std.specs.FinMap.{get}
 pub use Rattle.std.specs.Prelude.{IfOk, IsErr, IsErrOf}
-pub use Rattle.file_ends.specs.Ends.{Stands}
+pub use Rattle.request_ends.specs.Ends.{Stands}
 pub use Rattle.node_making.specs.NewRegions.{FindsRegion}
 pub use Rattle.region_view.specs.Views.{OnRegion}
 pub use Rattle.rio_model.specs.RegionMoves.{RestHeld}
-pub use Rattle.file_ends.specs.declared.failures.FileFail.{FileFail}
-pub use Rattle.file_ends.specs.declared.failures.FileFail.TheVariants.{Fault, Memory, Refused}
+pub use Rattle.request_ends.specs.declared.failures.FileFail.{FileFail}
+pub use Rattle.request_ends.specs.declared.failures.FileFail.TheVariants.{Fault, Memory, Refused}
 pub use Rattle.rio_base.specs.Blocks.{BlockWords, Seen}
 pub use Rattle.rio_base.specs.Regions.{RegionContent}
 pub use Rattle.rio_base.specs.Volume.{Kept, Settled}

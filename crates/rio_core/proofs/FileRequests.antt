@@ -11,9 +11,9 @@ use Rattle.rio_requests.proofs.CrashFiles.{answer_beside, fault_crashed, files_c
 use Rattle.rio_requests.proofs.CrashRules.{LeavesOpen, leaves_itself}
 use Rattle.rio_requests.specs.Parts.{LeadStep, PartOf}
 use Rattle.rio_requests.specs.Run.{MayLackMemory}
-use Rattle.file_ends.specs.Ends.{FileEnds, Left}
-use Rattle.file_ends.proofs.EndRules.{left_same}
-use Rattle.file_ends.specs.declared.failures.FileFail.TheVariants.{Stopped}
+use Rattle.request_ends.specs.Ends.{FileEnds, Left}
+use Rattle.request_ends.proofs.EndRules.{left_same}
+use Rattle.request_ends.specs.declared.failures.FileFail.TheVariants.{Stopped}
 use Rattle.rio_core.specs.Replying.{Replies}
 use Rattle.rio_core.specs.Serving.{RequestEnds, Serves}
 use Rattle.rio_core.specs.Groups.{ByName}

@@ -8,7 +8,7 @@ use Rattle.rio_requests.proofs.CrashRules.{LeavesOpen, still_regions}
 use Rattle.rio_core.specs.CallEnds.{ReadsHeld}
 use Rattle.rio_core.specs.Regions.{RegionHeld, marks_of}
 use Rattle.rio_core.proofs.RegionsLaws.{mark_in}
-use Rattle.file_ends.specs.Ends.{Spares}
+use Rattle.request_ends.specs.Ends.{Spares}
 use Rattle.rio_core.proofs.Lookups.{region_kind, region_on}
 use Rattle.rio_core.proofs.RegionSteps.{held_as, same_region}
 use Rattle.rio_core.proofs.RowRules.{mark_at}

@@ -12,7 +12,7 @@ use Rattle.rio_model.specs.VolumeReads.{ReadsAs}
 use Rattle.rio_model.specs.VolumeReady.{Ready, StandsReady}
 use Rattle.rio_model.proofs.StandingStates.{HasSizes, TellsEntries, stands_for_ready, stands_for_standing}
 use Rattle.rio_requests.specs.Crash.{crashed}
-use Rattle.file_ends.specs.Ends.{Stands}
+use Rattle.request_ends.specs.Ends.{Stands}
 use Rattle.vista_region.specs.Marks.{Marks}
 use Rattle.cached_pages.specs.Caches.{Tells, cache_below, cache_health, cache_kept, cache_seen}
 use Rattle.cached_pages.specs.declared.tables.CacheTables.{CacheTables}

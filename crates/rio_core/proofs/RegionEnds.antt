@@ -6,7 +6,7 @@ use Rattle.rio_model.proofs.VolumeReadRules.{reads_agree}
 use Rattle.rio_requests.specs.declared.reply.Reply.TheVariants.{Err as RefusedBy, Fault as Faulted}
 use Rattle.node_pages.proofs.OrderRules.{stands_left, stands_ready_left}
 use Rattle.rio_model.specs.RegionMoves.{rest_refl}
-use Rattle.file_ends.specs.declared.failures.FileFail.TheVariants.{Stopped}
+use Rattle.request_ends.specs.declared.failures.FileFail.TheVariants.{Stopped}
 use Rattle.rio_core.proofs.CallEnds.{CallEnds}
 use Rattle.rio_core.specs.CallEnds.{CalledOn, IsAt, ReadsHeld, TellsAs, words_at}
 use Rattle.rio_core.specs.Replying.{RepliesFail}

@@ -5,8 +5,8 @@ use Rattle.rio_base.specs.declared.failures.Stopped.{Stopped as MachineStopped}
 use Rattle.rio_base.specs.Blocks.{EndsBy, Health}
 use Rattle.rio_base.proofs.Rules.{ends_by_as}
 use Rattle.rio_requests.specs.declared.reply.Reply.TheVariants.{Ok as Done, Number, Stat, Names, Inos, Err as RefusedBy, Fault as Faulted}
-use Rattle.file_ends.specs.Failures.{Faulted as FileFaulted}
-use Rattle.file_ends.specs.declared.failures.FileFail.TheVariants.{Stopped}
+use Rattle.request_ends.specs.Failures.{Faulted as FileFaulted}
+use Rattle.request_ends.specs.declared.failures.FileFail.TheVariants.{Stopped}
 use Rattle.rio_core.specs.Replying.{Replies}
 use Rattle.rio_core.specs.Serving.{TellsFault}
 

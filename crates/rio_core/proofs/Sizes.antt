@@ -10,7 +10,7 @@ use Rattle.rio_requests.specs.declared.reply.Reply.{Reply}
 use Rattle.rio_requests.specs.declared.reply.Reply.TheVariants.{Fault}
 use Rattle.rio_requests.specs.declared.request.Request.{Request}
 use Rattle.rio_requests.specs.declared.request.Request.TheVariants.{Write}
-use Rattle.rio_serving.specs.ServeRun.{Run}
+use Rattle.line_loop.specs.ServeRun.{Run}
 
 -- ---- of states
 

@@ -1,6 +1,6 @@
 -- How a view comes to stand on the region at a path.
 use Rattle.rio_core.proofs.Common.{◌≡◌, ℕ, List, Ok, sym, subst, Ino, VolumeShape, Seen, Kept, RegionNode, State, names_of, crashed, FindsRegion, OnRegion, Fits, Marks}
-use Rattle.file_ends.specs.Ends.{CanServe}
+use Rattle.request_ends.specs.Ends.{CanServe}
 use Rattle.rio_core.specs.CallEnds.{CalledOn, words_at}
 use Rattle.rio_core.specs.Serving.{Serves}
 use Rattle.rio_core.proofs.RegionEnds.{called_fits, stood_on}

@@ -10,9 +10,9 @@ use Rattle.rio_requests.specs.Run.{Step}
 use Rattle.rio_requests.specs.Went.{StoppedOn, Went}
 use Rattle.request_codec.specs.Form.{Means}
 use Rattle.request_codec.specs.Text.{text_of}
-use Rattle.rio_serving.specs.declared.effects.Effect.{Effect}
-use Rattle.rio_serving.specs.declared.effects.Effect.TheVariants.{Nothing, Changes, Arms}
-use Rattle.rio_serving.specs.Protocol.{Protocol}
+use Rattle.line_loop.specs.declared.effects.Effect.{Effect}
+use Rattle.line_loop.specs.declared.effects.Effect.TheVariants.{Nothing, Changes, Arms}
+use Rattle.line_loop.specs.Protocol.{Protocol}
 
 abbrev pub core_protocol : Protocol Request Reply State
 core_protocol = record { means = Means; text = text_of; step = Step; part = IsPart; went = Went; stopped_on = StoppedOn }

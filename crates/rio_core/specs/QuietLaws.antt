@@ -18,8 +18,8 @@ use Rattle.rio_requests.specs.Parts.{FaultStep}
 use Rattle.rio_requests.specs.RegionAnswers.{Outcome, get_on}
 use Rattle.rio_requests.specs.Transactions.{looked, on_region, txn_at}
 use Rattle.rio_requests.specs.Went.{Halting, NoFlush, NoFlushes, armed_by, fault_of, faults_in, last_armed}
-use Rattle.rio_serving.specs.declared.effects.Effect.TheVariants.{Nothing, Changes, Arms}
-use Rattle.rio_serving.specs.Gathering.{AreQuiet, GoesLess, RunsOn, StaysCalm, StaysStill, effect_in}
+use Rattle.line_loop.specs.declared.effects.Effect.TheVariants.{Nothing, Changes, Arms}
+use Rattle.line_loop.specs.Gathering.{AreQuiet, GoesLess, RunsOn, StaysCalm, StaysStill, effect_in}
 use Rattle.rio_core.specs.Lines.{IsCalm, core_protocol, effect_of}
 
 changes_some : Changes ≡ Nothing → ⊥

@@ -2,8 +2,8 @@
 use Rattle.std.specs.Prelude.{◌≡◌, List, Result, Ok, Err}
 use Rattle.rio_base.specs.declared.places.Ino.{Ino}
 use Rattle.rio_base.specs.declared.failures.Stopped.{Stopped as MachineStopped}
-use Rattle.file_ends.specs.declared.failures.FileFail.{FileFail}
-use Rattle.file_ends.specs.declared.failures.FileFail.TheVariants.{Refused, Fault, Stopped, Memory}
+use Rattle.request_ends.specs.declared.failures.FileFail.{FileFail}
+use Rattle.request_ends.specs.declared.failures.FileFail.TheVariants.{Refused, Fault, Stopped, Memory}
 use Rattle.rio_requests.specs.declared.reply.Reply.{Reply}
 use Rattle.rio_requests.specs.declared.reply.Reply.TheVariants.{Err as RefusedBy, Fault as Faulted, Inos}
 

@@ -14,9 +14,9 @@ use Rattle.rio_requests.specs.Run.{Step}
 use Rattle.rio_requests.specs.declared.reply.Reply.{Reply}
 use Rattle.rio_requests.specs.declared.reply.Reply.TheVariants.{Fault}
 use Rattle.rio_requests.specs.declared.request.Request.{Request}
-use Rattle.file_ends.specs.Ends.{Stands}
+use Rattle.request_ends.specs.Ends.{Stands}
 use Rattle.vista_region.specs.Marks.{Marks}
-use Rattle.rio_serving.specs.Answering.{Answering as Answers}
+use Rattle.line_loop.specs.Answering.{Answering as Answers}
 use Rattle.rio_core.specs.Lines.{core_protocol}
 use Rattle.rio_core.specs.Regions.{RegionsHeld}
 

@@ -1,8 +1,8 @@
 //! What calls on files and on regions came to, as replies.
 
 ghost use Rattle.std.specs.Prelude.{◌≡◌, ℕ, IsErr, IsErrOf, Ok, Err};
-ghost use Rattle.file_ends.specs.Ends.{SaysBytes, SaysCount, SaysDone, SaysIno, SaysNames, SaysStat};
-ghost use Rattle.file_ends.specs.Failures.{Faulted};
+ghost use Rattle.request_ends.specs.Ends.{SaysBytes, SaysCount, SaysDone, SaysIno, SaysNames, SaysStat};
+ghost use Rattle.request_ends.specs.Failures.{Faulted};
 ghost use Rattle.rio_core.specs.CallEnds.{TellsAs, begin_told, get_told, reply_to, told};
 ghost use Rattle.rio_core.specs.Replying.{Replies, RepliesFail, TellsTxns};
 ghost use Rattle.rio_core.specs.Serving.{TellsFault};
@@ -10,8 +10,8 @@ ghost use Rattle.rio_requests.specs.declared.reply.Reply.TheVariants.{Ok as Done
 ghost use Rattle.vista_region.specs.Ends.{IsFault, says_bytes, says_done, says_number};
 ghost use Rattle.vista_region.specs.declared.failures.TxnFail.TheVariants.{Fault as TxnFault};
 
-use file_ends::FileFail;
 use name_list::NameList;
+use request_ends::FileFail;
 use rio_base::{Ino, InoList, Octets, Stopped};
 use rio_requests::Reply;
 use std::alloc::AllocError;

@@ -13,7 +13,7 @@ ghost use Rattle.rio_model.specs.declared.state.State.{State};
 ghost use Rattle.rio_model.specs.Paths.{IsPath};
 ghost use Rattle.rio_requests.specs.Crash.{crashed};
 ghost use Rattle.rio_requests.specs.CrashFiles.{OnFiles};
-ghost use Rattle.file_ends.specs.Ends.{Stands};
+ghost use Rattle.request_ends.specs.Ends.{Stands};
 ghost use Rattle.file_tree.specs.Memos.{InStep};
 ghost use Rattle.cached_pages.specs.Caches.{Tells, cache_seen};
 ghost use Rattle.write_back.specs.Flushing.{Flushed};

@@ -3,7 +3,7 @@
 ghost use Rattle.rio_model.specs.declared.state.State.{State as StateOf};
 ghost use Rattle.rio_requests.specs.Crash.{crashed};
 ghost use Rattle.rio_requests.proofs.WentRules.{went_more, went_none};
-ghost use Rattle.file_ends.specs.Ends.{Stands};
+ghost use Rattle.request_ends.specs.Ends.{Stands};
 ghost use Rattle.rio_core.specs.LineLaws.{long_none};
 ghost use Rattle.rio_core.specs.Lines.{IsCalm, core_protocol, effect_of};
 ghost use Rattle.rio_core.specs.QuietLaws.{core_calm, core_less, core_runs, core_still};
@@ -11,14 +11,14 @@ ghost use Rattle.rio_core.specs.Serving.{Holds};
 
 use crate::replies::BAD_REQUEST;
 use crate::running_core::{Core, answer_one};
+use line_loop::{Effect, LineServer};
 use page_cache::PageCache;
 use request_codec::{Spare, parse_line_reusing, put_reply, write_reply_in};
 use rio_base::{Blocks, Failed, Machine, Sink, Stopped, Volume};
 use rio_requests::{Reply, Request};
-use rio_serving::{Effect, Server};
 use std::alloc::{AllocError, Global};
 
-impl<M: Machine> Server for Core<M> {
+impl<M: Machine> LineServer for Core<M> {
     type Request = Request;
 
     type Reply = Reply;

@@ -14,23 +14,23 @@ use Rattle.rio_words.specs.declared.fail.WordsFail.{WordsFail}
 use Rattle.rio_words.specs.declared.fail.WordsFail.TheVariants.{Usage}
 use Rattle.rio_base.specs.Streams.{appended}
 use Rattle.rio_server.specs.Drills.{Drills}
-use Rattle.rio_drill.specs.Told.{WroteFront, memory_line as told_line}
-use Rattle.pair_commands.specs.declared.formatting.FormatEnd.{FormatEnd}
-use Rattle.pair_commands.specs.declared.formatting.FormatEnd.TheVariants.{Formatted, DiskFault, ImageFault, Memory as NoRoom}
-use Rattle.command_lines.specs.declared.ends.CheckEnd.TheVariants.{Memory as NotLooked}
-use Rattle.command_lines.specs.declared.ends.RegistryEnd.TheVariants.{Memory as NotRead}
-use Rattle.pair_commands.specs.declared.formatting.FormatSizes.{FormatSizes}
-use Rattle.pair_commands.specs.Check.{Checks}
-use Rattle.command_lines.specs.Command.{WritesLine, memory_line}
+use Rattle.boots.specs.Told.{WroteFront, memory_line as told_line}
+use Rattle.rio_commands.specs.declared.formatting.FormatEnd.{FormatEnd}
+use Rattle.rio_commands.specs.declared.formatting.FormatEnd.TheVariants.{Formatted, DiskFault, ImageFault, Memory as NoRoom}
+use Rattle.rio_commands.specs.declared.ends.CheckEnd.TheVariants.{Memory as NotLooked}
+use Rattle.rio_commands.specs.declared.ends.RegistryEnd.TheVariants.{Memory as NotRead}
+use Rattle.rio_commands.specs.declared.formatting.FormatSizes.{FormatSizes}
+use Rattle.rio_commands.specs.Check.{Checks}
+use Rattle.rio_commands.specs.Command.{WritesLine, memory_line}
 use Rattle.rio_server.specs.Commands.{CheckRuns, DrillRuns, FormatRuns, IsServe, NamesAbsent, Obeyed, Obeys, RegistryRuns}
-use Rattle.pair_commands.specs.Format.{Formats, format_sizes, format_status}
-use Rattle.serve_command.specs.Outside.{Benched, HostRose, Outside, SinkRose, SourceRose}
-use Rattle.pair_commands.specs.Registry.{Lists}
-use Rattle.serve_command.specs.Serve.{ServeRuns}
-use Rattle.pair_commands.proofs.FreshPairs.{formatted_pair}
-use Rattle.pair_commands.proofs.Checking.{check_complete, check_fault, check_sound, check_statuses}
-use Rattle.pair_commands.proofs.Listings.{fault_of, listing_complete, listing_cut, no_status}
-use Rattle.serve_command.proofs.ServeEndings.{none_served, serve_not_2}
+use Rattle.rio_commands.specs.Format.{Formats, format_sizes, format_status}
+use Rattle.rio_commands.specs.Outside.{Benched, HostRose, Outside, SinkRose, SourceRose}
+use Rattle.rio_commands.specs.Registry.{Lists}
+use Rattle.rio_commands.specs.Serve.{ServeRuns}
+use Rattle.rio_commands.proofs.FreshPairs.{formatted_pair}
+use Rattle.rio_commands.proofs.Checking.{check_complete, check_fault, check_sound, check_statuses}
+use Rattle.rio_commands.proofs.Listings.{fault_of, listing_complete, listing_cut, no_status}
+use Rattle.rio_commands.proofs.ServeEndings.{none_served, serve_not_2}
 
 -- equal commands have equal runs
 pub obeys_as : (command other : RioCommand) (status : ℕ) (old new : Outside) (bench : Benched) → command ≡ other → Obeyed other status old new bench → Obeys command status old new bench

@@ -3,18 +3,18 @@ use Rattle.std.proofs.Common.{◌≡◌, ◌<◌, ◌≤◌, ◌++◌, ◌^◌, 
 use Rattle.std.specs.Prelude.{IfOk}
 use Rattle.std.proofs.lemmas.List.{length-map}
 use Rattle.std.proofs.lemmas.List.Sums.{sum_by-cons}
-use Rattle.live_plans.specs.declared.plan.BootPlan.{BootPlan}
-use Rattle.live_plans.specs.declared.plan.LivePlan.{LivePlan}
-use Rattle.live_plans.specs.declared.transcript.BootEnd.{BootEnd}
-use Rattle.live_plans.specs.declared.transcript.BootEnd.TheVariants.{Served, Stopped, BootFault}
-use Rattle.live_plans.specs.declared.transcript.BootRun.{BootRun}
-use Rattle.live_plans.specs.declared.transcript.Transcript.{Transcript}
-use Rattle.rio_live.specs.Legal.{BootEnds, BootsLead, Legal, ServesNone, requests_of}
+use Rattle.boots.specs.declared.plan.BootPlan.{BootPlan}
+use Rattle.boots.specs.declared.plan.LivePlan.{LivePlan}
+use Rattle.boots.specs.declared.transcript.BootEnd.{BootEnd}
+use Rattle.boots.specs.declared.transcript.BootEnd.TheVariants.{Served, Stopped, BootFault}
+use Rattle.boots.specs.declared.transcript.BootRun.{BootRun}
+use Rattle.boots.specs.declared.transcript.Transcript.{Transcript}
+use Rattle.boots.specs.Legal.{BootEnds, BootsLead, Legal, ServesNone, requests_of}
 use Rattle.rio_model.specs.declared.state.State.{State}
 use Rattle.rio_requests.specs.declared.reply.Reply.{Reply}
 use Rattle.rio_requests.specs.declared.request.Request.{Request}
-use Rattle.rio_drill.specs.Plans.{plan_of}
-use Rattle.rio_drill.specs.Summaries.{reply_count}
+use Rattle.boots.specs.Plans.{plan_of}
+use Rattle.boots.specs.Summaries.{reply_count}
 use Rattle.rio_server.proofs.Planned.{request_total, total_few}
 
 answered_count : (answered : List (Request × Reply)) → length (requests_of answered) ≡ length answered

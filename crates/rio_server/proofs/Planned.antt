@@ -3,9 +3,9 @@ use Rattle.std.proofs.Common.{◌≡◌, ◌<◌, ◌≤◌, ◌+◌, ◌-◌, �
 use Rattle.std.specs.Prelude.{sum_by}
 use Rattle.std.proofs.Math.Nat.{mul-div-le}
 use Rattle.std.proofs.lemmas.List.Sums.{sum_by-cons}
-use Rattle.live_plans.specs.declared.plan.BootPlan.{BootPlan}
-use Rattle.rio_drill.specs.Plans.{boot_plan, cut_boot, last_boot, last_boots, share, some_requests}
-use Rattle.rio_live.specs.Legal.{IsBootPlan}
+use Rattle.boots.specs.declared.plan.BootPlan.{BootPlan}
+use Rattle.boots.specs.Plans.{boot_plan, cut_boot, last_boot, last_boots, share, some_requests}
+use Rattle.boots.specs.Legal.{IsBootPlan}
 use Rattle.rio_requests.specs.Requests.{IsRequest}
 use Rattle.work_gen.specs.Boots.{boot}
 use Rattle.work_gen.specs.Requests.{request}

@@ -1,11 +1,11 @@
 -- A drill's plan is one that can be run.
 use Rattle.std.proofs.Common.{◌≡◌, ◌*◌, ℕ, refl, sym, inl, arith, subst, All}
-use Rattle.live_plans.specs.declared.plan.LivePlan.{LivePlan}
+use Rattle.boots.specs.declared.plan.LivePlan.{LivePlan}
 use Rattle.rio_base.specs.Image.{AreImageSizes, image_pages, registry_pages}
 use Rattle.rio_base.specs.Shapes.{IsServed}
-use Rattle.rio_drill.specs.Plans.{last_boots, plan_of}
+use Rattle.boots.specs.Plans.{last_boots, plan_of}
 use Rattle.rio_server.proofs.Planned.{boots_are}
-use Rattle.rio_live.specs.Legal.{IsBootPlan, plan_shape}
+use Rattle.boots.specs.Legal.{IsBootPlan, plan_shape}
 
 image_sizes : AreImageSizes 256 4
 image_sizes = record { least_frames = omega arith; most_frames = omega arith; least_scratch = omega arith; most_scratch = omega arith }

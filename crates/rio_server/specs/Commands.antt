@@ -8,12 +8,12 @@ use Rattle.rio_words.specs.Words.{Reads}
 use Rattle.rio_words.specs.declared.command.RioCommand.{RioCommand}
 use Rattle.rio_words.specs.declared.command.RioCommand.TheVariants.{Format, Serve, Registry, Check, Drill}
 use Rattle.rio_server.specs.Drills.{Drills}
-use Rattle.pair_commands.specs.declared.formatting.FormatSizes.{FormatSizes}
-use Rattle.pair_commands.specs.Check.{Checks}
-use Rattle.pair_commands.specs.Format.{Formats, disk_bytes, format_sizes, image_bytes, root_state}
-use Rattle.serve_command.specs.Outside.{Benched, HostRose, Outside, SinkRose}
-use Rattle.pair_commands.specs.Registry.{Lists}
-use Rattle.serve_command.specs.Serve.{ServeRuns}
+use Rattle.rio_commands.specs.declared.formatting.FormatSizes.{FormatSizes}
+use Rattle.rio_commands.specs.Check.{Checks}
+use Rattle.rio_commands.specs.Format.{Formats, disk_bytes, format_sizes, image_bytes, root_state}
+use Rattle.rio_commands.specs.Outside.{Benched, HostRose, Outside, SinkRose}
+use Rattle.rio_commands.specs.Registry.{Lists}
+use Rattle.rio_commands.specs.Serve.{ServeRuns}
 
 -- ---- the words
 

@@ -1,9 +1,9 @@
 -- What a run of a drill leaves.
 use Rattle.std.specs.Prelude.{◌⊎◌, ℕ, List, Option}
-use Rattle.live_plans.specs.declared.transcript.Transcript.{Transcript}
-use Rattle.rio_drill.specs.Plans.{plan_of}
-use Rattle.rio_drill.specs.Told.{LacksMemory, Tells}
-use Rattle.rio_live.specs.Legal.{Legal}
+use Rattle.boots.specs.declared.transcript.Transcript.{Transcript}
+use Rattle.boots.specs.Plans.{plan_of}
+use Rattle.boots.specs.Told.{LacksMemory, Tells}
+use Rattle.boots.specs.Legal.{Legal}
 
 -- the drill of these numbers was run and told, or there was no memory
 abbrev pub Drills : (seed boots requests status : ℕ) (rose : Type 0) (written written_after : Option (List ℕ)) → Type 0

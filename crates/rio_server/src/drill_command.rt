@@ -3,14 +3,12 @@
 ghost use Rattle.std.specs.Prelude.{◌≡◌, ◌<◌, ◌≤◌, ◌^◌, IfOk};
 ghost use Rattle.rio_base.specs.Counts.{Rose};
 ghost use Rattle.rio_server.specs.Drills.{Drills};
-ghost use Rattle.rio_drill.specs.Plans.{plan_of};
-ghost use Rattle.rio_drill.specs.Summaries.{reply_count};
-ghost use Rattle.rio_live.specs.Legal.{Legal};
+ghost use Rattle.boots.specs.Plans.{plan_of};
+ghost use Rattle.boots.specs.Summaries.{reply_count};
+ghost use Rattle.boots.specs.Legal.{Legal};
 
-use live_plans::Transcript;
+use boots::{Transcript, drill_plan, live, tell_memory, tell_summary};
 use rio_base::Sink;
-use rio_drill::{drill_plan, tell_memory, tell_summary};
-use rio_live::live;
 use std::alloc::{AllocError, Global};
 
 /// Runs the drill of these numbers in memory alone: so many boots, at least one, and so many requests for all of them

@@ -5,21 +5,19 @@ ghost use Rattle.rio_base.specs.Counts.{Rose};
 ghost use Rattle.rio_words.specs.Tokens.{Text};
 ghost use Rattle.rio_words.specs.Words.{Reads, texts_of};
 ghost use Rattle.rio_words.specs.declared.command.RioCommand.TheVariants.{Check, Drill, Format, Registry, Serve};
-ghost use Rattle.command_lines.specs.Command.{WritesLine, memory_line, usage_line};
+ghost use Rattle.rio_commands.specs.Command.{WritesLine, memory_line, usage_line};
 ghost use Rattle.rio_server.specs.Commands.{CheckRuns, DrillRuns, FormatRuns, IsCommand, IsServe, NamesAbsent, Obeyed, RegistryRuns};
-ghost use Rattle.pair_commands.specs.Format.{format_sizes};
-ghost use Rattle.serve_command.specs.Outside.{benched, outside};
-ghost use Rattle.serve_command.specs.Serve.{ServeRuns};
+ghost use Rattle.rio_commands.specs.Format.{format_sizes};
+ghost use Rattle.rio_commands.specs.Outside.{benched, outside};
+ghost use Rattle.rio_commands.specs.Serve.{ServeRuns};
 
 use crate::drill_command::drill;
 use block_disk::HostDisk;
-use command_lines::say;
-use pair_commands::{FormatSizes, PairPlan, check_pair, format, show_registry};
+use machine_bench::Bench;
 use pair_files::PairNames;
 use rio_base::{Host, Sink, Source, VolumeShape};
-use rio_bench::Bench;
+use rio_commands::{FormatSizes, PairPlan, check_pair, format, say, serve_pair, show_registry};
 use rio_words::{RioCommand, WordsFail, read_words};
-use serve_command::serve_pair;
 use std::alloc::Global;
 
 /// What is printed where the words are no command.

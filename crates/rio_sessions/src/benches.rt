@@ -1,8 +1,8 @@
 //! What a bench kept of its machine, beside the image before a run and after it.
 
 use crate::bytes::{tell_whether, word_at};
+use machine_bench::{KeepBench, KeptEnd, KeptStart};
 use rio_base::Page;
-use rio_bench::{KeepBench, KeptEnd, KeptStart};
 use std::alloc::AllocError;
 use test_scripts::tell_line;
 

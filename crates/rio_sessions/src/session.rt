@@ -6,7 +6,7 @@ use crate::shelf::{PairBytes, PairNames, Shelf, Streams, WHOLE};
 use crate::stops::StoppedRun;
 use crate::walks::Walk;
 use crate::words::{Run, Setting, Word};
-use rio_bench::KeepBench;
+use machine_bench::KeepBench;
 use std::alloc::{AllocError, Global};
 use test_scripts::{expanded, first_word, numbers, tell, tell_line, tell_number, tell_shown};
 use test_servers::{BadBlock, NO_BAD_BLOCK, Served, Sizes, serve_lines_of};

@@ -1,12 +1,12 @@
 //! Files in memory, and runs of the program over them.
 
 use crate::bytes::{put_bytes, same};
+use machine_bench::{BoardBench, KeepBench};
 use rio_base::Host;
-use rio_bench::{BoardBench, KeepBench};
-use rio_fakes::{MemHost, MemSink, MemSource};
 use rio_server::{end_without_memory, run};
 use std::alloc::{AllocError, Global};
 use std::mem;
+use test_objects::{MemHost, MemSink, MemSource};
 use test_scripts::{first_word, tell, tell_number};
 
 /// The names of the files of a pair.

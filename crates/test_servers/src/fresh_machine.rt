@@ -13,11 +13,11 @@ ghost use Rattle.test_servers.specs.FreshMachines.{IsFreshBelow, IsFreshDisk, Is
 use block_disk::MemDisk;
 use board::Board;
 use image_codec::{fresh_image, fresh_volume};
+use line_loop::LineServer;
 use page_cache::{CacheTables, PageCache};
 use phys_memory::{Memory, memory_of};
 use rio_base::{Blocks, Machine, Volume, VolumeShape};
 use rio_core::Core;
-use rio_serving::Server;
 use std::alloc::{AllocError, Global};
 
 /// A machine in memory.
@@ -81,10 +81,10 @@ pub fn fresh_core(
     requires frames { AreImageSizes frames 1 }
     requires shape { IsServed shape }
     requires disk { IsFreshDisk shape (state_of disk).blocks (state_of disk).pending }
-    ensures sound { IfOk result (λ core. ⟦<Core<Board<Memory, MemDisk>> as Server>⟧.sound core) }
-    ensures holds { IfOk result (λ core. ⟦<Core<Board<Memory, MemDisk>> as Server>⟧.holds core (fresh_state shape (image_pages frames 1) 1)) }
-    ensures health { IfOk result (λ core. ⟦<Core<Board<Memory, MemDisk>> as Server>⟧.health core ≡ record { faults = (state_of disk).faults; stopped = false }) }
-    ensures below { IfOk result (λ core. IsFreshBelow frames (contents_of (state_of disk)) (⟦<Core<Board<Memory, MemDisk>> as Server>⟧.below core)) }
+    ensures sound { IfOk result (λ core. ⟦<Core<Board<Memory, MemDisk>> as LineServer>⟧.sound core) }
+    ensures holds { IfOk result (λ core. ⟦<Core<Board<Memory, MemDisk>> as LineServer>⟧.holds core (fresh_state shape (image_pages frames 1) 1)) }
+    ensures health { IfOk result (λ core. ⟦<Core<Board<Memory, MemDisk>> as LineServer>⟧.health core ≡ record { faults = (state_of disk).faults; stopped = false }) }
+    ensures below { IfOk result (λ core. IsFreshBelow frames (contents_of (state_of disk)) (⟦<Core<Board<Memory, MemDisk>> as LineServer>⟧.below core)) }
 {
     let cache = fresh_cache(alloc, frames, &shape, disk)?;
     match Core::new(alloc, cache, shape) {

@@ -4,10 +4,10 @@ use crate::served::Sizes;
 use plain_requests::answer;
 use request_codec::{parse_line, write_reply};
 use rio_base::{Ino, Octets, VolumeShape};
-use rio_fakes::MemSink;
 use rio_model::{NameRows, Node, NodeRow, NodeRows, State, TxnList};
 use rio_requests::{Answered, Reply, Request};
 use std::alloc::{AllocError, Global};
+use test_objects::MemSink;
 
 /// The state with the root directory alone.
 fn root_alone(alloc: Global, sizes: Sizes) -> Result<State, AllocError> {

@@ -10,8 +10,8 @@ use crate::fresh_machine::{fresh_core, fresh_disk};
 use block_disk::MemDisk;
 use pair_serving::{ServeEnd, serve};
 use rio_base::{Block, VolumeShape};
-use rio_fakes::{MemSink, MemSource};
 use std::alloc::{AllocError, Global};
+use test_objects::{MemSink, MemSource};
 
 /// A volume that is served, and the frames of the memory before it.
 #[derive(Clone, Copy, Debug)]

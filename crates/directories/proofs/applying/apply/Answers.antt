@@ -1,4 +1,4 @@
-use Rattle.dir_entries.proofs.Common.{sym, subst}
+use Rattle.directories.proofs.Common.{sym, subst}
 use Rattle.node_pages.specs.Updating.{IsTouched}
 use Rattle.node_pages.proofs.Updated.{applied_as, can_update}
 use Rattle.directories.proofs.applying.apply.Goals as goal

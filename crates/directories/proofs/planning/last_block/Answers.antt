@@ -1,7 +1,7 @@
 use Rattle.std.proofs.Common.{le_refl}
 use Rattle.node_pages.proofs.LookingUpRules.{look_refl}
-use Rattle.dir_entries.proofs.Common.{arith, refl}
-use Rattle.dir_entries.proofs.CanRead.{can_look, has_page}
+use Rattle.directories.proofs.Common.{arith, refl}
+use Rattle.directories.proofs.CanRead.{can_look, has_page}
 use Rattle.directories.proofs.planning.last_block.Goals as goal
 
 pub page_block-requires-clause-sound : goal.page_block-requires-clause-sound

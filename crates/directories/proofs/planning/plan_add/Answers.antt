@@ -2,16 +2,16 @@ use Rattle.std.proofs.Common.{le_refl}
 use Rattle.directories.proofs.PushedEdits.{one_within}
 use Rattle.directories.proofs.PlannedSizes.{dir_fits, none_skipped, none_twice, plans_dir_inode}
 use Rattle.node_pages.proofs.EndsOn.{if_err}
-use Rattle.dir_entries.proofs.Common.{◌≡◌, ◌+◌, ◌/◌, ◌<◌, ◌≤◌, [], length, sym, ap, subst, ◌∙◌, arith, err_from_is_err_and, BlockWords, ◌then◌, ends_by_after, numbers, PlansSize, free_beside, wanted_blocks, leaves_looked, leaves_trans, ready_left, IsInode, held_of, AtPage, placed_at, refl}
+use Rattle.directories.proofs.Common.{◌≡◌, ◌+◌, ◌/◌, ◌<◌, ◌≤◌, [], length, sym, ap, subst, ◌∙◌, arith, err_from_is_err_and, BlockWords, ◌then◌, ends_by_after, numbers, PlansSize, free_beside, wanted_blocks, leaves_looked, leaves_trans, ready_left, IsInode, held_of, AtPage, placed_at, refl}
 use Rattle.std.specs.Prelude.{slice_index}
 use Rattle.rio_base.specs.declared.places.Block.{Block}
 use Rattle.node_pages.specs.declared.failures.SizeFail.TheVariants.{NoSpace, TooLarge}
 use Rattle.node_pages.proofs.Listed.{as_many}
 use Rattle.node_pages.proofs.Ends.{err_handed, size_err, ends_vol_size, ends_well_memory, ends_well_ok, size_then, unrefused_memory, unrefused_vol}
-use Rattle.dir_entries.specs.Rows.{HasRow}
+use Rattle.directories.specs.Rows.{HasRow}
 use Rattle.directories.specs.declared.storing.EntryWords.{EntryWords}
 use Rattle.directories.proofs.AddedRow.{IsNext, looked_twice, no_larger, planned_before, room_left, row_planned, space_said, takes_page}
-use Rattle.dir_entries.proofs.CanRead.{can_read, dir_size}
+use Rattle.directories.proofs.CanRead.{can_read, dir_size}
 use Rattle.directories.proofs.planning.plan_add.Goals as goal
 
 pub returns-in_err-inode-clause-leaves : goal.returns-in_err-inode-clause-leaves

@@ -1,6 +1,6 @@
 use Rattle.rio_base.proofs.Rules.{ends_by_well}
 use Rattle.node_pages.proofs.Ends.{ends_read, ends_read_memory}
-use Rattle.dir_entries.proofs.Common.{err_from_is_err_and}
+use Rattle.directories.proofs.Common.{err_from_is_err_and}
 use Rattle.directories.proofs.PlannedRows.{entries_planned}
 use Rattle.node_pages.proofs.EndsOn.{if_err}
 use Rattle.directories.proofs.planning.plan_entries.Goals as goal

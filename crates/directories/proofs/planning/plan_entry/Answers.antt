@@ -1,9 +1,9 @@
 use Rattle.node_pages.proofs.Ends.{ends_vol_read}
-use Rattle.dir_entries.proofs.Common.{◌≡◌, arith, err_from_is_err_and, ◌then◌, ends_by_after, if_ok_map, leaves_looked, BlockWords, IsInode, subst, sym}
+use Rattle.directories.proofs.Common.{◌≡◌, arith, err_from_is_err_and, ◌then◌, ends_by_after, if_ok_map, leaves_looked, BlockWords, IsInode, subst, sym}
 use Rattle.std.specs.Prelude.{[], ◌∷◌, slice_index}
 use Rattle.directories.specs.Contents.{sized_to, with_entry}
 use Rattle.node_pages.proofs.EndsOn.{if_err}
-use Rattle.dir_entries.specs.Plans.{PlansDir}
+use Rattle.directories.specs.Plans.{PlansDir}
 use Rattle.directories.proofs.PlannedOn.{leaves_on, ready_on}
 use Rattle.directories.proofs.PushedEdits.{one_within}
 use Rattle.directories.proofs.PlannedRows.{PlansEntries, one_planned, plans_back}

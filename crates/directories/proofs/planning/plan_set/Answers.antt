@@ -1,11 +1,11 @@
 use Rattle.node_pages.proofs.Ends.{ends_vol_read}
 use Rattle.std.proofs.Common.{le_refl}
-use Rattle.dir_entries.proofs.Common.{◌≡◌, err_from_is_err_and, ◌then◌, ends_by_after, if_ok_map, leaves_looked, BlockWords, IsInode, subst, sym}
+use Rattle.directories.proofs.Common.{◌≡◌, err_from_is_err_and, ◌then◌, ends_by_after, if_ok_map, leaves_looked, BlockWords, IsInode, subst, sym}
 use Rattle.std.specs.Prelude.{slice_index}
 use Rattle.directories.specs.Contents.{sized_to, with_entry}
-use Rattle.dir_entries.specs.Plans.{PlansDir}
-use Rattle.dir_entries.specs.RowChanges.{SetsRow}
-use Rattle.dir_entries.proofs.CanRead.{can_read}
+use Rattle.directories.specs.Plans.{PlansDir}
+use Rattle.directories.specs.RowChanges.{SetsRow}
+use Rattle.directories.proofs.CanRead.{can_read}
 use Rattle.directories.proofs.PlannedOn.{leaves_on, ready_on}
 use Rattle.directories.proofs.PlannedRows.{has_room, whole_size, dir_back, set_planned, slot_in}
 use Rattle.node_pages.proofs.EndsOn.{if_err}

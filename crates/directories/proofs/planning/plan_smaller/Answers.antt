@@ -1,4 +1,4 @@
-use Rattle.dir_entries.proofs.Common.{ap, numbers, subst, PlansSize, ◌∙◌}
+use Rattle.directories.proofs.Common.{ap, numbers, subst, PlansSize, ◌∙◌}
 use Rattle.node_pages.specs.declared.failures.SizeFail.TheVariants.{Fault, Stopped, Memory}
 use Rattle.directories.proofs.EndsSized.{ends_sized, ends_unsized}
 use Rattle.directories.proofs.PlannedSizes.{dir_fits, none_skipped, none_twice, plans_dir_inode}

@@ -1,8 +1,8 @@
 use Rattle.node_pages.proofs.Ends.{ends_vol_read}
-use Rattle.dir_entries.proofs.Common.{◌≡◌, ◌+◌, ◌-◌, ◌*◌, ◌/◌, arith, err_from_is_err_and, ◌then◌, ends_by_after, if_ok_map, look_trans, leaves_looked, BlockWords, IsInode, subst, sym, ◌∙◌}
+use Rattle.directories.proofs.Common.{◌≡◌, ◌+◌, ◌-◌, ◌*◌, ◌/◌, arith, err_from_is_err_and, ◌then◌, ends_by_after, if_ok_map, look_trans, leaves_looked, BlockWords, IsInode, subst, sym, ◌∙◌}
 use Rattle.std.specs.Prelude.{[], ◌∷◌, slice_index}
 use Rattle.directories.specs.Contents.{sized_to, with_entry}
-use Rattle.dir_entries.specs.Plans.{PlansDir}
+use Rattle.directories.specs.Plans.{PlansDir}
 use Rattle.directories.proofs.PlannedOn.{into_back, leaves_on, moved_back, ready_on}
 use Rattle.node_pages.proofs.EndsOn.{if_err}
 use Rattle.directories.proofs.PushedEdits.{two_within}

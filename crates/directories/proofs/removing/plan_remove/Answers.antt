@@ -1,10 +1,10 @@
 use Rattle.node_pages.proofs.Ends.{ends_vol_read}
-use Rattle.dir_entries.proofs.Common.{◌≡◌, ◌-◌, ap, arith, refl, err_from_is_err_and, ◌then◌, ends_by_after, if_ok_map, look_trans, leaves_looked, BlockWords, IsInode, subst, sym, ◌∙◌}
+use Rattle.directories.proofs.Common.{◌≡◌, ◌-◌, ap, arith, refl, err_from_is_err_and, ◌then◌, ends_by_after, if_ok_map, look_trans, leaves_looked, BlockWords, IsInode, subst, sym, ◌∙◌}
 use Rattle.std.specs.Prelude.{[], slice_index}
 use Rattle.directories.specs.Contents.{sized_to, with_entry}
-use Rattle.dir_entries.specs.Plans.{PlansDir}
-use Rattle.dir_entries.specs.RowChanges.{RemovesRow}
-use Rattle.dir_entries.proofs.CanRead.{can_read}
+use Rattle.directories.specs.Plans.{PlansDir}
+use Rattle.directories.specs.RowChanges.{RemovesRow}
+use Rattle.directories.proofs.CanRead.{can_read}
 use Rattle.directories.proofs.PlannedOn.{leaves_on, moved_back, ready_on}
 use Rattle.directories.proofs.PlannedRows.{PlansEntries, dir_back, last_planned, moved_planned, plans_back, slot_in, has_room, last_in, room_before}
 use Rattle.directories.proofs.removing.plan_remove.Goals as goal

@@ -1,10 +1,10 @@
 use Rattle.node_pages.proofs.Ends.{ends_vol_read}
-use Rattle.dir_entries.proofs.Common.{◌≡◌, ◌+◌, ◌-◌, ◌*◌, ◌/◌, ap, arith, subst, ◌≢◌, refl, err_from_is_err_and, ◌then◌, ends_by_after, if_ok_map, look_trans, leaves_looked, placed_at, BlockWords, IsInode, sym, ◌∙◌}
+use Rattle.directories.proofs.Common.{◌≡◌, ◌+◌, ◌-◌, ◌*◌, ◌/◌, ap, arith, subst, ◌≢◌, refl, err_from_is_err_and, ◌then◌, ends_by_after, if_ok_map, look_trans, leaves_looked, placed_at, BlockWords, IsInode, sym, ◌∙◌}
 use Rattle.std.specs.Prelude.{slice_index}
 use Rattle.directories.specs.Contents.{sized_to, with_entry}
-use Rattle.dir_entries.specs.Plans.{PlansDir}
-use Rattle.dir_entries.specs.RowChanges.{ReplacesRow}
-use Rattle.dir_entries.proofs.CanRead.{can_read}
+use Rattle.directories.specs.Plans.{PlansDir}
+use Rattle.directories.specs.RowChanges.{ReplacesRow}
+use Rattle.directories.proofs.CanRead.{can_read}
 use Rattle.directories.proofs.PlannedOn.{leaves_on, moved_back, ready_on}
 use Rattle.directories.proofs.PlannedRows.{Replacing, dir_back, gone_dropped, last_moved, own_moved, slot_in, slot_named, has_room, room_before, room_beside}
 use Rattle.directories.proofs.removing.plan_replace.Goals as goal

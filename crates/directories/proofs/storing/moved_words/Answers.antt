@@ -1,7 +1,7 @@
 use Rattle.inode_table.proofs.Exits.{ends_err}
 use Rattle.std.proofs.lemmas.Result.{IfOk-weaker}
 use Rattle.node_pages.proofs.EndsOn.{if_err}
-use Rattle.dir_entries.proofs.Common.{ap, slice_index, ◌∙◌, sym, subst, IfOk, BlockWords, IsInode, placed_at, err_from_is_err_and, look_trans}
+use Rattle.directories.proofs.Common.{ap, slice_index, ◌∙◌, sym, subst, IfOk, BlockWords, IsInode, placed_at, err_from_is_err_and, look_trans}
 use Rattle.rio_base.proofs.BlockRules.{ends_later}
 use Rattle.directories.specs.Contents.{GoesInto}
 use Rattle.directories.proofs.storing.moved_words.Goals as goal

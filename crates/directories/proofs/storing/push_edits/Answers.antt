@@ -1,4 +1,4 @@
-use Rattle.dir_entries.proofs.Common.{◌≡◌, ◌+◌, ◌-◌, map, ap, arith, slice_index, word_edit}
+use Rattle.directories.proofs.Common.{◌≡◌, ◌+◌, ◌-◌, map, ap, arith, slice_index, word_edit}
 use Rattle.directories.proofs.PushedEdits.{edit_next}
 use Rattle.directories.proofs.storing.push_edits.Goals as goal
 

@@ -1,4 +1,4 @@
-use Rattle.dir_entries.proofs.Common.{◌≡◌, ◌+◌, ◌-◌, ◌++◌, map, slice_index, word_edit, run_edits}
+use Rattle.directories.proofs.Common.{◌≡◌, ◌+◌, ◌-◌, ◌++◌, map, slice_index, word_edit, run_edits}
 use Rattle.std.specs.Vec.{vec_capacity, vec_len}
 use Rattle.directories.proofs.storing.push_edits.Given as goal
 

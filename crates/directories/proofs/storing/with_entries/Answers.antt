@@ -1,4 +1,4 @@
-use Rattle.dir_entries.proofs.Common.{arith, map, word_edit}
+use Rattle.directories.proofs.Common.{arith, map, word_edit}
 use Rattle.node_pages.proofs.EndsOn.{if_err}
 use Rattle.directories.proofs.PushedEdits.{entry_in, entry_pushed}
 use Rattle.directories.proofs.storing.with_entries.Goals as goal

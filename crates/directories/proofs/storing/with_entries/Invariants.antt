@@ -1,4 +1,4 @@
-use Rattle.dir_entries.proofs.Common.{◌≡◌, ◌≤◌, ◌+◌, ◌-◌, ◌*◌, ◌++◌, length, map, take, word_edit}
+use Rattle.directories.proofs.Common.{◌≡◌, ◌≤◌, ◌+◌, ◌-◌, ◌*◌, ◌++◌, length, map, take, word_edit}
 use Rattle.std.specs.Vec.{vec_capacity, vec_len}
 use Rattle.directories.specs.Contents.{all_edits}
 use Rattle.directories.proofs.storing.with_entries.Given as goal

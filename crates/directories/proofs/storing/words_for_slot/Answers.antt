@@ -1,6 +1,6 @@
 use Rattle.inode_table.proofs.Exits.{ends_err, ends_ok}
-use Rattle.dir_entries.proofs.Common.{err_from_is_err_and}
-use Rattle.dir_entries.proofs.CanRead.{has_slot}
+use Rattle.directories.proofs.Common.{err_from_is_err_and}
+use Rattle.directories.proofs.CanRead.{has_slot}
 use Rattle.directories.proofs.storing.words_for_slot.Goals as goal
 
 pub page_block-requires-clause-page : goal.page_block-requires-clause-page

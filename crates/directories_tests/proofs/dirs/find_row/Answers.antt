@@ -1,5 +1,5 @@
-use Rattle.dir_entries.proofs.Common.{sym, subst, IfOk, BlockWords, held_of}
-use Rattle.dir_entries.specs.Rows.{Finds}
+use Rattle.directories.proofs.Common.{sym, subst, IfOk, BlockWords, held_of}
+use Rattle.directories.specs.Rows.{Finds}
 use Rattle.directories_tests.proofs.PlansMade.{dirs_read}
 use Rattle.directories_tests.proofs.dirs.find_row.Goals as goal
 

@@ -1,4 +1,4 @@
-use Rattle.dir_entries.proofs.Common.{sym, subst, IfOk, BlockWords, IsInode}
+use Rattle.directories.proofs.Common.{sym, subst, IfOk, BlockWords, IsInode}
 use Rattle.node_pages.proofs.LookingUpRules.{can_look_up, looked_inode}
 use Rattle.directories_tests.proofs.MadeDirs.{test_ino, test_kind}
 use Rattle.directories_tests.proofs.PlansMade.{dirs_looked}

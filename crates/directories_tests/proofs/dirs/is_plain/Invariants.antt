@@ -1,4 +1,4 @@
-use Rattle.dir_entries.proofs.Common.{◌<◌, ℕ}
+use Rattle.directories.proofs.Common.{◌<◌, ℕ}
 use Rattle.std.specs.Prelude.{slice_index}
 use Rattle.directories_tests.specs.TestDirs.{IsPlainByte}
 use Rattle.directories_tests.proofs.dirs.is_plain.Given as goal

@@ -1,6 +1,6 @@
-use Rattle.dir_entries.proofs.Common.{refl, subst, inl, None, caches_by_one, caches_by_trans, BlockWords, firm_trans, Applied, IsUpdated}
-use Rattle.dir_entries.proofs.MakingOrder.{plan_applies}
-use Rattle.dir_entries.specs.Plans.{dir_update}
+use Rattle.directories.proofs.Common.{refl, subst, inl, None, caches_by_one, caches_by_trans, BlockWords, firm_trans, Applied, IsUpdated}
+use Rattle.directories.proofs.MakingOrder.{plan_applies}
+use Rattle.directories.specs.Plans.{dir_update}
 use Rattle.directories_tests.specs.TestDirs.{KeepsRows}
 use Rattle.directories_tests.proofs.BothPlans.{other_can}
 use Rattle.directories_tests.proofs.OpenPlans.{can_touch}

@@ -1,10 +1,10 @@
-use Rattle.rio_fakes.specs.ListVolumes.{list_kept, list_seen}
-use Rattle.dir_entries.proofs.Common.{ℕ, ◌+◌, ◌≤◌, sym, subst, arith, Held, held_of}
-use Rattle.dir_entries.specs.RowChanges.{AddsRow, RemovesRow}
-use Rattle.dir_entries.specs.Rows.{HasRow}
+use Rattle.test_objects.specs.ListVolumes.{list_kept, list_seen}
+use Rattle.directories.proofs.Common.{ℕ, ◌+◌, ◌≤◌, sym, subst, arith, Held, held_of}
+use Rattle.directories.specs.RowChanges.{AddsRow, RemovesRow}
+use Rattle.directories.specs.Rows.{HasRow}
 use Rattle.directories_tests.specs.TestDirs.{IsTestDir}
 use Rattle.directories_tests.proofs.BothPlans.{still_can, takes_none}
-use Rattle.dir_entries.proofs.CanRead.{dir_ino}
+use Rattle.directories.proofs.CanRead.{dir_ino}
 use Rattle.directories_tests.proofs.PlansMade.{add_keeps, can_make, dirs_can, dirs_left, left_held, remove_keeps}
 use Rattle.directories_tests.proofs.dirs.move_slot.Goals as goal
 

@@ -1,9 +1,9 @@
-use Rattle.rio_fakes.specs.ListVolumes.{list_kept, list_seen}
-use Rattle.dir_entries.proofs.Common.{held_of, if_ok_map}
-use Rattle.dir_entries.specs.Plans.{PlansDir}
-use Rattle.dir_entries.specs.RowChanges.{RemovesRow}
+use Rattle.test_objects.specs.ListVolumes.{list_kept, list_seen}
+use Rattle.directories.proofs.Common.{held_of, if_ok_map}
+use Rattle.directories.specs.Plans.{PlansDir}
+use Rattle.directories.specs.RowChanges.{RemovesRow}
 use Rattle.directories_tests.specs.TestDirs.{CanMake}
-use Rattle.dir_entries.proofs.CanRead.{dir_ino}
+use Rattle.directories.proofs.CanRead.{dir_ino}
 use Rattle.directories_tests.proofs.PlansMade.{can_make, dirs_left, remove_keeps}
 use Rattle.directories_tests.proofs.dirs.plan_gone.Goals as goal
 

@@ -1,4 +1,4 @@
-use Rattle.dir_entries.proofs.Common.{◌*◌, ◌<◌, sym, subst, BlockWords, held_of}
+use Rattle.directories.proofs.Common.{◌*◌, ◌<◌, sym, subst, BlockWords, held_of}
 use Rattle.directories_tests.proofs.dirs.plan_replaced.Goals as goal
 
 pub returns-clause-can : goal.returns-clause-can

@@ -1,5 +1,5 @@
-use Rattle.rio_fakes.specs.ListVolumes.{list_kept, list_seen}
-use Rattle.dir_entries.proofs.Common.{refl}
+use Rattle.test_objects.specs.ListVolumes.{list_kept, list_seen}
+use Rattle.directories.proofs.Common.{refl}
 use Rattle.directories_tests.proofs.PlansMade.{size_said}
 use Rattle.directories_tests.proofs.dirs.size_of.Goals as goal
 

@@ -1,4 +1,4 @@
-use Rattle.dir_entries.proofs.Common.{◌≡◌, true, refl, subst, ◌∙◌, arith, inr, None, caches_by_one, caches_by_trans, firm_trans, Edit}
+use Rattle.directories.proofs.Common.{◌≡◌, true, refl, subst, ◌∙◌, arith, inr, None, caches_by_one, caches_by_trans, firm_trans, Edit}
 use Rattle.rio_base.proofs.BlockRules.{shape_beside}
 use Rattle.rio_base.proofs.Rules.{looks_trans}
 use Rattle.directories_tests.proofs.OpenPlans.{edit_on, three_most, touch_counts, touch_more, touch_named, touch_place, touched_next}

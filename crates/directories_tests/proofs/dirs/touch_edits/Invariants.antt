@@ -1,5 +1,5 @@
-use Rattle.dir_entries.proofs.Common.{◌≡◌, ◌+◌, ◌<◌, ◌≤◌, ℕ, true, slice_index_or, None, CachesBy, Looks, HasShape, Firm, IsEdited, Edit}
-use Rattle.dir_entries.specs.Plans.{InThreeBlocks}
+use Rattle.directories.proofs.Common.{◌≡◌, ◌+◌, ◌<◌, ◌≤◌, ℕ, true, slice_index_or, None, CachesBy, Looks, HasShape, Firm, IsEdited, Edit}
+use Rattle.directories.specs.Plans.{InThreeBlocks}
 use Rattle.directories_tests.proofs.OpenPlans.{of_three}
 use Rattle.directories_tests.proofs.dirs.touch_edits.Given as goal
 

@@ -1,4 +1,4 @@
-use Rattle.rio_fakes.specs.ListVolumes.{ListSound, list_kept, list_seen}
+use Rattle.test_objects.specs.ListVolumes.{ListSound, list_kept, list_seen}
 use Rattle.directories_tests.specs.TestDirs.{DirsReady}
 use Rattle.directories_tests.proofs.numbered.add_numbered.Given as goal
 

@@ -1,15 +1,15 @@
-use Rattle.file_ends.proofs.Common.{◌≡◌, refl, sym, ap, subst, err_from_is_err_and, held_of, names_of, walk, answered, ◌then◌, NoneDone, ◌∙◌}
+use Rattle.request_ends.proofs.Common.{◌≡◌, refl, sym, ap, subst, err_from_is_err_and, held_of, names_of, walk, answered, ◌then◌, NoneDone, ◌∙◌}
 use Rattle.file_pages.specs.Files.{file_bytes}
 use Rattle.rio_requests.specs.declared.reply.Reply.TheVariants.{Bytes}
 use Rattle.rio_model.specs.States.{bytes_from}
 use Rattle.std.specs.Prelude.{drop, take}
 use Rattle.rio_requests.specs.Answers.{read as read_of}
-use Rattle.file_ends.specs.Ends.{SaysBytes}
-use Rattle.file_ends.proofs.AnsweredAt.{ends_answered, ends_look, fails_read}
+use Rattle.request_ends.specs.Ends.{SaysBytes}
+use Rattle.request_ends.proofs.AnsweredAt.{ends_answered, ends_look, fails_read}
 use Rattle.file_data.proofs.BytesAnswered.{fails_file, read_answer}
-use Rattle.file_ends.proofs.CallEnds.{after_well, ends_ok, ends_on, ends_read, well, well_read}
+use Rattle.request_ends.proofs.CallEnds.{after_well, ends_ok, ends_on, ends_read, well, well_read}
 use Rattle.file_tree.proofs.MemoSteps.{same_step}
-use Rattle.file_ends.proofs.Unchanged.{leaves_read, leaves_then}
+use Rattle.request_ends.proofs.Unchanged.{leaves_read, leaves_then}
 use Rattle.inode_table.specs.Inodes.{IsInode}
 use Rattle.file_tree.specs.Walks.{ino_in}
 use Rattle.file_data.proofs.data.read.Goals as goal

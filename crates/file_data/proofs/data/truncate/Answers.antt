@@ -1,13 +1,13 @@
-use Rattle.file_ends.proofs.Common.{◌≡◌, refl, sym, ap, subst, err_from_is_err_and, ◌then◌, held_of, names_of, walk, ReadsAs, File, answered, with_node, NoneDone, volume_layout, Forgets}
+use Rattle.request_ends.proofs.Common.{◌≡◌, refl, sym, ap, subst, err_from_is_err_and, ◌then◌, held_of, names_of, walk, ReadsAs, File, answered, with_node, NoneDone, volume_layout, Forgets}
 use Rattle.rio_model.specs.FileParts.{resized}
 use Rattle.std.proofs.Common.{Ok}
 use Rattle.rio_requests.specs.declared.reply.Reply.TheVariants.{Ok as Done}
 use Rattle.std.specs.Prelude.{length}
 use Rattle.rio_requests.specs.Answers.{truncate as truncate_of, with_size}
-use Rattle.file_ends.specs.Ends.{SaysDone}
-use Rattle.file_ends.proofs.AnsweredAt.{ends_after, ends_look}
+use Rattle.request_ends.specs.Ends.{SaysDone}
+use Rattle.request_ends.proofs.AnsweredAt.{ends_after, ends_look}
 use Rattle.file_data.proofs.BytesAnswered.{fails_file, size_ends_err, size_ends_ok}
-use Rattle.file_ends.proofs.CallEnds.{after_well, ends_ok, ends_on, ends_size, well, well_size}
+use Rattle.request_ends.proofs.CallEnds.{after_well, ends_ok, ends_on, ends_size, well, well_size}
 use Rattle.inode_table.specs.Inodes.{IsInode}
 use Rattle.file_tree.specs.Walks.{ino_in}
 use Rattle.file_data.proofs.MemoData.{truncate_same}

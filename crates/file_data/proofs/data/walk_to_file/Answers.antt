@@ -1,7 +1,7 @@
-use Rattle.file_ends.proofs.Common.{◌≡◌, arith, ◌<◌, sym, ap, subst, ◌∙◌, err_from_is_err_and, ◌then◌, held_of, names_of, walk, IsInode}
-use Rattle.file_ends.proofs.CallEnds.{after_well, ends_ok, ends_on, ends_refused, well}
+use Rattle.request_ends.proofs.Common.{◌≡◌, arith, ◌<◌, sym, ap, subst, ◌∙◌, err_from_is_err_and, ◌then◌, held_of, names_of, walk, IsInode}
+use Rattle.request_ends.proofs.CallEnds.{after_well, ends_ok, ends_on, ends_refused, well}
 use Rattle.file_tree.proofs.LookedAt.{file_dir, file_inode, file_left, file_region, file_walk, inode_kind_held}
-use Rattle.file_ends.proofs.Unchanged.{leaves_then}
+use Rattle.request_ends.proofs.Unchanged.{leaves_then}
 use Rattle.file_tree.specs.Walks.{ino_in}
 use Rattle.file_data.proofs.data.walk_to_file.Goals as goal
 

@@ -1,11 +1,11 @@
-use Rattle.file_ends.proofs.Common.{◌≡◌, refl, sym, ap, subst, inl, err_from_is_err_and, ◌then◌, held_of, names_of, walk, ReadsAs}
+use Rattle.request_ends.proofs.Common.{◌≡◌, refl, sym, ap, subst, inl, err_from_is_err_and, ◌then◌, held_of, names_of, walk, ReadsAs}
 use Rattle.rio_requests.specs.Parts.{WriteDone}
 use Rattle.std.proofs.Common.{Ok}
 use Rattle.rio_requests.specs.Answers.{write as write_of, write_file}
-use Rattle.file_ends.specs.Ends.{SaysCount}
-use Rattle.file_ends.proofs.AnsweredAt.{ends_after, ends_look}
+use Rattle.request_ends.specs.Ends.{SaysCount}
+use Rattle.request_ends.proofs.AnsweredAt.{ends_after, ends_look}
 use Rattle.file_data.proofs.BytesAnswered.{fails_file, write_ends_err, write_ends_ok}
-use Rattle.file_ends.proofs.CallEnds.{after_well, ends_ok, ends_on, ends_write, well, well_write}
+use Rattle.request_ends.proofs.CallEnds.{after_well, ends_ok, ends_on, ends_write, well, well_write}
 use Rattle.inode_table.specs.Inodes.{IsInode}
 use Rattle.file_tree.specs.Walks.{ino_in}
 use Rattle.file_data.proofs.MemoData.{write_parts, write_same}

@@ -1,4 +1,4 @@
-use Rattle.rio_fakes.specs.ListVolumes.{list_kept, list_seen, list_settled}
+use Rattle.test_objects.specs.ListVolumes.{list_kept, list_seen, list_settled}
 use Rattle.file_pages_tests.proofs.TestFiles.{files_again, files_stand}
 use Rattle.file_pages_tests.proofs.volumes.start_again.Goals as goal
 

@@ -1,4 +1,4 @@
-use Rattle.rio_fakes.specs.ListVolumes.{list_kept, list_seen, list_settled}
+use Rattle.test_objects.specs.ListVolumes.{list_kept, list_seen, list_settled}
 use Rattle.file_pages_tests.proofs.TestFiles.{files_made, files_stand}
 use Rattle.file_pages_tests.proofs.volumes.with_files.Goals as goal
 

@@ -1,6 +1,6 @@
-use Rattle.file_ends.proofs.Failed.{never_some}
-use Rattle.file_ends.proofs.Common.{err_from_is_err_and}
-use Rattle.file_ends.proofs.CallEnds.{ends_ok, ends_on, well}
+use Rattle.request_ends.proofs.Failed.{never_some}
+use Rattle.request_ends.proofs.Common.{err_from_is_err_and}
+use Rattle.request_ends.proofs.CallEnds.{ends_ok, ends_on, well}
 use Rattle.node_making.proofs.RegionFound.{found_on, memory_on}
 use Rattle.file_store.proofs.alone.region_of.Goals as goal
 

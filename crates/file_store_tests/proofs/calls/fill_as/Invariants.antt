@@ -1,5 +1,5 @@
-use Rattle.rio_fakes.specs.ListVolumes.{ListSound, list_kept, list_seen}
-use Rattle.file_ends.specs.Ends.{CanServe}
+use Rattle.test_objects.specs.ListVolumes.{ListSound, list_kept, list_seen}
+use Rattle.request_ends.specs.Ends.{CanServe}
 use Rattle.file_store_tests.proofs.calls.fill_as.Given as goal
 
 abbrev pub invariant-loop-n : goal.invariant-loop-n

@@ -1,8 +1,8 @@
 use Rattle.std.proofs.Common.{refl}
-use Rattle.rio_fakes.specs.ListVolumes.{list_kept, list_seen}
+use Rattle.test_objects.specs.ListVolumes.{list_kept, list_seen}
 use Rattle.rio_requests.specs.Answers.{rename as rename_of}
 use Rattle.rio_requests.specs.Parts.{NoneDone}
-use Rattle.file_ends.specs.Ends.{SaysDone}
+use Rattle.request_ends.specs.Ends.{SaysDone}
 use Rattle.file_tree.specs.Walks.{ino_numbers}
 use Rattle.file_store_tests.proofs.Played.{follows_end, follows_ok}
 use Rattle.file_store_tests.proofs.calls.rename_as.Goals as goal

@@ -1,7 +1,7 @@
-use Rattle.rio_fakes.specs.ListVolumes.{list_kept, list_seen}
+use Rattle.test_objects.specs.ListVolumes.{list_kept, list_seen}
 use Rattle.rio_requests.specs.Answers.{unlink as unlink_of}
 use Rattle.rio_requests.specs.Parts.{NoneDone}
-use Rattle.file_ends.specs.Ends.{SaysDone}
+use Rattle.request_ends.specs.Ends.{SaysDone}
 use Rattle.file_tree.specs.Walks.{ino_numbers}
 use Rattle.file_store_tests.proofs.Played.{follows_end}
 use Rattle.file_store_tests.proofs.calls.unlink_as.Goals as goal

@@ -1,7 +1,7 @@
-use Rattle.rio_fakes.specs.ListVolumes.{list_kept, list_seen}
+use Rattle.test_objects.specs.ListVolumes.{list_kept, list_seen}
 use Rattle.rio_requests.specs.Answers.{write as write_of}
 use Rattle.rio_requests.specs.Parts.{WriteDone}
-use Rattle.file_ends.specs.Ends.{SaysCount}
+use Rattle.request_ends.specs.Ends.{SaysCount}
 use Rattle.file_store_tests.proofs.Played.{follows_end}
 use Rattle.file_store_tests.proofs.calls.write_as.Goals as goal
 

@@ -1,4 +1,4 @@
-use Rattle.rio_fakes.specs.ListVolumes.{list_seen}
+use Rattle.test_objects.specs.ListVolumes.{list_seen}
 use Rattle.file_store_tests.proofs.Played.{held_looked}
 use Rattle.file_store_tests.proofs.held_calls.answers_held.Goals as goal
 

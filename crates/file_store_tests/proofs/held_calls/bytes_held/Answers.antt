@@ -1,7 +1,7 @@
-use Rattle.rio_fakes.specs.ListVolumes.{list_kept, list_seen}
+use Rattle.test_objects.specs.ListVolumes.{list_kept, list_seen}
 use Rattle.rio_requests.specs.Answers.{read as read_of, stat as stat_of, truncate as truncate_of}
 use Rattle.rio_requests.specs.Parts.{NoneDone}
-use Rattle.file_ends.specs.Ends.{SaysBytes, SaysDone, SaysStat}
+use Rattle.request_ends.specs.Ends.{SaysBytes, SaysDone, SaysStat}
 use Rattle.file_store_tests.proofs.Played.{held_end}
 use Rattle.file_store_tests.proofs.held_calls.bytes_held.Goals as goal
 

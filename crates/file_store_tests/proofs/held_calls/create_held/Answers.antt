@@ -1,8 +1,8 @@
 use Rattle.std.proofs.Common.{refl}
-use Rattle.rio_fakes.specs.ListVolumes.{list_kept, list_seen}
+use Rattle.test_objects.specs.ListVolumes.{list_kept, list_seen}
 use Rattle.rio_requests.specs.Answers.{create as create_of}
 use Rattle.rio_requests.specs.Parts.{NoneDone}
-use Rattle.file_ends.specs.Ends.{SaysIno}
+use Rattle.request_ends.specs.Ends.{SaysIno}
 use Rattle.file_store_tests.proofs.Played.{held_end, held_ok}
 use Rattle.file_store_tests.proofs.held_calls.create_held.Goals as goal
 

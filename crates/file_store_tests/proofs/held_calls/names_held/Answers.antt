@@ -1,7 +1,7 @@
-use Rattle.rio_fakes.specs.ListVolumes.{list_kept, list_seen}
+use Rattle.test_objects.specs.ListVolumes.{list_kept, list_seen}
 use Rattle.rio_requests.specs.Answers.{list as list_of, mkdir as mkdir_of, rmdir as rmdir_of}
 use Rattle.rio_requests.specs.Parts.{NoneDone}
-use Rattle.file_ends.specs.Ends.{SaysDone, SaysIno, SaysNames}
+use Rattle.request_ends.specs.Ends.{SaysDone, SaysIno, SaysNames}
 use Rattle.file_store_tests.proofs.Played.{held_end}
 use Rattle.file_store_tests.proofs.held_calls.names_held.Goals as goal
 

@@ -1,7 +1,7 @@
-use Rattle.rio_fakes.specs.ListVolumes.{list_kept, list_seen}
+use Rattle.test_objects.specs.ListVolumes.{list_kept, list_seen}
 use Rattle.rio_requests.specs.Answers.{make_region as make_region_of}
 use Rattle.rio_requests.specs.Parts.{NoneDone}
-use Rattle.file_ends.specs.Ends.{SaysIno}
+use Rattle.request_ends.specs.Ends.{SaysIno}
 use Rattle.file_store_tests.proofs.Played.{held_end, held_ok}
 use Rattle.file_store_tests.proofs.held_calls.region_held.Goals as goal
 

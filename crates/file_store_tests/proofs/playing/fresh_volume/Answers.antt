@@ -1,4 +1,4 @@
-use Rattle.rio_fakes.specs.ListVolumes.{list_kept, list_seen}
+use Rattle.test_objects.specs.ListVolumes.{list_kept, list_seen}
 use Rattle.file_store_tests.proofs.Played.{fresh_can}
 use Rattle.file_store_tests.proofs.playing.fresh_volume.Goals as goal
 

@@ -1,4 +1,4 @@
-use Rattle.rio_fakes.specs.ListVolumes.{list_kept, list_seen}
+use Rattle.test_objects.specs.ListVolumes.{list_kept, list_seen}
 use Rattle.file_store_tests.proofs.Played.{started_can}
 use Rattle.file_store_tests.proofs.playing.play_or_start.Goals as goal
 

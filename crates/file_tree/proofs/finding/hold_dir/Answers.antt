@@ -1,6 +1,6 @@
 use Rattle.rio_base.proofs.Rules.{looks_refl}
-use Rattle.file_ends.proofs.Common.{le_refl, refl, err_from_is_err_and, ends_by_well}
-use Rattle.file_ends.proofs.CallEnds.{ends_ok, ends_on, well}
+use Rattle.request_ends.proofs.Common.{le_refl, refl, err_from_is_err_and, ends_by_well}
+use Rattle.request_ends.proofs.CallEnds.{ends_ok, ends_on, well}
 use Rattle.file_tree.proofs.LookedAt.{unrefused_on}
 use Rattle.file_tree.proofs.MemoSteps.{closed_step, rows_are}
 use Rattle.file_tree.proofs.finding.hold_dir.Goals as goal

@@ -1,11 +1,11 @@
 use Rattle.file_tree.proofs.Lookups.{reads_then, named_then}
-use Rattle.file_ends.proofs.Failed.{never_some}
-use Rattle.file_ends.proofs.Common.{looks_trans, ◌≡◌, sym, subst, err_from_is_err_and, get, held_of, IsInode}
-use Rattle.dir_entries.specs.Rows.{Finds}
+use Rattle.request_ends.proofs.Failed.{never_some}
+use Rattle.request_ends.proofs.Common.{looks_trans, ◌≡◌, sym, subst, err_from_is_err_and, get, held_of, IsInode}
+use Rattle.directories.specs.Rows.{Finds}
 use Rattle.std.specs.Prelude.{IfOk}
 use Rattle.name_index.specs.Agreeing.{Says}
 use Rattle.name_index.specs.declared.index.Lookup.{Lookup}
-use Rattle.file_ends.proofs.CallEnds.{after_well, ends_ok, ends_on, well}
+use Rattle.request_ends.proofs.CallEnds.{after_well, ends_ok, ends_on, well}
 use Rattle.file_tree.proofs.LookedAt.{unrefused_on}
 use Rattle.file_tree.proofs.MemoSteps.{none_there}
 use Rattle.file_tree.proofs.finding.look_up.Goals as goal

@@ -1,12 +1,12 @@
 use Rattle.file_tree.proofs.Lookups.{can_looked}
-use Rattle.file_ends.proofs.Failed.{never_some}
-use Rattle.file_ends.proofs.Common.{◌≡◌, arith, sym, subst, ◌∙◌, err_from_is_err_and, ◌then◌, held_of, IsInode}
-use Rattle.dir_entries.specs.Rows.{Finds}
+use Rattle.request_ends.proofs.Failed.{never_some}
+use Rattle.request_ends.proofs.Common.{◌≡◌, arith, sym, subst, ◌∙◌, err_from_is_err_and, ◌then◌, held_of, IsInode}
+use Rattle.directories.specs.Rows.{Finds}
 use Rattle.std.specs.Prelude.{IfOk}
-use Rattle.file_ends.proofs.CallEnds.{after_well, ends_on, well}
+use Rattle.request_ends.proofs.CallEnds.{after_well, ends_on, well}
 use Rattle.file_tree.proofs.LookedAt.{unrefused_on}
 use Rattle.file_tree.proofs.MemoSteps.{same_step}
-use Rattle.file_ends.proofs.Unchanged.{leaves_read, leaves_then}
+use Rattle.request_ends.proofs.Unchanged.{leaves_read, leaves_then}
 use Rattle.file_tree.proofs.finding.look_up_in.Goals as goal
 
 pub inode_of-requires-clause-used : goal.inode_of-requires-clause-used

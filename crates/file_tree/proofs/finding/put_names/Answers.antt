@@ -1,8 +1,8 @@
-use Rattle.file_ends.proofs.Common.{refl, ap, ◌∙◌, Err}
+use Rattle.request_ends.proofs.Common.{refl, ap, ◌∙◌, Err}
 use Rattle.rio_base.specs.declared.failures.ReadFail.{ReadFail}
 use Rattle.rio_base.specs.declared.failures.ReadFail.TheVariants.{Fault as ReadFault, Stopped as ReadStopped}
-use Rattle.file_ends.specs.declared.failures.FileFail.TheVariants.{Fault, Stopped}
-use Rattle.file_ends.proofs.CallEnds.{ends_ok, ends_read, well_memory, well_read}
+use Rattle.request_ends.specs.declared.failures.FileFail.TheVariants.{Fault, Stopped}
+use Rattle.request_ends.proofs.CallEnds.{ends_ok, ends_read, well_memory, well_read}
 use Rattle.file_tree.proofs.finding.put_names.Goals as goal
 
 pub hold_names-requires-clause-apart : goal.hold_names-requires-clause-apart

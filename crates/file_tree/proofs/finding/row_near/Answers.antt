@@ -1,9 +1,9 @@
 use Rattle.file_tree.proofs.Lookups.{reads_then, named_then}
-use Rattle.file_ends.proofs.Failed.{never_some}
-use Rattle.file_ends.proofs.Common.{looks_trans, ◌≡◌, Option, sym, subst, err_from_is_err_and, Ino, held_of, IsInode}
-use Rattle.dir_entries.specs.Rows.{Finds, IsEntry}
+use Rattle.request_ends.proofs.Failed.{never_some}
+use Rattle.request_ends.proofs.Common.{looks_trans, ◌≡◌, Option, sym, subst, err_from_is_err_and, Ino, held_of, IsInode}
+use Rattle.directories.specs.Rows.{Finds, IsEntry}
 use Rattle.std.specs.Prelude.{IfOk, IfSome}
-use Rattle.file_ends.proofs.CallEnds.{after_well, ends_ok, ends_on, well}
+use Rattle.request_ends.proofs.CallEnds.{after_well, ends_ok, ends_on, well}
 use Rattle.file_tree.proofs.LookedAt.{unrefused_on}
 use Rattle.file_tree.proofs.finding.row_near.Goals as goal
 

@@ -1,6 +1,6 @@
-use Rattle.file_ends.proofs.Failed.{never_some, unrefused_vol}
-use Rattle.file_ends.proofs.Common.{err_from_is_err_and}
-use Rattle.file_ends.proofs.CallEnds.{ends_ok, ends_vol, well_vol}
+use Rattle.request_ends.proofs.Failed.{never_some, unrefused_vol}
+use Rattle.request_ends.proofs.Common.{err_from_is_err_and}
+use Rattle.request_ends.proofs.CallEnds.{ends_ok, ends_vol, well_vol}
 use Rattle.file_tree.proofs.finding.scan.Goals as goal
 
 pub returns-in_err-found-clause-ends : goal.returns-in_err-found-clause-ends

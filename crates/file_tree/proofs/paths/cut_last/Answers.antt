@@ -1,4 +1,4 @@
-use Rattle.file_ends.proofs.Common.{◌+◌, ◌∙◌, subst, sym, IsName}
+use Rattle.request_ends.proofs.Common.{◌+◌, ◌∙◌, subst, sym, IsName}
 use Rattle.std.proofs.lemmas.List.{take_rest}
 use Rattle.file_tree.proofs.PathNames.{cut_front, cut_name, cut_place, last_named}
 use Rattle.file_tree.proofs.paths.cut_last.Goals as goal

@@ -1,4 +1,4 @@
-use Rattle.file_ends.proofs.Common.{sym}
+use Rattle.request_ends.proofs.Common.{sym}
 use Rattle.file_tree.proofs.BelowPaths.{below_other, below_short, below_slash}
 use Rattle.file_tree.proofs.paths.is_below.Goals as goal
 

@@ -1,4 +1,4 @@
-use Rattle.file_ends.proofs.Common.{arith, nat_tests}
+use Rattle.request_ends.proofs.Common.{arith, nat_tests}
 use Rattle.file_tree.proofs.PathNames.{root_long, root_short}
 use Rattle.file_tree.proofs.paths.is_root.Goals as goal
 

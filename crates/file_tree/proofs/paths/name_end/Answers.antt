@@ -1,4 +1,4 @@
-use Rattle.file_ends.proofs.Common.{◌-◌, drop, inr, length, subst, take}
+use Rattle.request_ends.proofs.Common.{◌-◌, drop, inr, length, subst, take}
 use Rattle.memchr.specs.Find.{IsFirstByte, is_byte}
 use Rattle.file_tree.proofs.PathNames.{slash_none, slash_some}
 use Rattle.file_tree.proofs.paths.name_end.Goals as goal

@@ -1,11 +1,11 @@
 use Rattle.file_tree.proofs.Lookups.{can_looked}
-use Rattle.file_ends.proofs.Failed.{never_some}
-use Rattle.file_ends.proofs.Common.{◌≡◌, ◌<◌, ap, sym, subst, err_from_is_err_and, ◌then◌, held_of, names_of, walk, IsInode, ◌∙◌}
-use Rattle.file_ends.specs.Failures.{Refuses}
+use Rattle.request_ends.proofs.Failed.{never_some}
+use Rattle.request_ends.proofs.Common.{◌≡◌, ◌<◌, ap, sym, subst, err_from_is_err_and, ◌then◌, held_of, names_of, walk, IsInode, ◌∙◌}
+use Rattle.request_ends.specs.Failures.{Refuses}
 use Rattle.file_tree.specs.Walks.{ino_in}
-use Rattle.file_ends.proofs.CallEnds.{after_well, ends_ok, ends_on, well}
+use Rattle.request_ends.proofs.CallEnds.{after_well, ends_ok, ends_on, well}
 use Rattle.file_tree.proofs.LookedAt.{to_dir_leaf, to_dir_ok, to_dir_walk}
-use Rattle.file_ends.proofs.Unchanged.{leaves_read, leaves_then}
+use Rattle.request_ends.proofs.Unchanged.{leaves_read, leaves_then}
 use Rattle.file_tree.proofs.walking.dir_at.Goals as goal
 
 pub returns-in_err-dir-clause-value : goal.returns-in_err-dir-clause-value

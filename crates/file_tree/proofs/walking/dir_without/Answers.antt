@@ -1,14 +1,14 @@
 use Rattle.file_tree.proofs.Lookups.{can_looked}
-use Rattle.file_ends.proofs.Failed.{never_some}
-use Rattle.file_ends.proofs.Common.{◌≡◌, ap, sym, subst, ◌∙◌, err_from_is_err_and, ◌then◌, held_of, names_of, IsInode}
-use Rattle.dir_entries.specs.Rows.{Finds}
+use Rattle.request_ends.proofs.Failed.{never_some}
+use Rattle.request_ends.proofs.Common.{◌≡◌, ap, sym, subst, ◌∙◌, err_from_is_err_and, ◌then◌, held_of, names_of, IsInode}
+use Rattle.directories.specs.Rows.{Finds}
 use Rattle.file_tree.specs.Walks.{ino_in}
 use Rattle.file_tree.proofs.RowReads.{none_found}
-use Rattle.file_ends.proofs.CallEnds.{after_well, ends_ok, ends_on, ends_refused, well}
+use Rattle.request_ends.proofs.CallEnds.{after_well, ends_ok, ends_on, ends_refused, well}
 use Rattle.file_tree.proofs.FreeRows.{free_fails, free_over, free_unrefused}
 use Rattle.file_tree.proofs.LookedAt.{no_row}
 use Rattle.file_tree.proofs.MemoSteps.{same_step}
-use Rattle.file_ends.proofs.Unchanged.{leaves_read, leaves_then}
+use Rattle.request_ends.proofs.Unchanged.{leaves_read, leaves_then}
 use Rattle.file_tree.proofs.walking.dir_without.Goals as goal
 
 pub returns-in_err-dir-clause-value : goal.returns-in_err-dir-clause-value

@@ -1,5 +1,5 @@
 use Rattle.file_tree.proofs.Lookups.{can_looked}
-use Rattle.file_ends.proofs.Unchanged.{leaves_read}
+use Rattle.request_ends.proofs.Unchanged.{leaves_read}
 use Rattle.file_tree.proofs.walking.inode_of.Goals as goal
 
 pub returns-clause-value : goal.returns-clause-value

@@ -1,8 +1,8 @@
 use Rattle.file_tree.proofs.Lookups.{inode_looked, refuses_vol}
 use Rattle.region_view.proofs.UsedInodes.{used_ino}
-use Rattle.file_ends.proofs.Failed.{never_ok, never_some}
-use Rattle.file_ends.proofs.Common.{refl, sym, ◌∙◌, err_from_is_err_and}
-use Rattle.file_ends.proofs.CallEnds.{ends_ok, ends_vol, ends_refused, well_vol}
+use Rattle.request_ends.proofs.Failed.{never_ok, never_some}
+use Rattle.request_ends.proofs.Common.{refl, sym, ◌∙◌, err_from_is_err_and}
+use Rattle.request_ends.proofs.CallEnds.{ends_ok, ends_vol, ends_refused, well_vol}
 use Rattle.file_tree.proofs.LookedAt.{inode_kind_held}
 use Rattle.file_tree.proofs.walking.must_be_dir.Goals as goal
 

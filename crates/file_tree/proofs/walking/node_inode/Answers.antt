@@ -1,8 +1,8 @@
 use Rattle.file_tree.proofs.Lookups.{inode_looked}
 use Rattle.region_view.proofs.UsedInodes.{used_ino}
-use Rattle.file_ends.proofs.Failed.{never_some, unrefused_vol}
-use Rattle.file_ends.proofs.Common.{err_from_is_err_and}
-use Rattle.file_ends.proofs.CallEnds.{ends_ok, ends_vol, well_vol}
+use Rattle.request_ends.proofs.Failed.{never_some, unrefused_vol}
+use Rattle.request_ends.proofs.Common.{err_from_is_err_and}
+use Rattle.request_ends.proofs.CallEnds.{ends_ok, ends_vol, well_vol}
 use Rattle.file_tree.proofs.walking.node_inode.Goals as goal
 
 pub returns-in_err-inode-clause-value : goal.returns-in_err-inode-clause-value

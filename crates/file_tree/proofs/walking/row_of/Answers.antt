@@ -1,6 +1,6 @@
-use Rattle.file_ends.proofs.Failed.{never_some}
-use Rattle.file_ends.proofs.Common.{err_from_is_err_and}
-use Rattle.file_ends.proofs.CallEnds.{ends_ok, ends_on, ends_refused, well}
+use Rattle.request_ends.proofs.Failed.{never_some}
+use Rattle.request_ends.proofs.Common.{err_from_is_err_and}
+use Rattle.request_ends.proofs.CallEnds.{ends_ok, ends_on, ends_refused, well}
 use Rattle.file_tree.proofs.LookedAt.{unrefused_on}
 use Rattle.file_tree.proofs.walking.row_of.Goals as goal
 

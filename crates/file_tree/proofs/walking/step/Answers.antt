@@ -1,9 +1,9 @@
 use Rattle.file_tree.proofs.Lookups.{reads_then, named_then}
-use Rattle.file_ends.proofs.Failed.{never_some}
-use Rattle.file_ends.proofs.Common.{looks_trans, ◌≡◌, ℕ, sym, subst, err_from_is_err_and, held_of, IsInode}
-use Rattle.dir_entries.specs.Rows.{HasRow, IsEntry}
-use Rattle.file_ends.specs.Failures.{Refuses}
-use Rattle.file_ends.proofs.CallEnds.{after_well, ends_ok, ends_on, well}
+use Rattle.request_ends.proofs.Failed.{never_some}
+use Rattle.request_ends.proofs.Common.{looks_trans, ◌≡◌, ℕ, sym, subst, err_from_is_err_and, held_of, IsInode}
+use Rattle.directories.specs.Rows.{HasRow, IsEntry}
+use Rattle.request_ends.specs.Failures.{Refuses}
+use Rattle.request_ends.proofs.CallEnds.{after_well, ends_ok, ends_on, well}
 use Rattle.file_tree.proofs.LookedAt.{row_used, step_no_dir, step_no_row, step_taken}
 use Rattle.file_tree.proofs.MemoSteps.{same_step}
 use Rattle.file_tree.proofs.walking.step.Goals as goal

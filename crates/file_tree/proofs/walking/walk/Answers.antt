@@ -1,8 +1,8 @@
 use Rattle.file_tree.proofs.Lookups.{can_looked}
-use Rattle.file_ends.proofs.Unchanged.{leaves_read}
-use Rattle.file_ends.proofs.Failed.{never_some}
-use Rattle.file_ends.proofs.Common.{arith, names_of, walk, err_from_is_err_and, refl, le_refl, ends_by_well, goes_refl, leaves_refl}
-use Rattle.file_ends.proofs.CallEnds.{ends_on, ends_ok, well}
+use Rattle.request_ends.proofs.Unchanged.{leaves_read}
+use Rattle.request_ends.proofs.Failed.{never_some}
+use Rattle.request_ends.proofs.Common.{arith, names_of, walk, err_from_is_err_and, refl, le_refl, ends_by_well, goes_refl, leaves_refl}
+use Rattle.request_ends.proofs.CallEnds.{ends_on, ends_ok, well}
 use Rattle.file_tree.proofs.LookedAt.{comes_handed}
 use Rattle.file_tree.proofs.FreeFound.{root_held}
 use Rattle.file_tree.proofs.WalksHeld.{walked_used}

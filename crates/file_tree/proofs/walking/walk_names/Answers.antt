@@ -1,8 +1,8 @@
 use Rattle.rio_base.proofs.Rules.{looks_refl}
 use Rattle.file_tree.proofs.Lookups.{named_then, reads_then}
-use Rattle.file_ends.proofs.Failed.{never_some}
-use Rattle.file_ends.proofs.Common.{◌<◌, arith, refl, sym, subst, ◌∙◌, err_from_is_err_and, ends_by_well, held_of, looks_trans, ReadsAs}
-use Rattle.file_ends.proofs.CallEnds.{after_well, ends_ok, ends_on, well}
+use Rattle.request_ends.proofs.Failed.{never_some}
+use Rattle.request_ends.proofs.Common.{◌<◌, arith, refl, sym, subst, ◌∙◌, err_from_is_err_and, ends_by_well, held_of, looks_trans, ReadsAs}
+use Rattle.request_ends.proofs.CallEnds.{after_well, ends_ok, ends_on, well}
 use Rattle.file_tree.proofs.LookedAt.{comes_same}
 use Rattle.file_tree.proofs.MemoSteps.{same_step}
 use Rattle.file_tree.proofs.FreeFound.{root_held}

@@ -1,4 +1,4 @@
-use Rattle.file_ends.proofs.Common.{◌≡◌, ◌+◌, ◌-◌, ◌<◌, ◌≤◌, length, EndsBy, Looks, HasShape, held_of, names_of, walk, volume_layout, ReadsAs, AllNamed, State}
+use Rattle.request_ends.proofs.Common.{◌≡◌, ◌+◌, ◌-◌, ◌<◌, ◌≤◌, length, EndsBy, Looks, HasShape, held_of, names_of, walk, volume_layout, ReadsAs, AllNamed, State}
 use Rattle.file_tree.specs.Memos.{InStep}
 use Rattle.file_tree.proofs.WalkedOn.{walk_left}
 use Rattle.file_tree.proofs.walking.walk_names.Given as goal

@@ -1,6 +1,6 @@
-use Rattle.file_ends.proofs.Failed.{never_some}
-use Rattle.file_ends.proofs.Common.{err_from_is_err_and, names_of, walk_to_dir}
-use Rattle.file_ends.proofs.CallEnds.{ends_ok, ends_on, well}
+use Rattle.request_ends.proofs.Failed.{never_some}
+use Rattle.request_ends.proofs.Common.{err_from_is_err_and, names_of, walk_to_dir}
+use Rattle.request_ends.proofs.CallEnds.{ends_ok, ends_on, well}
 use Rattle.file_tree.proofs.LookedAt.{comes_in}
 use Rattle.file_tree.proofs.walking.walk_to_dir.Goals as goal
 

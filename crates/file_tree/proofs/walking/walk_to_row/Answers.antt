@@ -1,13 +1,13 @@
 use Rattle.file_tree.proofs.Lookups.{can_looked}
-use Rattle.file_ends.proofs.Failed.{never_some}
-use Rattle.file_ends.proofs.Common.{◌≡◌, ℕ, ap, sym, subst, err_from_is_err_and, ◌then◌, held_of, names_of, IsInode, ◌∙◌}
-use Rattle.dir_entries.specs.Rows.{HasRow, IsEntry}
-use Rattle.file_ends.specs.Failures.{Refuses}
+use Rattle.request_ends.proofs.Failed.{never_some}
+use Rattle.request_ends.proofs.Common.{◌≡◌, ℕ, ap, sym, subst, err_from_is_err_and, ◌then◌, held_of, names_of, IsInode, ◌∙◌}
+use Rattle.directories.specs.Rows.{HasRow, IsEntry}
+use Rattle.request_ends.specs.Failures.{Refuses}
 use Rattle.file_tree.specs.Walks.{ino_in}
-use Rattle.file_ends.proofs.CallEnds.{after_well, ends_ok, ends_on, well}
+use Rattle.request_ends.proofs.CallEnds.{after_well, ends_ok, ends_on, well}
 use Rattle.file_tree.proofs.LookedAt.{row_missing, row_no_dir, row_there, row_used}
 use Rattle.file_tree.proofs.MemoSteps.{same_step}
-use Rattle.file_ends.proofs.Unchanged.{leaves_read, leaves_then}
+use Rattle.request_ends.proofs.Unchanged.{leaves_read, leaves_then}
 use Rattle.file_tree.proofs.walking.walk_to_row.Goals as goal
 
 pub returns-in_err-dir-clause-value : goal.returns-in_err-dir-clause-value

@@ -1,6 +1,6 @@
 use Rattle.std.proofs.Common.{◌≡◌, ◌<◌, ◌∙◌, refl, sym, ap, true, Some, is_some}
 use Rattle.std.specs.Option.{option_map}
-use Rattle.rio_bench.specs.Benches.{Leaving}
+use Rattle.machine_bench.specs.Benches.{Leaving}
 use Rattle.rio_words.specs.declared.command.RioCommand.TheVariants.{Check, Drill, Format, Registry, Serve}
 use Rattle.held_memory.specs.Held.{Holds}
 use Rattle.held_memory.specs.HeldEnds.{left_of}

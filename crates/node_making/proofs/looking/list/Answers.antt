@@ -1,14 +1,14 @@
-use Rattle.file_ends.proofs.Common.{◌≡◌, refl, sym, subst, err_from_is_err_and, held_of, names_of, walk_to_dir, answered, names_in, ◌then◌, NoneDone, ◌∙◌}
-use Rattle.dir_entries.specs.Rows.{ListsNames}
+use Rattle.request_ends.proofs.Common.{◌≡◌, refl, sym, subst, err_from_is_err_and, held_of, names_of, walk_to_dir, answered, names_in, ◌then◌, NoneDone, ◌∙◌}
+use Rattle.directories.specs.Rows.{ListsNames}
 use Rattle.rio_requests.specs.declared.reply.Reply.TheVariants.{Names as NamesOf}
 use Rattle.rio_requests.specs.Answers.{list as list_of}
-use Rattle.file_ends.specs.Ends.{SaysNames}
-use Rattle.file_ends.proofs.AnsweredAt.{ends_answered, ends_look, fails_read}
+use Rattle.request_ends.specs.Ends.{SaysNames}
+use Rattle.request_ends.proofs.AnsweredAt.{ends_answered, ends_look, fails_read}
 use Rattle.file_tree.proofs.LookedAt.{fails_walk}
 use Rattle.node_making.proofs.NamesListed.{list_answer}
-use Rattle.file_ends.proofs.CallEnds.{after_well, ends_ok, ends_on, ends_read, well, well_read}
+use Rattle.request_ends.proofs.CallEnds.{after_well, ends_ok, ends_on, ends_read, well, well_read}
 use Rattle.file_tree.proofs.MemoSteps.{same_step}
-use Rattle.file_ends.proofs.Unchanged.{leaves_read, leaves_then}
+use Rattle.request_ends.proofs.Unchanged.{leaves_read, leaves_then}
 use Rattle.node_making.proofs.looking.list.Goals as goal
 
 pub returns-in_err-dir-clause-leaves : goal.returns-in_err-dir-clause-leaves

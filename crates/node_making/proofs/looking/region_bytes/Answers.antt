@@ -1,9 +1,9 @@
-use Rattle.file_ends.proofs.Failed.{never_some, unrefused_vol}
-use Rattle.file_ends.proofs.Common.{◌*◌, arith, refl, ap, ◌∙◌, err_from_is_err_and, BlockWords, looks_trans, can_look_up}
+use Rattle.request_ends.proofs.Failed.{never_some, unrefused_vol}
+use Rattle.request_ends.proofs.Common.{◌*◌, arith, refl, ap, ◌∙◌, err_from_is_err_and, BlockWords, looks_trans, can_look_up}
 use Rattle.node_pages.proofs.LookingUpRules.{named_on}
-use Rattle.file_ends.proofs.CallEnds.{after_well, ends_ok, ends_vol, well_vol}
+use Rattle.request_ends.proofs.CallEnds.{after_well, ends_ok, ends_vol, well_vol}
 use Rattle.region_view.proofs.RegionHeader.{has_header, header_block, header_name, header_named, header_shape, header_small, header_word}
-use Rattle.file_ends.proofs.Unchanged.{can_again, leaves_read}
+use Rattle.request_ends.proofs.Unchanged.{can_again, leaves_read}
 use Rattle.node_making.proofs.looking.region_bytes.Goals as goal
 
 pub block_of-requires-clause-can : goal.block_of-requires-clause-can

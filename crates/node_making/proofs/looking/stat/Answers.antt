@@ -1,14 +1,14 @@
 use Rattle.file_tree.proofs.Lookups.{can_looked}
-use Rattle.file_ends.proofs.Common.{◌≡◌, ◌*◌, ◌<◌, refl, sym, subst, ◌∙◌, err_from_is_err_and, ◌then◌, held_of, names_of, walk, IsInode, NoneDone, get}
+use Rattle.request_ends.proofs.Common.{◌≡◌, ◌*◌, ◌<◌, refl, sym, subst, ◌∙◌, err_from_is_err_and, ◌then◌, held_of, names_of, walk, IsInode, NoneDone, get}
 use Rattle.rio_requests.specs.declared.reply.Reply.TheVariants.{Stat}
 use Rattle.rio_requests.specs.Answers.{stat as stat_of, stat_node}
-use Rattle.file_ends.specs.Ends.{SaysStat}
-use Rattle.file_ends.proofs.AnsweredAt.{ends_answered, ends_look, fails_unrefused}
+use Rattle.request_ends.specs.Ends.{SaysStat}
+use Rattle.request_ends.proofs.AnsweredAt.{ends_answered, ends_look, fails_unrefused}
 use Rattle.file_tree.proofs.LookedAt.{fails_walk, inode_kind_held}
-use Rattle.file_ends.proofs.CallEnds.{after_well, ends_ok, ends_on, well}
+use Rattle.request_ends.proofs.CallEnds.{after_well, ends_ok, ends_on, well}
 use Rattle.file_tree.proofs.MemoSteps.{same_step}
 use Rattle.node_making.proofs.StatAnswered.{stat_answer}
-use Rattle.file_ends.proofs.Unchanged.{leaves_then, leaves_read}
+use Rattle.request_ends.proofs.Unchanged.{leaves_then, leaves_read}
 use Rattle.node_making.proofs.looking.stat.Goals as goal
 
 pub returns-in_err-i-clause-leaves : goal.returns-in_err-i-clause-leaves

@@ -1,13 +1,13 @@
-use Rattle.file_ends.proofs.Failed.{never_ok}
-use Rattle.file_ends.proofs.Common.{◌≡◌, ℕ, le_refl, refl, sym, ap, subst, err_from_is_err_and, ◌then◌, ends_by_well, held_of, names_of, volume_layout, ReadsAs, Forgets, leaves_refl, NoneDone, goes_refl}
-use Rattle.dir_entries.specs.Rows.{HasRow}
+use Rattle.request_ends.proofs.Failed.{never_ok}
+use Rattle.request_ends.proofs.Common.{◌≡◌, ℕ, le_refl, refl, sym, ap, subst, err_from_is_err_and, ◌then◌, ends_by_well, held_of, names_of, volume_layout, ReadsAs, Forgets, leaves_refl, NoneDone, goes_refl}
+use Rattle.directories.specs.Rows.{HasRow}
 use Rattle.std.specs.Prelude.{OnOk}
 use Rattle.rio_model.specs.States.{least_free as least_of}
 use Rattle.rio_requests.specs.Answers.{make as make_of, make_new as make_new_of, empty_node}
-use Rattle.file_ends.specs.Ends.{SaysIno}
-use Rattle.file_ends.specs.declared.failures.FileFail.TheVariants.{Refused}
-use Rattle.file_ends.proofs.AnsweredAt.{ends_after, ends_look, ends_as}
-use Rattle.file_ends.proofs.CallEnds.{after_well, ends_on, ends_refused, well}
+use Rattle.request_ends.specs.Ends.{SaysIno}
+use Rattle.request_ends.specs.declared.failures.FileFail.TheVariants.{Refused}
+use Rattle.request_ends.proofs.AnsweredAt.{ends_after, ends_look, ends_as}
+use Rattle.request_ends.proofs.CallEnds.{after_well, ends_on, ends_refused, well}
 use Rattle.node_making.proofs.RowsMade.{fails_make, made_free}
 use Rattle.file_tree.proofs.MemoSteps.{same_step}
 use Rattle.node_making.proofs.making.make.Goals as goal

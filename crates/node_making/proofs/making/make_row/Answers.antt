@@ -1,8 +1,8 @@
-use Rattle.file_ends.proofs.Failed.{never_ok}
-use Rattle.file_ends.proofs.Common.{[], ◌∷◌, ap, ◌∙◌, arith, err_from_is_err_and, Some, ◌then◌, answered, with_new, Number, make_new}
+use Rattle.request_ends.proofs.Failed.{never_ok}
+use Rattle.request_ends.proofs.Common.{[], ◌∷◌, ap, ◌∙◌, arith, err_from_is_err_and, Some, ◌then◌, answered, with_new, Number, make_new}
 use Rattle.rio_requests.specs.Answers.{empty_node}
-use Rattle.file_ends.specs.Ends.{SaysNumber}
-use Rattle.file_ends.proofs.CallEnds.{after_well, ends_size, well_size}
+use Rattle.request_ends.specs.Ends.{SaysNumber}
+use Rattle.request_ends.proofs.CallEnds.{after_well, ends_size, well_size}
 use Rattle.node_making.proofs.NewRows.{NewRow, fails_new, new_needs, new_reaches, new_requested}
 use Rattle.node_updates.proofs.Planning.{ends_planning, leads, planned_reached}
 use Rattle.file_tree.proofs.RowRoom.{row_fits, row_room}

@@ -1,19 +1,19 @@
-use Rattle.file_ends.proofs.Failed.{never_ok}
-use Rattle.file_ends.proofs.Common.{◌≡◌, ℕ, refl, sym, ap, subst, err_from_is_err_and, Ok, None, Some, inode_kind, ◌then◌, held_of, volume_layout, ReadsAs, LeavesInUse, with_new, NoneDone, Forgets, State}
-use Rattle.dir_entries.specs.Rows.{HasRow}
+use Rattle.request_ends.proofs.Failed.{never_ok}
+use Rattle.request_ends.proofs.Common.{◌≡◌, ℕ, refl, sym, ap, subst, err_from_is_err_and, Ok, None, Some, inode_kind, ◌then◌, held_of, volume_layout, ReadsAs, LeavesInUse, with_new, NoneDone, Forgets, State}
+use Rattle.directories.specs.Rows.{HasRow}
 use Rattle.std.specs.Prelude.{is_err}
 use Rattle.rio_model.specs.States.{least_free as least_of}
 use Rattle.inode_table.specs.Inodes.{FindsFree}
 use Rattle.rio_requests.specs.Answers.{make_new as make_new_of}
-use Rattle.file_ends.specs.Ends.{SaysIno, SaysNumber}
+use Rattle.request_ends.specs.Ends.{SaysIno, SaysNumber}
 use Rattle.node_making.specs.NewNodes.{node_made}
-use Rattle.file_ends.specs.declared.failures.FileFail.TheVariants.{Refused}
-use Rattle.file_ends.proofs.AnsweredAt.{ends_after, ends_look, ends_as, ends_handed, fails_vol}
-use Rattle.file_ends.proofs.CallEnds.{after_well, ends_ok, ends_on, ends_refused, ends_vol, well, well_vol}
+use Rattle.request_ends.specs.declared.failures.FileFail.TheVariants.{Refused}
+use Rattle.request_ends.proofs.AnsweredAt.{ends_after, ends_look, ends_as, ends_handed, fails_vol}
+use Rattle.request_ends.proofs.CallEnds.{after_well, ends_ok, ends_on, ends_refused, ends_vol, well, well_vol}
 use Rattle.node_making.proofs.LeastFree.{least_none, least_some, leaves_found}
 use Rattle.file_tree.proofs.MemoEnds.{new_next, none_same, step_failed, was_done}
 use Rattle.file_tree.proofs.MemoSteps.{same_step, stay_new}
-use Rattle.file_ends.proofs.Unchanged.{can_again}
+use Rattle.request_ends.proofs.Unchanged.{can_again}
 use Rattle.node_making.proofs.new_nodes.make_new.Goals as goal
 
 pub returns-in_err-i-clause-leaves : goal.returns-in_err-i-clause-leaves

@@ -1,6 +1,6 @@
-use Rattle.file_ends.proofs.Common.{sym, subst, Some, ReadsAs, State, NoneDone}
+use Rattle.request_ends.proofs.Common.{sym, subst, Some, ReadsAs, State, NoneDone}
 use Rattle.rio_requests.specs.Answers.{make_new as make_new_of}
-use Rattle.file_ends.specs.Ends.{FileEnds, SaysNumber}
+use Rattle.request_ends.specs.Ends.{FileEnds, SaysNumber}
 use Rattle.node_making.specs.NewNodes.{FitsNode, node_made}
 use Rattle.file_tree.proofs.FreeFound.{free_held}
 use Rattle.node_making.proofs.new_nodes.make_node.Goals as goal

@@ -1,8 +1,8 @@
-use Rattle.file_ends.proofs.Failed.{never_ok}
-use Rattle.file_ends.proofs.Common.{[], ◌∷◌, ap, arith, err_from_is_err_and, Some, ◌then◌, Region, with_new, make_new, Number}
+use Rattle.request_ends.proofs.Failed.{never_ok}
+use Rattle.request_ends.proofs.Common.{[], ◌∷◌, ap, arith, err_from_is_err_and, Some, ◌then◌, Region, with_new, make_new, Number}
 use Rattle.rio_requests.specs.Answers.{new_region}
-use Rattle.file_ends.specs.Ends.{SaysNumber}
-use Rattle.file_ends.proofs.CallEnds.{after_well, ends_size, well_size}
+use Rattle.request_ends.specs.Ends.{SaysNumber}
+use Rattle.request_ends.proofs.CallEnds.{after_well, ends_size, well_size}
 use Rattle.file_tree.proofs.FreeFound.{free_held}
 use Rattle.node_updates.proofs.Planning.{can_still, ends_planning, leads, leaves_on, planned_reached}
 use Rattle.node_making.proofs.RegionRoom.{blocks_free, fails_region, fails_row, region_room}

@@ -1,8 +1,8 @@
 use Rattle.node_updates.specs.declared.changes.NodeChange.{NodeChange}
 use Rattle.node_pages.specs.Changes.{free_beside}
 use Rattle.node_pages.proofs.Ends.{ends_vol_size, unrefused_vol, size_err, size_then, err_handed, unrefused_ok, ends_well_ok}
-use Rattle.file_ends.proofs.Failed.{never_ok, never_some}
-use Rattle.file_ends.proofs.Common.{sym, subst, Contains, ◌then◌, numbers, AtPage, IsFree, volume_layout, err_from_is_err_and, ap, blocks_for, length, inr, arith}
+use Rattle.request_ends.proofs.Failed.{never_ok, never_some}
+use Rattle.request_ends.proofs.Common.{sym, subst, Contains, ◌then◌, numbers, AtPage, IsFree, volume_layout, err_from_is_err_and, ap, blocks_for, length, inr, arith}
 use Rattle.node_making.proofs.RegionPlanned.{PutsHeader, TakesRegion, are_beside, are_free, first_page, header_at, header_named, header_place, less_wanted, all_wanted, plans_region, put_leaves, put_spares}
 use Rattle.node_making.proofs.regions.plan_region.Goals as goal
 

@@ -1,12 +1,12 @@
 use Rattle.file_tree.proofs.Lookups.{can_looked}
-use Rattle.file_ends.proofs.Failed.{never_some}
-use Rattle.file_ends.proofs.Common.{◌≡◌, ◌<◌, ap, sym, subst, ◌∙◌, err_from_is_err_and, ◌then◌, held_of, names_of, walk, IsInode}
+use Rattle.request_ends.proofs.Failed.{never_some}
+use Rattle.request_ends.proofs.Common.{◌≡◌, ◌<◌, ap, sym, subst, ◌∙◌, err_from_is_err_and, ◌then◌, held_of, names_of, walk, IsInode}
 use Rattle.file_tree.specs.Walks.{ino_in}
-use Rattle.file_ends.proofs.CallEnds.{after_well, ends_ok, ends_on, ends_refused, well}
+use Rattle.request_ends.proofs.CallEnds.{after_well, ends_ok, ends_on, ends_refused, well}
 use Rattle.region_view.proofs.UsedInodes.{used_ino}
 use Rattle.file_tree.proofs.LookedAt.{inode_kind_held}
 use Rattle.node_making.proofs.RegionFound.{found_inode, found_memory, found_other, found_region, found_walk, read_memory}
-use Rattle.file_ends.proofs.Unchanged.{leaves_then, leaves_read}
+use Rattle.request_ends.proofs.Unchanged.{leaves_then, leaves_read}
 use Rattle.node_making.proofs.regions.region_at.Goals as goal
 
 pub returns-in_err-i-clause-found : goal.returns-in_err-i-clause-found

@@ -1,5 +1,5 @@
-use Rattle.file_ends.proofs.Common.{subst, sym, err_from_is_err_and, IsInode}
-use Rattle.file_ends.proofs.CallEnds.{ends_ok, ends_on, well}
+use Rattle.request_ends.proofs.Common.{subst, sym, err_from_is_err_and, IsInode}
+use Rattle.request_ends.proofs.CallEnds.{ends_ok, ends_on, well}
 use Rattle.node_making.proofs.RegionFound.{found_on}
 use Rattle.region_view.proofs.RegionStood.{few_bytes, on_region}
 use Rattle.node_making.proofs.standing.stand_at.Goals as goal

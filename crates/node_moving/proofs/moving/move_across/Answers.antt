@@ -1,11 +1,11 @@
-use Rattle.file_ends.proofs.Failed.{never_ok}
-use Rattle.file_ends.proofs.Common.{◌≡◌, ◌≤◌, ◌+◌, ◌∙◌, ℕ, [], ◌∷◌, ap, subst, err_from_is_err_and, ◌then◌, Held, largest_size, reads_agree}
-use Rattle.dir_entries.specs.Rows.{HasRow}
+use Rattle.request_ends.proofs.Failed.{never_ok}
+use Rattle.request_ends.proofs.Common.{◌≡◌, ◌≤◌, ◌+◌, ◌∙◌, ℕ, [], ◌∷◌, ap, subst, err_from_is_err_and, ◌then◌, Held, largest_size, reads_agree}
+use Rattle.directories.specs.Rows.{HasRow}
 use Rattle.rio_requests.specs.declared.reply.Reply.TheVariants.{Ok as Done}
 use Rattle.rio_requests.specs.Answers.{move_row as move_row_of}
 use Rattle.node_updates.specs.Changes.{of_dir}
-use Rattle.file_ends.specs.Ends.{SaysDone}
-use Rattle.file_ends.proofs.CallEnds.{after_well, ends_read, ends_size, well_read, well_size}
+use Rattle.request_ends.specs.Ends.{SaysDone}
+use Rattle.request_ends.proofs.CallEnds.{after_well, ends_read, ends_size, well_read, well_size}
 use Rattle.node_updates.proofs.Planning.{can_still, ends_planning, ends_unread, leaves_on, still}
 use Rattle.node_moving.proofs.RenamedRows.{MovedRow, fails_move, moved_leads, moved_planned}
 use Rattle.file_tree.proofs.RowRoom.{row_fits}

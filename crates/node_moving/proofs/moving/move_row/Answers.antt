@@ -1,7 +1,7 @@
-use Rattle.file_ends.proofs.Common.{sym, subst, held_of, NoneDone}
-use Rattle.dir_entries.specs.Rows.{HasRow}
+use Rattle.request_ends.proofs.Common.{sym, subst, held_of, NoneDone}
+use Rattle.directories.specs.Rows.{HasRow}
 use Rattle.rio_requests.specs.Answers.{move_row as move_row_of}
-use Rattle.file_ends.specs.Ends.{FileEnds, SaysDone}
+use Rattle.request_ends.specs.Ends.{FileEnds, SaysDone}
 use Rattle.node_moving.specs.WalkRules.{OutOfReach}
 use Rattle.node_moving.proofs.moving.move_row.Goals as goal
 

@@ -1,9 +1,9 @@
-use Rattle.file_ends.proofs.Failed.{never_ok}
-use Rattle.file_ends.proofs.Common.{[], ◌∷◌, refl, ap, err_from_is_err_and, ◌then◌, entry_ino, held_of}
+use Rattle.request_ends.proofs.Failed.{never_ok}
+use Rattle.request_ends.proofs.Common.{[], ◌∷◌, refl, ap, err_from_is_err_and, ◌then◌, entry_ino, held_of}
 use Rattle.rio_requests.specs.declared.reply.Reply.TheVariants.{Ok as Done}
 use Rattle.rio_requests.specs.Answers.{move_row as move_row_of}
-use Rattle.file_ends.specs.Ends.{SaysDone}
-use Rattle.file_ends.proofs.CallEnds.{after_well, ends_read, well_read}
+use Rattle.request_ends.specs.Ends.{SaysDone}
+use Rattle.request_ends.proofs.CallEnds.{after_well, ends_read, well_read}
 use Rattle.node_updates.proofs.Planning.{ends_unread}
 use Rattle.node_moving.proofs.RenamedRows.{RenamedRow, renamed_leads, renamed_planned}
 use Rattle.node_moving.proofs.moving.rename_within.Goals as goal

@@ -1,12 +1,12 @@
-use Rattle.file_ends.proofs.Failed.{never_ok}
-use Rattle.file_ends.proofs.Common.{◌≢◌, inl, inr, ◌∙◌, refl, sym, subst, err_from_is_err_and, ◌then◌, answered, held_of, volume_layout, ReadsAs, IsInode, leaves_refl, NoneDone, Forgets, le_refl, ends_by_well, goes_refl, ◌<◌}
+use Rattle.request_ends.proofs.Failed.{never_ok}
+use Rattle.request_ends.proofs.Common.{◌≢◌, inl, inr, ◌∙◌, refl, sym, subst, err_from_is_err_and, ◌then◌, answered, held_of, volume_layout, ReadsAs, IsInode, leaves_refl, NoneDone, Forgets, le_refl, ends_by_well, goes_refl, ◌<◌}
 use Rattle.std.specs.Prelude.{OnOk}
 use Rattle.rio_requests.specs.declared.reply.Reply.TheVariants.{Ok as Done}
 use Rattle.rio_requests.specs.Answers.{replace_row as replace_row_of, replaced}
-use Rattle.file_ends.specs.Ends.{SaysDone}
+use Rattle.request_ends.specs.Ends.{SaysDone}
 use Rattle.file_tree.specs.Walks.{IsRow, ino_numbers}
-use Rattle.file_ends.proofs.AnsweredAt.{ends_answered, fails_unrefused}
-use Rattle.file_ends.proofs.CallEnds.{after_well, ends_on, ends_refused, well, ends_ok}
+use Rattle.request_ends.proofs.AnsweredAt.{ends_answered, fails_unrefused}
+use Rattle.request_ends.proofs.CallEnds.{after_well, ends_on, ends_refused, well, ends_ok}
 use Rattle.node_updates.proofs.Planning.{ends_planning, leaves_on}
 use Rattle.node_moving.proofs.RenamedAs.{InodesRead, ends_by_call, ends_no, gone_kind, moved_kind, replace_busy, replace_dir, replace_done, replace_same}
 use Rattle.node_moving.proofs.moving.replace_row.Goals as goal

@@ -1,9 +1,9 @@
-use Rattle.file_ends.proofs.Failed.{never_ok}
-use Rattle.file_ends.proofs.Common.{◌∙◌, [], ◌∷◌, sym, ap, subst, err_from_is_err_and, ◌then◌, answered, HasEntry, entry_ino, held_of}
+use Rattle.request_ends.proofs.Failed.{never_ok}
+use Rattle.request_ends.proofs.Common.{◌∙◌, [], ◌∷◌, sym, ap, subst, err_from_is_err_and, ◌then◌, answered, HasEntry, entry_ino, held_of}
 use Rattle.rio_requests.specs.Answers.{replaced}
 use Rattle.rio_requests.specs.declared.reply.Reply.TheVariants.{Ok as Done}
-use Rattle.file_ends.specs.Ends.{SaysDone}
-use Rattle.file_ends.proofs.CallEnds.{after_well, ends_read, well_read}
+use Rattle.request_ends.specs.Ends.{SaysDone}
+use Rattle.request_ends.proofs.CallEnds.{after_well, ends_read, well_read}
 use Rattle.region_view.proofs.UsedInodes.{used_ino}
 use Rattle.node_updates.proofs.Planning.{can_still, ends_unread, leaves_on, look_still, looked, used_still}
 use Rattle.node_moving.proofs.RenamedRows.{WithinRow, within_leads, within_planned}

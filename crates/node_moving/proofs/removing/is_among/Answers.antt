@@ -1,4 +1,4 @@
-use Rattle.file_ends.proofs.Common.{◌≡◌, ◌∙◌, sym, ap, arith, inl, inr, slice_index}
+use Rattle.request_ends.proofs.Common.{◌≡◌, ◌∙◌, sym, ap, arith, inl, inr, slice_index}
 use Rattle.std.proofs.lemmas.Bool.{cases_lt}
 use Rattle.file_tree.specs.Walks.{ino_numbers}
 use Rattle.node_moving.proofs.AmongInodes.{among_at, among_none, number_at}

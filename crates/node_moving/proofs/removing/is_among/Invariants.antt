@@ -1,4 +1,4 @@
-use Rattle.file_ends.proofs.Common.{ℕ, ◌≢◌, ◌<◌, slice_index}
+use Rattle.request_ends.proofs.Common.{ℕ, ◌≢◌, ◌<◌, slice_index}
 use Rattle.file_tree.specs.Walks.{ino_numbers}
 use Rattle.node_moving.proofs.removing.is_among.Given as goal
 

@@ -1,9 +1,9 @@
-use Rattle.file_ends.proofs.Failed.{never_ok}
-use Rattle.file_ends.proofs.Common.{[], ◌∷◌, refl, ap, arith, err_from_is_err_and, ◌then◌, answered}
+use Rattle.request_ends.proofs.Failed.{never_ok}
+use Rattle.request_ends.proofs.Common.{[], ◌∷◌, refl, ap, arith, err_from_is_err_and, ◌then◌, answered}
 use Rattle.rio_requests.specs.Answers.{without}
 use Rattle.rio_requests.specs.declared.reply.Reply.TheVariants.{Ok as Done}
-use Rattle.file_ends.specs.Ends.{SaysDone}
-use Rattle.file_ends.proofs.CallEnds.{after_well, ends_read, well_read}
+use Rattle.request_ends.specs.Ends.{SaysDone}
+use Rattle.request_ends.proofs.CallEnds.{after_well, ends_read, well_read}
 use Rattle.region_view.proofs.UsedInodes.{used_ino}
 use Rattle.node_updates.proofs.Planning.{can_still, ends_unread, leads, leaves_on, look_still, looked, planned_reached, used_still}
 use Rattle.node_moving.proofs.RowsGone.{GoneRow, gone_reaches, gone_requested}

@@ -1,7 +1,7 @@
-use Rattle.file_ends.proofs.Common.{sym, ◌∙◌, refl, answered, NoneDone}
+use Rattle.request_ends.proofs.Common.{sym, ◌∙◌, refl, answered, NoneDone}
 use Rattle.rio_requests.specs.Answers.{without}
 use Rattle.rio_requests.specs.declared.reply.Reply.TheVariants.{Ok as Done}
-use Rattle.file_ends.specs.Ends.{SaysDone}
+use Rattle.request_ends.specs.Ends.{SaysDone}
 use Rattle.file_tree.proofs.MemoEnds.{none_same, step_failed, was_done}
 use Rattle.node_moving.proofs.MemoMoves.{stay_without}
 use Rattle.node_moving.proofs.removing.take_row.Goals as goal

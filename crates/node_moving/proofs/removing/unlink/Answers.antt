@@ -1,18 +1,18 @@
-use Rattle.file_ends.proofs.Failed.{never_ok}
-use Rattle.file_ends.proofs.Common.{◌≡◌, ◌<◌, ◌∙◌, le_refl, refl, sym, ap, subst, err_from_is_err_and, ◌then◌, ends_by_well, answered, last_of, held_of, names_of, volume_layout, ReadsAs, LeavesInUse, IsInode, leaves_refl, NoneDone, Forgets, goes_refl}
+use Rattle.request_ends.proofs.Failed.{never_ok}
+use Rattle.request_ends.proofs.Common.{◌≡◌, ◌<◌, ◌∙◌, le_refl, refl, sym, ap, subst, err_from_is_err_and, ◌then◌, ends_by_well, answered, last_of, held_of, names_of, volume_layout, ReadsAs, LeavesInUse, IsInode, leaves_refl, NoneDone, Forgets, goes_refl}
 use Rattle.std.specs.Prelude.{OnOk}
 use Rattle.rio_requests.specs.declared.reply.Reply.TheVariants.{Ok as Done}
 use Rattle.rio_requests.specs.Answers.{unlink as unlink_of, unlink_at, without}
-use Rattle.file_ends.specs.Ends.{FileEnds, SaysDone}
+use Rattle.request_ends.specs.Ends.{FileEnds, SaysDone}
 use Rattle.file_tree.specs.Walks.{IsRow, ino_numbers}
-use Rattle.file_ends.specs.declared.failures.FileFail.TheVariants.{Refused}
+use Rattle.request_ends.specs.declared.failures.FileFail.TheVariants.{Refused}
 use Rattle.node_moving.proofs.AmongInodes.{open_read}
-use Rattle.file_ends.proofs.AnsweredAt.{ends_after, ends_look, fails_unrefused, ends_as}
+use Rattle.request_ends.proofs.AnsweredAt.{ends_after, ends_look, fails_unrefused, ends_as}
 use Rattle.node_moving.proofs.AnsweredRows.{fails_unlink, unlinked_at, unlinked_dir, unlinked_leaf, unlinked_open}
-use Rattle.file_ends.proofs.CallEnds.{after_well, ends_on, ends_refused, well}
+use Rattle.request_ends.proofs.CallEnds.{after_well, ends_on, ends_refused, well}
 use Rattle.file_tree.proofs.LookedAt.{dir_read, inode_kind_held, leaf_read}
 use Rattle.file_tree.proofs.MemoSteps.{same_step}
-use Rattle.file_ends.proofs.Unchanged.{can_again, leaves_then, leaves_read}
+use Rattle.request_ends.proofs.Unchanged.{can_again, leaves_then, leaves_read}
 use Rattle.node_moving.proofs.removing.unlink.Goals as goal
 
 pub returns-then-is_root-clause-leaves : goal.returns-then-is_root-clause-leaves

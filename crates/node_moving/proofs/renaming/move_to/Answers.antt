@@ -1,6 +1,6 @@
-use Rattle.file_ends.proofs.Common.{sym, subst, ◌∙◌, refl, State, ReadsAs, NoneDone}
+use Rattle.request_ends.proofs.Common.{sym, subst, ◌∙◌, refl, State, ReadsAs, NoneDone}
 use Rattle.rio_requests.specs.Answers.{move_row as move_row_of, moved}
-use Rattle.file_ends.specs.Ends.{SaysDone}
+use Rattle.request_ends.specs.Ends.{SaysDone}
 use Rattle.file_tree.proofs.LookedAt.{no_row, row_read}
 use Rattle.node_moving.proofs.MemoMoves.{move_next, two_free}
 use Rattle.file_tree.proofs.MemoEnds.{none_same, step_failed, was_done}

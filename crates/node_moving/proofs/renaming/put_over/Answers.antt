@@ -1,6 +1,6 @@
-use Rattle.file_ends.proofs.Common.{sym, subst, ◌∙◌, refl, State, ReadsAs, NoneDone}
+use Rattle.request_ends.proofs.Common.{sym, subst, ◌∙◌, refl, State, ReadsAs, NoneDone}
 use Rattle.rio_requests.specs.Answers.{replace_row as replace_row_of, replaced}
-use Rattle.file_ends.specs.Ends.{SaysDone}
+use Rattle.request_ends.specs.Ends.{SaysDone}
 use Rattle.file_tree.specs.Walks.{ino_numbers}
 use Rattle.file_tree.proofs.LookedAt.{row_read}
 use Rattle.file_tree.proofs.MemoEnds.{none_same, step_failed, step_untold, use_same, was_done}

@@ -1,15 +1,15 @@
-use Rattle.file_ends.proofs.Failed.{never_ok}
-use Rattle.file_ends.proofs.Common.{◌≡◌, ◌<◌, ◌∙◌, refl, sym, ap, subst, get, err_from_is_err_and, ◌then◌, last_of, held_of, names_of, volume_layout, ReadsAs, LeavesInUse, NoneDone, Forgets}
+use Rattle.request_ends.proofs.Failed.{never_ok}
+use Rattle.request_ends.proofs.Common.{◌≡◌, ◌<◌, ◌∙◌, refl, sym, ap, subst, get, err_from_is_err_and, ◌then◌, last_of, held_of, names_of, volume_layout, ReadsAs, LeavesInUse, NoneDone, Forgets}
 use Rattle.std.specs.Prelude.{OnOk}
 use Rattle.rio_model.specs.Paths.{walk_to_dir as walk_to_dir_of}
 use Rattle.rio_requests.specs.Answers.{rename as rename_of, rename_row as rename_row_of}
-use Rattle.file_ends.specs.Ends.{FileEnds, SaysDone}
+use Rattle.request_ends.specs.Ends.{FileEnds, SaysDone}
 use Rattle.file_tree.specs.Walks.{IsRow, ino_numbers}
-use Rattle.file_ends.proofs.AnsweredAt.{ends_look}
-use Rattle.file_ends.proofs.CallEnds.{after_well, ends_on, ends_refused, well}
+use Rattle.request_ends.proofs.AnsweredAt.{ends_look}
+use Rattle.request_ends.proofs.CallEnds.{after_well, ends_on, ends_refused, well}
 use Rattle.file_tree.proofs.MemoSteps.{same_step}
 use Rattle.node_moving.proofs.RenamedAs.{Walked, ends_by_call, ends_no, fails_from, fails_row, fails_to, rename_inside, rename_moves, rename_new_root, rename_old_root, rename_out}
-use Rattle.file_ends.proofs.Unchanged.{leaves_then}
+use Rattle.request_ends.proofs.Unchanged.{leaves_then}
 use Rattle.node_moving.proofs.renaming.rename.Goals as goal
 
 pub returns-in_err-walk-clause-leaves : goal.returns-in_err-walk-clause-leaves

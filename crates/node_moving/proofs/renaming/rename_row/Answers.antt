@@ -1,12 +1,12 @@
-use Rattle.file_ends.proofs.Failed.{never_ok}
-use Rattle.file_ends.proofs.Common.{◌≡◌, ◌<◌, ℕ, refl, sym, ap, subst, None, Some, get, err_from_is_err_and, ◌then◌, held_of, volume_layout, ReadsAs, LeavesInUse, NoneDone, Forgets}
-use Rattle.dir_entries.specs.Rows.{Finds, HasRow, IsEntry}
+use Rattle.request_ends.proofs.Failed.{never_ok}
+use Rattle.request_ends.proofs.Common.{◌≡◌, ◌<◌, ℕ, refl, sym, ap, subst, None, Some, get, err_from_is_err_and, ◌then◌, held_of, volume_layout, ReadsAs, LeavesInUse, NoneDone, Forgets}
+use Rattle.directories.specs.Rows.{Finds, HasRow, IsEntry}
 use Rattle.std.specs.Prelude.{OnOk}
 use Rattle.rio_requests.specs.Answers.{rename_row as rename_row_of}
-use Rattle.file_ends.specs.Ends.{SaysDone}
+use Rattle.request_ends.specs.Ends.{SaysDone}
 use Rattle.file_tree.specs.Walks.{IsRow, ino_numbers}
-use Rattle.file_ends.proofs.AnsweredAt.{ends_look, fails_unrefused}
-use Rattle.file_ends.proofs.CallEnds.{after_well, ends_on, well}
+use Rattle.request_ends.proofs.AnsweredAt.{ends_look, fails_unrefused}
+use Rattle.request_ends.proofs.CallEnds.{after_well, ends_on, well}
 use Rattle.file_tree.proofs.LookedAt.{no_row, row_read, row_used}
 use Rattle.file_tree.proofs.MemoSteps.{same_step}
 use Rattle.node_moving.proofs.RenamedAs.{ends_by_call}

@@ -1,4 +1,4 @@
-use Rattle.file_ends.proofs.Common.{arith}
+use Rattle.request_ends.proofs.Common.{arith}
 use Rattle.node_updates.proofs.Several.{all_keep, keep_next}
 use Rattle.node_updates.proofs.committing.all_keep_blocks.Goals as goal
 

@@ -1,4 +1,4 @@
-use Rattle.file_ends.proofs.Common.{ℕ, ◌<◌, slice_index_or}
+use Rattle.request_ends.proofs.Common.{ℕ, ◌<◌, slice_index_or}
 use Rattle.node_updates.specs.Changes.{KeepsBlocks}
 use Rattle.node_updates.specs.declared.changes.NodeChange.{NodeChange}
 use Rattle.node_updates.proofs.committing.all_keep_blocks.Given as goal

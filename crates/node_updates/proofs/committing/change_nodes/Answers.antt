@@ -1,8 +1,8 @@
 use Rattle.inode_table.proofs.Exits.{ends_err}
 use Rattle.rio_base.proofs.BlockRules.{ends_later, shape_dropped}
 use Rattle.node_updates.proofs.UpdateEnds.{ends_halted, ends_unhalted, fault_handed, never_fault}
-use Rattle.file_ends.proofs.Failed.{never_ok}
-use Rattle.file_ends.proofs.Common.{caches_by_trans, err_from_is_err_and, firm_trans, inl, ◌then◌, ◌∙◌}
+use Rattle.request_ends.proofs.Failed.{never_ok}
+use Rattle.request_ends.proofs.Common.{caches_by_trans, err_from_is_err_and, firm_trans, inl, ◌then◌, ◌∙◌}
 use Rattle.rio_base.proofs.BlockSets.{caches_by_drops}
 use Rattle.node_updates.proofs.Several.{makes_fit}
 use Rattle.node_updates.proofs.committing.change_nodes.Goals as goal

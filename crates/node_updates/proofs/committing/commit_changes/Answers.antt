@@ -1,8 +1,8 @@
 use Rattle.inode_table.proofs.Exits.{ends_err}
 use Rattle.rio_base.proofs.BlockRules.{ends_later}
 use Rattle.node_updates.proofs.UpdateEnds.{ends_halted, ends_unhalted}
-use Rattle.file_ends.proofs.Failed.{never_ok}
-use Rattle.file_ends.proofs.Common.{err_from_is_err_and, ◌then◌}
+use Rattle.request_ends.proofs.Failed.{never_ok}
+use Rattle.request_ends.proofs.Common.{err_from_is_err_and, ◌then◌}
 use Rattle.std.proofs.Common.{rules}
 use Rattle.node_updates.proofs.Several.{commits_done, commits_failed, commits_stopped, freed_place, touched_then}
 use Rattle.node_updates.proofs.committing.commit_changes.Goals as goal

@@ -1,7 +1,7 @@
-use Rattle.file_ends.proofs.Common.{sym, ap, subst, Result, VolFail, err_from_is_err_and}
+use Rattle.request_ends.proofs.Common.{sym, ap, subst, Result, VolFail, err_from_is_err_and}
 use Rattle.node_updates.specs.Committing.{Commits}
 use Rattle.node_updates.specs.Planned.{told}
-use Rattle.file_ends.proofs.CallEnds.{ends_ok, ends_vol, well_vol}
+use Rattle.request_ends.proofs.CallEnds.{ends_ok, ends_vol, well_vol}
 use Rattle.node_updates.proofs.Planning.{ends_told, told_err}
 use Rattle.node_updates.proofs.committing.commit_planned.Goals as goal
 

@@ -1,5 +1,5 @@
-use Rattle.file_ends.proofs.Failed.{never_ok}
-use Rattle.file_ends.proofs.Common.{◌≡◌, ◌≤◌, false, length, subst, ◌∙◌, le_trans, arith, firm_outside_trans, goes_trans, numbers, number_at, err_from_is_err_and, goes_refl, le_refl, refl}
+use Rattle.request_ends.proofs.Failed.{never_ok}
+use Rattle.request_ends.proofs.Common.{◌≡◌, ◌≤◌, false, length, subst, ◌∙◌, le_trans, arith, firm_outside_trans, goes_trans, numbers, number_at, err_from_is_err_and, goes_refl, le_refl, refl}
 use Rattle.rio_base.proofs.BlockSets.{firm_outside_one, same_outside_one, same_outside_trans, firm_outside_refl, same_outside_refl}
 use Rattle.rio_base.proofs.Rules.{drops_trans}
 use Rattle.node_pages.proofs.Forgotten.{forgotten_all, forgotten_more}

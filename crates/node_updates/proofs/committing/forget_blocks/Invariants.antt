@@ -1,4 +1,4 @@
-use Rattle.file_ends.proofs.Common.{◌≡◌, ◌<◌, ◌≤◌, ℕ, false, slice_index, Contains, FirmOutside, SameOutside, Drops, Goes, numbers}
+use Rattle.request_ends.proofs.Common.{◌≡◌, ◌<◌, ◌≤◌, ℕ, false, slice_index, Contains, FirmOutside, SameOutside, Drops, Goes, numbers}
 use Rattle.node_updates.proofs.committing.forget_blocks.Given as goal
 
 abbrev pub invariant-loop-t : goal.invariant-loop-t

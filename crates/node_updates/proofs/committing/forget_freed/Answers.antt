@@ -1,5 +1,5 @@
-use Rattle.file_ends.proofs.Failed.{never_ok}
-use Rattle.file_ends.proofs.Common.{◌<◌, refl, sym, subst, ◌∙◌, le_refl, le_trans, arith, firm_outside_trans, goes_refl, goes_trans, err_from_is_err_and}
+use Rattle.request_ends.proofs.Failed.{never_ok}
+use Rattle.request_ends.proofs.Common.{◌<◌, refl, sym, subst, ◌∙◌, le_refl, le_trans, arith, firm_outside_trans, goes_refl, goes_trans, err_from_is_err_and}
 use Rattle.rio_base.proofs.BlockSets.{firm_outside_refl, firm_outside_wider, same_outside_refl, same_outside_trans, same_outside_wider}
 use Rattle.rio_base.proofs.Rules.{drops_trans}
 use Rattle.node_updates.proofs.Forgotten.{forgotten_every, forgotten_next, forgotten_none}

@@ -1,4 +1,4 @@
-use Rattle.file_ends.proofs.Common.{◌≡◌, ◌≤◌, false, FirmOutside, SameOutside, Drops, Goes}
+use Rattle.request_ends.proofs.Common.{◌≡◌, ◌≤◌, false, FirmOutside, SameOutside, Drops, Goes}
 use Rattle.node_updates.specs.Changes.{IsFreed}
 use Rattle.node_updates.proofs.Forgotten.{ForgottenTo}
 use Rattle.node_updates.proofs.committing.forget_freed.Given as goal

@@ -1,4 +1,4 @@
-use Rattle.file_ends.proofs.Common.{subst, sym}
+use Rattle.request_ends.proofs.Common.{subst, sym}
 use Rattle.std.specs.List.{Contains}
 use Rattle.node_pages.proofs.Updated.{applied_as, can_update}
 use Rattle.node_updates.proofs.Several.{bitmap_dropped, change_is_touched}

@@ -1,8 +1,8 @@
 use Rattle.rio_base.specs.Rules.{firm_refl}
 use Rattle.rio_base.proofs.BlockSets.{caches_by_refl}
-use Rattle.file_ends.proofs.Failed.{never_ok}
+use Rattle.request_ends.proofs.Failed.{never_ok}
 use Rattle.node_updates.proofs.UpdateEnds.{halts_later}
-use Rattle.file_ends.proofs.Common.{◌∙◌, refl, sym, le_trans, arith, caches_by_trans, firm_trans, goes_trans, err_from_is_err_and, le_refl, goes_refl}
+use Rattle.request_ends.proofs.Common.{◌∙◌, refl, sym, le_trans, arith, caches_by_trans, firm_trans, goes_trans, err_from_is_err_and, le_refl, goes_refl}
 use Rattle.node_pages.proofs.Updated.{update_trans}
 use Rattle.node_updates.proofs.Several.{all_made, caches_bitmap, touched_on, made_next}
 use Rattle.node_updates.proofs.committing.make_changes.Goals as goal

@@ -1,4 +1,4 @@
-use Rattle.file_ends.proofs.Common.{◌≡◌, ◌≤◌, true, drop, map, CachesBy, BlockWords, HasShape, Firm, Goes}
+use Rattle.request_ends.proofs.Common.{◌≡◌, ◌≤◌, true, drop, map, CachesBy, BlockWords, HasShape, Firm, Goes}
 use Rattle.rio_base.specs.Volume.{SameUpdate}
 use Rattle.node_updates.specs.Changes.{AllApplied, IsTouchedBy, change_update}
 use Rattle.node_updates.proofs.committing.make_changes.Given as goal

@@ -1,7 +1,7 @@
 use Rattle.node_updates.proofs.UpdateEnds.{ends_halted, ends_same, never_fault}
-use Rattle.file_ends.proofs.Failed.{never_ok}
+use Rattle.request_ends.proofs.Failed.{never_ok}
 use Rattle.rio_base.proofs.BlockSets.{caches_by_drops}
-use Rattle.file_ends.proofs.Common.{caches_by_trans, err_from_is_err_and, firm_trans, ◌then◌, ◌∙◌}
+use Rattle.request_ends.proofs.Common.{caches_by_trans, err_from_is_err_and, firm_trans, ◌then◌, ◌∙◌}
 use Rattle.rio_base.proofs.BlockRules.{shape_dropped, ends_later}
 use Rattle.node_updates.proofs.Several.{can_on_drops}
 use Rattle.node_updates.proofs.committing.open_changes.Goals as goal

@@ -2,8 +2,8 @@ use Rattle.inode_table.proofs.Exits.{ends_err, ends_ok}
 use Rattle.rio_base.specs.Rules.{firm_refl}
 use Rattle.rio_base.proofs.Rules.{looks_refl}
 use Rattle.rio_base.proofs.BlockRules.{caches_refl}
-use Rattle.file_ends.proofs.Failed.{never_ok}
-use Rattle.file_ends.proofs.Common.{arith, err_from_is_err_and, goes_refl, inr, le_refl, refl}
+use Rattle.request_ends.proofs.Failed.{never_ok}
+use Rattle.request_ends.proofs.Common.{arith, err_from_is_err_and, goes_refl, inr, le_refl, refl}
 use Rattle.node_pages.proofs.Updated.{touched_now}
 use Rattle.node_updates.proofs.Several.{touches_most}
 use Rattle.node_updates.proofs.committing.touch_bitmap.Goals as goal

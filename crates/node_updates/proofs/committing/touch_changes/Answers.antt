@@ -1,7 +1,7 @@
 use Rattle.inode_table.proofs.Exits.{ends_err}
 use Rattle.rio_base.proofs.BlockRules.{ends_later}
-use Rattle.file_ends.proofs.Failed.{never_ok}
-use Rattle.file_ends.proofs.Common.{◌∙◌, arith, le_trans, sym, caches_by_trans, firm_trans, goes_trans, looks_trans, err_from_is_err_and}
+use Rattle.request_ends.proofs.Failed.{never_ok}
+use Rattle.request_ends.proofs.Common.{◌∙◌, arith, le_trans, sym, caches_by_trans, firm_trans, goes_trans, looks_trans, err_from_is_err_and}
 use Rattle.node_updates.proofs.Several.{all_are_touched, caches_bitmap, caches_node, can_make_on, shape_on, touched_none, touched_to_next}
 use Rattle.node_updates.proofs.committing.touch_changes.Goals as goal
 

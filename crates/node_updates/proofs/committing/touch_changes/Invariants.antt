@@ -1,4 +1,4 @@
-use Rattle.file_ends.proofs.Common.{◌≡◌, ◌+◌, ◌*◌, ◌≤◌, true, CachesBy, Looks, Firm, Goes}
+use Rattle.request_ends.proofs.Common.{◌≡◌, ◌+◌, ◌*◌, ◌≤◌, true, CachesBy, Looks, Firm, Goes}
 use Rattle.node_updates.specs.Changes.{BitmapTouched, IsTouchedBy}
 use Rattle.node_updates.proofs.Several.{TouchedTo}
 use Rattle.node_updates.proofs.committing.touch_changes.Given as goal

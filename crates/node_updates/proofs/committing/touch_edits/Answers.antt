@@ -1,7 +1,7 @@
 use Rattle.inode_table.proofs.Exits.{ends_err}
 use Rattle.rio_base.proofs.BlockRules.{ends_later}
-use Rattle.file_ends.proofs.Failed.{never_ok}
-use Rattle.file_ends.proofs.Common.{◌<◌, ◌∙◌, le_refl, le_trans, refl, arith, subst, sym, caches_by_trans, firm_trans, goes_refl, goes_trans, looks_trans, err_from_is_err_and}
+use Rattle.request_ends.proofs.Failed.{never_ok}
+use Rattle.request_ends.proofs.Common.{◌<◌, ◌∙◌, le_refl, le_trans, refl, arith, subst, sym, caches_by_trans, firm_trans, goes_refl, goes_trans, looks_trans, err_from_is_err_and}
 use Rattle.rio_base.proofs.BlockSets.{caches_by_refl}
 use Rattle.rio_base.specs.Rules.{firm_refl}
 use Rattle.rio_base.proofs.Rules.{looks_refl}

@@ -1,5 +1,5 @@
-use Rattle.file_ends.proofs.Common.{◌≡◌, ◌+◌, ◌<◌, ◌≤◌, ℕ, None, true, slice_index, CachesBy, Looks, Firm, Goes}
-use Rattle.dir_entries.specs.Plans.{InThreeBlocks}
+use Rattle.request_ends.proofs.Common.{◌≡◌, ◌+◌, ◌<◌, ◌≤◌, ℕ, None, true, slice_index, CachesBy, Looks, Firm, Goes}
+use Rattle.directories.specs.Plans.{InThreeBlocks}
 use Rattle.node_pages.specs.Updating.{IsEdited}
 use Rattle.node_updates.specs.Changes.{edited_blocks}
 use Rattle.node_updates.proofs.Several.{three_touched}

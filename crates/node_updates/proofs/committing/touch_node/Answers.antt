@@ -1,11 +1,11 @@
 use Rattle.inode_table.proofs.Exits.{ends_err}
-use Rattle.file_ends.proofs.Failed.{never_ok}
+use Rattle.request_ends.proofs.Failed.{never_ok}
 use Rattle.node_updates.proofs.UpdateEnds.{on_done, on_both}
 use Rattle.node_pages.proofs.Updated.{touched_still}
 use Rattle.rio_base.proofs.BlockRules.{ends_later}
 use Rattle.rio_base.proofs.BlockSets.{caches_by_one, caches_by_wider}
-use Rattle.file_ends.proofs.Common.{IsEdited, inr, arith, subst, sym, firm_trans, inl, looks_trans, refl, ◌then◌, ◌∙◌, err_from_is_err_and, caches_by_trans}
-use Rattle.dir_entries.specs.Plans.{InThreeBlocks}
+use Rattle.request_ends.proofs.Common.{IsEdited, inr, arith, subst, sym, firm_trans, inl, looks_trans, refl, ◌then◌, ◌∙◌, err_from_is_err_and, caches_by_trans}
+use Rattle.directories.specs.Plans.{InThreeBlocks}
 use Rattle.node_updates.proofs.Several.{node_edits_fit, node_touched, touches_most}
 use Rattle.node_updates.proofs.committing.touch_node.Goals as goal
 

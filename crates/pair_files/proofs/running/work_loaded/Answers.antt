@@ -36,7 +36,7 @@ pub work_made-requires-clause-unarmed : goal.work_made-requires-clause-unarmed
 work_made-requires-clause-unarmed g c = ap (λ (r : Running). r.armed) c.in-Ok.ensures.run
 
 pub work_made-requires-clause-asks : goal.work_made-requires-clause-asks
-work_made-requires-clause-asks g c = subst (AsksUnarmed (g.W.Work.asks c.args.work.now)) (sym (ap (λ (r : Running). r.stop_set) c.in-Ok.ensures.run)) c.requires.asks
+work_made-requires-clause-asks g c = subst (AsksUnarmed (g.W.PairWork.asks c.args.work.now)) (sym (ap (λ (r : Running). r.stop_set) c.in-Ok.ensures.run)) c.requires.asks
 
 -- ---- how it ends
 
@@ -47,4 +47,4 @@ pub returns-in-Ok-clause-began : goal.returns-in-Ok-clause-began
 returns-in-Ok-clause-began g c = λ o found n made tells. has_begun o _ _ _ _ _ _ found (c.work_made.ensures.began ∙ c.in-Ok.ensures.began (sym c.make_machine.ensures.tells_start ∙ sym c.work_made.ensures.tells_start ∙ tells))
 
 pub returns-in-Err-clause-ended : goal.returns-in-Err-clause-ended
-returns-in-Err-clause-ended g c = λ o of found. ended_early o (λ end before after. g.W.Work.does c.args.work.now before end after) _ _ (ended_unmade o _ _ _ _ _ _ _ _ found c.in-Err.ensures.back c.into_host.ensures.file c.into_host.ensures.around c.into_host.ensures.fit c.into_host.ensures.faults (sym of.streams_are) (ap (λ b. g.B.Bench.pages b) c.in-Err.ensures.same ∙ c.requires.unmade))
+returns-in-Err-clause-ended g c = λ o of found. ended_early o (λ end before after. g.W.PairWork.does c.args.work.now before end after) _ _ (ended_unmade o _ _ _ _ _ _ _ _ found c.in-Err.ensures.back c.into_host.ensures.file c.into_host.ensures.around c.into_host.ensures.fit c.into_host.ensures.faults (sym of.streams_are) (ap (λ b. g.B.Bench.pages b) c.in-Err.ensures.same ∙ c.requires.unmade))

@@ -28,7 +28,7 @@ pub work_booted-requires-clause-asks : goal.work_booted-requires-clause-asks
 work_booted-requires-clause-asks g c =
     let old = c.args.machine in
     let new = c.in-Ok.cache.machine in
-    asks_booted (g.W.Work.asks c.args.work.now) (g.B.M.Machine.contents old) (g.B.M.Machine.contents new) (g.B.M.Machine.run old) (g.B.M.Machine.run new) c.requires.asks c.requires.unarmed c.in-Ok.ensures.runs
+    asks_booted (g.W.PairWork.asks c.args.work.now) (g.B.M.Machine.contents old) (g.B.M.Machine.contents new) (g.B.M.Machine.run old) (g.B.M.Machine.run new) c.requires.asks c.requires.unarmed c.in-Ok.ensures.runs
 
 pub returns-in-Ok-clause-ended : goal.returns-in-Ok-clause-ended
 returns-in-Ok-clause-ended g c = λ o of made.
@@ -49,7 +49,7 @@ returns-in-Ok-clause-ended g c = λ o of made.
 
 pub returns-in-Err-clause-ended : goal.returns-in-Err-clause-ended
 returns-in-Err-clause-ended g c = λ o of made.
-    ended_early o (λ end before after. g.W.Work.does c.args.work.now before end after) _ _ (c.end_unbooted.ensures.ended o _ of (record {
+    ended_early o (λ end before after. g.W.PairWork.does c.args.work.now before end after) _ _ (c.end_unbooted.ensures.ended o _ of (record {
       old = g.B.M.Machine.contents c.args.machine;
       run = g.B.M.Machine.run c.args.machine;
       made = made;

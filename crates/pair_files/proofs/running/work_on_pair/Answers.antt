@@ -9,4 +9,4 @@ pub returns-in-Ok-clause-began : goal.returns-in-Ok-clause-began
 returns-in-Ok-clause-began g c = λ n made tells. c.work_loaded.ensures.began _ (record { image = c.in-Ok.ensures.image; disk = c.in-Ok.ensures.disk; counted = c.in-Ok.ensures.later; stop_is = refl }) n made tells
 
 pub returns-in-Err-clause-ended : goal.returns-in-Err-clause-ended
-returns-in-Err-clause-ended g c = ended_unloaded _ (λ end before after. g.W.Work.does c.args.work.now before end after) c.in-Err.fail c.end_unloaded.result _ c.end_unloaded.ensures (record { files = c.in-Err.ensures.back; unread = refl }) c.requires.unmade c.in-Err.ensures.counted c.in-Err.ensures.fails
+returns-in-Err-clause-ended g c = ended_unloaded _ (λ end before after. g.W.PairWork.does c.args.work.now before end after) c.in-Err.fail c.end_unloaded.result _ c.end_unloaded.ensures (record { files = c.in-Err.ensures.back; unread = refl }) c.requires.unmade c.in-Err.ensures.counted c.in-Err.ensures.fails

@@ -3,7 +3,7 @@ use Rattle.rio_requests.specs.declared.reply.Reply.TheVariants.{Err as RefusedBy
 use Rattle.rio_requests.specs.declared.request.Request.TheVariants.{Unlink, Rmdir, Rename, List as ListOf}
 use Rattle.rio_requests.specs.Answers.{rename, unlink}
 use Rattle.rio_requests.specs.Parts.{NoneDone}
-use Rattle.file_ends.specs.Ends.{FileEnds, SaysDone, SaysNames}
+use Rattle.request_ends.specs.Ends.{FileEnds, SaysDone, SaysNames}
 use Rattle.rio_base.specs.Rules.{goes_refl}
 use Rattle.rio_model.specs.Paths.{IsPath}
 use Rattle.rio_requests.specs.Requests.{IsRequest}

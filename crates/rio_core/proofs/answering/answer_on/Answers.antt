@@ -1,6 +1,6 @@
 use Rattle.rio_core.proofs.Common.{◌≡◌, ◌∙◌, sym, ap, subst, crashed}
 use Rattle.rio_requests.specs.declared.request.Request.TheVariants.{Mkdir, Create, Region as MakeRegion, Write, Read, Truncate, Stat as StatOf}
-use Rattle.file_ends.specs.Ends.{SaysBytes, SaysCount, SaysDone, SaysIno, SaysStat}
+use Rattle.request_ends.specs.Ends.{SaysBytes, SaysCount, SaysDone, SaysIno, SaysStat}
 use Rattle.rio_model.specs.Paths.{IsPath}
 use Rattle.rio_requests.specs.Requests.{IsRequest}
 use Rattle.rio_core.specs.Serving.{RequestEnds}

@@ -1,6 +1,6 @@
 use Rattle.std.proofs.Common.{refl}
 use Rattle.rio_words.specs.declared.command.RioCommand.TheVariants.{Check, Drill, Format, Registry, Serve}
-use Rattle.serve_command.specs.Outside.{benched}
+use Rattle.rio_commands.specs.Outside.{benched}
 use Rattle.rio_server.proofs.Commands.{host_told, limit_told, no_form, no_serve_read, obeys_as, sink_told, source_told, starved_obeys, unread_told, usage_told}
 use Rattle.rio_server.proofs.program.run.Goals as goal
 

@@ -1,4 +1,4 @@
-use Rattle.file_ends.proofs.Common.{sym, subst, Names}
+use Rattle.request_ends.proofs.Common.{sym, subst, Names}
 use Rattle.name_index.specs.Agreeing.{Agrees}
 use Rattle.file_tree.proofs.MemoSteps.{step_to, used_but}
 use Rattle.file_tree.proofs.memo.Memo.gone.Goals as goal

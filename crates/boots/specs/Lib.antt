@@ -1,0 +1,10 @@
+pub mod Boots
+pub mod Copies
+pub mod Cores
+pub mod FileBytes
+pub mod FreshParts
+pub mod Legal
+pub mod Parts
+pub mod Plans
+pub mod Summaries
+pub mod Told

@@ -1,8 +1,0 @@
-use Rattle.command_lines.proofs.Telling.{told_line}
-use Rattle.command_lines.proofs.serve_lines.tell_stop.Goals as goal
-
-pub returns-in-Ok-clause-line : goal.returns-in-Ok-clause-line
-returns-in-Ok-clause-line g c = rw c.in-Some.is (told_line c.send_stop.ensures)
-
-pub returns-in-Err-clause-line : goal.returns-in-Err-clause-line
-returns-in-Err-clause-line g c = rw c.in-Some.is (told_line c.send_stop.ensures)

@@ -1,4 +1,0 @@
-pub mod Command
-pub mod RegistryLines
-pub mod CheckLines
-pub mod ServeLines

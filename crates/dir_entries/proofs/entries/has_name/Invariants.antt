@@ -1,6 +1,0 @@
-use Rattle.dir_entries.proofs.Common.{◌≡◌, ◌+◌, ◌*◌, ◌<◌, ℕ, slice_index}
-use Rattle.dir_entries.proofs.entries.has_name.Given as goal
-
--- the first t words of the name are the key's
-abbrev pub invariant-loop-t : goal.invariant-loop-t
-invariant-loop-t l = (s : ℕ) → s < l.t → slice_index l.words (8 * l.k + 1 + s) ≡ slice_index l.key.words s

@@ -1,4 +1,0 @@
-pub mod EntryRead
-pub mod Found
-pub mod HeldRows
-pub mod Listed

@@ -1,0 +1,55 @@
+use Rattle.directories.proofs.Common.{◌∙◌, refl, arith, placed_at}
+use Rattle.node_pages.proofs.LookingUpRules.{look_refl}
+use Rattle.rio_model.proofs.PlacedRules.{direct_of, lies_self}
+use Rattle.directories.proofs.CanRead.{can_look, can_stays}
+use Rattle.directories.proofs.pages.page_block.Goals as goal
+
+pub returns-then-p-lt-DIRECT_PAGES-clause-value : goal.returns-then-p-lt-DIRECT_PAGES-clause-value
+returns-then-p-lt-DIRECT_PAGES-clause-value g c =
+    let f = (g.V.Blocks.seen c.args.v.now).words in
+    c.requires.inode.direct c.args.p c.if-p-lt-DIRECT_PAGES.true ∙ direct_of f c.args.dir.0 (placed_at f c.args.dir.0) c.args.p (lies_self f c.args.dir.0) c.if-p-lt-DIRECT_PAGES.true c.requires.page
+
+pub returns-clause-can : goal.returns-clause-can
+returns-clause-can g c = can_stays c.args.shape.now _ _ c.args.dir.0 c.requires.can c.block_of.ensures.looks
+
+pub returns-then-p-lt-DIRECT_PAGES-clause-looks : goal.returns-then-p-lt-DIRECT_PAGES-clause-looks
+returns-then-p-lt-DIRECT_PAGES-clause-looks g c = look_refl _ _ (can_look c.args.shape.now _ c.args.dir.0 c.requires.can)
+
+pub returns-then-p-lt-DIRECT_PAGES-clause-passes : goal.returns-then-p-lt-DIRECT_PAGES-clause-passes
+returns-then-p-lt-DIRECT_PAGES-clause-passes g c = g.met.V.Blocks.passes_refl _
+
+pub returns-then-p-lt-DIRECT_PAGES-clause-ends : goal.returns-then-p-lt-DIRECT_PAGES-clause-ends
+returns-then-p-lt-DIRECT_PAGES-clause-ends g c = record { later = omega arith; stays = λ on. on; cause = refl }
+
+pub block_of-requires-clause-can : goal.block_of-requires-clause-can
+block_of-requires-clause-can g c = can_look c.args.shape.now _ c.args.dir.0 c.requires.can
+
+pub returns-then-p-lt-DIRECT_PAGES-clause-can : goal.returns-then-p-lt-DIRECT_PAGES-clause-can
+returns-then-p-lt-DIRECT_PAGES-clause-can g c = c.requires.can
+
+pub returns-then-p-lt-DIRECT_PAGES-clause-sound : goal.returns-then-p-lt-DIRECT_PAGES-clause-sound
+returns-then-p-lt-DIRECT_PAGES-clause-sound g c = c.requires.sound
+
+pub returns-clause-value : goal.returns-clause-value
+returns-clause-value g c = c.block_of.ensures.value
+
+pub returns-clause-looks : goal.returns-clause-looks
+returns-clause-looks g c = c.block_of.ensures.looks
+
+pub returns-clause-passes : goal.returns-clause-passes
+returns-clause-passes g c = c.block_of.ensures.passes
+
+pub returns-clause-ends : goal.returns-clause-ends
+returns-clause-ends g c = c.block_of.ensures.ends
+
+pub returns-clause-sound : goal.returns-clause-sound
+returns-clause-sound g c = c.block_of.ensures.sound
+
+pub block_of-requires-clause-sound : goal.block_of-requires-clause-sound
+block_of-requires-clause-sound g c = c.requires.sound
+
+pub block_of-requires-clause-page : goal.block_of-requires-clause-page
+block_of-requires-clause-page g c = c.requires.page
+
+pub block_of-requires-clause-ino : goal.block_of-requires-clause-ino
+block_of-requires-clause-ino g c = c.requires.can.ino

@@ -1,0 +1,16 @@
+-- A name found: among the entries of a page, and among those of a directory.
+use Rattle.std.specs.Prelude.{◌≡◌, ◌≢◌, ℕ, ◌+◌, ◌*◌, ◌/◌, ◌%◌, ◌^◌, ◌<◌, List, Option, Some, None}
+use Rattle.rio_base.specs.declared.places.Ino.{Ino}
+use Rattle.rio_model.specs.Held.{Held, entry_name}
+use Rattle.directories.specs.Entries.{name_in}
+use Rattle.directories.specs.Rows.{IsEntry}
+
+-- among the first entries of a page, by its words
+abbrev pub FindsIn : (ℕ → ℕ) → ℕ → List ℕ → Option (Ino × ℕ) → Type 0
+FindsIn word count name None = (k : ℕ) → k < count → name_in word k ≢ name
+FindsIn word count name (Some found) = (found.1 < count) × (name_in word found.1 ≡ name) × (word (8 * found.1) % 2 ^ 32 ≡ found.0.0)
+
+-- among the slots of page p of a directory
+abbrev pub FindsInPage : Held → ℕ → List ℕ → Option (Ino × ℕ) → Type 0
+FindsInPage h p name None = (j : ℕ) → 64 * j < h.size → j / 64 ≡ p → entry_name h j ≢ name
+FindsInPage h p name (Some found) = IsEntry h (64 * p + found.1) name found.0.0

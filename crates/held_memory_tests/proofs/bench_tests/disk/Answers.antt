@@ -1,7 +1,0 @@
-use Rattle.std.proofs.Common.{ap, length}
-use Rattle.rio_base.specs.Disks.{DiskContents, blocks_of}
-use Rattle.held_memory_tests.proofs.Settled.{settled}
-use Rattle.held_memory_tests.proofs.bench_tests.disk.Goals as goal
-
-pub returns-in-Ok : goal.returns-in-Ok
-returns-in-Ok c = let (words, are, e) = c.in-Ok.ensures.disk in settled (length (blocks_of words)) _ (ap (λ (d : DiskContents). d.pending) e)

@@ -1,4 +1,0 @@
-mod FileSizes
-mod FreshDisks
-mod FreshMemory
-pub mod PartsMachines

@@ -1,3 +1,0 @@
-pub mod FileBytes
-pub mod FreshParts
-pub mod Parts

@@ -1,5 +1,0 @@
-pub mod Checking
-mod Entries
-mod FormatEnds
-pub mod FreshPairs
-pub mod Listings

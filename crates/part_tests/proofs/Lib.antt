@@ -1,0 +1,3 @@
+mod Fronts
+pub mod Layouts
+mod Settled

@@ -1,0 +1,3 @@
+pub mod LampLaws
+pub mod Lamps
+pub mod PastFiles

@@ -1,2 +1,0 @@
-pub mod FaultyGoes
-pub mod FreshRegions

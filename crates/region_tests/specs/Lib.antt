@@ -1,0 +1,2 @@
+pub mod TestHeaps
+pub mod TestTables

@@ -1,0 +1,9 @@
+pub mod Check
+pub mod CheckLines
+pub mod Command
+pub mod Format
+pub mod Outside
+pub mod Registry
+pub mod RegistryLines
+pub mod Serve
+pub mod ServeLines

@@ -1,0 +1,24 @@
+//! The commands over a pair of files: `serve`, which serves lines over one; `format`, `registry` and `check`, which make one or look at
+//! it; and the line and the exit status that tell how each ended.
+#![tactic(auto)]
+
+mod check_command;
+mod check_lines;
+mod ends;
+mod formatting;
+mod last_line;
+mod pair_run;
+mod registry_command;
+mod registry_lines;
+mod registry_listing;
+mod serve_lines;
+
+pub use check_command::check_pair;
+pub use check_lines::tell_check;
+pub use ends::{CheckEnd, RegistryEnd};
+pub use formatting::{FormatSizes, PairPlan, format};
+pub use last_line::say;
+pub use pair_run::serve_pair;
+pub use registry_command::show_registry;
+pub use registry_lines::{Row, put_header, put_row, tell_registry};
+pub use serve_lines::tell_end;

@@ -1,4 +1,0 @@
-mod Drawing
-mod Listing
-mod Tallies
-mod Telling

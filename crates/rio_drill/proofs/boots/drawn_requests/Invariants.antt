@@ -1,8 +1,0 @@
-use Rattle.std.proofs.Common.{◌-◌}
-use Rattle.rio_drill.specs.Plans.{some_requests}
-use Rattle.rio_drill.proofs.Drawing.{Lacks}
-use Rattle.rio_drill.proofs.boots.drawn_requests.Given as goal
-
--- what is there, and what is to come
-abbrev pub invariant-loop : goal.invariant-loop
-invariant-loop l = Lacks l.requests.items (l.count - l.counter) l.draws (some_requests l.count l.fn.draws)

@@ -1,7 +1,0 @@
-use Rattle.std.proofs.Common.{◌≡◌, ◌-◌, ◌++◌}
-use Rattle.rio_drill.specs.Plans.{last_boots}
-use Rattle.rio_drill.proofs.plan.planned_boots.Given as goal
-
--- what is there, and what is to come
-abbrev pub invariant-loop-made : goal.invariant-loop-made
-invariant-loop-made l = l.plans.items ++ last_boots l.boots l.requests (l.boots - l.made) l.draws ≡ last_boots l.boots l.requests l.boots l.seed

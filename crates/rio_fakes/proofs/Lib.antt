@@ -1,5 +1,0 @@
-pub mod Clears
-pub mod Copies
-pub mod Faults
-pub mod Files
-pub mod Fronts

@@ -1,2 +1,0 @@
-pub mod LampLaws
-pub mod Lamps

@@ -1,0 +1,15 @@
+pub mod Clears
+pub mod Copies
+pub mod Covers
+pub mod Ends
+pub mod Faults
+pub mod FaultyGoes
+pub mod Files
+pub mod FreshRegions
+pub mod FreshVolumes
+pub mod Fronts
+pub mod MadeNodes
+pub mod Reading
+pub mod SavedPages
+pub mod WorkedPair
+pub mod WorkedPairLaws

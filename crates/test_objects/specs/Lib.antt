@@ -1,0 +1,11 @@
+pub mod CallCounts
+pub mod Covers
+pub mod FaultyRegions
+pub mod FaultyVolumes
+pub mod ListCalls
+pub mod ListRegions
+pub mod ListVolumes
+pub mod MemHosts
+pub mod MemStreams
+pub mod StepLimits
+pub mod TestVolumes

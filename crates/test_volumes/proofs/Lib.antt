@@ -1,2 +1,0 @@
-pub mod FreshVolumes
-pub mod MadeNodes

@@ -1,0 +1,39 @@
+//! Tests of what a volume is made of: its bitmap, its inodes, and its rules, beside a plain slow check of them. Beside that laws that try the
+//! definitions of a volume and of memory over it on small ones. They stand above these crates, so that each of them is proved once.
+#![tactic(auto)]
+
+#[cfg(test)]
+mod bitmap_tests;
+#[cfg(test)]
+mod damage_tests;
+#[cfg(test)]
+mod damages;
+mod failing_blocks;
+#[cfg(test)]
+mod failing_tests;
+#[cfg(test)]
+mod inode_tests;
+#[cfg(test)]
+mod layout_rule_tests;
+#[cfg(test)]
+mod layout_rules;
+#[cfg(test)]
+mod node_rule_tests;
+#[cfg(test)]
+mod node_rules;
+#[cfg(test)]
+mod plain_check;
+#[cfg(test)]
+mod region_rule_tests;
+#[cfg(test)]
+mod region_rules;
+#[cfg(test)]
+mod same;
+#[cfg(test)]
+mod steps;
+#[cfg(test)]
+mod volumes;
+#[cfg(test)]
+mod words;
+
+pub use failing_blocks::{Failing, FailingBlocks};
